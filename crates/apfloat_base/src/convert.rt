@@ -19,8 +19,8 @@ pub trait FloatConvert<T: Float>: Float {
     ///
     /// A number loses information exactly if the status is not OK: if it is rounded, or is a zero whose sign `T` does
     /// not have. An infinity loses information if `T` has none, with `INEXACT`. A NaN is quieted, with `INVALID_OP` if
-    /// it was signaling; it loses information if a set bit of its payload or the whole payload is not carried over, or
-    /// the integer bit of a signaling one.
+    /// it was signaling; it loses information if a set bit of its payload, the whole payload, or the integer bit of a
+    /// signaling NaN is not carried over.
     fn convert_r(self, round: Round, loses_info: &mut bool) -> StatusAnd<T>
         ensures { converts self round result loses_info.new };
 

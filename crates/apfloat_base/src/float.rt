@@ -46,19 +46,19 @@ pub trait Float: Copy
     + Mul<Output = StatusAnd<Self>>
     + Div<Output = StatusAnd<Self>>
     + Rem<Output = StatusAnd<Self>> {
-    /// How many bits a value takes when written; 0 if values are for computing only.
+    /// The width of an encoding in bits; 0 if the type is for computing only and its values have no encoding.
     const BITS: usize;
 
-    /// How many binary digits a significand has, including the integer bit.
+    /// The number of binary digits in a significand, including the integer bit.
     const PRECISION: usize;
 
-    /// The greatest exponent of a finite value, that of its highest digit.
+    /// The greatest exponent of a finite value, counted from its integer bit.
     const MAX_EXP: ExpInt;
 
-    /// The least exponent of a value that is not denormal, that of its highest digit.
+    /// The least exponent of a normal value, counted from its integer bit.
     const MIN_EXP: ExpInt;
 
-    /// Whether the type has products: their digits, twice the precision, fit in one integer type of the machine.
+    /// Whether the type has products (`mul_r`, `*`): the exact product, of twice the precision, has to fit in a `u128`.
     const MULTIPLIES: bool;
 
     // The constants, for contracts.
@@ -96,12 +96,12 @@ pub trait Float: Copy
 
     ghost divides: { Self → Self → Round → StatusAnd Self → Type 0 };
 
-    // Remainders: by the whole number nearest to the quotient, and by the quotient cut toward zero.
+    // Remainders: by the integer nearest to the quotient, and by the quotient truncated toward zero.
     ghost leaves_nearest: { Self → Self → StatusAnd Self → Type 0 };
 
     ghost leaves: { Self → Self → StatusAnd Self → Type 0 };
 
-    // Rounding to a whole number.
+    // Rounding to an integer.
     ghost rounds_to_integral: { Self → Round → StatusAnd Self → Type 0 };
 
     // The next values above and below.
@@ -135,7 +135,7 @@ pub trait Float: Copy
 
     ghost same: { Self → Self → Bool };
 
-    // What a value is: its sign, whether it is denormal or signaling, its category, whether it is whole.
+    // What a value is: its sign, whether it is denormal or signaling, its category, whether it is an integer.
     ghost sign_of: { Self → Bool };
 
     ghost denormal: { Self → Bool };
@@ -170,18 +170,18 @@ pub trait Float: Copy
         Self::qnan(None)
     }
 
-    /// The positive quiet NaN with a payload, of which the format keeps the bits that it has room for (IEEE 754-2008
+    /// The positive quiet NaN with this payload, truncated to the bits that the format has room for (IEEE 754-2008
     /// 6.2.1).
     fn qnan(payload: Option<u128>) -> Self
         ensures { result ≡ quiet_nan_of (unwrap_or payload 0) };
 
-    /// The positive signaling NaN with a payload, of which the format keeps the bits that it has room for. If that
-    /// leaves no bit set, the payload is the bit below the quiet bit; in a format with a single NaN, the result is that
-    /// NaN (IEEE 754-2008 6.2.1).
+    /// The positive signaling NaN with this payload, truncated to the bits that the format has room for. If no bit is
+    /// left set, the bit below the quiet bit is set, since a signaling NaN needs a payload; in a format with a single
+    /// NaN, the result is that NaN (IEEE 754-2008 6.2.1).
     fn snan(payload: Option<u128>) -> Self
         ensures { result ≡ signaling_nan_of (unwrap_or payload 0) };
 
-    /// The greatest finite value.
+    /// The largest finite value.
     fn largest() -> Self
         ensures { result ≡ the_largest };
 
@@ -189,7 +189,7 @@ pub trait Float: Copy
     fn smallest() -> Self
         ensures { result ≡ the_smallest };
 
-    /// The smallest positive value that is not denormal, 2 to the power of `MIN_EXP`.
+    /// The smallest positive normal value, 2 to the power of `MIN_EXP`.
     fn smallest_normalized() -> Self
         ensures { result ≡ the_smallest_normalized };
 
@@ -226,8 +226,8 @@ pub trait Float: Copy
     fn div_r(self, rhs: Self, round: Round) -> StatusAnd<Self>
         ensures { divides self rhs round result };
 
-    /// The remainder `self - rhs * n`, where `n` is the whole number nearest to the quotient, ties to even (IEEE
-    /// 754-2008 5.3.1, remainder). It is exact.
+    /// The remainder `self - rhs * n`, where `n` is the integer nearest to the quotient, ties to even (IEEE 754-2008
+    /// 5.3.1, remainder). It is exact.
     ///
     /// A zero remainder has the sign of `self` if the format has that zero, and an infinite `rhs` leaves a finite value
     /// unchanged. The remainder of an infinity and the remainder by a zero are invalid (7.2): the result is the quiet
@@ -235,27 +235,27 @@ pub trait Float: Copy
     fn ieee_rem(self, rhs: Self) -> StatusAnd<Self>
         ensures { leaves_nearest self rhs result };
 
-    /// The remainder `self - rhs * t`, where `t` is the quotient cut toward zero, as in C's `fmod`. It is exact, and
-    /// has the sign of `self`.
+    /// The remainder `self - rhs * t`, where `t` is the quotient truncated toward zero, as in C's `fmod`. It is exact,
+    /// and has the sign of `self`.
     ///
     /// Zeros, infinities and NaNs are treated as in `ieee_rem`.
     fn c_fmod(self, rhs: Self) -> StatusAnd<Self>
         ensures { leaves self rhs result };
 
-    /// The value rounded by the mode to a whole number, with its sign (IEEE 754-2008 5.9, roundToIntegralExact);
-    /// INEXACT says that the result differs from the value. Infinities and zeros are unchanged; a NaN is quieted, and
-    /// is invalid if it was signaling.
+    /// The value rounded to an integral value of the same type, with its sign (IEEE 754-2008 5.9,
+    /// roundToIntegralExact). `INEXACT` is raised if the result differs from the value. Infinities and zeros are
+    /// unchanged; a NaN is quieted, with `INVALID_OP` if it was signaling.
     fn round_to_integral(self, round: Round) -> StatusAnd<Self>
         ensures { rounds_to_integral self round result };
 
     /// The least value that compares greater (IEEE 754-2008 5.3.1, nextUp), always exact. The value after the largest
-    /// is the infinity, or the NaN in its place. Positive infinity and a quiet NaN are unchanged; a signaling NaN is
-    /// invalid, and the result is the quiet NaN of its sign without a payload.
+    /// is the infinity, or the NaN in its place. Positive infinity and quiet NaNs are unchanged; for a signaling NaN,
+    /// the result is the quiet NaN of its sign without a payload, with `INVALID_OP`.
     fn next_up(self) -> StatusAnd<Self>
         ensures { steps_up self result };
 
-    /// The greatest value that compares less (IEEE 754-2008 5.3.1, nextDown), computed from the next value up of the
-    /// negation.
+    /// The greatest value that compares less (IEEE 754-2008 5.3.1, nextDown), computed as the negation of `next_up` of
+    /// the negated value.
     fn next_down(self) -> StatusAnd<Self>
         ensures { steps_down self result }
     {
@@ -287,7 +287,7 @@ pub trait Float: Copy
         requires { PRECISION < BITS }
         ensures { result ≡ value_of_bits bits };
 
-    /// A signed whole number, rounded once (IEEE 754-2008 5.4.1, convertFromInt).
+    /// The value of a signed integer, rounded once (IEEE 754-2008 5.4.1, convertFromInt).
     fn from_i128_r(input: i128, round: Round) -> StatusAnd<Self>
         ensures { converts_signed input round result }
     {
@@ -298,47 +298,47 @@ pub trait Float: Copy
         }
     }
 
-    /// A signed whole number, rounded once to the nearest value, ties to even.
+    /// The value of a signed integer, rounded once to the nearest value, ties to even.
     fn from_i128(input: i128) -> StatusAnd<Self>
         ensures { converts_signed input NearestTiesToEven result }
     {
         Self::from_i128_r(input, Round::NearestTiesToEven)
     }
 
-    /// A whole number, rounded once (IEEE 754-2008 5.4.1, convertFromInt).
+    /// The value of an unsigned integer, rounded once (IEEE 754-2008 5.4.1, convertFromInt).
     fn from_u128_r(input: u128, round: Round) -> StatusAnd<Self>
         ensures { converts_unsigned input round result };
 
-    /// A whole number, rounded once to the nearest value, ties to even.
+    /// The value of an unsigned integer, rounded once to the nearest value, ties to even.
     fn from_u128(input: u128) -> StatusAnd<Self>
         ensures { converts_unsigned input NearestTiesToEven result }
     {
         Self::from_u128_r(input, Round::NearestTiesToEven)
     }
 
-    /// The value of a text, rounded once, or an error for a text that has no meaning (IEEE 754-2008 5.12,
+    /// The value of a text, rounded once, or an error for a malformed text (IEEE 754-2008 5.12,
     /// convertFromHexCharacter).
     ///
     /// A text is an optional sign followed by one of: an infinity, `inf`, `Inf` or `INFINITY`; a NaN, `nan` or `NaN`,
-    /// preceded by an `s` if it is signaling, and followed by an optional payload, plain or in parentheses; or a
+    /// preceded by an `s` if it is signaling, with an optional payload after it, plain or in parentheses; or a
     /// hexadecimal number such as `-0x1.8p-1`, of any length and with any exponent. Decimal numbers are refused.
     fn from_str_r(s: &str, round: Round) -> Result<StatusAnd<Self>, ParseError>
         ensures { reads s.now round result };
 
     /// The bits of the canonical encoding of the value (IEEE 754-2008 3.4), for a type with bits, with `PRECISION`
-    /// below `BITS`. Read back, they give the value.
+    /// below `BITS`. `from_bits` of them returns the value.
     fn to_bits(self) -> u128
         requires { PRECISION < BITS }
         ensures written { writes_bits self result }
         ensures below { result < 2 ^ BITS }
         ensures back { value_of_bits result ≡ self };
 
-    /// The value rounded by the mode to a whole number of `width` binary digits, 2 to 128, in two's complement (IEEE
-    /// 754-2008 5.4.1, convertToInteger).
+    /// The value rounded to a signed integer of `width` bits, 2 to 128, in two's complement (IEEE 754-2008 5.4.1,
+    /// convertToInteger).
     ///
-    /// A value out of range, infinities included, gives the nearer end of the range, and a NaN gives 0; both are
-    /// invalid. INEXACT says that the number was not whole. `is_exact` says whether the whole number equals the value;
-    /// for -0 it is false.
+    /// A value out of range, infinities included, gives the nearer end of the range, and a NaN gives 0, each with
+    /// `INVALID_OP`. `INEXACT` is raised if a value in range is not an integer. `is_exact` says whether the integer
+    /// equals the value; for -0 it is false.
     fn to_i128_r(self, width: usize, round: Round, is_exact: &mut bool) -> StatusAnd<i128>
         requires low { 2 ≤ width }
         requires high { width ≤ 128 }
@@ -356,7 +356,7 @@ pub trait Float: Copy
         answer.status.and(answer.value)
     }
 
-    /// The value as a whole number of `width` binary digits, 2 to 128, in two's complement, cut toward zero.
+    /// The value as a signed integer of `width` bits, 2 to 128, in two's complement, truncated toward zero.
     fn to_i128(self, width: usize) -> StatusAnd<i128>
         requires low { 2 ≤ width }
         requires high { width ≤ 128 }
@@ -366,19 +366,18 @@ pub trait Float: Copy
         self.to_i128_r(width, Round::TowardZero, &mut is_exact)
     }
 
-    /// The value rounded by the mode to an unsigned whole number of `width` binary digits, 1 to 128 (IEEE 754-2008
-    /// 5.4.1, convertToInteger).
+    /// The value rounded to an unsigned integer of `width` bits, 1 to 128 (IEEE 754-2008 5.4.1, convertToInteger).
     ///
-    /// A value out of range, infinities included, gives the nearer end of the range, and a NaN gives 0; both are
-    /// invalid. INEXACT says that the number was not whole. `is_exact` says whether the whole number equals the value;
-    /// for -0 it is false.
+    /// A value out of range, infinities included, gives the nearer end of the range, and a NaN gives 0, each with
+    /// `INVALID_OP`. `INEXACT` is raised if a value in range is not an integer. `is_exact` says whether the integer
+    /// equals the value; for -0 it is false.
     fn to_u128_r(self, width: usize, round: Round, is_exact: &mut bool) -> StatusAnd<u128>
         requires low { 1 ≤ width }
         requires high { width ≤ 128 }
         ensures answer { converts_to_unsigned self width round result is_exact.new }
         ensures fits { result.value < 2 ^ width };
 
-    /// The value as an unsigned whole number of `width` binary digits, 1 to 128, cut toward zero.
+    /// The value as an unsigned integer of `width` bits, 1 to 128, truncated toward zero.
     fn to_u128(self, width: usize) -> StatusAnd<u128>
         requires low { 1 ≤ width }
         requires high { width ≤ 128 }
@@ -395,8 +394,8 @@ pub trait Float: Copy
         requires { can_compare_magnitudes self rhs }
         ensures { result ≡ magnitude_order self rhs };
 
-    /// Whether both are the same value: of the same category and sign, and with the same number, or for NaNs the same
-    /// significand. So a NaN is the same as itself, and -0 is not the same as +0.
+    /// Whether the values are identical: the same category, the same sign and the same number, or for NaNs the same
+    /// significand. So a NaN is identical to itself, and -0 is not identical to +0.
     fn bitwise_eq(self, rhs: Self) -> bool
         ensures { result ≡ same self rhs };
 
@@ -468,7 +467,7 @@ pub trait Float: Copy
     fn is_negative(self) -> bool
         ensures { result ≡ sign_of self };
 
-    /// Whether the value is a nonzero number that is not denormal (IEEE 754-2008 5.7.2, isNormal).
+    /// Whether the value is finite, nonzero and not denormal (IEEE 754-2008 5.7.2, isNormal).
     fn is_normal(self) -> bool
         ensures { result ≡ (is_finite_non_zero_category (category_of self) && not (denormal self)) }
     {
@@ -489,8 +488,8 @@ pub trait Float: Copy
         self.category() == Category::Zero
     }
 
-    /// Whether the value is a nonzero number of lesser magnitude than the smallest value that is not denormal (IEEE
-    /// 754-2008 5.7.2, isSubnormal).
+    /// Whether the value is nonzero and smaller in magnitude than the smallest normal value (IEEE 754-2008 5.7.2,
+    /// isSubnormal).
     fn is_denormal(self) -> bool
         ensures { result ≡ denormal self };
 
@@ -564,43 +563,43 @@ pub trait Float: Copy
         self.is_infinite() && self.is_negative()
     }
 
-    /// Whether the value is one quantum of either sign: the smallest nonzero magnitude.
+    /// Whether the magnitude is one quantum, the smallest nonzero one.
     fn is_smallest(self) -> bool
         ensures { result ≡ same self (signed_like sign_of negated the_smallest self) }
     {
         self.bitwise_eq(Self::smallest().copy_sign(self))
     }
 
-    /// Whether the value has the magnitude of the smallest value that is not denormal.
+    /// Whether the magnitude is that of the smallest normal value.
     fn is_smallest_normalized(self) -> bool
         ensures { result ≡ same self (signed_like sign_of negated the_smallest_normalized self) }
     {
         self.bitwise_eq(Self::smallest_normalized().copy_sign(self))
     }
 
-    /// Whether the value has the magnitude of the greatest finite value.
+    /// Whether the magnitude is that of the largest finite value.
     fn is_largest(self) -> bool
         ensures { result ≡ same self (signed_like sign_of negated the_largest self) }
     {
         self.bitwise_eq(Self::largest().copy_sign(self))
     }
 
-    /// Whether the value is finite and a whole number; true for zeros.
+    /// Whether the value is finite and an integer; true for zeros.
     fn is_integer(self) -> bool
         ensures { result ≡ is_whole self };
 
-    /// The inverse of a power of two of either sign, if the type has both values and neither is denormal. It has the
-    /// same sign.
+    /// The inverse of a power of two of either sign, if the type has the inverse and neither value is denormal;
+    /// otherwise `None`.
     fn get_exact_inverse(self) -> Option<Self>
         ensures { inverts self result };
 
-    /// The exponent of the highest binary digit, for denormal values too (IEEE 754-2008 5.3.3, logB): 2 to that power
-    /// is at most the magnitude, and twice that is more. For other values it is `IEK_ZERO`, `IEK_INF` or `IEK_NAN`.
+    /// The exponent of the highest binary digit, for denormal values too (IEEE 754-2008 5.3.3, logB): the floor of the
+    /// binary logarithm of the magnitude. For a zero, an infinity or a NaN it is `IEK_ZERO`, `IEK_INF` or `IEK_NAN`.
     fn ilogb(self) -> ExpInt
         ensures { has_exponent self result };
 
     /// The value times 2 to the power of `exp`, rounded once (IEEE 754-2008 5.3.3, scaleB). Infinities and zeros are
-    /// unchanged, and a NaN is quieted. Returns no status.
+    /// unchanged, and a NaN is quieted. No status is returned.
     fn scalbn_r(self, exp: ExpInt, round: Round) -> Self
         ensures { scales self exp round result };
 
@@ -656,7 +655,7 @@ pub trait Float: Copy
 
     ghost rem_law: { (x y : Self) (r : StatusAnd Self) → Self.rem_gives x y r → leaves x y r };
 
-    // The assigning operators store the value of that result and drop its status.
+    // The assigning operators store the value of that result and discard its status.
 
     ghost can_add_assign_law: { (x y : Self) → Self.can_add_assign x y };
 
@@ -692,7 +691,8 @@ pub trait Float: Copy
     ghost steps_down_law: { (x : Self) (r : StatusAnd Self) → steps_up (negated x) r
         → steps_down x (record { status = r.status; value = negated r.value }) };
 
-    // A signed whole number is converted by its magnitude; below zero the magnitude is rounded in the opposite mode.
+    // A signed integer is converted from its magnitude, which is rounded in the opposite mode if the integer is
+    // negative.
 
     ghost signed_above_law: { (n : ℕ) (mode : Round) (r : StatusAnd Self)
         → converts_unsigned n mode r → converts_signed (pos n) mode r };
@@ -702,13 +702,13 @@ pub trait Float: Copy
         → converts_signed (neg_ℤ (pos n)) mode
         (record { status = r.status; value = negated r.value }) };
 
-    // Reading by `FromStr` rounds to the nearest value and drops the status.
+    // `FromStr` rounds to the nearest value and discards the status.
 
     ghost read_law: { (text : List ℕ) (r : Result Self ParseError) → Self.from_str_gives text r
         → (answer : Result (StatusAnd Self) ParseError) × reads text NearestTiesToEven answer
         × (r ≡ without_status answer) };
 
-    // A value is converted to a signed whole number by way of the unsigned one of its magnitude.
+    // A value is converted to a signed integer from the unsigned integer of its magnitude.
 
     ghost to_signed_above_law: { (x : Self) (width : ℕ) (mode : Round) (number : StatusAnd ℕ)
         (exact : Bool) → sign_of x ≡ false → converts_to_unsigned x (width - 1) mode number exact
@@ -723,7 +723,7 @@ pub trait Float: Copy
         → converts_to_signed x width mode answer is_exact };
 
     // Each relation determines its result, so an operator and the corresponding call have the same result. The facts
-    // are given for one mode, so that proofs that do not cite them are not searched with all of them.
+    // are given for one mode, so that the search does not try all of them in proofs that do not cite them.
 
     ghost determined: { (mode : Round) →
         IsDetermined mode PRECISION BITS adds subtracts multiplies divides inverts leaves
@@ -732,7 +732,7 @@ pub trait Float: Copy
         has_fraction reads };
 }
 
-/// An unsigned whole number of `width` binary digits as a signed one.
+/// The signed integer with the magnitude of an unsigned one of `width` bits.
 #[inline]
 fn signed(width: usize, magnitude: u128) -> i128
     requires narrow { width ≤ 127 }
@@ -742,7 +742,7 @@ fn signed(width: usize, magnitude: u128) -> i128
     magnitude as i128
 }
 
-/// A whole number of at most 2 to the power of 127, with a minus sign.
+/// The negation of an integer of at most 2 to the power of 127.
 #[inline]
 fn minus(magnitude: u128) -> i128
     requires { magnitude ≤ 2 ^ 127 }
@@ -755,7 +755,7 @@ fn minus(magnitude: u128) -> i128
     }
 }
 
-/// The signed whole number of a value with a minus sign, from the unsigned one of its magnitude.
+/// The signed integer for a value with a minus sign, from the unsigned integer of its magnitude.
 #[inline]
 fn negated_whole(
     width: usize,

@@ -1,5 +1,5 @@
-//! The traits of all floating-point types of the library, `Float` and `FloatConvert`, and the small types in their calls,
-//! which are those of `apfloat_model`.
+//! The traits that all floating-point types of the library implement, `Float` and `FloatConvert`, and the small types
+//! in their signatures, which `apfloat_model` defines.
 #![tactic(auto)]
 
 pub mod convert;

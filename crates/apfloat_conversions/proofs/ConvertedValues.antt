@@ -1,4 +1,4 @@
--- Conversions by the category of the value, and NaNs' significands.
+-- Conversions by the category of the value, and the significands of NaNs.
 use Rattle.std.proofs.Common.{◌≡◌, ℕ, Bool, true, false, ◌-◌, ◌*◌, ◌%◌, ◌^◌, ◌<◌, ◌≤◌, sym, subst, arith}
 use Rattle.std.proofs.lemmas.Bool.{ne_eqb}
 use Rattle.std.proofs.lemmas.Nat.{pow_pos}
@@ -24,7 +24,7 @@ abbrev Says : Shape → Shape → Round → Category → Unpacked → Datum → 
 Says from into mode k x value status loses_info =
     IsConversion (format_at from) (format_at into) mode (datum_by k from x) value status loses_info
 
--- a number, by its quanta
+-- the conversion of a number, by its quanta
 number_converted : (from into : Shape) (mode : Round) (x : Unpacked) (value : Datum) (status : ℕ)
     (loses_info : Bool) → IsStoredBy Normal from x
     → IsConvertedNumber (format_at from) (format_at into) mode x.negative
@@ -34,7 +34,7 @@ number_converted from into mode x value status loses_info t h =
     let p = quanta_some from x.significand x.exponent t in
     rw (ne_eqb (quanta_at from.min_exp x.significand x.exponent) 0 (λ z. omega (arith, z, p))) h
 
--- a number is converted as its quanta say
+-- the conversion of a number has the result for its quanta
 pub of_number : (from into : Shape) (mode : Round) (category : Category) (x : Unpacked) (value : Datum) (status : ℕ)
     (loses_info : Bool) → category ≡ Normal → IsStoredBy category from x
     → IsConvertedNumber (format_at from) (format_at into) mode x.negative
@@ -44,7 +44,7 @@ of_number from into mode category x value status loses_info e t h =
     subst (λ (o : Category). IsStoredBy o from x → Says from into mode o x value status loses_info) (sym e)
     (λ t. number_converted from into mode x value status loses_info t h) t
 
--- a zero keeps its sign where the format has both
+-- a zero keeps its sign if the format has both zeros
 pub of_zero : (from into : Shape) (mode : Round) (category : Category) (x : Unpacked) (value : Datum) (status : ℕ)
     (loses_info : Bool) → category ≡ Zero
     → IsKept (finite (zero_sign into.nonfinite x.negative) 0) (loses_zero_sign (format_at into) x.negative) value
@@ -69,7 +69,7 @@ nan_fits NanOnly explicit precision s l h =
     omega arith
 nan_fits NanNegativeZero explicit precision s l h = let p : 0 < 2 ^ precision = pow_pos precision in omega arith
 
--- moved to the greater precision it still has a place
+-- the significand of a NaN, shifted to the greater precision, still fits in the word
 pub moved_in : (s p q j : ℕ) → q ≤ 125 → p ≤ 125 → s < 2 ^ p → j ≡ q - p → s * 2 ^ j % 2 ^ 128 ≡ s * 2 ^ (q - p)
 moved_in s p q j l m h e =
     let f : s * 2 ^ (q - p) < 2 ^ 125 = fits_shifted s p (q - p) 125 h (omega arith) in

@@ -1,4 +1,4 @@
--- Numbers of a shape in another that has them: all of its numbers, or those of one exponent.
+-- Numbers of a shape in another shape that has them: all of its numbers, or those with a given exponent.
 use Rattle.std.proofs.Common.{◌≡◌, ℕ, ◌+◌, ◌-◌, ◌*◌, ◌%◌, ◌^◌, ◌<◌, ◌≤◌, Bool, false, ℤ, ◌-ℤ◌, sym, refl, ap, ◌∙◌, ⊎_elim, arith}
 use Rattle.std.proofs.Math.Nat.{mul-le-mul_right, pow-le-pow_right, mod-eq_of_lt, eq_of_mul-eq-mul_right}
 use Rattle.std.proofs.lemmas.Nat.{pow-add, pow_pos}
@@ -26,7 +26,7 @@ use Rattle.apfloat_conversions.specs.Held.{IsHeld, IsHeldAt, IsInside, IsReached
 
 -- ---- the largest value: g * 2 ^ m quanta, and h * 2 ^ n of the other, finer by k places
 
--- within the largest value, where the last exponents are equal
+-- a number within the largest value of one shape is within that of the other, if the greatest exponents are equal
 level : (a g h m n k d : ℕ) → a ≤ g * 2 ^ m → g * 2 ^ d ≤ h → m + k ≡ n + d → a * 2 ^ k ≤ h * 2 ^ n
 level a g h m n k d l r e =
     let p : 2 ^ m * 2 ^ k ≡ 2 ^ n * 2 ^ d = sym (pow-add 2 m k) ∙ ap (λ (x : ℕ). 2 ^ x) e ∙ pow-add 2 n d in
@@ -35,7 +35,8 @@ level a g h m n k d l r e =
     let q : g * (2 ^ m * 2 ^ k) ≡ g * (2 ^ n * 2 ^ d) = ap (λ (x : ℕ). g * x) p in
     omega arith
 
--- and where that of the other shape is greater
+-- a number within the largest value of one shape is within that of the other, if the greatest exponent of the other is
+-- greater
 higher : (a g h m n k p q : ℕ) → a ≤ g * 2 ^ m → g < 2 ^ p → 2 ^ q ≤ h → p + m + k ≤ q + n → a * 2 ^ k ≤ h * 2 ^ n
 higher a g h m n k p q l f r e =
     let b : a * 2 ^ k ≤ g * 2 ^ m * 2 ^ k = mul-le-mul_right (2 ^ k) l in
@@ -46,11 +47,11 @@ higher a g h m n k p q l f r e =
     let w : 2 ^ q * 2 ^ n ≤ h * 2 ^ n = mul-le-mul_right (2 ^ n) r in
     omega arith
 
--- by how many places the quantum is finer
+-- how many places finer the quantum is
 abbrev finer : Shape → Shape → ℕ
 finer source target = (format_at target).scale - (format_at source).scale
 
--- a number within the largest value of one is within that of the other
+-- a number within the largest value of one shape is within that of the other
 held_within : (source target : Shape) (a : ℕ) → IsHeld source target
     → a ≤ largest (format_at source) → a * 2 ^ finer source target ≤ largest (format_at target)
 held_within source target a h l =
@@ -76,7 +77,7 @@ held_within source target a h l =
 
 -- ---- a number
 
--- and it is counted in the finer quanta
+-- a number in quanta of the other shape, which are finer
 held_quanta : (source target : Shape) (m : ℕ) (e : ℤ) → IsHeld source target
     → IsNormalAt source m e
     → IsQuantaAt target.min_exp (m * 2 ^ (target.precision - source.precision)) e
@@ -94,7 +95,7 @@ held_quanta source target m e h n =
     (target.precision - source.precision) (up (e -ℤ target.min_exp)) (down (e -ℤ target.min_exp)) n.whole b in
     omega (arith, q)
 
--- moved up to the precision of the other shape, a significand has just as many digits
+-- a significand shifted up to the precision of the other shape has as many digits as that shape
 moved_up : (source target : Shape) (m : ℕ) (e : ℤ) → source.precision ≤ target.precision
     → IsNormalAt source m e
     → (m * 2 ^ (target.precision - source.precision) < 2 ^ target.precision)
@@ -105,7 +106,7 @@ moved_up source target m e p n = (
       (omega (arith, source.parameters.precision_low)) (λ _. n.operand.full) (omega arith),
 )
 
--- a number moved up so is stored as the other shape wants it
+-- a number with its significand shifted up is normal in the other shape
 held_normal : (source target : Shape) (m : ℕ) (e : ℤ) → IsHeld source target
     → IsNormalAt source m e
     → IsNormalAt target (m * 2 ^ (target.precision - source.precision)) e
@@ -131,7 +132,7 @@ held_normal source target m e h n =
           (held_within source target (quanta_at source.min_exp m e) h n.within);
     }
 
--- so is one whose exponent lies inside the other shape
+-- a number whose exponent is inside the other shape, in quanta of that shape
 inside_quanta : (source target : Shape) (m : ℕ) (e : ℤ) → IsInside source target e
     → IsQuantaAt target.min_exp (m * 2 ^ (target.precision - source.precision)) e
     (m * 2 ^ (target.precision - source.precision) * 2 ^ up (e -ℤ target.min_exp))
@@ -140,7 +141,7 @@ inside_quanta source target m e h =
     let z : down (e -ℤ target.min_exp) ≡ 0 = no_down (e -ℤ target.min_exp) (omega (arith, ints, l)) in
     rw z (omega arith)
 
--- a significand at an exponent inside the other shape is within the largest value there
+-- a number whose exponent is inside the other shape is within its largest value
 inside_within : (source target : Shape) (m : ℕ) (e : ℤ) → IsInside source target e
     → m < 2 ^ source.precision
     → m * 2 ^ (target.precision - source.precision) * 2 ^ up (e -ℤ target.min_exp) ≤ largest (format_at target)
@@ -159,7 +160,7 @@ inside_within source target m e h f =
     (omega (arith, ints, v, z, b, target.parameters.precision_low)) in
     omega (arith, q)
 
--- a number whose exponent lies inside the other shape, moved up, is stored as that shape wants it
+-- a number whose exponent is inside the other shape, with its significand shifted up, is normal in that shape
 inside_normal : (source target : Shape) (m : ℕ) (e : ℤ) → IsInside source target e
     → IsNormalAt source m e
     → IsNormalAt target (m * 2 ^ (target.precision - source.precision)) e
@@ -178,7 +179,7 @@ inside_normal source target m e h n =
           (inside_within source target m e h n.operand.fits);
     }
 
--- either way it is stored as the other shape wants it
+-- in either case, the number with its significand shifted up is normal in the other shape
 pub normal_there : (source target : Shape) (m : ℕ) (e : ℤ)
     → IsHeldAt source target e → IsNormalAt source m e
     → IsNormalAt target (m * 2 ^ (target.precision - source.precision)) e
@@ -190,9 +191,9 @@ pub precise_there : (source target : Shape) (e : ℤ) → IsHeldAt source target
 precise_there source target e h =
     ⊎_elim (λ (o : IsHeld source target). o.precise) (λ (o : IsInside source target e). o.precise) h
 
--- ---- it is the same number: a quanta of 2 ^ (- f) are b quanta of 2 ^ (- g)
+-- ---- the same number: a quanta of 2 ^ (- f) are b quanta of 2 ^ (- g)
 
--- two counts of quanta with one significand, and with places that agree, are the same number
+-- two counts of quanta with the same significand, and places that agree, are the same number
 same_quanta : (m a b f g k d u d' u' : ℕ) → a * 2 ^ d ≡ m * 2 ^ u → b * 2 ^ d' ≡ m * 2 ^ k * 2 ^ u'
     → u + g + d' ≡ d + f + (k + u') → a * 2 ^ g ≡ b * 2 ^ f
 same_quanta m a b f g k d u d' u' h h' e =
@@ -202,7 +203,7 @@ same_quanta m a b f g k d u d' u' h h' e =
     let t : m * 2 ^ k * 2 ^ u' * 2 ^ f ≡ m * (2 ^ f * 2 ^ (k + u')) = rw (pow-add 2 k u') (omega arith) in
     eq_of_mul-eq-mul_right (2 ^ d') (pow_pos d') (a * 2 ^ g) (b * 2 ^ f) (l ∙ sym (q ∙ r ∙ t))
 
--- it is more quanta where the quantum is finer, and fewer where it is coarser
+-- the number in quanta of either shape is the same number
 pub same_there : (source target : Shape) (m : ℕ) (e : ℤ)
     → source.precision ≤ target.precision → IsNormalAt source m e
     → IsNormalAt target (m * 2 ^ (target.precision - source.precision)) e
@@ -225,9 +226,9 @@ held_shift s t m p q f =
     let b : 2 ^ t ≤ 2 ^ 125 = pow-le-pow_right two_pos q in
     mod-eq_of_lt (omega arith)
 
--- ---- its conversion rounds nothing
+-- ---- the conversion of such a number rounds nothing
 
--- so that the conversion has no flag
+-- the conversion of the number rounds nothing, and raises no flag
 pub same_converted : (from into : Format) (mode : Round) (negative : Bool) (a b : ℕ) (value : Datum) (status : ℕ)
     → 0 < a
     → a * 2 ^ into.scale ≡ b * 2 ^ from.scale → value ≡ finite negative b → IsFiniteOf into negative b

@@ -1,4 +1,4 @@
--- Integers of a given count of binary digits, and the ends of their range.
+-- Integers of a given number of binary digits, and the ends of their range.
 use Rattle.std.proofs.Common.{◌≡◌, ℕ, ◌+◌, ◌-◌, ◌*◌, ◌/◌, ◌^◌, ◌<◌, ◌≤◌, Bool, true, false, cond, ◌&&◌, eqb, sym, refl, ap, ◌∙◌, arith, pos, neg_ℤ, ◌≤ℤ◌, int_lt}
 use Rattle.std.proofs.Math.Nat.{div-eq_of_lt-le}
 use Rattle.std.proofs.lemmas.Nat.{pow-add, pow_pos}
@@ -13,11 +13,11 @@ use Rattle.apfloat_model.specs.whole_numbers.WholeNumbersOut.{IsToUnsigned, rang
 use Rattle.apfloat_model.proofs.general.Choices.{no_zero}
 use Rattle.apfloat_model.proofs.whole_numbers.SignedTests.{less_so, less_not}
 
--- the same whole number, also without a sign
+-- the same integer, also without a sign
 pub same_number : (m n : ℕ) → pos m ≡ pos n → m ≡ n
 same_number m n h = omega (arith, ints, h)
 
--- a word of ones, shifted to leave some digits, has all of these set
+-- a word of ones, shifted right to leave `width` digits, is the greatest number of that many digits
 pub greatest_is : (width : ℕ) → width ≤ 128 → (2 ^ 128 - 1) / 2 ^ (128 - width) ≡ 2 ^ width - 1
 greatest_is width h =
     let e : width + (128 - width) ≡ 128 = omega arith in
@@ -43,7 +43,7 @@ limit_high : (negative : Bool) (width mag : ℕ) → mag ≤ limit width negativ
 limit_high true width mag h = omega (arith, ints)
 limit_high false width mag h = omega (arith, ints)
 
--- a number in range is given as it is
+-- a number in range is unchanged
 pub ranged_in : (width : ℕ) (negative : Bool) (mag : ℕ) (exact : Bool) → mag ≤ limit width negative
     → ranged (pos 0) (pos (2 ^ width - 1)) (signed negative mag)
     (exact_or_not (signed negative mag) exact (negative && false))
@@ -54,7 +54,7 @@ ranged_in width b mag exact h =
     less_not (pos (2 ^ width - 1)) (pos mag) (limit_high b width mag h) in
     rw (signed_in b width mag h, low, high, no_zero b exact) refl
 
--- and is the answer
+-- a number in range is the result
 pub in_range : (format : Format) (mode : Round) (width : ℕ) (negative : Bool) (n mag st : ℕ) (exact : Bool) → 0 < n
     → mag ≡ whole_pick mode negative n (2 ^ format.scale) → exact ≡ eqb (whole_quanta format mode negative n) n
     → mag ≤ limit width negative → st ≡ inexact_unless exact
@@ -64,7 +64,7 @@ in_range format mode width b n mag st exact p i x h t =
     let r = ranged_in width b mag exact h in
     rw (z, ← x, ← i, r) (record { number_is = refl; status_is = t; is_exact_is = refl })
 
--- one out of range is replaced by the end of the range
+-- a number out of range is replaced by the end of the range
 pub ranged_out : (width : ℕ) (negative : Bool) (mag : ℕ) (exact : Bool) → limit width negative < mag
     → ranged (pos 0) (pos (2 ^ width - 1)) (signed negative mag)
     (exact_or_not (signed negative mag) exact (negative && false))
@@ -78,7 +78,7 @@ ranged_out width false mag exact h =
     less_so (pos (2 ^ width - 1)) (pos mag) (omega (arith, ints, h)) in
     rw (low, high) refl
 
--- and the answer is that end, with INVALID_OP
+-- for a number out of range, the result is the end of the range, with INVALID_OP
 pub out_of_range : (format : Format) (mode : Round) (width : ℕ) (negative : Bool) (n number st : ℕ) (exact : Bool)
     → 0 < n → limit width negative < whole_pick mode negative n (2 ^ format.scale) → number ≡ limit width negative
     → st ≡ 1 → exact ≡ false → IsToUnsigned format mode width (finite negative n) number st exact

@@ -25,7 +25,7 @@ use Rattle.apfloat_conversions.proofs.Wholes.{up_of}
 pub stepped : (s a u d : ℕ) → a * 2 ^ d ≡ s * 2 ^ u → (a + 2 ^ u) * 2 ^ d ≡ (s + 2 ^ d) * 2 ^ u
 stepped s a u d h = omega arith
 
--- and the same step down
+-- a step down of one quantum, or of one unit of the last digit
 pub stepped_down : (s a u d : ℕ) → 2 ^ d ≤ s → a * 2 ^ d ≡ s * 2 ^ u → (a - 2 ^ u) * 2 ^ d ≡ (s - 2 ^ d) * 2 ^ u
 stepped_down s a u d l h =
     let k : 2 ^ d * 2 ^ u ≤ s * 2 ^ u = mul-le-mul_right (2 ^ u) l in
@@ -41,7 +41,7 @@ stepped_down s a u d l h =
 power_split : (p d : ℕ) → d ≤ p → 2 ^ p ≡ 2 ^ (p - d) * 2 ^ d
 power_split p d l = let e : p ≡ (p - d) + d = omega arith in ap (λ (x : ℕ). 2 ^ x) e ∙ pow-add 2 (p - d) d
 
--- a step keeps within a power of two
+-- a step up from below a power of two stays at or below it
 pub step_within : (p s a u d : ℕ) → d ≤ p → (u ≡ 0) ⊎ (d ≡ 0) → s < 2 ^ p → a * 2 ^ d ≡ s * 2 ^ u → s + 2 ^ d ≤ 2 ^ p
 step_within p s a u d l (inr z) f h = let e : 2 ^ d ≡ 1 = ap (λ (x : ℕ). 2 ^ x) z in omega arith
 step_within p s a u d l (inl z) f h =
@@ -52,7 +52,7 @@ step_within p s a u d l (inl z) f h =
     let k : (a + 1) * 2 ^ d ≤ 2 ^ (p - d) * 2 ^ d = next_multiple a (2 ^ (p - d)) (2 ^ d) g in
     omega (arith, h', w, k)
 
--- and a step down from above one keeps above
+-- a step down from above a power of two stays at or above it
 pub step_above : (p s a u d : ℕ) → d ≤ p → (u ≡ 0) ⊎ (d ≡ 0) → 2 ^ p < s → a * 2 ^ d ≡ s * 2 ^ u → 2 ^ p + 2 ^ d ≤ s
 step_above p s a u d l (inr z) f h = let e : 2 ^ d ≡ 1 = ap (λ (x : ℕ). 2 ^ x) z in omega arith
 step_above p s a u d l (inl z) f h =
@@ -95,7 +95,7 @@ next_is p s a u d q (inl z) f g h =
     above_at p (2 ^ (p - 1)) a u a (sym (twice_half p q)) (omega arith) (inl z)
     (let k₂ : a * 2 ^ u ≡ a * 1 = ap (λ (x : ℕ). a * x) e in omega (arith, k₂))
 
--- and the one before it the neighbour below
+-- the previous multiple of its unit is the neighbour below a grid number
 below_at : (p half m c a : ℕ) → 2 ^ p ≡ 2 * half → m < 2 ^ p → (c ≡ 0) ⊎ (half ≤ m) → a ≡ (m + 1) * 2 ^ c
     → IsBelow p (a - 2 ^ c) (a - 1) 1
 below_at p half m c a e f g h =
@@ -127,7 +127,7 @@ less_is p s a u d q (inl z) f g h =
 
 -- ---- the same number by half or twice the significand
 
--- half of a significand, one exponent higher, is the same number
+-- half a significand, one exponent higher, is the same number
 pub quanta_halved : (min_exp x : ℤ) (s h n : ℕ) → s ≡ 2 * h → IsQuantaAt min_exp s x n
     → IsQuantaAt min_exp h (x +ℤ pos 1) n
 quanta_halved min_exp x s h n e q =
@@ -137,7 +137,7 @@ quanta_halved min_exp x s h n e q =
     ap (λ (z : ℕ). z * (2 ^ 0 * 2 ^ up ((x +ℤ pos 1) -ℤ min_exp))) e in
     omega (arith, g, k)
 
--- and twice of it, one exponent lower
+-- twice a significand, one exponent lower, is the same number
 pub quanta_doubled : (min_exp x : ℤ) (s h n : ℕ) → s ≡ 2 * h → IsQuantaAt min_exp h x n
     → IsQuantaAt min_exp s (x -ℤ pos 1) n
 quanta_doubled min_exp x s h n e q =
@@ -156,7 +156,7 @@ greatest_before IEEE754 precision s h = omega arith
 greatest_before NanOnly precision s h = omega arith
 greatest_before NanNegativeZero precision s h = omega arith
 
--- for a whole number that is at least -n, `down` is at most n
+-- for an integer that is at least -n, `down` is at most n
 pub down_le : (z : ℤ) (n : ℕ) → neg_ℤ (pos n) ≤ℤ z → down z ≤ n
 down_le (pos k) n h = let l : 0 ≤ n = omega arith in l
 down_le (negsuc k) n h = let l : k + 1 ≤ n = omega (arith, ints) in omega (arith, l)
@@ -166,7 +166,7 @@ pub operand_down : (precision : ℕ) (min_exp x : ℤ) → 3 ≤ precision
     → ((min_exp +ℤ pos 1) -ℤ pos precision) ≤ℤ x → down (x -ℤ min_exp) ≤ precision - 1
 operand_down precision min_exp x t l = down_le (x -ℤ min_exp) (precision - 1) (omega (arith, ints))
 
--- an exponent up to the greatest can be raised by one, or is the greatest
+-- an exponent that is at most the greatest can be raised by one, or is the greatest
 pub room_cases : (x m z : ℤ) → z ≡ (m -ℤ x) → x ≤ℤ m → ((x +ℤ pos 1) ≤ℤ m) ⊎ (x ≡ m)
 room_cases x m (pos zero) e l = inr (omega (arith, ints, e, l))
 room_cases x m (pos (suc k)) e l = inl (omega (arith, ints, e, l))
@@ -190,7 +190,7 @@ at_top format precision min_exp max_exp s a e g h c =
     let q : a * 2 ^ down (max_exp -ℤ min_exp) ≡ a * 1 = ap (λ (x : ℕ). a * x) d in
     omega (arith, m, n, q, h)
 
--- a number below the largest that is a carry away from the next power of two
+-- a number below the largest whose step carries has room for the next exponent
 pub room_above : (format : Format) (precision : ℕ) (min_exp max_exp x : ℤ) (s a : ℕ) → format.precision ≡ precision
     → pos format.span ≡ max_exp -ℤ min_exp → IsOperandAt precision min_exp max_exp s x → IsQuantaAt min_exp s x a
     → a < largest format → 2 ^ precision ≤ s + 2 ^ down (x -ℤ min_exp) → (x +ℤ pos 1) ≤ℤ max_exp
@@ -229,14 +229,14 @@ step_room p s d h f l =
     let b : 2 ^ d ≤ 2 ^ 125 = pow-le-pow_right two_pos l' in
     omega (arith, a, b, f)
 
--- ---- the answers
+-- ---- the results of steps
 
--- a step that keeps the count of digits keeps the exponent
+-- a step that keeps the number of digits keeps the exponent
 pub stays_operand : (p : ℕ) (min max x : ℤ) (s t : ℕ) → IsOperandAt p min max s x → t < 2 ^ p → 2 ^ (p - 1) ≤ t
     → IsOperandAt p min max t x
 stays_operand p min max x s t o f g = record { fits = f; full = g; least = o.least; greatest = o.greatest }
 
--- one that carries has half of the significand, one exponent higher
+-- a step that carries leaves half the significand, one exponent higher
 pub carries_operand : (p : ℕ) (min max x y : ℤ) (s t : ℕ) → 0 < p → IsOperandAt p min max s x → t ≡ 2 ^ (p - 1)
     → y ≡ (x +ℤ pos 1) → (x +ℤ pos 1) ≤ℤ max → IsOperandAt p min max t y
 carries_operand p min max x y s t q o e i r =
@@ -251,7 +251,7 @@ carries_operand p min max x y s t q o e i r =
           omega (arith, ints, r, i);
     }
 
--- and is the same number
+-- a significand that was halved, one exponent higher, is the same number
 pub carried_quanta : (p : ℕ) (min x y : ℤ) (s t n : ℕ) → 0 < p → s ≡ 2 ^ p → t ≡ 2 ^ (p - 1) → y ≡ (x +ℤ pos 1)
     → IsQuantaAt min s x n → IsQuantaAt min t y n
 carried_quanta p min x y s t n q e i j h =
@@ -272,7 +272,7 @@ stepped_down_by s a u d t e l h = stepped_down s a u d l h ∙ ap (λ (x : ℕ).
 pub step_small : (p d : ℕ) → d ≤ p → 2 ^ d ≤ 2 ^ p
 step_small p d l = pow-le-pow_right two_pos l
 
--- a step below a power of two starts from twice of it, one exponent lower
+-- a step down from a power of two starts from twice its significand, one exponent lower
 pub lowered_quanta : (p : ℕ) (min x y : ℤ) (s t n : ℕ) → 0 < p → s ≡ 2 ^ (p - 1) → t ≡ 2 ^ p → y ≡ (x -ℤ pos 1)
     → IsQuantaAt min s x n → IsQuantaAt min t y n
 lowered_quanta p min x y s t n q e i j h =
@@ -284,7 +284,7 @@ lowered_quanta p min x y s t n q e i j h =
 zero_below : (p : ℕ) → IsBelow p 0 0 1
 zero_below p = exact_below p 0 0 1 (lit< tt) (zero_on_grid p) refl
 
--- below one quantum there is 0
+-- the neighbour below one quantum is 0
 pub least_less : (p : ℕ) (min x : ℤ) (s a : ℕ) → 3 ≤ p → s ≡ 2 ^ (p - 1) → x ≡ ((min +ℤ pos 1) -ℤ pos p)
     → IsQuantaAt min s x a → IsBelow p 0 (a - 1) 1
 least_less p min x s a t e f h =
@@ -300,7 +300,7 @@ least_less p min x s a t e f h =
     let r : a - 1 ≡ 0 = omega (arith, k) in
     subst (λ (z : ℕ). IsBelow p 0 z 1) (sym r) (zero_below p)
 
--- and leaves a number with all digits
+-- a step down from a power of two leaves a number with all digits
 pub lowered_operand : (p : ℕ) (min max x y : ℤ) (s t w d : ℕ) → 0 < p → IsOperandAt p min max s x → t ≡ 2 ^ p
     → w ≡ 2 ^ d → d ≤ p - 1 → y ≡ (x -ℤ pos 1) → ((min +ℤ pos 1) -ℤ pos p) ≤ℤ y → IsOperandAt p min max (t - w) y
 lowered_operand p min max x y s t w d q o e i j r l =
@@ -326,7 +326,7 @@ logarithm_low q s a k u d e f h =
     let r : 2 ^ k * 2 ^ d ≤ a * 2 ^ d = omega (arith, w, g, h) in
     le_of_mul-le-mul_right r (pow_pos d)
 
--- and below the next power
+-- a number with all digits is below the next power
 logarithm_high : (p s a k u d : ℕ) → k + d ≡ p + u → s < 2 ^ p → a * 2 ^ d ≡ s * 2 ^ u → a < 2 ^ k
 logarithm_high p s a k u d e f h =
     let w : 2 ^ k * 2 ^ d ≡ 2 ^ p * 2 ^ u = sym (pow-add 2 k d) ∙ ap (λ (x : ℕ). 2 ^ x) e ∙ pow-add 2 p u in
@@ -350,20 +350,20 @@ logarithm_is format p min max x s a t z o h =
       is = omega (arith, ints, q);
     }
 
--- its significand with exponent -1 is a number of the format
+-- the significand of a number, with exponent -1, is a number of the format
 pub fraction_operand : (p : ℕ) (min max x : ℤ) (s : ℕ) → 3 ≤ p → min ≤ℤ negsuc 0 → pos p ≤ℤ max
     → IsOperandAt p min max s x → IsOperandAt p min max s (negsuc 0)
 fraction_operand p min max x s t b w o =
     record { fits = o.fits; full = o.full; least = omega (arith, ints, t, b); greatest = omega (arith, ints, t, w) }
 
--- with no digit lost
+-- a number with exponent -1 has quanta, since no digit is lost
 pub fraction_quanta : (min : ℤ) (s : ℕ) → min ≤ℤ negsuc 0 → IsQuantaAt min s (negsuc 0) (s * 2 ^ up (negsuc 0 -ℤ min))
 fraction_quanta min s b =
     let w = up_far (negsuc 0 -ℤ min) 0 (omega (arith, ints, b)) in
     let e : 2 ^ down (negsuc 0 -ℤ min) ≡ 1 = ap (λ (x : ℕ). 2 ^ x) w.1 in
     ap (λ (x : ℕ). s * 2 ^ up (negsuc 0 -ℤ min) * x) e ∙ omega arith
 
--- and times the power of two of its exponent it is the number
+-- the fraction times the power of two of its exponent is the number
 pub fraction_same : (min x y : ℤ) (s a : ℕ) → min ≤ℤ negsuc 0 → y ≡ (x +ℤ pos 1) → IsQuantaAt min s x a
     → a * 2 ^ down y ≡ s * 2 ^ up (negsuc 0 -ℤ min) * 2 ^ up y
 fraction_same min x y s a b e h =

@@ -10,11 +10,11 @@ use Rattle.apfloat_rounding.proofs.ShapeExponents.{scale_is}
 use Rattle.apfloat_conversions.proofs.StoredExponents.{scale_in_span, half_within, number_of}
 use Rattle.apfloat_conversions.proofs.Nexts.{logarithm_is, fraction_operand, fraction_quanta, fraction_low}
 
--- its quanta
+-- the quanta of the fraction
 abbrev pub fraction_at : Shape → ℕ → ℕ
 fraction_at s m = m * 2 ^ up (negsuc 0 -ℤ s.min_exp)
 
--- it lies in [1/2, 1)
+-- the fraction is in [1/2, 1)
 pub fraction_size : (shape : Shape) (m : ℕ) (e : ℤ) → IsNormalAt shape m e
     → (2 ^ ((format_at shape).scale - 1) ≤ fraction_at shape m) × (fraction_at shape m < 2 ^ (format_at shape).scale)
 fraction_size shape m e n =
@@ -25,7 +25,7 @@ fraction_size shape m e n =
     (logarithm_is (format_at shape) shape.precision shape.min_exp shape.max_exp (negsuc 0) m (fraction_at shape m)
     shape.parameters.precision_low (scale_is shape) o q)
 
--- and is stored as the format wants it
+-- the fraction is a normal number of the shape
 pub fraction_number : (shape : Shape) (m : ℕ) (e : ℤ) → IsNormalAt shape m e
     → IsNormalAt shape m (negsuc 0)
 fraction_number shape m e n =

@@ -27,7 +27,7 @@ use Rattle.apfloat_conversions.proofs.Nexts.{operand_down, step_room, step_small
 some : (shape : Shape) → 0 < shape.precision
 some shape = let t = shape.parameters.precision_low in omega (arith, t)
 
--- a step at a stored number's last place
+-- a step at the last place of a stored number fits in the word
 pub step_fits : (shape : Shape) (m t : ℕ) (e : ℤ) → IsNormalAt shape m e
     → t ≡ 2 ^ down (e -ℤ shape.min_exp)
     → m + t < 2 ^ 128
@@ -47,14 +47,14 @@ step_below shape m t e l h i =
 
 -- ---- up
 
--- m at e is the number after n quanta
+-- m at exponent e is the next number after n quanta
 pub record IsAfter (shape : Shape) (n m : ℕ) (e : ℤ) : Type 0 where
   pub next : ℕ
   pub is_above : IsAbove shape.precision next (n + 1) 1
   pub operand : IsOperandAt shape.precision shape.min_exp shape.max_exp m e
   pub quanta : IsQuantaAt shape.min_exp m e next
 
--- one unit of its last digit above a number stands the neighbour
+-- the neighbour above a number is one step of its last digit above it
 above_of : (shape : Shape) (m : ℕ) (e : ℤ) → IsNormalAt shape m e
     → IsAbove shape.precision (quanta_at shape.min_exp m e + 2 ^ up (e -ℤ shape.min_exp))
     (quanta_at shape.min_exp m e + 1) 1
@@ -62,7 +62,7 @@ above_of shape m e n =
     next_is shape.precision m (quanta_at shape.min_exp m e) (up (e -ℤ shape.min_exp)) (down (e -ℤ shape.min_exp))
     (some shape) (one_side (e -ℤ shape.min_exp)) n.operand.fits n.operand.full n.whole
 
--- the neighbour above, where no digit is added
+-- the next number above, if no digit is added
 pub after_stays : (shape : Shape) (m t : ℕ) (e : ℤ) → IsNormalAt shape m e
     → t ≡ 2 ^ down (e -ℤ shape.min_exp)
     → m + t < 2 ^ shape.precision → IsAfter shape (quanta_at shape.min_exp m e) (m + t) e
@@ -76,7 +76,7 @@ after_stays shape m t e n i f =
           (down (e -ℤ shape.min_exp)) t i n.whole;
     }
 
--- where one is added, it is a power of two
+-- the next number above, if a digit is added, is a power of two
 pub after_carries : (shape : Shape) (m t w : ℕ) (e r : ℤ) → IsNormalAt shape m e
     → quanta_at shape.min_exp m e < largest (format_at shape) → t ≡ 2 ^ down (e -ℤ shape.min_exp)
     → 2 ^ shape.precision ≤ m + t
@@ -101,14 +101,14 @@ after_carries shape m t w e r n b i h j k =
       quanta = carried_quanta shape.precision shape.min_exp e r (m + t) w (a + 2 ^ up (e -ℤ shape.min_exp)) p y j k q;
     }
 
--- it is stored as the format wants it
+-- the number after n quanta is a normal number of the shape
 pub after_stored : (shape : Shape) (n m : ℕ) (e : ℤ) → n < largest (format_at shape)
     → IsAfter shape n m e
     → IsNormalAt shape m e
 after_stored shape n m e b h =
     number_of shape m e h.next h.operand h.quanta (next_within (format_at shape) n h.next (some shape) b h.is_above)
 
--- and is what the model asks for
+-- the number after n quanta is the neighbour that the model defines
 pub after_is : (shape : Shape) (n m : ℕ) (e : ℤ) → IsAfter shape n m e
     → IsNextGreater (format_at shape) n (finite false (quanta_at shape.min_exp m e)) 0
 after_is shape n m e h =
@@ -117,14 +117,14 @@ after_is shape n m e h =
 
 -- ---- down
 
--- m at e is the number before n quanta
+-- m at exponent e is the number before n quanta
 pub record IsBefore (shape : Shape) (n m : ℕ) (e : ℤ) : Type 0 where
   pub next : ℕ
   pub is_below : IsBelow shape.precision next (n - 1) 1
   pub operand : IsOperandAt shape.precision shape.min_exp shape.max_exp m e
   pub quanta : IsQuantaAt shape.min_exp m e next
 
--- the neighbour below, where no digit is lost
+-- the number below, if no digit is lost
 pub before_stays : (shape : Shape) (m t : ℕ) (e : ℤ) → IsNormalAt shape m e
     → t ≡ 2 ^ down (e -ℤ shape.min_exp)
     → 2 ^ (shape.precision - 1) < m → IsBefore shape (quanta_at shape.min_exp m e) (m - t) e
@@ -171,14 +171,14 @@ before_lowers shape m w t e r n i j k low h =
           (down (r -ℤ shape.min_exp)) t h (omega (arith, y, j, z, o)) q;
     }
 
--- it is stored as the format wants it
+-- the number before n quanta is a normal number of the shape
 pub before_stored : (shape : Shape) (n m : ℕ) (e : ℤ) → n ≤ largest (format_at shape) → IsBefore shape n m e
     → IsNormalAt shape m e
 before_stored shape n m e b h =
     let l = h.is_below.not_above in
     number_of shape m e h.next h.operand h.quanta (omega (arith, l, b))
 
--- and is what the model asks for
+-- the number before n quanta is the neighbour that the model defines
 pub before_is : (shape : Shape) (n m : ℕ) (e : ℤ) → n ≤ largest (format_at shape) → IsBefore shape n m e
     → IsNextLess (format_at shape) n (finite true (quanta_at shape.min_exp m e)) 0
 before_is shape n m e b h =
@@ -192,7 +192,7 @@ before_is shape n m e b h =
           record { value_is = sym (signed_some shape.nonfinite true h.next p); status_is = refl };
     })
 
--- below the least number stands the zero
+-- the number below the smallest one is zero
 pub before_least : (shape : Shape) (m : ℕ) (e : ℤ) → IsNormalAt shape m e
     → m ≡ 2 ^ (shape.precision - 1) → e ≡ ((shape.min_exp +ℤ pos 1) -ℤ pos shape.precision)
     → IsNextLess (format_at shape) (quanta_at shape.min_exp m e) (finite (zero_sign shape.nonfinite true) 0) 0
@@ -208,7 +208,7 @@ before_least shape m e n i k =
 
 -- ---- the largest
 
--- two magnitudes are equal where their multiples are
+-- two magnitudes are equal if their multiples are
 same_multiple : (m g w : ℕ) → 0 < w → eqb m g ≡ eqb (m * w) (g * w)
 same_multiple m g w p =
     ⊎_elim
@@ -216,7 +216,7 @@ same_multiple m g w p =
     (λ (e : m ≡ g → ⊥). ne_eqb m g e ∙ sym (ne_eqb (m * w) (g * w) (λ h. e (eq_of_mul-eq-mul_right w p m g h))))
     (cases_eq m g)
 
--- at the greatest exponent a number is the largest where its significand is the greatest
+-- at the greatest exponent, a number is the largest exactly if its significand is the greatest
 pub largest_at_top : (shape : Shape) (m g : ℕ) (e : ℤ) → IsNormalAt shape m e → e ≡ shape.max_exp
     → g ≡ greatest_significand shape.nonfinite shape.precision
     → eqb m g ≡ eqb (quanta_at shape.min_exp m e) (largest (format_at shape))

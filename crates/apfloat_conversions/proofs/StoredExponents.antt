@@ -25,7 +25,7 @@ use Rattle.apfloat_conversions.proofs.Wholes.{up_of, places_up, places_down}
 
 -- ---- the number as a fraction, by the exponent of its last digit
 
--- a number without fraction, by its significand and its exponent from the last digit
+-- an integer as a fraction, by its significand and the exponent of its last digit
 pub whole_places : (shape : Shape) (m : ℕ) (e r : ℤ) → IsNormalAt shape m e
     → r ≡ (to_z w32 (of_z w32 e) -ℤ pos (shape.precision - 1)) → pos 0 ≤ℤ r
     → quanta_at shape.min_exp m e ≡ m * 2 ^ up r * 2 ^ (format_at shape).scale
@@ -35,7 +35,7 @@ whole_places shape m e r n v l =
     places_up (shape.precision - 1) (format_at shape).scale shape.min_exp e r m (quanta_at shape.min_exp m e) (up r)
     (scale_is shape) v' (omega (arith, ints, k)) n.whole
 
--- a number with a fraction, likewise
+-- a number that may have a fraction, by its significand and the exponent of its last digit
 pub fraction_places : (shape : Shape) (m k : ℕ) (e r : ℤ) → IsNormalAt shape m e
     → r ≡ (to_z w32 (of_z w32 e) -ℤ pos (shape.precision - 1)) → pos k ≡ (pos 0 -ℤ r)
     → quanta_at shape.min_exp m e * 2 ^ k ≡ m * 2 ^ (format_at shape).scale
@@ -44,7 +44,7 @@ fraction_places shape m k e r n v h =
     places_down (shape.precision - 1) (format_at shape).scale shape.min_exp e r m (quanta_at shape.min_exp m e) k
     (scale_is shape) v' h n.whole
 
--- and a number below 2 ^ 61, moved up until it has 62 digits
+-- a number below 2 ^ 61, by its significand shifted up to 62 digits
 pub word_places : (shape : Shape) (m k : ℕ) (e : ℤ) → IsNormalAt shape m e → shape.precision ≤ 62
     → pos k ≡ (pos 61 -ℤ e)
     → quanta_at shape.min_exp m e * 2 ^ k ≡ m * 2 ^ (62 - shape.precision) * 2 ^ (format_at shape).scale
@@ -55,7 +55,7 @@ word_places shape m k e n l h =
     (format_at shape).scale (62 - shape.precision) k n.whole (omega (arith, ints, z, h, l, p)) in
     omega (arith, g)
 
--- a significand moved up until it has 62 digits
+-- a significand shifted up to 62 digits fits in the word
 pub top_fits : (precision m : ℕ) → precision ≤ 62 → m < 2 ^ precision → m * 2 ^ (62 - precision) < 2 ^ 62
 top_fits precision m l f =
     let e : precision + (62 - precision) ≡ 62 = omega (arith, l) in
@@ -97,7 +97,7 @@ scale_delivered shape m e j near r mode negative v st n c i d =
 
 -- ---- sizes within the format
 
--- half of 2 to the precision, at any place up to the span
+-- half of 2 to the precision, at any place up to the span, is within the largest value
 pub half_within : (shape : Shape) (m k : ℕ) → m ≤ 2 ^ (shape.precision - 1) → k ≤ (format_at shape).span
     → m * 2 ^ k ≤ largest (format_at shape)
 half_within shape m k h l =
@@ -124,7 +124,7 @@ significand_small shape m f =
     let a : 2 ^ shape.precision ≤ 2 ^ 125 = pow-le-pow_right two_pos l in
     omega (arith, a, f)
 
--- a number by its quanta
+-- a stored number represents its quanta
 pub number_of : (shape : Shape) (m : ℕ) (e : ℤ) (n : ℕ) → IsOperandAt shape.precision shape.min_exp shape.max_exp m e
     → IsQuantaAt shape.min_exp m e n → n ≤ largest (format_at shape) → IsNormalAt shape m e
 number_of shape m e n o q l =

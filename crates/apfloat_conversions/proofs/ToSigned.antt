@@ -1,4 +1,4 @@
--- Signed whole numbers out, by the unsigned one of the magnitude.
+-- Conversion to signed integers, from the unsigned integer of the magnitude.
 use Rattle.std.proofs.Common.{◌≡◌, ℕ, ◌+◌, ◌-◌, ◌*◌, ◌/◌, ◌%◌, ◌^◌, ◌<◌, ◌≤◌, Bool, true, false, cond, ◌&&◌, eqb, sym, refl, ap, ◌∙◌, subst, ⊎_elim, arith, ℤ, pos, neg_ℤ, ◌≤ℤ◌, int_lt}
 use Rattle.std.proofs.Math.Bool.{and-true, and-false}
 use Rattle.std.proofs.Math.Nat.{pow-le-pow_right}
@@ -26,7 +26,7 @@ use Rattle.apfloat_conversions.proofs.Wholes.{whole_exactly}
 
 -- ---- of a value without a minus sign: one binary digit less
 
--- of a number without minus sign, with one digit less
+-- without a minus sign, the signed integer is the unsigned one for one digit less
 pub to_signed_above : (format : Format) (mode : Round) (width : ℕ) (x : Datum) (number st : ℕ) (exact : Bool)
     → is_negative x ≡ false → IsToUnsigned format mode (width - 1) x number st exact
     → IsToSigned format mode width x (pos number) st exact
@@ -45,7 +45,7 @@ to_signed_above format mode width (finite false n) number st exact z h =
 
 -- ---- of a value with a minus sign: the magnitude, in the swapped mode
 
--- without a minus sign, the swapped mode takes the magnitude above where the mode does so with one
+-- the swapped mode takes the greater magnitude without a minus sign exactly if the mode does with one
 takes_swapped : (mode : Round) (x y : ℕ) (odd : Bool)
     → takes_above (swapped mode) false x y odd ≡ takes_above mode true x y odd
 takes_swapped NearestTiesToEven x y odd = refl
@@ -59,7 +59,7 @@ pub pick_swapped : (mode : Round) (n p : ℕ) → whole_pick (swapped mode) fals
 pick_swapped mode n p =
     ap (λ (b : Bool). cond (eqb (n % p) 0) (n / p) (cond b (n / p + 1) (n / p))) (takes_swapped mode _ _ _)
 
--- of a negated NaN the unsigned whole number is 0, with INVALID_OP
+-- for a negated NaN, the unsigned integer is 0, with INVALID_OP
 nan_unsigned : (kind : NonfiniteBehavior) (format : Format) (mode : Round) (width s number st : ℕ) (exact : Bool)
     → IsToUnsigned format mode width (negated_nan kind true s) number st exact
     → IsWhole (invalid_whole (pos 0)) (pos number) st exact
@@ -67,7 +67,7 @@ nan_unsigned IEEE754 format mode width s number st exact h = h
 nan_unsigned NanOnly format mode width s number st exact h = h
 nan_unsigned NanNegativeZero format mode width s number st exact h = h
 
--- of 0 every mode picks 0
+-- every mode picks 0 for 0
 no_whole : (mode : Round) (negative : Bool) (scale : ℕ) → whole_pick mode negative 0 (2 ^ scale) ≡ 0
 no_whole mode b scale = whole_exactly mode b 0 0 (2 ^ scale) (pow_pos scale) (omega arith)
 
@@ -75,11 +75,11 @@ no_whole mode b scale = whole_exactly mode b 0 0 (2 ^ scale) (pow_pos scale) (om
 no_quanta : (scale : ℕ) → eqb (0 * 2 ^ scale) 0 ≡ true
 no_quanta scale = eq-eqb (0 * 2 ^ scale) 0 (omega arith)
 
--- 0 is in each range that has it
+-- 0 is unchanged in each range that contains it
 zero_ranged : (low high : ℤ) (answer : Whole) → low ≤ℤ pos 0 → pos 0 ≤ℤ high → ranged low high (pos 0) answer ≡ answer
 zero_ranged low high answer l h = rw (less_not (pos 0) low l, less_not high (pos 0) h) refl
 
--- of a zero of either sign the unsigned whole number is 0, with no flag
+-- for a zero of either sign, the unsigned integer is 0, with no flag
 zero_unsigned_of : (format : Format) (mode : Round) (width number st : ℕ) (negative exact : Bool)
     → IsToUnsigned format mode width (finite negative 0) number st exact → (number ≡ 0) × (st ≡ 0)
 zero_unsigned_of format mode width number st b exact h =
@@ -93,7 +93,7 @@ zero_unsigned_of format mode width number st b exact h =
     let n = h'.number_is in
     (omega (arith, ints, n), h'.status_is)
 
--- of a negated -0 the unsigned whole number is 0, with no flag
+-- for a negated -0, the unsigned integer is 0, with no flag
 zero_unsigned : (kind : NonfiniteBehavior) (format : Format) (mode : Round) (width number st : ℕ) (exact : Bool)
     → IsToUnsigned format mode width (negated_zero kind true) number st exact → (number ≡ 0) × (st ≡ 0)
 zero_unsigned IEEE754 format mode width number st exact h = zero_unsigned_of format mode width number st false exact h
@@ -101,7 +101,7 @@ zero_unsigned NanOnly format mode width number st exact h = zero_unsigned_of for
 zero_unsigned NanNegativeZero format mode width number st exact h =
     zero_unsigned_of format mode width number st true exact h
 
--- -0 is 0, and not exact
+-- -0 is converted to 0, which is not exact
 minus_zero : (format : Format) (mode : Round) (width : ℕ) (value : ℤ) (status : ℕ) (is_exact : Bool) → value ≡ pos 0
     → status ≡ 0 → is_exact ≡ false → IsToSigned format mode width (finite true 0) value status is_exact
 minus_zero format mode width value status is_exact v t e =
@@ -113,7 +113,7 @@ minus_zero format mode width value status is_exact v t e =
     )
     (record { number_is = v; status_is = t; is_exact_is = e })
 
--- a number that is not zero: within the range, and past its lower end
+-- a nonzero negative number within the range
 minus_within : (format : Format) (mode : Round) (width n : ℕ) (value : ℤ) (status : ℕ) (is_exact : Bool)
     → eqb n 0 ≡ false → whole_pick mode true n (2 ^ format.scale) ≤ 2 ^ (width - 1)
     → value ≡ neg_ℤ (pos (whole_pick mode true n (2 ^ format.scale)))
@@ -130,7 +130,7 @@ minus_within format mode width n value status is_exact z l v t e =
     (omega (arith, ints)) in
     rw (z, a, b) (record { number_is = v; status_is = t; is_exact_is = e ∙ sym (and-true _) })
 
--- a number below the range is replaced by its end
+-- a number below the range is replaced by the end of the range
 minus_past : (format : Format) (mode : Round) (width n : ℕ) (value : ℤ) (status : ℕ) (is_exact : Bool)
     → 2 ^ (width - 1) < whole_pick mode true n (2 ^ format.scale) → value ≡ neg_ℤ (pos (2 ^ (width - 1))) → status ≡ 1
     → is_exact ≡ false → IsToSigned format mode width (finite true n) value status is_exact
@@ -190,7 +190,7 @@ minus_number format mode width n number st exact value status is_exact z w h g =
     (r.0 ∙ i.status_is) (r.1.1 ∙ and-true exact ∙ i.is_exact_is))
     (cases_lt (2 ^ (width - 1)) (whole_pick mode true n (2 ^ format.scale)))
 
--- of a number with a minus sign, by the swapped mode, negated
+-- with a minus sign, the signed integer is the negation of the unsigned one in the swapped mode
 pub to_signed_below : (format : Format) (mode : Round) (width : ℕ) (x : Datum) (number st : ℕ) (exact : Bool)
     (value : ℤ) (status : ℕ) (is_exact : Bool) → is_negative x ≡ true → 2 ≤ width
     → IsToUnsigned format (swapped mode) width (negated format.nonfinite x) number st exact

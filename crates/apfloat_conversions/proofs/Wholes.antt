@@ -1,4 +1,4 @@
--- The whole number that a mode picks.
+-- The integer that a mode picks.
 use Rattle.std.proofs.Common.{◌≡◌, ℕ, ◌+◌, ◌-◌, ◌*◌, ◌/◌, ◌%◌, ◌^◌, ◌<◌, ◌≤◌, Bool, true, false, cond, eqb, sym, refl, ap, ◌∙◌, subst, ⊎_elim, arith, ℤ, pos, negsuc, ◌-ℤ◌, ◌≤ℤ◌}
 use Rattle.std.proofs.Math.Nat.{mul-mod_left, mul-div_cancel, div-eq_of_lt-le, div-one, mul-le-mul_right, mul-le-mul_left, pow-le-pow_right, mul-lt-mul_of_pos_right}
 use Rattle.std.proofs.lemmas.Nat.{div-add-mod', pow-add, pow_pos}
@@ -22,13 +22,13 @@ use Rattle.apfloat_model.proofs.rounding.Picks.{kept, takes_less, takes_half, ta
 use Rattle.apfloat_model.proofs.arithmetic.SingleScalings.{scaled_stands}
 use Rattle.apfloat_model.proofs.general.Choices.{off_both}
 
--- a whole number that is an odd multiple of the distance to the next one is odd
+-- an integer that is an odd multiple of the distance to the next one is odd
 whole_odd : (q : ℕ) → eqb (q / (q + 1 - q) % 2) 1 ≡ eqb (q % 2) 1
 whole_odd q =
     let d : q + 1 - q ≡ 1 = omega arith in
     ap (λ (x : ℕ). eqb (q / x % 2) 1) d ∙ ap (λ (x : ℕ). eqb (x % 2) 1) (div-one q)
 
--- whether the mode takes the number above, by what was lost
+-- the loss decides whether the mode takes the next integer
 takes_at : (mode : Round) (negative odd : Bool) (q amount parts : ℕ) (loss : Loss) → (loss ≡ ExactlyZero → ⊥)
     → StandsFor q loss amount parts
     → takes_above mode negative (amount - q * parts) ((q + 1) * parts - amount) odd
@@ -40,7 +40,7 @@ takes_at mode negative odd q amount parts ExactlyHalf n h = takes_half mode nega
 takes_at mode negative odd q amount parts MoreThanHalf n h = let a = h.0 in let b = h.1 in
     takes_more mode negative odd _ _ (omega (arith, a, b))
 
--- so that what is kept is picked
+-- between two integers, the mode picks the one that is kept
 between_is : (mode : Round) (negative : Bool) (q amount parts : ℕ) (loss : Loss) → (loss ≡ ExactlyZero → ⊥)
     → StandsFor q loss amount parts → pick_between mode negative q (q + 1) amount parts ≡ kept mode negative loss q
 between_is mode negative q amount parts loss n h =
@@ -48,7 +48,7 @@ between_is mode negative q amount parts loss n h =
     (whole_odd q)
     ∙ ap (λ (b : Bool). cond b (q + 1) q) (takes_at mode negative (eqb (q % 2) 1) q amount parts loss n h)
 
--- a whole amount is picked itself
+-- an integral amount is picked itself
 pub whole_exactly : (mode : Round) (negative : Bool) (q amount parts : ℕ) → 0 < parts → amount ≡ q * parts
     → whole_pick mode negative amount parts ≡ q
 whole_exactly mode negative q amount parts p e =
@@ -57,7 +57,7 @@ whole_exactly mode negative q amount parts p e =
     let d : amount / parts ≡ q = ap (λ (x : ℕ). x / parts) e ∙ mul-div_cancel q p in
     rw z d
 
--- of another one what the mode keeps of its whole part
+-- of an amount that is not integral, the pick is its integer part, rounded by the loss
 pub whole_inexactly : (mode : Round) (negative : Bool) (q amount parts : ℕ) (loss : Loss) → 0 < parts
     → (loss ≡ ExactlyZero → ⊥) → StandsFor q loss amount parts
     → whole_pick mode negative amount parts ≡ kept mode negative loss q
@@ -76,14 +76,14 @@ whole_inexactly mode negative q amount parts loss p n h =
     between_is mode negative q amount parts loss n h in
     rw z w
 
--- a whole amount is told to be exact
+-- an integral amount is reported as exact
 pub exactly_so : (mode : Round) (negative : Bool) (q amount parts : ℕ) → 0 < parts → amount ≡ q * parts
     → true ≡ eqb (whole_pick mode negative amount parts * parts) amount
 exactly_so mode negative q amount parts p e =
     let w = whole_exactly mode negative q amount parts p e in
     sym (eq-eqb (whole_pick mode negative amount parts * parts) amount (ap (λ (x : ℕ). x * parts) w ∙ sym e))
 
--- and another one is not
+-- an amount that is not integral is not reported as exact
 pub inexactly_so : (mode : Round) (negative : Bool) (q amount parts : ℕ) (loss : Loss) → 0 < parts
     → (loss ≡ ExactlyZero → ⊥) → StandsFor q loss amount parts
     → false ≡ eqb (whole_pick mode negative amount parts * parts) amount
@@ -94,9 +94,9 @@ inexactly_so mode negative q amount parts loss p n h =
     (stands_past q loss amount parts p n h) (stands_to q loss amount parts p h)
     (ap (λ (x : ℕ). x * parts) (sym w) ∙ e)))
 
--- ---- by cases of what was lost
+-- ---- by cases of the loss
 
--- the number that is picked, by what was lost
+-- the integer that is picked, by the loss
 pub whole_at : (mode : Round) (negative : Bool) (q amount parts : ℕ) (loss : Loss) → 0 < parts
     → StandsFor q loss amount parts → whole_pick mode negative amount parts ≡ kept mode negative loss q
 whole_at mode negative q amount parts ExactlyZero p h = whole_exactly mode negative q amount parts p h
@@ -107,7 +107,7 @@ whole_at mode negative q amount parts ExactlyHalf p h =
 whole_at mode negative q amount parts MoreThanHalf p h =
     whole_inexactly mode negative q amount parts MoreThanHalf p (λ e. cc) h
 
--- and whether it is exact
+-- whether the picked integer is exact, by the loss
 pub exact_at : (mode : Round) (negative : Bool) (q amount parts : ℕ) (loss : Loss) (exact : Bool) → 0 < parts
     → StandsFor q loss amount parts → (exact ≡ true → loss ≡ ExactlyZero) → (exact ≡ false → loss ≡ ExactlyZero → ⊥)
     → exact ≡ eqb (whole_pick mode negative amount parts * parts) amount
@@ -117,7 +117,7 @@ exact_at mode negative q amount parts loss false p h f g = inexactly_so mode neg
 
 -- ---- the number, by its significand
 
--- what is left of a significand after a cut stands for the magnitude in wholes
+-- a significand cut at the binary point represents the magnitude in units of 1
 pub cut_whole_stands : (s q k amount parts : ℕ) (loss : Loss) → amount * 2 ^ k ≡ s * parts
     → StandsFor q loss (s * parts) (2 ^ k * parts) → StandsFor q loss amount parts
 cut_whole_stands s q k amount parts loss e h =
@@ -127,7 +127,7 @@ cut_whole_stands s q k amount parts loss e h =
     subst (λ (x : ℕ). StandsFor q loss x (parts * 2 ^ k)) (sym e) t in
     stands_cancel q loss amount parts (2 ^ k) (pow_pos k) t'
 
--- the last digit `k` places below one, and above
+-- a number whose last digit is `k` places below the binary point
 pub places_down : (digits scale : ℕ) (min_exp x r : ℤ) (s a k : ℕ) → pos scale ≡ pos digits -ℤ min_exp
     → r ≡ (x -ℤ pos digits) → pos k ≡ (pos 0 -ℤ r) → a * 2 ^ down (x -ℤ min_exp) ≡ s * 2 ^ up (x -ℤ min_exp)
     → a * 2 ^ k ≡ s * 2 ^ scale
@@ -136,7 +136,7 @@ places_down digits scale min_exp x r s a k z e f h =
     (omega (arith, ints, z, e, f)) in
     omega (arith, g)
 
--- a number with an exponent from the last digit of at least 0 is whole
+-- a number whose last digit has an exponent of at least 0 is an integer
 pub places_up : (digits scale : ℕ) (min_exp x r : ℤ) (s a k : ℕ) → pos scale ≡ pos digits -ℤ min_exp
     → r ≡ (x -ℤ pos digits) → pos k ≡ (r -ℤ pos 0) → a * 2 ^ down (x -ℤ min_exp) ≡ s * 2 ^ up (x -ℤ min_exp)
     → a ≡ s * 2 ^ k * 2 ^ scale
@@ -145,12 +145,12 @@ places_up digits scale min_exp x r s a k z e f h =
     (omega (arith, ints, z, e, f)) in
     omega (arith, g)
 
--- for a whole number z that is not below 0, `up z` is z
+-- for an integer z that is not below 0, `up z` is z
 pub up_of : (z : ℤ) → pos 0 ≤ℤ z → pos (up z) ≡ z
 up_of (pos k) h = refl
 up_of (negsuc k) h = absurd (omega (arith, ints))
 
--- a number with more digits than the word is past it
+-- a number with more digits than the word does not fit in it
 shifted_past : (digits s k : ℕ) → 2 ^ digits ≤ s → 128 ≤ digits + k → 2 ^ 128 ≤ s * 2 ^ k
 shifted_past digits s k f h =
     let e : 2 ^ (digits + k) ≡ 2 ^ digits * 2 ^ k = pow-add 2 digits k in
@@ -180,7 +180,7 @@ too_large mode negative digits scale min_exp x s a c z f g h =
     let w = whole_exactly mode negative (s * 2 ^ up (x -ℤ pos digits)) a (2 ^ scale) (pow_pos scale) e in
     subst (λ (y : ℕ). 2 ^ 128 ≤ y) (sym w) (shifted_past digits s (up (x -ℤ pos digits)) f (omega (arith, ints, q)))
 
--- and one can be added to what is left of a significand
+-- 1 can be added to a significand after a cut
 pub cut_below : (s q k : ℕ) → s < 2 ^ 125 → q ≡ s / 2 ^ k → q + 1 < 2 ^ 128
 cut_below s q k f e =
     let a : s / 2 ^ k * 2 ^ k + s % 2 ^ k ≡ s = div-add-mod' s (2 ^ k) in
@@ -188,7 +188,7 @@ cut_below s q k f e =
     let b : s / 2 ^ k * 1 ≤ s / 2 ^ k * 2 ^ k = mul-le-mul_left (s / 2 ^ k) w in
     omega (arith, a, b, e, f)
 
--- with a place cut off, what is left can grow by one
+-- after a cut of at least one place, the significand has room for 1 more
 pub whole_fits : (p s k mag : ℕ) → 0 < p → s < 2 ^ p → 1 ≤ k → mag ≤ s / 2 ^ k + 1 → mag ≤ 2 ^ (p - 1)
 whole_fits p s k mag q f l h =
     let a : s / 2 ^ k * 2 ^ k + s % 2 ^ k ≡ s = div-add-mod' s (2 ^ k) in
@@ -197,9 +197,9 @@ whole_fits p s k mag q f l h =
     let t : 2 * 2 ^ (p - 1) ≡ 2 ^ p = twice_half p q in
     omega (arith, a, b, t, f, h)
 
--- ---- a number rounded to a whole number
+-- ---- a number rounded to an integer
 
--- a number rounded to a whole one, by its magnitude
+-- a number rounded to an integer, by its magnitude
 pub integral_picked : (format : Format) (mode : Round) (negative : Bool) (n mag : ℕ) (exact : Bool) (value : Datum)
     (st : ℕ) → mag ≡ whole_pick mode negative n (2 ^ format.scale) → exact ≡ eqb (whole_quanta format mode negative n) n
     → value ≡ signed_quanta format.nonfinite negative (mag * 2 ^ format.scale) → st ≡ inexact_unless exact
@@ -209,7 +209,7 @@ integral_picked format mode b n mag exact v st i x w t = record {
   status_is = t ∙ ap (λ (k : Bool). inexact_unless k) x;
 }
 
--- a whole number stays as it is
+-- an integer stays as it is
 pub integral_stays : (format : Format) (mode : Round) (negative : Bool) (n q : ℕ) → 0 < n → n ≡ q * 2 ^ format.scale
     → IsRoundToIntegral format mode (finite negative n) (finite negative n) 0
 integral_stays format mode b n q p e =
@@ -218,9 +218,9 @@ integral_stays format mode b n q p e =
     (exactly_so mode b q n (2 ^ format.scale) (pow_pos format.scale) e)
     (sym (signed_some format.nonfinite b n p) ∙ ap (λ (k : ℕ). signed_quanta format.nonfinite b k) e) refl
 
--- ---- toward zero a whole number stays, and no other does
+-- ---- toward zero, only an integer is exact
 
--- toward zero, a number is exact where no rest is left
+-- toward zero, the result is exact if there is no rest
 pub whole_toward_zero : (negative : Bool) (amount parts : ℕ) → 0 < parts
     → eqb (whole_pick TowardZero negative amount parts * parts) amount ≡ eqb (amount % parts) 0
 whole_toward_zero negative amount parts p =
@@ -235,7 +235,7 @@ whole_toward_zero negative amount parts p =
     rw z (ne_eqb (amount / parts * parts) amount (λ q. e (omega (arith, m, q)))))
     (cases_eq (amount % parts) 0)
 
--- of a whole amount no rest is left
+-- an integral amount has no rest
 pub whole_multiple : (q amount parts : ℕ) → amount ≡ q * parts → true ≡ eqb (amount % parts) 0
 whole_multiple q amount parts e = sym (eq-eqb (amount % parts) 0 (ap (λ (x : ℕ). x % parts) e ∙ mul-mod_left q parts))
 

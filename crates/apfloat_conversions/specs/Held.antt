@@ -1,4 +1,4 @@
--- When every number of one shape, or every one with a given exponent, is also a number of another.
+-- When every number of one shape, or every number with a given exponent, is also a number of another.
 use Rattle.std.specs.Prelude.{◌≡◌, ◌-◌, ◌*◌, ◌^◌, ◌≤◌, ◌⊎◌, ℤ, pos, ◌+ℤ◌, ◌≤ℤ◌}
 use Rattle.apfloat_model.specs.formats.Format.{greatest_significand}
 use Rattle.apfloat_rounding.specs.declared.shape.Shape.{Shape}
@@ -11,7 +11,7 @@ pub record IsReachedLevel (from into : Shape) : Type 0 where
   pub significands : greatest_significand from.nonfinite from.precision * 2 ^ (into.precision - from.precision)
       ≤ greatest_significand into.nonfinite into.precision
 
--- the largest value is no larger, if the precision is no higher
+-- the largest value is at most that of the other shape, if the precision is at most the other's
 abbrev pub IsReached : Shape → Shape → Type 0
 IsReached from into = ((from.max_exp +ℤ pos 1) ≤ℤ into.max_exp) ⊎ IsReachedLevel from into
 

@@ -1,4 +1,4 @@
--- The results of conversions, in terms of the data and the whole numbers that they are.
+-- The results of conversions, in terms of the data and the integers that they represent.
 use Rattle.std.specs.Prelude.{ℕ, Bool, pos}
 use Rattle.apfloat_model.specs.formats.Datum.{Datum}
 use Rattle.apfloat_model.specs.rounding.Flags.{bits_of}
@@ -13,6 +13,6 @@ abbrev pub ConvertsAt : Shape → (Datum → ℕ → Bool → Type 0) → Conver
 ConvertsAt s Says converted =
     Says (datum_at s converted.answer.value) (bits_of converted.answer.status) converted.loses_info
 
--- the whole number with its status, and whether it is exact
+-- the integer with its status, and whether it is exact
 abbrev pub GivesWhole : Whole → Unsigned → Type 0
 GivesWhole answer whole = IsWhole answer (pos whole.answer.value) (bits_of whole.answer.status) whole.is_exact

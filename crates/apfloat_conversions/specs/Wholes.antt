@@ -1,10 +1,10 @@
--- The whole number that a mode picks for a magnitude, in the form that the code passes on.
+-- The integer that a mode picks for a magnitude, in the form that the code passes on.
 use Rattle.std.specs.Prelude.{◌≡◌, ℕ, ◌*◌, ◌^◌, ◌≤◌, Bool, eqb, Option, Some, None}
 use Rattle.apfloat_model.specs.declared.kinds.Round.{Round}
 use Rattle.apfloat_model.specs.whole_numbers.WholeNumbers.{whole_pick}
 use Rattle.apfloat_conversions.specs.declared.whole.Whole.{Whole}
 
--- that whole number, and whether it is the magnitude itself
+-- the picked integer, and whether it equals the magnitude
 pub record IsPicked (mode : Round) (negative : Bool) (amount parts : ℕ) (whole : Whole) : Type 0 where
   pub magnitude_is : whole.magnitude ≡ whole_pick mode negative amount parts
   pub exact_is : whole.exact ≡ eqb (whole_pick mode negative amount parts * parts) amount

@@ -28,7 +28,8 @@ pub struct Converted {
     pub loses_info: bool,
 }
 
-/// A number, rounded once; an inexact result loses information. If the other format has the number, nothing is rounded.
+/// A nonzero number, rounded once; an inexact result loses information. If the other format has the number, its
+/// significand is only shifted.
 #[inline(always)]
 fn converted_number(from: Shape, into: Shape, x: Unpacked, round: Round) -> Converted
     requires { IsNormal from x }
@@ -74,7 +75,7 @@ fn kept(value: Unpacked, loses_info: bool) -> Converted
     }
 }
 
-/// The infinity of that sign, or what the other format has in its place.
+/// The infinity with this sign, or what the other format has in its place.
 #[inline(always)]
 fn converted_infinity(into: Shape, negative: bool) -> Converted
     ensures stored { IsStored into result.answer.value }
@@ -89,7 +90,7 @@ fn converted_infinity(into: Shape, negative: bool) -> Converted
     kept(infinity_of(into, negative), loses_info)
 }
 
-/// The zero of that sign, or the other format's only zero.
+/// The zero with this sign, or the other format's only zero.
 #[inline(always)]
 fn converted_zero(into: Shape, negative: bool) -> Converted
     ensures stored { IsStored into result.answer.value }
@@ -100,7 +101,7 @@ fn converted_zero(into: Shape, negative: bool) -> Converted
     kept(zero, zero.negative != negative)
 }
 
-/// A value of one format in another, kept out of line, so that only the case of a number that is rounded is inlined.
+/// Converts any value, out of line, so that only the conversion of a nonzero number is inlined.
 #[cold]
 #[inline(never)]
 fn convert_apart(from: Shape, into: Shape, x: Unpacked, round: Round) -> Converted
@@ -119,8 +120,8 @@ fn convert_apart(from: Shape, into: Shape, x: Unpacked, round: Round) -> Convert
     }
 }
 
-/// A value of one format in another, as `convert_apart` has it, rebuilt from its fields: so the caller, where a number
-/// is inlined, has no struct whose address is passed on, and none to be zeroed for it.
+/// The result of `convert_apart`, rebuilt from its fields. Otherwise its address would be passed, and the inlined
+/// conversion of a number would have to zero it first.
 #[inline(always)]
 fn convert_other(from: Shape, into: Shape, x: Unpacked, round: Round) -> Converted
     requires { IsStored from x }
@@ -137,7 +138,7 @@ fn convert_other(from: Shape, into: Shape, x: Unpacked, round: Round) -> Convert
     }
 }
 
-/// A value of one format in another, rounded once, and whether information was lost (IEEE 754-2008 5.4.2,
+/// A value converted to another format, rounded once, and whether information was lost (IEEE 754-2008 5.4.2,
 /// convertFormat).
 #[inline(always)]
 pub fn convert(from: Shape, into: Shape, x: Unpacked, round: Round) -> Converted

@@ -1,5 +1,5 @@
-//! Formats that contain numbers of another format, all of them or those of one exponent, and these numbers in that
-//! format.
+//! Tests whether a format has all numbers of another, or those with a given exponent, and the conversion of such
+//! numbers.
 
 ghost use Rattle.std.specs.Prelude.{◌≡◌, ◌-◌, ◌*◌, ◌^◌, ◌≤◌, true};
 ghost use Rattle.apfloat_model.specs.formats.Datum.{finite};
@@ -11,7 +11,7 @@ use apfloat_model::{Category, ExpInt};
 use apfloat_rounding::shape::Shape;
 use apfloat_rounding::unpacked::{Unpacked, significand_of};
 
-/// Whether the largest value of a format is no larger than that of another, whose precision is no lower.
+/// Whether the largest value of `from` is at most that of `into`, which has at least as many digits.
 #[inline(always)]
 fn reaches(from: Shape, into: Shape) -> bool
     requires { from.precision ≤ into.precision }
@@ -25,7 +25,7 @@ fn reaches(from: Shape, into: Shape) -> bool
     }
 }
 
-/// Whether every number of the one format is also a number of the other.
+/// Whether every number of the first format is also a number of the second.
 #[inline(always)]
 fn holds(from: Shape, into: Shape) -> bool
     ensures { result ≡ true → IsHeld from into }
@@ -36,8 +36,8 @@ fn holds(from: Shape, into: Shape) -> bool
     reaches(from, into)
 }
 
-/// Whether another format has at least as many digits as a number, and has all of them at that exponent of the integer
-/// bit.
+/// Whether another format has at least as many digits as a number, and all of them available at this exponent of the
+/// integer bit.
 #[inline(always)]
 fn is_inside(from: Shape, into: Shape, exponent: ExpInt) -> bool
     ensures { result ≡ true → IsInside from into exponent }
@@ -45,7 +45,7 @@ fn is_inside(from: Shape, into: Shape, exponent: ExpInt) -> bool
     from.precision <= into.precision && into.min_exp <= exponent && exponent < into.max_exp
 }
 
-/// Whether another format has a number, as far as its exponent shows.
+/// Whether another format has a number, as far as the formats or its exponent decide.
 #[inline(always)]
 pub fn has(from: Shape, into: Shape, x: Unpacked) -> bool
     ensures { result ≡ true → IsHeldNumber from into x }
@@ -53,7 +53,7 @@ pub fn has(from: Shape, into: Shape, x: Unpacked) -> bool
     holds(from, into) || is_inside(from, into, x.exponent)
 }
 
-/// A number in a format that has it: its significand is extended by the additional digits of that format.
+/// A number in a format that has it: the significand is extended with zeros to the precision of that format.
 #[inline(always)]
 pub fn widened(from: Shape, into: Shape, x: Unpacked) -> Unpacked
     requires held { IsHeldNumber from into x }

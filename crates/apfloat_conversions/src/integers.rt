@@ -1,4 +1,4 @@
-//! Conversion from and to whole numbers.
+//! Conversions from and to integers.
 
 ghost use Rattle.std.specs.Prelude.{◌≡◌, ◌-◌, ◌*◌, ◌^◌, ◌<◌, ◌≤◌, pos, ◌-ℤ◌, if◌then◌else◌};
 ghost use Rattle.apfloat_model.specs.formats.Datum.{finite};
@@ -16,7 +16,7 @@ use apfloat_rounding::shape::Shape;
 use apfloat_rounding::unpacked::{Unpacked, zero_of};
 use apfloat_words::digits;
 
-/// A whole number with `count` digits, moved up until it has 128.
+/// An integer of `count` digits, shifted up until it has 128.
 #[inline(always)]
 fn aligned(number: u128, count: u32) -> u128
     requires some { 0 < count }
@@ -29,7 +29,7 @@ fn aligned(number: u128, count: u32) -> u128
     number << (128 - count)
 }
 
-/// The exponent of the last digit of a whole number that was moved up until it has 128 digits.
+/// The exponent of the last digit of an integer that was shifted up to 128 digits.
 #[inline(always)]
 fn aligned_exponent(count: u32) -> ExpInt
     requires { count ≤ 128 }
@@ -38,7 +38,8 @@ fn aligned_exponent(count: u32) -> ExpInt
     count as ExpInt - 128
 }
 
-/// A whole number, rounded once. It is moved up first, so that the cut is at the same digit for each.
+/// The value of an integer, rounded once. The integer is normalized first, so that the cut is at the same digit for
+/// all.
 #[inline(always)]
 pub fn from_unsigned(shape: Shape, number: u128, round: Round) -> StatusAnd<Unpacked>
     ensures stored { IsStored shape result.value }
@@ -59,16 +60,16 @@ pub fn from_unsigned(shape: Shape, number: u128, round: Round) -> StatusAnd<Unpa
     )
 }
 
-/// The whole number that a value was converted to, and whether it equals the value.
+/// The integer that a value was converted to, and whether it equals the value.
 #[derive(Clone, Copy, Debug)]
 pub struct Unsigned {
-    /// The whole number, with its status.
+    /// The integer, with its status.
     pub answer: StatusAnd<u128>,
-    /// Whether the whole number equals the value; false for -0.
+    /// Whether the integer equals the value; false for -0.
     pub is_exact: bool,
 }
 
-/// The status of a whole number in range.
+/// The status of an integer in range.
 #[inline(always)]
 pub fn status_of(exact: bool) -> Status
     ensures { bits_of result ≡ inexact_unless exact }
@@ -76,7 +77,7 @@ pub fn status_of(exact: bool) -> Status
     if exact { Status::OK } else { Status::INEXACT }
 }
 
-/// The greatest whole number of `width` binary digits.
+/// The greatest integer of `width` binary digits.
 #[inline(always)]
 fn greatest(width: u32) -> u128
     requires low { 1 ≤ width }
@@ -86,7 +87,7 @@ fn greatest(width: u32) -> u128
     u128::MAX >> (128 - width)
 }
 
-/// The result for a value out of range: the end of the range.
+/// The result for a value out of range: the nearer end of the range, with `INVALID_OP`.
 #[inline(always)]
 fn out_of_range(number: u128) -> Unsigned
     ensures { GivesWhole (invalid_whole (pos number)) result }
@@ -97,7 +98,7 @@ fn out_of_range(number: u128) -> Unsigned
     }
 }
 
-/// The end of the range on the side of a sign.
+/// The end of the range on the side of this sign.
 #[inline(always)]
 fn limit_of(width: u32, negative: bool) -> u128
     requires low { 1 ≤ width }
@@ -108,7 +109,7 @@ fn limit_of(width: u32, negative: bool) -> u128
     if negative { 0 } else { greatest(width) }
 }
 
-/// A nonzero number as a whole number of `width` binary digits.
+/// A nonzero number as an integer of `width` binary digits.
 #[inline(always)]
 fn number_to_unsigned(shape: Shape, x: Unpacked, width: u32, round: Round) -> Unsigned
     requires normal { IsNormal shape x }
@@ -134,7 +135,7 @@ fn number_to_unsigned(shape: Shape, x: Unpacked, width: u32, round: Round) -> Un
     }
 }
 
-/// Any value as a whole number. Kept out of line, so that only the case of a nonzero number is inlined.
+/// Converts any value to an integer, out of line, so that only the conversion of a nonzero number is inlined.
 #[cold]
 #[inline(never)]
 fn any_to_unsigned(shape: Shape, x: Unpacked, width: u32, round: Round) -> Unsigned
@@ -156,8 +157,8 @@ fn any_to_unsigned(shape: Shape, x: Unpacked, width: u32, round: Round) -> Unsig
     }
 }
 
-/// Any value as a whole number, as `any_to_unsigned` has it, rebuilt from its fields: so the caller, where a number is
-/// inlined, has no struct whose address is passed on, and none to be zeroed for it.
+/// The result of `any_to_unsigned`, rebuilt from its fields. Otherwise its address would be passed, and the inlined
+/// conversion of a number would have to zero it first.
 #[inline(always)]
 fn other_to_unsigned(shape: Shape, x: Unpacked, width: u32, round: Round) -> Unsigned
     requires stored { IsStored shape x }
@@ -174,7 +175,7 @@ fn other_to_unsigned(shape: Shape, x: Unpacked, width: u32, round: Round) -> Uns
     }
 }
 
-/// A value as a whole number of `width` binary digits.
+/// A value as an integer of `width` binary digits.
 #[inline(always)]
 pub fn to_unsigned(shape: Shape, x: Unpacked, width: u32, round: Round) -> Unsigned
     requires stored { IsStored shape x }

@@ -1,4 +1,4 @@
-//! Rounding values to whole numbers in their own format.
+//! Rounding values to integers in their own format.
 
 ghost use Rattle.std.specs.Prelude.{◌≡◌, ◌%◌, ◌^◌, eqb};
 ghost use Rattle.apfloat_model.specs.order.Classes.{is_integer};
@@ -15,7 +15,7 @@ use apfloat_rounding::nans::propagated;
 use apfloat_rounding::shape::Shape;
 use apfloat_rounding::unpacked::{Unpacked, from_quanta};
 
-/// A nonzero number, rounded to a whole number.
+/// A nonzero number, rounded to an integer.
 #[inline(always)]
 fn round_number(shape: Shape, x: Unpacked, round: Round) -> StatusAnd<Unpacked>
     requires number { x.category ≡ Normal }
@@ -32,7 +32,7 @@ fn round_number(shape: Shape, x: Unpacked, round: Round) -> StatusAnd<Unpacked>
     status_of(whole.exact).and(from_quanta(shape, x.negative, whole.magnitude, shape.scale()))
 }
 
-/// A value rounded to a whole number in its own format (IEEE 754-2008 5.9, roundToIntegralExact).
+/// A value rounded to an integer in its own format (IEEE 754-2008 5.9, roundToIntegralExact).
 #[inline(always)]
 pub fn round_to_integral(shape: Shape, x: Unpacked, round: Round) -> StatusAnd<Unpacked>
     requires { IsStored shape x }
@@ -48,7 +48,7 @@ pub fn round_to_integral(shape: Shape, x: Unpacked, round: Round) -> StatusAnd<U
     }
 }
 
-/// Whether a nonzero number is a whole number.
+/// Whether a nonzero number is an integer.
 #[inline(always)]
 fn is_whole_number(shape: Shape, x: Unpacked) -> bool
     requires { IsNormal shape x }
@@ -61,7 +61,7 @@ fn is_whole_number(shape: Shape, x: Unpacked) -> bool
     round_at_dot(shape, x, exponent, Round::TowardZero).exact
 }
 
-/// Whether a value is finite and a whole number; true for zeros.
+/// Whether a value is finite and an integer; true for zeros.
 #[inline(always)]
 pub fn is_integer(shape: Shape, x: Unpacked) -> bool
     requires { IsStored shape x }

@@ -1,5 +1,5 @@
-//! Conversions of unpacked values: to and from whole numbers, to other formats, to other exponents, and to the next
-//! value.
+//! Conversions of unpacked values: to and from integers, to other formats, scaling by powers of two, and the next value
+//! up.
 //!
 //! Nothing here is generic. Each operation returns what the model says for its operands, including NaNs, infinities and
 //! zeros; `apfloat_ieee` supplies the constants of a type.

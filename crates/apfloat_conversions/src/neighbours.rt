@@ -15,8 +15,8 @@ use apfloat_rounding::shape::Shape;
 use apfloat_rounding::unpacked::{Unpacked, infinity_of, largest_of, nan_of, smallest_of, zero_of};
 use apfloat_words::{power_of_two, steps_between};
 
-/// The distance between neighbours whose integer bit has that exponent, in units of a significand's last digit: one, or
-/// a quantum.
+/// The distance between neighbouring numbers at this exponent of the integer bit, in units of the last digit of a
+/// stored significand: one unit, or a quantum for a denormal number.
 #[inline(always)]
 fn step(shape: Shape, exponent: ExpInt) -> u128
     requires least { ((shape.min_exp +ℤ pos 1) -ℤ pos shape.precision) ≤ℤ exponent }
@@ -38,7 +38,7 @@ fn least_exponent(shape: Shape) -> ExpInt
     shape.min_exp + 1 - shape.precision as ExpInt
 }
 
-/// Whether the magnitude is the largest.
+/// Whether the magnitude is the largest finite one.
 #[inline(always)]
 fn is_largest(shape: Shape, x: Unpacked) -> bool
     requires { IsNormal shape x }
@@ -77,7 +77,7 @@ fn next_greater(shape: Shape, x: Unpacked) -> Unpacked
     }
 }
 
-/// The greatest magnitude that is less than that of a negative number, with its sign.
+/// The least number that is greater than a negative one: the next smaller magnitude.
 #[inline(always)]
 fn next_less(shape: Shape, x: Unpacked) -> Unpacked
     requires { IsNormal shape x }

@@ -1,5 +1,5 @@
-//! Conversion of NaNs from one format to another: quieted, and with as much of the payload as the other format has
-//! (IEEE 754-2008 6.2.3).
+//! Conversion of NaNs from one format to another: quieted, and with the leading bits of the payload that the other
+//! format has room for (IEEE 754-2008 6.2.3).
 
 ghost use Rattle.std.specs.Prelude.{◌≡◌, ◌-◌, ◌*◌, ◌/◌, ◌^◌, ◌<◌};
 ghost use Rattle.apfloat_model.specs.arithmetic.Conversions.{IsConverted, places_out, nan_loses, converted_nan};
@@ -16,7 +16,7 @@ use apfloat_rounding::shape::Shape;
 use apfloat_rounding::unpacked::{Unpacked, nan_of};
 use apfloat_words::low_digits;
 
-/// How many of the lowest bits a NaN's significand loses: if there is a payload, its first bit stays the first.
+/// How many low bits the significand of a NaN loses: the leading bit of a payload stays the leading bit.
 #[inline(always)]
 fn places_out(from: Shape, into: Shape) -> u32
     ensures value { result ≡ places_out (format_at from) (format_at into) }
@@ -29,7 +29,7 @@ fn places_out(from: Shape, into: Shape) -> u32
     }
 }
 
-/// The payload in the other format of a NaN with that significand.
+/// The payload, in the other format, of a NaN with this significand.
 #[inline(always)]
 fn carried_payload(from: Shape, into: Shape, significand: u128) -> u128
     requires { significand < 2 ^ from.precision }
@@ -40,7 +40,7 @@ fn carried_payload(from: Shape, into: Shape, significand: u128) -> u128
     (significand << places_in) >> places_out(from, into)
 }
 
-/// Whether a NaN loses information: a set bit, or the integer bit of a signaling NaN, or the whole payload.
+/// Whether a NaN loses information: a set bit of its payload, the integer bit of a signaling NaN, or the whole payload.
 #[inline(always)]
 fn nan_loses(from: Shape, into: Shape, significand: u128) -> bool
     requires { IsNanSignificandAt from significand }
@@ -55,7 +55,7 @@ fn nan_loses(from: Shape, into: Shape, significand: u128) -> bool
     cut != 0 || ((hides_integer_bit && signals(from, significand)) || drops_payload)
 }
 
-/// A NaN, quieted, with as much of its payload as the other format has (IEEE 754-2008 6.2.3).
+/// A NaN, quieted, with the leading bits of its payload that the other format has room for (IEEE 754-2008 6.2.3).
 #[inline(always)]
 pub(crate) fn converted_nan(from: Shape, into: Shape, x: Unpacked) -> Converted
     requires { IsNan from x }

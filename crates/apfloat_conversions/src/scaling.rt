@@ -1,4 +1,4 @@
-//! Multiplication of values by powers of two, and the split of values into a fraction and a power of two.
+//! Scaling by powers of two, exponents, and the decomposition of values into a fraction and a power of two.
 
 ghost use Rattle.std.specs.Prelude.{◌≡◌, ◌⊎◌, ◌*◌, ◌^◌, pos, neg_ℤ, ◌+ℤ◌, ◌≤ℤ◌};
 ghost use Rattle.apfloat_model.specs.arithmetic.Exact.{up, down};
@@ -16,10 +16,10 @@ use apfloat_rounding::rounding::deliver;
 use apfloat_rounding::shape::Shape;
 use apfloat_rounding::unpacked::Unpacked;
 
-/// More places than this change no result.
+/// Scaling by more places than this gives the same results as scaling by this many.
 const SCALING_BOUND: ExpInt = 6_000_000;
 
-/// The count of places, limited to the range that rounding has to see: past it no result changes.
+/// The number of places, clamped to a range beyond which no result changes.
 #[inline(always)]
 pub fn clamped(places: ExpInt) -> ExpInt
     ensures within { IsWithin scaling_bound result }
@@ -36,7 +36,7 @@ pub fn clamped(places: ExpInt) -> ExpInt
     }
 }
 
-/// The exponent of an integer bit that is moved up by `places`.
+/// The exponent of the integer bit after scaling by `places`.
 #[inline(always)]
 fn moved(exponent: ExpInt, places: ExpInt) -> ExpInt
     requires exponent { IsWithin number_bound exponent }
@@ -102,8 +102,8 @@ pub fn ilogb(shape: Shape, x: Unpacked) -> ExpInt
 pub struct Fraction {
     /// The fraction, with the sign of the value; a zero or an infinity itself, and a NaN quieted.
     pub value: Unpacked,
-    /// One more than the exponent of a number's integer bit; 0 for a zero, `IEK_INF` for an infinity, `IEK_NAN` for a
-    /// NaN.
+    /// One more than the exponent of the integer bit of a number; 0 for a zero, `IEK_INF` for an infinity, `IEK_NAN`
+    /// for a NaN.
     pub exponent: ExpInt,
 }
 

@@ -1,4 +1,4 @@
-//! The whole number that a mode picks for a number.
+//! Rounding a number to an integer.
 
 ghost use Rattle.std.specs.Prelude.{◌≡◌, ℕ, ◌+◌, ◌-◌, ◌*◌, ◌/◌, ◌^◌, ◌<◌, ◌≤◌, pos, ◌+ℤ◌, ◌-ℤ◌, ◌≤ℤ◌};
 ghost use Rattle.apfloat_model.specs.rounding.Standing.{StandsFor};
@@ -15,16 +15,16 @@ use apfloat_words::{
     Shifted, is_exact, loss_of_rest, low_digits, power_of_two, shift_right, steps_between,
 };
 
-/// The magnitude of a whole number, and whether nothing was rounded.
+/// The magnitude of the integer that a number was rounded to, and whether it is exact.
 #[derive(Clone, Copy, Debug)]
 pub struct Whole {
-    /// The whole number without its sign.
+    /// The integer without its sign.
     pub magnitude: u128,
-    /// Whether nothing was rounded: the number was whole.
+    /// Whether the number itself was that integer.
     pub exact: bool,
 }
 
-/// How far a word is shifted: 63 places leave nothing of 62 digits, as more places do.
+/// How far a word is shifted: 63 places already leave nothing of 62 digits.
 #[inline(always)]
 fn word_places(places: u32) -> u32
     ensures near { places ≤ 63 → result ≡ places }
@@ -55,7 +55,7 @@ fn shift_word(significand: u128, places: u32) -> Shifted
     }
 }
 
-/// `shift_right` with nothing lost below, in one word where the precision leaves room in it.
+/// `shift_right` of a significand with nothing lost below it, in one word if the precision allows it.
 #[inline(always)]
 fn cut_at_dot(precision: u32, significand: u128, places: u32) -> Shifted
     requires fits { significand < 2 ^ precision }
@@ -72,7 +72,7 @@ fn cut_at_dot(precision: u32, significand: u128, places: u32) -> Shifted
     }
 }
 
-/// `significand * 2^-places`, rounded by the mode to a whole number.
+/// `significand * 2^-places`, rounded by the mode to an integer.
 #[inline(always)]
 fn round_fraction(
     precision: u32,
@@ -103,8 +103,8 @@ fn round_fraction(
     }
 }
 
-/// A nonzero number with digits after its dot, rounded by the mode to a whole number; `exponent` is that of its last
-/// digit.
+/// A nonzero number with digits after its binary point, rounded by the mode to an integer; `exponent` is that of its
+/// last digit.
 #[inline(always)]
 pub(crate) fn round_at_dot(shape: Shape, x: Unpacked, exponent: ExpInt, round: Round) -> Whole
     requires normal { IsNormal shape x }
@@ -123,8 +123,8 @@ pub(crate) fn round_at_dot(shape: Shape, x: Unpacked, exponent: ExpInt, round: R
     )
 }
 
-/// A number below `2^61` rounded by the mode to a whole number, in one word. Moved up until it has 62 digits, it has
-/// digits after its dot at each of these exponents, so numbers that are whole need not be told from the others.
+/// A number below `2^61` rounded by the mode to an integer, in one word. Shifted up to 62 digits, it has digits after
+/// the binary point at each of these exponents, so integers need no branch of their own.
 #[inline(always)]
 fn round_word(shape: Shape, x: Unpacked, round: Round) -> Whole
     requires normal { IsNormal shape x }
@@ -137,7 +137,7 @@ fn round_word(shape: Shape, x: Unpacked, round: Round) -> Whole
     round_fraction(62, u128::from(top), places, round, x.negative)
 }
 
-/// The whole number `significand * 2^places`.
+/// The integer `significand * 2^places`.
 #[inline(always)]
 fn raised(precision: u32, significand: u128, places: u32) -> u128
     requires some { 0 < precision }
@@ -148,7 +148,7 @@ fn raised(precision: u32, significand: u128, places: u32) -> u128
     significand * power_of_two(places)
 }
 
-/// A nonzero number rounded to a whole number, if that is below `2^128`.
+/// A nonzero number rounded to an integer, if that is below `2^128`.
 #[inline(always)]
 pub fn whole_of(shape: Shape, x: Unpacked, round: Round) -> Option<Whole>
     requires { IsNormal shape x }

@@ -21,17 +21,17 @@ pub type Double = IeeeFloat<DoubleS>;
 /// Binary128.
 pub type Quad = IeeeFloat<QuadS>;
 
-/// The upper half of a binary32.
+/// Bfloat16: the upper half of a binary32.
 pub type BFloat = IeeeFloat<BFloatS>;
 
-/// Eight bits with the exponents of binary16.
+/// Eight bits: the upper half of a binary16, with five exponent bits.
 pub type Float8E5M2 = IeeeFloat<Float8E5M2S>;
 
-/// Eight bits without infinities.
+/// Eight bits, four of them the exponent, without infinities.
 pub type Float8E4M3FN = IeeeFloat<Float8E4M3FNS>;
 
-/// Eight bits without infinities and without a negative zero.
+/// Eight bits, four of them the exponent, without infinities and without a negative zero.
 pub type Float8E4M3FNUZ = IeeeFloat<Float8E4M3FNUZS>;
 
-/// The 80 bits of the x87.
+/// The 80-bit extended format of the x87.
 pub type X87DoubleExtended = IeeeFloat<X87DoubleExtendedS>;

@@ -1,4 +1,4 @@
--- What was read of a text is what the model says of it.
+-- The results of reading a text agree with the model.
 use Rattle.std.proofs.Common.{◌≡◌, ℕ, ◌*◌, Bool, true, false, refl, sym, List, [], ◌∷◌, length, drop, ◌==◌, None, ℤ, pos, negsuc, ◌+ℤ◌, ◌-ℤ◌, ◌^◌, ◌<◌, ◌≤◌, arith, FitsSigned}
 use Rattle.std.proofs.lemmas.Bool.{eqb-true}
 use Rattle.std.proofs.lemmas.Int.{ints}
@@ -22,12 +22,12 @@ use Rattle.apfloat_hex_texts.specs.LiteralParts.{IsLiteralRead}
 
 -- ---- the number after the prefix
 
--- what was scanned, followed by an exponent, has no fault
+-- a scanned significand with digits, followed by an exponent without a fault, has no fault
 fault_free : (rest tail : List ℕ) (scan : Scan) → is_empty rest ≡ false
     → IsScanned rest tail scan → fault_after scan.some tail ≡ None → after_prefix_fault rest ≡ None
 fault_free rest tail scan n s f = rw (n, s.one_dot, s.empty_is, s.tail_is) f
 
--- the number after the prefix, where no fault was found
+-- the number after the prefix is read, if no fault was found
 pub literal_read : (shape : Shape) (mode : Round) (negative : Bool) (rest tail : List ℕ) (scan : Scan)
     (answer : StatusAnd Unpacked)
     → is_empty rest ≡ false → IsScanned rest tail scan → fault_after scan.some tail ≡ None
@@ -55,7 +55,7 @@ pub some_text : (rest : List ℕ) → false ≡ (length rest == 0) → is_empty 
 some_text [] h = sym h
 some_text (c ∷ rest) h = refl
 
--- an exponent that is counted fits its type
+-- an exponent within the bound fits its type
 pub exponent_fits : (e : ℤ) → IsWithin count_bound e → FitsSigned w128 e
 exponent_fits (pos n) within = let m : n ≤ 2 ^ 100 = omega (arith, ints, within.high) in
     record { sfits = omega (arith, m) }

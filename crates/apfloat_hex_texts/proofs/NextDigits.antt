@@ -1,4 +1,4 @@
--- One more digit after a number of which the leading bits are kept.
+-- One more digit after a number whose leading bits are kept.
 use Rattle.std.proofs.Common.{◌≡◌, ℕ, ◌+◌, ◌-◌, ◌*◌, ◌^◌, ◌<◌, ◌≤◌, sym, ap, ◌∙◌, subst, inr, arith}
 use Rattle.std.proofs.lemmas.Nat.{pow-add, pow_pos}
 use Rattle.apfloat_model.specs.declared.loss.Loss.{Loss}
@@ -18,7 +18,7 @@ even cut p =
     let e : 4 * cut ≡ 1 + (4 * cut - 1) = omega arith in
     ap (λ (k : ℕ). 2 ^ k) e ∙ pow-add 2 1 (4 * cut - 1)
 
--- one more digit is cut off, where some are already
+-- one more digit is cut off, after others
 pub with_next_cut : (number significand digit cut : ℕ) (loss after : Loss) → 0 < cut → 2 ^ 124 ≤ significand
     → IsKeptAt number significand loss cut
     → ((half : ℕ) → 0 < half → StandsFor significand loss number (2 * half)

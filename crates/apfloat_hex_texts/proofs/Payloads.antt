@@ -24,7 +24,7 @@ fold_grows radix n (c ∷ digits) =
     let one = grown radix n c in
     omega (arith, more, one)
 
--- a character that is no digit, or leads past the bound, ends the reading
+-- a character that is not a digit, or leads past the bound, ends the reading
 stops : (radix : Radix) (n c : ℕ) (digits : List ℕ) (is_digit fits : Bool) → is_digit_of radix c ≡ is_digit
     → ltb (longer radix n c) (2 ^ 128) ≡ fits
     → (if is_digit && fits then Some (longer radix n c) else None) ≡ None → read_on radix n (c ∷ digits) ≡ None
@@ -36,7 +36,7 @@ stops radix n c digits true false p q e =
     ∙ last_fails (every (is_digit_of radix) digits) _ _ (le-ltb _ _ (omega (arith, g, f)))
 stops radix n c digits true true p q e = cc
 
--- another one goes on with the longer number
+-- after any other character, reading goes on with the longer number
 goes : (radix : Radix) (n c m : ℕ) (digits : List ℕ) (is_digit fits : Bool) → is_digit_of radix c ≡ is_digit
     → ltb (longer radix n c) (2 ^ 128) ≡ fits
     → (if is_digit && fits then Some (longer radix n c) else None) ≡ Some m
@@ -53,12 +53,12 @@ goes radix n c m digits true true p q e =
 
 -- ---- all of them
 
--- a character that is no digit, or one too many, leaves no payload
+-- a character that is not a digit, or a digit too many, leaves no payload
 pub payload_stops : (radix : Radix) (digits left : List ℕ) (n c : ℕ) → IsPayloadRead radix digits (c ∷ left) n
     → next radix n c ≡ None → number_of_digits radix digits ≡ None
 payload_stops radix digits left n c i e = i.read ∙ stops radix n c left _ _ refl refl e
 
--- another one is read
+-- after any other digit, reading the payload goes on
 pub payload_goes : (radix : Radix) (digits left : List ℕ) (n c m : ℕ) → IsPayloadRead radix digits (c ∷ left) n
     → next radix n c ≡ Some m → IsPayloadRead radix digits left m
 payload_goes radix digits left n c m i e =

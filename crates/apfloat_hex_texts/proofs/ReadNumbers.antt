@@ -1,4 +1,4 @@
--- The number of a text, by its kept digits and by a clamped exponent.
+-- The number that a text spells, from its kept digits and a clamped exponent.
 use mathlib.Core.Bool.{Bool}
 use Rattle.std.proofs.Common.{◌≡◌, ◌⊎◌, ℕ, ◌+◌, ◌-◌, ◌*◌, ◌^◌, ◌<◌, ◌≤◌, refl, sym, ap, ◌∙◌, subst, inl, inr, arith, ⊎_elim, ℤ, pos, neg_ℤ, ◌+ℤ◌, ◌-ℤ◌, ◌≤ℤ◌}
 use Rattle.std.proofs.lemmas.Int.{ints}
@@ -40,7 +40,7 @@ far_up format number s k z p some from e far =
     let j : 2 ^ (k + up p) ≡ 2 ^ k * 2 ^ up p = pow-add 2 k (up p) in
     record { some = pow_pos (down p); from = omega (arith, c, h, i, j) }
 
--- and one clamped from below far below it
+-- an exponent that was clamped from below leads far below the format
 far_down : (number s k : ℕ) (z p : ℤ) → 0 < number → s < 2 ^ 128 → number < (s + 1) * 2 ^ k → p ≡ z -ℤ pos k
     → z ≤ℤ neg_ℤ (pos 129)
     → IsFarBelow (number * 2 ^ up p) (2 ^ down p)
@@ -59,7 +59,7 @@ far_down number s k z p some small to e far =
 
 -- ---- one exponent for another
 
--- the power of two of the whole number, where its kept digits have the unit 2 ^ unit
+-- the power of two of the integer, where its kept digits have the unit 2 ^ unit
 abbrev power_at : ℕ → ℕ → ℤ → ℤ
 power_at k scale unit = (unit +ℤ pos scale) -ℤ pos k
 
@@ -100,13 +100,13 @@ moved format mode negative number s cut loss exact unit v status b some small k 
 
 -- ---- the kept digits
 
--- the places of the number's power of two and of the unit add up alike on both sides
+-- the places of the number's power of two and of the unit have equal sums on both sides
 balanced : (k scale : ℕ) (unit : ℤ)
     → k + (up (power_at k scale unit) + down (unit +ℤ pos scale))
     ≡ down (power_at k scale unit) + up (unit +ℤ pos scale)
 balanced k scale unit = omega (arith, ints)
 
--- the digits kept of a number, in their unit, stand for the number times its power of two
+-- the kept digits of a number, in their unit, represent the number times its power of two
 stands_at : (number s k scale : ℕ) (loss : Loss) (unit : ℤ) → StandsFor s loss number (2 ^ k)
     → StandsFor s loss (number * 2 ^ up (power_at k scale unit) * 2 ^ down (unit +ℤ pos scale))
     (2 ^ down (power_at k scale unit) * 2 ^ up (unit +ℤ pos scale))
@@ -121,7 +121,7 @@ stands_at number s k scale loss unit h =
     ap (λ (x : ℕ). 2 ^ x) (balanced k scale unit) ∙ pow-add 2 (down p) (up u) in
     rw (b, c) at a
 
--- a rounding of the kept digits, with a clamped exponent, is that of the number
+-- rounding the kept digits, with a clamped exponent, is rounding the number
 pub number_delivered : (format : Format) (mode : Round) (negative : Bool) (number s cut places : ℕ) (loss : Loss)
     (exact unit : ℤ) (value : Datum) (status : ℕ)
     → IsBounded format → 0 < s → s < 2 ^ 128 → IsKeptAt number s loss cut
@@ -141,9 +141,9 @@ number_delivered format mode negative number s cut places loss exact unit v stat
     (moved format mode negative number s cut loss ((exact +ℤ pos (4 * cut)) -ℤ pos (4 * places)) unit v status b some
     small k near d)
 
--- ---- nothing
+-- ---- digits that are all 0
 
--- digits that are all 0 stand for 0
+-- digits that are all 0 represent 0
 pub nothing_read : (number cut : ℕ) (loss : Loss) → IsKeptAt number 0 loss cut → number ≡ 0
 nothing_read number cut loss k =
     ⊎_elim
@@ -154,7 +154,7 @@ nothing_read number cut loss k =
     (λ (l : 2 ^ 124 ≤ 0). absurd (omega (arith, l)))
     k.full
 
--- and then the zero of the sign is delivered
+-- for digits that are all 0, the zero of the sign is delivered
 pub zero_delivered : (format : Format) (mode : Round) (negative : Bool) (number s cut : ℕ) (loss : Loss) (power : ℤ)
     (value : Datum) (status : ℕ) → s ≡ 0 → IsKeptAt number s loss cut
     → value ≡ finite (zero_sign format.nonfinite negative) 0 → status ≡ 0
@@ -165,7 +165,7 @@ zero_delivered format mode negative number s cut loss power v status z k e o =
 
 -- ---- for the kernel
 
--- a number that lost digits keeps at least as many as a format has
+-- a number of which digits were cut off keeps at least as many as a format has
 pub fine_digits : {A : Type 0} (precision number s cut : ℕ) (loss : Loss) → precision ≤ 125
     → IsKeptAt number s loss cut → (loss ≡ ExactlyZero) ⊎ (A ⊎ (2 ^ (precision - 1) ≤ s))
 fine_digits precision number s cut loss p k =

@@ -1,11 +1,11 @@
--- Counts that are not counted on from where they decide.
+-- Saturating counts: from some bound on, the exact count makes no difference.
 use Rattle.std.proofs.Common.{◌≡◌, ℕ, ◌+◌, ◌*◌, ◌^◌, ◌<◌, true, inl, inr, arith, List, ◌∷◌, ℤ, pos, ◌+ℤ◌, ◌-ℤ◌}
 use Rattle.std.proofs.lemmas.Int.{ints}
 use Rattle.apfloat_model.specs.rounding.Bounds.{text_bound}
 use Rattle.apfloat_model.specs.texts.Digits.{is_decimal, digit_value}
 use Rattle.apfloat_hex_texts.specs.Saturation.{IsSaturated, IsNear, IsCounted}
 
--- one more decimal digit is counted
+-- one more decimal digit is added to a saturating count
 pub count_goes : (digits left : List ℕ) (c counted after : ℕ) → is_decimal c ≡ true
     → ((exact : ℕ) → IsSaturated exact counted → IsSaturated (exact * 10 + digit_value c) after) → after < 2 ^ 100
     → IsCounted digits (c ∷ left) counted → IsCounted digits left after
@@ -18,7 +18,7 @@ count_goes digits left c counted after d step fits i =
       every_is = rw d at i.every_is;
     }
 
--- a sum with what is far is far
+-- the exponent of the last digit, computed from a saturated written exponent, is near that from the exact one
 pub near_sum : (exact e r : ℤ) (cut places : ℕ) → cut < 2 ^ 64 → places < 2 ^ 64 → IsNear (2 ^ 96) exact e
     → IsNear text_bound ((e +ℤ pos (4 * cut)) -ℤ pos (4 * places)) r
     → IsNear text_bound ((exact +ℤ pos (4 * cut)) -ℤ pos (4 * places)) r

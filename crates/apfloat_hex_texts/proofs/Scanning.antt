@@ -9,42 +9,42 @@ use Rattle.apfloat_hex_texts.specs.Scans.{IsKept, IsScan, IsScanned}
 
 -- ---- results
 
--- what the exit of a `?` returns
+-- the result that a `?` returns on an error
 pub refused_by : {T E : Type 0} (result : Result T E) (error : E) (P : T → Type 0) (Q : E → Type 0)
     → IsErrAnd result (λ y. y ≡ error) → Q error → MatchResult result P Q
 refused_by (Ok x) e P Q is q = absurd is
 refused_by (Err y) e P Q is q = subst Q (sym is) q
 
--- ---- a scan as it is made anew
+-- ---- a scan that is rebuilt
 
--- a scan made anew of its parts says the same
+-- a scan rebuilt from its parts is the same scan
 pub scan_remade : (rest left : List ℕ) (next made : Scan) → made ≡ next
     → IsScan rest left next → IsScan rest left made
 scan_remade rest left next made e s = subst (λ (x : Scan). IsScan rest left x) (sym e) s
 
 -- ---- the end of a significand
 
--- a text that begins with no digit and no dot has an empty significand
+-- a text that begins with neither a digit nor a dot has an empty significand
 ended : (left : List ℕ) → begins is_digit_or_dot left ≡ false → significand_of left ≡ []
 ended [] h = refl
 ended (c ∷ left) h = rw h refl
 
--- a text that begins with neither a digit nor a dot is all after the significand
+-- in a text that begins with neither a digit nor a dot, everything follows the significand
 unmoved : (left : List ℕ) → begins is_digit_or_dot left ≡ false → after_significand left ≡ left
 unmoved [] h = refl
 unmoved (c ∷ left) h = rw h refl
 
--- with no dot left to read, a significand has at most one
+-- if no dot is left to read, a significand has at most one
 one_at_most : (pointed : Bool) → ltb 1 ((if pointed then 1 else 0) + 0) ≡ false
 one_at_most true = refl
 one_at_most false = refl
 
--- with nothing left to read, no place after the dot is added
+-- if nothing is left to read, no place after the dot is added
 no_more : (pointed : Bool) (places : ℕ) → places + (if pointed then 0 else 0) ≡ places
 no_more true places = omega arith
 no_more false places = omega arith
 
--- a scan that reaches no further digit or dot is that of the significand
+-- a scan that reaches the end of the digits and dots is the scan of the significand
 pub scan_ended : (rest left : List ℕ) (scan : Scan) → IsScan rest left scan → begins is_digit_or_dot left ≡ false
     → IsScanned rest left scan
 scan_ended rest left scan s h =

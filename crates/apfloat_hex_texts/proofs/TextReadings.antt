@@ -1,4 +1,4 @@
--- The reading of a text by its special or by its literal.
+-- The reading of a text, as an infinity or a NaN, or as a literal.
 use Rattle.std.proofs.Common.{◌≡◌, ℕ, Bool, true, false, refl, sym, ap, ◌∙◌, ⊎_elim, subst, List, ◌++◌, drop, codes, Some, None}
 use Rattle.std.specs.Prelude.{Result, Ok, Err, MatchResult}
 use Rattle.apfloat_model.specs.declared.parse_error.Fault.{Fault}
@@ -32,7 +32,7 @@ means_special text negative Infinity e = e
 means_special text negative (Quiet payload) e = e
 means_special text negative (Signaling payload) e = e
 
--- an infinity or a NaN, as the text means it
+-- an infinity or a NaN is read as the text means it
 pub special_read : (shape : Shape) (mode : Round) (text : List ℕ) (negative : Bool) (special : Special)
     (value : Unpacked) (answer : StatusAnd Unpacked)
     → special_of text ≡ Some (meaning_of negative special) → IsStored shape value
@@ -52,21 +52,21 @@ special_read shape mode text negative special value answer e stored meant v s =
       };
     }
 
--- ---- a literal is no special
+-- ---- a literal is not a special value
 
--- a text with the prefix 0x is no special value
+-- a text with the prefix 0x is not a special value
 no_small_special : (mark : Mark) (rest : List ℕ) → special_meaning mark (codes "0x" ++ rest) ≡ None
 no_small_special Unmarked rest = refl
 no_small_special Plus rest = refl
 no_small_special Minus rest = refl
 
--- nor is one with the prefix 0X
+-- a text with the prefix 0X is not a special value
 no_capital_special : (mark : Mark) (rest : List ℕ) → special_meaning mark (codes "0X" ++ rest) ≡ None
 no_capital_special Unmarked rest = refl
 no_capital_special Plus rest = refl
 no_capital_special Minus rest = refl
 
--- a text with a literal's prefix after its mark is no special value
+-- a text with the prefix of a literal after its mark is not a special value
 no_special : (text : List ℕ) → begins_literal (after_mark text) ≡ true → special_of text ≡ None
 no_special text b =
     let body = after_mark text in
@@ -77,13 +77,13 @@ no_special text b =
     (λ (p : body ≡ codes "0X" ++ rest). ap meaning p ∙ no_capital_special (mark_of text) rest)
     (begun_of body b)
 
--- the fault of a literal is that of what follows its prefix
+-- the fault of a literal is that of the text after its prefix
 literal_fault_is : (text : List ℕ) → is_empty text ≡ false → is_empty (after_mark text) ≡ false
     → special_of text ≡ None → begins_literal (after_mark text) ≡ true
     → fault_of text ≡ after_prefix_fault (drop 2 (after_mark text))
 literal_fault_is text t b s l = rw (t, b, s, l) refl
 
--- a text whose literal was read was read
+-- a text is read if its literal is
 text_of_literal : (shape : Shape) (mode : Round) (text : List ℕ) (answer : StatusAnd Unpacked)
     → begins_literal (after_mark text) ≡ true
     → IsLiteralRead shape mode (is_minus (mark_of text)) (drop 2 (after_mark text)) answer
@@ -100,7 +100,7 @@ text_of_literal shape mode text answer l r =
       };
     }
 
--- a number, or the first fault after the prefix
+-- a text with a prefix is read as a number, or refused for the first fault after the prefix
 pub literal_text : (shape : Shape) (mode : Round) (text rest : List ℕ) (negative : Bool)
     (result : Result (StatusAnd Unpacked) Fault)
     → is_empty text ≡ false → is_empty (after_mark text) ≡ false → begins_literal (after_mark text) ≡ true

@@ -10,7 +10,7 @@ use Rattle.apfloat_rounding.specs.declared.unpacked.Unpacked.{Unpacked}
 use Rattle.apfloat_rounding.specs.Shapes.{format_at}
 use Rattle.apfloat_rounding.specs.Stored.{IsStored, GivesAt}
 
--- it has no fault, and is rounded once
+-- the literal has no fault, and its number is rounded once
 pub record IsLiteralRead (shape : Shape) (mode : Round) (negative : Bool) (rest : List ℕ)
     (answer : StatusAnd Unpacked) : Type 0 where
   pub no_fault : after_prefix_fault rest ≡ None

@@ -1,4 +1,4 @@
--- Payloads read so far, and the special values of the code as those of the model.
+-- Payloads while they are read, and the special values of the code as those of the model.
 use Rattle.std.specs.Prelude.{◌≡◌, ℕ, ◌+◌, ◌*◌, ◌^◌, ◌<◌, Bool, false, true, ◌&&◌, ltb, if◌then◌else◌, List, take, drop, fold, Option, Some, None}
 use Rattle.apfloat_model.specs.declared.marks.Radix.{Radix}
 use Rattle.apfloat_model.specs.texts.Digits.{every, digit_value}
@@ -6,7 +6,7 @@ use Rattle.apfloat_model.specs.texts.Specials as model
 use Rattle.apfloat_hex_texts.specs.declared.special.Special.{Special}
 use Rattle.apfloat_hex_texts.specs.declared.special.Special.TheVariants.{Infinity, Quiet, Signaling}
 
--- a whole number followed by one more digit, if it is below 2 ^ 128
+-- an integer followed by one more digit, if it is below 2 ^ 128
 abbrev pub longer : Radix → ℕ → ℕ → ℕ
 longer radix n c = n * model.base_of radix + digit_value c
 
@@ -14,7 +14,7 @@ abbrev pub next : Radix → ℕ → ℕ → Option ℕ
 next radix n c = if model.is_digit_of radix c && ltb (longer radix n c) (2 ^ 128) then Some (longer radix n c)
     else None
 
--- the whole number whose first digits have the value n and are followed by these digits, if it is below 2 ^ 128
+-- the integer whose first digits have the value n and are followed by these digits, if it is below 2 ^ 128
 abbrev pub read_on : Radix → ℕ → List ℕ → Option ℕ
 read_on radix n digits =
     if every (model.is_digit_of radix) digits && ltb (fold (longer radix) n digits) (2 ^ 128)

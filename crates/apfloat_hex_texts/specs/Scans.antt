@@ -1,4 +1,4 @@
--- A significand read from the left so far.
+-- Significands while they are read from the left.
 use Rattle.std.specs.Prelude.{◌≡◌, ◌⊎◌, ℕ, ◌+◌, ◌*◌, ◌^◌, ◌≤◌, false, not, ltb, ◌&&◌, if◌then◌else◌, List, length, filter, fold}
 use Rattle.apfloat_model.specs.declared.loss.Loss.{Loss}
 use Rattle.apfloat_model.specs.declared.loss.Loss.TheVariants.{ExactlyZero}
@@ -9,17 +9,17 @@ use Rattle.apfloat_model.specs.rounding.Standing.{StandsFor}
 use Rattle.apfloat_hex_texts.specs.declared.significand.Digits.{Digits}
 use Rattle.apfloat_hex_texts.specs.declared.significand.Scan.{Scan}
 
--- what is kept of a whole number when `cut` hexadecimal digits are cut off: all of it, or at least 125 bits and a loss
+-- what is kept of an integer after `cut` hexadecimal digits are cut off: all of it, or at least 125 bits and a loss
 pub record IsKeptAt (number significand : ℕ) (loss : Loss) (cut : ℕ) : Type 0 where
   pub stands : StandsFor significand loss number (2 ^ (4 * cut))
   pub exact : cut ≡ 0 → loss ≡ ExactlyZero
   pub full : (cut ≡ 0) ⊎ (2 ^ 124 ≤ significand)
 
--- the same for digits as a whole
+-- the same, for the record of digits
 abbrev pub IsKept : ℕ → Digits → Type 0
 IsKept number digits = IsKeptAt number digits.significand digits.loss digits.cut
 
--- the whole number whose first digits have the value n and are followed by these digits
+-- the integer whose first digits have the value n and are followed by these digits
 abbrev pub number_from : ℕ → List ℕ → ℕ
 number_from n digits = fold (λ n c. n * 16 + digit_value c) n digits
 

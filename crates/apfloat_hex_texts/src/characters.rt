@@ -1,10 +1,10 @@
-//! The characters of numbers.
+//! The characters that numbers are written with.
 
 ghost use Rattle.std.specs.Prelude.{◌≡◌, ◌<◌, IsTrue};
 ghost use Rattle.apfloat_model.specs.texts.Digits.{is_decimal, is_octal, is_hexadecimal, digit_value};
 ghost use Rattle.apfloat_model.specs.texts.Faults.{is_digit_or_dot};
 
-/// 0 to 9.
+/// A decimal digit.
 #[inline(always)]
 pub fn is_decimal(byte: u8) -> bool
     ensures { result ≡ is_decimal byte }
@@ -12,7 +12,7 @@ pub fn is_decimal(byte: u8) -> bool
     matches!(byte, b'0'..=b'9')
 }
 
-/// 0 to 7.
+/// An octal digit.
 #[inline(always)]
 pub fn is_octal(byte: u8) -> bool
     ensures { result ≡ is_octal byte }
@@ -20,12 +20,12 @@ pub fn is_octal(byte: u8) -> bool
     matches!(byte, b'0'..=b'7')
 }
 
-/// The hexadecimal digits: one bit for each character from 0 on.
+/// The hexadecimal digits as a set, one bit for each character from `0` on.
 const HEXADECIMAL: u64 = 0x007E_0000_007E_03FF;
 
-/// 0 to 9, and a to f in either case.
+/// A hexadecimal digit, in either case.
 ///
-/// One look-up in the set of digits decides, since no processor predicts which of the three ranges a digit is in.
+/// One look-up in the set decides: a branch for each of the three ranges of digits would be unpredictable.
 #[inline(always)]
 pub fn is_hexadecimal(byte: u8) -> bool
     ensures { result ≡ is_hexadecimal byte }
@@ -44,8 +44,8 @@ pub fn is_digit_or_dot(byte: u8) -> bool
 
 /// The value of a digit.
 ///
-/// The last four bits of a letter, in either case, are 1 to 6, and only a letter is 64 or more: so there is no branch
-/// on the kind of digit, which no processor predicts.
+/// The last four bits of a letter, in either case, are 1 to 6, and only letters are 64 or more. So no branch depends on
+/// the kind of digit, which would be unpredictable.
 #[inline(always)]
 pub fn digit_value(byte: u8) -> u8
     requires { IsTrue (is_hexadecimal byte) }

@@ -1,4 +1,4 @@
-//! Whole numbers by their digits.
+//! Integers from their digits.
 
 ghost use Rattle.std.specs.Prelude.{◌≡◌};
 ghost use Rattle.apfloat_model.specs.texts.Specials.{is_digit_of, number_of_digits};
@@ -10,7 +10,7 @@ use apfloat_model::marks::Radix;
 /// A number below this has room for one more digit.
 const ROOM: u128 = 1 << 124;
 
-/// Whether the character is a digit in that base.
+/// Whether the character is a digit in this base.
 #[inline(always)]
 fn is_digit_of(radix: Radix, byte: u8) -> bool
     ensures { result ≡ is_digit_of radix byte }
@@ -22,7 +22,7 @@ fn is_digit_of(radix: Radix, byte: u8) -> bool
     }
 }
 
-/// The whole number followed by one more digit, if it is below 2^128.
+/// The integer with one more digit appended, if the character is a digit and the result is below 2^128.
 #[inline(always)]
 fn with_digit(radix: Radix, number: u128, byte: u8) -> Option<u128>
     ensures { result ≡ next radix number byte }
@@ -37,7 +37,7 @@ fn with_digit(radix: Radix, number: u128, byte: u8) -> Option<u128>
     number.checked_mul(radix.base())?.checked_add(digit)
 }
 
-/// The whole number that one or more digits stand for, if it is below 2^128.
+/// The integer that the text spells, if it consists of one or more digits and the integer is below 2^128.
 #[inline(always)]
 pub fn number_of_digits(radix: Radix, digits: &[u8]) -> Option<u128>
     ensures { result ≡ number_of_digits radix digits.now }

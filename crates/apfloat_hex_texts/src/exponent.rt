@@ -1,4 +1,4 @@
-//! The exponent of a hexadecimal text: as it is written it counts from the dot, and it is returned for the last digit.
+//! The exponent of a hexadecimal text: the written one counts from the dot, the returned one from the last digit.
 
 ghost use Rattle.std.specs.Prelude.{◌≡◌, ℕ, ◌+◌, ◌*◌, ◌<◌, ℤ, pos, ◌+ℤ◌, ◌-ℤ◌, ◌≤ℤ◌, drop, Some, None, MatchResult};
 ghost use Rattle.apfloat_model.specs.rounding.Bounds.{IsWithin, text_bound};
@@ -13,14 +13,14 @@ use crate::mark::split_mark;
 use apfloat_model::ExpInt;
 use apfloat_model::parse_error::Fault;
 
-/// A whole number that is not increased any further.
+/// From this integer on, digits are no longer counted.
 const FAR: u128 = 1 << 96;
 
-/// Exponents of last digits farther from 0 than this change no result.
+/// Exponents of last digits are clamped to this distance from 0, beyond which no result changes.
 const TEXT_BOUND: ExpInt = 1 << 22;
 
-/// The whole number followed by one more decimal digit, or some whole number of at least `FAR` in place of another such
-/// one.
+/// The integer followed by one more decimal digit; if that is at least `FAR`, possibly another integer of at least
+/// `FAR`.
 #[inline(always)]
 fn with_digit(number: u128, digit: u8) -> u128
     requires small { digit < 16 }
@@ -36,7 +36,7 @@ fn with_digit(number: u128, digit: u8) -> u128
     }
 }
 
-/// The whole number that decimal digits stand for.
+/// The integer that decimal digits spell, saturating from `FAR` on, or the first fault.
 #[inline(always)]
 fn magnitude(digits: &[u8]) -> Result<u128, Fault>
     ensures { MatchResult result (λ n. IsSaturated (number 10 digits.now) n × (n < count_bound)
@@ -58,8 +58,8 @@ fn magnitude(digits: &[u8]) -> Result<u128, Fault>
     Ok(number)
 }
 
-/// The number that a text spells with decimal digits, after a sign if there is one; past `2^96`, some number that far on
-/// its side.
+/// The number that a text spells with decimal digits after an optional sign; past `2^96`, some number that far from 0
+/// on the same side.
 #[inline(always)]
 pub fn signed_number(text: &[u8]) -> Result<i128, Fault>
     ensures { MatchResult result (λ e. IsNear far_bound (exponent_number text.now) e
@@ -76,8 +76,8 @@ pub fn signed_number(text: &[u8]) -> Result<i128, Fault>
     })
 }
 
-/// The exponent in the text after a significand, which counts from the dot; `some` says whether the significand has a
-/// digit.
+/// The written exponent in the text after a significand, or the first fault there; `some` says whether the significand
+/// has a digit.
 #[inline(always)]
 pub fn exponent_in(tail: &[u8], some: bool) -> Result<i128, Fault>
     ensures { MatchResult result (λ e. IsNear far_bound (exponent_number (drop 1 tail.now)) e
@@ -94,8 +94,8 @@ pub fn exponent_in(tail: &[u8], some: bool) -> Result<i128, Fault>
     }
 }
 
-/// The exponent of the last kept digit of a number with `cut` digits cut off and `places` digits after its dot, from
-/// the exponent that counts from the dot.
+/// The exponent of the last kept digit, from the written one, if `cut` digits were cut off and `places` digits follow
+/// the dot.
 #[inline(always)]
 fn unit_of(exponent: i128, cut: usize, places: usize) -> i128
     requires { IsWithin count_bound exponent }
@@ -104,7 +104,7 @@ fn unit_of(exponent: i128, cut: usize, places: usize) -> i128
     exponent + 4 * cut as i128 - 4 * places as i128
 }
 
-/// The exponent of a last digit, or the farthest one on its side.
+/// The exponent of a last digit, clamped.
 #[inline(always)]
 fn clamped(exponent: i128) -> ExpInt
     ensures near { IsNear text_bound exponent result }
@@ -119,8 +119,7 @@ fn clamped(exponent: i128) -> ExpInt
     }
 }
 
-/// The exponent of the last kept digit, from the one that counts from the dot; or one that is past every value on its
-/// side.
+/// The exponent of the last kept digit, from the written one, clamped to one past every value on its side.
 #[inline(always)]
 pub fn unit_exponent(exponent: i128, cut: usize, places: usize) -> ExpInt
     requires { IsWithin count_bound exponent }

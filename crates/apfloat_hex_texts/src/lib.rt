@@ -1,8 +1,8 @@
 //! Reading texts: hexadecimal numbers of any length, infinities and NaNs, as unpacked values of a format.
 //!
-//! Nothing here is generic. A text is read once from the left, in time linear in its length and without allocating: of
-//! a significand, the leading bits are kept, and a loss that says how the remaining digits compare with the last kept
-//! bit, so that the number is rounded once. `apfloat_ieee` supplies the constants of a type.
+//! Nothing here is generic. A text is read once from the left, in time linear in its length and without allocation. The
+//! leading bits of a significand are kept, with a loss that says how the remaining digits compare with half of the last
+//! kept bit, so that the number is rounded once. `apfloat_ieee` supplies the constants of a type.
 #![tactic(auto)]
 
 mod characters;

@@ -1,4 +1,4 @@
-//! The sign in front of a text or of an exponent.
+//! The sign before a text or an exponent.
 
 ghost use Rattle.std.specs.Prelude.{◌≡◌};
 ghost use Rattle.apfloat_model.specs.texts.Specials.{mark_of, after_mark};
@@ -19,7 +19,7 @@ fn mark_of(text: &[u8]) -> Mark
 
 /// The sign, and what follows it.
 ///
-/// What follows is found by a sum and not by a branch, since no processor predicts the sign of a text.
+/// What follows is found by arithmetic instead of a branch, since the sign of a text is unpredictable.
 #[inline(always)]
 pub fn split_mark(text: &[u8]) -> (Mark, &[u8])
     ensures mark { result.0 ≡ mark_of text.now }

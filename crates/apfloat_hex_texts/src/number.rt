@@ -1,4 +1,4 @@
-//! The number made of a significand and an exponent.
+//! The number that a significand and an exponent spell.
 
 ghost use Rattle.std.specs.Prelude.{ℕ, ◌*◌, ◌^◌, ℤ, pos, ◌-ℤ◌, ◌+ℤ◌};
 ghost use Rattle.apfloat_model.specs.rounding.Bounds.{IsWithin};
@@ -15,8 +15,8 @@ use apfloat_rounding::rounding::deliver;
 use apfloat_rounding::shape::Shape;
 use apfloat_rounding::unpacked::{Unpacked, zero_of};
 
-/// The number with these digits, of which `places` follow the dot, times 2 to the power of `exponent`, rounded once. An
-/// exponent that stopped counting gives the same result as the exact one.
+/// The number with these digits, of which `places` follow the dot, times 2 to the power of `exponent`, rounded once. A
+/// saturated exponent gives the same result as the exact one.
 #[inline(always)]
 pub fn delivered(
     shape: Shape,

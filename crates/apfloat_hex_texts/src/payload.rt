@@ -6,7 +6,8 @@ ghost use Rattle.apfloat_model.specs.texts.Specials.{radix_of, after_prefix, aft
 use crate::digits::number_of_digits;
 use apfloat_model::marks::Radix;
 
-/// The base given by the prefix, and what follows it: `0x`, or else a 0 followed by something, or else no prefix.
+/// The base that the prefix gives, and the text after it: `0x` for hexadecimal, a 0 that is not the last character for
+/// octal, and no prefix for decimal.
 fn split_radix(text: &[u8]) -> (Radix, &[u8])
     ensures radix { result.0 ≡ radix_of text.now }
     ensures rest { result.1.now ≡ after_prefix (radix_of text.now) text.now }
@@ -28,7 +29,7 @@ fn skip_plus(text: &[u8]) -> &[u8]
     }
 }
 
-/// A payload without parentheses.
+/// The payload in a text without parentheses.
 fn plain(text: &[u8]) -> Option<u128>
     ensures { result ≡ plain_payload text.now }
 {

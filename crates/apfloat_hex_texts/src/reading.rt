@@ -19,7 +19,7 @@ use apfloat_rounding::nans::{quiet_significand, signaling_significand};
 use apfloat_rounding::shape::Shape;
 use apfloat_rounding::unpacked::{Unpacked, infinity_of, nan_of};
 
-/// The infinity or the NaN, with the sign of its text.
+/// The infinity or the NaN with this sign.
 #[inline(always)]
 fn special_value(shape: Shape, negative: bool, special: Special) -> Unpacked
     ensures stored { IsStored shape result }
@@ -69,13 +69,12 @@ fn read_bytes(shape: Shape, text: &[u8], round: Round) -> Result<StatusAnd<Unpac
     }
 }
 
-/// Reads a text (IEEE 754-2008 5.12): returns the value of its only meaning, rounded once, or the words for the first
-/// fault from the left.
+/// Reads a text (IEEE 754-2008 5.12): returns its value, rounded once, or the message for its first fault from the
+/// left.
 ///
-/// The text is given by its bytes, since no character of more than one byte has a meaning.
+/// The text is given by its bytes: no character of more than one byte has a meaning.
 ///
-/// It is inlined into the call of each format, so that the constants of the format are known where its number is
-/// rounded.
+/// It is inlined into the call of each format, so that the constants of the format fold where the number is rounded.
 #[inline(always)]
 pub fn read(shape: Shape, text: &[u8], round: Round) -> Result<StatusAnd<Unpacked>, ParseError>
     ensures { MatchResult result (λ answer. IsTextRead shape round text.now answer)

@@ -1,4 +1,5 @@
-//! The significand of a hexadecimal text: its leading bits, and how the remaining digits compare with the last of them.
+//! The significand of a hexadecimal text: its leading bits, and how the remaining digits compare with half of the last
+//! one.
 
 ghost use Rattle.std.specs.Prelude.{◌≡◌, ℕ, ◌+◌, ◌*◌, ◌^◌, ◌<◌, ◌≤◌, true, false, ltb, length, filter, MatchResult, IsTrue};
 ghost use Rattle.apfloat_model.specs.rounding.Standing.{StandsFor};
@@ -13,18 +14,18 @@ use apfloat_model::Loss;
 use apfloat_model::parse_error::Fault;
 use apfloat_words::loss_of_rest;
 
-/// The leading bits of a whole number, and the loss when its `cut` last hexadecimal digits are cut off.
+/// The leading bits of an integer, with what was lost when its `cut` last hexadecimal digits were cut off.
 #[derive(Clone, Copy, Debug)]
 pub struct Digits {
-    /// The leading bits as a whole number: all of them if no digits are cut off, else at least 125.
+    /// The leading bits as an integer: all of them if no digits are cut off, else at least 125.
     pub significand: u128,
-    /// The digits that are cut off, as a part of the last kept bit.
+    /// The digits that were cut off, as a fraction of the last kept bit.
     pub loss: Loss,
-    /// How many hexadecimal digits are cut off.
+    /// How many hexadecimal digits were cut off.
     pub cut: usize,
 }
 
-/// The loss with one more digit cut off, after others were cut off.
+/// The loss after one more digit is cut off, if others were before.
 #[inline(always)]
 fn loss_after(loss: Loss, digit: u8) -> Loss
     requires { digit < 16 }
@@ -99,11 +100,11 @@ impl Digits {
 /// A significand read so far.
 #[derive(Clone, Copy, Debug)]
 pub struct Scan {
-    /// The digits read so far, as one whole number without the dot.
+    /// The digits read so far, as one integer without the dot.
     pub digits: Digits,
     /// How many of the digits follow the dot.
     pub places: usize,
-    /// Whether the dot was read.
+    /// Whether a dot was read.
     pub pointed: bool,
     /// Whether a digit was read.
     pub some: bool,
@@ -129,7 +130,7 @@ impl Scan {
         }
     }
 
-    /// The scan with one more digit.
+    /// The scan after one more digit.
     #[inline(always)]
     fn with_digit(self, byte: u8) -> Scan
         requires digit { IsTrue (is_hexadecimal byte) }
@@ -149,7 +150,7 @@ impl Scan {
         }
     }
 
-    /// The scan with the dot.
+    /// The scan after a dot.
     #[inline(always)]
     fn with_dot(self) -> Result<Scan, Fault>
         ensures { (rest left : List ℕ) → IsScan rest (46 ∷ left) self
@@ -168,9 +169,10 @@ impl Scan {
         })
     }
 
-    /// The scan with the digits at the start of the text, as long as none is cut off, and what follows them.
+    /// The scan after the digits at the start of the text, up to the first that would be cut off, and the text after
+    /// them.
     ///
-    /// Whether the dot was read stays the same, and nothing is lost, so that all counts stay in registers.
+    /// No dot is read and nothing is lost here, so all counters stay in registers.
     #[inline(always)]
     fn with_digits(self, text: &[u8]) -> (Scan, &[u8])
         requires { (rest : List ℕ) × (length rest ≤ usize.MAX) × IsScan rest text.now self }
@@ -189,7 +191,7 @@ impl Scan {
         (scan.remade(), left)
     }
 
-    /// The scan, rebuilt from its fields, which are copied in registers.
+    /// The scan, rebuilt from its fields, so that they are copied in registers.
     #[inline(always)]
     fn remade(self) -> Scan
         ensures { result ≡ self }
@@ -206,7 +208,7 @@ impl Scan {
         }
     }
 
-    /// The scan with one more character.
+    /// The scan after one more character.
     #[inline(always)]
     fn with(self, byte: u8) -> Result<Scan, Fault>
         requires passes { IsTrue (is_digit_or_dot byte) }
@@ -227,8 +229,8 @@ impl Scan {
 
 /// The significand at the start of the text after the prefix, and what follows it.
 ///
-/// Few texts have more than the digits before the dot and those after it, of which none is cut off: the loop reads what
-/// is left of the others.
+/// Most texts are only digits before and after the dot, none of which is cut off. The loop reads what is left of any
+/// other.
 #[inline(always)]
 pub fn scanned(rest: &[u8]) -> Result<(Scan, &[u8]), Fault>
     ensures { MatchResult result (λ answer. IsScanned rest.now answer.1.now answer.0)

@@ -19,14 +19,14 @@ pub enum Special {
     Signaling(u128),
 }
 
-/// Whether the text is that name.
+/// Whether the text is this name.
 fn is_named(body: &[u8], name: &[u8]) -> bool
     ensures { result ≡ same body.now name.now }
 {
     body == name
 }
 
-/// Whether the text is a name of infinity, given the sign in front of it.
+/// Whether the text is a name of infinity, given the sign before it.
 fn names_infinity(mark: Mark, body: &[u8]) -> bool
     ensures { result ≡ is_infinity mark body.now }
 {
@@ -50,7 +50,7 @@ fn payload_after_name(text: &[u8]) -> Option<u128>
     }
 }
 
-/// The NaN of a text without a plus.
+/// The NaN that a text without a plus sign names.
 fn nan(body: &[u8]) -> Option<Special>
     ensures { (negative : Bool) → meaning_at negative result
         ≡ (if begins is_s body.now then named_nan negative true (drop 1 body.now) else named_nan
@@ -62,7 +62,7 @@ fn nan(body: &[u8]) -> Option<Special>
     }
 }
 
-/// The infinity or the NaN of a text, from its sign and what follows the sign.
+/// The infinity or the NaN that a text names, from its sign and the rest of the text.
 #[cold]
 #[inline(never)]
 pub fn special_of(mark: Mark, body: &[u8]) -> Option<Special>

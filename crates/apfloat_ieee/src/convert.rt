@@ -13,7 +13,7 @@ impl<S: Flagged, T: Flagged> FloatConvert<IeeeFloat<T>> for IeeeFloat<S> {
     ghost converts = { λ x mode answer loses_info. IsConversion (format_of S.Flagged)
         (format_of T.Flagged) mode x answer.value (bits_of answer.status) loses_info };
 
-    /// A finite value whose number the format `T` has, with its sign, is converted unchanged, with OK and without loss.
+    /// A finite value that the format `T` has too, with its sign, is converted unchanged, with status OK and no loss.
     #[inline(always)]
     fn convert_r(self, round: Round, loses_info: &mut bool) -> StatusAnd<IeeeFloat<T>>
         ensures converted { IsConversion (format_of S.Flagged) (format_of T.Flagged) round

@@ -1,7 +1,7 @@
 //! The text of a value for debugging: `(CATEGORY | SIGNIFICAND * 2^EXPONENT)`.
 //!
-//! The significand is decimal, with the sign directly in front of it. For a nonzero number, it is a whole number below
-//! `2^PRECISION`, and the exponent is that of the integer bit, which is at least `MIN_EXP`.
+//! The significand is decimal, directly preceded by the sign. For a nonzero number, it is an integer below
+//! `2^PRECISION`, and the exponent is counted from the integer bit and at least `MIN_EXP`.
 
 ghost use Rattle.apfloat_rounding.specs.Stored.{IsStored, IsNormal};
 
@@ -19,7 +19,7 @@ struct Text {
     exponent: ExpInt,
 }
 
-/// What is shown of a number; a denormal one is shown without the zeros that follow its last digit.
+/// What is shown for a nonzero number; for a denormal one, the significand without the zeros after its last digit.
 fn number_text(shape: Shape, x: Unpacked) -> Text
     requires { IsNormal shape x }
 {
@@ -36,7 +36,7 @@ fn number_text(shape: Shape, x: Unpacked) -> Text
     }
 }
 
-/// The exponent of the integer bit with which NaNs are written, or the value shown in its place.
+/// The exponent shown for NaNs, counted from the integer bit.
 fn nan_exponent(shape: Shape) -> ExpInt {
     match shape.nonfinite {
         NonfiniteBehavior::IEEE754 => shape.max_exp + 1,
@@ -45,7 +45,7 @@ fn nan_exponent(shape: Shape) -> ExpInt {
     }
 }
 
-/// What is shown of a value.
+/// What is shown for a value.
 fn text_of(shape: Shape, x: Unpacked) -> Text
     requires { IsStored shape x }
 {

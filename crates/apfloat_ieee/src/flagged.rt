@@ -1,4 +1,4 @@
-//! Formats with the flags that their roundings raise.
+//! Formats together with their rule of flags.
 
 ghost use Rattle.std.specs.Prelude.{ℕ, ℤ, Bool, true, false};
 ghost use Rattle.apfloat_model.specs.declared.kinds.NonfiniteBehavior.{NonfiniteBehavior};
@@ -11,8 +11,9 @@ use std::marker::PhantomData;
 
 /// A binary format together with the rule by which a rounding raises OVERFLOW and UNDERFLOW.
 ///
-/// Each type that implements `Semantics` is one, with the rule of the built-in formats; `IeeeFlags<S>` is the format
-/// `S` with the rule of IEEE 754-2008. The other constants are those of `Semantics`. No value depends on the rule.
+/// Each type that implements `Semantics` implements this too, with the rule of the built-in formats; `IeeeFlags<S>` is
+/// the format `S` with the rule of IEEE 754-2008. The other constants are those of `Semantics`. No value depends on the
+/// rule.
 pub trait Flagged: Copy {
     /// `Semantics::BITS`.
     const BITS: usize;
@@ -53,10 +54,10 @@ pub trait Flagged: Copy {
     /// `Semantics::TINY_BEFORE_ROUNDING`.
     const TINY_BEFORE_ROUNDING: bool;
 
-    /// Whether flags are raised as IEEE 754-2008 asks: OVERFLOW wherever the result, rounded with an unbounded
-    /// exponent, is past the largest value (7.4), also in the modes that deliver the largest value there; and UNDERFLOW
-    /// if an inexact result is tiny when it is rounded with an unbounded exponent, or, with `TINY_BEFORE_ROUNDING`,
-    /// before it is rounded (7.5).
+    /// Whether flags are raised as IEEE 754-2008 asks: OVERFLOW whenever the result, rounded with an unbounded
+    /// exponent, is past the largest value (7.4), even in the modes that then deliver the largest value; and UNDERFLOW
+    /// if an inexact result, rounded with an unbounded exponent, is tiny, or, with `TINY_BEFORE_ROUNDING`, if the exact
+    /// result is (7.5).
     const IEEE_FLAGS: bool;
 
     ghost BITS: { ℕ };
@@ -154,8 +155,8 @@ impl<S: Semantics> Flagged for S {
     ghost lawful = { S.lawful };
 }
 
-/// The format `S` with the flags of IEEE 754-2008, tininess detected after rounding: those of x86 and RISC-V. With
-/// `TinyBefore`, `IeeeFlags<TinyBefore<S>>`, it is detected before rounding: those of Arm and POWER.
+/// The format `S` with the flags of IEEE 754-2008 and tininess detected after rounding, as on x86 and RISC-V.
+/// `IeeeFlags<TinyBefore<S>>` detects it before rounding, as on Arm and POWER.
 #[derive_where(Clone, Copy)]
 pub struct IeeeFlags<S: Semantics> {
     marker: PhantomData<S>,

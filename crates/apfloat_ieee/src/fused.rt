@@ -12,12 +12,14 @@ use apfloat_arithmetic::fused::multiply_add;
 use apfloat_base::{Round, StatusAnd};
 
 impl<S: Flagged> IeeeFloat<S> {
-    /// The product with `multiplicand` plus `addend`, rounded once (IEEE 754-2008 5.4.1, fusedMultiplyAdd).
+    /// `self * multiplicand + addend`, rounded once (IEEE 754-2008 5.4.1, fusedMultiplyAdd), in a format of at most
+    /// `FUSED_LIMIT` digits.
     ///
-    /// This holds too if the product is below the smallest denormal value, or cancels the addend. An exact zero has the
-    /// sign of a sum of the product and the addend (6.3). An infinity times a zero is invalid (7.2): the result is the
-    /// quiet NaN without a payload, with `INVALID_OP`, whatever the addend is. The same holds for the sum of an
-    /// infinite product and the opposite infinity. The first operand that is a NaN is returned quieted (6.2.3).
+    /// The product itself is never rounded, even if it is below the smallest denormal value or cancels the addend. An
+    /// exact zero has the sign that the sum of the product and the addend has (6.3). An infinity times a zero is
+    /// invalid (7.2): the result is the quiet NaN without a payload, with `INVALID_OP`, whatever the addend is. So is
+    /// the sum of an infinite product and the opposite infinity. The first operand that is a NaN is returned quieted
+    /// (6.2.3).
     #[inline(always)]
     pub fn mul_add_r(self, multiplicand: Self, addend: Self, round: Round) -> StatusAnd<Self>
         requires { S.PRECISION ≤ fused_limit }
@@ -32,7 +34,7 @@ impl<S: Flagged> IeeeFloat<S> {
         ))
     }
 
-    /// The product with `multiplicand` plus `addend`, rounded once to the nearest value, ties to even.
+    /// `self * multiplicand + addend`, rounded once to the nearest value, ties to even.
     #[inline]
     pub fn mul_add(self, multiplicand: Self, addend: Self) -> StatusAnd<Self>
         requires { S.PRECISION ≤ fused_limit }

@@ -23,7 +23,7 @@ use apfloat_rounding::shape::Shape;
 use apfloat_rounding::unpacked::Unpacked;
 use std::marker::{Model, PhantomData};
 
-/// A value of the format `S`.
+/// A value of the format `S`, with the rule of flags of `S`.
 #[derive_where(Clone, Copy)]
 pub struct IeeeFloat<S: Flagged> {
     unpacked: Unpacked,
@@ -137,12 +137,12 @@ impl<S: Flagged> IeeeFloat<S> {
     }
 }
 
-/// Delivers `significand * 2^exponent`, with `loss` below its last digit, rounded once to the format (IEEE 754-2008
-/// 4.3), with exactly the flags of that rounding.
+/// Delivers `significand * 2^exponent`, where `loss` says what was cut off below the last digit, rounded once to the
+/// format (IEEE 754-2008 4.3), with exactly the flags of that rounding.
 ///
-/// If something was lost below, the unit must be fine enough to divide the spacing of the format there: it is at most
-/// the quantum, or the significand has all digits of the format. Where tininess is judged with an unbounded exponent,
-/// it is at most half a quantum in place of the quantum.
+/// If something was lost, the unit of the last digit has to divide an ulp of the result: it is at most the quantum, or
+/// the significand has all the digits of the format. Where tininess is judged with an unbounded exponent, it is at most
+/// half a quantum instead of a quantum.
 #[inline]
 pub fn deliver<S: Flagged>(
     significand: u128,

@@ -2,7 +2,7 @@
 //!
 //! A format is a type that implements `Semantics`; `IeeeFloat<S>` is a value of the format `S`. The work is done by the
 //! functions of `apfloat_rounding`, `apfloat_arithmetic`, `apfloat_conversions` and `apfloat_hex_texts`, which take a
-//! `Shape`, the constants of a format that rounding reads; the generic functions only supply a type's constants.
+//! `Shape`, the constants of a format that rounding reads; the generic functions only supply the constants of a type.
 #![tactic(auto)]
 
 mod convert;

@@ -1,4 +1,4 @@
-//! The order of the values of one format, `==` and `<`, and when two values are the same.
+//! The order of the values of one format, `==` and `<`, and when two values are identical.
 
 ghost use Rattle.std.specs.Prelude.{◌≡◌};
 ghost use Rattle.apfloat_model.specs.order.Order.{compared};

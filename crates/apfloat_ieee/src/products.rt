@@ -16,7 +16,7 @@ use apfloat_arithmetic::quotients::divide;
 use apfloat_base::{Round, StatusAnd};
 use std::ops::{Div, DivAssign, Mul, MulAssign};
 
-/// The product of two values, rounded once; only a format of at most `PRODUCT_LIMIT` digits has it.
+/// The product of two values, rounded once, in a format of at most `PRODUCT_LIMIT` digits.
 #[inline(always)]
 pub(crate) fn product<S: Flagged>(
     x: IeeeFloat<S>,
@@ -76,7 +76,7 @@ impl<S: Flagged> MulAssign for IeeeFloat<S> {
     ghost mul_assign_gives = { λ x y z. (r : StatusAnd Self) ×
         Gives (IsProduct (format_of S.Flagged) NearestTiesToEven x y) r × (z ≡ r.value) };
 
-    /// The product by `*`; the status is dropped.
+    /// Assigns the product that `*` returns; the status is discarded.
     #[inline]
     fn mul_assign(&mut self, rhs: IeeeFloat<S>) {
         *self = product(*self, rhs, Round::NearestTiesToEven).value;
@@ -87,7 +87,7 @@ impl<S: Flagged> DivAssign for IeeeFloat<S> {
     ghost div_assign_gives = { λ x y z. (r : StatusAnd Self) ×
         Gives (IsQuotient (format_of S.Flagged) NearestTiesToEven x y) r × (z ≡ r.value) };
 
-    /// The quotient by `/`; the status is dropped.
+    /// Assigns the quotient that `/` returns; the status is discarded.
     #[inline]
     fn div_assign(&mut self, rhs: IeeeFloat<S>) {
         *self = quotient(*self, rhs, Round::NearestTiesToEven).value;

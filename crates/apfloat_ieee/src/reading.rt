@@ -28,7 +28,7 @@ pub(crate) fn read<S: Flagged>(
 }
 
 impl<S: Flagged> IeeeFloat<S> {
-    /// Reads a text of ASCII characters like `from_str_r`. Other bytes are refused, since none has a meaning.
+    /// Reads a text, given by its bytes, as `from_str_r` does. A byte above 127 is refused, since it has no meaning.
     #[inline]
     pub fn from_ascii_r(text: &[u8], round: Round) -> Result<StatusAnd<Self>, ParseError>
         ensures { IsRead (format_of S.Flagged) round text.now result }
@@ -44,7 +44,7 @@ impl<S: Flagged> FromStr for IeeeFloat<S> {
         × IsRead (format_of S.Flagged) NearestTiesToEven text answer
         × (r ≡ without_status answer) };
 
-    /// Reads a text like `from_str_r`, rounding to the nearest value, ties to even; the status is dropped.
+    /// Reads a text as `from_str_r` does, rounding to the nearest value, ties to even; the status is discarded.
     fn from_str(s: &str) -> Result<Self, ParseError> {
         match read::<S>(s.as_bytes(), Round::NearestTiesToEven) {
             Ok(answer) => Ok(answer.value),

@@ -13,7 +13,7 @@ use apfloat_arithmetic::remainders::{counted_remainder, truncated_remainder};
 use apfloat_base::StatusAnd;
 use std::ops::{Rem, RemAssign};
 
-/// The remainder by the quotient cut toward zero, which is exact.
+/// The remainder by the quotient truncated toward zero, which is exact.
 #[inline]
 pub(crate) fn truncated<S: Flagged>(x: IeeeFloat<S>, y: IeeeFloat<S>) -> StatusAnd<IeeeFloat<S>>
     ensures { Gives (IsTruncatedRemainder (format_of S.Flagged) x y) result }
@@ -22,11 +22,12 @@ pub(crate) fn truncated<S: Flagged>(x: IeeeFloat<S>, y: IeeeFloat<S>) -> StatusA
 }
 
 impl<S: Flagged> IeeeFloat<S> {
-    /// The remainder by `%`, and the count of subtractions that it took.
+    /// The remainder that `%` returns, and the number of subtractions that it takes to find it.
     ///
-    /// Each turn subtracts the greatest multiple of the divisor by a power of two (1 or more) that is not above the
-    /// rest. So the count is that of ones among the binary digits of the quotient cut toward zero, and at most
-    /// `ilogb(self) - ilogb(rhs) + 1` if it is not 0. If an operand is zero, infinite or a NaN, it is 0.
+    /// Each step subtracts the greatest multiple of the divisor by a power of two (1 or more) that is not above the
+    /// rest. So the number of steps is the number of ones among the binary digits of the quotient truncated toward
+    /// zero, and, unless it is 0, at most `ilogb(self) - ilogb(rhs) + 1`. If an operand is zero, infinite or a NaN, it
+    /// is 0.
     #[inline]
     pub fn c_fmod_steps(self, rhs: Self) -> (StatusAnd<Self>, u32)
         ensures answer { Gives (IsTruncatedRemainder (format_of S.Flagged) self rhs) result.0 }
@@ -45,7 +46,7 @@ impl<S: Flagged> Rem for IeeeFloat<S> {
 
     ghost rem_gives = { λ x y r. Gives (IsTruncatedRemainder (format_of S.Flagged) x y) r };
 
-    /// The remainder by the quotient cut toward zero, which is exact.
+    /// The remainder by the quotient truncated toward zero, which is exact.
     #[inline]
     fn rem(self, rhs: IeeeFloat<S>) -> StatusAnd<IeeeFloat<S>> {
         truncated(self, rhs)
@@ -56,7 +57,7 @@ impl<S: Flagged> RemAssign for IeeeFloat<S> {
     ghost rem_assign_gives = { λ x y z. (r : StatusAnd Self) ×
         Gives (IsTruncatedRemainder (format_of S.Flagged) x y) r × (z ≡ r.value) };
 
-    /// The remainder by `%`; the status is dropped.
+    /// Assigns the remainder that `%` returns; the status is discarded.
     #[inline]
     fn rem_assign(&mut self, rhs: IeeeFloat<S>) {
         *self = truncated(*self, rhs).value;

@@ -1,4 +1,4 @@
-//! What a format is.
+//! The constants that define a format.
 
 ghost use Rattle.std.specs.Prelude.{◌≡◌, ℕ, ℤ, ◌^◌, ◌<◌, Bool, false};
 ghost use Rattle.apfloat_model.specs.declared.kinds.NonfiniteBehavior.{NonfiniteBehavior};
@@ -10,38 +10,38 @@ use apfloat_base::{ExpInt, NonfiniteBehavior};
 
 /// A binary format.
 ///
-/// A format type gives each constant twice, for code and for contracts, and proves that together they are lawful; if
-/// they are literals, the proof is `lawful_from_test _ refl`.
+/// A format is a type that gives each constant twice, for code and for contracts, and proves that they are consistent
+/// (`lawful`); if they are literals, the proof is `lawful_from_test _ refl`.
 pub trait Semantics: Copy {
-    /// How many bits an encoding has, at most 128: the sign, the biased exponent, and the trailing significand of
+    /// The width of an encoding in bits, at most 128: the sign, the biased exponent, and the trailing significand of
     /// `PRECISION - 1` bits, or of `PRECISION` bits with an explicit integer bit. 0 in a format for computing only,
-    /// which has no bits.
+    /// whose values have no encoding.
     const BITS: usize;
 
-    /// How many of them are the biased exponent, at least 1; 0 in a format without bits.
+    /// The width of the biased exponent in bits, at least 1; 0 in a format without bits.
     const EXP_BITS: usize;
 
-    /// How many binary digits a significand has, from 3 to 125, including the integer bit, whether explicit or not.
+    /// The number of binary digits in a significand, 3 to 125, including the integer bit, whether explicit or not.
     const PRECISION: usize;
 
     /// Which non-finite values the format has.
     const NONFINITE_BEHAVIOR: NonfiniteBehavior;
 
-    /// The greatest exponent of a finite value, that of its integer bit, from `PRECISION` to 2^20.
+    /// The greatest exponent of a finite value, counted from its integer bit: `PRECISION` to 2^20.
     ///
     /// In a format with bits it is `IEEE_MAX_EXP + (MIN_EXP - IEEE_MIN_EXP)`, and 1 more for the kinds `NanOnly` and
     /// `NanNegativeZero`, which have numbers at the greatest biased exponent too.
     const MAX_EXP: ExpInt;
 
-    /// The greatest exponent in IEEE 754 for this count of exponent bits, `1 - IEEE_MIN_EXP`; 0 in a format without
+    /// The greatest exponent in IEEE 754 for this number of exponent bits, `1 - IEEE_MIN_EXP`; 0 in a format without
     /// bits.
     const IEEE_MAX_EXP: ExpInt;
 
-    /// The least exponent of a value that is not denormal, that of its integer bit, from -2^20 to -1. In a format with
-    /// bits it may differ from `IEEE_MIN_EXP`: all exponents are then shifted by the difference.
+    /// The least exponent of a normal value, counted from its integer bit: -2^20 to -1. In a format with bits it may
+    /// differ from `IEEE_MIN_EXP`: all exponents are then shifted by the difference.
     const MIN_EXP: ExpInt;
 
-    /// The least exponent in IEEE 754 for this count of exponent bits, `2 - 2^(EXP_BITS - 1)`; 0 in a format without
+    /// The least exponent in IEEE 754 for this number of exponent bits, `2 - 2^(EXP_BITS - 1)`; 0 in a format without
     /// bits.
     const IEEE_MIN_EXP: ExpInt;
 
@@ -55,11 +55,11 @@ pub trait Semantics: Copy {
     /// explicit integer bit; 0 otherwise.
     const QNAN_SIGNIFICAND: u128;
 
-    /// Whether the integer bit is explicit; only a format of the kind `IEEE754` that has bits may have it.
+    /// Whether encodings include the integer bit; only a format of the kind `IEEE754` with bits may.
     const EXPLICIT_INTEGER_BIT: bool;
 
-    /// Whether an inexact result is tiny, below 2 to the power of `MIN_EXP`, judged by its exact magnitude rather than
-    /// by the rounded one (IEEE 754-2008 7.5). Any format may choose either.
+    /// Whether tininess, a magnitude below 2 to the power of `MIN_EXP`, is detected before rounding rather than after
+    /// it (IEEE 754-2008 7.5). Any format may choose either.
     const TINY_BEFORE_ROUNDING: bool;
 
     ghost BITS: { ℕ };
@@ -104,7 +104,7 @@ pub trait Semantics: Copy {
     }
 
     /// The bits of the one canonical encoding of the value (IEEE 754-2008 3.4), in a format with bits, with `PRECISION`
-    /// below `BITS`. Read back, they give the value.
+    /// below `BITS`. `from_bits` of them returns the value.
     #[inline]
     final fn to_bits(x: IeeeFloat<Self>) -> u128
         requires { PRECISION < BITS }
@@ -120,9 +120,9 @@ pub trait Semantics: Copy {
         encode::<Self>(x)
     }
 
-    // The constants obey the rules above. If they are literals, the proof to write is `ghost lawful = {
-    // lawful_from_test _ refl };`, with `lawful_from_test` of `rustc_apfloat.proofs.LawTest` and `refl` of the standard
-    // `Prelude`; it fails if any of these rules is broken.
+    // The constants obey the rules above. If they are literals, the proof is `ghost lawful = { lawful_from_test _ refl
+    // };`, with `lawful_from_test` of `rustc_apfloat.proofs.LawTest` and `refl` of the standard `Prelude`; it fails if
+    // any of these rules is broken.
     ghost lawful: { IsLawful
         (constants_with BITS EXP_BITS PRECISION NONFINITE_BEHAVIOR MAX_EXP IEEE_MAX_EXP MIN_EXP
         IEEE_MIN_EXP NAN_SIGNIFICAND_BASE NAN_PAYLOAD_MASK QNAN_SIGNIFICAND EXPLICIT_INTEGER_BIT

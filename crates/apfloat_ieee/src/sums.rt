@@ -28,7 +28,7 @@ pub(crate) fn sum<S: Flagged>(
     IeeeFloat::answered(add(shape_of::<S>(), x.unpacked(), y.unpacked(), round))
 }
 
-/// The difference of two values, rounded once. That of positive numbers is exact if neither is more than twice the
+/// The difference of two values, rounded once. It is exact for positive numbers of which neither is more than twice the
 /// other.
 #[inline(always)]
 pub(crate) fn difference<S: Flagged>(
@@ -83,7 +83,7 @@ impl<S: Flagged> AddAssign for IeeeFloat<S> {
     ghost add_assign_gives = { λ x y z. (r : StatusAnd Self)
         × Gives (IsSum (format_of S.Flagged) NearestTiesToEven x y) r × (z ≡ r.value) };
 
-    /// The sum by `+`; the status is dropped.
+    /// Assigns the sum that `+` returns; the status is discarded.
     #[inline]
     fn add_assign(&mut self, rhs: IeeeFloat<S>) {
         *self = sum(*self, rhs, Round::NearestTiesToEven).value;
@@ -94,7 +94,7 @@ impl<S: Flagged> SubAssign for IeeeFloat<S> {
     ghost sub_assign_gives = { λ x y z. (r : StatusAnd Self)
         × Gives (IsDifference (format_of S.Flagged) NearestTiesToEven x y) r × (z ≡ r.value) };
 
-    /// The difference by `-`; the status is dropped.
+    /// Assigns the difference that `-` returns; the status is discarded.
     #[inline]
     fn sub_assign(&mut self, rhs: IeeeFloat<S>) {
         *self = difference(*self, rhs, Round::NearestTiesToEven).value;

@@ -14,9 +14,9 @@ use apfloat_arithmetic::wide_products::multiply_long;
 use apfloat_base::{FUSED_LIMIT, PRODUCT_LIMIT, Round, StatusAnd};
 
 impl<S: Flagged> IeeeFloat<S> {
-    /// The product with `rhs`, rounded once (IEEE 754-2008 5.4.1, multiplication), in a format of any precision.
+    /// `self * rhs`, rounded once (IEEE 754-2008 5.4.1, multiplication), in a format of any precision.
     ///
-    /// It is the product that `mul_r` returns, which only formats of at most `PRODUCT_LIMIT` digits have.
+    /// The result is that of `mul_r`, which only formats of at most `PRODUCT_LIMIT` digits have.
     #[inline(always)]
     pub fn wide_mul_r(self, rhs: Self, round: Round) -> StatusAnd<Self>
         ensures { Gives (IsProduct (format_of S.Flagged) round self rhs) result }
@@ -27,7 +27,7 @@ impl<S: Flagged> IeeeFloat<S> {
         IeeeFloat::answered(multiply_long(shape_of::<S>(), self.unpacked(), rhs.unpacked(), round))
     }
 
-    /// The product with `rhs`, rounded once to the nearest value, ties to even, in a format of any precision.
+    /// `self * rhs`, rounded once to the nearest value, ties to even, in a format of any precision.
     #[inline]
     pub fn wide_mul(self, rhs: Self) -> StatusAnd<Self>
         ensures { Gives (IsProduct (format_of S.Flagged) NearestTiesToEven self rhs) result }
@@ -35,10 +35,10 @@ impl<S: Flagged> IeeeFloat<S> {
         self.wide_mul_r(rhs, Round::NearestTiesToEven)
     }
 
-    /// The product with `multiplicand` plus `addend`, rounded once (IEEE 754-2008 5.4.1, fusedMultiplyAdd), in a format
-    /// of any precision.
+    /// `self * multiplicand + addend`, rounded once (IEEE 754-2008 5.4.1, fusedMultiplyAdd), in a format of any
+    /// precision.
     ///
-    /// It is the fused sum that `mul_add_r` returns, which only formats of at most `FUSED_LIMIT` digits have.
+    /// The result is that of `mul_add_r`, which only formats of at most `FUSED_LIMIT` digits have.
     #[inline(always)]
     pub fn wide_mul_add_r(self, multiplicand: Self, addend: Self, round: Round) -> StatusAnd<Self>
         ensures { Gives (IsFusedSum (format_of S.Flagged) round self multiplicand addend) result }
@@ -55,8 +55,7 @@ impl<S: Flagged> IeeeFloat<S> {
         ))
     }
 
-    /// The product with `multiplicand` plus `addend`, rounded once to the nearest value, ties to even, in a format of
-    /// any precision.
+    /// `self * multiplicand + addend`, rounded once to the nearest value, ties to even, in a format of any precision.
     #[inline]
     pub fn wide_mul_add(self, multiplicand: Self, addend: Self) -> StatusAnd<Self>
         ensures { Gives (IsFusedSum (format_of S.Flagged) NearestTiesToEven self multiplicand

@@ -32,11 +32,11 @@ use Rattle.apfloat_model.proofs.rounding.Laws.{delivered_exists}
 abbrev pub HasAnswer : (Datum → ℕ → Type 0) → Type 0
 HasAnswer Says = (value : Datum) × ((status : ℕ) × Says value status)
 
--- a given datum and status are a result
+-- a result given outright exists: it is the given datum and status
 answer_exists : (datum : Datum) (t : ℕ) → HasAnswer (IsAnswer datum t)
 answer_exists d t = (d, (t, record { value_is = refl; status_is = refl }))
 
--- of two relations chosen by whether n is 0, the second needs a result only if it is not
+-- if the choice between two relations depends on whether n is 0, the second needs a result only for n above 0
 match_zero : (n : ℕ) (P Q : Datum → ℕ → Type 0) → HasAnswer P → (0 < n → HasAnswer Q)
     → HasAnswer (λ v s. MatchBool (eqb n 0) (P v s) (Q v s))
 match_zero n P Q p q =

@@ -94,9 +94,9 @@ exact_inverse_once format (nan b s) (Some v) w h k = absurd h
 exact_inverse_once format (nan b s) None (Some w) h k = absurd k
 exact_inverse_once format (nan b s) None None h k = refl
 
--- ---- whole numbers out
+-- ---- integers out
 
--- the natural number that a datum is converted to is determined, with its flags and its exactness
+-- the unsigned integer that a datum is converted to is determined, with its flags and its exactness
 pub to_unsigned_once : (format : Format) (mode : Round) (width : ℕ) (x : Datum)
     → DeterminesBoth (λ (answer : StatusAnd ℕ) (exact : Bool).
     IsToUnsigned format mode width x answer.value (bits_of answer.status) exact)
@@ -105,7 +105,7 @@ to_unsigned_once format mode width x r s a b h k =
     let e = whole_once whole (pos r.value) (pos s.value) (bits_of r.status) (bits_of s.status) a b h k in
     (same_answer r s (ap unsigned_abs e.0) e.1, e.2)
 
--- and so is an integer
+-- the signed integer that a datum is converted to is determined, with its flags and its exactness
 pub to_signed_once : (format : Format) (mode : Round) (width : ℕ) (x : Datum)
     → DeterminesBoth (λ (answer : StatusAnd ℤ) (exact : Bool).
     IsToSigned format mode width x answer.value (bits_of answer.status) exact)
@@ -128,12 +128,12 @@ reading_once format mode text v w r s h k =
     meant_once format mode h.meaning v w r s h.is_meant
     (subst (λ (m : Meaning). IsMeant format mode m w s) e k.is_meant)
 
--- a refusal has the words of the first fault
+-- the words of a refusal are determined: those of the first fault
 pub refusal_once : (text : List ℕ) → Determines (IsRefusal text)
 refusal_once text r s h k =
     h.says ∙ ap (λ (o : Option Fault). words (unwrap_or o h.fault)) (sym h.is_first ∙ k.is_first) ∙ sym k.says
 
--- a text is read or refused, not both
+-- a text is not both read and refused
 pub reading_or_refusal : (format : Format) (mode : Round) (text said : List ℕ) (value : Datum) (status : ℕ)
     → IsReading format mode text value status → IsRefusal text said → ⊥
 reading_or_refusal format mode text said v s h k =

@@ -33,7 +33,7 @@ Once {A} R = (v w : A) (r s : ℕ) → R v r → R w s → (v ≡ w) × (r ≡ s
 pub answer_once : (datum : Datum) (t : ℕ) → Once (IsAnswer datum t)
 answer_once d t v w r s x y = (x.value_is ∙ sym y.value_is, x.status_is ∙ sym y.status_is)
 
--- sums, like the operations below, have at most one value and one status
+-- each of the following operations has at most one value and one status
 pub sum_once : (format : Format) (mode : Round) (x y : Datum) → Once (IsSum format mode x y)
 sum_once format mode (nan b s) y = answer_once _ _
 sum_once format mode (finite b m) (nan c t) = answer_once _ _
@@ -168,7 +168,7 @@ round_to_integral_once format mode (nan b s) = answer_once _ _
 round_to_integral_once format mode (infinite b) = answer_once _ _
 round_to_integral_once format mode (finite b n) = answer_once _ _
 
--- a conversion to a whole number has one number and one status, and is either exact or not
+-- a conversion to an integer determines the number, the status and whether it is exact
 pub whole_once : (whole : Whole) (m n : ℤ) (r s : ℕ) (exact other : Bool) → IsWhole whole m r exact
     → IsWhole whole n s other → (m ≡ n) × (r ≡ s) × (exact ≡ other)
 whole_once whole m n r s a b x y =
@@ -186,7 +186,7 @@ remainder_once format quotient (finite b m) (finite c n) =
 
 -- ---- conversions
 
--- the relation holds of at most one value, one status, and one claim of whether something is lost
+-- the relation determines the value, the status, and whether information is lost
 abbrev pub OnceWith : (Datum → ℕ → Bool → Type 0) → Type 0
 OnceWith R = (v w : Datum) (r s : ℕ) (a b : Bool) → R v r a → R w s b → (v ≡ w) × (r ≡ s) × (a ≡ b)
 
@@ -221,7 +221,7 @@ next_less_once format quanta v w r s x y =
           sym y.is.status_is,
     )
 
--- and at most one of greater magnitude
+-- a number has at most one neighbour of greater magnitude
 next_greater_once : (format : Format) (quanta : ℕ) → Once (IsNextGreater format quanta)
 next_greater_once format quanta v w r s x y =
     let e : x.next ≡ y.next = above_unique format.precision x.next y.next (quanta + 1) 1 x.is_above y.is_above in
@@ -234,7 +234,7 @@ next_of_number_once format false quanta =
     match_case Once (eqb quanta (largest format)) (IsAnswer _ _) (IsNextGreater format quanta) (answer_once _ _)
     (next_greater_once format quanta)
 
--- so does each datum
+-- each datum has at most one neighbour above
 pub next_up_once : (format : Format) (x : Datum) → Once (IsNextUp format x)
 next_up_once format (nan b s) =
     match_case Once (is_signaling format s) (IsAnswer _ _) (IsAnswer _ _) (answer_once _ _) (answer_once _ _)
@@ -243,7 +243,7 @@ next_up_once format (finite b n) =
     match_case Once (eqb n 0) (IsAnswer _ _) (IsNextOfNumber format b n) (answer_once _ _)
     (next_of_number_once format b n)
 
--- and at most one neighbour below
+-- each datum has at most one neighbour below
 pub next_down_once : (format : Format) (x : Datum) → Once (IsNextDown format x)
 next_down_once format x v w r s h k =
     let e = next_up_once format (negated format.nonfinite x) h.up_of_negated k.up_of_negated r s h.is_next_up

@@ -1,4 +1,4 @@
-//! The small types used in the calls: categories, rounding modes, kinds of non-finite behaviour, exponents.
+//! Small types in the signatures of calls: categories, rounding modes, kinds of non-finite behaviour, exponents.
 
 ghost use Rattle.std.specs.Prelude.{◌≡◌};
 ghost use Rattle.apfloat_model.specs.rounding.Negation.{swapped};
@@ -63,20 +63,20 @@ pub enum NonfiniteBehavior {
     NanNegativeZero,
 }
 
-/// An exponent of two.
+/// A binary exponent.
 pub type ExpInt = i32;
 
-/// The greatest precision of a format that has products: the digits of both factors fit 128 bits.
+/// The greatest precision of a format that has `mul_r`: the exact product fits in 128 bits.
 pub const PRODUCT_LIMIT: usize = 64;
 
-/// The greatest precision of a format that has fused sums: a sum with a product fits 128 bits.
+/// The greatest precision of a format that has `mul_add_r`: a sum with the exact product fits in 128 bits.
 pub const FUSED_LIMIT: usize = 63;
 
-/// The exponent that is returned for an infinity.
+/// The exponent that `ilogb` and `frexp` return for an infinity.
 pub const IEK_INF: ExpInt = ExpInt::MAX;
 
-/// The exponent that is returned for a NaN.
+/// The exponent that `ilogb` and `frexp` return for a NaN.
 pub const IEK_NAN: ExpInt = ExpInt::MIN;
 
-/// The exponent that is returned for a zero.
+/// The exponent that `ilogb` returns for a zero.
 pub const IEK_ZERO: ExpInt = ExpInt::MIN + 1;

@@ -1,5 +1,5 @@
-//! The model: what each operation returns, by definitions in `specs/` and theorems on them in `proofs/`, and the small
-//! types that they speak of: rounding modes, categories, statuses, the faults of a text.
+//! The model: what each operation returns, as definitions in `specs/` and theorems about them in `proofs/`, and the
+//! small types that they mention: rounding modes, categories, statuses, the faults of a text.
 //!
 //! `docs/MODEL.md` at the root of the repository explains it in prose.
 #![tactic(auto)]

@@ -1,4 +1,4 @@
-//! What is lost when digits are cut off: where a magnitude is between two neighbouring grid points.
+//! What is lost when digits are cut off: the position of a magnitude between two neighbouring grid points.
 //!
 //! ```text
 //!   significand             significand + 1/2             significand + 1
@@ -8,15 +8,16 @@
 //!
 //! A magnitude at the upper point has the next significand, with nothing lost.
 
-/// What was cut off, as a part of one unit of the lowest kept digit.
+/// What was cut off, compared with one unit of the last kept digit. It holds the same information as a guard bit and a
+/// sticky bit.
 #[derive(Clone, Copy, PartialEq, Eq, Debug)]
 pub enum Loss {
     /// Nothing.
     ExactlyZero,
-    /// More than nothing, less than half of it.
+    /// More than nothing, less than half a unit.
     LessThanHalf,
-    /// Exactly half of it.
+    /// Exactly half a unit.
     ExactlyHalf,
-    /// More than half of it, less than all of it.
+    /// More than half a unit, less than a whole one.
     MoreThanHalf,
 }

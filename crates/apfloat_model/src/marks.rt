@@ -42,7 +42,7 @@ impl Radix {
     ghost use Rattle.std.specs.Prelude.{◌≡◌};
     ghost use Rattle.apfloat_model.specs.texts.Specials.{base_of};
 
-    /// The base as a whole number.
+    /// The base as an integer.
     #[inline(always)]
     pub fn base(self) -> u128
         ensures { result ≡ base_of self }

@@ -1,6 +1,6 @@
-//! Why a text is refused.
+//! The faults of texts.
 
-/// The refusal of a text, by its first fault from the left.
+/// The error for a refused text: the message for its first fault from the left.
 #[derive(Clone, Copy, PartialEq, Eq, Debug)]
 pub struct ParseError(pub &'static str);
 
@@ -33,7 +33,7 @@ impl Fault {
     ghost use Rattle.std.specs.Prelude.{◌≡◌};
     ghost use Rattle.apfloat_model.specs.texts.Faults.{words};
 
-    /// The refusal for this fault.
+    /// The error with the message for this fault.
     pub fn refusal(self) -> ParseError
         ensures { result.0.now ≡ words self }
     {

@@ -1,4 +1,4 @@
-//! Statuses, which are sets of flags, and values with a status.
+//! Statuses, which are sets of flags, and results with a status.
 
 ghost use Rattle.std.specs.Prelude.{⊤, ◌≡◌, [], ◌∷◌, codes};
 ghost use Rattle.apfloat_model.specs.rounding.Rounding.{ok_bits};
@@ -66,7 +66,7 @@ impl Status {
     }
 }
 
-/// A value with the status of the operation that made it. The order compares the status first.
+/// A result with the status of the operation that returned it. The order compares the status first.
 #[derive(Clone, Copy, PartialEq, Eq, PartialOrd, Ord, Debug)]
 pub struct StatusAnd<T> {
     /// The flags that the operation raised.
@@ -89,7 +89,7 @@ impl<T> StatusAnd<T> {
         }
     }
 
-    /// The value of an operation that raised no flag.
+    /// The value. The status must be `OK`.
     #[inline]
     pub fn unwrap(self) -> T
         requires { bits_of self.status ≡ ok_bits }

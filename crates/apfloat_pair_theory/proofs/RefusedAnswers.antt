@@ -23,7 +23,7 @@ dropped_error law =
     (record { first = lit≤ tt; second = lit≤ tt }) in
     false≢true (sym (ap (λ (n : ℤ). eqb (magnitude n) (2 ^ 1074)) e.number_is))
 
--- the operands are normalised
+-- the operands are normalized
 one_normalised : IsNormalised one
 one_normalised = record {
   finite_high = refl;
@@ -69,14 +69,14 @@ sum_is_double : IsSum double NearestTiesToEven (finite false (2 ^ 1074)) (finite
     (finite false (2 ^ 1074 + 2 ^ 1022)) ok_bits
 sum_is_double = rounded (2 ^ 52 + 1) 1022 refl refl refl
 
--- so they are not a normalised pair
+-- the parts before the closing step are not a normalized pair
 not_normalised : IsNormalised before_closing → ⊥
 not_normalised n =
     let only = sum_once double NearestTiesToEven (finite false (2 ^ 1074)) (finite false (2 ^ 1022)) n.nearest
     (finite false (2 ^ 1074 + 2 ^ 1022)) n.status ok_bits n.is_nearest sum_is_double in
     false≢true (subst (λ (d : Datum). is_equal (finite false (2 ^ 1074)) d ≡ true) only.0 n.same_number)
 
--- nor an accurate sum of 1 + 2 ^ -53 and 2 ^ -53
+-- the parts before the closing step are not an accurate sum of 1 + 2 ^ -53 and 2 ^ -53
 pub skipped_closing_step : IsAccurateSum one_and_half_unit half_unit before_closing → ⊥
 skipped_closing_step law =
     let a = law one_and_half_unit_normalised half_unit_normalised (record { first = lit≤ tt; second = lit≤ tt }) in

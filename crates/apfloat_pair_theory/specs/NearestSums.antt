@@ -1,5 +1,6 @@
--- The double that is the sum of two data, rounded to nearest, ties to even, as a function: the result that is proved to
--- exist. `nearest_sum_is` says that it satisfies the relation; proofs/parts/DenormalPairs.antt, that nothing else does.
+-- The sum of two data as doubles, rounded to nearest, ties to even, as a function: the result that is proved to exist.
+-- `nearest_sum_is` says that it satisfies the relation; `proofs/parts/DenormalPairs.antt` proves that nothing else
+-- does.
 use Rattle.std.specs.Prelude.{ℕ}
 use Rattle.std.proofs.Common.{lit<}
 use Rattle.apfloat_model.specs.declared.kinds.Round.TheVariants.{NearestTiesToEven}

@@ -1,7 +1,7 @@
--- What is known of sums, differences and products of pairs, rounded to nearest, as long as they stay within the format;
--- and of splits, and so of quotients and remainders, whenever the high part is finite.
--- The number of a pair is a whole number of quanta of 2 ^ -1074. So the product of two counts of quanta is the exact
--- product in parts of a quantum, 2 ^ 1074 of which make a quantum.
+-- The accuracy of sums, differences and products of pairs, rounded to nearest, within given ranges; and of splits, and
+-- so of quotients and remainders, whenever the high part is finite. The number of a pair is an integral number of
+-- quanta of 2 ^ -1074. So the product of two counts of quanta is the exact product in parts of a quantum, of which a
+-- quantum has 2 ^ 1074.
 use Rattle.std.specs.Prelude.{◌≡◌, ◌⊎◌, ℕ, ◌+◌, ◌*◌, ◌^◌, ◌≤◌, ℤ, pos, neg_ℤ, ◌+ℤ◌, ◌-ℤ◌, ◌*ℤ◌, ◌≤ℤ◌, true}
 use Rattle.apfloat_model.specs.formats.Format.{largest}
 use Rattle.apfloat_model.specs.formats.Datum.{Datum}
@@ -52,7 +52,7 @@ pub record IsExactPair (exact : ℤ) (parts : ℕ) (answer : Pair) : Type 0 wher
   pub normalised : IsNormalised answer
   pub number_is : (pair_number answer *ℤ pos parts) ≡ exact
 
--- The result is normalised, and differs from exact / parts quanta by at most 2 ^ -digits of size / parts quanta.
+-- The result is normalized, and differs from exact / parts quanta by at most 2 ^ -digits of size / parts quanta.
 pub record IsClosePair (exact : ℤ) (parts digits size : ℕ) (answer : Pair) : Type 0 where
   pub normalised : IsNormalised answer
   pub error : magnitude ((pair_number answer *ℤ pos parts) -ℤ exact) * 2 ^ digits ≤ size
@@ -67,7 +67,7 @@ abbrev pub IsErrorFreeSum : Pair → Pair → Pair → Type 0
 IsErrorFreeSum x y answer =
     IsSingle x → IsSingle y → AreWithinReach x y → IsExactPair (pair_number x +ℤ pair_number y) 1 answer
 
--- for normalised pairs, the error is small relative to the sum of both magnitudes
+-- for normalized pairs, the error is small relative to the sum of both magnitudes
 abbrev pub IsAccurateSum : Pair → Pair → Pair → Type 0
 IsAccurateSum x y answer =
     IsNormalised x → IsNormalised y → AreWithinReach x y
@@ -92,7 +92,7 @@ IsErrorFreeProduct x y answer =
     IsSingle x → IsSingle y → HaveExponents x y (neg_ℤ (pos 970)) (pos 1021)
     → IsExactPair (pair_number x *ℤ pair_number y) (2 ^ double.scale) answer
 
--- for normalised pairs, the error is small relative to the exact product
+-- for normalized pairs, the error is small relative to the exact product
 abbrev pub IsAccurateProduct : Pair → Pair → Pair → Type 0
 IsAccurateProduct x y answer =
     IsNormalised x → IsNormalised y → HaveExponents x y (neg_ℤ (pos 900)) (pos 1021)
@@ -104,8 +104,8 @@ IsAccurateProduct x y answer =
 abbrev pub IsOkOrInexact : ℕ → Type 0
 IsOkOrInexact status = (status ≡ ok_bits) ⊎ (status ≡ inexact_bit)
 
--- OK does not say that the result is exact: if the low parts cancel what the sum of the high parts lost, no flag is
--- kept
+-- a status of OK does not mean that the result is exact: if the low parts cancel the error of the sum of the high
+-- parts, no flag is raised
 abbrev pub HasPlainStatus : Pair → Pair → ℕ → Type 0
 HasPlainStatus x y status = IsNormalised x → IsNormalised y → AreWithinReach x y → IsOkOrInexact status
 
@@ -115,7 +115,7 @@ HasPlainStatus x y status = IsNormalised x → IsNormalised y → AreWithinReach
 abbrev pub IsExactSplit : Datum → Pair → Type 0
 IsExactSplit x answer = is_finite answer.high ≡ true → pair_number answer ≡ number x
 
--- for a wide number within the largest double, nothing is lost, and what is left over is a double
+-- for a wide number within the largest double, nothing is lost, and the rest is a double
 abbrev pub IsLosslessSplit : Datum → Pair → Type 0
 IsLosslessSplit x answer =
     IsMember wide x → is_finite_non_zero x ≡ true → quanta_of x ≤ largest double

@@ -1,6 +1,6 @@
 -- Operations on pairs of doubles that join a pair into the wide format, operate there, and split the result; the status
--- is that of the wide operation. Signed whole numbers are converted by way of unsigned ones, and the next value down by
--- way of the next value up of the negation.
+-- is that of the wide operation. Signed integers are converted from unsigned ones, and the next value down is the
+-- negation of the next value up of the negation.
 use Rattle.std.specs.Prelude.{◌≡◌, ⊤, ℕ, ◌-◌, ℤ, pos, Bool, Option, Some, None, Result, Ok, Err, List, unsigned_abs, int_lt}
 use Rattle.std.specs.Bool.{MatchBool}
 use Rattle.apfloat_model.specs.declared.kinds.Round.{Round}
@@ -69,7 +69,7 @@ abbrev pub IsPairRead : Round → List ℕ → Result (StatusAnd Pair) ParseErro
 IsPairRead mode text (Ok answer) = Gives (IsPairReading mode text) answer
 IsPairRead mode text (Err error) = IsRefusal text error.0.now
 
--- ---- from whole numbers
+-- ---- from integers
 
 abbrev pub IsPairFromUnsigned : Round → ℕ → Pair → ℕ → Type 0
 IsPairFromUnsigned mode number answer status = IsSplitAnswer (IsFromUnsigned wide mode number) answer status
@@ -85,7 +85,7 @@ IsPairFromSigned mode number answer status =
     MatchBool (int_lt number (pos 0)) (IsPairFromNegative mode (unsigned_abs number) answer status)
     (IsPairFromUnsigned mode (unsigned_abs number) answer status)
 
--- ---- to whole numbers
+-- ---- to integers
 
 pub record IsPairToUnsigned (mode : Round) (width : ℕ) (x : Pair) (number status : ℕ) (is_exact : Bool) : Type 0 where
   pub joined : Datum

@@ -37,11 +37,11 @@ pair_qnan payload = alone (qnan double payload)
 abbrev pub pair_snan : ℕ → Pair
 pair_snan payload = alone (snan double payload)
 
--- the largest double, plus just below half a unit in its last place
+-- the largest double, plus the double just below half an ulp of it
 abbrev pub pair_largest : Pair
 pair_largest = pair_of 0x7c8ffffffffffffe7fefffffffffffff
 
--- 2 ^ -969, so that a low part keeps all its digits
+-- 2 ^ -969: from here up, a low part can have all its digits
 abbrev pub pair_smallest_normalized : Pair
 pair_smallest_normalized = pair_of 0x0360000000000000
 
@@ -76,8 +76,8 @@ abbrev pub are_opposite : Pair → Bool
 are_opposite x = not (same_sign (is_negative x.high) (is_negative x.low))
 
 -- The order of the magnitudes of two pairs whose high parts have equal magnitudes, given the order of the magnitudes of
--- the low parts. A pair with opposite signs is below one whose signs agree; of two pairs with opposite signs, the one
--- with the greater low part is the lesser.
+-- the low parts. A pair whose parts have opposite signs is below one whose signs agree; of two pairs whose parts have
+-- opposite signs, the one with the greater low magnitude is the lesser.
 abbrev pub compared_low_magnitudes : Ordering → Bool → Bool → Ordering
 compared_low_magnitudes Equal opposite other_opposite = Equal
 compared_low_magnitudes Less true true = Greater
@@ -113,7 +113,7 @@ pub record IsDenormalByParts (x : Pair) (answer : Bool) : Type 0 where
 abbrev pub IsDenormalPair : Pair → Bool → Type 0
 IsDenormalPair x answer = MatchBool (is_finite_non_zero x.high) (IsDenormalByParts x answer) (answer ≡ false)
 
--- the same as a function
+-- whether a pair is denormal, as a function
 abbrev pub is_denormal_pair : Pair → Bool
 is_denormal_pair x =
     is_finite_non_zero x.high && (is_denormal double x.high || not (is_equal x.high (nearest_sum x.high x.low)))

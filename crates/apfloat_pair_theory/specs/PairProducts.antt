@@ -51,7 +51,7 @@ pub record IsProductOfNumbers (mode : Round) (x y : Pair) (answer : Pair) (statu
       (IsNumberProduct mode x y t t_flags answer status)
       (IsPairAnswer (alone t) t_flags answer status)
 
--- The first row that matches. A zero or an infinity keeps its sign.
+-- The first row that matches. A zero or an infinity is returned unchanged, with its own sign.
 abbrev pub IsProductOfCategories : Category → Category → Round → Pair → Pair → Pair → ℕ → Type 0
 IsProductOfCategories NaN k mode x y answer status = IsPairAnswer x ok_bits answer status
 IsProductOfCategories k NaN mode x y answer status = IsPairAnswer y ok_bits answer status

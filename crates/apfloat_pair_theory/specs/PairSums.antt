@@ -16,7 +16,7 @@ use Rattle.apfloat_pair_theory.specs.Pairs.{Pair, IsPairAnswer, alone, positive_
 use Rattle.apfloat_model.specs.declared.kinds.Category.{Category}
 use Rattle.apfloat_model.specs.declared.kinds.Category.TheVariants.{Zero, Normal, Infinity, NaN}
 
--- the flags of both
+-- the union of two sets of flags
 infixl 70 ◌∪◌
 abbrev pub ◌∪◌ : ℕ → ℕ → ℕ
 s ∪ t = bit_or s t
@@ -62,7 +62,7 @@ pub record IsLost (mode : Round) (a aa c cc z zz : Datum) (flags : ℕ) : Type 0
   pub is_lost_of_c : IsSum double mode q c lost_of_c lost_of_c_flags
   pub is_z_again : IsSum double mode q z z_again z_again_flags
   pub is_gained : IsDifference double mode z_again a gained gained_flags
-  -- what c lost minus what a gained, + aa, + cc
+  -- the error (what c lost minus what a gained), + aa, + cc
   pub is_lost : IsSum double mode lost_of_c (negated IEEE754 gained) lost lost_flags
   pub is_with_aa : IsSum double mode lost aa with_aa with_aa_flags
   pub is_zz : IsSum double mode with_aa cc zz zz_flags

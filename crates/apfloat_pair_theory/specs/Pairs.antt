@@ -28,7 +28,7 @@ positive_zero = finite false 0
 abbrev pub alone : Datum → Pair
 alone high = record { high = high; low = positive_zero }
 
--- in quanta of a double, for a pair with finite parts
+-- the number of a pair with finite parts, in quanta of a double
 abbrev pub pair_number : Pair → ℤ
 pair_number x = number x.high +ℤ number x.low
 
@@ -85,11 +85,11 @@ pub record IsSumOfParts (x : Pair) (value : Datum) : Type 0 where
   pub low_is : IsWidened x.low low
   pub is_sum : IsSum wide NearestTiesToEven high low value status
 
--- a high part that is zero, infinite or a NaN is taken alone
+-- if the high part is zero, infinite or a NaN, the low part is ignored
 abbrev pub IsJoined : Pair → Datum → Type 0
 IsJoined x value = MatchBool (is_finite_non_zero x.high) (IsSumOfParts x value) (IsWidened x.high value)
 
--- ---- a wide datum as a pair: the high part is the nearest double, and the low part is what is left
+-- ---- a wide datum as a pair: the high part is the nearest double, and the low part is the rest
 
 abbrev pub left_over : Datum → Datum → Datum
 left_over (finite b m) (finite c n) =

@@ -3,7 +3,7 @@
 //! `specs/` defines what each operation on pairs returns: sums and products as chains of steps on doubles, other
 //! operations by the parts or in a wide format of 106 binary digits. The functions here do nothing: their clauses are
 //! theorems about those definitions, within the ranges given in `specs/PairAccuracy.antt`. Rounded to nearest, the sum
-//! and the product of two doubles are exact; those of two normalised pairs are normalised, and the error is at most 2 ^
+//! and the product of two doubles are exact; those of two normalized pairs are normalized, and the error is at most 2 ^
 //! -103 of the sum of both magnitudes and 2 ^ -102 of the exact product. A split loses nothing if its high part is
 //! finite. Each operation named below has exactly one result.
 #![tactic(auto)]
@@ -55,8 +55,8 @@ pub fn product_laws()
         → IsPairProduct NearestTiesToEven x y answer status → IsAccurateProduct x y answer }
 {}
 
-/// Results that the laws on sums and products rule out: a sum without the error of the high parts, a sum without the
-/// closing step, and a product without the product of the left low part and the right high part.
+/// The laws on sums and products rule out the results of chains with a step left out: a sum without the error of the
+/// high parts, a sum without the closing step, and a product without the left low part times the right high part.
 pub fn wrong_answers_are_refused()
     ensures dropped_error { IsErrorFreeSum one least one → ⊥ }
     ensures skipped_closing_step { IsAccurateSum one_and_half_unit half_unit before_closing → ⊥ }
@@ -87,24 +87,24 @@ pub fn bits_laws()
     ensures once { (x : Pair) (a b : ℕ) → IsPairEncodedBy a x → IsPairEncodedBy b x → a ≡ b }
 {}
 
-/// The negation of a pair's negation is the pair.
+/// A pair negated twice is the pair itself.
 pub fn negation_law()
     ensures { (x : Pair) → negated_pair (negated_pair x) ≡ x }
 {}
 
-/// The function that says whether a pair is denormal agrees with the steps on doubles.
+/// The function that decides whether a pair is denormal agrees with the steps on doubles.
 pub fn denormal_law()
     ensures { (x : Pair) → IsDenormalPair x (is_denormal_pair x) }
 {}
 
-/// Sums, differences and products, each a chain of steps, have exactly one result in each mode.
+/// Each sum, difference and product, a chain of steps, has exactly one result in each mode.
 pub fn steps_have_one_answer()
     ensures sum { (mode : Round) (x y : Pair) → HasOneAnswer (IsPairSum mode x y) }
     ensures difference { (mode : Round) (x y : Pair) → HasOneAnswer (IsPairDifference mode x y) }
     ensures product { (mode : Round) (x y : Pair) → HasOneAnswer (IsPairProduct mode x y) }
 {}
 
-/// So do the operations in the wide format.
+/// Each operation in the wide format has exactly one result.
 pub fn wide_calls_have_one_answer()
     ensures quotient { (mode : Round) (x y : Pair) → HasOneAnswer (IsPairQuotient mode x y) }
     ensures truncated_remainder { (x y : Pair) → HasOneAnswer (IsPairTruncatedRemainder x y) }
@@ -119,7 +119,7 @@ pub fn wide_calls_have_one_answer()
         → HasOneAnswer (IsPairFromSigned mode number) }
 {}
 
-/// So does the square root.
+/// Each square root has exactly one result.
 pub fn roots_have_one_answer()
     ensures { (mode : Round) (x : Pair) → HasOneAnswer (IsPairRoot mode x) }
 {}

@@ -34,28 +34,28 @@ double_within (finite b n) value exponent normal member h =
 double_within (infinite b) value exponent normal member h = cc
 double_within (nan b s) value exponent normal member h = cc
 
--- such an exponent is a machine number
+-- an exponent within the range of doubles is a machine number
 double_fits : (exponent : ℤ) → IsExponentWithin double exponent → FitsSigned w32 exponent
 double_fits exponent n =
     let low : neg_ℤ (pos 1074) ≤ℤ exponent = n.low in
     let high : exponent ≤ℤ pos 2098 = n.high in
     omega (arith, ints, low, high)
 
--- and so is its negation
+-- the negation of an exponent within the range of doubles is a machine number
 negated_fits : (exponent : ℤ) → IsExponentWithin double exponent → FitsSigned w32 (pos 0 -ℤ exponent)
 negated_fits exponent n =
     let low : neg_ℤ (pos 1074) ≤ℤ exponent = n.low in
     let high : exponent ≤ℤ pos 2098 = n.high in
     omega (arith, ints, low, high)
 
--- so its negation is a machine number
+-- the negation of the exponent of a fraction is a machine number
 pub fraction_turns : (x value : Datum) (exponent : ℤ) → category_of x ≡ Normal → IsMember double x
     → IsFrexp double x value exponent → FitsSigned w32 (pos 0 -ℤ to_z w32 (of_z w32 exponent))
 fraction_turns x value exponent normal member h =
     let n = double_within x value exponent normal member h in
     rw (to_z-of_z w32 exponent (double_fits exponent n)) (negated_fits exponent n)
 
--- and that machine number is the negation
+-- the machine negation of the exponent of a fraction is its negation
 pub fraction_turned : (x value : Datum) (exponent : ℤ) → category_of x ≡ Normal → IsMember double x
     → IsFrexp double x value exponent
     → to_z w32 (of_z w32 (pos 0 -ℤ to_z w32 (of_z w32 exponent))) ≡ neg_ℤ exponent

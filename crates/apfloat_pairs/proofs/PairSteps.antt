@@ -29,7 +29,7 @@ use Rattle.apfloat_pair_theory.proofs.sums.PairSumLaws.{error_free_sum, accurate
 use Rattle.apfloat_pair_theory.proofs.sums.DifferenceLaws.{error_free_difference, accurate_difference, plain_difference}
 use Rattle.apfloat_pair_theory.proofs.products.PairProductLaws.{error_free_product, accurate_product}
 
--- the product of two pairs of numbers
+-- the product of two pairs of numbers, from its steps
 pub product_by_steps : (mode : Round) (x y : Pair) (left right t tau : Datum) (t_flags tau_flags flags : ℕ)
     (is_number : Bool) (answer : Pair) (status : ℕ) → left ≡ x.high → right ≡ y.high
     → IsProduct double mode left right t t_flags → is_number ≡ is_finite_non_zero_category (category_of t)
@@ -67,7 +67,7 @@ denormal_at_sum x sum status is_number is_denormal_high answer n t d f s a =
     ap (λ (b : Bool). b && (is_denormal double x.high || not (is_equal x.high sum))) e ∙
     ap (λ (b : Bool). true && (b || not (is_equal x.high sum))) g)
 
--- the sum of two infinities of the same sign
+-- the sum of two infinities of the same sign, from its steps
 pub infinities_of_one_sign : (x y answer : Pair) (status : ℕ) (first second : Bool) → first ≡ is_negative x.high
     → second ≡ is_negative y.high → beq first second ≡ true → answer ≡ x → status ≡ ok_bits
     → IsSumOfInfinities x y answer status
@@ -96,7 +96,7 @@ pub record IsOpenedAnew (mode : Round) (x y : Pair) (big small z : Datum) (flags
   pub joined : flags_with_lesser ≡ lows_flags ∪ with_lesser_flags
   pub flags_are : flags ≡ flags_with_lesser ∪ z_flags
 
--- and the rest of that sum
+-- the rest of that sum, and its flags
 pub record IsClosedAnew (mode : Round) (x y : Pair) (big small z : Datum) (flags : ℕ) (low : Datum)
     (all_flags : ℕ) : Type 0 where
   pub zz : Datum
@@ -129,7 +129,7 @@ flags_of_opened : (mode : Round) (x y : Pair) (big small z : Datum) (flags : ℕ
 flags_of_opened mode x y big small z flags o =
     two_joined o.lows_flags o.with_lesser_flags o.z_flags o.flags_with_lesser flags o.joined o.flags_are
 
--- a sum computed again has the result that its high part decides
+-- the result of a sum computed again, decided by its high part
 anew : (mode : Round) (x y : Pair) (big small z : Datum) (flags : ℕ) (answer : Pair) (status : ℕ)
     → (opened : IsOpenedAnew mode x y big small z flags)
     → MatchBool (is_finite z)
@@ -164,7 +164,7 @@ anew_beyond mode x y big small z flags is_within answer status o w e v s =
     (sym (finite_agrees z) ∙ sym w ∙ e)
     (record { answer_is = v; status_is = s ∙ flags_of_opened mode x y big small z flags o }))
 
--- otherwise the low part is the rest
+-- if the high part is finite, the low part is the rest
 pub anew_within : (mode : Round) (x y : Pair) (big small z low : Datum) (flags all_flags : ℕ) (is_within : Bool)
     (answer : Pair) (status : ℕ) → IsOpenedAnew mode x y big small z flags
     → is_within ≡ is_finite_category (category_of z) → is_within ≡ true
@@ -213,7 +213,7 @@ joined_by_sum x high low answer status is_number n e h l s =
     (sym (number_agrees x.high) ∙ sym n ∙ e)
     (record { high = high; low = low; status = status; high_is = h; low_is = l; is_sum = s })
 
--- and of any other pair, which is its high part
+-- the join of any other pair, which is its high part
 pub joined_alone : (x : Pair) (high : Datum) (is_number : Bool)
     → is_number ≡ is_finite_non_zero_category (category_of x.high) → is_number ≡ false → IsWidened x.high high
     → IsJoined x high
@@ -229,7 +229,7 @@ pub wide_of_none : (call : Datum → ℕ → Type 0) (value : Datum) (flags : �
 wide_of_none call value flags answer status h e s =
     record { value = value; is_value = subst (λ (t : ℕ). call value t) (sym e) h; is_split = s }
 
--- of a wide call of two pairs
+-- the split result of a wide call on two pairs
 pub wide_of_two : (call : Datum → Datum → Datum → ℕ → Type 0) (x y : Pair) (left right value : Datum) (flags : ℕ)
     (answer : Pair) (status : ℕ) → IsJoined x left → IsJoined y right → call left right value flags → status ≡ flags
     → IsSplit value answer → IsWideAnswerOfTwo call x y answer status
@@ -242,7 +242,7 @@ wide_of_two call x y left right value flags answer status i j h e s =
       is_answer = wide_of_none (call left right) value flags answer status h e s;
     }
 
--- of a wide call of one pair
+-- the split result of a wide call on one pair
 pub wide_of_one : (call : Datum → Datum → ℕ → Type 0) (x : Pair) (joined value : Datum) (flags : ℕ) (answer : Pair)
     (status : ℕ) → IsJoined x joined → call joined value flags → status ≡ flags → IsSplit value answer
     → IsWideAnswer call x answer status
@@ -262,7 +262,7 @@ pub sum_by_categories : (mode : Round) (x y : Pair) (first second : Category) (a
 sum_by_categories mode x y first second answer status i j s =
     subst₂ (λ (k : Category) (l : Category). IsSumOfCategories k l mode x y answer status) i j s
 
--- and for products, their product
+-- the result for the categories of two factors is their product
 pub product_by_categories : (mode : Round) (x y : Pair) (first second : Category) (answer : Pair) (status : ℕ)
     → first ≡ pair_category x → second ≡ pair_category y
     → IsProductOfCategories first second mode x y answer status → IsPairProduct mode x y answer status
@@ -288,14 +288,14 @@ sum_error_free mode x y answer status m n =
     at_nearest (λ (i : Round). IsPairSum i x y answer status) (IsErrorFreeSum x y answer)
     (error_free_sum x y answer status m n) mode
 
--- that of two normalised pairs is accurate
+-- to nearest, the sum of two normalized pairs is accurate
 pub sum_accurate : (mode : Round) (x y answer : Pair) (status : ℕ) → IsPairSum mode x y answer status
     → mode ≡ NearestTiesToEven → IsAccurateSum x y answer
 sum_accurate mode x y answer status =
     at_nearest (λ (i : Round). IsPairSum i x y answer status) (IsAccurateSum x y answer)
     (accurate_sum x y answer status) mode
 
--- and raises at most INEXACT
+-- to nearest, the sum of two normalized pairs raises at most INEXACT
 pub sum_plain : (mode : Round) (x y answer : Pair) (status : ℕ) → IsPairSum mode x y answer status
     → mode ≡ NearestTiesToEven → HasPlainStatus x y status
 sum_plain mode x y answer status =
@@ -310,14 +310,14 @@ difference_error_free mode x y answer status m n =
     at_nearest (λ (i : Round). IsPairDifference i x y answer status) (IsErrorFreeDifference x y answer)
     (error_free_difference x y answer status m n) mode
 
--- that of two normalised pairs is accurate
+-- to nearest, the difference of two normalized pairs is accurate
 pub difference_accurate : (mode : Round) (x y answer : Pair) (status : ℕ) → IsPairDifference mode x y answer status
     → mode ≡ NearestTiesToEven → IsAccurateDifference x y answer
 difference_accurate mode x y answer status =
     at_nearest (λ (i : Round). IsPairDifference i x y answer status) (IsAccurateDifference x y answer)
     (accurate_difference x y answer status) mode
 
--- and raises at most INEXACT
+-- to nearest, the difference of two normalized pairs raises at most INEXACT
 pub difference_plain : (mode : Round) (x y answer : Pair) (status : ℕ) → IsPairDifference mode x y answer status
     → mode ≡ NearestTiesToEven → HasPlainStatus x y status
 difference_plain mode x y answer status =
@@ -332,7 +332,7 @@ product_error_free mode x y answer status m n =
     at_nearest (λ (i : Round). IsPairProduct i x y answer status) (IsErrorFreeProduct x y answer)
     (error_free_product x y answer status m n) mode
 
--- that of two normalised pairs is accurate
+-- to nearest, the product of two normalized pairs is accurate
 pub product_accurate : (mode : Round) (x y answer : Pair) (status : ℕ) → IsPairProduct mode x y answer status
     → mode ≡ NearestTiesToEven → IsAccurateProduct x y answer
 product_accurate mode x y answer status =

@@ -41,7 +41,7 @@ impl FromStr for DoubleFloat {
     ghost from_str_gives = { λ text r. (answer : Result (StatusAnd Pair) ParseError)
         × IsPairRead NearestTiesToEven text answer × (r ≡ without_status answer) };
 
-    /// Reads a text like `from_str_r`, rounding to the nearest value, ties to even; the status is dropped.
+    /// Reads a text as `from_str_r` does, rounding to the nearest value, ties to even; the status is discarded.
     fn from_str(s: &str) -> Result<DoubleFloat, ParseError> {
         match wide::read(s, Round::NearestTiesToEven) {
             Ok(answer) => Ok(answer.value),
@@ -181,11 +181,11 @@ impl Float for DoubleFloat {
         parts::smallest_normalized()
     }
 
-    /// Steps of sums of doubles in the mode; their flags are joined. So INEXACT can come with an exact result, and OK
-    /// with an inexact one.
+    /// A chain of sums of doubles in the mode, whose flags are joined. So INEXACT may be raised for an exact result,
+    /// and the status may be OK for an inexact one.
     ///
     /// Rounding to nearest, ties to even, with high parts of at most 2^1022: the sum of two doubles is exact, and that
-    /// of normalised pairs is normalised, with an error of at most 2^-103 of the sum of both magnitudes.
+    /// of normalized pairs is normalized, with an error of at most 2^-103 of the sum of both magnitudes.
     ///
     /// An infinity or a NaN is returned unchanged, even a signaling NaN; adding infinities of opposite signs is
     /// invalid.
@@ -200,7 +200,7 @@ impl Float for DoubleFloat {
         sum(self, rhs, round)
     }
 
-    /// The sum with the negation of `rhs`, even if that is a NaN; as exact and as accurate as the sum.
+    /// The sum with the negation of `rhs`, even if that is a NaN; with the accuracy of that sum.
     #[inline]
     fn sub_r(self, rhs: Self, round: Round) -> StatusAnd<Self>
         ensures difference { Gives (IsPairDifference round self rhs) result }
@@ -214,10 +214,10 @@ impl Float for DoubleFloat {
         difference(self, rhs, round)
     }
 
-    /// Steps on doubles in the mode; their flags are joined. The product of the low parts is left out.
+    /// A chain of operations on doubles in the mode, whose flags are joined. The product of the low parts is left out.
     ///
     /// Rounding to nearest, ties to even: the product of two doubles is exact if their exponents add up to -970 to
-    /// 1021; that of normalised pairs, if the exponents of the high parts add up to -900 to 1021, is normalised, with
+    /// 1021; that of normalized pairs, if the exponents of the high parts add up to -900 to 1021, is normalized, with
     /// an error of at most 2^-102 of the exact product.
     ///
     /// A zero times an infinity is the NaN without a payload, with no flag; a NaN is returned unchanged.
@@ -230,7 +230,7 @@ impl Float for DoubleFloat {
         product(self, rhs, round)
     }
 
-    /// The quotient in the wide format, split: if its high part is finite, both parts add up to that quotient exactly.
+    /// The quotient in the wide format, split: if the high part is finite, the parts add up to that quotient exactly.
     #[inline]
     fn div_r(self, rhs: Self, round: Round) -> StatusAnd<Self>
         ensures quotient { Gives (IsPairQuotient round self rhs) result }
@@ -239,7 +239,7 @@ impl Float for DoubleFloat {
         wide::quotient(self, rhs, round)
     }
 
-    /// The remainder by the nearest quotient, in the wide format, split.
+    /// The remainder by the integer nearest to the quotient, in the wide format, split.
     #[inline]
     fn ieee_rem(self, rhs: Self) -> StatusAnd<Self>
         ensures remainder { Gives (IsPairNearestRemainder self rhs) result }
@@ -248,7 +248,7 @@ impl Float for DoubleFloat {
         wide::nearest(self, rhs)
     }
 
-    /// The remainder by the quotient cut toward zero, in the wide format, split.
+    /// The remainder by the quotient truncated toward zero, in the wide format, split.
     #[inline]
     fn c_fmod(self, rhs: Self) -> StatusAnd<Self>
         ensures remainder { Gives (IsPairTruncatedRemainder self rhs) result }

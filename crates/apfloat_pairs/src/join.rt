@@ -1,5 +1,5 @@
-//! Pairs to the wide format and back: the exact sum of the parts, rounded once; and the double nearest to a wide value,
-//! with the rest.
+//! Conversion of pairs to the wide format, as the exact sum of the parts, rounded once; and back, as the nearest double
+//! and the rest.
 
 ghost use Rattle.std.specs.Prelude.{◌≡◌, ◌≢◌, true};
 ghost use Rattle.apfloat_model.specs.order.Classes.{is_finite_non_zero};
@@ -12,7 +12,7 @@ use crate::{DoubleFloat, Fallback};
 use apfloat_base::{Float, FloatConvert, Round, Status, StatusAnd};
 use apfloat_formats::Double;
 
-/// A double in the wide format, which has all doubles; a signaling NaN is quieted.
+/// A double in the wide format, which has every double; a signaling NaN is quieted.
 #[inline]
 fn widened(part: Double) -> Fallback
     ensures { IsWidened part result }
@@ -39,7 +39,8 @@ pub(crate) fn joined(x: DoubleFloat) -> Fallback
     }
 }
 
-/// The rest of a wide value beyond its nearest double, `rounded`, if that is a number and inexact. Each step is exact.
+/// What a wide value leaves beyond `rounded`, the double nearest to it, if that is a number and inexact. Each step is
+/// exact.
 #[inline]
 fn rest(x: Fallback, rounded: StatusAnd<Double>) -> Double
     requires nearest { IsNearestDouble x rounded.value (bits_of rounded.status) }
@@ -73,7 +74,7 @@ impl From<Fallback> for DoubleFloat {
     ghost from_gives = { IsSplit };
 
     /// The double nearest to a wide value, with the rest as the low part: if the high part is finite, both add up to
-    /// the value. The value past the largest double is the infinity, and a signaling NaN is quieted.
+    /// the value. A value past the largest double becomes an infinity, and a signaling NaN is quieted.
     #[inline]
     fn from(x: Fallback) -> DoubleFloat
         ensures split { IsSplit x result }
@@ -86,8 +87,8 @@ impl From<Fallback> for DoubleFloat {
 impl From<DoubleFloat> for Fallback {
     ghost from_gives = { IsJoined };
 
-    /// The exact sum of the parts, rounded once to the nearest value, ties to even. A high part that is zero, infinite
-    /// or a NaN is taken alone, and a signaling NaN is quieted.
+    /// The exact sum of the parts, rounded once to the nearest value, ties to even. If the high part is zero, infinite
+    /// or a NaN, the low part is ignored; a signaling NaN is quieted.
     #[inline]
     fn from(x: DoubleFloat) -> Fallback {
         joined(x)

@@ -1,4 +1,4 @@
-//! The operators on pairs: each is a call, rounded to nearest, ties to even. Assigning operators drop the status.
+//! The operators on pairs: each is a call, rounded to nearest, ties to even. Assigning operators discard the status.
 
 ghost use Rattle.std.specs.Prelude.{◌≡◌};
 ghost use Rattle.apfloat_model.specs.declared.kinds.Round.TheVariants.{NearestTiesToEven};
@@ -88,7 +88,7 @@ impl Div for DoubleFloat {
 
     ghost div_gives = { λ x y r. Gives (IsPairQuotient NearestTiesToEven x y) r };
 
-    /// The quotient of the sums of parts, rounded once to 106 digits, to the nearest value, ties to even.
+    /// The quotient of the joined pairs, rounded once to 106 digits, to nearest, ties to even.
     #[inline]
     fn div(self, rhs: DoubleFloat) -> StatusAnd<DoubleFloat>
         ensures quotient { Gives (IsPairQuotient NearestTiesToEven self rhs) result }
@@ -103,7 +103,7 @@ impl Rem for DoubleFloat {
 
     ghost rem_gives = { λ x y r. Gives (IsPairTruncatedRemainder x y) r };
 
-    /// The remainder by the quotient cut toward zero, which is exact for the sums of parts in 106 digits.
+    /// The remainder by the quotient truncated toward zero, which is exact for the joined pairs.
     #[inline]
     fn rem(self, rhs: DoubleFloat) -> StatusAnd<DoubleFloat>
         ensures remainder { Gives (IsPairTruncatedRemainder self rhs) result }
@@ -117,7 +117,7 @@ impl AddAssign for DoubleFloat {
     ghost add_assign_gives = { λ x y z. (r : StatusAnd Self)
         × Gives (IsPairSum NearestTiesToEven x y) r × (z ≡ r.value) };
 
-    /// The sum by `+`; the status is dropped.
+    /// Assigns the sum that `+` returns; the status is discarded.
     #[inline]
     fn add_assign(&mut self, rhs: DoubleFloat) {
         *self = sum(*self, rhs, Round::NearestTiesToEven).value;
@@ -128,7 +128,7 @@ impl SubAssign for DoubleFloat {
     ghost sub_assign_gives = { λ x y z. (r : StatusAnd Self)
         × Gives (IsPairDifference NearestTiesToEven x y) r × (z ≡ r.value) };
 
-    /// The difference by `-`; the status is dropped.
+    /// Assigns the difference that `-` returns; the status is discarded.
     #[inline]
     fn sub_assign(&mut self, rhs: DoubleFloat) {
         *self = difference(*self, rhs, Round::NearestTiesToEven).value;
@@ -139,7 +139,7 @@ impl MulAssign for DoubleFloat {
     ghost mul_assign_gives = { λ x y z. (r : StatusAnd Self)
         × Gives (IsPairProduct NearestTiesToEven x y) r × (z ≡ r.value) };
 
-    /// The product by `*`; the status is dropped.
+    /// Assigns the product that `*` returns; the status is discarded.
     #[inline]
     fn mul_assign(&mut self, rhs: DoubleFloat) {
         *self = product(*self, rhs, Round::NearestTiesToEven).value;
@@ -150,7 +150,7 @@ impl DivAssign for DoubleFloat {
     ghost div_assign_gives = { λ x y z. (r : StatusAnd Self)
         × Gives (IsPairQuotient NearestTiesToEven x y) r × (z ≡ r.value) };
 
-    /// The quotient by `/`; the status is dropped.
+    /// Assigns the quotient that `/` returns; the status is discarded.
     #[inline]
     fn div_assign(&mut self, rhs: DoubleFloat) {
         *self = quotient(*self, rhs, Round::NearestTiesToEven).value;
@@ -161,7 +161,7 @@ impl RemAssign for DoubleFloat {
     ghost rem_assign_gives = { λ x y z. (r : StatusAnd Self)
         × Gives (IsPairTruncatedRemainder x y) r × (z ≡ r.value) };
 
-    /// The remainder by `%`; the status is dropped.
+    /// Assigns the remainder that `%` returns; the status is discarded.
     #[inline]
     fn rem_assign(&mut self, rhs: DoubleFloat) {
         *self = truncated(*self, rhs).value;

@@ -16,8 +16,8 @@ fn is_opposite(x: DoubleFloat) -> bool
     x.0.is_negative() != x.1.is_negative()
 }
 
-/// The order of the magnitudes of two pairs whose high parts have equal magnitudes, from that of the low parts and from
-/// which of these reduce the high ones.
+/// The order of the magnitudes of two pairs whose high parts have equal magnitudes: from the order of the low
+/// magnitudes, and whether each low part reduces the magnitude of its high part.
 #[inline]
 fn compare_low_magnitudes(order: Ordering, opposite: bool, other_opposite: bool) -> Ordering
     ensures { result ≡ compared_low_magnitudes order opposite other_opposite }
@@ -72,7 +72,7 @@ impl PartialOrd for DoubleFloat {
 
     ghost laws = { compared_pair_laws };
 
-    /// The order of the high parts, and on a tie that of the low parts. For normalised pairs it is the order of their
+    /// The order of the high parts, and on a tie that of the low parts. For normalized pairs it is the order of their
     /// numbers.
     #[inline]
     fn partial_cmp(&self, other: &Self) -> Option<Ordering> {

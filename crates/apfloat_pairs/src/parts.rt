@@ -1,4 +1,4 @@
-//! Operations on pairs that work on the parts.
+//! Operations on pairs that act on the parts.
 
 ghost use Rattle.std.specs.Prelude.{◌≡◌, ◌<◌, ◌^◌};
 ghost use Rattle.std.specs.Option.{unwrap_or};
@@ -48,7 +48,7 @@ pub(crate) fn bits_of(x: DoubleFloat) -> u128
     x.0.to_bits() | (x.1.to_bits() << 64)
 }
 
-/// The largest pair: the largest double, plus just below half a unit in its last place.
+/// The largest pair: the largest double, plus the double just below half an ulp of it.
 #[inline]
 pub(crate) fn largest() -> DoubleFloat
     ensures { result ≡ pair_largest }
@@ -72,7 +72,7 @@ pub(crate) fn is_same(x: DoubleFloat, y: DoubleFloat) -> bool
     x.0.bitwise_eq(y.0) && x.1.bitwise_eq(y.1)
 }
 
-/// Whether both parts are whole numbers.
+/// Whether both parts are integers.
 #[inline]
 pub(crate) fn is_integer(x: DoubleFloat) -> bool
     ensures { result ≡ is_integer_pair x }
@@ -80,7 +80,7 @@ pub(crate) fn is_integer(x: DoubleFloat) -> bool
     x.0.is_integer() && x.1.is_integer()
 }
 
-/// Whether the high part is a number that is denormal or is not the double nearest to the sum of the parts.
+/// Whether the high part is a nonzero number that is denormal, or is not the double nearest to the sum of the parts.
 #[inline]
 pub(crate) fn is_denormal(x: DoubleFloat) -> bool
     ensures { result ≡ is_denormal_pair x }
@@ -96,7 +96,7 @@ pub(crate) fn scaled(x: DoubleFloat, exp: ExpInt, round: Round) -> DoubleFloat
     DoubleFloat(x.0.scalbn_r(exp, round), x.1.scalbn_r(exp, round))
 }
 
-/// The fraction of the high part and its exponent; the low part is scaled like the high one.
+/// The fraction of the high part and its exponent; the low part is scaled by the same power of two.
 #[inline]
 pub(crate) fn fraction(x: DoubleFloat, exp: &mut ExpInt, round: Round) -> DoubleFloat
     ensures { IsPairFraction round x result exp.new }

@@ -1,4 +1,4 @@
-//! Products of pairs: each step is an operation on doubles in the mode, and the flags of the steps are joined.
+//! Products of pairs: each step is an operation on doubles in the mode, and the flags of all steps are joined.
 
 ghost use Rattle.std.specs.Prelude.{◌≡◌};
 ghost use Rattle.apfloat_model.specs.declared.kinds.Round.TheVariants.{NearestTiesToEven};
@@ -66,7 +66,7 @@ fn product_of_categories(
     }
 }
 
-/// The product of two pairs. Rounded to nearest, it is exact for doubles and accurate for normalised pairs.
+/// The product of two pairs. Rounded to nearest, it is exact for doubles and accurate for normalized pairs.
 #[inline]
 pub(crate) fn product(x: DoubleFloat, y: DoubleFloat, round: Round) -> StatusAnd<DoubleFloat>
     ensures product { Gives (IsPairProduct round x y) result }

@@ -1,4 +1,4 @@
-//! Sums of pairs: each step is a sum or a difference of doubles in the mode, and the flags of the steps are joined.
+//! Sums of pairs: each step is a sum or a difference of doubles in the mode, and the flags of all steps are joined.
 
 ghost use Rattle.std.specs.Prelude.{◌≡◌, ℕ};
 ghost use Rattle.apfloat_model.specs.declared.kinds.Category.TheVariants.{Infinity, Normal};
@@ -16,8 +16,8 @@ use apfloat_formats::Double;
 use apfloat_model::unpack;
 use std::cmp::Ordering;
 
-/// The end of a sum and of a product: `z + zz`, with the error of that sum as the low part. `status` has the flags of
-/// the steps so far.
+/// The closing sum of a sum or a product: `z + zz`, with the error of that sum as the low part. `status` has the flags
+/// of the steps so far.
 #[inline]
 pub(crate) fn closed(z: Double, zz: Double, status: Status, round: Round) -> StatusAnd<DoubleFloat>
     ensures { Gives (IsClosed round z zz (bits_of status)) result }
@@ -155,7 +155,7 @@ fn sum_of_categories(
     }
 }
 
-/// The sum of two pairs. Rounded to nearest, it is exact for doubles and accurate for normalised pairs.
+/// The sum of two pairs. Rounded to nearest, it is exact for doubles and accurate for normalized pairs.
 #[inline]
 pub(crate) fn sum(x: DoubleFloat, y: DoubleFloat, round: Round) -> StatusAnd<DoubleFloat>
     ensures sum { Gives (IsPairSum round x y) result }
@@ -166,7 +166,7 @@ pub(crate) fn sum(x: DoubleFloat, y: DoubleFloat, round: Round) -> StatusAnd<Dou
     sum_of_categories(category(x), category(y), x, y, round)
 }
 
-/// The difference of two pairs: the sum with the negated second pair, as exact and as accurate as that sum.
+/// The difference of two pairs: the sum with the negation of the second, with the accuracy of that sum.
 #[inline]
 pub(crate) fn difference(x: DoubleFloat, y: DoubleFloat, round: Round) -> StatusAnd<DoubleFloat>
     ensures difference { Gives (IsPairDifference round x y) result }

@@ -1,5 +1,5 @@
-//! Operations on pairs by way of the wide format: the pair is joined, the operation is performed there, and its result
-//! is split. The status is that of the wide operation.
+//! Operations on pairs in the wide format: the pairs are joined, the operation is performed there, and its result is
+//! split. The status is that of the wide operation.
 
 ghost use Rattle.std.specs.Prelude.{◌≡◌, ◌≤◌, ◌<◌, ◌^◌, Result};
 ghost use Rattle.apfloat_model.specs.rounding.Flags.{Gives, bits_of};
@@ -29,7 +29,7 @@ pub(crate) fn quotient(x: DoubleFloat, y: DoubleFloat, round: Round) -> StatusAn
     split_answer(joined(x).div_r(joined(y), round))
 }
 
-/// The remainder by the quotient cut toward zero.
+/// The remainder by the quotient truncated toward zero.
 #[inline]
 pub(crate) fn truncated(x: DoubleFloat, y: DoubleFloat) -> StatusAnd<DoubleFloat>
     ensures remainder { Gives (IsPairTruncatedRemainder x y) result }
@@ -38,7 +38,7 @@ pub(crate) fn truncated(x: DoubleFloat, y: DoubleFloat) -> StatusAnd<DoubleFloat
     split_answer(joined(x).c_fmod(joined(y)))
 }
 
-/// The remainder by the whole number nearest to the quotient.
+/// The remainder by the integer nearest to the quotient.
 #[inline]
 pub(crate) fn nearest(x: DoubleFloat, y: DoubleFloat) -> StatusAnd<DoubleFloat>
     ensures remainder { Gives (IsPairNearestRemainder x y) result }
@@ -47,7 +47,7 @@ pub(crate) fn nearest(x: DoubleFloat, y: DoubleFloat) -> StatusAnd<DoubleFloat>
     split_answer(joined(x).ieee_rem(joined(y)))
 }
 
-/// A pair rounded by the mode to a whole number.
+/// A pair rounded by the mode to an integer.
 #[inline]
 pub(crate) fn round_to_integral(x: DoubleFloat, round: Round) -> StatusAnd<DoubleFloat>
     ensures { Gives (IsPairRoundToIntegral round x) result }
@@ -55,7 +55,7 @@ pub(crate) fn round_to_integral(x: DoubleFloat, round: Round) -> StatusAnd<Doubl
     split_answer(joined(x).round_to_integral(round))
 }
 
-/// The next value up in the wide format.
+/// The next value up in the wide format, split.
 #[inline]
 pub(crate) fn next_up(x: DoubleFloat) -> StatusAnd<DoubleFloat>
     ensures { Gives (IsPairNextUp x) result }
@@ -74,7 +74,7 @@ pub(crate) fn exact_inverse(x: DoubleFloat) -> Option<DoubleFloat>
     }
 }
 
-/// A whole number as a pair.
+/// An integer as a pair.
 #[inline]
 pub(crate) fn from_unsigned(number: u128, round: Round) -> StatusAnd<DoubleFloat>
     ensures { Gives (IsPairFromUnsigned round number) result }
@@ -82,7 +82,7 @@ pub(crate) fn from_unsigned(number: u128, round: Round) -> StatusAnd<DoubleFloat
     split_answer(Fallback::from_u128_r(number, round))
 }
 
-/// A pair as a whole number of `width` binary digits.
+/// A pair as an integer of `width` binary digits.
 #[inline]
 pub(crate) fn to_unsigned(
     x: DoubleFloat,
@@ -102,7 +102,7 @@ pub(crate) fn to_unsigned(
     whole.status.and(whole.value)
 }
 
-/// The pair of a text, or its refusal.
+/// The pair that a text spells, or its refusal.
 #[inline]
 pub(crate) fn read(text: &str, round: Round) -> Result<StatusAnd<DoubleFloat>, ParseError>
     ensures { IsPairRead round text.now result }

@@ -1,4 +1,4 @@
-//! Formats for computing only, without bits; pairs of binary64 are computed in them.
+//! Formats for computing only, without bits, in which pairs of doubles are computed.
 
 ghost use Rattle.std.specs.Prelude.{◌-◌, ◌*◌, ◌^◌, pos, negsuc, true, false, refl};
 ghost use Rattle.apfloat_model.specs.declared.kinds.NonfiniteBehavior.TheVariants.{IEEE754};
@@ -7,7 +7,7 @@ ghost use Rattle.apfloat_model.proofs.formats.LawTest.{lawful_from_test};
 use apfloat_base::{ExpInt, NonfiniteBehavior};
 use apfloat_ieee::Semantics;
 
-/// 106 digits with the exponents of a pair: the low part of its least normalized value has all its digits.
+/// 106 digits with the exponents of pairs: from its smallest normalized value up, a low part has all its digits.
 #[derive(Clone, Copy)]
 pub struct FallbackS(());
 

@@ -1,4 +1,4 @@
--- Values converted with what an overflow gives, and the largest value of a sign.
+-- Conversions with either treatment of overflow, and the largest value of a sign.
 use Rattle.std.proofs.Common.{◌≡◌, ℕ, ◌<◌, Bool, true, false, List, refl, subst, sym}
 use Rattle.apfloat_model.specs.declared.kinds.NonfiniteBehavior.{NonfiniteBehavior}
 use Rattle.rustc_apfloat.specs.declared.Round.{Round}
@@ -17,7 +17,7 @@ use Rattle.array_conversions.specs.Saturation.{IsConversionBy}
 use Rattle.array_conversions.specs.Values.{IsAnswerFrom, IsConvertedBy}
 use Rattle.apfloat_model.proofs.general.Choices.{not_zero}
 
--- a value, its bytes and its outcome make a converted value, whatever an overflow gives
+-- a value, its bytes and its outcome make a converted value, with either treatment of overflow
 converted_by : (overflow : Overflow) (c d : Constants) (mode : Round) (input output : List ℕ) (outcome : Outcome)
     (value : Datum) (loses : Bool)
     → IsConversionBy overflow (format_with c) (format_with d) mode
@@ -30,7 +30,7 @@ converted_by Rounded c d mode input output outcome value loses conversion encode
 converted_by Saturated c d mode input output outcome value loses conversion encoded nan =
     record { value = value; loses = loses; is_conversion = conversion; is_encoded = encoded; nan_is = nan }
 
--- an answer from the bits that are read, whose bits are written
+-- a result for the bits that are read, whose bits are written
 pub converted_from : (overflow : Overflow) (c d : Constants) (mode : Round) (input output : List ℕ) (answer : Converted)
     → IsAnswerFrom overflow c d mode (number_of input) answer → number_of output ≡ answer.bits
     → IsConvertedBy overflow c d mode input output answer.outcome
@@ -38,7 +38,7 @@ converted_from overflow c d mode input output answer it written =
     converted_by overflow c d mode input output answer.outcome it.value it.loses it.is_conversion
     (subst (λ (n : ℕ). IsEncodedBy (format_with d) (layout_with d) n it.value) (sym written) it.is_encoded) it.nan_is
 
--- a number that is not 0 is negated by its sign
+-- negating a nonzero number changes its sign
 pub negated_some : (kind : NonfiniteBehavior) (quanta : ℕ) → 0 < quanta
     → negated kind (finite false quanta) ≡ finite true quanta
 negated_some kind quanta some = rw (not_zero quanta some) refl

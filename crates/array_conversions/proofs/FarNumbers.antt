@@ -1,4 +1,4 @@
--- Numbers far out of the range of a format: how their bits are read, on which side they are, and what they become.
+-- Numbers far out of the range of a format: their bits, the side that they are on, and their results.
 use Rattle.std.proofs.Common.{◌≡◌, ℕ, ◌+◌, ◌-◌, ◌*◌, ◌%◌, ◌^◌, ◌<◌, ◌≤◌, Bool, true, false, not, ◌&&◌, ◌||◌, eqb, List, [], ◌∷◌, Option, Some, None, refl, ⊎_elim, subst, sym, ap, ◌∙◌, arith, lit<, ℤ, pos, neg_ℤ, ◌+ℤ◌, ◌-ℤ◌, ◌≤ℤ◌}
 use Rattle.std.specs.Prelude.{IsTrue, IsSomeAnd, slice_get, slice_index_or}
 use Rattle.std.specs.Bool.{MatchBool}
@@ -137,7 +137,8 @@ past_far c d biased trailing lawful_c lawful_d some far =
     past_by (d.precision + (format_with d).span) (format_with c).scale c.precision biased trailing
     (format_with d).scale (omega (arith, ints, pc.precision_low, pd.precision_low, from, to, span, far))
 
--- and one below the least by more than the precision is below half of the least value
+-- a number whose exponent is below the least one by more than the precision is below half of the smallest positive
+-- value
 pub little_far : (c d : Constants) (biased trailing : ℕ) → IsLawful c → IsLawful d → 0 < biased
     → trailing < 2 ^ (c.precision - 1)
     → (c.min_exp +ℤ pos biased) ≤ℤ (d.min_exp -ℤ pos d.precision)
@@ -151,7 +152,7 @@ little_far c d biased trailing lawful_c lawful_d some low far =
     little_by (format_with c).scale c.precision biased trailing (format_with d).scale precise low
     (omega (arith, ints, pc.precision_low, pd.precision_low, from, to, far))
 
--- biased exponents are few
+-- there are fewer than 2 ^ 22 biased exponents
 pub few_biased : (c : Constants) → IsLawful c → c.precision < c.bits → 2 ^ c.exp_bits < 2 ^ 22
 few_biased c lawful wide =
     let are = lawful.parameters in
@@ -174,7 +175,7 @@ biased_of c bits = (fields_of (format_with c) (layout_with c) bits).biased_expon
 abbrev trailing_of : Constants → ℕ → ℕ
 trailing_of c bits = (fields_of (format_with c) (layout_with c) bits).trailing
 
--- bits that pass the tests are those of a number on that side
+-- bits that pass the tests encode a number on that side
 pub placed : (c d : Constants) (bits place : ℕ) (past little number : Bool) → IsLawful c → IsLawful d
     → c.explicit_integer_bit ≡ false
     → (IsTrue past → (d.max_exp +ℤ pos 2) ≤ℤ (c.min_exp +ℤ pos (biased_of c bits)))
@@ -224,7 +225,7 @@ placed c d bits place false true false lawful_c lawful_d implied is_past is_litt
 placed c d bits place false false number lawful_c lawful_d implied is_past is_little is_number both is =
     absurd (false≢true both)
 
--- the lowest digits of bits, as many as biased exponents have
+-- a biased exponent is below 2 ^ 22
 pub biased_fits : (c : Constants) (bits digits result : ℕ) → IsLawful c → c.precision < c.bits
     → result ≡ bits % 2 ^ digits → digits ≡ c.exp_bits → result < 2 ^ 22
 biased_fits c bits digits result lawful wide is all =
@@ -233,9 +234,9 @@ biased_fits c bits digits result lawful wide is all =
     let few = few_biased c lawful wide in
     omega arith
 
--- ---- the answers
+-- ---- the results
 
--- what is delivered of one power of two on a side is delivered of all magnitudes there
+-- the result for one power of two on a side is the result for all magnitudes there
 pub far_delivered : (past : Bool) (format : Format) (mode : Round) (negative : Bool) (unit : ℤ) (value : Datum)
     (status : ℕ) → 0 < format.precision
     → MatchBool past (unit ≡ pos (format.precision + format.span)) (unit ≡ neg_ℤ (pos 2))
@@ -258,7 +259,7 @@ far_delivered false format mode negative unit value status some is known amount 
     far_below format mode negative 1 4 amount parts value status some
     (record { some = lit< tt; to = lit< tt }) (record { some = far.some; to = far.to }) one
 
--- a number, not 0, that is delivered is converted, whatever an overflow gives
+-- a nonzero number that is delivered is converted, with either treatment of overflow
 number_converted : (overflow : Overflow) (f g : Format) (mode : Round) (negative : Bool) (quanta : ℕ)
     (rounded : Datum) (status : ℕ) → 0 < quanta
     → IsDelivered g mode negative (quanta * 2 ^ g.scale) (2 ^ f.scale) rounded status
@@ -273,13 +274,13 @@ number_converted Saturated f g mode negative quanta rounded status some delivere
       value_is = refl;
     }
 
--- what is at a place that holds something
+-- the item at a place that holds one
 held : (found : Option Converted) (Says : Converted → Type 0) → IsSomeAnd found Says
     → (answer : Converted) × (found ≡ Some answer) × Says answer
 held None Says said = absurd said
 held (Some answer) Says said = (answer, refl, said)
 
--- an answer to the number that bits encode
+-- the result for the number that bits encode
 answered_by : (overflow : Overflow) (c d : Constants) (mode : Round) (bits place : ℕ) (answer : Converted)
     (far : IsFarPlace c d bits place)
     → AnswersFar overflow d mode far.past far.negative answer
@@ -301,7 +302,7 @@ answered_by overflow c d mode bits place answer far all =
       nan_is = it.nan_is;
     }
 
--- the answer at the place of a number far out is that of the number
+-- the result at the place of a number far out of range is that of the number
 pub answered_far : (overflow : Overflow) (c d : Constants) (mode : Round) (bits place : ℕ) (answers : List Converted)
     (none : Converted) → AreFarAnswers overflow d mode answers → IsFarPlace c d bits place
     → IsAnswerFrom overflow c d mode bits (slice_index_or answers place none)
@@ -314,7 +315,7 @@ answered_far overflow c d mode bits place answers none are far =
     subst (λ (a : Converted). IsAnswerFrom overflow c d mode bits a) (sym same)
     (answered_by overflow c d mode bits place it.0 far it.2)
 
--- four answers, each for its side and its sign
+-- four results, each for its side and its sign
 pub four_answers : (overflow : Overflow) (d : Constants) (mode : Round) (a b e f : Converted)
     → AnswersFar overflow d mode false false a → AnswersFar overflow d mode false true b
     → AnswersFar overflow d mode true false e → AnswersFar overflow d mode true true f

@@ -1,4 +1,4 @@
--- Numbers read and written as bytes, one after another.
+-- Numbers read and written as bytes, one byte at a time.
 use Rattle.std.proofs.Common.{◌≡◌, ℕ, zero, suc, ◌+◌, ◌-◌, ◌*◌, ◌/◌, ◌%◌, ◌^◌, ◌<◌, ◌≤◌, List, [], ◌∷◌, ◌++◌, length, get_or, set, take, drop, refl, sym, ◌∙◌, ap, arith, lit<, pow-add, add-one}
 use Rattle.std.specs.Int.{w64, from_le_bytes}
 use Rattle.std.proofs.Math.Nat.{pow-le-pow_right, pow-suc, mul_assoc, mul_comm, mul-add, mul-suc}
@@ -14,7 +14,7 @@ pub record IsReadDown (bytes : List ℕ) (number place : ℕ) : Type 0 where
   pub below : number < 256 ^ place
   pub read : number ≡ number_of (drop (length bytes - place) bytes)
 
--- before the first byte nothing is read
+-- at the start, no byte has been read
 pub read_none : (bytes : List ℕ) → IsReadDown bytes 0 0
 read_none bytes = record {
   below = lit< tt;
@@ -26,7 +26,7 @@ pub one_more_fits : (number byte place : ℕ) → number < 256 ^ place → byte 
     → number * 256 + byte < 2 ^ 128
 one_more_fits number byte place small digit within = digit_fits 256 number byte place 16 small digit within
 
--- one more byte is read in front
+-- one more byte is read, below the others
 pub read_more : (bytes : List ℕ) (number byte place : ℕ) → place < length bytes → IsReadDown bytes number place
     → byte ≡ get_or bytes (length bytes - 1 - place) 0 → byte < 256
     → IsReadDown bytes (number * 256 + byte) (place + 1)
@@ -49,7 +49,7 @@ read_more bytes number byte place within so_far is small =
           ≡ byte + 256 * number_of (drop (length bytes - place) bytes) = omega arith in known) ∙ sym told;
     }
 
--- all bytes were read
+-- after the last byte, all bytes have been read
 pub read_to_end : (bytes : List ℕ) (number place : ℕ) → place ≡ length bytes → IsReadDown bytes number place
     → number ≡ number_of bytes
 read_to_end bytes number place all so_far =
@@ -58,7 +58,7 @@ read_to_end bytes number place all so_far =
 
 -- ---- writing, from the first byte up
 
--- one more byte in its place
+-- one more byte added in its place
 shifted : (first n more power wider byte : ℕ) → more ≡ n + power * byte → wider ≡ power * 256
     → first + 256 * more ≡ first + 256 * n + wider * byte
 shifted first n more power wider byte told scale =
@@ -81,11 +81,11 @@ number_of-push (first ∷ bytes) byte =
 pub record IsWrittenUp (number rest place : ℕ) (bytes : List ℕ) : Type 0 where
   pub written : number_of (take place bytes) + 256 ^ place * rest ≡ number
 
--- before the first byte the whole number is still to be written
+-- at the start, the entire number is still to be written
 pub write_none : (number : ℕ) (bytes : List ℕ) → IsWrittenUp number number 0 bytes
 write_none number bytes = record { written = omega arith }
 
--- one byte taken off a number
+-- one byte split off from a number
 cut : (n power wider rest number : ℕ) → wider ≡ power * 256 → n + power * rest ≡ number
     → n + power * (rest % 256) + wider * (rest / 256) ≡ number
 cut n power wider rest number scale so_far =
@@ -97,7 +97,7 @@ cut n power wider rest number scale so_far =
     let joined : power * (rest % 256 + 256 * (rest / 256)) ≡ power * rest = ap (λ k. power * k) parts in
     omega arith
 
--- one more byte is written after them
+-- one more byte is written after the others
 pub write_more : (number rest place : ℕ) (bytes : List ℕ) → place < length bytes
     → IsWrittenUp number rest place bytes
     → IsWrittenUp number (rest / 256) (place + 1) (set bytes place (rest % 256))
@@ -121,7 +121,7 @@ none_left n power (suc rest) number told small =
     let more : power * suc rest ≡ power * rest + power = mul-suc power rest in
     absurd (omega arith)
 
--- all bytes are written, and are those of the number
+-- after the last byte, the bytes are those of the number
 pub write_to_end : (number rest place : ℕ) (bytes : List ℕ) → place ≡ length bytes
     → number < 256 ^ length bytes → IsWrittenUp number rest place bytes
     → number_of bytes ≡ number
@@ -132,7 +132,7 @@ write_to_end number rest place bytes all small so_far =
     let below : number < 256 ^ place = omega arith in
     ap number_of (sym whole) ∙ none_left (number_of (take place bytes)) (256 ^ place) rest number so_far.written below
 
--- ---- numbers of a count of bits
+-- ---- numbers of a given width in bits
 
 -- n bytes have as many values as 8 n bits
 bytes_of_bits : (n : ℕ) → 256 ^ n ≡ 2 ^ (8 * n)
@@ -143,7 +143,7 @@ bytes_of_bits (suc n) =
     ∙ sym (pow-add 2 (8 * n) 8)
     ∙ ap (λ k. 2 ^ k) (sym (mul-suc 8 n))
 
--- a number fits in bytes that have its bits
+-- a number fits in bytes that have at least as many bits
 pub fits : (number bits places : ℕ) → number < 2 ^ bits → bits ≤ 8 * places → number < 256 ^ places
 fits number bits places small room =
     let base : 0 < 2 = lit< tt in

@@ -1,4 +1,4 @@
--- A block of values is converted in one way.
+-- The conversion of a block of values is unique.
 use Rattle.std.proofs.Common.{◌≡◌, ℕ, ◌*◌, ◌<◌, ◌≤◌, Bool, List, length, take, sym, ◌∙◌, ap, subst, arith}
 use Rattle.std.proofs.lemmas.List.{take_all}
 use Rattle.rustc_apfloat.specs.declared.Round.{Round}
@@ -23,7 +23,7 @@ use Rattle.array_conversions.specs.Saturation.{IsConversionBy, saturated}
 use Rattle.array_conversions.specs.Values.{IsConvertedBy}
 use Rattle.array_conversions.proofs.PlacesOnce.{FixesPlaces, places_once}
 
--- a conversion has one value, one status, and either loses something or not, whatever an overflow gives
+-- a conversion determines the value, the status and whether information is lost, with either treatment of overflow
 conversion_by_once : (overflow : Overflow) (f g : Format) (mode : Round) (x : Datum)
     → OnceWith (IsConversionBy overflow f g mode x)
 conversion_by_once Rounded f g mode x v w r s a b h k = conversion_once f g mode x v w r s a b h k
@@ -31,14 +31,14 @@ conversion_by_once Saturated f g mode x v w r s a b h k =
     let same = conversion_once f g mode x h.rounded k.rounded r s a b h.is_conversion k.is_conversion in
     (h.value_is ∙ ap (λ (d : Datum). saturated g x d) same.0 ∙ sym k.value_is, same.1, same.2)
 
--- outcomes with the same flags are one if both are NaNs, or neither is
+-- outcomes with the same flags are equal if both are NaNs or neither is
 same_outcome : (one other : Outcome) → bits_of one.status ≡ bits_of other.status → one.is_nan ≡ other.is_nan
     → one ≡ other
 same_outcome a b status nan =
     ap (λ (n : ℕ). record { status = record { 0 = n }; is_nan = a.is_nan }) status
     ∙ ap (λ (n : Bool). record { status = b.status; is_nan = n }) nan
 
--- the parts of a value that was converted, whatever an overflow gives
+-- the parts of a converted value, with either treatment of overflow
 record AreParts (overflow : Overflow) (c d : Constants) (mode : Round) (input output : List ℕ) (outcome : Outcome)
     : Type 0 where
   value : Datum
@@ -65,7 +65,7 @@ parts_of Saturated c d mode input output outcome x = record {
   nan_is = x.nan_is;
 }
 
--- a value is converted to one number with one outcome
+-- the conversion of a value determines the number and the outcome
 pub converted_value_once : (overflow : Overflow) (c d : Constants) (mode : Round) (input bytes other : List ℕ)
     (outcome also : Outcome) → IsLawful d → d.precision < d.bits
     → IsConvertedBy overflow c d mode input bytes outcome → IsConvertedBy overflow c d mode input other also
@@ -82,7 +82,7 @@ converted_value_once overflow c d mode input bytes other o p law wide h k =
       same_outcome o p same.1 (x.nan_is ∙ ap is_nan same.0 ∙ sym y.nan_is),
     )
 
--- so the places of a block are converted in one way
+-- the conversion of the places of a block is unique
 pub block_places_once : (overflow : Overflow) (c d : Constants) (mode : Round) (source target count : ℕ)
     (input bytes other : List ℕ) (counts others : Counts) → IsLawful d → d.precision < d.bits → AreBytes bytes
     → AreBytes other → length bytes ≡ length other
@@ -99,7 +99,7 @@ block_places_once overflow c d mode source target count input bytes other counts
     let same = places_once Holds target count bytes other x.outcomes y.outcomes fixes a b size one two in
     (same.0, x.counted ∙ ap counts_of same.1 ∙ sym y.counted)
 
--- all of its bytes are in these places
+-- the conversion of a block is unique, since all its bytes are in these places
 pub block_once : IsBlockOnce
 block_once overflow c d mode source target count input bytes other counts others law wide a b x y =
     let same = block_places_once overflow c d mode source target count input bytes other counts others law wide

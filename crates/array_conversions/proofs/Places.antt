@@ -18,7 +18,7 @@ use Rattle.apfloat_model.proofs.general.ListLaws.{get_left, get_last}
 
 -- ---- counts
 
--- one more outcome adds one to a count where it passes the test
+-- one more outcome adds 1 to a count if it passes the test
 pub count_push : {O : Type 0} (test : O → Bool) (outcomes : List O) (outcome : O)
     → count_by test (outcomes ++ outcome ∷ []) ≡ count_by test outcomes + one_if (test outcome)
 count_push test outcomes outcome =
@@ -47,7 +47,7 @@ place_below index later width before =
     let one_more : suc index * width ≡ index * width + width = suc-mul index width in
     omega arith
 
--- the bytes of each value are as many as its width
+-- the number of bytes of each value is its width
 pub place_size : (width index count : ℕ) (bytes : List ℕ) → index < count → length bytes ≡ count * width
     → length (value_at width index bytes) ≡ width
 place_size width index count bytes before size =
@@ -69,16 +69,16 @@ earlier width index later bytes new before within =
     below within)
     ∙ sym (between_is bytes (index * width) (index * width + width))
 
--- and has what was written
+-- a write to the place of a value leaves the written bytes there
 latest : (width index : ℕ) (bytes new : List ℕ) → index * width ≤ length bytes → length new ≡ width
     → value_at width index (put_mid (index * width) (index * width + width - index * width) bytes new) ≡ new
 latest width index bytes new within size =
     between-put_mid (index * width) (index * width + width - index * width) bytes new (index * width + width) within
     (omega arith)
 
--- ---- what is said of an index
+-- ---- statements about an index
 
--- the values before stay as they are
+-- the earlier values are unchanged
 kept_of : {O : Type 0} (Holds : ℕ → List ℕ → O → Type 0) (old new : List ℕ) (outcomes more : List O)
     (k : ℕ) → k < length outcomes → new ≡ old
     → IfSome (slice_get outcomes k) (λ o. Holds k old o)
@@ -110,7 +110,7 @@ none_of {O} Holds now outcomes k past =
 
 -- ---- values in their places
 
--- before the first there is nothing to show
+-- at the start, no value is claimed to be in its place
 pub places_none : {O : Type 0} (Holds : ℕ → List ℕ → O → Type 0) (width : ℕ) (bytes : List ℕ)
     → AreInPlaces Holds width 0 bytes []
 places_none Holds width bytes = record { size = refl; each = λ index. tt }
@@ -149,7 +149,7 @@ places_more {O} Holds width index count bytes new outcomes outcome before all si
 
 -- ---- blocks
 
--- a block without values is converted
+-- an empty block is converted
 pub block_none : (Holds : List ℕ → List ℕ → Outcome → Type 0) (source target : ℕ) (input output : List ℕ)
     → IsBlock Holds source target 0 input output (counts_of [])
 block_none Holds source target input output = record
@@ -174,7 +174,7 @@ block_more Holds source target index count input output new counts outcome befor
       counted = ap (λ c. with_outcome c outcome) so_far.counted ∙ counts_push so_far.outcomes outcome;
     }
 
--- the same block, its parts named otherwise
+-- the same block, with its parts renamed
 pub block_named : (Holds : List ℕ → List ℕ → Outcome → Type 0) (source target count count' : ℕ)
     (input input' output output' : List ℕ) (counts : Counts)
     → count ≡ count' → input ≡ input' → output ≡ output'

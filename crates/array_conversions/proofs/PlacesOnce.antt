@@ -21,7 +21,7 @@ bytes_drop zero (byte ∷ bytes) h = h
 bytes_drop (suc n) [] h = tt
 bytes_drop (suc n) (byte ∷ bytes) h = bytes_drop n bytes h.1
 
--- a number is written to as many bytes in one way
+-- a number has only one encoding in a given number of bytes
 pub same_bytes : (bytes other : List ℕ) → AreBytes bytes → AreBytes other → length bytes ≡ length other
     → number_of bytes ≡ number_of other → bytes ≡ other
 same_bytes [] [] x y size same = refl
@@ -44,7 +44,7 @@ element [] index h = absurd (omega (arith, h))
 element (outcome ∷ outcomes) zero h = (outcome, refl)
 element (outcome ∷ outcomes) (suc index) h = element outcomes index (omega (arith, h))
 
--- lists of one length that have the same elements are one
+-- lists of the same length with the same elements are equal
 same_elements : {O : Type 0} (outcomes others : List O) → length outcomes ≡ length others
     → ((index : ℕ) (outcome other : O) → slice_get outcomes index ≡ Some outcome → slice_get others index ≡ Some other
     → outcome ≡ other)
@@ -59,7 +59,7 @@ same_elements {O} (o ∷ os) (p ∷ ps) size each =
 
 -- ---- places
 
--- the first places of a list, and one more
+-- the bytes of the first places of a list, and those of one more place
 one_more_place : (width count : ℕ) (bytes : List ℕ)
     → take (count * width + width) bytes ≡ take (count * width) bytes ++ value_at width count bytes
 one_more_place width count bytes =
@@ -77,7 +77,7 @@ none_taken [] (b ∷ other) = refl
 none_taken (a ∷ bytes) [] = refl
 none_taken (a ∷ bytes) (b ∷ other) = refl
 
--- lists with the same values in their places are the same there
+-- lists with the same values in their places are equal there
 same_places : (width count : ℕ) (bytes other : List ℕ)
     → ((index : ℕ) → index < count → value_at width index bytes ≡ value_at width index other)
     → take (count * width) bytes ≡ take (count * width) other
@@ -95,7 +95,7 @@ same_places width (suc count) bytes other each =
     ∙ sym (one_more_place width count other)
     ∙ ap (λ (n : ℕ). take n other) (sym split)
 
--- values in the same place of lists of one length have one length
+-- values in the same place of lists of the same length have the same length
 same_size : (width index : ℕ) (bytes other : List ℕ) → length bytes ≡ length other
     → length (value_at width index bytes) ≡ length (value_at width index other)
 same_size width index bytes other size =
@@ -112,7 +112,8 @@ FixesPlaces {O} Holds =
     (index : ℕ) (bytes other : List ℕ) (outcome also : O) → Holds index bytes outcome → Holds index other also
     → (number_of bytes ≡ number_of other) × (outcome ≡ also)
 
--- so it determines the bytes of all places, and the outcomes
+-- a relation that determines the number and the outcome in each place determines the bytes of all places, and all
+-- outcomes
 pub places_once : {O : Type 0} (Holds : ℕ → List ℕ → O → Type 0) (width count : ℕ) (bytes other : List ℕ)
     (outcomes others : List O) → FixesPlaces Holds → AreBytes bytes → AreBytes other
     → length bytes ≡ length other

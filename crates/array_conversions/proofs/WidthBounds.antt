@@ -14,11 +14,11 @@ pub record HasRoom (bits width : ℕ) : Type 0 where
   pub greatest : width ≤ 16
   pub enough : bits ≤ 8 * width
 
--- bits in as few bytes as have room for them
+-- the least number of bytes with room for the bits
 in_bytes : (bits : ℕ) → 1 ≤ bits → bits ≤ 128 → HasRoom bits (div_ceil bits 8)
 in_bytes bits some few = record { least = omega arith; greatest = omega arith; enough = omega arith }
 
--- or in sixteen
+-- sixteen bytes have room for the bits
 padded : (bits : ℕ) (explicit : Bool) → 1 ≤ bits → bits ≤ 128
     → HasRoom bits (if explicit then 16 else div_ceil bits 8)
 padded bits true some few = record { least = omega arith; greatest = omega arith; enough = omega arith }

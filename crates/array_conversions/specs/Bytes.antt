@@ -1,7 +1,7 @@
--- Whole numbers as bytes.
+-- Integers as bytes.
 use Rattle.std.specs.Prelude.{ℕ, ◌+◌, ◌*◌, ◌<◌, ⊤, List, [], ◌∷◌}
 
--- the whole number that the bytes encode, lowest first
+-- the integer that the bytes encode, lowest first
 abbrev pub number_of : List ℕ → ℕ
 number_of [] = 0
 number_of (byte ∷ bytes) = byte + 256 * number_of bytes

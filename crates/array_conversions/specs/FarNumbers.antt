@@ -1,5 +1,5 @@
--- Numbers so far out of the range of a format that only their side and their sign matter: past all its values, or below
--- half of its least one.
+-- Numbers so far out of the range of a format that only the side and the sign matter: past all its values, or below
+-- half of its smallest positive value.
 use Rattle.std.specs.Prelude.{◌≡◌, ℕ, ◌+◌, ◌*◌, ◌^◌, ◌<◌, ◌≤◌, Bool, true, false, List, slice_get, IsSomeAnd}
 use Rattle.rustc_apfloat.specs.declared.Round.{Round}
 use Rattle.rustc_apfloat.specs.Flags.{bits_of}
@@ -28,12 +28,12 @@ abbrev pub IsFar : Bool → Format → ℕ → ℕ → Type 0
 IsFar true g amount parts = IsPast g amount parts
 IsFar false g amount parts = IsLittle amount parts
 
--- what a number of that sign becomes that is rounded to this
+-- the value of a conversion, from the value that a number of this sign is rounded to
 abbrev pub with_overflow : Overflow → Format → Bool → Datum → Datum
 with_overflow Rounded g negative rounded = rounded
 with_overflow Saturated g negative rounded = saturated g (finite negative 0) rounded
 
--- the answer has the bits, the flags and the outcome of the magnitude with that sign
+-- the result has the bits, the flags and the outcome of the magnitude with this sign
 pub record IsAnswerTo (overflow : Overflow) (d : Constants) (mode : Round) (negative : Bool) (amount parts : ℕ)
     (answer : Converted) : Type 0 where
   pub rounded : Datum
@@ -42,13 +42,13 @@ pub record IsAnswerTo (overflow : Overflow) (d : Constants) (mode : Round) (nega
       (with_overflow overflow (format_with d) negative rounded)
   pub nan_is : answer.outcome.is_nan ≡ is_nan (with_overflow overflow (format_with d) negative rounded)
 
--- one answer to all magnitudes on that side
+-- one result for all magnitudes on a side
 abbrev pub AnswersFar : Overflow → Constants → Round → Bool → Bool → Converted → Type 0
 AnswersFar overflow d mode past negative answer =
     (amount parts : ℕ) → IsFar past (format_with d) amount parts
     → IsAnswerTo overflow d mode negative amount parts answer
 
--- the place of that answer among four
+-- the place of that result among the four
 abbrev pub far_place : Bool → Bool → ℕ
 far_place past negative = 2 * one_if past + one_if negative
 
@@ -58,7 +58,7 @@ AreFarAnswers overflow d mode answers =
     → IsSomeAnd (slice_get answers (far_place past negative))
     (λ answer. AnswersFar overflow d mode past negative answer)
 
--- the bits encode a number that is far out, and the place is that of its answer
+-- the bits encode a number far out of range, and the place is that of its result
 pub record IsFarPlace (c d : Constants) (bits place : ℕ) : Type 0 where
   pub past : Bool
   pub negative : Bool

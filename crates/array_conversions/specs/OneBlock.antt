@@ -1,4 +1,4 @@
--- A block of values is converted in one way.
+-- The conversion of a block of values is unique.
 use Rattle.std.specs.Prelude.{◌≡◌, ℕ, ◌*◌, ◌<◌, List, length}
 use Rattle.rustc_apfloat.specs.declared.Round.{Round}
 use Rattle.rustc_apfloat.specs.Lawful.{Constants, IsLawful}
@@ -8,12 +8,12 @@ use Rattle.array_conversions.specs.Blocks.{IsBlock}
 use Rattle.array_conversions.specs.Bytes.{AreBytes}
 use Rattle.array_conversions.specs.Values.{IsConvertedBy}
 
--- bytes for so many values of that width
+-- the bytes of `count` values of this width
 pub record AreBytesOf (width count : ℕ) (bytes : List ℕ) : Type 0 where
   pub are_bytes : AreBytes bytes
   pub size : length bytes ≡ count * width
 
--- for a lawful format with bits, two outputs that are the block of one input have the same bytes and the same counts
+-- for a lawful target format with bits, two conversions of the same block have the same bytes and the same counts
 abbrev pub IsBlockOnce : Type 0
 IsBlockOnce =
     (overflow : Overflow) (c d : Constants) (mode : Round) (source target count : ℕ)

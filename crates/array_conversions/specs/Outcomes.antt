@@ -26,7 +26,7 @@ counts_of outcomes =
 abbrev pub one_if : Bool → ℕ
 one_if holds = if holds then 1 else 0
 
--- the counts with one more
+-- the counts after one more outcome
 abbrev pub with_outcome : Counts → Outcome → Counts
 with_outcome counts outcome =
     record {
@@ -47,11 +47,11 @@ pub record HaveRoom (counts : Counts) : Type 0 where
   pub invalid : counts.invalid < 2 ^ 64 - 1
   pub nans : counts.nans < 2 ^ 64 - 1
 
--- a count that stops at the greatest value of its type
+-- a sum of counts that saturates at the greatest value of its type
 abbrev pub sum_to_top : ℕ → ℕ → ℕ
 sum_to_top count more = min (count + more) (2 ^ 64 - 1)
 
--- the counts of two blocks
+-- the counts of two blocks, added
 abbrev pub sum_of : Counts → Counts → Counts
 sum_of counts block =
     record {

@@ -1,4 +1,4 @@
--- Conversions in which a number that overflows gives the largest value of its sign.
+-- Conversions that saturate: a number that overflows becomes the largest value of its sign.
 use Rattle.std.specs.Prelude.{◌≡◌, ℕ, Bool, not, ◌&&◌, if◌then◌else◌}
 use Rattle.rustc_apfloat.specs.declared.Round.{Round}
 use Rattle.rustc_apfloat.specs.Format.{Format, largest}
@@ -8,7 +8,7 @@ use Rattle.rustc_apfloat.specs.Conversions.{IsConversion}
 use Rattle.array_conversions.specs.declared.saturation.Overflow.{Overflow}
 use Rattle.array_conversions.specs.declared.saturation.Overflow.TheVariants.{Rounded, Saturated}
 
--- Of a finite datum, a conversion is not finite only if it overflowed: it is then an infinity, or the NaN of a format
+-- The conversion of a finite datum is not finite only if it overflowed: it is then an infinity, or the NaN of a format
 -- without infinities.
 abbrev pub overflowed : Datum → Datum → Bool
 overflowed x rounded = is_finite x && not (is_finite rounded)
@@ -17,7 +17,7 @@ overflowed x rounded = is_finite x && not (is_finite rounded)
 abbrev pub saturated : Format → Datum → Datum → Datum
 saturated g x rounded = if overflowed x rounded then finite (is_negative x) (largest g) else rounded
 
--- the flags are those of the conversion, the overflow's too
+-- the flags are those of the conversion, including those of the overflow
 pub record IsSaturatedConversion (f g : Format) (mode : Round) (x value : Datum) (status : ℕ)
     (loses_info : Bool) : Type 0 where
   pub rounded : Datum

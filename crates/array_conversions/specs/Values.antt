@@ -14,8 +14,8 @@ use Rattle.array_conversions.specs.declared.saturation.Overflow.TheVariants.{Rou
 use Rattle.array_conversions.specs.Bytes.{number_of}
 use Rattle.array_conversions.specs.Saturation.{IsConversionBy, IsSaturatedConversion}
 
--- The input bytes are a value of the first format, and the output bytes are the one encoding of its conversion to the
--- second. Bytes beyond the width of the first are ignored, those beyond the width of the second are 0.
+-- The input bytes encode a value of the first format, and the output bytes are the canonical encoding of its conversion
+-- to the second. Bytes beyond the width of the first format are ignored, those beyond the width of the second are 0.
 pub record IsConvertedValue (c d : Constants) (mode : Round) (input output : List ℕ)
     (outcome : Outcome) : Type 0 where
   pub value : Datum
@@ -25,7 +25,7 @@ pub record IsConvertedValue (c d : Constants) (mode : Round) (input output : Lis
   pub is_encoded : IsEncodedBy (format_with d) (layout_with d) (number_of output) value
   pub nan_is : outcome.is_nan ≡ is_nan value
 
--- the same of a conversion that saturates
+-- the same for a conversion that saturates
 pub record IsSaturatedValue (c d : Constants) (mode : Round) (input output : List ℕ)
     (outcome : Outcome) : Type 0 where
   pub value : Datum

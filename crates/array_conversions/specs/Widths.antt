@@ -11,7 +11,8 @@ use Rattle.array_conversions.specs.declared.widths.Widths.{Widths}
 use Rattle.array_conversions.specs.declared.conversion.Conversion.{Conversion}
 use Rattle.array_conversions.specs.declared.array.ArrayConversion.{ArrayConversion}
 
--- how many bytes a value of a format takes: those of its bits, but an extended format can be padded to sixteen
+-- how many bytes a value of a format takes: as many as its bits need, except that an extended format can be padded to
+-- sixteen
 abbrev pub width_with : Constants → Extended → ℕ
 width_with c Packed = div_ceil c.bits 8
 width_with c Padded = if c.explicit_integer_bit then 16 else div_ceil c.bits 8
@@ -25,7 +26,7 @@ source_width conversion = width_of conversion.source conversion.extended
 abbrev pub target_width : Conversion → ℕ
 target_width conversion = width_of conversion.target conversion.extended
 
--- arrays are packed
+-- the widths in arrays, which are packed
 abbrev pub array_widths : ArrayConversion → Widths
 array_widths conversion =
     record {

@@ -1,4 +1,4 @@
--- Conversions by words.
+-- The conversions that words name.
 use Rattle.std.specs.Prelude.{ℕ, List, Option, Some, None}
 use Rattle.formats_at_run_time.specs.declared.built_in.BuiltInFormat.{BuiltInFormat}
 use Rattle.formats_at_run_time.specs.BuiltIns.{kind_named, format_in}
@@ -6,12 +6,12 @@ use Rattle.formats_at_run_time.specs.Modes.{mode_named}
 use Rattle.array_conversions.specs.declared.widths.Extended.{Extended}
 use Rattle.array_conversions.specs.declared.conversion.Conversion.{Conversion}
 
--- the result for the value, where there is one
+-- the result for a value, if there is one
 abbrev pub with_some : {A B : Type 0} → Option A → (A → Option B) → Option B
 with_some None result = None
 with_some (Some value) result = result value
 
--- pairs are a kind without a format
+-- the format that a word names; pairs are a kind without a format
 abbrev pub format_named : List ℕ → Option BuiltInFormat
 format_named word = with_some (kind_named word) format_in
 

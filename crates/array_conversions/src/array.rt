@@ -1,4 +1,4 @@
-//! Arrays of values in bytes that the caller lends.
+//! Conversion of arrays, in bytes that the caller lends.
 
 ghost use Rattle.std.specs.Prelude.{◌≡◌, ◌*◌, ◌<◌, ◌≤◌, length};
 ghost use Rattle.rustc_apfloat.specs.FlaggedTypes.{constants_of};
@@ -18,21 +18,21 @@ use rustc_apfloat::Round;
 use rustc_apfloat::ieee::Flagged;
 use std::marker::PhantomData;
 
-/// A conversion of arrays, values of the x87 format in ten bytes. The rule of flags is that of the format converted to.
+/// A conversion of arrays. Values of the x87 format take ten bytes. The rule of flags is that of the target.
 #[derive(Clone, Copy)]
 pub struct ArrayConversion {
-    /// The format converted from.
+    /// The source format.
     pub source: BuiltInFormat,
-    /// The format converted to.
+    /// The target format, with its rule of flags.
     pub target: FlaggedFormat,
     /// The rounding mode.
     pub round: Round,
-    /// What an overflow gives.
+    /// What a number that overflows becomes.
     pub overflow: Overflow,
 }
 
 impl ArrayConversion {
-    /// How many bytes a value takes, before its conversion and after it.
+    /// The widths of a value in bytes, before and after its conversion.
     pub fn widths(self) -> Widths
         ensures is { result ≡ array_widths self }
         ensures least { (1 ≤ result.source) × (1 ≤ result.target) }
@@ -44,7 +44,7 @@ impl ArrayConversion {
         }
     }
 
-    /// Converts a count of values, each in its place.
+    /// Converts `count` values, each in its place.
     pub fn convert(self, count: usize, input: &[u8], output: &mut [u8]) -> Counts
         requires input { length input.now ≡ count * (array_widths self).source }
         requires output { length output.old ≡ count * (array_widths self).target }
@@ -65,7 +65,7 @@ impl ArrayConversion {
     }
 }
 
-/// A call to convert an array, made in the format converted from.
+/// The call that converts an array, made at the type of the source format.
 #[derive(Clone, Copy)]
 struct ArrayCall<'a> {
     conversion: ArrayConversion,
@@ -74,7 +74,7 @@ struct ArrayCall<'a> {
     input: &'a [u8],
 }
 
-/// The same, made in the format converted to: `S` is the one converted from.
+/// The same call, made at the type of the target format; `S` is the source format.
 #[derive_where(Clone, Copy)]
 struct ArrayCallFrom<'a, S: Flagged> {
     call: ArrayCall<'a>,

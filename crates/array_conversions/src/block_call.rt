@@ -1,4 +1,4 @@
-//! The conversion of a block at the types of its two formats.
+//! The call that converts a block, at the types of both formats.
 
 ghost use Rattle.std.specs.Prelude.{◌≡◌, ◌*◌, ◌<◌, ◌≤◌, length, take};
 ghost use Rattle.rustc_apfloat.specs.Types.{constants_of};
@@ -18,14 +18,14 @@ use rustc_apfloat::Round;
 use rustc_apfloat::ieee::Semantics;
 use std::marker::PhantomData;
 
-/// A call to convert a block, made in the format converted from.
+/// The call that converts a block, made at the type of the source format.
 #[derive(Drop)]
 pub struct BlockCall<'a> {
     /// The conversion.
     pub conversion: Conversion,
-    /// What an overflow gives.
+    /// What a number that overflows becomes.
     pub overflow: Overflow,
-    /// How many values the block has.
+    /// The number of values in the block.
     pub count: usize,
     /// Their bytes.
     pub input: &'a [u8],
@@ -33,7 +33,7 @@ pub struct BlockCall<'a> {
     pub output: Vec<u8>,
 }
 
-/// The same, made in the format converted to: `S` is the one converted from.
+/// The same call, made at the type of the target format; `S` is the source format.
 #[derive(Drop)]
 struct BlockCallFrom<'a, S: Semantics> {
     call: BlockCall<'a>,

@@ -14,8 +14,8 @@ use crate::widths::Widths;
 use rustc_apfloat::Round;
 use rustc_apfloat::ieee::Flagged;
 
-/// Converts a count of values, each in its place: the bytes of the first to the bytes of the first, and so on. `overflow`
-/// says what a number that overflows gives.
+/// Converts `count` values, each in its place: the bytes of the first value to the bytes of the first value, and so on.
+/// `overflow` says what a number that overflows becomes.
 pub fn convert_block_by<S: Flagged, T: Flagged>(
     overflow: Overflow,
     round: Round,
@@ -45,7 +45,7 @@ pub fn convert_block_by<S: Flagged, T: Flagged>(
     counts
 }
 
-/// A block of values is converted in one way: to the same bytes, with the same counts.
+/// The conversion of a block has one result: the same bytes, with the same counts.
 pub fn one_block()
     ensures { IsBlockOnce }
 {}

@@ -1,9 +1,9 @@
-//! Whole numbers as bytes, lowest first.
+//! Integers as little-endian bytes.
 
 ghost use Rattle.std.specs.Prelude.{◌≡◌, ◌^◌, ◌<◌, ◌≤◌, length};
 ghost use Rattle.array_conversions.specs.Bytes.{number_of};
 
-/// The whole number that the bytes encode, lowest first.
+/// The integer that the bytes encode in little-endian order.
 #[inline]
 pub fn number_of(bytes: &[u8]) -> u128
     requires { length bytes.now ≤ 16 }
@@ -20,7 +20,7 @@ pub fn number_of(bytes: &[u8]) -> u128
     }
 }
 
-/// The same, a byte at a time.
+/// The same for any number of bytes, one byte at a time.
 fn number_byte_by_byte(bytes: &[u8]) -> u128
     requires { length bytes.now ≤ 16 }
     ensures { result ≡ number_of bytes.now }
@@ -32,7 +32,7 @@ fn number_byte_by_byte(bytes: &[u8]) -> u128
     number
 }
 
-/// Writes a whole number as bytes, lowest first, with zeros above it.
+/// Writes an integer as little-endian bytes, followed by zeros.
 #[inline]
 pub fn write_number(number: u128, bytes: &mut [u8])
     requires { number < 256 ^ length bytes.old }
@@ -47,7 +47,7 @@ pub fn write_number(number: u128, bytes: &mut [u8])
     }
 }
 
-/// The same, a byte at a time.
+/// The same for any number of bytes, one byte at a time.
 fn write_byte_by_byte(number: u128, bytes: &mut [u8])
     requires { number < 256 ^ length bytes.old }
     ensures { number_of bytes.new ≡ number }

@@ -14,16 +14,16 @@ use crate::widths::{Extended, Widths, width};
 use formats_at_run_time::{BuiltInFormat, BuiltInKind, mode_named};
 use rustc_apfloat::Round;
 
-/// The formats converted from and to, the rounding mode, and how many bytes a value of the x87 format takes.
+/// The source and the target format, the rounding mode, and the width of a value of the x87 format.
 #[derive(Clone, Copy, Debug)]
 pub struct Conversion {
-    /// The format converted from.
+    /// The source format.
     pub source: BuiltInFormat,
-    /// The format converted to.
+    /// The target format.
     pub target: BuiltInFormat,
     /// The rounding mode.
     pub round: Round,
-    /// How many bytes a value of the x87 format takes.
+    /// The width of a value of the x87 format.
     pub extended: Extended,
 }
 
@@ -40,7 +40,7 @@ impl Conversion {
         })
     }
 
-    /// How many bytes a value takes, before its conversion and after it.
+    /// The widths of a value in bytes, before and after its conversion.
     #[inline]
     pub fn widths(self) -> Widths
         ensures source { result.source ≡ source_width self }
@@ -54,8 +54,8 @@ impl Conversion {
         }
     }
 
-    /// Converts the values that are complete in the bytes read, each in its place. The buffer has to have room for
-    /// them; what its bytes after them hold is not specified. `overflow` says what a number that overflows gives.
+    /// Converts the complete values in `read`, each in its place in `written`, which must have room for them; the bytes
+    /// after them are unspecified. `overflow` says what a number that overflows becomes.
     pub fn convert_by(self, overflow: Overflow, read: &[u8], written: Vec<u8>) -> ConvertedBlock
         requires { (length read.now / source_width self) * target_width self
             ≤ length written.items }
@@ -93,13 +93,13 @@ impl Conversion {
 /// The outcome of converting a block.
 #[derive(Drop)]
 pub struct ConvertedBlock {
-    /// The counts of its values.
+    /// The counts of its outcomes.
     pub counts: Counts,
-    /// The buffer that was given, which begins with the converted values.
+    /// The buffer that was passed, which begins with the converted values.
     pub buffer: Vec<u8>,
-    /// How many bytes they take.
+    /// The number of bytes that the converted values take.
     pub written: usize,
-    /// How many bytes followed the last value that was read.
+    /// The number of input bytes after the last complete value.
     pub left_over: usize,
 }
 

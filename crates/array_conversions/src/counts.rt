@@ -8,13 +8,13 @@ use rustc_apfloat::{Flags, Status};
 /// The outcome of converting a value.
 #[derive(Clone, Copy)]
 pub struct Outcome {
-    /// The flags that its conversion raised.
+    /// The flags that the conversion raised.
     pub status: Status,
-    /// Whether it is a NaN in the format that it was converted to.
+    /// Whether the converted value is a NaN.
     pub is_nan: bool,
 }
 
-/// How many values there were, and for how many of them the conversion raised a flag or gave a NaN.
+/// The number of values, and of those whose conversion raised a flag or gave a NaN.
 #[derive(Clone, Copy, Debug, PartialEq, Eq)]
 pub struct Counts {
     /// All values.
@@ -27,7 +27,7 @@ pub struct Counts {
     pub overflow: u64,
     /// Those that raised `INVALID_OP`.
     pub invalid: u64,
-    /// Those that are NaNs in the format that they were converted to.
+    /// Those whose converted value is a NaN.
     pub nans: u64,
 }
 

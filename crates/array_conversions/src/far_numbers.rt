@@ -1,5 +1,5 @@
-//! Numbers so far out of the range of a format that only their side and their sign matter: those past all its values,
-//! and those below half of its least one. All of them on one side, of one sign, have one answer.
+//! Numbers so far out of the range of a format that only the side and the sign matter: those past all its values, and
+//! those below half of its smallest positive value. All numbers on one side with the same sign have the same result.
 
 ghost use Rattle.std.specs.Prelude.{◌≡◌, ℕ, ◌+◌, ◌-◌, ◌^◌, ◌<◌, false, pos, neg_ℤ, ◌+ℤ◌, ◌-ℤ◌, ◌≤ℤ◌, IsTrue, IfSome, MatchBool};
 ghost use Rattle.rustc_apfloat.specs.Bounds.{IsWithin, exponent_bound};
@@ -14,13 +14,15 @@ use apfloat_words::low_digits;
 use rustc_apfloat::ieee::{Flagged, IeeeFloat, Loss, deliver};
 use rustc_apfloat::{ExpInt, Float, Round, StatusAnd};
 
-/// The answers to numbers below half of the least value, then to those past all values; of both first to positive ones.
+/// The results for numbers below half of the smallest positive value, then for numbers past all values; each first for
+/// positive numbers, then for negative ones.
 pub type FarAnswers = [Converted; 4];
 
-/// For fewer values the answers are not found: that takes as long as some twenty conversions.
+/// For fewer values than this, the results are not computed first, since that takes as long as some twenty conversions.
 const LEAST_COUNT: usize = 256;
 
-/// The answers for so many values, unless there are too few values, or few of them can be far out.
+/// The results for the conversion of `count` values, unless there are too few values, or few of them can be far out of
+/// range.
 #[inline(always)]
 pub fn far_answers_for<S: Flagged, T: Flagged>(
     overflow: Overflow,
@@ -37,7 +39,7 @@ pub fn far_answers_for<S: Flagged, T: Flagged>(
     }
 }
 
-/// The answers.
+/// The four results.
 fn far_answers<T: Flagged>(overflow: Overflow, round: Round) -> FarAnswers
     requires { T.PRECISION < T.BITS }
     ensures { AreFarAnswers overflow (constants_of T.Flagged) round result }
@@ -50,7 +52,7 @@ fn far_answers<T: Flagged>(overflow: Overflow, round: Round) -> FarAnswers
     ]
 }
 
-/// The answer to all numbers on that side with that sign.
+/// The result for all numbers on this side with this sign.
 #[inline(never)]
 fn far_answer<T: Flagged>(overflow: Overflow, round: Round, past: bool, negative: bool) -> Converted
     requires { T.PRECISION < T.BITS }
@@ -89,7 +91,7 @@ fn with_overflow<T: Flagged>(
     }
 }
 
-/// The exponent of a power of two on that side.
+/// The exponent of a power of two on this side.
 fn far_exponent<T: Flagged>(past: bool) -> ExpInt
     ensures within { IsWithin exponent_bound result }
     ensures unit { let g = format_of T.Flagged in
@@ -103,7 +105,7 @@ fn far_exponent<T: Flagged>(past: bool) -> ExpInt
     }
 }
 
-/// The place of the answer to the number that these bits encode, if it has one among the answers.
+/// The index of the result for the number that these bits encode, if it is far out of range.
 #[inline(always)]
 pub fn far_place<S: Flagged, T: Flagged>(bits: u128) -> Option<usize>
     requires { S.PRECISION < S.BITS }
@@ -125,7 +127,7 @@ pub fn far_place<S: Flagged, T: Flagged>(bits: u128) -> Option<usize>
     }
 }
 
-/// The place of the answer to the numbers on that side with that sign.
+/// The index of the result for the numbers on this side with this sign.
 #[inline(always)]
 fn place_of(past: bool, negative: bool) -> usize
     ensures place { result ≡ far_place past negative }
@@ -155,7 +157,7 @@ fn biased_exponent<S: Flagged>(bits: u128) -> u32
     low_digits(bits >> (S::PRECISION - 1), S::EXP_BITS as u32) as u32
 }
 
-/// Whether it is neither that of zeros and denormal numbers nor the greatest.
+/// Whether this is neither the biased exponent of zeros and denormal numbers nor the greatest one.
 #[inline(always)]
 fn is_of_number<S: Flagged>(biased: u32) -> bool
     requires bits { S.PRECISION < S.BITS }
@@ -174,7 +176,7 @@ fn is_past<S: Flagged, T: Flagged>(biased: u32) -> bool
     S::MIN_EXP + biased as ExpInt >= T::MAX_EXP + 2
 }
 
-/// Whether numbers with this biased exponent are below half of the least value of `T`.
+/// Whether numbers with this biased exponent are below half of the smallest positive value of `T`.
 #[inline(always)]
 fn is_little<S: Flagged, T: Flagged>(biased: u32) -> bool
     requires { biased < 2 ^ 22 }

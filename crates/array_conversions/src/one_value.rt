@@ -13,8 +13,8 @@ use crate::saturation::{Overflow, convert_by};
 use rustc_apfloat::ieee::{Flagged, IeeeFloat};
 use rustc_apfloat::{Float, Round, StatusAnd};
 
-/// Converts the value of these bytes, lowest first, to the bytes of its value in the format `T`. The answers to numbers
-/// that are far out of its range can be given.
+/// Converts the value in little-endian bytes to the format `T`, into the bytes of `output`. `far` has the results for
+/// numbers far out of the range of `T`, if they were computed.
 #[inline]
 pub fn convert_value<S: Flagged, T: Flagged>(
     far: &Option<FarAnswers>,
@@ -58,7 +58,7 @@ fn convert_bits<S: Flagged, T: Flagged>(
     convert_near::<S, T>(overflow, round, bits)
 }
 
-/// Converts the value that these bits encode, by the conversion of one value.
+/// Converts the value that these bits encode by `convert_by`.
 #[inline(always)]
 fn convert_near<S: Flagged, T: Flagged>(overflow: Overflow, round: Round, bits: u128) -> Converted
     requires read { S.PRECISION < S.BITS }

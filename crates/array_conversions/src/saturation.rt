@@ -1,4 +1,4 @@
-//! Conversions in which a number that overflows gives the largest value of its sign.
+//! Conversions that saturate: a number that overflows becomes the largest value of its sign.
 
 ghost use Rattle.std.specs.Prelude.{◌≡◌};
 ghost use Rattle.rustc_apfloat.specs.Datum.{finite};
@@ -10,17 +10,17 @@ ghost use Rattle.array_conversions.specs.Saturation.{IsConversionBy, saturated};
 use rustc_apfloat::ieee::{Flagged, IeeeFloat};
 use rustc_apfloat::{Float, FloatConvert, Round, StatusAnd};
 
-/// What a conversion makes of a number that is past the largest value once it is rounded.
+/// What a number becomes that is past the largest value once it is rounded.
 #[derive(Clone, Copy, Debug)]
 pub enum Overflow {
-    /// What its rounding delivers: an infinity, in formats without infinities the NaN, or the largest value.
+    /// What its rounding delivers: an infinity (or the NaN of a format without infinities), or the largest value.
     Rounded,
     /// The largest value of its sign, in every mode.
     Saturated,
 }
 
-/// A value in the format `T`, rounded once, with the flags of that rounding. Saturation changes no flag, and nothing of
-/// infinities and NaNs.
+/// A value in the format `T`, rounded once, with the flags of that rounding. Saturation changes neither flags nor the
+/// conversion of infinities and NaNs.
 #[inline]
 pub fn convert_by<S: Flagged, T: Flagged>(
     overflow: Overflow,
@@ -38,7 +38,7 @@ pub fn convert_by<S: Flagged, T: Flagged>(
     }
 }
 
-/// What takes the place of the value that `x` was rounded to.
+/// The converted value, given the value that `x` was rounded to.
 #[inline]
 fn saturated<S: Flagged, T: Flagged>(x: IeeeFloat<S>, rounded: IeeeFloat<T>) -> IeeeFloat<T>
     ensures { result ≡ saturated (format_of T.Flagged) x rounded }

@@ -1,4 +1,4 @@
-//! How many bytes a value takes.
+//! Widths of values in bytes.
 
 ghost use Rattle.std.specs.Prelude.{◌≡◌, ◌≤◌};
 ghost use Rattle.array_conversions.specs.Calls.{at_format};
@@ -7,25 +7,25 @@ ghost use Rattle.array_conversions.specs.Widths.{width_of, width_with};
 use formats_at_run_time::{BuiltInFormat, InFormat};
 use rustc_apfloat::ieee::Semantics;
 
-/// How many bytes a value of the x87 format takes, which is the one with an explicit integer bit.
+/// The width of a value of the x87 format, the one with an explicit integer bit.
 #[derive(Clone, Copy, Debug)]
 pub enum Extended {
-    /// Ten, which is the size of its encoding.
+    /// Ten bytes, the size of its encoding.
     Packed,
-    /// Sixteen, of which the last six are padding.
+    /// Sixteen bytes, of which the last six are padding.
     Padded,
 }
 
-/// How many bytes a value takes, before its conversion and after it.
+/// The widths of a value in bytes, before and after its conversion.
 #[derive(Clone, Copy)]
 pub struct Widths {
-    /// In the format converted from.
+    /// In the source format.
     pub source: usize,
-    /// In the format converted to.
+    /// In the target format.
     pub target: usize,
 }
 
-/// How many bytes a value of the format takes.
+/// The width of a value of the format in bytes.
 #[inline]
 pub fn width(format: BuiltInFormat, extended: Extended) -> usize
     ensures is { result ≡ width_of format extended }
@@ -35,7 +35,7 @@ pub fn width(format: BuiltInFormat, extended: Extended) -> usize
     format.run(WidthCall { extended })
 }
 
-/// A call that tells how many bytes a value of its format takes.
+/// The call that returns the width of a value of its format in bytes.
 #[derive(Clone, Copy)]
 struct WidthCall {
     extended: Extended,

@@ -4,7 +4,7 @@ use rustc_apfloat::ieee::{IeeeFloat, Semantics};
 use rustc_apfloat::ppc::DoubleDouble;
 use rustc_apfloat::{Flags, Float, StatusAnd};
 
-/// The checksum of results in order, which covers the flags and the two halves of the bits of each.
+/// The checksum of a sequence of results, over the flags and both halves of the bits of each.
 pub fn checksum_of<T: Written>(results: &[StatusAnd<T>]) -> u64 {
     let mut sum = 0;
     for result in results {
@@ -16,7 +16,7 @@ pub fn checksum_of<T: Written>(results: &[StatusAnd<T>]) -> u64 {
     sum
 }
 
-/// The checksum with one more word.
+/// The checksum extended by one word.
 fn with_word(sum: u64, word: u64) -> u64 {
     const PRIME: u128 = (1 << 61) - 1;
     ((u128::from(sum) * 31 + u128::from(word)) % PRIME) as u64

@@ -1,4 +1,4 @@
-//! How a format encodes numbers, and random numbers of a format.
+//! The encoding of a format, and random numbers of the format.
 
 use crate::generator::Generator;
 use crate::operand_set::OperandSet;
@@ -13,7 +13,7 @@ pub struct Encoding {
     min_exp: i32,
     max_exp: i32,
     writes_integer_bit: bool,
-    // Whether the pattern of all ones, among the greatest numbers, is the NaN.
+    // Whether the pattern of all ones, which would be the greatest number, is the NaN.
     all_ones_is_nan: bool,
 }
 
@@ -50,7 +50,7 @@ impl Encoding {
         sign | exponent | significand
     }
 
-    /// The bits of the number with this sign and exponent; the exponent is at least that of the least normal number.
+    /// The bits of the normal number with this sign and exponent.
     pub fn normal_bits(self, is_negative: bool, exponent: i32, digits: u128) -> u128 {
         let field = exponent.max(self.min_exp).saturating_sub(self.min_exp);
         self.bits_of(is_negative, field.saturating_add(1), digits)
@@ -83,8 +83,8 @@ impl Encoding {
         }
     }
 
-    /// The bits of the next pair: an operand, and a low part 54 to 64 binary places lower, or 0 if that is not a normal
-    /// number of binary64.
+    /// The bits of the next pair: an operand, and a low part whose exponent is 54 to 64 lower, or 0 if that is not a
+    /// normal number of binary64.
     pub fn pair(self, set: OperandSet, generator: &mut Generator) -> u128 {
         let high = self.operand(set, generator);
         let head = generator.word();
@@ -109,14 +109,14 @@ impl Encoding {
         )
     }
 
-    /// A nonzero denormal number with any count of digits.
+    /// A nonzero denormal number of random length.
     fn denormal(self, is_negative: bool, digits: u128, generator: &mut Generator) -> u128 {
         let length = generator.exponent(1, self.precision.saturating_sub(1));
         let first = shifted(1, width(length.saturating_sub(1)));
         self.bits_of(is_negative, 0, digits & ones(width(length)) | first)
     }
 
-    /// The exponents of moderate numbers range from `-span` to `span`.
+    /// The bound of the exponents of moderate numbers, which range from `-span` to `span`.
     fn span(self) -> i32 {
         let half_the_digits = (self.precision / 2).saturating_add(2);
         half_the_digits
@@ -124,7 +124,7 @@ impl Encoding {
             .max(1)
     }
 
-    /// The greatest count of hexadecimal digits of a text after the point.
+    /// The greatest number of hexadecimal digits after the point of a text.
     pub fn digits_of_texts(self) -> u64 {
         u64::try_from(self.precision.saturating_add(3) / 4)
             .unwrap_or(0)

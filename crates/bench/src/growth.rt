@@ -1,4 +1,4 @@
-//! How times grow.
+//! How times grow with the size of the operands.
 
 ghost use Rattle.std.specs.Prelude.{◌<◌};
 
@@ -18,15 +18,15 @@ use std::alloc::{AllocError, Global};
 use std::io;
 use std::rt::Clock;
 
-/// Prints the time of reading a text by its length, of a remainder by the difference of exponents, and of a quotient by
-/// its digits.
+/// Prints the times of reading a text by its length, of a remainder by the difference of the exponents, and of a
+/// quotient by the precision.
 pub fn print_growth(rt: &(impl Clock + Print + AllocGlobal)) -> io::Result<()> {
     print_readings(rt)?;
     print_remainders(rt)?;
     print_quotients(rt)
 }
 
-/// Prints a table of the times of reading a text, by its count of digits.
+/// Prints a table of the times of reading a text, by the number of its digits.
 fn print_readings(rt: &(impl Clock + Print + AllocGlobal)) -> io::Result<()> {
     println!(rt;
         "| Hexadecimal digits, read as a double | Nanoseconds | For each digit |\n|---|---|---|"

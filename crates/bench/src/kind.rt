@@ -1,4 +1,4 @@
-//! The measurements of an operation in a kind of values.
+//! Measures an operation in a kind of values.
 
 use crate::measure::Measured;
 use crate::numbers::measured_in;
@@ -9,7 +9,7 @@ use rustc_apfloat::ieee::Semantics;
 use std::io;
 use std::rt::Clock;
 
-/// The measurements of an operation on values of a kind, or nothing if the kind does not have it.
+/// The measurements of an operation on values of a kind, or `None` if the kind does not have it.
 pub fn measured(
     rt: &(impl Clock + AllocGlobal),
     kind: BuiltInKind,
@@ -18,7 +18,7 @@ pub fn measured(
     kind.run(Measurement { rt, task })
 }
 
-/// A task, and the system that it is measured on.
+/// A task, and the system that provides the clock and the memory.
 #[derive(Drop)]
 struct Measurement<'a, R> {
     rt: &'a R,

@@ -1,4 +1,4 @@
-//! Does a fixed amount of work with each operation in each type, and reports the results and how long they take.
+//! Makes a fixed number of calls of each operation in each type, and reports checksums of the results, or times.
 //!
 //! Without arguments it prints a line for each operation, type and set of operands: the checksums of 1024 results,
 //! flags included, in the modes even, up, down, zero and away, or one checksum if the operation has no mode. With

@@ -1,4 +1,4 @@
-//! Times of rounds, and the measurements of an operation.
+//! Times rounds of calls.
 
 use crate::checksum::{Written, checksum_of};
 use crate::task::room;
@@ -7,14 +7,14 @@ use std::io;
 use std::rt::Clock;
 use std::time::{Duration, Instant};
 
-/// What was measured of calls for many operands.
+/// The measurements of a round of calls.
 #[derive(Clone, Copy)]
 pub struct Measured {
     /// The checksum of the results.
     pub checksum: u64,
     /// The least time of a round, which is one call for each operand.
     pub time: Duration,
-    /// How many operands there are.
+    /// The number of operands.
     pub count: usize,
 }
 
@@ -40,7 +40,7 @@ impl Rounds {
         self.spent = self.spent.saturating_add(round);
     }
 
-    /// Whether the rounds took a fifth of a second.
+    /// Whether the rounds took a fifth of a second in all.
     fn are_enough(self) -> bool {
         self.spent > Duration::from_millis(200)
     }
@@ -55,13 +55,13 @@ impl Rounds {
     }
 }
 
-/// What is done with operands of type `X`, with results of type `T`.
+/// Calls on operands of type `X`, with results of type `T`.
 pub trait Calls<X, T>: Copy {
     /// Makes a call for each operand.
     fn make(self, operands: &[X], answers: &mut [StatusAnd<T>]);
 }
 
-/// Measures calls: one round that is not timed, and then timed rounds until they are enough, at most `rounds`.
+/// Measures calls: one round that is not timed, then at most `rounds` timed ones, until they are enough.
 pub fn measured_calls<X, T: Written, C: Calls<X, T>>(
     rt: &(impl Clock + AllocGlobal),
     rounds: u32,

@@ -1,4 +1,4 @@
-//! The time of one call, as it is printed.
+//! Times per call, as they are printed.
 
 use crate::measure::Measured;
 use std::fmt;
@@ -16,7 +16,7 @@ impl Nanoseconds {
         Nanoseconds::of_part(answers.time, answers.count)
     }
 
-    /// A time divided by a count.
+    /// A time divided by a number of calls.
     pub fn of_part(whole: Duration, count: usize) -> Self {
         let hundredths = whole.as_nanos().saturating_mul(100);
         let part = hundredths.checked_div(count as u128).unwrap_or(0);
@@ -25,7 +25,7 @@ impl Nanoseconds {
         }
     }
 
-    /// This time divided by a count.
+    /// This time divided by a number of parts.
     pub fn part(self, count: u64) -> Self {
         Nanoseconds {
             hundredths: self.hundredths.checked_div(count).unwrap_or(0),

@@ -1,4 +1,4 @@
-//! The operations of a format.
+//! The operations of formats.
 
 ghost use Rattle.std.specs.Prelude.{◌<◌};
 
@@ -157,7 +157,7 @@ fn readings<S: Semantics>(rt: &(impl Clock + AllocGlobal), task: Task) -> io::Re
     measured_calls(rt, task.rounds, Reads(task.mode), drawn.as_slice(), blank)
 }
 
-/// Reads texts; a refused one gives 0 with `INVALID_OP`.
+/// Reads texts; a refusal counts as 0 with `INVALID_OP`.
 #[derive(Clone, Copy)]
 pub struct Reads(pub Round);
 

@@ -1,6 +1,6 @@
 //! Sets of operands.
 
-/// Which numbers are drawn.
+/// The numbers that are drawn.
 #[derive(Clone, Copy)]
 pub enum OperandSet {
     /// Normal ones with exponents near 0.

@@ -6,10 +6,10 @@ use crate::operand_set::OperandSet;
 use std::alloc::{AllocError, Global};
 use std::fmt::Write;
 
-/// How many operands of each kind are drawn.
+/// The number of operands of each kind that are drawn.
 const COUNT: usize = 1024;
 
-/// What operands are drawn from.
+/// The kinds of operands.
 #[derive(Clone, Copy)]
 pub enum Source {
     /// The bits of a number.

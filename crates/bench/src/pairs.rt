@@ -106,7 +106,7 @@ fn readings(rt: &(impl Clock + AllocGlobal), task: Task) -> io::Result<Measured>
     measured_calls(rt, task.rounds, Reads(task.mode), drawn.as_slice(), blank)
 }
 
-/// Reads texts; a refused one gives 0 with `INVALID_OP`.
+/// Reads texts; a refusal counts as 0 with `INVALID_OP`.
 #[derive(Clone, Copy)]
 struct Reads(Round);
 

@@ -1,4 +1,4 @@
-//! What is printed about all operations: checksums, and times.
+//! Prints checksums or times of all operations.
 
 use crate::kind::measured;
 use crate::nanoseconds::Nanoseconds;

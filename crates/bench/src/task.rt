@@ -1,4 +1,4 @@
-//! What is measured in a type.
+//! What is measured, in any type.
 
 use crate::operand_set::OperandSet;
 use crate::operation::Operation;
@@ -14,7 +14,7 @@ pub struct Task {
     pub set: OperandSet,
     /// The rounding mode.
     pub mode: Round,
-    /// The greatest number of rounds that are timed.
+    /// The greatest number of timed rounds.
     pub rounds: u32,
 }
 

@@ -30,7 +30,7 @@ pub fn wide_arithmetic<S: Semantics>(
     )
 }
 
-/// The drawn operands; of a root, their magnitudes.
+/// The drawn operands, or for a root their magnitudes.
 fn operands_of<S: Semantics>(alloc: Global, task: Task) -> Result<Vec<Operands<S>>, AllocError>
     requires { S.PRECISION < S.BITS }
 {

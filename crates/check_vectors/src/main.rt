@@ -1,6 +1,6 @@
 //! Checks files of test vectors: rows of commands with their replies, and of calls with their results.
 //!
-//! Rows come from the named file, or from standard input. The crate `vector_rows`, and `--help`, explain the rows and
+//! Rows come from the named file, or from standard input. The crate `vector_rows` and `--help` describe the rows and
 //! how they are checked.
 #![tactic(auto)]
 

@@ -1,4 +1,4 @@
-//! Lines of other programs' files, which the model of `evidence` has computed (`evidence/field_files.py`).
+//! Lines of other programs, with results that the model in `evidence` computed (`evidence/field_files.py`).
 
 use std::io::{BufRead, Read, Write};
 use std::process::Abort;
@@ -163,7 +163,7 @@ static TESTFLOAT: &[(&str, &str, &str)] = &[
     ),
 ];
 
-/// Lines of FPgen. The last one says what a trap gets.
+/// Lines of FPgen. The last one states what is delivered to a trap handler.
 const FPGEN: &str = "b32*+ =^ -1.0C0C74P127 +0.358000P-126 -1.50B859P1 -> -1.05A0C7P2 x\n\
     b64V 0 -1.2217BC0000000P1023 -> Q i\n\
     b32*+ 0 -1.2FA000P1 -1.36BB58P127 +1.658000P-1 -> +1.7FFFFFP127 xo\n\
@@ -186,7 +186,7 @@ const FPGEN: &str = "b32*+ =^ -1.0C0C74P127 +0.358000P-126 -1.50B859P1 -> -1.05A
     b64/ 0 +0.04A10B401BA85P-1022 -1.E05B000000000P-3 -> -0.13BC72246BE67P-1022 xu\n\
     b32+ =0 x +1.000000P0 +1.000000P-60 -> +1.000000P0 x";
 
-/// Asserts that an input of so many lines agrees, but for those that are skipped.
+/// Asserts that this many lines of an input agree, that this many are skipped, and that no others are reported.
 fn expect_agreement<R: Abort + Clock + AllocGlobal>(
     rt: &R,
     lines: Lines,
@@ -230,13 +230,13 @@ fn agrees_with_lines_of_fpgen(rt: HostRuntime) {
     expect_agreement(&rt, Lines::Fpgen(Fpgen::new()), FPGEN.as_bytes(), (20, 1));
 }
 
-/// Lines of FPgen, the first of them as messages have it.
+/// Lines of FPgen. The first one is that of the messages.
 const SUMS: &str = "b32+ =0 +1.000000P0 +1.400000P1 -> +1.000000P2\n\
     b64- > +1.8000000000000P0 -1.8000000000000P0 -> +1.8000000000000P1\n\
     b32+ < +1.400000P0 +1.000000P0 -> +1.400000P1\n\
     b32- =0 +1.000000P2 +1.400000P1 -> +1.000000P0";
 
-/// Other operands are no other group.
+/// Lines that differ only in their operands are in the same group.
 #[test]
 fn counts_by_call_and_format(rt: HostRuntime) {
     let task = Task {

@@ -9,7 +9,7 @@ use std::time::Duration;
 use std::{fs, io};
 use vector_rows::{Check, Task, check_lines, run};
 
-/// Asserts what the program writes for an input, and its exit status.
+/// Asserts what the program writes for an input, and with which exit status it ends.
 fn expect<R: Abort + Clock + AllocGlobal>(
     rt: &R,
     mut input: &[u8],
@@ -60,7 +60,7 @@ fn shows_what_differs(rt: HostRuntime) {
     );
 }
 
-/// Rows that differ: the row, the columns that it expects, and those that are given.
+/// Rows that differ: the row, the columns that it expects, and those that the library gives.
 static DIFFERING: &[(&str, &str, &str)] = &[
     ("abs\tlim3\t-\t-8q", "+3q\t-\t-", "+8q\t-\t-"),
     ("infinity\tlim3\t-\t-", "+0q\t-\t-", "+inf\t-\t-"),
@@ -261,7 +261,7 @@ static MALFORMED: &[(&str, &str)] = &[
         "shortest\thalf+ieee\t-\t3c00\t1.0\t-\t-",
         "no such call here: `shortest`; expected: a call that the format has (docs/VECTORS.md)",
     ),
-    // Of two faults, the first in the order of `docs/VECTORS.md`.
+    // If there are two faults, the first in the order of `docs/VECTORS.md` is named.
     (
         "abs\tthird\teven\t3c00\t3c00\t-\t-",
         "no mode of the call: `even`; expected: `-`, since the call has none",
@@ -283,7 +283,7 @@ fn tells_what_is_malformed(rt: HostRuntime) {
     }
 }
 
-/// Asserts that the first of two lines is malformed, and that the second one is checked.
+/// Asserts that the first of two lines is malformed, and that the second is still checked.
 fn expect_fault<R: Abort + Clock + AllocGlobal>(rt: &R, line: &str, fault: &str) {
     let input = format!(in rt.alloc(); "{line}\nhalf int even 464\t5f40 OK\n");
     let text = format!(in rt.alloc();
@@ -311,7 +311,7 @@ fn goes_on_after_bytes_that_are_no_text(rt: HostRuntime) {
     );
 }
 
-/// Numbers are compared, not digits; flags may come in any order, or be left unsaid.
+/// Numbers are compared, not digits; flags may come in any order, or be left out.
 #[test]
 fn compares_what_rows_mean(rt: HostRuntime) {
     expect(
@@ -411,7 +411,7 @@ fn names_a_read_that_fails(rt: HostRuntime) -> Result<(), Fail> {
     Ok(())
 }
 
-/// A writer with room for a limited number of bytes, which takes one at each write.
+/// A writer with room for a limited number of bytes, which accepts one byte in each write.
 #[derive(Drop)]
 struct Failing {
     room: usize,
@@ -521,7 +521,7 @@ fn tells_how_far_it_is(rt: HostRuntime) -> Result<(), Fail> {
     Ok(())
 }
 
-/// Asserts what the program returns for its arguments, and how its output begins.
+/// Asserts the exit status for these arguments, and how the output begins.
 fn expect_run<R: Abort + std::rt::Files + Clock + Input + AllocGlobal>(
     rt: &R,
     words: &[&str],

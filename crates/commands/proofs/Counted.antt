@@ -24,7 +24,7 @@ few_or_many : (n : ℕ) → (n < 4) ⊎ ((4 ≤ n) × (6 < n)) → (nat_le 4 n &
 few_or_many n (inl few) = rw (lt-leb 4 n few) refl
 few_or_many n (inr many) = rw (le-leb 4 n many.0, lt-leb n 6 many.1) refl
 
--- another count of words is refused
+-- any other number of words is refused
 pub only_count : (given : List (List ℕ)) (n : ℕ) → length given ≡ n → (n < 4) ⊎ ((4 ≤ n) × (6 < n))
     → IsOnly (IsReply given) (refused arguments)
 only_count given n count outside =
@@ -65,7 +65,7 @@ only_counted given n format operation mode first second third reply only count s
     (operands_of given enough not_more) in
     subst (λ (command : Result Command (List ℕ)). IsOnly (IsReplyTo command) reply) (sym asked) only
 
--- the same of words that are parts of a text
+-- a reply to words that are parts of a text, in their places, is the reply to the command
 pub only_counted_texts : (words : List (Bor (List ℕ))) (none : Bor (List ℕ)) (second third : List ℕ)
     (reply : Reply)
     → IsOnly (IsReplyTo (with_format (get_or words 0 none).now (get_or words 1 none).now (get_or words 2 none).now
@@ -90,7 +90,7 @@ length-operands (suc (suc zero)) first second third few = refl
 length-operands (suc (suc (suc zero))) first second third few = refl
 length-operands (suc (suc (suc (suc more)))) first second third few = absurd (omega arith)
 
--- an operation takes as many words as it has operands
+-- the calculation of an operation depends only on as many words as it has operands
 calculation_of : (kind : Kind) (known : Operation) (name first second third : List ℕ) (count : ℕ)
     → count ≡ operand_count known
     → calculation kind known name (take count (first ∷ second ∷ third ∷ []))
@@ -100,7 +100,7 @@ calculation_of kind FusedSum name first second third count e = rw e refl
 calculation_of kind WholeNumber name first second third count e = rw e refl
 calculation_of kind Text name first second third count e = rw e refl
 
--- a reply to the operation that is named
+-- a reply to the named operation is the reply to the command
 pub only_named : (format operation mode first second third : List ℕ) (count : ℕ) (kind : BuiltInKind)
     (known : Operation) (round : Round) (reply : Reply)
     → count ≤ 3 → kind_named format ≡ Some kind → named operation mode count ≡ Ok (known, round)

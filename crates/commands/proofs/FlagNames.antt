@@ -8,18 +8,18 @@ use Rattle.std.proofs.KnownBytes.{Appends-nil, Appends-trans}
 use Rattle.std.proofs.lemmas.List.Elements.{filter_more}
 use Rattle.commands.specs.Replies.{bar, flags, is_raised, raised_names, status_text}
 
--- what stands before the next name
+-- the separator before the next name
 abbrev pub bar_after : List (List ℕ) → List ℕ
 bar_after [] = []
 bar_after (name ∷ names) = bar ∷ []
 
--- the names of the first rows have been written
+-- the names of the raised flags among the first rows have been written
 pub record IsNamedTo (status : ℕ) (table : List (List ℕ × ℕ)) (place : ℕ) (separator : List ℕ)
     (old new : Option (List ℕ)) : Type 0 where
   pub separator_is : separator ≡ bar_after (raised_names status (take place table))
   pub written : Appends old new (join_with_byte bar (raised_names status (take place table)))
 
--- no name is written at the start
+-- at the start, no name has been written
 pub name_none : (status : ℕ) (table : List (List ℕ × ℕ)) (old : Option (List ℕ)) → IsNamedTo status table 0 [] old old
 name_none status table old = record { separator_is = refl; written = Appends-nil old }
 
@@ -37,7 +37,7 @@ bar-push : (names : List (List ℕ)) (name : List ℕ) → bar_after (names ++ n
 bar-push [] name = refl
 bar-push (x ∷ names) name = refl
 
--- the names of one more row
+-- the names after one more row
 names_more : (status place : ℕ) (table : List (List ℕ × ℕ)) (flag fallback : List ℕ × ℕ) (raised : Bool)
     → place < length table → get_or table place fallback ≡ flag → is_raised status flag ≡ raised
     → raised_names status (take (place + 1) table)
@@ -69,7 +69,7 @@ named status place table flag d separator old now new within e raised so_far mor
       written = subst (Appends old new) (sym text) (Appends-trans old now new _ _ so_far.written more_is);
     }
 
--- a flag that is not raised is passed over
+-- a flag that is not raised is skipped
 passed : (status place : ℕ) (table : List (List ℕ × ℕ)) (flag fallback : List ℕ × ℕ) (separator : List ℕ)
     (old now : Option (List ℕ))
     → place < length table → get_or table place fallback ≡ flag → is_raised status flag ≡ false
@@ -82,7 +82,7 @@ passed status place table flag d separator old now within e raised so_far =
       written = subst (λ names. Appends old now (join_with_byte bar names)) (sym same) so_far.written;
     }
 
--- at a place of a table that is made of other items
+-- the row at a place of a table that is mapped from other items
 at_place : {A : Type 0} (row : A → List ℕ × ℕ) (items : List A) (place : ℕ) (fallback : A) → place < length items
     → get_or (map row items) place (row fallback) ≡ row (get_or items place fallback)
 at_place row items place d within = get_or-map row items place d (row d) within
@@ -100,7 +100,7 @@ name_more row items d status place separator name old now new within raised name
     (at_place row items place d within) raised so_far
     (subst (λ l. Appends now new (separator ++ l)) name_is more_is)
 
--- and one that is not leaves what is written
+-- a flag that is not raised leaves the written names unchanged
 pub name_same : {A : Type 0} (row : A → List ℕ × ℕ) (items : List A) (fallback : A) (status place : ℕ)
     (separator : List ℕ) (old now : Option (List ℕ)) → place < length items
     → is_raised status (row (get_or items place fallback)) ≡ false
@@ -118,7 +118,7 @@ not_ok status =
     ap (λ b. map (λ (x : List ℕ × ℕ). x.0)
     (cond b ((codes "OK", 0) ∷ filter (is_raised status) flags) (filter (is_raised status) flags))) none
 
--- all names; the row of the empty status has none
+-- after the last row all names are written; the row of the empty status adds none
 pub name_all : {A : Type 0} (row : A → List ℕ × ℕ) (items : List A) (status place : ℕ) (separator : List ℕ)
     (old new : Option (List ℕ))
     → length items ≤ place → map row items ≡ (codes "OK", 0) ∷ flags → (status == 0) ≡ false

@@ -1,4 +1,4 @@
--- At most 32 hexadecimal digits stand for a number below 2 ^ 128.
+-- At most 32 hexadecimal digits represent a number below 2 ^ 128.
 use Rattle.std.proofs.Common.{◌≡◌, ℕ, ◌+◌, ◌*◌, ◌^◌, ◌<◌, ◌≤◌, Bool, true, false, not, ◌&&◌, nat_lt, nat_le, if◌then◌else◌, List, [], ◌∷◌, length, fold, Some, None, refl, sym, subst, arith, lit<}
 use Rattle.std.proofs.lemmas.Bool.{false≢true, lt-ltb, le-leb}
 use Rattle.std.proofs.lemmas.Bool.Decides.{nat_tests}
@@ -16,12 +16,12 @@ use Rattle.commands.specs.Commands.{bits_of_digits}
 digit_below : (c : ℕ) → is_hexadecimal c ≡ true → digit_value c < 16
 digit_below c e = grind (arith, nat_tests)
 
--- where both tests pass, each does
+-- if both tests pass, each does
 both : (first second : Bool) → (first && second) ≡ true → (first ≡ true) × (second ≡ true)
 both true second e = (refl, e)
 both false second e = cc
 
--- each digit adds a place
+-- each digit moves the bound up by one place
 fold_below : (n place : ℕ) (digits : List ℕ) → n < 16 ^ place → every is_hexadecimal digits ≡ true
     → fold (longer Sixteen) n digits < 16 ^ (place + length digits)
 fold_below n place [] small e = rw (let same : place + 0 ≡ place = omega arith in same) small
@@ -32,7 +32,7 @@ fold_below n place (c ∷ digits) small e =
     let size : place + 1 + length digits ≡ place + length (c ∷ digits) = omega arith in
     subst (λ k. fold (longer Sixteen) (longer Sixteen n c) digits < 16 ^ k) size rest
 
--- so 32 of them are below 2 ^ 128
+-- a number of at most 32 hexadecimal digits is below 2 ^ 128
 number_below : (digits : List ℕ) → length digits ≤ 32 → every is_hexadecimal digits ≡ true
     → nat_lt (number 16 digits) (2 ^ 128) ≡ true
 number_below digits few e =
@@ -43,7 +43,7 @@ number_below digits few e =
     let wide : 16 ^ length digits ≤ 2 ^ 128 = pow-le-pow_right base few in
     lt-ltb _ _ (omega arith)
 
--- ---- what is left of the tests
+-- ---- the tests that remain
 
 no_bits_by : (some few read fits within : Bool) (n : ℕ) → (read ≡ true → fits ≡ true)
     → (if some && read && fits then Some n else None) ≡ None
@@ -65,7 +65,7 @@ bits_by true true true true n m within p q e =
     let same : n ≡ m = cc in
     subst (λ k. (if within k then Some k else None) ≡ Some m) (sym same) (rw q refl)
 
--- of at most 32 digits, those without a number have no bits
+-- at most 32 characters that do not spell a number are not bits
 pub no_bits : (width : ℕ) (digits : List ℕ) → length digits ≤ 32 → number_of_digits Sixteen digits ≡ None
     → bits_of_digits width digits ≡ None
 no_bits width digits few e =
@@ -73,7 +73,7 @@ no_bits width digits few e =
     (nat_lt (number 16 digits) (2 ^ 128)) (nat_lt (number 16 digits) (2 ^ width)) (number 16 digits)
     (number_below digits few) e
 
--- and the number of the others is their bits, if it is within the width
+-- at most 32 digits spell bits, if the number is within the width
 pub has_bits : (width : ℕ) (digits : List ℕ) (n : ℕ) → length digits ≤ 32
     → number_of_digits Sixteen digits ≡ Some n → nat_lt n (2 ^ width) ≡ true
     → bits_of_digits width digits ≡ Some n

@@ -1,17 +1,17 @@
--- Hexadecimal digits written from the last one on.
+-- Hexadecimal digits, written from the last to the first.
 use Rattle.std.proofs.Common.{◌≡◌, ℕ, suc, zero, ◌+◌, ◌-◌, ◌*◌, ◌/◌, ◌%◌, ◌^◌, ◌<◌, ◌≤◌, List, ◌∷◌, length, take, drop, set, refl, sym, ap, ◌∙◌, arith, add-one, length-set, []}
 use Rattle.std.proofs.lemmas.List.{drop-set, take_all}
 use Rattle.std.proofs.Math.Nat.{div-div-eq-div-mul, div-one, pow-suc}
 use Rattle.std.proofs.Math.ListN.{drop_of_length-le}
 use Rattle.commands.specs.Replies.{hexadecimal_digit, hexadecimal_text}
 
--- the last places of a text have their digits, and the rest is what stands above them
+-- the last `place` digits of the number are written, and `rest` is the number above them
 pub record IsWrittenTo (number rest place : ℕ) (text : List ℕ) : Type 0 where
   pub size : length text ≡ 32
   pub rest_is : rest ≡ number / 16 ^ place
   pub digits : drop (32 - place) text ≡ hexadecimal_text number place
 
--- with one more place, the digit of that place stands in front
+-- the text of one more place begins with the digit of that place
 text_more : (number place : ℕ)
     → hexadecimal_text number (place + 1) ≡ hexadecimal_digit (number / 16 ^ place % 16) ∷ hexadecimal_text number
     place
@@ -29,7 +29,7 @@ rest_more number rest place e =
     let longer : 16 ^ place * 16 ≡ 16 ^ (place + 1) = rw (add-one place) (sym (pow-suc 16 place)) in
     ap (λ n. n / 16) e ∙ div-div-eq-div-mul number (16 ^ place) 16 ∙ ap (λ n. number / n) longer
 
--- nothing is written at the start
+-- at the start, no digit is written
 pub write_none : (number : ℕ) (text : List ℕ) → length text ≡ 32 → IsWrittenTo number number 0 text
 write_none number text size = record {
   size = size;
@@ -37,7 +37,7 @@ write_none number text size = record {
   digits = (let short : length text ≤ 32 = omega arith in drop_of_length-le text short) ∙ sym (text_none number);
 }
 
--- one more digit in front is the text of one more place
+-- one more digit before the others gives the text of one more place
 digits_more : (number rest place digit : ℕ) (text : List ℕ) → place < 32 → IsWrittenTo number rest place text
     → digit ≡ hexadecimal_digit (rest % 16)
     → drop (32 - (place + 1)) (set text (31 - place) digit) ≡ hexadecimal_text number (place + 1)
@@ -53,7 +53,7 @@ digits_more number rest place digit text within so_far digit_is =
     ∙ ap (λ d. d ∷ hexadecimal_text number place) (digit_is ∙ ap (λ n. hexadecimal_digit (n % 16)) so_far.rest_is)
     ∙ sym (text_more number place)
 
--- one more digit is written in front
+-- one more digit is written before the others
 pub write_more : (number rest place digit : ℕ) (text : List ℕ) → place < 32 → IsWrittenTo number rest place text
     → digit ≡ hexadecimal_digit (rest % 16) → IsWrittenTo number (rest / 16) (place + 1) (set text (31 - place) digit)
 write_more number rest place digit text within so_far digit_is = record {
@@ -62,13 +62,13 @@ write_more number rest place digit text within so_far digit_is = record {
   digits = digits_more number rest place digit text within so_far digit_is;
 }
 
--- the text of a count of digits has that length
+-- the text of a number of digits has that length
 length-text : (number digits : ℕ) → length (hexadecimal_text number digits) ≡ digits
 unfolding hexadecimal_text
 length-text number zero = refl
 length-text number (suc digits) = ap suc (length-text number digits)
 
--- the last digits are what follows the others
+-- the last digits of the text are those of the number
 pub last_digits : (number digits : ℕ) (text : List ℕ) → digits ≤ 32
     → drop (32 - digits) text ≡ hexadecimal_text number digits
     → take (32 - (32 - digits)) (drop (32 - digits) text) ≡ hexadecimal_text number digits

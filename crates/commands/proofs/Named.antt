@@ -1,4 +1,4 @@
--- What the names of an operation and a mode say.
+-- The operation and the mode that two words name.
 use Rattle.std.proofs.Common.{◌≡◌, ℕ, ◌==◌, Bool, true, false, List, Option, Some, None, Result, Ok, refl, ap, ◌∙◌}
 use Rattle.std.specs.Option.{ok_or}
 use Rattle.std.proofs.lemmas.Bool.{eqb-true}
@@ -7,13 +7,13 @@ use Rattle.formats_at_run_time.specs.Modes.{mode_named}
 use Rattle.commands.specs.declared.operation.Operation.{Operation}
 use Rattle.commands.specs.Commands.{◌>>=◌, arguments, found, named, operand_count, operations, provided}
 
--- what comes through a condition is what was given, and the condition holds
+-- a result that passed a condition is the given one, and the condition holds
 provided_passed : {A : Type 0} (holds : Bool) (word : List ℕ) (given passed : A)
     → provided holds word (Ok given) ≡ Ok passed → (holds ≡ true) × (given ≡ passed)
 provided_passed true word x y e = (refl, cc)
 provided_passed false word x y e = cc
 
--- `named`, of what the tables have for the names
+-- `named`, in terms of the entries of the tables
 abbrev names : Option Operation → Option Round → List ℕ → List ℕ → ℕ → Result (Operation × Round) (List ℕ)
 names operation mode first second count =
     ok_or operation first >>= λ k. ok_or mode second >>= λ r.

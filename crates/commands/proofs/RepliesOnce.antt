@@ -1,4 +1,4 @@
--- A calculation has one reply.
+-- A calculation has only one reply.
 use Rattle.std.proofs.Common.{◌≡◌, ◌≤◌, ℕ, ◌/◌, false, List, Option, Some, None, Result, Ok, Err, nat_le, refl, sym, ap, ◌∙◌, subst}
 use Rattle.std.proofs.Math.Path.{subst₂, subst₃}
 use Rattle.std.proofs.lemmas.Bool.{le-leb}
@@ -27,7 +27,7 @@ use Rattle.commands.specs.Replies.{Reply, line, refused, IsFormatReply, IsFormat
 
 -- ---- one line
 
--- the line of an answer is the only one
+-- the line of a result is the only one
 pub only_line : {A : Type 0} (of_type : Relations A) (answer : StatusAnd A) (bits shown width : ℕ)
     → of_type.writes_bits answer.value bits → Determines (of_type.writes_bits answer.value) → shown ≡ width
     → IsOnly (IsLineOf of_type width answer) (line bits (shown / 4) (bits_of answer.status))
@@ -40,7 +40,7 @@ only_line of_type answer bits shown width written once shown_is =
           h.is ∙ ap (λ (b : ℕ). line b (width / 4) status) (once h.bits bits h.is_encoded written) ∙ sym digits;
     }
 
--- that of the only answer is the only reply
+-- the line of the only result is the only reply
 only_where : {A : Type 0} (of_type : Relations A) (width : ℕ) (Holds : StatusAnd A → Type 0) (answer : StatusAnd A)
     (reply : Reply)
     → Determines Holds → Holds answer → IsOnly (IsLineOf of_type width answer) reply
@@ -70,7 +70,7 @@ only_of_two {A} of_type inverts mode precision width arithmetic left right x y a
     (only_where of_type width (IsResult of_type mode (of_two arithmetic x y)) answer reply
     (of_two_once of_type inverts mode precision width once arithmetic _ _) of_both is_line)
 
--- a whole number taken in has one reply
+-- the conversion of an integer has one reply
 pub only_whole_number : {A : Type 0} (of_type : Relations A) (inverts : A → Option A → Type 0) (mode : Round)
     (precision width : ℕ) (word : List ℕ) (number : ℕ) (answer : StatusAnd A) (reply : Reply)
     → AreDetermined of_type inverts mode precision width
@@ -94,7 +94,7 @@ only_text of_type inverts mode precision width text answer reply once none answe
     (only_where of_type width (IsResult of_type mode (from_text text)) answer reply
     (λ a b h k. once.reading text (Ok a) (Ok b) h k) answers is_line)
 
--- one with a fault is refused by its words alone
+-- the only reply to a text with a fault is its refusal
 pub only_refusal : {A : Type 0} (of_type : Relations A) (mode : Round) (width : ℕ) (text word : List ℕ)
     → IsRefusal text word → IsOnly (IsReplyIn of_type width mode (with_text text)) (refused word)
 only_refusal of_type mode width text word refusal =
@@ -122,7 +122,7 @@ only_fused_sum constants mode left right addend x y z a b d answer reply first s
 
 -- ---- the reply in any kind of values
 
--- what is asked of each type is asked of a format
+-- a reply for any type is a reply for a format
 only_of_format : (constants : Constants) (mode : Round) (wanted : Result Calculation (List ℕ)) (reply : Reply)
     → IsOnly (IsReplyIn (in_format constants) constants.bits mode wanted) reply
     → IsOnly (IsReplyTo (commanded (of_format constants) mode wanted)) reply
@@ -132,7 +132,7 @@ only_of_format constants mode (Ok (from_whole_number n)) reply only = only
 only_of_format constants mode (Ok (from_text text)) reply only = only
 only_of_format constants mode (Err word) reply only = only
 
--- what may be a fused sum is asked of a format
+-- a reply that may be a fused sum is a reply for a format
 only_fused_of_format : (constants : Constants) (mode : Round) (wanted : Result Calculation (List ℕ)) (reply : Reply)
     → IsOnly (IsFormatReply constants mode wanted) reply
     → IsOnly (IsReplyTo (commanded (of_format constants) mode wanted)) reply
@@ -153,14 +153,14 @@ only_fused constants mode operation name operands left right addend reply is_fus
     first second third only in
     rw (is_fused, le-leb _ _ within) (only_fused_of_format constants mode _ reply of_words)
 
--- what is asked of each type is asked of pairs
+-- a reply for any type is a reply for pairs
 only_of_pairs : (mode : Round) (wanted : Result Calculation (List ℕ)) (reply : Reply)
     → IsOnly (IsReplyIn in_pairs (bits_in of_pairs) mode wanted) reply
     → IsOnly (IsReplyTo (commanded of_pairs mode wanted)) reply
 only_of_pairs mode (Ok known) reply only = only
 only_of_pairs mode (Err word) reply only = only
 
--- a reply in pairs
+-- the only reply for pairs of doubles
 pub only_in_pairs : (mode : Round) (operation : Operation) (name : List ℕ) (operands : List (List ℕ))
     (reply : Reply)
     → IsOnly (IsReplyIn in_pairs (bits_in of_pairs) mode
@@ -172,7 +172,7 @@ only_in_pairs mode FusedSum name operands reply only = only
 only_in_pairs mode WholeNumber name operands reply only = only_of_pairs mode _ reply only
 only_in_pairs mode Text name operands reply only = only_of_pairs mode _ reply only
 
--- a reply in a format, to what each type has
+-- the only reply for a format, to an operation that every type has
 pub only_in_format : (constants : Constants) (mode : Round) (operation : Operation) (name : List ℕ)
     (operands : List (List ℕ)) (reply : Reply)
     → (operation ≡ FusedSum → nat_le constants.precision fused_limit ≡ false)

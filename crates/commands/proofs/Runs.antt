@@ -1,4 +1,4 @@
--- What a run leaves after a write.
+-- The state of the writers after a run.
 use Rattle.std.proofs.Common.{◌≡◌, ◌≢◌, ℕ, List, Option, Result, Ok, Err, OnOk, is_ok, if◌then◌else◌}
 use Rattle.std.specs.Io.KnownBytes.{Appends}
 use Rattle.std.proofs.KnownBytes.{Appends-nil}
@@ -19,7 +19,7 @@ line_run command out out' err bits digits status exit (Ok x) reply text exit_is 
 }
 line_run command out out' err bits digits status exit (Err e) reply text exit_is some = absurd (some exit_is)
 
--- and a refusal as its word
+-- a refusal is written as its word
 pub refusal_run : {T E : Type 0} (command : List (List ℕ)) (out err err' : Option (List ℕ)) (word : List ℕ)
     (exit : ℕ) (written : Result T E)
     → IsOnly (IsReply command) (refused word) → OnOk written (Appends err err' (refusal_text word))

@@ -31,7 +31,7 @@ operations =
     ∷ (codes "parse", Text)
     ∷ []
 
--- what the row of a word says
+-- the entry of a table for a word
 abbrev pub found : {A : Type 0} → List (List ℕ × A) → List ℕ → Option A
 found [] word = None
 found (row ∷ rows) word = if same word row.0 then Some row.1 else found rows word
@@ -42,14 +42,14 @@ operand_count FusedSum = 3
 operand_count WholeNumber = 1
 operand_count Text = 1
 
--- whether a type has the operation, which has products or not; no type has the fused sum
+-- whether a type has the operation, given whether it has products; fused sums are not among the calls of every type
 abbrev pub type_has : Bool → Operation → Bool
 type_has multiplies (OfTwo arithmetic) = has_operation multiplies arithmetic
 type_has multiplies FusedSum = false
 type_has multiplies WholeNumber = true
 type_has multiplies Text = true
 
--- whether a kind of values has it
+-- whether a kind of values has the operation
 abbrev pub has : Kind → Operation → Bool
 has kind (OfTwo arithmetic) = type_has (multiplies kind) (OfTwo arithmetic)
 has kind FusedSum = fuses kind
@@ -58,7 +58,7 @@ has kind Text = true
 
 -- ---- operands
 
--- 1 to 32 hexadecimal digits, after 0x or without it, of a number below 2 ^ width
+-- the bits that 1 to 32 hexadecimal digits spell, optionally after 0x, if they are below 2 ^ width
 abbrev pub after_0x : List ℕ → List ℕ
 after_0x word = if same (take 2 word) (codes "0x") then drop 2 word else word
 
@@ -73,11 +73,11 @@ bits_of_digits width digits = if are_bits width digits then Some (number 16 digi
 abbrev pub bits_of_word : ℕ → List ℕ → Option ℕ
 bits_of_word width word = bits_of_digits width (after_0x word)
 
--- decimal digits
+-- the integer that decimal digits spell
 abbrev pub whole_number_of : List ℕ → Option ℕ
 whole_number_of word = number_of_digits Ten word
 
--- the word at that place
+-- the word at a place, or an empty one
 abbrev pub word_at : List (List ℕ) → ℕ → List ℕ
 word_at words place = slice_index_or words place []
 
@@ -95,8 +95,8 @@ pub record Command : Type 0 where
   pub mode : Round
   pub calculation : Calculation
 
--- Below, a command or the word of the first fault. The faults in their order: the count of the words, the format, the
--- operation, the mode, the count of the operands, an operation that the format does not have, an operand.
+-- Each of the following is a command or the word of the first fault. The order of faults: the number of words, the
+-- format, the operation, the mode, the number of operands, an operation that the format does not have, an operand.
 
 infixl 10 ◌>>=◌
 abbrev pub ◌>>=◌ : {A B : Type 0} → Result A (List ℕ) → (A → Result B (List ℕ)) → Result B (List ℕ)
@@ -132,7 +132,7 @@ without_fault (Some fault) text = Err (words fault)
 abbrev pub with_text : List ℕ → Result Calculation (List ℕ)
 with_text text = without_fault (fault_of text) text
 
--- values have that many bits
+-- the calculation for these operands, if values have `width` bits
 abbrev pub with_operands : ℕ → Operation → List (List ℕ) → Result Calculation (List ℕ)
 with_operands width (OfTwo arithmetic) operands =
     with_two width arithmetic (word_at operands 0) (word_at operands 1)
@@ -149,14 +149,14 @@ calculation kind operation name operands =
 abbrev pub commanded : Kind → Round → Result Calculation (List ℕ) → Result Command (List ℕ)
 commanded kind mode wanted = wanted >>= λ known. Ok (record { kind = kind; mode = mode; calculation = known })
 
--- the operation and the mode of their words, for a count of operands
+-- the operation and the mode that two words name, for a number of operands
 abbrev pub named : List ℕ → List ℕ → ℕ → Result (Operation × Round) (List ℕ)
 named operation mode count =
     ok_or (found operations operation) operation >>= λ known.
     ok_or (mode_named mode) mode >>= λ rounding.
     provided (count == operand_count known) arguments (Ok (known, rounding))
 
--- what a kind of values is asked for
+-- the command for a kind of values
 abbrev pub with_operation : Kind → List ℕ → List ℕ → List (List ℕ) → Result Command (List ℕ)
 with_operation kind operation mode operands =
     named operation mode (length operands) >>= λ both.
@@ -166,7 +166,7 @@ abbrev pub with_format : List ℕ → List ℕ → List ℕ → List (List ℕ) 
 with_format format operation mode operands =
     ok_or (kind_named format) format >>= λ kind. with_operation (kind_of kind) operation mode operands
 
--- the command that is given by words, which are those after the program's own name
+-- the command that words give: those after the program's own name
 abbrev pub command_of : List (List ℕ) → Result Command (List ℕ)
 command_of given =
     provided (nat_le 4 (length given) && nat_le (length given) 6) arguments

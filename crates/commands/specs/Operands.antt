@@ -2,6 +2,6 @@
 use Rattle.std.specs.Prelude.{ℕ, List, [], ◌∷◌}
 use Rattle.commands.specs.declared.calculation.Operands.{Operands}
 
--- those in the places of three operands
+-- the words in the places of three operands
 abbrev pub words_of : Operands → List (List ℕ)
 words_of operands = operands.first.now ∷ operands.second.now ∷ operands.third.now ∷ []

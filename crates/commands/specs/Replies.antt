@@ -1,4 +1,4 @@
--- What the program replies to a command, and how a reply is written.
+-- The reply to a command, and how it is written.
 use Rattle.std.specs.Prelude.{◌≡◌, ℕ, zero, suc, ◌+◌, ◌/◌, ◌%◌, ◌^◌, Bool, not, ◌==◌, nat_lt, if◌then◌else◌, List, [], ◌∷◌, ◌++◌, filter, map, codes, Option, Result, Ok, Err}
 use Rattle.std.specs.List.{join_with_byte}
 use Rattle.std.specs.Int.RustNames.{bit_and}
@@ -22,7 +22,7 @@ pub data Reply : Type 0 where
   line : ℕ → ℕ → ℕ → Reply
   refused : List ℕ → Reply
 
--- as the program's own type says it
+-- from the type of the program
 abbrev pub reply_of : program.Reply → Reply
 reply_of (program.TheVariants.Line bits digits status) = line bits digits (bits_of status)
 reply_of (program.TheVariants.Refused word) = refused word.now
@@ -48,14 +48,14 @@ pub record IsLineOf {A : Type 0} (of_type : Relations A) (width : ℕ) (answer :
   pub is_encoded : of_type.writes_bits answer.value bits
   pub is : reply ≡ line bits (width / 4) (bits_of answer.status)
 
--- the line of an answer that the relation holds of
+-- the line of a result for which the relation holds
 pub record IsLineWhere {A : Type 0} (of_type : Relations A) (width : ℕ) (Holds : StatusAnd A → Type 0)
     (reply : Reply) : Type 0 where
   pub answer : StatusAnd A
   pub answers : Holds answer
   pub is_line : IsLineOf of_type width answer reply
 
--- what is replied to a calculation, or a refusal
+-- the reply to a calculation, or a refusal
 abbrev pub IsReplyIn : {A : Type 0} → Relations A → ℕ → Round → Result Calculation (List ℕ)
     → Reply → Type 0
 IsReplyIn of_type width mode (Ok calculation) reply =
@@ -91,7 +91,7 @@ IsReplyTo (Ok command) reply = IsCalculated command.kind command.mode command.ca
 abbrev pub IsReply : List (List ℕ) → Reply → Type 0
 IsReply words reply = IsReplyTo (command_of words) reply
 
--- it holds of that reply and of no other one
+-- the statement holds of this reply and of no other
 pub record IsOnly (Holds : Reply → Type 0) (reply : Reply) : Type 0 where
   pub holds : Holds reply
   pub only : (other : Reply) → Holds other → other ≡ reply
@@ -102,7 +102,7 @@ pub record IsOnly (Holds : Reply → Type 0) (reply : Reply) : Type 0 where
 abbrev pub hexadecimal_digit : ℕ → ℕ
 hexadecimal_digit d = if nat_lt d 10 then 48 + d else 87 + d
 
--- that many last digits of a number
+-- the last `digits` hexadecimal digits of a number
 unfoldable pub hexadecimal_text : ℕ → ℕ → List ℕ
 hexadecimal_text n zero = []
 hexadecimal_text n (suc place) = hexadecimal_digit (n / 16 ^ place % 16) ∷ hexadecimal_text n place
@@ -120,7 +120,7 @@ flags =
 abbrev pub is_raised : ℕ → List ℕ × ℕ → Bool
 is_raised status flag = not (bit_and status flag.1 == 0)
 
--- the names of the flags that a status has, of those in a table
+-- the names of the flags in a table that a status has
 abbrev pub raised_names : ℕ → List (List ℕ × ℕ) → List (List ℕ)
 raised_names status table = map (λ (flag : List ℕ × ℕ). flag.0) (filter (is_raised status) table)
 
@@ -136,7 +136,7 @@ line_text bits digits status = hexadecimal_text bits digits ++ codes " " ++ stat
 abbrev pub refusal_text : List ℕ → List ℕ
 refusal_text word = codes "refused: " ++ word ++ codes "\n"
 
--- to standard output, and to standard error
+-- the text written to standard output, and to standard error
 abbrev pub written_out : Reply → List ℕ
 written_out (line bits digits status) = line_text bits digits status
 written_out (refused word) = []
@@ -149,7 +149,7 @@ abbrev pub exit_status : Reply → ℕ
 exit_status (line bits digits status) = 0
 exit_status (refused word) = 2
 
--- what a run leaves where no write failed: the text of the only reply on its two writers, and the exit status
+-- the result of a run if no write failed: the text of the only reply on its two writers, and the exit status
 pub record IsRun (command : List (List ℕ)) (out out' err err' : Option (List ℕ)) (status : ℕ) : Type 0 where
   pub reply : Reply
   pub is_reply : IsOnly (IsReply command) reply
@@ -157,7 +157,7 @@ pub record IsRun (command : List (List ℕ)) (out out' err err' : Option (List �
   pub wrote_err : Appends err err' (written_err reply)
   pub status_is : status ≡ exit_status reply
 
--- what a run leaves where there was no memory for its words and no write failed
+-- the result of a run if there was no memory for its words and no write failed
 pub record IsMemoryRefused (kind : ErrorKind) (err err' : Option (List ℕ)) (status : ℕ) : Type 0 where
   pub kind_is : kind ≡ OutOfMemory
   pub wrote_err : Appends err err' (refusal_text (codes "memory"))

@@ -1,4 +1,4 @@
-//! Calculates the operation of a command in the values of a kind.
+//! Computes the operation of a command for a kind of values.
 
 ghost use Rattle.std.specs.Prelude.{◌≡◌, ◌≤◌, ◌<◌};
 ghost use Rattle.rustc_apfloat.specs.Types.{constants_of};
@@ -20,15 +20,15 @@ use rustc_apfloat::{FUSED_LIMIT, Float, Round, StatusAnd};
 pub struct Calculation<'a> {
     /// The operation.
     pub operation: Operation,
-    /// Its name.
+    /// The word of the operation.
     pub name: &'a str,
     /// The rounding mode.
     pub round: Round,
-    /// As many words as the operation has operands, and empty ones.
+    /// The words of the operands; those that the operation does not take are empty.
     pub operands: Operands<'a>,
 }
 
-/// The words of up to three operands; in the place of the others are empty ones.
+/// The words of up to three operands; missing ones are empty.
 #[derive(Clone, Copy)]
 pub struct Operands<'a> {
     /// The first one.
@@ -66,7 +66,7 @@ impl<'a> InKind for Calculation<'a> {
     }
 }
 
-/// The reply in values of a type, which has no fused sum.
+/// The reply for a type of values without fused sums.
 fn in_type<'a, F: ValueType>(it: Calculation<'a>) -> Reply<'a>
     requires written { F.PRECISION < F.BITS }
     requires narrow { F.BITS ≤ 128 }
@@ -143,7 +143,7 @@ fn fused_sum<'a, S: Semantics>(
     line(S::from_bits(x).mul_add_r(S::from_bits(y), S::from_bits(z), round))
 }
 
-/// A whole number, rounded to the type.
+/// The value of an integer, rounded to the type.
 fn from_whole_number<'a, F: ValueType>(round: Round, word: &'a str) -> Reply<'a>
     requires written { F.PRECISION < F.BITS }
     requires narrow { F.BITS ≤ 128 }
@@ -159,7 +159,7 @@ fn from_whole_number<'a, F: ValueType>(round: Round, word: &'a str) -> Reply<'a>
     line(F::from_u128_r(number, round))
 }
 
-/// The value that a text means.
+/// The value that a text spells.
 fn from_text<'a, F: ValueType>(round: Round, text: &'a str) -> Reply<'a>
     requires written { F.PRECISION < F.BITS }
     requires narrow { F.BITS ≤ 128 }
@@ -175,7 +175,7 @@ fn from_text<'a, F: ValueType>(round: Round, text: &'a str) -> Reply<'a>
     }
 }
 
-/// The bits and the flags of an answer.
+/// The bits and the flags of a result.
 fn line<'a, F: ValueType>(answer: StatusAnd<F>) -> Reply<'a>
     requires written { F.PRECISION < F.BITS }
     requires narrow { F.BITS ≤ 128 }

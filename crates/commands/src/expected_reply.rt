@@ -1,4 +1,4 @@
-//! Checks a command against its expected reply, which is a row of a table.
+//! Checks a command against the reply that a row expects.
 
 ghost use Rattle.std.specs.Prelude.{◌≡◌, ◌≤◌, ◌++◌, codes, map, true};
 ghost use Rattle.rustc_apfloat.specs.Flags.{bits_of};
@@ -9,10 +9,10 @@ use crate::reply::{Reply, command_of};
 use crate::text_buffer::TextBuffer;
 use rustc_apfloat::Status;
 
-/// The names of all five flags have 53 bytes, with the bars between them.
+/// The names of all five flags take 53 bytes, with the bars between them.
 const STATUS_ROOM: usize = 64;
 
-/// Whether a command has this reply: the line of an answer, or `refused: ` and a word.
+/// Whether a command has this reply: the line of a result, or `refused: ` and a word.
 pub fn agrees(words: &[&str], reply: &str) -> bool
     ensures { result ≡ true → IsReplied (map (λ w. w.now) words.now) reply.now }
 {
@@ -22,7 +22,7 @@ pub fn agrees(words: &[&str], reply: &str) -> bool
     }
 }
 
-/// Whether a text is the line of an answer, without its end.
+/// Whether a text is the line of a result, without the newline.
 fn is_line(bits: u128, digits: usize, status: Status, text: &[u8]) -> bool
     requires { digits ≤ 32 }
     ensures { result ≡ true → line_text bits digits (bits_of status) ≡ text.now ++ codes "\n" }
@@ -37,7 +37,7 @@ fn is_line(bits: u128, digits: usize, status: Status, text: &[u8]) -> bool
     }
 }
 
-/// Whether a text has the names of these flags, joined by bars, or is `OK`.
+/// Whether a text is the names of these flags, joined by bars, or `OK` for none.
 fn is_status(status: Status, text: &[u8]) -> bool
     ensures { result ≡ true → status_text (bits_of status) ≡ text.now }
 {
@@ -48,7 +48,7 @@ fn is_status(status: Status, text: &[u8]) -> bool
     }
 }
 
-/// Whether a text is that of a refusal, without the end of its line.
+/// Whether a text is the line of a refusal, without the newline.
 fn is_refusal(word: &str, text: &[u8]) -> bool
     ensures { result ≡ true → refusal_text word.now ≡ text.now ++ codes "\n" }
 {

@@ -1,14 +1,14 @@
 //! Commands of one operation, `FORMAT OP MODE A [B [C]]`, and the replies to them: the bits and the flags of the
-//! answer, or the word of a refusal.
+//! result, or the word of a refusal.
 //!
 //! - FORMAT: `half`, `single`, `double`, `quad`, `bfloat`, `e5m2`, `e4m3fn`, `e4m3fnuz` or `x87`; or `dd`,
 //!   pairs of doubles.
-//! - OP: `add`, `sub`, `mul`, `div`, `rem` (by the nearest quotient), `mod` (by the quotient cut toward zero) on two
-//!   values; `fma` on three; `int`, a whole number in decimal digits; `parse`, the text of a value. A format of more
-//!   than 64 digits has no `mul`, one of more than 63 no `fma`. Pairs of doubles have `mul` and no `fma`.
+//! - OP: `add`, `sub`, `mul`, `div`, `rem` (by the nearest quotient), `mod` (by the quotient truncated toward zero) on
+//!   two values; `fma` on three; `int`, an integer in decimal digits; `parse`, the text of a value. A format of more
+//!   than 64 digits has no `mul`, one of more than 63 no `fma`. Pairs of doubles have `mul`, but no `fma`.
 //! - MODE: `even`, `up`, `down`, `zero` or `away`.
 //!
-//! A value is given as its bits: 1 to 32 hexadecimal digits, with or without `0x` in front.
+//! A value is given as its bits: 1 to 32 hexadecimal digits, optionally after `0x`.
 #![tactic(auto)]
 
 mod calculation;

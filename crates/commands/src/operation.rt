@@ -1,4 +1,4 @@
-//! What the program computes.
+//! The operations of commands.
 
 ghost use Rattle.std.specs.Prelude.{◌≡◌};
 ghost use Rattle.commands.specs.Commands.{operand_count};
@@ -8,18 +8,18 @@ use formats_at_run_time::Arithmetic;
 /// An operation.
 #[derive(Clone, Copy, Debug)]
 pub enum Operation {
-    /// Of two values.
+    /// An operation on two values.
     OfTwo(Arithmetic),
-    /// Of three values: the product of the first two plus the third.
+    /// On three values: the product of the first two plus the third.
     FusedSum,
-    /// A whole number, rounded to the format.
+    /// The value of an integer, rounded to the format.
     WholeNumber,
-    /// The text of a value.
+    /// The value of a text.
     Text,
 }
 
 impl Operation {
-    /// How many operands it has.
+    /// How many operands the operation takes.
     pub fn operand_count(self) -> usize
         ensures { result ≡ operand_count self }
     {

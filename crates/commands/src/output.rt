@@ -1,7 +1,7 @@
 //! Writes the replies of the program.
 //!
-//! A reply is assembled first and written in one call, so that the replies of programs that run in parallel do not mix.
-//! Only a refusal longer than `REFUSAL_ROOM` is written in parts.
+//! A reply is assembled first and written in one call, so that the replies of programs that run in parallel are not
+//! interleaved. Only a refusal longer than `REFUSAL_ROOM` is written in parts.
 
 ghost use Rattle.std.specs.Prelude.{◌≡◌, ◌≢◌, ◌<◌, ◌≤◌, ◌++◌, ◌-◌, codes, drop, if◌then◌else◌, IfErr, is_ok, map, MatchResult, OnErr, OnOk, string_bytes};
 ghost use Rattle.std.specs.IoError.{error_kind};
@@ -15,10 +15,10 @@ use rustc_apfloat::{Flags, Status};
 use std::io;
 use std::io::{ErrorKind, Write};
 
-/// The longest line has 32 digits and all five flags, which is 83 bytes.
+/// The longest line has 32 digits and all five flags: 83 bytes.
 const LINE_ROOM: usize = 96;
 
-/// The system does not interleave a write to a pipe of up to this many bytes with the writes of others (`PIPE_BUF`).
+/// The system does not interleave writes of up to this many bytes to a pipe (`PIPE_BUF`).
 const REFUSAL_ROOM: usize = 4096;
 
 /// Runs a command, given as the arguments without the program's own name: writes a line to `out` or a refusal to `err`.
@@ -34,11 +34,11 @@ pub fn run<W: Write, V: Write>(words: &[String], out: &mut W, err: &mut V) -> u8
     }
 }
 
-/// Runs the program with the arguments from the system, or reports the error that the system gave instead.
+/// Runs the program with the arguments that the system gave, or reports the error that it gave instead.
 ///
 /// Returns the exit status: that of `run` if there are arguments; 3 if there was no memory for them, which is reported
-/// on `err`; and 1 for any other error, such as arguments that are not valid text, when nothing is written, or if a
-/// write failed.
+/// on `err`; and 1 if a write failed, or for any other error, such as arguments that are not valid text, in which case
+/// nothing is written.
 pub fn run_given<W: Write, V: Write>(given: io::Result<Vec<String>>, out: &mut W, err: &mut V) -> u8
     ensures known { result ≢ 1 → MatchResult given
         (λ words. IsRun (map string_bytes words.items)
@@ -77,7 +77,7 @@ fn status_after(written: io::Result<()>, status: u8) -> u8
     }
 }
 
-/// Writes the line of an answer, its bits with `digits` digits and its flags, in one call.
+/// Writes the line of a result, its bits in `digits` hexadecimal digits and its flags, in one call.
 pub fn write_line<W: Write>(
     bits: u128,
     digits: usize,
@@ -94,7 +94,7 @@ pub fn write_line<W: Write>(
     out.write_all(line.as_bytes())
 }
 
-/// Writes the parts of an answer's line.
+/// Writes the parts of the line of a result.
 fn write_line_parts<W: Write>(
     bits: u128,
     digits: usize,
@@ -134,7 +134,7 @@ fn write_refusal_parts<W: Write>(word: &str, err: &mut W) -> io::Result<()>
     err.write_all(b"\n")
 }
 
-/// Writes the last digits of a whole number.
+/// Writes the last `digits` hexadecimal digits of an integer.
 fn write_hexadecimal<W: Write>(number: u128, digits: usize, out: &mut W) -> io::Result<()>
     requires { digits ≤ 32 }
     ensures { OnOk result
@@ -144,7 +144,7 @@ fn write_hexadecimal<W: Write>(number: u128, digits: usize, out: &mut W) -> io::
     out.write_all(&text[text.len() - digits..])
 }
 
-/// A text of which so many bytes at the end are the last digits of a whole number.
+/// A text whose last `digits` bytes are the last hexadecimal digits of an integer.
 pub fn hexadecimal(number: u128, digits: usize) -> [u8; 32]
     requires { digits ≤ 32 }
     ensures { drop (32 - digits) result ≡ hexadecimal_text number digits }

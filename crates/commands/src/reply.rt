@@ -1,4 +1,4 @@
-//! What the program replies to a command.
+//! The reply to a command.
 
 ghost use Rattle.std.specs.Prelude.{◌≡◌, ◌≤◌, map, string_bytes, take};
 ghost use Rattle.commands.specs.Commands.{with_format, word_at};
@@ -19,7 +19,7 @@ pub enum Reply<'a> {
     Refused(&'a str),
 }
 
-/// The reply to a command, which is the words without the program's own name. Of several faults the first is named.
+/// The reply to a command, given by its words without the program's own name. Of several faults, the first is named.
 pub fn command(words: &[String]) -> Reply<'_>
     ensures reply { IsOnly (IsReply (map string_bytes words.now)) (reply_of result) }
     ensures short { digit_count (reply_of result) ≤ 32 }
@@ -77,7 +77,7 @@ fn text_at<'a>(words: &[&'a str], place: usize) -> &'a str
     }
 }
 
-/// The answer to so many operands, in the format of this name.
+/// The reply to a command with `count` operands, in the format of this name.
 fn answer<'a>(
     format: &'a str,
     operation: &'a str,

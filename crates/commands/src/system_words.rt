@@ -1,4 +1,4 @@
-//! The words that a program is given.
+//! The words of the command line.
 
 ghost use Rattle.std.specs.Prelude.{◌≡◌, drop};
 

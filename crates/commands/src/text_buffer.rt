@@ -35,7 +35,7 @@ impl<const ROOM: usize> TextBuffer<ROOM> {
 impl<const ROOM: usize> Write for TextBuffer<ROOM> {
     ghost contents = { λ text. Some (take text.len text.bytes) };
 
-    /// Takes all of the bytes, or none if they do not fit.
+    /// Appends all of the bytes, or none if they do not fit.
     fn write(&mut self, buf: &[u8]) -> io::Result<usize> {
         if buf.len() > ROOM - self.len {
             return Err(io::Error::from(ErrorKind::StorageFull));

@@ -1,4 +1,4 @@
-//! The words of a command: names, whole numbers, and bits.
+//! The words of a command: names, integers, and bits.
 
 ghost use Rattle.std.specs.Prelude.{◌≡◌, Ok, Err, ◌^◌, nat_lt};
 ghost use Rattle.std.specs.Result.{MatchResult};
@@ -28,11 +28,11 @@ fn operation_named(word: &str) -> Option<Operation>
     }
 }
 
-/// The word of the refusal for a wrong count of words or operands.
+/// The word that a wrong number of words or operands is refused with.
 pub const ARGUMENTS: &str = "arguments";
 
-/// The operation and the mode with these names, if the operation has this many operands, or the word for the first
-/// fault.
+/// The operation and the mode with these names, if the operation takes this many operands; otherwise the word for the
+/// first fault.
 pub fn named<'a>(
     operation: &'a str,
     mode: &'a str,
@@ -54,14 +54,14 @@ pub fn named<'a>(
     }
 }
 
-/// The whole number that decimal digits stand for, if it is below 2^128.
+/// The integer that decimal digits spell, if it is below 2^128.
 pub fn number_of(word: &str) -> Option<u128>
     ensures { result ≡ whole_number_of word.now }
 {
     number_of_digits(Radix::Ten, word.as_bytes())
 }
 
-/// The bits that 1 to 32 hexadecimal digits stand for, with or without `0x` in front, if they are below `2^width`.
+/// The bits that 1 to 32 hexadecimal digits spell, optionally after `0x`, if they are below `2^width`.
 pub fn bits_of(word: &str, width: usize) -> Option<u128>
     ensures { result ≡ bits_of_word width word.now }
 {
@@ -69,7 +69,7 @@ pub fn bits_of(word: &str, width: usize) -> Option<u128>
     bits_of_digits(bytes.strip_prefix(b"0x").unwrap_or(bytes), width)
 }
 
-/// The bits that hexadecimal digits stand for, if there are 1 to 32 of them and the bits are below `2^width`.
+/// The bits that hexadecimal digits spell, if there are 1 to 32 of them and the bits are below `2^width`.
 fn bits_of_digits(digits: &[u8], width: usize) -> Option<u128>
     ensures { result ≡ bits_of_digits width digits.now }
 {

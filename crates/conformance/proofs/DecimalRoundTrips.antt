@@ -1,4 +1,4 @@
--- Values that are read back from decimals, by what the contracts say of decimals.
+-- Values that are read back from decimals, from the contracts on decimals.
 use Rattle.std.proofs.Common.{◌≡◌, true, false, refl, ⊎_elim, eqb, Result, Ok, Err, None}
 use Rattle.std.proofs.lemmas.Bool.{cases_Bool}
 use Rattle.std.specs.Result.{IsOkAnd}
@@ -25,7 +25,7 @@ written_sign x =
     (cases_Bool (is_written_whole x.digits x.exponent)))
     (cases_Bool (eqb x.digits 0))
 
--- what holds of a result holds of it under a weaker fact
+-- if P implies Q, a result that is P is Q
 pub ok_and : {T E : Type 0} (result : Result T E) (P Q : T → Type 0) → ((answer : T) → P answer → Q answer)
     → IsOkAnd result P → IsOkAnd result Q
 ok_and (Ok answer) P Q f h = f answer h

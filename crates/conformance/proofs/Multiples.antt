@@ -47,7 +47,7 @@ ceiling_of precision half c amount parts p i =
     (above_is_same precision half (amount / (parts * 2 ^ c)) c amount parts p i (omega arith)))
     (cases_lt 0 (amount % (parts * 2 ^ c)))
 
--- the same for every magnitude and its spacing
+-- the least multiple that is not below the magnitude is its upper neighbour, for every magnitude and its spacing
 pub ceiling_is : (precision amount parts spacing : ℕ) → 0 < precision → 0 < parts
     → IsSpacing precision amount parts spacing
     → IsAbove precision (div_ceil amount (parts * spacing) * spacing) amount parts
@@ -71,7 +71,7 @@ above_bound precision above amount parts place h p i l =
     let k : 2 ^ place * 1 ≤ 2 ^ place * parts = omega (arith, mul-le-mul_right (2 ^ place) p) in
     above_to precision above amount parts place h i (omega arith)
 
--- the upper neighbour is at most the magnitude doubled and 1
+-- the upper neighbour is at most twice the magnitude plus 1
 pub above_near : (precision above amount parts place : ℕ) → 0 < precision → 0 < parts
     → IsAbove precision above amount parts → above ≤ 2 ^ place → above * parts ≤ 2 * amount + parts
 above_near precision above amount parts zero h p i l =
@@ -87,7 +87,7 @@ above_near precision above amount parts (suc place) h p i l =
     (above_to precision above amount parts place h i q))
     (cases_lt (2 ^ place * parts) amount)
 
--- so, multiplied by the parts, it fits 128 bits
+-- the upper neighbour, multiplied by the parts, fits in 128 bits
 pub above_fits : (precision above amount parts : ℕ) → 0 < precision → 0 < parts
     → IsAbove precision above amount parts → amount < 2 ^ 126 → parts < 2 ^ 64 → above * parts < 2 ^ 128
 above_fits precision above amount parts h p i a b =

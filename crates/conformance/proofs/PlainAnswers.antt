@@ -1,4 +1,4 @@
--- What the plain program returns is what one rounding delivers.
+-- The results of the plain program are those that one rounding delivers.
 use Rattle.std.proofs.Common.{◌≡◌, ℕ, ◌+◌, ◌-◌, ◌*◌, ◌^◌, ◌<◌, ◌≤◌, Bool, true, false, ◌||◌, cond, ltb, leb, refl, sym, ap, ◌∙◌, subst, ⊎_elim, lit<, arith}
 use Rattle.std.proofs.lemmas.Bool.{cases_eq, lt-ltb, le-ltb, lt-leb}
 use Rattle.std.proofs.Math.Nat.{mul-le-mul_right, pow-le-pow_right}
@@ -26,7 +26,7 @@ pick_fits precision mode negative amount parts pick h p i a b =
     let k : pick * parts ≤ i.above * parts = mul-le-mul_right parts w in
     omega arith
 
--- the plain program's test for tininess is the format's
+-- the test for tininess in the plain program is that of the format
 tiny_is : (format : Format) (bounds : Bounds) (mode : Round) (negative : Bool) (amount parts pick : ℕ)
     → HasBounds format bounds
     → tiny_of bounds mode negative amount parts pick ≡ is_tiny format mode negative amount parts pick
@@ -55,7 +55,7 @@ from_normal precision mode negative amount parts p h =
     let b : ltb (2 * amount) (2 ^ precision * parts) ≡ false = le-ltb _ _ h in
     rw (a, b) refl
 
--- otherwise the pick of twice the magnitude decides
+-- below 2 ^ precision, the pick of twice the magnitude decides
 pub by_pick : (precision : ℕ) (mode : Round) (negative : Bool) (amount parts pick : ℕ) → 0 < precision
     → 0 < parts → IsPick precision mode negative (2 * amount) parts pick
     → ltb pick (2 ^ precision) ≡ rounds_below_normal precision mode negative amount parts
@@ -63,7 +63,7 @@ by_pick precision mode negative amount parts pick some p x =
     ap (λ (n : ℕ). ltb pick n) (sym (twice_half precision some))
     ∙ by_pick_of_twice precision mode negative amount parts pick some p x
 
--- a pick within the format
+-- the result for a pick within the format
 pub within_is : (format : Format) (bounds : Bounds) (mode : Round) (negative : Bool) (amount parts pick status : ℕ)
     (value : Datum) → HasBounds format bounds → IsPick bounds.precision mode negative amount parts pick
     → pick ≤ bounds.largest
@@ -92,7 +92,7 @@ twice_small precision amount parts p q h =
     let b : 2 ^ precision * parts ≤ 2 ^ 60 * parts = mul-le-mul_right parts a in
     omega (arith, h, q, b)
 
--- where the mode leads out, both rules of flags agree; where it stays, they do not
+-- if the mode leads out of the format, both rules of flags agree
 if_out : (flags : Bool) (out kept : ℕ) → cond (flags || true) out kept ≡ out
 if_out true out kept = refl
 if_out false out kept = refl
@@ -101,7 +101,7 @@ if_stays : (flags : Bool) (out kept : ℕ) → cond (flags || false) out kept �
 if_stays true out kept = refl
 if_stays false out kept = refl
 
--- a pick past the format, in a mode that leads out of it
+-- the result for a pick past the format, in a mode that leads out of it
 pub out_is : (format : Format) (bounds : Bounds) (mode : Round) (negative : Bool) (amount parts pick status : ℕ)
     (value : Datum) → HasBounds format bounds → IsPick bounds.precision mode negative amount parts pick
     → bounds.largest < pick → leads_out mode negative ≡ true
@@ -118,7 +118,7 @@ out_is format bounds mode negative amount parts pick status value h i l out v s 
     delivered_past format mode negative amount parts pick value status p a (rw out w)
     (s ∙ sym (ap (λ (b : Bool). cond (format.ieee_flags || b) 20 16) out ∙ if_out format.ieee_flags 20 16))
 
--- a pick past the format, in a mode that stays within it
+-- the result for a pick past the format, in a mode that stays within it
 pub stay_is : (format : Format) (bounds : Bounds) (mode : Round) (negative : Bool) (amount parts pick status : ℕ)
     (value : Datum) → HasBounds format bounds → IsPick bounds.precision mode negative amount parts pick
     → bounds.largest < pick → leads_out mode negative ≡ false → value ≡ finite negative bounds.largest

@@ -1,4 +1,4 @@
--- The status of what a text is read as.
+-- The status of the reading of a text.
 use Rattle.std.proofs.Common.{ℕ}
 use Rattle.std.specs.Prelude.{List, Result, Ok, Err}
 use Rattle.apfloat_model.specs.declared.kinds.Round.{Round}

@@ -15,12 +15,12 @@ pub record IsReached (precision amount parts spacing : ℕ) : Type 0 where
 pub spacing_some : (precision amount parts spacing : ℕ) → IsReached precision amount parts spacing → 0 < spacing
 spacing_some precision amount parts spacing r = subst (λ (x : ℕ). 0 < x) (sym r.is) (pow_pos r.place)
 
--- nor is the multiple of it by which the amount is divided
+-- the multiple of a spacing that the amount is divided by is not zero
 divisor_some : (precision amount parts spacing : ℕ) → 0 < parts → IsReached precision amount parts spacing
     → 0 < parts * spacing
 divisor_some precision amount parts spacing h r = mul-pos h (spacing_some precision amount parts spacing r)
 
--- the magnitude is 2 ^ precision spacings or more if the quotient is
+-- the magnitude is 2 ^ precision spacings or more if the quotient is 2 ^ precision or more
 too_many : (precision amount parts spacing : ℕ) → 0 < parts → IsReached precision amount parts spacing
     → 2 ^ precision ≤ amount / (parts * spacing) → 2 ^ precision * (parts * spacing) ≤ amount
 too_many precision amount parts spacing h r l =
@@ -39,7 +39,7 @@ doubled precision amount parts spacing p h r l =
     ap (λ (x : ℕ). x * (parts * spacing)) t in
     record { place = r.place + 1; is = omega arith; many = inr (omega arith) }
 
--- such a spacing is below the amount
+-- a spacing at which the magnitude is 2 ^ precision spacings or more is below the amount
 pub spacing_below : (precision amount parts spacing : ℕ) → 0 < precision → 0 < parts
     → IsReached precision amount parts spacing → 2 ^ precision ≤ amount / (parts * spacing) → spacing < amount
 spacing_below precision amount parts spacing p h r l =

@@ -82,7 +82,7 @@ first_reach x y s k m e =
     most in
     subst (λ (i : ℕ). quanta_of s.high ≤ i) four_times quanta
 
--- what is within a reach is within four times that reach
+-- a number within a reach is within four times that reach
 widened_reach : (t n : ℕ) → n ≤ t → n ≤ 4 * t
 widened_reach t n h = omega arith
 

@@ -36,7 +36,7 @@ bounds_if_outward IsExact R encloses mode other one two x y o =
 
 -- ---- readings
 
--- what is said of two values that a text is read as holds of its two readings
+-- a statement about two values of a text holds of its two readings
 readings_are : (format : Format) (Say : StatusAnd Datum → StatusAnd Datum → Type 0) (mode other : Round)
     (text : List ℕ) (one two : Result (StatusAnd Datum) ParseError)
     → ((a b : StatusAnd Datum) → Gives (IsReading format mode text) a → Gives (IsReading format other text) b

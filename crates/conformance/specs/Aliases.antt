@@ -1,4 +1,4 @@
--- What is said of the aliases of the formats.
+-- The contract of sums in the aliases of the formats.
 use Rattle.std.specs.Prelude.{ℕ}
 use Rattle.rustc_apfloat.specs.declared.Round.{Round}
 use Rattle.rustc_apfloat.specs.declared.StatusAnd.{StatusAnd}

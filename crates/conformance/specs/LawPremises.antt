@@ -1,4 +1,4 @@
--- When the laws of the calls apply to given values.
+-- The premises of the laws of the calls.
 use Rattle.std.specs.Prelude.{◌≡◌, ℕ, ◌*◌, ◌^◌, ◌<◌, ◌≤◌, Bool, false}
 use Rattle.rustc_apfloat.specs.Format.{Format}
 use Rattle.rustc_apfloat.specs.Datum.{Datum, finite}

@@ -40,7 +40,7 @@ tiny_of b mode negative amount parts pick =
     else (if b.ieee_flags then rounds_below_normal b.precision mode negative amount parts
     else ltb pick b.smallest_normalized)
 
--- the datum of an answer, in a format of this kind and precision
+-- the datum of a result, in a format of this kind and precision
 abbrev pub datum_of : NonfiniteBehavior → ℕ → RoundedValue → Datum
 datum_of kind precision (Finite negative quanta) = finite negative quanta
 datum_of kind precision (Infinite negative) = infinite negative

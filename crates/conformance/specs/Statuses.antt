@@ -1,4 +1,4 @@
--- The status of what a text is read as.
+-- The status of the reading of a text.
 use Rattle.std.specs.Prelude.{Result, Ok, Err, ⊤}
 use Rattle.apfloat_model.specs.declared.parse_error.ParseError.{ParseError}
 use Rattle.apfloat_model.specs.declared.status.StatusAnd.{StatusAnd}

@@ -4,7 +4,7 @@ use Rattle.apfloat_model.specs.declared.parse_error.ParseError.{ParseError}
 use Rattle.apfloat_model.specs.declared.status.StatusAnd.{StatusAnd}
 use Rattle.rustc_apfloat.specs.Datum.{Datum}
 
--- two values, with what is said of them, or refusals with the same words
+-- two values that satisfy the statement, or refusals with the same words
 abbrev pub AreReadings : (StatusAnd Datum → StatusAnd Datum → Type 0) → Result (StatusAnd Datum) ParseError
     → Result (StatusAnd Datum) ParseError → Type 0
 AreReadings Say (Ok one) (Ok other) = Say one other

@@ -1,4 +1,4 @@
-//! What holds for every floating-point type by the laws of `Float`: an operator and the corresponding call have the
+//! Consequences of the laws of `Float`, for every floating-point type: an operator and the corresponding call have the
 //! same result.
 
 ghost use Rattle.std.specs.Prelude.{◌≡◌};
@@ -6,7 +6,7 @@ ghost use Rattle.conformance.specs.Agreements.{AreOneValue};
 
 use rustc_apfloat::{Float, ParseError, Round, StatusAnd};
 
-/// A sum by `+`, by the call that rounds to nearest, ties to even, and by `+=`, which drops the status.
+/// A sum by `+`, by the call that rounds to nearest, ties to even, and by `+=`, which discards the status.
 pub fn sums<F: Float>(x: F, y: F) -> (StatusAnd<F>, StatusAnd<F>, F)
     ensures call { result.0 ≡ result.1 }
     ensures assigned { result.2 ≡ result.0.value }
@@ -23,7 +23,7 @@ pub fn remainders<F: Float>(x: F, y: F) -> (StatusAnd<F>, StatusAnd<F>)
     (x % y, x.c_fmod(y))
 }
 
-/// What a text is read as by `FromStr`, and by the call that rounds to nearest, ties to even.
+/// The reading of a text by `FromStr`, and by the call that rounds to nearest, ties to even.
 pub fn readings<F: Float>(text: &str) -> (Result<F, ParseError>, Result<StatusAnd<F>, ParseError>)
     ensures { AreOneValue result.0 result.1 }
 {

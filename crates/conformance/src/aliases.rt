@@ -1,5 +1,5 @@
 //! The aliases of the formats: a sum in each, from bits to bits, is that of the format with the constants that the
-//! specification gives under its name. So an alias that stood for another format would not be proved.
+//! specification gives under its name. So an alias of another format would not be proved.
 
 ghost use Rattle.rustc_apfloat.specs.Formats.{bfloat_constants, double_constants, e4m3fn_constants, e4m3fnuz_constants, e5m2_constants, half_constants, quad_constants, single_constants, x87_constants};
 ghost use Rattle.conformance.specs.Aliases.{IsSumOfBits};

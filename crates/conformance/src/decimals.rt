@@ -1,4 +1,4 @@
-//! Values as decimals and back, and decimals as texts and back.
+//! Round trips: values through decimals, and decimals through texts.
 
 ghost use Rattle.std.specs.Prelude.{◌≡◌, Bool, false, Some, Ok, MatchOption, IsOkAnd};
 ghost use Rattle.rustc_apfloat.specs.Types.{format_of};
@@ -15,7 +15,7 @@ use apfloat_decimals::{
 use rustc_apfloat::ieee::{IeeeFloat, Semantics};
 use rustc_apfloat::{Float, ParseError, Round, StatusAnd};
 
-/// The shortest decimal of a value, rounded to nearest, ties to even: the value again, with its sign.
+/// The shortest decimal of a value, rounded to nearest, ties to even, which is the value again, with its sign.
 pub fn of_shortest<S: Semantics>(x: IeeeFloat<S>) -> Option<StatusAnd<IeeeFloat<S>>>
     requires { IsWithinQuad (format_of S.Semantics) }
     ensures { MatchOption result (is_finite x ≡ false)
@@ -29,7 +29,7 @@ pub fn of_shortest<S: Semantics>(x: IeeeFloat<S>) -> Option<StatusAnd<IeeeFloat<
     Some(from_decimal::<S>(decimal, Round::NearestTiesToEven))
 }
 
-/// The decimal that the text of one spells.
+/// The decimal read back from the text of one.
 pub fn of_text(text: &str, decimal: Decimal) -> Result<Decimal, DecimalError>
     requires { text.now ≡ decimal_text decimal }
     ensures { result ≡ Ok (written decimal) }
@@ -39,7 +39,8 @@ pub fn of_text(text: &str, decimal: Decimal) -> Result<Decimal, DecimalError>
     text.parse()
 }
 
-/// The text of a value's shortest decimal, rounded to nearest, ties to even: the value again, with its sign.
+/// The text of the shortest decimal of a value, rounded to nearest, ties to even, which is the value again, with its
+/// sign.
 pub fn of_shortest_text<S: Semantics>(
     text: &str,
     decimal: Decimal,

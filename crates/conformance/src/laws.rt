@@ -1,5 +1,5 @@
-//! The laws of the public calls, for every format: each function calls the library, and its contract is what the law
-//! says about the results. A function has a condition on the format only where a call has it.
+//! The laws of the public calls, for every format: each function calls the library, and its contract states the law for
+//! the results. A function has a precondition on the format only where a call has it.
 
 ghost use Rattle.std.specs.Prelude.{◌≡◌, ◌^◌, ◌<◌, ◌≤◌, IsTrue, true, false, ◌-ℤ◌, ◌≤ℤ◌};
 ghost use Rattle.apfloat_model.specs.declared.kinds.NonfiniteBehavior.TheVariants.{IEEE754};
@@ -15,7 +15,8 @@ ghost use Rattle.conformance.specs.LawPremises.{AreNear, IsInBoth};
 use rustc_apfloat::ieee::{Flagged, IeeeFloat};
 use rustc_apfloat::{Float, FloatConvert, Round, StatusAnd};
 
-/// The difference of two values. For two positive numbers, neither more than twice the other, it is exact in each mode.
+/// The difference of two values. It is exact in each mode for positive numbers of which neither is more than twice the
+/// other (Sterbenz's lemma).
 pub fn near_difference<S: Flagged>(
     x: IeeeFloat<S>,
     y: IeeeFloat<S>,
@@ -62,7 +63,7 @@ pub fn there_and_back<S: Flagged, T: Flagged>(x: IeeeFloat<S>, mode: Round) -> (
     ensures value { IsInBoth (format_of S.Flagged) (format_of T.Flagged) x → result.0 ≡ x }
     ensures loss { IsInBoth (format_of S.Flagged) (format_of T.Flagged) x → result.1 ≡ false }
 {
-    // `category` ensures that a value is one of its format.
+    // `category` ensures that a value belongs to its format.
     let _ = x.category();
     let mut lost_there = false;
     let mut lost_back = false;

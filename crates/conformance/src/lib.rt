@@ -1,4 +1,4 @@
-//! Callers that use contracts alone, and a plain slow program for one rounding, with which tests compare the library.
+//! Callers that use contracts alone, and a plain, slow rounding that tests compare the library with.
 //!
 //! The tests are in the crate `conformance_tests`.
 #![tactic(auto)]

@@ -1,4 +1,4 @@
-//! OVERFLOW and UNDERFLOW are raised only together with INEXACT by the calls of pairs of doubles too, as in `statuses`.
+//! The calls of pairs of doubles, too, raise OVERFLOW and UNDERFLOW only together with INEXACT, as in `statuses`.
 
 ghost use Rattle.std.specs.Prelude.{◌≤◌, Bool};
 ghost use Rattle.rustc_apfloat.specs.Flags.{Gives, bits_of};
@@ -82,7 +82,7 @@ pub fn neighbours_and_integral(
     (x.next_up(), x.next_down(), x.round_to_integral(mode))
 }
 
-/// The pairs of an unsigned and of a signed integer.
+/// The pairs converted from an unsigned and from a signed integer.
 pub fn of_integers(
     unsigned: u128,
     signed: i128,
@@ -99,7 +99,7 @@ pub fn of_integers(
     )
 }
 
-/// The pair as an unsigned and as a signed integer of a width.
+/// The pair as an unsigned and as a signed integer of `width` bits.
 pub fn to_integers(x: DoubleDouble, width: usize, mode: Round) -> (StatusAnd<u128>, StatusAnd<i128>)
     requires low { 2 ≤ width }
     requires high { width ≤ 128 }
@@ -115,7 +115,7 @@ pub fn to_integers(x: DoubleDouble, width: usize, mode: Round) -> (StatusAnd<u12
     (unsigned, x.to_i128_r(width, mode, &mut is_exact))
 }
 
-/// The pair of a text, or a refusal.
+/// The pair that a text spells, or a refusal.
 pub fn reading(text: &str, mode: Round) -> Result<StatusAnd<DoubleDouble>, ParseError>
     ensures reads { IsPairRead mode text.now result }
     ensures flags { HasFlagsTogether result }

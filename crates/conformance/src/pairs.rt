@@ -18,12 +18,12 @@ fn alone(x: Double) -> DoubleDouble
     ensures pair { result ≡ alone x }
     ensures member { IsMember double x }
 {
-    // `category` ensures that a double has the digits of its format.
+    // `category` ensures that a double belongs to its format.
     let _ = x.category();
     DoubleDouble::from_bits(x.to_bits())
 }
 
-/// The exact sum of two doubles of at most 2^1022.
+/// The exact sum of two doubles of magnitude at most 2^1022.
 pub fn exact_sum(x: Double, y: Double) -> DoubleDouble
     requires first { IsSummand sum_reach x }
     requires second { IsSummand sum_reach y }
@@ -32,8 +32,8 @@ pub fn exact_sum(x: Double, y: Double) -> DoubleDouble
     (alone(x) + alone(y)).value
 }
 
-/// The sum of three doubles of at most 2^1020. The error is at most 2^-103 of the magnitudes of `x + y` and of `z`
-/// together.
+/// The sum of three doubles of magnitude at most 2^1020. The error is at most 2^-103 times the sum of the magnitudes of
+/// `x + y` and `z`.
 pub fn sum_of_three(x: Double, y: Double, z: Double) -> DoubleDouble
     requires first { IsSummand reach_of_three x }
     requires second { IsSummand reach_of_three y }

@@ -1,7 +1,7 @@
-//! One rounding by a plain slow program, with which the library's is compared.
+//! One rounding by a plain, slow program, which the rounding of the library is compared with.
 //!
 //! It uses integers only: a spacing is doubled until the magnitude is less than 2^precision spacings, the two
-//! neighbours are multiples of that spacing, and their distances are compared. Its contracts are the definition of one
+//! neighbours are multiples of that spacing, and their distances are compared. Its contract is the definition of one
 //! rounding.
 
 ghost use Rattle.std.specs.Prelude.{◌≡◌, ◌+◌, ◌*◌, ◌/◌, ◌^◌, ◌<◌, ◌≤◌, ℕ, if◌then◌else◌};
@@ -46,8 +46,8 @@ pub fn above(precision: u32, amount: u128, parts: u128) -> u128
     amount.div_ceil(parts * spacing) * spacing
 }
 
-/// Whether the mode takes the upper neighbour of a magnitude that is `below_by` above the lower one and `above_by`
-/// below the upper one; `odd` says that the lower one is an odd multiple of their distance.
+/// Whether the mode takes the upper neighbour of a magnitude. The magnitude is `below_by` above the lower neighbour and
+/// `above_by` below the upper one; `odd` says that the lower one is an odd multiple of their distance.
 fn takes_above(mode: Round, negative: bool, below_by: u128, above_by: u128, odd: bool) -> bool
     ensures { result ≡ takes_above mode negative below_by above_by odd }
 {
@@ -98,18 +98,18 @@ pub fn whole(mode: Round, negative: bool, amount: u128, parts: u128) -> u128
     }
 }
 
-/// The bounds of a format; magnitudes are counted in quanta.
+/// The parameters of a format that rounding needs; magnitudes are in quanta.
 #[derive(Clone, Copy, Debug)]
 pub struct Bounds {
-    /// How many binary digits a significand has.
+    /// The number of binary digits in a significand.
     pub precision: u32,
     /// The greatest finite magnitude.
     pub largest: u128,
-    /// The least magnitude that is not denormal.
+    /// The smallest normal magnitude.
     pub smallest_normalized: u128,
     /// Whether tininess is detected before rounding.
     pub tiny_before_rounding: bool,
-    /// Whether flags are raised as IEEE 754-2008 7.4 and 7.5 say.
+    /// Whether OVERFLOW and UNDERFLOW are raised as IEEE 754-2008 7.4 and 7.5 ask.
     pub ieee_flags: bool,
     /// Which non-finite values the format has.
     pub nonfinite: NonfiniteBehavior,
@@ -138,7 +138,7 @@ fn past_largest(nonfinite: NonfiniteBehavior, negative: bool) -> RoundedValue
     }
 }
 
-/// The number of this sign and that many quanta; a zero is negative only if the format has a negative zero.
+/// The number with this sign and magnitude in quanta; a zero is negative only if the format has a negative zero.
 fn number_of(nonfinite: NonfiniteBehavior, negative: bool, quanta: u128) -> RoundedValue
     ensures { (precision : ℕ)
         → datum_of nonfinite precision result ≡ signed_quanta nonfinite negative quanta }
@@ -150,7 +150,7 @@ fn number_of(nonfinite: NonfiniteBehavior, negative: bool, quanta: u128) -> Roun
     }
 }
 
-/// Whether the mode rounds past the largest value, out of the format.
+/// Whether the mode delivers the value past the largest one on overflow.
 fn leads_out(mode: Round, negative: bool) -> bool
     ensures { result ≡ leads_out mode negative }
 {
@@ -163,8 +163,8 @@ fn leads_out(mode: Round, negative: bool) -> bool
     }
 }
 
-/// Whether the magnitude, rounded with an unbounded exponent, is below the smallest normalized value: if the pick of
-/// twice the magnitude is below twice that value.
+/// Whether the magnitude, rounded with an unbounded exponent, is below the smallest normalized value: it is if the pick
+/// of twice the magnitude is below twice that value.
 fn rounds_below_normal(
     precision: u32,
     mode: Round,

@@ -1,5 +1,5 @@
 //! OVERFLOW and UNDERFLOW are raised only together with INEXACT: each function makes the calls of one kind, and its
-//! contract says it of their results.
+//! contract states this for their statuses.
 
 ghost use Rattle.std.specs.Prelude.{◌≤◌, Bool};
 ghost use Rattle.rustc_apfloat.specs.Conversions.{IsConversion};
@@ -58,7 +58,7 @@ pub fn fused_sum<S: Flagged>(
     x.mul_add_r(y, z, mode)
 }
 
-/// A quotient, and the remainders by the quotient cut toward zero and by the nearest one.
+/// A quotient, and the remainders by the truncated quotient and by the nearest integer.
 pub fn quotient_and_remainders<S: Flagged>(
     x: IeeeFloat<S>,
     y: IeeeFloat<S>,
@@ -114,7 +114,7 @@ pub fn converted_and_integral<S: Flagged, T: Flagged>(
     )
 }
 
-/// The values of an unsigned and of a signed integer.
+/// The values converted from an unsigned and from a signed integer.
 pub fn of_integers<S: Flagged>(
     unsigned: u128,
     signed: i128,
@@ -132,7 +132,7 @@ pub fn of_integers<S: Flagged>(
     )
 }
 
-/// The value as an unsigned and as a signed integer of a width.
+/// The value as an unsigned and as a signed integer of `width` bits.
 pub fn to_integers<S: Flagged>(
     x: IeeeFloat<S>,
     width: usize,

@@ -1,9 +1,9 @@
-//! Two results of one operation on the same operands, in two modes.
+//! Two results of the same operation on the same operands, in two modes.
 //!
-//! - If the first has status OK, the other has the same value, and status OK (clauses `same`). Of sums, the sign of an
+//! - If the first has status OK, the other has the same value, and status OK (clauses `same`). For sums, the sign of an
 //!   exact zero is left out.
 //! - Rounded downward and upward, the first is at most the second, and they are equal exactly where a status is OK, or
-//!   where the result comes of a zero; unless one of them is a NaN (clauses `bounds`).
+//!   where a zero is converted or divided by; unless one of them is a NaN (clauses `bounds`).
 
 ghost use Rattle.std.specs.Prelude.{◌≤◌, Bool};
 ghost use Rattle.rustc_apfloat.specs.Conversions.{IsConversion};
@@ -21,7 +21,7 @@ ghost use Rattle.conformance.specs.TwoReadings.{AreReadings};
 use rustc_apfloat::ieee::{Flagged, IeeeFloat};
 use rustc_apfloat::{Float, FloatConvert, ParseError, Round, StatusAnd};
 
-/// Two sums of two values.
+/// The sum of two values, in both modes.
 pub fn sums<S: Flagged>(
     x: IeeeFloat<S>,
     y: IeeeFloat<S>,
@@ -36,7 +36,7 @@ pub fn sums<S: Flagged>(
     (x.add_r(y, mode), x.add_r(y, other))
 }
 
-/// Two differences of two values.
+/// The difference of two values, in both modes.
 pub fn differences<S: Flagged>(
     x: IeeeFloat<S>,
     y: IeeeFloat<S>,
@@ -51,7 +51,7 @@ pub fn differences<S: Flagged>(
     (x.sub_r(y, mode), x.sub_r(y, other))
 }
 
-/// Two products of two values, in a format of at most 64 digits.
+/// The product of two values, in both modes, in a format of at most 64 digits.
 pub fn products<S: Flagged>(
     x: IeeeFloat<S>,
     y: IeeeFloat<S>,
@@ -67,7 +67,7 @@ pub fn products<S: Flagged>(
     (x.mul_r(y, mode), x.mul_r(y, other))
 }
 
-/// Two fused sums of three values, in a format of at most 63 digits.
+/// The fused sum of three values, in both modes, in a format of at most 63 digits.
 pub fn fused_sums<S: Flagged>(
     x: IeeeFloat<S>,
     y: IeeeFloat<S>,
@@ -84,7 +84,7 @@ pub fn fused_sums<S: Flagged>(
     (x.mul_add_r(y, z, mode), x.mul_add_r(y, z, other))
 }
 
-/// Two quotients of two values. Divided by a zero, both are the same infinity.
+/// The quotient of two values, in both modes. Divided by a zero, a number gives the same infinity in both.
 pub fn quotients<S: Flagged>(
     x: IeeeFloat<S>,
     y: IeeeFloat<S>,
@@ -100,7 +100,7 @@ pub fn quotients<S: Flagged>(
     (x.div_r(y, mode), x.div_r(y, other))
 }
 
-/// The value converted to the format `T` twice. Of a zero, both are the same zero.
+/// The value converted to the format `T`, in both modes. A zero is converted to the same zero in both.
 pub fn conversions<S: Flagged, T: Flagged>(
     x: IeeeFloat<S>,
     mode: Round,
@@ -119,7 +119,7 @@ pub fn conversions<S: Flagged, T: Flagged>(
     (one, x.convert_r(other, &mut loses_info))
 }
 
-/// Two values of an unsigned integer, and two of a signed one.
+/// The value of an unsigned integer and that of a signed one, in both modes.
 pub fn of_integers<S: Flagged>(
     unsigned: u128,
     signed: i128,
@@ -150,7 +150,7 @@ pub fn of_integers<S: Flagged>(
     )
 }
 
-/// A text read twice, as a value or a refusal.
+/// The reading of a text, a value or a refusal, in both modes.
 pub fn readings<S: Flagged>(
     text: &str,
     mode: Round,

@@ -1,5 +1,5 @@
-//! Products and fused sums that every format has, and those that only shorter formats have: where both may be called,
-//! they return the same.
+//! Products and fused sums by the calls that every format has, and by those that only formats of fewer digits have:
+//! where both may be called, they return the same.
 
 ghost use Rattle.std.specs.Prelude.{◌≡◌, ◌≤◌};
 ghost use Rattle.rustc_apfloat.specs.Products.{product_limit};

@@ -1,4 +1,5 @@
-//! The widest formats that have products and fused sums: with one digit more, these calls are refused.
+//! The formats of the most digits that have products (`mul_r`) and fused sums (`mul_add_r`): with one digit more, these
+//! calls are refused.
 
 ghost use Rattle.std.specs.Prelude.{pos, negsuc, false, refl};
 ghost use Rattle.apfloat_model.specs.declared.kinds.NonfiniteBehavior.TheVariants.{NanNegativeZero};
@@ -127,7 +128,7 @@ impl Semantics for WidestFusedSumsS {
     ghost lawful = { lawful_from_test _ refl };
 }
 
-/// The square of a value of the widest format that has products.
+/// The square of a value, in the format of the most digits that has products.
 pub fn square(
     x: IeeeFloat<WidestProductsS>,
     round: Round,
@@ -135,7 +136,7 @@ pub fn square(
     x.mul_r(x, round)
 }
 
-/// The square of a value of the widest format that has fused sums, plus the value itself.
+/// The square of a value plus the value itself, in the format of the most digits that has fused sums.
 pub fn square_and_itself(
     x: IeeeFloat<WidestFusedSumsS>,
     round: Round,

@@ -1,4 +1,4 @@
-//! Operators and calls that have the same result, for a format and for pairs of doubles.
+//! Operators and the corresponding calls have the same result, for a format and for pairs of doubles.
 
 ghost use Rattle.std.specs.Prelude.{◌<◌};
 
@@ -12,7 +12,7 @@ use std::process::Abort;
 /// The bits of two operands and of a result, and its status.
 type Row = (u128, u128, u128, Status);
 
-/// A text, and the bits of its value or the words of the refusal.
+/// A text, and the bits of its value or the message of the refusal.
 type Reading = (&'static str, Result<u128, &'static str>);
 
 fn written<F: Float>(answer: StatusAnd<F>) -> (u128, Status)
@@ -42,7 +42,8 @@ fn check_remainder<F: Float>(rt: &impl Abort, row: Row)
     same(rt, got, [(bits, status); 2], (Bits(x), "%", Bits(y)));
 }
 
-/// The bits that a text is read as by `FromStr` and by the call, or the words of the refusals.
+/// The bits of the value that `FromStr` reads from a text, and of the value that the call reads, or the messages of the
+/// refusals.
 fn read<F: Float>(text: &str) -> [Result<u128, &'static str>; 2]
     requires { F.PRECISION < F.BITS }
 {

@@ -1,10 +1,10 @@
-//! Assertions. To prove a call of these functions takes a small part of the time that an `assert_eq!` takes.
+//! Assertions. A call of these functions takes a fraction of the time to prove that an `assert_eq!` takes.
 
 use std::fmt;
 use std::fmt::{Debug, Formatter, Write};
 use std::process::Abort;
 
-/// Asserts that a result is the expected one. `case` tells in the message which case it is.
+/// Asserts that a result is the expected one. The message names the `case`.
 pub fn same<T: PartialEq + Debug + Drop, C: Debug + Drop>(
     rt: &impl Abort,
     got: T,

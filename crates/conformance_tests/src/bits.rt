@@ -1,4 +1,4 @@
-//! Bits to values and back.
+//! From bits to values and back.
 
 ghost use Rattle.std.specs.Prelude.{◌<◌};
 
@@ -8,7 +8,7 @@ use rustc_apfloat::ieee::{DoubleS, HalfS, IeeeFloat, Semantics, SingleS, X87Doub
 use rustc_apfloat::{Category, Float};
 use std::process::Abort;
 
-/// How many bits of an interchange format are its biased exponent and its fraction.
+/// The widths of the biased exponent and the fraction of an interchange format.
 #[derive(Clone, Copy)]
 struct Fields {
     exponent_bits: u32,
@@ -51,8 +51,8 @@ fn category_of(fields: Fields, bits: u128) -> Category
     }
 }
 
-/// A bit pattern is read as a value of the category and the sign in its fields, and written back unchanged. Bits above
-/// it are ignored.
+/// A bit pattern is read as a value of the category and the sign that its fields say, and written back unchanged. Bits
+/// above it are ignored.
 fn check<S: Semantics>(rt: &impl Abort, fields: Fields, bits: u128)
     requires written { S.PRECISION < S.BITS }
     requires exponent { fields.exponent_bits < 32 }
@@ -80,7 +80,8 @@ fn check_all<S: Semantics>(rt: &impl Abort, fields: Fields, patterns: u64)
     }
 }
 
-/// Fractions of one bit, of all bits below it and of all bits from it on, with these biased exponents.
+/// Fractions with one bit set, with all bits below it set, and with all bits from it up set, with these biased
+/// exponents.
 fn check_edges<S: Semantics>(rt: &impl Abort, fields: Fields, exponents: &[u128])
     requires written { S.PRECISION < S.BITS }
     requires exponent { fields.exponent_bits < 32 }
@@ -120,7 +121,7 @@ fn edges_of_double(rt: HostRuntime) {
     check_edges::<DoubleS>(&rt, DOUBLE, &[0, 1, 2, 1022, 1023, 1024, 2045, 2046, 2047]);
 }
 
-/// A number without its integer bit is read as a NaN, and written with an exponent of all ones.
+/// An unnormal (a number without its integer bit) is read as a NaN, and written with an exponent of all ones.
 #[test]
 fn number_without_its_integer_bit(rt: HostRuntime) {
     let x = X87DoubleExtendedS::from_bits(0x3fff4000000000000000);

@@ -13,7 +13,7 @@ use rustc_apfloat::ieee::{Flagged, Half, HalfS, IeeeFlags, Loss, NonfiniteBehavi
 use rustc_apfloat::{ExpInt, Float, Round, ieee};
 use std::process::Abort;
 
-/// A format with bits: its bounds, the exponent of an eighth of its quantum, and the bits of a minus sign and of the
+/// A format with bits: its bounds, the exponent of an eighth of its quantum, the bits of a minus sign, and those of the
 /// infinity.
 #[derive(Clone, Copy)]
 struct Subject {
@@ -127,7 +127,7 @@ fn compare<S: Flagged>(rt: &impl Abort, subject: Subject, eighths: u128)
     compare_parts::<S>(rt, subject, eighths, 8);
 }
 
-/// The same for `amount / parts` quanta; the exponent of the subject is that of a part.
+/// The same for `amount / parts` quanta; the exponent of the subject is that of one part.
 fn compare_parts<S: Flagged>(rt: &impl Abort, subject: Subject, amount: u128, parts: u128)
     requires written { S.PRECISION < S.BITS }
     requires bounds { HasBounds (format_of S.Flagged) subject.bounds }
@@ -161,7 +161,8 @@ fn compare_parts<S: Flagged>(rt: &impl Abort, subject: Subject, amount: u128, pa
     }
 }
 
-/// Compares magnitudes of `Half` around `center` that are `step` apart, and those an eighth above and below each.
+/// Compares magnitudes of `Half` around `center` that are `step` apart, and those an eighth of a quantum above and
+/// below each.
 fn compare_about(rt: &impl Abort, center: u128, step: u128)
     requires far { center < 2 ^ 50 }
     requires some { 0 < step }
@@ -192,7 +193,7 @@ fn edges_of_binades(rt: HostRuntime) {
     }
 }
 
-/// The largest value is 65504, and from 65520 on the nearest one is past it.
+/// The largest value is 65504; from 65520 on, rounding to nearest overflows.
 #[test]
 fn threshold_of_overflow(rt: HostRuntime) {
     for place in [0, 9, 19, 29] {

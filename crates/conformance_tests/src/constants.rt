@@ -95,7 +95,7 @@ fn named_values(rt: HostRuntime) {
     check::<Float8E4M3FNUZS>(&rt, "e4m3fnuz", &E4M3FNUZ);
 }
 
-/// For a type without bits, only the categories can be checked here.
+/// For a type without bits, only the categories are checked.
 #[test]
 fn named_values_without_bits(rt: HostRuntime) {
     let default = Least::default();
@@ -149,8 +149,8 @@ fn constants_of_types(rt: HostRuntime) {
 }
 
 /// The constants of a format that `Float` does not have: the bits of the exponent, the greatest and the least exponent
-/// of IEEE 754, the kind of values past the largest, the significands of NaNs (what all have, where payloads are, and
-/// that of the quiet one), and whether it writes the integer bit and decides tininess before rounding.
+/// of IEEE 754, the kind of non-finite behaviour, the significands of NaNs (the common bits, the payload mask and the
+/// quiet bits), whether the integer bit is written, and whether tininess is detected before rounding.
 type Rules = (usize, [ExpInt; 2], NonfiniteBehavior, [u128; 3], [bool; 2]);
 
 fn rules_of<S: Semantics>() -> Rules {
@@ -195,7 +195,7 @@ fn constants_of_aliases(rt: HostRuntime) {
     same(&rt, got, expected, "double, quad, bfloat, e5m2");
 }
 
-/// The largest value of each.
+/// The largest value of each format.
 #[test]
 fn largest_of_aliases(rt: HostRuntime) {
     let got = [

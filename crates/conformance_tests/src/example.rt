@@ -1,4 +1,4 @@
-//! The examples of the README and of the page for callers.
+//! The examples in the README and in the page for callers.
 
 ghost use Rattle.std.specs.Prelude.{◌-◌, ◌^◌, pos, negsuc, true, false, refl};
 ghost use Rattle.rustc_apfloat.specs.declared.ieee.NonfiniteBehavior.TheVariants.{IEEE754};

@@ -85,8 +85,8 @@ fn written<S: Flagged>(answer: StatusAnd<IeeeFloat<S>>) -> Expected
     }
 }
 
-/// The sum, the product and the quotient of two bit patterns. Results of infinities and NaNs are not rounded, and have
-/// the flags that other formats raise.
+/// The sum, the product and the quotient of two bit patterns. Results for zeros, infinities and NaNs are not rounded,
+/// and have the flags of the built-in formats.
 fn check_pair<S: Flagged>(rt: &impl Abort, tininess: Tininess, mode: Round, x: u128, y: u128)
     requires written { S.PRECISION < S.BITS }
     requires multiplied { S.PRECISION ≤ product_limit }
@@ -115,7 +115,7 @@ fn check_pair<S: Flagged>(rt: &impl Abort, tininess: Tininess, mode: Round, x: u
     same(rt, got, expected, (Bits(x), mode, Bits(y)));
 }
 
-/// All bit patterns with each of 32 neighbouring ones. The modes take turns.
+/// Each bit pattern with each of 32 consecutive patterns. The modes take turns.
 fn check_all<S: Flagged>(rt: &impl Abort, tininess: Tininess, neighbours: u64)
     requires written { S.PRECISION < S.BITS }
     requires multiplied { S.PRECISION ≤ product_limit }

@@ -1,5 +1,5 @@
 //! The fraction and the exponent of every bit pattern of the small formats, compared with the digits of its quanta, and
-//! put together again.
+//! recombined.
 
 ghost use Rattle.std.specs.Prelude.{◌^◌, ◌<◌};
 
@@ -21,7 +21,7 @@ struct Fraction {
     exponent: ExpInt,
 }
 
-/// A count of quanta as a fraction from one half to below 1: the highest digit becomes that of one half.
+/// A count of quanta as a fraction from one half to below 1: its highest digit becomes the digit of one half.
 fn fraction_of(format: Small, negative: bool, quanta: u128) -> Fraction
     requires some { 0 < quanta }
     requires few { quanta < 2 ^ 40 }
@@ -53,7 +53,7 @@ fn expected(format: Small, bits: u128) -> Fraction {
     }
 }
 
-/// The exponent of the value itself, as a power of two times a factor from 1 to below 2.
+/// The exponent of the value as a power of two times a factor from 1 to below 2.
 fn logarithm(format: Small, bits: u128, exponent: ExpInt) -> ExpInt {
     let x = decoded(format, bits);
     match x.class {
@@ -63,7 +63,7 @@ fn logarithm(format: Small, bits: u128, exponent: ExpInt) -> ExpInt {
     }
 }
 
-/// The fraction of a value, scaled by the exponent, is the value again, except for a signaling NaN.
+/// The fraction of a value, scaled by its exponent, is the value again, except for a signaling NaN.
 fn check<S: Semantics>(rt: &impl Abort, format: Small, mode: Round, bits: u128)
     requires { S.PRECISION < S.BITS }
 {

@@ -1,5 +1,5 @@
 //! Every bit pattern of the small formats rounded to an integral value, in each mode. The expected value and status
-//! come from dividing its quanta by those of 1.
+//! come from dividing its quanta by the quanta of 1.
 
 ghost use Rattle.std.specs.Prelude.{◌<◌};
 

@@ -1,5 +1,5 @@
 //! The laws of the calls for user-defined formats, with values at their limits. The functions in `laws` require nothing
-//! of a format except its law.
+//! of a format but its law.
 
 ghost use Rattle.std.specs.Prelude.{◌<◌, ◌≤◌};
 ghost use Rattle.rustc_apfloat.specs.Products.{product_limit};
@@ -134,8 +134,8 @@ fn check_product<S: Semantics>(rt: &impl Abort, x: IeeeFloat<S>, y: IeeeFloat<S>
     }
 }
 
-/// A number is unchanged by conversion to the format with the most digits and the widest exponents, and back; so it is
-/// by conversion to a format of three digits and back, if that format has it.
+/// A number is unchanged by conversion to the format with the most digits and the widest exponents and back, and by
+/// conversion to a format of three digits and back, if that format has the number.
 fn check_conversions<S: Semantics>(rt: &impl Abort, x: IeeeFloat<S>) {
     for mode in MODES {
         let (from_vast, lost) = there_and_back::<S, VastS>(x, mode);

@@ -1,6 +1,6 @@
 //! Tests that need several crates, with the formats, the laws and the plain slow program of `conformance`.
 //!
-//! They are in a separate crate, so that proving them does not prove `conformance` again.
+//! They are in a crate of their own, so that proving them does not prove `conformance` again.
 #![tactic(auto)]
 
 #[cfg(test)]

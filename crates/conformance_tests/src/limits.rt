@@ -1,4 +1,4 @@
-//! User-defined formats at the limits of the law: the calls require no more of them than their law.
+//! User-defined formats at the limits of the law: the calls require nothing of a format but its law.
 
 ghost use Rattle.std.specs.Prelude.{◌<◌};
 
@@ -12,7 +12,7 @@ use rustc_apfloat::{Category, Flags, Float, Round};
 use std::cmp::Ordering;
 use std::process::Abort;
 
-/// What an integer is converted to: an integer, or the value past the largest one.
+/// The value that an integer is converted to: an integer, or the value past the largest one.
 #[derive(Clone, Copy)]
 enum Landed {
     Number(u128),

@@ -9,8 +9,8 @@ use rustc_apfloat::{Flags, Float, Round};
 use std::process::Abort;
 use std::test::Fail;
 
-/// What precedes a digit, the digit, how often it is repeated, what follows, a mode, the bits of the value and the bits
-/// of the status.
+/// A text, as a beginning, a digit with the number of its repetitions, and an end; a mode, the bits of the value and
+/// the bits of the status.
 type Row = (
     &'static str,
     &'static str,
@@ -46,7 +46,7 @@ static ROWS: [Row; 22] = [
     ("0x1p+", "0", 99, "1", EVEN, 0x4000, OK),
 ];
 
-/// The bits of a text's value and the bits of the status, or the words of the refusal.
+/// The bits of the value of a text and the bits of the status, or the message of the refusal.
 fn read(text: &str, mode: Round) -> Result<(u128, u8), &'static str> {
     match Half::from_str_r(text, mode) {
         Ok(answer) => Ok((HalfS::to_bits(answer.value), answer.status.bits())),

@@ -1,5 +1,5 @@
 //! The next value up and down from every bit pattern of the small formats, value and status, by the order of the
-//! patterns: those of positive values increase with the values, from zero to the one past the largest.
+//! patterns: the patterns of positive values increase with the values, from zero to the value past the largest.
 
 ghost use Rattle.std.specs.Prelude.{◌<◌};
 
@@ -27,7 +27,7 @@ fn signed(layout: Layout, negative: bool, magnitude: u128) -> u128 {
     }
 }
 
-/// The result of a step from a NaN; a signaling one keeps only its sign.
+/// The result of a step from a NaN; a signaling NaN keeps only its sign.
 fn step_from_nan(format: Small, bits: u128, negative: bool) -> Expected {
     if signals(format, bits) {
         let layout = layout_of(format);

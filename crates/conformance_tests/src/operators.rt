@@ -205,7 +205,7 @@ fn quiet_nans(rt: HostRuntime) {
     same(&rt, got, expected, "NaNs");
 }
 
-/// The bits of a text's value, or the words of the refusal.
+/// The bits of the value of a text, or the message of the refusal.
 fn parsed<S: Semantics>(text: &str) -> Result<u128, &'static str>
     requires { S.PRECISION < S.BITS }
 {
@@ -234,7 +234,7 @@ fn parsed_texts(rt: HostRuntime) {
     same(&rt, got, expected, "texts");
 }
 
-/// Neither status has the flags of the other, and the last has none.
+/// Two statuses without a common flag are joined, and then an empty one.
 #[test]
 fn joins_statuses(rt: HostRuntime) {
     let mut status;

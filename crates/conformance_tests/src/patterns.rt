@@ -20,7 +20,7 @@ fn check_bits<S: Semantics>(rt: &impl Abort, patterns: u64)
     }
 }
 
-/// A negated value has the bits `turned`; negated twice, it has its own bits again.
+/// A negated value has the bits `turned`; negated twice, it has its original bits.
 fn check_sign<S: Semantics>(rt: &impl Abort, bits: u128, turned: u128)
     requires { S.PRECISION < S.BITS }
 {

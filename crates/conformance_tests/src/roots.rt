@@ -1,5 +1,5 @@
 //! Square roots of every bit pattern of the small formats: value and status compared with the plain program for one
-//! rounding. Its root is found by comparing squares of whole numbers.
+//! rounding. The expected root is found by comparing squares of integers.
 
 ghost use Rattle.std.specs.Prelude.{◌^◌, ◌<◌};
 
@@ -17,7 +17,7 @@ fn square_of(root: u64) -> u128 {
     u128::from(root) * u128::from(root)
 }
 
-/// The greatest whole number of at most 40 binary digits whose square is not greater.
+/// The integer square root, rounded down, of at most 40 binary digits.
 fn whole_root(square: u128) -> u64 {
     let mut root = 0;
     for place in 0..40u32 {
@@ -32,7 +32,7 @@ fn whole_root(square: u128) -> u64 {
 /// The root of a number of quanta, rounded once.
 ///
 /// All numbers, midpoints and bounds of tininess are multiples of a quarter of a quantum. So a root between two such
-/// multiples is rounded as the one halfway between them is.
+/// multiples is rounded like the midpoint between them.
 fn rounded_root(format: Small, mode: Round, quanta: u128) -> Expected
     requires { quanta < 2 ^ 40 }
 {

@@ -8,6 +8,7 @@ use conformance::plain::{Bounds, RoundedValue, deliver, whole};
 use rustc_apfloat::ieee::{IeeeFloat, NonfiniteBehavior, Semantics};
 use rustc_apfloat::{Flags, Float, Round, StatusAnd};
 
+/// The small formats that tests sweep.
 #[derive(Clone, Copy)]
 pub enum Small {
     Half,
@@ -110,6 +111,7 @@ pub fn patterns_of(format: Small) -> u64 {
     }
 }
 
+/// The class of a value.
 #[derive(Clone, Copy)]
 pub enum Class {
     Number,
@@ -125,7 +127,7 @@ pub struct Operand {
     pub quanta: u128,
 }
 
-/// The quanta of the number that the pattern without its sign would be if all patterns were numbers.
+/// The quanta that the pattern without its sign encodes, as if all patterns were numbers.
 fn quanta_of(integer_bit: u128, magnitude: u128) -> u128
     requires some { 0 < integer_bit }
     requires few_exponents { magnitude < 32 * integer_bit }
@@ -165,8 +167,8 @@ pub fn decoded(format: Small, bits: u128) -> Operand
     }
 }
 
-/// The bits of a count of quanta: they are halved until the integer bit is their highest digit, and each halving adds
-/// one to the exponent, which is written from the place of the integer bit on.
+/// The bits of a count of quanta: it is halved until the integer bit is its highest digit, and each halving adds one to
+/// the exponent field, which begins at the integer bit.
 pub fn magnitude_bits(integer_bit: u128, quanta: u128) -> u128
     requires { 0 < integer_bit }
 {
@@ -246,7 +248,7 @@ fn rounded(format: Small, mode: Round, negative: bool, amount: u128, parts: u128
     }
 }
 
-/// Whether the bit pattern is a NaN.
+/// Whether the bit pattern encodes a NaN.
 pub fn is_nan(format: Small, bits: u128) -> bool {
     match decoded(format, bits).class {
         Class::NotANumber => true,
@@ -255,12 +257,12 @@ pub fn is_nan(format: Small, bits: u128) -> bool {
     }
 }
 
-/// Whether the bit pattern is a signaling NaN.
+/// Whether the bit pattern encodes a signaling NaN.
 pub fn signals(format: Small, bits: u128) -> bool {
     is_nan(format, bits) && bits | layout_of(format).quiet != bits
 }
 
-/// The bits after an operation that keeps the value: for a NaN, those of the quiet one.
+/// The bits after an operation that keeps the value: a NaN is quieted.
 pub fn quieted(format: Small, bits: u128) -> u128 {
     if is_nan(format, bits) {
         bits | layout_of(format).quiet
@@ -281,7 +283,7 @@ pub fn kept(format: Small, bits: u128) -> Expected {
     }
 }
 
-/// The result of an operation on bit patterns, at least one of which is a NaN: the left one, quieted.
+/// The result of an operation on bit patterns of which at least one encodes a NaN: the first NaN, quieted.
 fn of_nans(format: Small, x: u128, y: u128) -> Expected {
     let nan = if is_nan(format, x) { x } else { y };
     Expected {

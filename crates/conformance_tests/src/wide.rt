@@ -1,4 +1,4 @@
-//! Products and fused sums of more digits than one word has. The expected bits were computed with exact fractions.
+//! Products and fused sums that take two words. The expected bits were computed with exact fractions.
 
 use crate::asserts::{Bits, same};
 use crate::tables::{INEXACT, OK, UNDERFLOW_INEXACT};
@@ -55,7 +55,7 @@ fn fused_sums_of_quads(rt: HostRuntime) {
         0x3f1f_0000_0000_0000_0000_0000_0000_0000,
         OK,
     );
-    // The product is almost half a quantum above the least normalized value, and one quantum is subtracted.
+    // The product is almost half a quantum above the smallest normalized value, and one quantum is subtracted.
     check_fused_sum(
         &rt,
         0x2000_0000_0000_0000_0000_0000_0000_0001,
@@ -64,7 +64,7 @@ fn fused_sums_of_quads(rt: HostRuntime) {
         0x0000_ffff_ffff_ffff_ffff_ffff_ffff_ffff,
         UNDERFLOW_INEXACT,
     );
-    // 3 quanta less 2.5 are half a quantum, a tie; a product rounded first would leave 1.
+    // 3 quanta minus 2.5 quanta are half a quantum, a tie; rounding the product first would leave 1.
     check_fused_sum(
         &rt,
         0x0000_0000_0000_0000_0000_0000_0000_0005,

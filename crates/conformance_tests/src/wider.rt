@@ -15,8 +15,8 @@ use rustc_apfloat::ieee::{
 use rustc_apfloat::{Flags, Float, FloatConvert, StatusAnd};
 use std::process::Abort;
 
-/// A value is unchanged after both conversions, without loss; a signaling NaN is quieted, and the first conversion is
-/// invalid.
+/// A value is unchanged by both conversions, without loss; a signaling NaN is quieted, and the first conversion raises
+/// INVALID_OP.
 fn check<S: Semantics, W: Semantics>(rt: &impl Abort, patterns: u64, quiet: u128)
     requires { S.PRECISION < S.BITS }
 {
@@ -41,10 +41,10 @@ fn check<S: Semantics, W: Semantics>(rt: &impl Abort, patterns: u64, quiet: u128
     }
 }
 
-/// A format with infinities and its bits.
+/// A format with infinities, by its bits.
 #[derive(Clone, Copy)]
 struct Wide {
-    /// How many digits are below the integer bit.
+    /// The number of digits below the integer bit.
     fraction_digits: u32,
     /// The exponent of 1 in quanta: 1 is 2^scale quanta.
     scale: u32,
@@ -81,7 +81,8 @@ fn scale_of(format: Small) -> u32
     }
 }
 
-/// The bits of a count of quanta of 2^-`scale`: the highest digit is the integer bit, or for a denormal one below it.
+/// The bits of a count of quanta of 2^-`scale`: its highest digit becomes the integer bit, or a lower bit for a
+/// denormal number.
 fn number_bits(wide: Wide, scale: u32, quanta: u128) -> u128
     requires some { 0 < quanta }
     requires finer { scale ≤ wide.scale }
@@ -119,7 +120,7 @@ fn wide_sign(format: Small, wide: Wide, x: Operand) -> u128 {
     }
 }
 
-/// A bit pattern converted to the wide format.
+/// The expected conversion of a bit pattern to the wide format.
 fn widened(format: Small, wide: Wide, bits: u128) -> Expected
     requires finer { 24 ≤ wide.scale }
     requires few_places { wide.scale ≤ 149 }

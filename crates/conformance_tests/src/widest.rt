@@ -1,4 +1,4 @@
-//! Products and fused sums of the widest formats that have them.
+//! Products and fused sums in the formats of the most digits that have them.
 
 use crate::asserts::same;
 use conformance::widest::{square, square_and_itself};

@@ -4,7 +4,7 @@ use Rattle.convert_values.specs.declared.stream.Failure.{Failure}
 use Rattle.convert_values.specs.declared.stream.Failure.TheVariants.{Memory, Reading, Writing, TooLong}
 use Rattle.convert_values.specs.declared.stream.Summary.{Summary}
 
--- 1 if bytes are left over
+-- the exit status at the end of a stream: 1 if bytes are left over
 abbrev pub summary_status : Summary → ℕ
 summary_status summary = if summary.left_over == 0 then 0 else 1
 

@@ -11,21 +11,21 @@ Reads little-endian values of the format FROM from standard input, and writes
 them, converted to the format TO, to standard output.
 
 FROM, TO  half single double quad bfloat e5m2 e4m3fn e4m3fnuz x87
-MODE      even    to the nearest value, a tie to the even one
+MODE      even    to the nearest value, ties to even
           up      toward positive
           down    toward negative
           zero    toward zero
-          away    to the nearest value, a tie away from zero
+          away    to the nearest value, ties away from zero
 
---saturate      a number past the largest value of TO gives the largest value of
-                its sign, with the same flags as without the option
---x87-bytes=10  a value of the format x87 lies in 10 bytes, as without the option
---x87-bytes=16  in 16 bytes, of which the last 6 are not read, and written as 0
+--saturate      a number past the largest value of TO becomes the largest value
+                of its sign, with the same flags as without the option
+--x87-bytes=10  a value of the format x87 takes 10 bytes; this is the default
+--x87-bytes=16  it takes 16 bytes; the last 6 are ignored, and written as 0
 
 At the end a line on standard error counts the values, those that raised each
-flag, and the NaNs among the values written. The exit status is 0; 1 where the
-stream ended inside a value, 2 for other words, 3 for want of memory, and 4
-where a read or a write failed.
+flag, and the NaNs among the values written. The exit status is 0; 1 if the
+stream ended inside a value, 2 for other arguments, 3 if there is not enough
+memory, and 4 if a read or a write failed.
 
     convert_values single e4m3fn even < singles > bytes
 ";
@@ -33,9 +33,9 @@ where a read or a write failed.
 /// What the program is to do.
 #[derive(Clone, Copy, Debug)]
 pub enum Job {
-    /// Tell how it is called.
+    /// Print how it is called.
     Help,
-    /// Convert its stream, with what an overflow gives.
+    /// Convert a stream; the second field says what a number that overflows becomes.
     Convert(Conversion, Overflow),
 }
 
@@ -51,7 +51,7 @@ impl Job {
         }
     }
 
-    /// The job that converts, with what an overflow gives.
+    /// The job that converts a stream, if the words name a conversion.
     fn converting(overflow: Overflow, words: &[String]) -> Option<Job> {
         match words {
             [source, target, mode] => {

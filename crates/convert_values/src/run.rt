@@ -35,7 +35,7 @@ pub fn run<R: Read, W: Write, V: Write>(
     }
 }
 
-/// The exit status, or the error of a write to `err` or of the help.
+/// The exit status, or the error of a write to `err` or of writing the help.
 fn answer<R: Read, W: Write, V: Write>(
     alloc: Global,
     words: &[String],

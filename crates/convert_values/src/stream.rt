@@ -8,7 +8,7 @@ use std::alloc::{AllocError, Global};
 use std::io;
 use std::io::{ErrorKind, Read, Write};
 
-/// How many values a block has at most.
+/// The greatest number of values in a block.
 const BLOCK: usize = 1 << 14;
 
 /// What a stream contained.
@@ -16,20 +16,20 @@ const BLOCK: usize = 1 << 14;
 pub struct Summary {
     /// The counts of its values.
     pub counts: Counts,
-    /// How many bytes followed the last value, fewer than a value has.
+    /// The number of bytes after the last complete value.
     pub left_over: usize,
 }
 
 /// Why a stream was not read to its end.
 #[derive(Debug, Drop)]
 pub enum Failure {
-    /// There is no memory for the buffers.
+    /// There was not enough memory for the buffers.
     Memory,
     /// A read failed.
     Reading(io::Error),
     /// A write failed.
     Writing(io::Error),
-    /// It has more than 2^64 blocks.
+    /// The stream has more than 2^64 blocks.
     TooLong,
 }
 
@@ -60,7 +60,7 @@ pub fn convert_stream<R: Read, W: Write>(
     )
 }
 
-/// The same, through buffers with room for a block.
+/// The same, with the buffers allocated.
 fn convert_through<R: Read, W: Write>(
     conversion: Conversion,
     overflow: Overflow,

@@ -32,7 +32,7 @@ impl Read for Trickle<'_> {
     }
 }
 
-/// A writer that takes a limited count of bytes, and then fails; so does its flush.
+/// A writer that takes a limited number of bytes, and then fails; so does its flush.
 #[derive(Drop)]
 struct Narrow {
     room: usize,
@@ -76,7 +76,7 @@ fn answer_to(
     Ok((output, err, status))
 }
 
-/// 1, 1.0625, a signaling NaN, 1000 and half of the least number; followed by three bytes of another value.
+/// 1, 1.0625, a signaling NaN, 1000 and half of the smallest positive number, then three bytes of another value.
 const SINGLES: &[u8] =
     b"\x00\x00\x80\x3f\x00\x00\x88\x3f\x01\x00\x80\x7f\x00\x00\x7a\x44\x00\x00\x80\x3a\x01\x02\x03";
 
@@ -256,7 +256,7 @@ fn names_failed_reads_and_writes(rt: HostRuntime) -> Result<(), Fail> {
     Ok(())
 }
 
-/// Values of binary16 with different outcomes of their conversion to `e4m3fn`, and how many of each are in the stream.
+/// Values of binary16 whose conversions to `e4m3fn` have different outcomes, and the number of each in the stream.
 const RAISING: [([u8; 2], usize); 5] = [
     // 1.0625 is inexact.
     ([0x40, 0x3c], 2),
@@ -314,7 +314,7 @@ fn reads_and_writes_the_lowest_byte_first(rt: HostRuntime) -> Result<(), Fail> {
     Ok(())
 }
 
-/// The same, if the system gives this error in place of words.
+/// The same, if the system gives this error instead of the words.
 fn refusal_for(alloc: Global, kind: ErrorKind) -> (Vec<u8>, Vec<u8>, u8) {
     let mut rest = SINGLES;
     let mut output = Vec::new(alloc);

@@ -27,12 +27,12 @@ pub fn wrong_word(words: &[String]) -> Option<WrongWord<'_>> {
     }
 }
 
-/// Whether the word is that of an option.
+/// Whether the word is an option.
 fn is_option(word: &str) -> bool {
     matches!(word, "--saturate" | "--x87-bytes=10" | "--x87-bytes=16")
 }
 
-/// The first of two formats and a mode that does not exist.
+/// The first that does not exist, of two formats and a mode.
 fn wrong_name(names: &[String]) -> Option<WrongWord<'_>> {
     let [source, target, mode] = names else {
         return None;
@@ -58,7 +58,7 @@ fn wrong_name(names: &[String]) -> Option<WrongWord<'_>> {
     }
 }
 
-/// Whether the word is that of a format.
+/// Whether the word names a format.
 fn is_format(word: &str) -> bool {
     match BuiltInKind::named(word) {
         Some(kind) => kind.format().is_some(),

@@ -1,4 +1,4 @@
-//! Few digits with the least exponents that a format may have.
+//! Few digits, with the lowest exponents that a format may have.
 
 ghost use Rattle.std.specs.Prelude.{◌-◌, ◌*◌, ◌^◌, pos, negsuc, true, false, refl};
 ghost use Rattle.apfloat_model.specs.declared.kinds.NonfiniteBehavior.TheVariants.{IEEE754};

@@ -7,7 +7,7 @@ ghost use Rattle.rustc_apfloat.proofs.LawTest.{lawful_from_test};
 use rustc_apfloat::ExpInt;
 use rustc_apfloat::ieee::{IeeeFloat, NonfiniteBehavior, Semantics};
 
-/// 72 bits of 63 digits: with one digit more there is no `mul_add_r`.
+/// 63 digits in 72 bits: with one digit more there is no `mul_add_r`.
 #[derive(Clone, Copy)]
 pub struct FusedLimitS;
 

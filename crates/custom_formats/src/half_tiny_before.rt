@@ -1,4 +1,4 @@
-//! Binary16 with the other detection of tininess.
+//! Binary16 with tininess detected before rounding.
 
 ghost use Rattle.std.specs.Prelude.{◌-◌, ◌^◌, pos, negsuc, true, false, refl};
 ghost use Rattle.apfloat_model.specs.declared.kinds.NonfiniteBehavior.TheVariants.{IEEE754};

@@ -7,7 +7,7 @@ ghost use Rattle.rustc_apfloat.proofs.LawTest.{lawful_from_test};
 use rustc_apfloat::ExpInt;
 use rustc_apfloat::ieee::{IeeeFloat, NonfiniteBehavior, Semantics};
 
-/// Three digits, the least that a format may have, with the narrowest exponents; without bits.
+/// Three digits, the fewest that a format may have, with the narrowest range of exponents; without bits.
 #[derive(Clone, Copy)]
 pub struct LeastS;
 

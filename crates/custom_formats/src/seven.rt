@@ -7,7 +7,7 @@ ghost use Rattle.rustc_apfloat.proofs.LawTest.{lawful_from_test};
 use rustc_apfloat::ExpInt;
 use rustc_apfloat::ieee::{IeeeFloat, NonfiniteBehavior, Semantics};
 
-/// Seven bits, with all exponents one greater than IEEE 754 would have them.
+/// Seven bits, with all exponents one greater than in IEEE 754.
 #[derive(Clone, Copy)]
 pub struct SevenS;
 

@@ -7,7 +7,7 @@ ghost use Rattle.rustc_apfloat.proofs.LawTest.{lawful_from_test};
 use rustc_apfloat::ExpInt;
 use rustc_apfloat::ieee::{IeeeFloat, NonfiniteBehavior, Semantics};
 
-/// Ten bits without infinities: one NaN of each sign.
+/// Ten bits without infinities, with one NaN of each sign.
 #[derive(Clone, Copy)]
 pub struct TenS;
 

@@ -1,4 +1,4 @@
-//! An explicit integer bit, in few bits.
+//! An explicit integer bit in few bits.
 
 ghost use Rattle.std.specs.Prelude.{◌-◌, ◌*◌, ◌^◌, pos, negsuc, true, false, refl};
 ghost use Rattle.apfloat_model.specs.declared.kinds.NonfiniteBehavior.TheVariants.{IEEE754};

@@ -1,8 +1,8 @@
 //! Computes what is shown.
 //!
 //! The neighbours of an exact result are the results rounded downward and upward. Its place between them is found in a
-//! format of 125 digits, rounded downward: the middle of two neighbours is a value of that format, and the flag INEXACT
-//! tells whether something lies above.
+//! format of 125 digits, rounded downward: the midpoint of two neighbours is a value of that format, and the flag
+//! INEXACT says whether the exact result is above it.
 
 ghost use Rattle.std.specs.Prelude.{◌<◌};
 ghost use Rattle.formats_at_run_time.specs.FormatKinds.{IfFormat};
@@ -85,7 +85,7 @@ fn values_of<'a, S: Semantics>(words: &'a [String]) -> Result<[Given<S>; 3], &'a
     Ok(found)
 }
 
-/// The value of a word: a number that a `d` ends, bits, or any other number.
+/// The value of a word: a number followed by `d`, bits, or any other number.
 fn value_of<S: Semantics>(word: &str) -> Option<Given<S>>
     requires written { S.PRECISION < S.BITS }
     requires within { IsWithinQuad (format_of S.Semantics) }
@@ -282,7 +282,7 @@ fn exact_place(operation: Operation, x: Vast, y: Vast, z: Vast) -> StatusAnd<Vas
     computed(operation, x, y, z, Round::TowardNegative)
 }
 
-/// The exact result, from that rounded downward.
+/// The exact result, from the result rounded downward.
 fn exact_result(downward: &StatusAnd<Vast>) -> Exact {
     Exact {
         negative: downward.value.is_negative(),
@@ -291,7 +291,7 @@ fn exact_result(downward: &StatusAnd<Vast>) -> Exact {
     }
 }
 
-/// A place on the way from one neighbour to the next.
+/// A place between two neighbours.
 #[derive(Clone, Copy)]
 struct Way {
     parts: u32,

@@ -1,4 +1,4 @@
-//! What is known of a computation, whatever its format.
+//! The data of an explanation, independent of the format.
 
 use apfloat_decimals::Decimal;
 use rustc_apfloat::{ExpInt, Status};
@@ -44,14 +44,14 @@ pub struct Shown {
     pub is_denormal: bool,
 }
 
-/// Which of its meanings a word was given.
+/// How a word was read.
 #[derive(Clone, Copy, Debug)]
 pub enum Reading {
-    /// The only one that it has.
+    /// The only way in which it can be read.
     Only,
-    /// Bits, though the word is also a number.
+    /// As bits, though the word is also a number.
     Bits,
-    /// A number, though the word consists of hexadecimal digits.
+    /// As a number, though the word consists of hexadecimal digits.
     Number,
 }
 
@@ -62,18 +62,18 @@ pub struct Operand {
     pub value: Shown,
     /// How its word was read.
     pub reading: Reading,
-    /// Whether the word is a number that the format lacks, and the value the nearest one.
+    /// Whether the word is a number that the format lacks, so that the value is the nearest one.
     pub is_rounded: bool,
 }
 
-/// How a place between two neighbours compares with the middle.
+/// How a place between two neighbours compares with the midpoint.
 #[derive(Clone, Copy, Debug, PartialEq, Eq)]
 pub enum Side {
-    /// Nearer to the lower one.
+    /// Nearer to the lower neighbour.
     Lower,
-    /// As near to both.
+    /// At the midpoint.
     Middle,
-    /// Nearer to the upper one.
+    /// Nearer to the upper neighbour.
     Upper,
 }
 
@@ -91,24 +91,24 @@ pub struct Exact {
 /// A place between two neighbours.
 #[derive(Clone, Copy, Debug)]
 pub struct Between {
-    /// What lies there.
+    /// The exact result.
     pub exact: Exact,
     /// The neighbour below.
     pub lower: Shown,
     /// The neighbour above.
     pub upper: Shown,
-    /// How many of the 64 parts of the way from the lower to the upper one lie below.
+    /// The distance from the lower neighbour, in 64ths of the distance to the upper one, rounded down.
     pub parts: u32,
-    /// How it compares with the middle.
+    /// How the place compares with the midpoint.
     pub side: Side,
-    /// Whether the upper one is the result.
+    /// Whether the upper neighbour is the result.
     pub takes_upper: bool,
 }
 
 /// Where an exact result is.
 #[derive(Clone, Copy, Debug)]
 pub enum Place {
-    /// Nowhere: nothing was computed, or an operand or the result is not a number.
+    /// Not shown: nothing was computed, or an operand or the result is not a number.
     None,
     /// It is a value of the format.
     Exact,

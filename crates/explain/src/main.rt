@@ -1,5 +1,5 @@
-//! Explains a computation: `explain FORMAT OP MODE A [B [C]]` shows the operands, the two neighbours that the exact
-//! result lies between, its place there, which of them the mode takes, and the flags; `explain FORMAT A` shows a value.
+//! Explains a computation: `explain FORMAT OP MODE A [B [C]]` shows the operands, the two neighbours of the exact
+//! result, its place between them, which of them the mode picks, and the flags; `explain FORMAT A` shows a value.
 //!
 //! `USAGE` explains the arguments.
 //!

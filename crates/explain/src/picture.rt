@@ -10,7 +10,7 @@ use rustc_apfloat::{Flags, Round, Status};
 use std::io;
 use std::io::Write;
 
-/// How many columns the drawn way from one neighbour to the next has, without its first one.
+/// The width of the drawn line between two neighbours, without its first column.
 const WAY: u32 = 64;
 
 /// Writes an explanation.
@@ -83,7 +83,7 @@ fn name_of(operation: Operation) -> &'static str {
     }
 }
 
-/// What a rounding mode says.
+/// The rule of a rounding mode.
 fn rule_of(round: Round) -> &'static str {
     match round {
         Round::NearestTiesToEven => "to nearest, ties to even",
@@ -104,7 +104,7 @@ fn write_shown<W: Write>(widths: Widths, name: &str, shown: &Shown, out: &mut W)
     writeln!(out)
 }
 
-/// Writes the bits of a value and its shortest decimal, which those of 128 bits leave no room for in one line.
+/// Writes the bits of a value and its shortest decimal, on separate lines if there are 128 bits.
 fn write_head<W: Write>(widths: Widths, name: &str, shown: &Shown, out: &mut W) -> io::Result<()> {
     write!(out, "{name:<8}")?;
     write_digits(shown.bits, widths.bits / 4, 4, out)?;
@@ -125,7 +125,7 @@ fn write_decimal<W: Write>(shown: &Shown, out: &mut W) -> io::Result<()> {
     }
 }
 
-/// The sign, where it is negative.
+/// `-` if the value is negative, otherwise nothing.
 fn sign_of(shown: &Shown) -> &'static str {
     if shown.negative { "-" } else { "" }
 }
@@ -139,7 +139,7 @@ fn word_of(meaning: Meaning) -> &'static str {
     }
 }
 
-/// Writes digits of a base of 2 or 16, all of them.
+/// Writes the lowest `count` digits of a number, in base 2 or 16.
 fn write_digits<W: Write>(number: u128, count: u32, width: u32, out: &mut W) -> io::Result<()> {
     for place in 0..count {
         let below = (count - 1 - place).saturating_mul(width);
@@ -227,7 +227,7 @@ fn write_exact<W: Write>(exact: &Exact, out: &mut W) -> io::Result<()> {
     }
 }
 
-/// Draws the way from one neighbour to the next.
+/// Draws the line from one neighbour to the next.
 fn write_way<W: Write>(
     widths: Widths,
     between: &Between,
@@ -266,7 +266,7 @@ fn write_pick<W: Write>(round: Round, between: &Between, out: &mut W) -> io::Res
     writeln!(out, "It is {place}.\n{reason} the {taken} one.\n")
 }
 
-/// Why a neighbour is taken.
+/// Why a neighbour is picked.
 fn reason_of(round: Round, side: Side) -> &'static str {
     match (round, side) {
         (Round::NearestTiesToEven, Side::Middle) => "Of two as near, the even one is taken,",
@@ -279,7 +279,7 @@ fn reason_of(round: Round, side: Side) -> &'static str {
     }
 }
 
-/// Writes the flags, each with the clause of IEEE 754-2008 that it is from.
+/// Writes the flags, each with the clause of IEEE 754-2008 that defines it.
 fn write_flags<W: Write>(status: Status, in_colour: bool, out: &mut W) -> io::Result<()> {
     if status.is_empty() {
         return writeln!(out, "flags   none");
@@ -305,7 +305,7 @@ fn write_flag<W: Write>(name: &str, flag: Status, in_colour: bool, out: &mut W) 
     writeln!(out, "{start}{name}{end}: {}", clause_of(flag))
 }
 
-/// What a flag says.
+/// The clause that defines a flag, and what it says.
 fn clause_of(flag: Status) -> &'static str {
     if flag.intersects(Status::INVALID_OP) {
         "no number results, or an operand is a signaling NaN (7.2)"

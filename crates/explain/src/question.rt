@@ -1,4 +1,4 @@
-//! The words of a command line, as what is to be explained.
+//! The question that the words of a command line ask.
 
 use formats_at_run_time::{Arithmetic, BuiltInFormat, BuiltInKind, mode_named};
 use rustc_apfloat::Round;
@@ -9,32 +9,32 @@ usage: explain FORMAT OP MODE A [B [C]]
        explain FORMAT A
        explain --help
 
-Shows how an operation of the format FORMAT computes its result, or what the
-value A is.
+Shows how an operation in the format FORMAT gets its result, or what the value
+A is.
 
 FORMAT   half single double quad bfloat e5m2 e4m3fn e4m3fnuz x87
 OP       add sub mul div rem mod   of A and B
          fma                       A times B plus C
          sqrt                      of A
-MODE     even    to the nearest value, a tie to the even one
+MODE     even    to the nearest value, ties to even
          up      toward positive
          down    toward negative
          zero    toward zero
-         away    to the nearest value, a tie away from zero
+         away    to the nearest value, ties away from zero
 A, B, C  a value as its bits, in hexadecimal digits, with or without 0x; or as
          a number: 0.1, -1e-7, 0x1.8p-1, inf, nan
 
 A word with a dot is a number, and so is a number followed by d: 10.0 and 10d
 are ten, and 1e5d is 100000. Any other word of hexadecimal digits is bits if
-the format has so many: 10, 1e5, 3c0d, and 0x10d, where 10d would be ten. If a
-word could have been either, what is shown says how it was read.
+the format has that many: 10, 1e5, 3c0d, and 0x10d, where 10d would be ten. If
+a word could have been either, the output says how it was read.
 
     explain half add even 3c01 1000
     explain double add even 0.1 0.2
     explain half 3c00
 ";
 
-/// What is computed.
+/// The computation that is explained.
 #[derive(Clone, Copy, Debug)]
 pub enum Operation {
     /// Nothing: a value is shown.
@@ -73,7 +73,7 @@ impl Operation {
     }
 }
 
-/// What is to be explained.
+/// A question: what is to be explained.
 #[derive(Clone, Copy)]
 pub struct Question<'a> {
     /// The word of the format.
@@ -91,7 +91,7 @@ pub struct Question<'a> {
 /// Why there is nothing to explain.
 #[derive(Clone, Copy, Debug)]
 pub enum Fault<'a> {
-    /// The words are too few or too many.
+    /// There are too few or too many words.
     Count,
     /// No format has this name.
     Format(&'a str),
@@ -104,7 +104,7 @@ pub enum Fault<'a> {
 }
 
 impl<'a> Question<'a> {
-    /// What these words ask for.
+    /// The question that these words ask, or the first fault.
     pub fn named(words: &'a [String]) -> Result<Question<'a>, Fault<'a>> {
         if words.len() < 2 || words.len() == 3 {
             return Err(Fault::Count);

@@ -1,4 +1,4 @@
--- An operation on two values has one answer.
+-- An operation on two values has at most one result.
 use Rattle.std.proofs.Common.{ℕ, Option}
 use Rattle.rustc_apfloat.specs.declared.Round.{Round}
 use Rattle.rustc_apfloat.specs.Determined.{Determines}

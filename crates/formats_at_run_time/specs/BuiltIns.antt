@@ -38,7 +38,7 @@ abbrev pub kind_of : BuiltInKind → Kind
 kind_of (OfFormat format) = of_format (constants_in format)
 kind_of Pairs = of_pairs
 
--- the kind, the word and the code of each
+-- a kind of values, its word and its code
 pub record KindRow : Type 0 where
   pub kind : BuiltInKind
   pub word : List ℕ
@@ -61,7 +61,7 @@ kinds =
     ∷ row Pairs (codes "dd") 10
     ∷ []
 
--- those of the rows, in their order
+-- the kinds of the rows, in order
 abbrev pub all_kinds : List BuiltInKind
 all_kinds = map (λ (row : KindRow). row.kind) kinds
 
@@ -76,7 +76,7 @@ kind_named word = first_kind (λ (row : KindRow). same word row.word) kinds
 abbrev pub kind_coded : ℕ → Option BuiltInKind
 kind_coded code = first_kind (λ (row : KindRow). code == row.code) kinds
 
--- the format, where it is one
+-- the format of a kind, if it is one
 abbrev pub format_in : BuiltInKind → Option BuiltInFormat
 format_in (OfFormat format) = Some format
 format_in Pairs = None

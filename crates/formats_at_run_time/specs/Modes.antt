@@ -21,7 +21,7 @@ modes =
     ∷ row NearestTiesToAway (codes "away") 4
     ∷ []
 
--- the mode of the first row that passes the test
+-- the mode of the first row that passes a test
 abbrev pub first_mode : (ModeRow → Bool) → List ModeRow → Option Round
 first_mode test [] = None
 first_mode test (row ∷ rows) = if test row then Some row.mode else first_mode test rows

@@ -6,7 +6,7 @@ use Rattle.formats_at_run_time.specs.declared.arithmetic.Arithmetic.{Arithmetic}
 use Rattle.formats_at_run_time.specs.declared.arithmetic.Arithmetic.TheVariants.{Sum, Difference, Product, Quotient, NearestRemainder, TruncatedRemainder}
 use Rattle.formats_at_run_time.specs.Relations.{Relations}
 
--- whether a type that has products, or has none, has the operation
+-- whether a type has the operation, given whether it has products
 abbrev pub has_operation : Bool → Arithmetic → Bool
 has_operation multiplies Sum = true
 has_operation multiplies Difference = true
@@ -15,7 +15,7 @@ has_operation multiplies Quotient = true
 has_operation multiplies NearestRemainder = true
 has_operation multiplies TruncatedRemainder = true
 
--- no remainder depends on the mode
+-- the result of an operation on two values; remainders do not depend on the mode
 abbrev pub IsOfTwo : {A : Type 0} → Relations A → Arithmetic → Round → A → A → StatusAnd A → Type 0
 IsOfTwo of_type Sum mode x y answer = of_type.adds x y mode answer
 IsOfTwo of_type Difference mode x y answer = of_type.subtracts x y mode answer

@@ -4,7 +4,7 @@ use Rattle.rustc_apfloat.specs.declared.Round.{Round}
 use Rattle.rustc_apfloat.specs.Determined.{IsDetermined}
 use Rattle.formats_at_run_time.specs.Relations.{Relations}
 
--- those that round, under the mode; the exact inverse is not among the relations
+-- the relations that round, under the mode; the exact inverse is not among the relations of a type, so it is given
 abbrev pub AreDetermined : {A : Type 0} → Relations A → (inverts : A → Option A → Type 0) → Round
     → (precision width : ℕ) → Type 0
 AreDetermined r inverts mode precision width =

@@ -32,7 +32,7 @@ use Rattle.rustc_apfloat.specs.PairRoots.{IsPairRoot}
 use Rattle.rustc_apfloat.specs.PairParts.{compared_pairs, is_denormal_pair, is_negative_pair, is_signaling_pair, IsPairFraction, IsPairIlogb, IsPairScaling}
 use Rattle.rustc_apfloat.specs.PairCalls.{IsPairFromSigned, IsPairFromUnsigned, IsPairNearestRemainder, IsPairNextDown, IsPairNextUp, IsPairQuotient, IsPairRead, IsPairRoundToIntegral, IsPairToSigned, IsPairToUnsigned, IsPairTruncatedRemainder}
 
--- the operations of values of a type, each with the relation that its answer satisfies
+-- the operations on values of a type, each with the relation that its result satisfies
 pub record Relations (A : Type 0) : Type 1 where
   pub value_of_bits : ℕ → A
   pub writes_bits : A → ℕ → Type 0
@@ -60,7 +60,7 @@ pub record Relations (A : Type 0) : Type 1 where
   pub signals : A → Bool
   pub reads : List ℕ → Round → Result (StatusAnd A) ParseError → Type 0
 
--- as the ghost members of `Float` say it, of `PartialOrd` the order, and of `ValueType` the square root
+-- from the ghost members of `Float`, the order of `PartialOrd`, and the square root of `ValueType`
 abbrev pub relations_of : {X : Type 0} → Ghosts X → (X → X → Option Ordering)
     → (X → Round → StatusAnd X → Type 0) → Relations X
 relations_of g order takes_root =
@@ -92,7 +92,7 @@ relations_of g order takes_root =
       reads = g.reads;
     }
 
--- in a format
+-- the relations of a format
 abbrev pub in_format : Constants → Relations Datum
 in_format c =
     record {
@@ -125,7 +125,7 @@ in_format c =
       reads = λ text mode answer. IsRead (format_with c) mode text answer;
     }
 
--- of pairs of doubles
+-- the relations of pairs of doubles
 abbrev pub in_pairs : Relations Pair
 in_pairs =
     record {

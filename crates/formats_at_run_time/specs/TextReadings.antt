@@ -11,7 +11,7 @@ abbrev pub IsReadOrRefused : {A : Type 0} → List ℕ → Result (StatusAnd A) 
 IsReadOrRefused text (Ok answer) = fault_of text ≡ None
 IsReadOrRefused text (Err error) = IsRefusal text error.0.now
 
--- a type reads each text so
+-- a type reads each text without a fault, and refuses any other
 abbrev pub ReadsTexts : {A : Type 0} → (List ℕ → Round → Result (StatusAnd A) ParseError → Type 0) → Type 0
 ReadsTexts {A} reads =
     (text : List ℕ) (mode : Round) (answer : Result (StatusAnd A) ParseError)

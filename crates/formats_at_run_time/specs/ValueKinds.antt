@@ -4,7 +4,7 @@ use Rattle.rustc_apfloat.specs.Datum.{Datum}
 use Rattle.rustc_apfloat.specs.Layout.{datum_of}
 use Rattle.rustc_apfloat.specs.Lawful.{Constants, format_with, layout_with}
 
--- a format goes by its constants
+-- a format is given by its constants
 pub data Kind : Type 0 where
   of_format : Constants → Kind
   of_pairs : Kind
@@ -14,6 +14,6 @@ abbrev pub bits_in : Kind → ℕ
 bits_in (of_format c) = c.bits
 bits_in of_pairs = 128
 
--- the value that is written as bits; those at and above the width of the format are not looked at
+-- the value that bits encode; those at and above the width of the format are ignored
 abbrev pub value_of : Constants → ℕ → Datum
 value_of c bits = datum_of (format_with c) (layout_with c) bits

@@ -18,14 +18,14 @@ pub enum Arithmetic {
     Product,
     /// The first divided by the second.
     Quotient,
-    /// The remainder by the whole number nearest to the quotient, a tie to the even one.
+    /// The remainder by the integer nearest to the quotient, ties to even.
     NearestRemainder,
-    /// The remainder by the quotient cut toward zero.
+    /// The remainder by the quotient truncated toward zero.
     TruncatedRemainder,
 }
 
 impl Arithmetic {
-    /// Whether a type has it as a call of `Float`.
+    /// Whether a type has the operation among the calls of `Float`.
     pub fn is_supported<F: Float>(self) -> bool
         ensures { result ≡ has_operation F.MULTIPLIES self }
     {
@@ -35,7 +35,7 @@ impl Arithmetic {
         }
     }
 
-    /// Its answer for two values. No remainder depends on the mode.
+    /// The result for two values. Remainders do not depend on the mode.
     pub fn answer<F: ValueType>(self, x: F, y: F, round: Round) -> StatusAnd<F>
         ensures { let of_type = relations_of F.Float.own F.partial_cmp F.takes_root in
             IsOfTwo of_type self round x y result }

@@ -11,7 +11,7 @@ use rustc_apfloat::ieee::{
     X87DoubleExtendedS,
 };
 
-// Each built-in format: its variant, the constants of its type, its word and its code, for the macro that is named.
+// Passes each built-in format to the macro named: its variant, the constants of its type, its word and its code.
 macro_rules! each_format {
     ($taker:ident($($given:tt)*)) => {
         $taker! {
@@ -101,13 +101,13 @@ pub enum BuiltInFormat {
     Double,
     /// Binary128.
     Quad,
-    /// The upper half of binary32.
+    /// Bfloat16: the upper half of a binary32.
     BFloat,
     /// Eight bits, five of them the exponent.
     E5M2,
     /// Eight bits, four of them the exponent, without infinities.
     E4M3FN,
-    /// The same with no negative zero.
+    /// The same without a negative zero.
     E4M3FNUZ,
     /// The extended format of the x87, with an explicit integer bit.
     X87,
@@ -122,7 +122,7 @@ pub enum BuiltInKind {
     Pairs,
 }
 
-/// All built-in kinds, in the order of their codes.
+/// All built-in kinds of values, in the order of their codes.
 pub fn built_in_kinds() -> &'static [BuiltInKind]
     ensures { result.now ≡ all_kinds }
 {
@@ -139,7 +139,7 @@ impl BuiltInFormat {
         each_format!(run_in(self, call))
     }
 
-    /// Makes a call that writes, in the format.
+    /// Makes a call that writes to lent bytes, in the format.
     pub fn write<C: WritesInFormat>(self, call: C, bytes: &mut [u8]) -> C::Output
         requires { C.can call (of_format (constants_in self)) bytes.old }
         ensures { C.gives call (of_format (constants_in self)) bytes.old bytes.new result }
@@ -147,7 +147,7 @@ impl BuiltInFormat {
         each_format!(write_in(self, call, bytes))
     }
 
-    /// Makes a call that fills a place, in the format.
+    /// Makes a call that fills a lent place, in the format.
     #[inline(always)]
     pub fn fill<C: FillsInFormat>(self, call: C, place: &mut C::Place) -> C::Output
         ensures { C.gives call (of_format (constants_in self)) place.old place.new result }
@@ -157,7 +157,7 @@ impl BuiltInFormat {
 }
 
 impl BuiltInKind {
-    /// Makes a call in values of the kind.
+    /// Makes a call at the type of the kind.
     pub fn run<C: InKind>(self, call: C) -> C::Output
         requires { C.can call (kind_of self) }
         ensures { C.gives call (kind_of self) result }
@@ -190,7 +190,7 @@ impl BuiltInKind {
         each_format!(kind_of_code(code))
     }
 
-    /// Its format; `None` for pairs.
+    /// The format of the kind; `None` for pairs.
     pub fn format(self) -> Option<BuiltInFormat>
         ensures { result ≡ format_in self }
     {

@@ -1,4 +1,4 @@
-//! The built-in kinds of values, each with a rule by which its calls raise OVERFLOW and UNDERFLOW.
+//! The built-in kinds of values, each with its rule of flags: when calls raise OVERFLOW and UNDERFLOW.
 
 ghost use Rattle.std.specs.Prelude.{⊤, ℕ, ◌≡◌, ◌<◌, List};
 ghost use Rattle.rustc_apfloat.specs.FlaggedTypes.{constants_of};
@@ -12,7 +12,7 @@ use rustc_apfloat::ieee::{
     TinyBefore, X87DoubleExtendedS,
 };
 
-// Each built-in format of IEEE 754, with the constants of its type, for the macro that is named.
+// Passes each built-in format with the infinities of IEEE 754 to the macro named, with the constants of its type.
 macro_rules! each_ieee_format {
     ($taker:ident($($given:tt)*)) => {
         $taker! {
@@ -105,12 +105,12 @@ macro_rules! ieee_format {
     };
 }
 
-/// A call that can be made in each format that has bits, with either rule of flags.
+/// A call that can be made in every format with bits, under any rule of flags.
 pub trait InFlaggedFormat {
-    /// What it returns.
+    /// What the call returns.
     type Output;
 
-    // What it returns in values of a kind: by default anything.
+    // What the call returns for a kind of values; by default anything.
     ghost gives: { Self → Kind → Self.Output → Type 0 } = { λ _ _ _. ⊤ };
 
     /// Makes the call in the format `S`.
@@ -119,22 +119,22 @@ pub trait InFlaggedFormat {
         ensures { gives self (of_format (constants_of S.Flagged)) result };
 }
 
-/// A call that can also be made of pairs of doubles.
+/// A call that can also be made for pairs of doubles.
 pub trait InFlaggedKind: InFlaggedFormat {
-    /// Makes the call in pairs of doubles.
+    /// Makes the call for pairs of doubles.
     fn in_pairs(self) -> Self::Output
         ensures { Self.gives self of_pairs result };
 }
 
-/// A call that can be made in each format that has bits, with either rule of flags, and that writes bytes lent to it.
+/// A call that can be made in every format with bits, under any rule of flags, and writes to bytes lent to it.
 pub trait WritesInFormat {
-    /// What it returns.
+    /// What the call returns.
     type Output;
 
-    // In which kinds of values, and to which bytes, it may be made: by default to any in each.
+    // For which kinds of values, and on which bytes, the call may be made; by default for all, on any.
     ghost can: { Self → Kind → List ℕ → Type 0 } = { λ _ _ _. ⊤ };
 
-    // What it returns in values of a kind, and what becomes of the bytes: by default anything.
+    // What the call returns for a kind of values, and what becomes of the bytes; by default anything.
     ghost gives: { Self → Kind → List ℕ → List ℕ → Self.Output → Type 0 } = { λ _ _ _ _ _. ⊤ };
 
     /// Makes the call in the format `S`.
@@ -144,15 +144,15 @@ pub trait WritesInFormat {
         ensures { gives self (of_format (constants_of S.Flagged)) bytes.old bytes.new result };
 }
 
-/// A call that can be made in each format that has bits, with either rule of flags, and that fills a place lent to it.
+/// A call that can be made in every format with bits, under any rule of flags, and fills a place lent to it.
 pub trait FillsInFormat {
-    /// What is lent to it.
+    /// What is lent to the call.
     type Place;
 
-    /// What it returns.
+    /// What the call returns.
     type Output;
 
-    // What it returns in values of a kind, and what becomes of the place: by default anything.
+    // What the call returns for a kind of values, and what becomes of the place; by default anything.
     ghost gives: { Self → Kind → Self.Place → Self.Place → Self.Output → Type 0 } = { λ _ _ _ _ _. ⊤ };
 
     /// Makes the call in the format `S`.
@@ -161,9 +161,9 @@ pub trait FillsInFormat {
         ensures { gives self (of_format (constants_of S.Flagged)) place.old place.new result };
 }
 
-/// A call that can also be made of pairs of doubles, and that fills a place lent to it.
+/// A call that fills a place lent to it, and can also be made for pairs of doubles.
 pub trait FillsInKind: FillsInFormat {
-    /// Makes the call in pairs of doubles.
+    /// Makes the call for pairs of doubles.
     fn fill_in_pairs(self, place: &mut Self::Place) -> Self::Output
         ensures { Self.gives self of_pairs place.old place.new result };
 }
@@ -179,7 +179,7 @@ pub enum IeeeFormat {
     Double,
     /// Binary128.
     Quad,
-    /// The upper half of binary32.
+    /// Bfloat16: the upper half of a binary32.
     BFloat,
     /// Eight bits, five of them the exponent.
     E5M2,
@@ -225,7 +225,7 @@ impl<C: InFlaggedFormat> InFormat for WithBuiltInFlags<C> {
 }
 
 impl IeeeFormat {
-    /// The format of a kind of values, if it is one of these.
+    /// The format of this kind, if it has the infinities and NaNs of IEEE 754.
     #[inline(always)]
     pub fn of(kind: BuiltInKind) -> Option<IeeeFormat>
         ensures { result ≡ ieee_format_in kind }
@@ -251,7 +251,7 @@ impl IeeeFormat {
 }
 
 impl IeeeFormat {
-    /// Makes a call that fills a place, with the flags of IEEE 754-2008, tininess detected after rounding.
+    /// Makes a call that fills a lent place, with the flags of IEEE 754-2008, tininess detected after rounding.
     #[inline(always)]
     fn fill_after_rounding<C: FillsInFormat>(self, call: C, place: &mut C::Place) -> C::Output
         ensures { C.gives call (of_format (after_rounding self)) place.old place.new result }
@@ -259,7 +259,7 @@ impl IeeeFormat {
         each_ieee_format!(fill_after_rounding(self, call, place))
     }
 
-    /// Makes a call that fills a place, with the flags of IEEE 754-2008, tininess detected before rounding.
+    /// Makes a call that fills a lent place, with the flags of IEEE 754-2008, tininess detected before rounding.
     #[inline(always)]
     fn fill_before_rounding<C: FillsInFormat>(self, call: C, place: &mut C::Place) -> C::Output
         ensures { C.gives call (of_format (before_rounding self)) place.old place.new result }
@@ -269,14 +269,14 @@ impl IeeeFormat {
 }
 
 impl IeeeFormat {
-    /// The format with the flags of the built-in formats.
+    /// The same format with the flags of the built-in formats.
     fn built_in(self) -> BuiltInFormat
         ensures { result ≡ format_of_ieee self }
     {
         each_ieee_format!(built_in_format(self))
     }
 
-    /// Makes a call that writes, with the flags of IEEE 754-2008, tininess detected after rounding.
+    /// Makes a call that writes to lent bytes, with the flags of IEEE 754-2008, tininess detected after rounding.
     fn write_after_rounding<C: WritesInFormat>(self, call: C, bytes: &mut [u8]) -> C::Output
         requires { C.can call (of_format (after_rounding self)) bytes.old }
         ensures { C.gives call (of_format (after_rounding self)) bytes.old bytes.new result }
@@ -284,7 +284,7 @@ impl IeeeFormat {
         each_ieee_format!(write_after_rounding(self, call, bytes))
     }
 
-    /// Makes a call that writes, with the flags of IEEE 754-2008, tininess detected before rounding.
+    /// Makes a call that writes to lent bytes, with the flags of IEEE 754-2008, tininess detected before rounding.
     fn write_before_rounding<C: WritesInFormat>(self, call: C, bytes: &mut [u8]) -> C::Output
         requires { C.can call (of_format (before_rounding self)) bytes.old }
         ensures { C.gives call (of_format (before_rounding self)) bytes.old bytes.new result }
@@ -294,7 +294,7 @@ impl IeeeFormat {
 }
 
 impl FlaggedFormat {
-    /// The format with the flags of the built-in formats.
+    /// The same format with the flags of the built-in formats.
     pub fn built_in(self) -> BuiltInFormat
         ensures { result ≡ format_without_rule self }
     {
@@ -305,7 +305,7 @@ impl FlaggedFormat {
         }
     }
 
-    /// Makes a call that writes, in the format.
+    /// Makes a call that writes to lent bytes, in the format.
     pub fn write<C: WritesInFormat>(self, call: C, bytes: &mut [u8]) -> C::Output
         requires { C.can call (of_format (flagged_constants self)) bytes.old }
         ensures { C.gives call (of_format (flagged_constants self)) bytes.old bytes.new result }
@@ -317,7 +317,7 @@ impl FlaggedFormat {
         }
     }
 
-    /// Makes a call that fills a place, in the format.
+    /// Makes a call that fills a lent place, in the format.
     #[inline(always)]
     pub fn fill<C: FillsInFormat>(self, call: C, place: &mut C::Place) -> C::Output
         ensures { C.gives call (of_format (flagged_constants self)) place.old place.new result }
@@ -343,7 +343,7 @@ impl FlaggedFormat {
 }
 
 impl FlaggedKind {
-    /// Makes a call in values of the kind.
+    /// Makes a call at the type of the kind.
     #[inline(always)]
     pub fn run<C: InFlaggedKind>(self, call: C) -> C::Output
         ensures { C.gives call (flagged_kind_of self) result }
@@ -354,7 +354,7 @@ impl FlaggedKind {
         }
     }
 
-    /// Makes a call that fills a place, in values of the kind.
+    /// Makes a call that fills a lent place, at the type of the kind.
     #[inline(always)]
     pub fn fill<C: FillsInKind>(self, call: C, place: &mut C::Place) -> C::Output
         ensures { C.gives call (flagged_kind_of self) place.old place.new result }
@@ -365,8 +365,8 @@ impl FlaggedKind {
         }
     }
 
-    /// The kind that this code names, if any: its lowest eight bits are the code of a built-in kind, the bit above them
-    /// asks for the flags of IEEE 754-2008, and the next one, only together with that, for tininess before rounding.
+    /// The kind that this code names, if any. The lowest eight bits are the code of a built-in kind; the next bit asks
+    /// for the flags of IEEE 754-2008, and the one after it, only together with that bit, for tininess before rounding.
     #[inline(always)]
     pub fn coded(code: u32) -> Option<FlaggedKind>
         ensures { result ≡ flagged_kind_coded code }

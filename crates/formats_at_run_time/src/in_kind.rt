@@ -1,4 +1,4 @@
-//! A call at the type of a kind of values.
+//! Calls at the type of a kind of values.
 
 ghost use Rattle.std.specs.Prelude.{⊤, ◌<◌};
 ghost use Rattle.rustc_apfloat.specs.Types.{constants_of};
@@ -6,15 +6,15 @@ ghost use Rattle.formats_at_run_time.specs.ValueKinds.{Kind, of_format, of_pairs
 
 use rustc_apfloat::ieee::Semantics;
 
-/// A call that can be made in each format that has bits.
+/// A call that can be made in every format with bits.
 pub trait InFormat {
-    /// What it returns.
+    /// What the call returns.
     type Output;
 
-    // In which kinds of values it may be made: by default in each.
+    // For which kinds of values the call may be made; by default for all.
     ghost can: { Self → Kind → Type 0 } = { λ _ _. ⊤ };
 
-    // What it returns in values of a kind: by default anything.
+    // What the call returns for a kind of values; by default anything.
     ghost gives: { Self → Kind → Self.Output → Type 0 } = { λ _ _ _. ⊤ };
 
     /// Makes the call in the format `S`.
@@ -24,9 +24,9 @@ pub trait InFormat {
         ensures { gives self (of_format (constants_of S.Semantics)) result };
 }
 
-/// A call that can be made of each kind of values.
+/// A call that can be made for every kind of values.
 pub trait InKind: InFormat {
-    /// Makes the call in pairs of doubles.
+    /// Makes the call for pairs of doubles.
     fn in_pairs(self) -> Self::Output
         requires { Self.can self of_pairs }
         ensures { Self.gives self of_pairs result };

@@ -1,5 +1,5 @@
-//! What is chosen while a program runs: the kinds of values and the rounding modes, by their words and codes, a call at
-//! the type of such a kind, and an operation on two values.
+//! Formats chosen at run time: kinds of values and rounding modes by their words and codes, calls at the type of a
+//! kind, and operations on two values.
 #![tactic(auto)]
 
 mod arithmetic;

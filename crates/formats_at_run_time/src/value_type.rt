@@ -14,13 +14,13 @@ use rustc_apfloat::ieee::{Flagged, IeeeFloat};
 use rustc_apfloat::ppc::{DoubleDouble, FallbackS};
 use rustc_apfloat::{Float, ParseError, Round, StatusAnd};
 
-/// A type of values: those of a format, or pairs of doubles. These are the calls that both have and `Float` has not, so
+/// A type of values: those of a format, or pairs of doubles. It has the calls that both share but `Float` lacks, so
 /// that code for both is written once.
 pub trait ValueType: Float {
-    // What a square root may be.
+    // What the square root returns, as a relation.
     ghost takes_root: { Self → Round → StatusAnd Self → Type 0 };
 
-    /// The product, which every type of values has, however many digits it has.
+    /// The product, which every type of values has, whatever its precision.
     fn wide_mul_r(self, rhs: Self, round: Round) -> StatusAnd<Self>
         ensures { Self.multiplies self rhs round result };
 
@@ -32,7 +32,7 @@ pub trait ValueType: Float {
     fn sqrt(self) -> StatusAnd<Self>
         ensures { takes_root self NearestTiesToEven result };
 
-    /// Reads a text of ASCII characters like `from_str_r`. Other bytes are refused, since none has a meaning.
+    /// Reads a text, given by its bytes, as `from_str_r` does. A byte above 127 is refused, since it has no meaning.
     fn from_ascii_r(text: &[u8], round: Round) -> Result<StatusAnd<Self>, ParseError>
         ensures { Self.reads text.now round result };
 
@@ -86,7 +86,7 @@ impl ValueType for DoubleDouble {
         self.sqrt()
     }
 
-    /// A text is read in the wide format, as by `from_str_r`.
+    /// Reads a text in the wide format, as `from_str_r` does, and splits the value.
     #[inline(always)]
     fn from_ascii_r(text: &[u8], round: Round) -> Result<StatusAnd<Self>, ParseError> {
         match IeeeFloat::<FallbackS>::from_ascii_r(text, round) {

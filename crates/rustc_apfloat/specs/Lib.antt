@@ -50,7 +50,7 @@ pub use Rattle.apfloat_model.specs.texts.Faults
 pub use Rattle.apfloat_model.specs.texts.Literals
 pub use Rattle.apfloat_model.specs.texts.Readings
 pub use Rattle.apfloat_model.specs.texts.Parsing
--- what a type has to provide, and its constants as a format
+-- the laws that a type has to provide, and its constants as a format
 pub use Rattle.apfloat_model.specs.Determined
 pub use Rattle.apfloat_ieee.specs.Types
 pub use Rattle.apfloat_ieee.specs.FlaggedTypes

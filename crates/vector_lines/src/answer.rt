@@ -28,35 +28,35 @@ pub enum Returned<F> {
     Refused(Text),
 }
 
-/// What is compared with the value of a row.
+/// What is compared with the column of the value.
 #[derive(Clone, Copy)]
 pub enum ValueField {
-    /// The bits of a value, and how many there are.
+    /// The bits of a value, and the width of the format.
     Bits(u128, usize),
-    /// A value of a format without bits: that of the row.
+    /// A value of a format without bits, equal to that of the row.
     InRow,
-    /// A value of a format without bits: another one.
+    /// A value of a format without bits that differs from that of the row.
     Quanta(Text),
-    /// An integer without a sign.
+    /// An unsigned integer.
     Unsigned(u128),
-    /// An integer.
+    /// A signed integer.
     Signed(i128),
-    /// Whether something holds.
+    /// A truth value.
     Truth(bool),
-    /// An order, which may be none.
+    /// An order, or none if the operands are unordered.
     Order(Option<Ordering>),
     /// A text.
     Text(Text),
 }
 
-/// What is compared with the flags of a row.
+/// What is compared with the column of the flags.
 #[derive(Clone, Copy)]
 pub enum StatusField {
-    /// The call has none.
+    /// The call has no status.
     Nothing,
     /// These flags.
     Flags(Status),
-    /// A text is refused.
+    /// The text is refused.
     Refused,
 }
 
@@ -73,7 +73,7 @@ pub enum ExtraField {
     LosesInfo(bool),
     /// The exponent of a fraction.
     Exponent(ExpInt),
-    /// A remainder takes that many steps, and at most that many.
+    /// The steps that a remainder takes, and their bound.
     Steps(u32, ExpInt),
 }
 
@@ -89,7 +89,7 @@ pub struct RowAnswer {
 }
 
 impl RowAnswer {
-    /// The columns for what a call returns. The row states a value of a format without bits, or another one.
+    /// The columns for what a call returns; `stated` is the value in the row, if it is one of a format without bits.
     pub fn of<F: Float + Debug>(returned: Returned<F>, stated: Option<Quanta>) -> RowAnswer {
         match returned {
             Returned::Value(x) | Returned::Optional(Some(x)) => {
@@ -130,7 +130,7 @@ impl RowAnswer {
         }
     }
 
-    /// The same columns with another last one.
+    /// The same columns with this last one.
     pub fn with(self, extra: ExtraField) -> RowAnswer {
         RowAnswer {
             value: self.value,
@@ -139,7 +139,7 @@ impl RowAnswer {
         }
     }
 
-    /// Whether a row has these columns; `-` in the last one agrees with anything.
+    /// Whether these columns agree with those of a row; `-` in the last one agrees with anything.
     pub fn is_of(&self, value: &str, status: &str, extra: &str) -> Result<bool, CallFault> {
         let Some(has_status) = self.status.is_in_row(status) else {
             return Err(CallFault::Flags(self.status.form()));
@@ -154,7 +154,7 @@ impl RowAnswer {
         }
     }
 
-    /// Writes the columns, the last one if the row has it.
+    /// Writes the columns, the last one only if the row has it.
     pub fn write<W: Write>(&self, value: &str, extra: &str, out: &mut W) -> io::Result<()> {
         self.value.write(value, out)?;
         out.write_all(b"\t")?;
@@ -176,7 +176,7 @@ fn rounded<F: Float + Debug>(answer: StatusAnd<F>, stated: Option<Quanta>) -> Ro
     }
 }
 
-/// The field of a value: its canonical bits, if the format has bits.
+/// The field for a value: its canonical bits, if the format has bits.
 fn field_of<F: Float + Debug>(x: F, stated: Option<Quanta>) -> ValueField {
     if F::PRECISION < F::BITS {
         return ValueField::Bits(x.to_bits(), F::BITS);
@@ -187,7 +187,7 @@ fn field_of<F: Float + Debug>(x: F, stated: Option<Quanta>) -> ValueField {
     }
 }
 
-/// The field of a value of a format without bits.
+/// The field for a value of a format without bits.
 fn quanta_field<F: Float + Debug>(x: F) -> ValueField {
     match text_of(x) {
         Some(text) => ValueField::Quanta(text),
@@ -196,7 +196,7 @@ fn quanta_field<F: Float + Debug>(x: F) -> ValueField {
 }
 
 impl ValueField {
-    /// Whether a word stands for this, or nothing if it cannot be compared with this.
+    /// Whether a word of a row agrees with this; `None` if it cannot be compared.
     fn is_named(&self, word: &str) -> Option<bool> {
         match self {
             ValueField::Bits(bits, width) => is_bits(*bits, *width, word),
@@ -210,7 +210,7 @@ impl ValueField {
         }
     }
 
-    /// The fault of a word that cannot be compared with this.
+    /// The fault of a word that cannot be compared.
     fn fault(&self) -> CallFault {
         match self {
             ValueField::Bits(_, width) => CallFault::ValueBits(*width),
@@ -237,7 +237,7 @@ impl ValueField {
     }
 }
 
-/// Whether a word stands for these bits; an inverse that does not exist is `None`.
+/// Whether a word spells these bits; `None` in a row means an inverse that does not exist.
 fn is_bits(bits: u128, width: usize, word: &str) -> Option<bool> {
     if word == "None" {
         return Some(false);
@@ -245,7 +245,7 @@ fn is_bits(bits: u128, width: usize, word: &str) -> Option<bool> {
     is_same(bits, bits_of(word, width))
 }
 
-/// Whether a word stands for a count of quanta that is not that of the row.
+/// The comparison with a value that differs from that of the row: `Some(false)` if the word has the form of a value.
 fn is_other_quanta(word: &str) -> Option<bool> {
     if word == "None" || Quanta::named(word).is_some() {
         Some(false)
@@ -254,7 +254,7 @@ fn is_other_quanta(word: &str) -> Option<bool> {
     }
 }
 
-/// Whether a stated number is this one.
+/// Whether a stated number equals this one.
 fn is_same(number: u128, stated: Option<u128>) -> Option<bool> {
     match stated {
         Some(stated) => Some(stated == number),
@@ -262,7 +262,7 @@ fn is_same(number: u128, stated: Option<u128>) -> Option<bool> {
     }
 }
 
-/// Whether a word stands for this signed number.
+/// Whether a word spells this signed integer.
 fn is_signed(number: i128, word: &str) -> Option<bool> {
     match word.parse::<i128>() {
         Ok(stated) => Some(stated == number),
@@ -270,7 +270,7 @@ fn is_signed(number: i128, word: &str) -> Option<bool> {
     }
 }
 
-/// Whether a word stands for this truth value.
+/// Whether a word is this truth value.
 fn is_truth(holds: bool, word: &str) -> Option<bool> {
     match word {
         "true" => Some(holds),
@@ -279,7 +279,7 @@ fn is_truth(holds: bool, word: &str) -> Option<bool> {
     }
 }
 
-/// Whether a word stands for this order.
+/// Whether a word is the name of this order.
 fn is_order(order: Option<Ordering>, word: &str) -> Option<bool> {
     match word {
         "None" | "Less" | "Equal" | "Greater" => Some(word == order_name(order)),
@@ -294,7 +294,7 @@ fn write_bits<W: Write>(bits: u128, width: usize, out: &mut W) -> io::Result<()>
 }
 
 impl StatusField {
-    /// Whether the column of flags stands for this, or nothing if it cannot be compared with this.
+    /// Whether the column of flags agrees with this; `None` if it cannot be compared.
     fn is_in_row(&self, word: &str) -> Option<bool> {
         let is_refused = matches!(self, StatusField::Refused);
         if word == "ParseError" {
@@ -304,7 +304,7 @@ impl StatusField {
             return match self {
                 StatusField::Nothing => Some(true),
                 StatusField::Refused => Some(false),
-                // The row does not say them.
+                // The row does not state the flags.
                 StatusField::Flags(_) => Some(true),
             };
         }
@@ -334,7 +334,7 @@ impl StatusField {
 }
 
 impl ExtraField {
-    /// Whether the last column agrees with this, or nothing if it cannot be compared with this.
+    /// Whether the last column agrees with this; `None` if it cannot be compared.
     fn is_in_row(&self, word: &str) -> Option<bool> {
         if word == "-" {
             return Some(true);
@@ -352,7 +352,7 @@ impl ExtraField {
         }
     }
 
-    /// What a word for this begins with.
+    /// The beginning of a word for this.
     fn label(&self) -> &'static str {
         match self {
             ExtraField::Nothing => "",
@@ -376,7 +376,7 @@ impl ExtraField {
         }
     }
 
-    /// Writes the word for this, with as much as the row has.
+    /// Writes the word for this, with the bound only if the row has it.
     fn write<W: Write>(&self, in_row: &str, out: &mut W) -> io::Result<()> {
         out.write_all(self.label().as_bytes())?;
         match self {
@@ -390,7 +390,7 @@ impl ExtraField {
     }
 }
 
-/// Writes how many steps a remainder takes, and the bound if the row has it.
+/// Writes the number of steps that a remainder takes, and the bound if the row has it.
 fn write_steps<W: Write>(taken: u32, bound: ExpInt, in_row: &str, out: &mut W) -> io::Result<()> {
     if in_row.contains(' ') {
         write!(out, "{taken} bound={bound}")
@@ -399,7 +399,7 @@ fn write_steps<W: Write>(taken: u32, bound: ExpInt, in_row: &str, out: &mut W) -
     }
 }
 
-/// The name of an order, which may be none.
+/// The name of an order, or of none.
 fn order_name(order: Option<Ordering>) -> &'static str {
     match order {
         None => "None",
@@ -409,7 +409,7 @@ fn order_name(order: Option<Ordering>) -> &'static str {
     }
 }
 
-/// Whether a word stands for this exponent.
+/// Whether a word spells this exponent.
 fn is_exponent(exponent: ExpInt, word: &str) -> Option<bool> {
     match word.parse::<ExpInt>() {
         Ok(stated) => Some(stated == exponent),
@@ -429,7 +429,7 @@ fn are_steps(taken: u32, bound: ExpInt, stated: &str) -> Option<bool> {
     }
 }
 
-/// Whether a word stands for this count.
+/// Whether a word spells this count.
 fn is_count(count: u32, word: &str) -> Option<bool> {
     match word.parse::<u32>() {
         Ok(stated) => Some(stated == count),

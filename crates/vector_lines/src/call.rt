@@ -3,18 +3,18 @@
 use crate::form::Form;
 use crate::table::found;
 
-/// A call, by what its operands are.
+/// A call, grouped by the operands that it takes.
 #[derive(Clone, Copy)]
 pub enum Call {
-    /// There are none: the call is a constant of the type.
+    /// No operand: a constant of the type.
     Constant(Constant),
     /// One value.
     OfOneValue(OneValueCall),
-    /// One value, which has the property or not.
+    /// One value, and whether it has a property.
     HasProperty(Property),
     /// Two values.
     OfTwoValues(TwoValuesCall),
-    /// Two values, of which the left one takes the result.
+    /// Two values; the result is assigned to the left one.
     Assigning(AssigningOperator),
     /// A value and an integer.
     OfValueAndInteger(IntegerCall),
@@ -24,7 +24,7 @@ pub enum Call {
     OfText(TextCall),
     /// A decimal, or a value that is written as one.
     OfDecimal(DecimalCall),
-    /// Values of a format, which alone has the call.
+    /// Values of a format; pairs do not have the call.
     OfFormat(FormatCall),
     /// A value of another type.
     Conversion(ConversionCall),
@@ -47,7 +47,7 @@ pub enum Constant {
     SmallestNormalized,
 }
 
-/// A call of one value.
+/// A call on one value.
 #[derive(Clone, Copy)]
 pub enum OneValueCall {
     RoundToIntegral,
@@ -90,7 +90,7 @@ pub enum Property {
     Largest,
 }
 
-/// A call of two values.
+/// A call on two values.
 #[derive(Clone, Copy)]
 pub enum TwoValuesCall {
     AddR,
@@ -125,7 +125,7 @@ pub enum AssigningOperator {
     Rem,
 }
 
-/// A call of a value and an integer.
+/// A call on a value and an integer.
 #[derive(Clone, Copy)]
 pub enum IntegerCall {
     Scalbn,
@@ -136,7 +136,7 @@ pub enum IntegerCall {
     ToI128R,
 }
 
-/// A call of an integer or a payload.
+/// A call on an integer or a payload.
 #[derive(Clone, Copy)]
 pub enum WordCall {
     FromU128,
@@ -147,14 +147,14 @@ pub enum WordCall {
     Snan,
 }
 
-/// A call of a text.
+/// A call on a text.
 #[derive(Clone, Copy)]
 pub enum TextCall {
     FromStr,
     FromStrR,
 }
 
-/// A call of the crate of decimals.
+/// A call of `apfloat_decimals`.
 #[derive(Clone, Copy)]
 pub enum DecimalCall {
     Read,
@@ -181,7 +181,7 @@ pub enum ConversionCall {
     From,
 }
 
-// The calls by their names. A `match` on so many texts would take minutes to prove.
+// The calls by their names. A `match` on this many texts would take minutes to prove.
 static CALLS: &[(&str, Call)] = &[
     ("BITS", Call::Constant(Constant::Bits)),
     ("PRECISION", Call::Constant(Constant::Precision)),
@@ -305,7 +305,7 @@ impl Call {
         found(CALLS, name)
     }
 
-    /// What its operands are.
+    /// The form of its operands.
     pub fn form(self) -> Form {
         match self {
             Call::Constant(_) => Form::Nothing,
@@ -321,7 +321,7 @@ impl Call {
 }
 
 impl IntegerCall {
-    /// What its operands are.
+    /// The form of its operands.
     fn form(self) -> Form {
         match self {
             IntegerCall::Scalbn | IntegerCall::ScalbnR => Form::ValueAndExponent,
@@ -331,7 +331,7 @@ impl IntegerCall {
 }
 
 impl WordCall {
-    /// What its operand is.
+    /// The form of its operand.
     fn form(self) -> Form {
         match self {
             WordCall::FromU128 | WordCall::FromU128R => Form::Unsigned,
@@ -342,7 +342,7 @@ impl WordCall {
 }
 
 impl FormatCall {
-    /// What its operands are.
+    /// The form of its operands.
     fn form(self) -> Form {
         match self {
             FormatCall::WideMulAddR | FormatCall::MulAdd | FormatCall::MulAddR => {
@@ -354,7 +354,7 @@ impl FormatCall {
 }
 
 impl DecimalCall {
-    /// What its operands are.
+    /// The form of its operands.
     fn form(self) -> Form {
         match self {
             DecimalCall::Read => Form::Text,

@@ -1,4 +1,4 @@
-//! What is wrong with a row of a call, by its column.
+//! What can be wrong with a row of a call, by column.
 
 /// What is wrong with a row of a call.
 #[derive(Clone, Copy)]
@@ -17,10 +17,10 @@ pub enum CallFault {
     Support,
     /// The flags cannot be those of the call, which are of this form.
     Flags(&'static str),
-    /// The call returns nothing else of this form.
+    /// The last column cannot be that of the call, which is of this form.
     Extra(&'static str),
     /// The value cannot be that of the call, which is of this form.
     Value(&'static str),
-    /// The value has more bits than this.
+    /// The value has more bits than its format, which has this many.
     ValueBits(usize),
 }

@@ -1,4 +1,4 @@
-//! What lines of any of the programs say.
+//! What the lines of all programs have in common.
 
 use crate::text::Text;
 use crate::widths::mask;
@@ -6,7 +6,7 @@ use crate::widths::mask;
 /// A result and its flags, as numbers.
 #[derive(Clone, Copy)]
 pub struct Columns {
-    /// The bits of a value or of an integer in two's complement.
+    /// The bits of a value, or of an integer in two's complement.
     pub result: u128,
     /// The flags: 1 for inexact, 2 for underflow, 4 for overflow, 8 for a division by zero, 16 for an invalid
     /// operation.
@@ -26,7 +26,7 @@ pub struct LineCall {
     pub operands: Text,
 }
 
-/// Whether bits of this width are those of a NaN, in a format whose infinity has these.
+/// Whether bits encode a NaN, in a format of this width whose positive infinity is encoded as `infinity`.
 pub fn is_nan(bits: u128, width: usize, infinity: u128) -> bool {
     bits & (mask(width) >> 1) > infinity
 }

@@ -1,9 +1,9 @@
-//! What the operands of calls are.
+//! The forms of operands.
 
-/// What the operands of a call are.
+/// The form of the operands of a call.
 #[derive(Clone, Copy)]
 pub enum Form {
-    /// There are none.
+    /// No operands.
     Nothing,
     /// A text.
     Text,
@@ -17,18 +17,18 @@ pub enum Form {
     ValueAndExponent,
     /// A value and the width of an integer.
     ValueAndWidth,
-    /// A value and a count of digits.
+    /// A value and a number of digits.
     ValueAndCount,
-    /// An integer without a sign.
+    /// An unsigned integer.
     Unsigned,
-    /// An integer.
+    /// A signed integer.
     Signed,
     /// The payload of a NaN.
     Payload,
 }
 
 impl Form {
-    /// How many of the operands, from the first one, are values.
+    /// How many operands at the start are values.
     pub fn value_count(self) -> usize {
         match self {
             Form::OneValue | Form::ValueAndExponent | Form::ValueAndWidth | Form::ValueAndCount =>
@@ -39,7 +39,7 @@ impl Form {
         }
     }
 
-    /// What the operands have to be, for messages.
+    /// The form that operands have to have, for messages.
     pub fn description(self) -> &'static str {
         match self {
             Form::Nothing => "`-`",

@@ -1,7 +1,7 @@
-//! Lines of IBM's FPgen, as its files of tests have them: `b32+ =0 +1.000000P0 +1.400000P1 -> +1.000000P2`.
+//! Lines of test files of IBM's FPgen: `b32+ =0 +1.000000P0 +1.400000P1 -> +1.000000P2`.
 //!
-//! The first word is a format and an operation. After it come the rounding mode, which exceptions trap, the operands,
-//! an arrow, the result, and a letter for each flag. Flags are those that processors raise.
+//! The first word is a format and an operation. It is followed by the rounding mode, the exceptions that trap, the
+//! operands, an arrow, the result, and a letter for each flag. Flags are those that processors raise.
 
 use crate::columns::{Columns, LineCall, is_nan};
 use crate::row_error::RowError;
@@ -13,32 +13,32 @@ use std::fmt::Write as _;
 use std::io;
 use std::io::Write;
 
-/// What a line is, for messages.
+/// The form of a line, for messages.
 const LINE: &str = "a line such as `b32+ =0 +1.000000P0 +1.400000P1 -> +1.000000P2`";
 
-/// What operands are, and results. The digits of a fraction are those of its bits as a number, so six for the 23 bits
-/// of `b32`.
+/// The form of operands and results, for messages. The digits of a fraction are those of its bits as a number: six for
+/// the 23 bits of `b32`.
 const NUMBERS: &str =
     "numbers such as +1.400000P-3 (1.5 * 2^-3 in b32), +Zero, -Inf, Q or S, as many as the operation has";
 
 /// A format of FPgen.
 #[derive(Clone, Copy)]
 struct BinaryFormat {
-    /// Its word in rows, with the flags of processors.
+    /// The word of the format in rows, with the flags of processors.
     word: &'static str,
-    /// The same with tininess before rounding.
+    /// The same with tininess detected before rounding.
     word_before: &'static str,
-    /// How many bits a value has.
+    /// The width of a value in bits.
     width: usize,
-    /// How many bits the fraction has.
+    /// The width of the fraction in bits.
     fraction: usize,
     /// The bits of infinity.
     infinity: u128,
-    /// The exponent of 1, as it is stored.
+    /// The biased exponent of 1.
     bias: i32,
 }
 
-/// The formats by the beginning of a line.
+/// The formats, by the beginning of a line.
 static FORMATS: &[(&str, BinaryFormat)] = &[
     (
         "b128",
@@ -75,7 +75,7 @@ static FORMATS: &[(&str, BinaryFormat)] = &[
     ),
 ];
 
-/// The operations: the call, and how many operands it has.
+/// The operations, each with its call and the number of its operands.
 static OPERATIONS: &[(&str, (&str, usize))] = &[
     ("+", ("add_r", 2)),
     ("-", ("sub_r", 2)),
@@ -96,10 +96,10 @@ static ROUNDINGS: &[(&str, &str)] = &[
     ("=^", "away"),
 ];
 
-/// How lines of FPgen are read.
+/// How lines of FPgen are interpreted.
 #[derive(Clone, Copy)]
 pub struct Fpgen {
-    /// Whether results are found tiny before they are rounded.
+    /// Whether tininess is detected before rounding.
     tiny_before_rounding: bool,
 }
 
@@ -113,14 +113,14 @@ pub struct FpgenTest {
 }
 
 impl Fpgen {
-    /// Lines whose results are found tiny after they are rounded.
+    /// Lines with tininess detected after rounding.
     pub fn new() -> Fpgen {
         Fpgen {
             tiny_before_rounding: false,
         }
     }
 
-    /// The lines with an option.
+    /// The same with this option, if there is such an option.
     pub fn with(self, option: &str) -> Option<Fpgen> {
         match option {
             "-tininessbefore" => Some(Fpgen {
@@ -131,7 +131,7 @@ impl Fpgen {
         }
     }
 
-    /// What a line says, or nothing if it says what a trap gets.
+    /// What a line says; `None` if it states what is delivered to a trap handler.
     pub fn read(self, line: &str) -> Result<Option<FpgenTest>, RowError<'_>> {
         let Some((name, left, right)) = cut_line(line) else {
             return Err(RowError::Word("no line of FPgen", line, LINE));
@@ -214,7 +214,7 @@ impl FpgenTest {
     }
 }
 
-/// The first word of a line, the text from there to the arrow, and the text after the arrow.
+/// The first word of a line, the text between it and the arrow, and the text after the arrow.
 fn cut_line(line: &str) -> Option<(&str, &str, &str)> {
     let Some((left, right)) = line.split_once(" -> ") else {
         return None;
@@ -225,7 +225,7 @@ fn cut_line(line: &str) -> Option<(&str, &str, &str)> {
     }
 }
 
-/// Whether operands come after the letters of exceptions that trap.
+/// Whether the operands follow the letters of exceptions that trap.
 fn has_traps(words: &str) -> bool {
     match words.split_once(' ') {
         Some((letters, operands)) => flags_of(letters).is_some() && !operands.is_empty(),
@@ -243,7 +243,8 @@ struct Operation {
 }
 
 impl Operation {
-    /// What the rest of a line says of the operation, or nothing if it says what a trap gets.
+    /// The test of the operation that the rest of a line states; `None` if it states what is delivered to a trap
+    /// handler.
     fn test<'a>(
         self,
         mode: &'static str,
@@ -279,7 +280,7 @@ impl Operation {
     }
 }
 
-/// The result and the flags of a line, or nothing if there is no result since there is a trap.
+/// The result and the flags of a line; `None` if there is no result because of a trap.
 fn stated_in(right: &str, format: BinaryFormat) -> Result<Option<Columns>, RowError<'_>> {
     let (result, flags) = right.split_once(' ').unwrap_or((right, ""));
     if result == "#" {
@@ -292,7 +293,7 @@ fn stated_in(right: &str, format: BinaryFormat) -> Result<Option<Columns>, RowEr
     }
 }
 
-/// The format with which the name of a test begins, and the operation after it.
+/// The format that the name of a test begins with, and the operation after it.
 fn format_of(name: &str) -> Option<(BinaryFormat, &str)> {
     for (word, format) in FORMATS {
         if let Some(operation) = name.strip_prefix(word) {
@@ -333,12 +334,12 @@ fn bits_of_word(word: &str, format: BinaryFormat) -> Option<u128> {
     }
 }
 
-/// How far apart the bits of the powers of two are.
+/// The distance between the bits of consecutive powers of two.
 fn unit_of(format: BinaryFormat) -> u128 {
     mask(format.fraction).wrapping_add(1)
 }
 
-/// Bits with the bit of the sign, if there are some.
+/// The bits with the sign bit set, if there are bits.
 fn negated(bits: Option<u128>, format: BinaryFormat) -> Option<u128> {
     match bits {
         Some(bits) => Some(bits | (mask(format.width) ^ (mask(format.width) >> 1))),
@@ -369,7 +370,7 @@ fn bits_of_magnitude(word: &str, format: BinaryFormat) -> Option<u128> {
     }
 }
 
-/// The bits of a number that is not denormal.
+/// The bits of a normal number.
 fn bits_of_normal(fraction: u128, exponent: i32, format: BinaryFormat) -> Option<u128> {
     let Some(biased) = exponent.checked_add(format.bias) else {
         return None;
@@ -386,7 +387,7 @@ fn bits_of_normal(fraction: u128, exponent: i32, format: BinaryFormat) -> Option
 /// The letters of the flags: inexact, underflow, overflow, division by zero, invalid operation.
 static LETTERS: &[(&str, u128)] = &[("x", 1), ("u", 2), ("o", 4), ("z", 8), ("i", 16)];
 
-/// The flags of letters.
+/// The flags that letters name.
 fn flags_of(letters: &str) -> Option<u128> {
     let mut flags = 0;
     for letter in letters.as_bytes() {
@@ -402,7 +403,7 @@ fn flags_of(letters: &str) -> Option<u128> {
     Some(flags)
 }
 
-/// The letters of flags.
+/// The letters for flags.
 fn letters_of(flags: u128) -> Text {
     let mut text = Text::of("");
     for (letter, flag) in LETTERS {

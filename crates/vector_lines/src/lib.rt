@@ -1,9 +1,8 @@
-//! The lines of files of test vectors, as texts: what the columns of rows mean, and lines of Berkeley TestFloat and of
-//! IBM's FPgen, which are read as calls in the words of a row.
+//! The lines of test vector files, as texts: what the columns of rows mean, and lines of Berkeley TestFloat and of
+//! IBM's FPgen, which are translated into the calls of rows.
 //!
-//! A row names a call and a format; its operands, and what the call returns, are values, which are bits, or counts of
-//! quanta in a format without bits. What is wrong with a line is named here too. For the functions here only safety is
-//! proved.
+//! A row names a call and a format; operands and results are values, written as bits, or as counts of quanta in a
+//! format without bits. The errors of malformed lines are here too. Only the safety of these functions is proved.
 #![tactic(auto)]
 
 mod answer;

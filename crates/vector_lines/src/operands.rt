@@ -1,4 +1,4 @@
-//! The operands of a call, as numbers.
+//! The operands of a call.
 
 use crate::quanta::Quanta;
 use commands::{bits_of, number_of};
@@ -7,19 +7,19 @@ use rustc_apfloat::ExpInt;
 /// An operand, read without its format.
 #[derive(Clone, Copy)]
 pub enum Operand {
-    /// There is none.
+    /// No operand.
     Nothing,
     /// A value, as its bits.
     Bits(u128),
     /// A value of a format without bits.
     Quanta(Quanta),
-    /// An exponent, a width or a count.
+    /// An exponent, a width or a number of digits.
     Integer(ExpInt),
-    /// An integer without a sign.
+    /// An unsigned integer.
     Unsigned(u128),
     /// An integer.
     Signed(i128),
-    /// The payload of a NaN, which may be none.
+    /// The payload of a NaN, or none.
     Payload(Option<u128>),
 }
 
@@ -107,7 +107,7 @@ impl Operand {
         }
     }
 
-    /// An integer without a sign.
+    /// An unsigned integer.
     pub fn unsigned(word: &str) -> Option<Operand> {
         match number_of(word) {
             Some(number) => Some(Operand::Unsigned(number)),
@@ -123,7 +123,7 @@ impl Operand {
         }
     }
 
-    /// The payload of a NaN, which may be none.
+    /// The payload of a NaN, or none.
     pub fn payload(word: &str) -> Option<Operand> {
         match bits_of(word, 128) {
             Some(bits) => Some(Operand::Payload(Some(bits))),

@@ -4,16 +4,17 @@
 //! times 2^70 quanta, `+0q` and `-0q` are the zeros, `+inf` is an infinity, and `-nan:2a` and `-snan:2a` are the quiet
 //! and the signaling NaN with a payload in hexadecimal digits.
 //!
-//! Calls that read no text decide whether a value is that of a word: a number, scaled by a power of two (`scalbn`),
-//! has to become (`to_u128`) the odd part of the count; zeros and infinities are recognised by their class, and NaNs
-//! by comparison with those of `qnan` and `snan`. An operand is made by calls too, and then recognised in this way.
+//! Whether a value is that of a word is decided without reading texts: a number, scaled by a power of two (`scalbn`),
+//! has to convert (`to_u128`) to the odd part of the count; zeros and infinities are recognized by their category, and
+//! NaNs by comparison with the results of `qnan` and `snan`. Operands are made by calls too, and then checked in the
+//! same way.
 
 use crate::text::Text;
 use commands::{bits_of, number_of};
 use rustc_apfloat::{Category, ExpInt, Flags, Float};
 use std::fmt::Write;
 
-/// What a word stands for.
+/// The value that a word spells.
 #[derive(Clone, Copy)]
 pub struct Quanta {
     is_negative: bool,
@@ -33,7 +34,7 @@ pub enum Magnitude {
 }
 
 impl Quanta {
-    /// What a word stands for, if it has the form of a value.
+    /// The value that a word spells, if it has the form of a value.
     pub fn named(word: &str) -> Option<Quanta> {
         if let Some(magnitude) = word.strip_prefix('-') {
             return signed(true, Magnitude::named(magnitude));
@@ -44,7 +45,7 @@ impl Quanta {
         }
     }
 
-    /// The value that this stands for, if there is one.
+    /// The value in the type `F`, if the type has it.
     pub fn value<F: Float>(self) -> Option<F> {
         let Some(x) = self.magnitude.value::<F>() else {
             return None;
@@ -53,13 +54,13 @@ impl Quanta {
         if self.is_of(x) { Some(x) } else { None }
     }
 
-    /// Whether this stands for the value.
+    /// Whether this is the value `x`.
     pub fn is_of<F: Float>(self, x: F) -> bool {
         x.is_negative() == self.is_negative && self.magnitude.is_of(x.abs())
     }
 }
 
-/// A sign with a magnitude, if there is one.
+/// A magnitude with a sign, if there is a magnitude.
 fn signed(is_negative: bool, magnitude: Option<Magnitude>) -> Option<Quanta> {
     match magnitude {
         Some(magnitude) => Some(Quanta {
@@ -84,7 +85,7 @@ pub fn text_of<F: Float>(x: F) -> Option<Text> {
     }
 }
 
-/// A sign, and the rest of a word.
+/// The word made of a sign and a magnitude.
 fn joined(sign: &str, magnitude: &str) -> Option<Text> {
     let mut text = Text::of(sign);
     match text.write_str(magnitude) {
@@ -106,7 +107,7 @@ fn text_of_count(sign: &str, number: u128, power: ExpInt) -> Option<Text> {
     }
 }
 
-/// A count as one number, if it is below 2^63.
+/// A count as a single number, if it is below 2^63.
 fn short(number: u128, power: ExpInt) -> Option<i64> {
     let Ok(number) = i64::try_from(number) else {
         return None;
@@ -143,7 +144,7 @@ fn exponent_of(precision: usize, min_exp: ExpInt, power: ExpInt) -> Option<ExpIn
     }
 }
 
-/// The exponent that makes 1 of `2^power` quanta of such a format.
+/// The exponent that scales `2^power` quanta of such a format to 1.
 fn exponent_to_count(precision: usize, min_exp: ExpInt, power: ExpInt) -> Option<ExpInt> {
     match exponent_of(precision, min_exp, power) {
         Some(exponent) => exponent.checked_neg(),
@@ -205,7 +206,7 @@ impl Magnitude {
         }
     }
 
-    /// The magnitude of a number times a power of two, if there are both.
+    /// The magnitude of a number times a power of two, if both exist.
     fn of_count(number: Option<u128>, power: Option<ExpInt>) -> Option<Magnitude> {
         let (Some(number), Some(power)) = (number, power) else {
             return None;
@@ -260,7 +261,7 @@ fn has_count<F: Float>(x: F, number: u128, power: ExpInt) -> bool {
     integer.status.is_empty() && integer.value == number
 }
 
-/// The exponent that a word stands for.
+/// The exponent that a word spells.
 fn exponent_named(word: &str) -> Option<ExpInt> {
     match word.parse() {
         Ok(exponent) => Some(exponent),

@@ -7,15 +7,15 @@ use std::fmt;
 /// What is wrong with a line.
 #[derive(Clone, Copy)]
 pub enum RowError<'a> {
-    /// It is not UTF-8.
+    /// The line is not UTF-8.
     Encoding,
-    /// It has this many columns.
+    /// The line has this many columns.
     Columns(usize),
-    /// It has this many words, where a line has the second number.
+    /// The line has the first number of words, and should have the second.
     Numbers(usize, usize),
-    /// A word is wrong: how, the word, and what is expected.
+    /// A word is wrong: what is wrong, the word, and what is expected.
     Word(&'static str, &'a str, &'static str),
-    /// A word has too many bits: how it is wrong, the word, how many bits it has, and how many it may have.
+    /// A word has too many bits: what is wrong, the word, its number of bits, and the greatest number allowed.
     Bits(&'static str, &'a str, u32, usize),
 }
 
@@ -42,7 +42,7 @@ impl fmt::Display for RowError<'_> {
     }
 }
 
-/// The error of a word that is not bits of this width.
+/// The error for a word that does not spell bits of this width.
 pub fn bits_error<'a>(fault: &'static str, word: &'a str, width: usize) -> RowError<'a> {
     match bits_of(word, 128) {
         Some(bits) if bits > mask(width) => {

@@ -1,4 +1,4 @@
-//! The formats of rows, and calls in them.
+//! The formats that rows can name, and calls in them.
 
 use crate::table::found;
 use custom_formats::{
@@ -11,9 +11,9 @@ use formats_at_run_time::{
 use rustc_apfloat::ieee::{Flagged, Semantics};
 use rustc_apfloat::ppc::{FallbackExtendedS, FallbackS};
 
-/// A call that can be made in every format, with bits or without, whatever flags its roundings raise.
+/// A call that can be made in every format, with bits or without, under any rule of flags.
 pub trait CallInFormat {
-    /// What it returns.
+    /// What the call returns.
     type Output;
 
     /// Makes the call in the format `S`.
@@ -43,9 +43,9 @@ impl<C: CallInFormat> InFlaggedFormat for WithBits<C> {
 /// A format that rows can name.
 #[derive(Clone, Copy)]
 pub enum RowFormat {
-    /// A built-in format with bits, and the same with its rule of flags.
+    /// A built-in format with bits, alone and with its rule of flags.
     BuiltIn(BuiltInFormat, FlaggedFormat),
-    /// One of the others.
+    /// Another format.
     Other(OtherFormat),
 }
 
@@ -92,7 +92,7 @@ impl RowFormat {
         }
     }
 
-    /// Whether roundings raise the flags of the built-in formats.
+    /// Whether the format has the rule of flags of the built-in formats.
     pub fn is_plain(self) -> bool {
         match self {
             RowFormat::BuiltIn(_, FlaggedFormat::BuiltIn(_)) | RowFormat::Other(_) => true,
@@ -100,12 +100,12 @@ impl RowFormat {
         }
     }
 
-    /// How many bits the format has, if it has bits.
+    /// The width of the format in bits, if it has bits.
     pub fn width(self) -> Option<usize> {
         self.run_plain(Width)
     }
 
-    /// Makes a call in the format with the flags of the built-in formats.
+    /// Makes a call in the format, with the flags of the built-in formats.
     pub fn run_plain<C: CallInFormat + Drop>(self, call: C) -> C::Output {
         match self {
             RowFormat::BuiltIn(format, _) => format.run(WithBits(call)),
@@ -122,7 +122,7 @@ impl RowFormat {
     }
 }
 
-/// How many bits a format has, if it has bits.
+/// The call that returns the width of a format in bits, if it has bits.
 #[derive(Drop)]
 struct Width;
 

@@ -1,6 +1,6 @@
 //! Tables of words.
 
-/// What the table has for a word.
+/// The entry for a word, if there is one.
 pub fn found<T: Copy>(table: &[(&str, T)], word: &str) -> Option<T> {
     for (known, meant) in table {
         if *known == word {

@@ -1,7 +1,7 @@
 //! Lines of Berkeley TestFloat, as `testfloat_gen` writes them for one of its functions: the operands, the result and
 //! the flags, in hexadecimal digits, separated by single spaces.
 //!
-//! Flags are those that processors raise, so the formats are those of IEEE 754-2008 with its rules of flags.
+//! Flags are those that processors raise, so the formats have the rule of flags of IEEE 754-2008.
 
 use crate::columns::{Columns, LineCall, is_nan};
 use crate::row_error::RowError;
@@ -13,10 +13,10 @@ use std::fmt::Write as _;
 use std::io;
 use std::io::Write;
 
-/// What an operand or a result of a function is.
+/// The kind of an operand or a result of a function.
 #[derive(Clone, Copy)]
 enum Kind {
-    /// A value of a format: its word, how many bits it has, and the bits of its infinity.
+    /// A value of a format: the word of the format, its width in bits, and the bits of its infinity.
     Float(&'static str, usize, u128),
     /// An unsigned integer of this many bits.
     Unsigned(usize),
@@ -24,7 +24,7 @@ enum Kind {
     Signed(usize),
 }
 
-/// The kinds by their words in the names of functions.
+/// The kinds, by their words in the names of functions.
 static KINDS: &[(&str, Kind)] = &[
     ("f16", Kind::Float("half", 16, 0x7c00)),
     ("f32", Kind::Float("single", 32, 0x7f80_0000)),
@@ -37,8 +37,8 @@ static KINDS: &[(&str, Kind)] = &[
     ("i64", Kind::Signed(64)),
 ];
 
-/// The operations on values of one format by their words in the names of functions: the call, and how many operands
-/// it has.
+/// The operations on values of one format, by their words in the names of functions: the call, and the number of its
+/// operands.
 static OPERATIONS: &[(&str, (&str, usize))] = &[
     ("add", ("add_r", 2)),
     ("sub", ("sub_r", 2)),
@@ -59,7 +59,7 @@ static ROUNDINGS: &[(&str, &str)] = &[
     ("-rnear_maxMag", "away"),
 ];
 
-/// A function of TestFloat, and how it rounds: what the lines of a file are about.
+/// The function of TestFloat that the lines of a file test, and how it rounds.
 #[derive(Clone, Copy)]
 pub struct TestFloat {
     call: &'static str,
@@ -73,8 +73,8 @@ pub struct TestFloat {
 }
 
 impl TestFloat {
-    /// The function of this name. It rounds to the nearest, ties to even, and finds results tiny after rounding;
-    /// integral values and integers do not raise the inexact flag, and each bit of a NaN matters.
+    /// The function of this name, with TestFloat's defaults: rounding to nearest, ties to even, tininess detected after
+    /// rounding, and the inexact flag not compared for integral values and integers. All bits of a NaN are compared.
     pub fn named(name: &str) -> Option<TestFloat> {
         if let Some((source, target)) = name.split_once("_to_") {
             return conversion(found(KINDS, source), found(KINDS, target));
@@ -87,7 +87,7 @@ impl TestFloat {
         }
     }
 
-    /// The function that makes a call of so many operands of a kind.
+    /// The function that makes a call on `operand_count` operands of a kind.
     fn of(call: &'static str, operand: Kind, operand_count: usize, given: Kind) -> TestFloat {
         TestFloat {
             call,
@@ -101,7 +101,7 @@ impl TestFloat {
         }
     }
 
-    /// The function with an option of TestFloat, or `--any-nan`.
+    /// The function with an option of TestFloat or `--any-nan`, if there is such an option.
     pub fn with(self, option: &str) -> Option<TestFloat> {
         let mut changed = self;
         match option {
@@ -163,7 +163,7 @@ impl TestFloat {
         writeln!(out, "  given: {result:0digits$X} {flags:02X}")
     }
 
-    /// The result without the bits above its width, which a negative integer has.
+    /// The result without the bits above its width, which are set in a negative integer.
     fn cut_to_width(self, given: Columns) -> Columns {
         Columns {
             result: given.result & mask(width_of(self.result)),
@@ -171,7 +171,7 @@ impl TestFloat {
         }
     }
 
-    /// Whether the flags are the same, or differ only in the inexact one, and that is not compared.
+    /// Whether the flags are the same, or differ only in the inexact flag where that is not compared.
     fn flags_agree(self, given: Columns, stated: Columns) -> bool {
         match given.flags ^ stated.flags {
             0 => true,
@@ -188,8 +188,8 @@ impl TestFloat {
         }
     }
 
-    /// Whether two results are the same, or need not be. An invalid conversion to an integer has a result of its own
-    /// on each processor, and TestFloat does not compare it either.
+    /// Whether two results are the same, or are not compared. The result of an invalid conversion to an integer depends
+    /// on the processor, and TestFloat does not compare it either.
     fn results_agree(self, given: Columns, stated: Columns) -> bool {
         if given.result == stated.result {
             return true;
@@ -220,7 +220,7 @@ impl TestFloat {
         }
     }
 
-    /// The result and the flags that two words stand for.
+    /// The result and the flags that two words spell.
     fn stated<'a>(self, value: &'a str, flags: &'a str) -> Result<Columns, RowError<'a>> {
         match (bits_of(value, width_of(self.result)), bits_of(flags, 5)) {
             (None, _) => Err(RowError::Word("no result", value, "hexadecimal digits of its width")),
@@ -229,7 +229,7 @@ impl TestFloat {
         }
     }
 
-    /// The call on operands, if these words are operands.
+    /// The call on these operands, if they are well-formed.
     fn call_on(self, operands: &str) -> Option<LineCall> {
         match self.words(operands) {
             Some(words) => Some(LineCall {
@@ -260,7 +260,7 @@ impl TestFloat {
         }
     }
 
-    /// The operands as a row has them: integers in decimal digits, and the width of an integer as a result.
+    /// The operands as a row has them: integers in decimal digits, and the width if the result is an integer.
     fn words(self, operands: &str) -> Option<Text> {
         match (self.operand, self.result) {
             (Kind::Unsigned(width), _) => decimal(bits_of(operands, width)),
@@ -271,7 +271,7 @@ impl TestFloat {
     }
 }
 
-/// The error of operands that the function does not take.
+/// The error for operands that the function does not take.
 fn operand_error(operands: &str) -> RowError<'_> {
     RowError::Word(
         "no operands of the function",
@@ -280,7 +280,7 @@ fn operand_error(operands: &str) -> RowError<'_> {
     )
 }
 
-/// The function that converts one kind to another, if there are both.
+/// The function that converts one kind to another, if both exist.
 fn conversion(source: Option<Kind>, target: Option<Kind>) -> Option<TestFloat> {
     let (Some(source), Some(target)) = (source, target) else {
         return None;
@@ -291,7 +291,7 @@ fn conversion(source: Option<Kind>, target: Option<Kind>) -> Option<TestFloat> {
     }
 }
 
-/// The function of a call and its count of operands, all of one kind, if there are both.
+/// The function that makes a call on operands of one kind, if the kind and the call exist.
 fn operation_on(kind: Option<Kind>, operation: Option<(&'static str, usize)>) -> Option<TestFloat> {
     match (kind, operation) {
         (Some(kind), Some((call, count))) => Some(TestFloat::of(call, kind, count, kind)),
@@ -311,14 +311,14 @@ fn call_between(source: Kind, target: Kind) -> Option<&'static str> {
     }
 }
 
-/// How many bits a value of a kind has.
+/// The width of a value of a kind in bits.
 fn width_of(kind: Kind) -> usize {
     match kind {
         Kind::Float(_, width, _) | Kind::Unsigned(width) | Kind::Signed(width) => width,
     }
 }
 
-/// The text before the last two words of a line, and these words.
+/// The text before the last two words of a line, and the two words.
 fn last_two_words(line: &str) -> Option<(&str, &str, &str)> {
     let Some((others, last)) = line.rsplit_once(' ') else {
         return None;
@@ -337,7 +337,7 @@ fn decimal(number: Option<u128>) -> Option<Text> {
     }
 }
 
-/// The integer that bits of this width stand for in two's complement, in decimal digits, if there are bits.
+/// The integer that bits of this width represent in two's complement, in decimal digits; `None` without bits.
 fn signed_decimal(bits: Option<u128>, width: usize) -> Option<Text> {
     let Some(bits) = bits else {
         return None;
@@ -357,7 +357,7 @@ fn with_width(text: &str, width: usize) -> Option<Text> {
     }
 }
 
-/// The integer that bits of this width stand for in two's complement.
+/// The integer that bits of this width represent in two's complement.
 fn signed(bits: u128, width: usize) -> Option<i128> {
     let mask = mask(width);
     if bits <= mask >> 1 {

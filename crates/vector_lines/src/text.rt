@@ -1,9 +1,9 @@
-//! Short texts, without memory of their own.
+//! Short texts that need no allocation.
 
 use std::fmt::{Debug, Write};
 use std::{fmt, str};
 
-/// A text of at most 128 bytes: no type shows more by `Debug`, and no refusal is longer.
+/// A text of at most 128 bytes, which has room for the `Debug` output of each type and for every refusal.
 #[derive(Clone, Copy)]
 pub struct Text {
     bytes: [u8; 128],
@@ -11,7 +11,7 @@ pub struct Text {
 }
 
 impl Text {
-    /// A copy of a text, which has room.
+    /// A copy of a text that fits.
     pub fn of(text: &str) -> Text {
         let (bytes, length) = ([0; 128], 0);
         let mut copy = Text { bytes, length };
@@ -19,7 +19,7 @@ impl Text {
         copy
     }
 
-    /// A copy of a text, if it has room.
+    /// A copy of a text, if it fits.
     pub fn whole(text: &str) -> Option<Text> {
         let mut copy = Text::of("");
         match copy.write_str(text) {
@@ -28,7 +28,7 @@ impl Text {
         }
     }
 
-    /// Copies of texts, one after the other, which have room together.
+    /// The concatenation of texts that fit together.
     pub fn of_parts(parts: &[&str]) -> Text {
         let mut text = Text::of("");
         for part in parts {
@@ -61,7 +61,7 @@ impl fmt::Write for Text {
     }
 }
 
-/// What `Debug` shows.
+/// The text that `Debug` shows.
 pub fn shown<T: Debug + Copy>(x: T) -> Text {
     let mut text = Text::of("");
     let _ = write!(text, "{x:?}");

@@ -1,6 +1,6 @@
 //! Widths in bits.
 
-/// As many bits 1 as the width says.
+/// A mask of the lowest `width` bits.
 pub fn mask(width: usize) -> u128 {
     if width < 128 {
         !(u128::MAX << width as u32)

@@ -1,4 +1,4 @@
-//! How a row of a call is checked: the call is made, and what it returns is compared with the row.
+//! Checks rows of calls: the call is made, and what it returns is compared with the row.
 
 use crate::call_row::CallRow;
 use crate::fault::takes_mode;
@@ -11,7 +11,7 @@ use std::io;
 use std::io::Write;
 use vector_lines::{Call, CallFault, Operands, Quanta};
 
-/// The modes, with what follows `given` where a row is shown in them.
+/// The modes, with the text that follows `given` in messages.
 static MODES: &[(&str, Round)] = &[
     (" in even", Round::NearestTiesToEven),
     (" in up", Round::TowardPositive),
@@ -20,7 +20,7 @@ static MODES: &[(&str, Round)] = &[
     (" in away", Round::NearestTiesToAway),
 ];
 
-/// Whether a row agrees, in each mode that it names.
+/// Whether a row agrees in each mode that it names.
 pub fn agrees(row: CallRow<'_>) -> Result<bool, CallFault> {
     match Asked::of(row.call, row.format, row.mode, row.operands, row.value) {
         Ok(asked) => asked.agrees(row.value, row.status, row.extra),
@@ -28,7 +28,7 @@ pub fn agrees(row: CallRow<'_>) -> Result<bool, CallFault> {
     }
 }
 
-/// Writes what a row expects, and what the call returns in each mode of the row in which that differs.
+/// Writes what a row expects, and what the call returns in each mode of the row in which they differ.
 pub fn write_answers<W: Write>(row: CallRow<'_>, out: &mut W) -> io::Result<()> {
     let (value, status, extra) = (row.value, row.status, row.extra);
     writeln!(out, "  expected: {value}\t{status}\t{extra}")?;
@@ -38,22 +38,22 @@ pub fn write_answers<W: Write>(row: CallRow<'_>, out: &mut W) -> io::Result<()> 
     }
 }
 
-/// What a row asks for.
+/// The call that a row asks for.
 #[derive(Clone, Copy)]
 pub struct Asked<'a> {
     formats: Formats,
     call: Call,
     operands: Operands,
-    // The operands as they are written, since one may be a text.
+    // The operands as written, since the operand may be a text.
     text: &'a str,
     // The value that the row states, in a format without bits.
     stated: Option<Quanta>,
-    // The mode, or none for each of them.
+    // The mode, or `None` for all modes.
     round: Option<Round>,
 }
 
 impl<'a> Asked<'a> {
-    /// What these columns of a row ask for, if there is such a call.
+    /// The call that these columns of a row ask for, or the fault of a column.
     pub fn of(
         name: &str,
         format: &str,
@@ -83,7 +83,7 @@ impl<'a> Asked<'a> {
         }
     }
 
-    /// What the call returns; in the mode to nearest, ties to even, if each mode is asked for.
+    /// What the call returns; to nearest, ties to even, if all modes are asked for.
     pub fn answer(self) -> Answered {
         self.answer_in(self.round.unwrap_or(Round::NearestTiesToEven))
     }
@@ -99,7 +99,7 @@ impl<'a> Asked<'a> {
         answered(self.formats, request, self.text)
     }
 
-    /// Whether the call returns what these columns say, in each mode.
+    /// Whether the call returns what these columns state, in each mode.
     fn agrees(self, value: &str, status: &str, extra: &str) -> Result<bool, CallFault> {
         if let Some(round) = self.round {
             return agree(self.answer_in(round), value, status, extra);
@@ -114,7 +114,7 @@ impl<'a> Asked<'a> {
         Ok(all_agree)
     }
 
-    /// Writes what the call returns in each mode in which that is not what these columns say.
+    /// Writes what the call returns, in each mode in which that is not what these columns state.
     fn write_given<W: Write>(
         self,
         value: &str,
@@ -132,7 +132,7 @@ impl<'a> Asked<'a> {
     }
 }
 
-/// Whether an answer is what these columns say.
+/// Whether an answer is what these columns state.
 fn agree(answer: Answered, value: &str, status: &str, extra: &str) -> Result<bool, CallFault> {
     match answer {
         Ok(answer) => answer.is_of(value, status, extra),
@@ -140,7 +140,7 @@ fn agree(answer: Answered, value: &str, status: &str, extra: &str) -> Result<boo
     }
 }
 
-/// Writes an answer, after a label, unless it is what these columns say.
+/// Writes an answer, after a label, unless it is what these columns state.
 fn write_other<W: Write>(
     answer: Answered,
     value: &str,
@@ -160,7 +160,8 @@ fn write_other<W: Write>(
     out.write_all(b"\n")
 }
 
-/// The mode of a row, if it is one that its call takes, or none for each mode. A call without one gets any.
+/// The mode of a row, with `Some(None)` for all modes; `None` if the call does not take it. A call without a mode gets
+/// an arbitrary one.
 fn mode_of(word: &str, takes_mode: bool) -> Option<Option<Round>> {
     match word {
         "any" if takes_mode => Some(None),

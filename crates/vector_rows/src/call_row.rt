@@ -1,4 +1,4 @@
-//! Rows of calls: their seven columns.
+//! Rows of calls, in seven columns.
 
 ghost use Rattle.std.specs.Prelude.{◌≡◌, ◌++◌, ◌∷◌};
 ghost use Rattle.std.specs.Option.{IfSome};
@@ -10,11 +10,11 @@ pub struct CallRow<'a> {
     pub call: &'a str,
     /// The format, or `SOURCE>TARGET` of a conversion.
     pub format: &'a str,
-    /// The rounding mode, `any` for each mode, or `-` for a call without one.
+    /// The rounding mode, `any` for all modes, or `-` for a call without one.
     pub mode: &'a str,
     /// The operands, separated by single spaces, or a text.
     pub operands: &'a str,
-    /// The value, or the words of a refusal.
+    /// The value, or the message of a refusal.
     pub value: &'a str,
     /// The names of the flags, `OK` for none, `-` for a call without a status, or `ParseError` for a refusal.
     pub status: &'a str,

@@ -1,4 +1,4 @@
-//! Checks the lines of an input, one at a time, counts them, and reports how far it has come.
+//! Checks the lines of an input one at a time, counts them, and reports progress.
 
 use crate::asked::{agrees, write_answers};
 use crate::call_row::{CallRow, row_of};
@@ -13,16 +13,16 @@ use std::time::Instant;
 use std::{fmt, io, str};
 use vector_lines::RowError;
 
-/// How many seconds pass before the first message on how far the check has come, and between two of them.
+/// Seconds before the first progress message, and between two of them.
 const SECONDS: u64 = 3;
 
-/// How many lines are read between two looks at the clock.
+/// Lines read between two readings of the clock.
 const LINES: u64 = 1024;
 
-/// What some editors write before the first line of a file in UTF-8.
+/// The byte order mark, which some editors write at the start of a file in UTF-8.
 const BYTE_ORDER_MARK: &[u8] = b"\xef\xbb\xbf";
 
-/// A check, and how far it has come.
+/// A check in progress.
 #[derive(Drop)]
 pub struct Check {
     alloc: Global,
@@ -31,19 +31,19 @@ pub struct Check {
     summary: Summary,
 }
 
-/// What a check has to do.
+/// The options of a check.
 #[derive(Clone, Copy)]
 pub struct Task {
-    /// What the lines are.
+    /// The kind of lines.
     pub lines: Lines,
-    /// Whether only counts are written, by call and format.
+    /// Whether only counts by call and format are written.
     pub is_summary: bool,
-    /// How many rows may differ before the check ends, if there is a limit.
+    /// The number of differing rows after which the check ends, if it is limited.
     pub first: Option<u64>,
 }
 
 impl Task {
-    /// To check rows to the end, and to write those that differ.
+    /// The check of rows to the end, which writes those that differ.
     pub fn rows() -> Task {
         Task {
             lines: Lines::Rows,
@@ -53,7 +53,7 @@ impl Task {
     }
 }
 
-/// What the lines of an input are.
+/// The kinds of lines of an input.
 #[derive(Clone, Copy)]
 pub enum Lines {
     /// Rows.
@@ -65,7 +65,7 @@ pub enum Lines {
 }
 
 impl Lines {
-    /// The lines with an option of the program that writes such lines.
+    /// The same kind of lines with an option of the program that writes them, if there is such an option.
     pub fn with(self, option: &str) -> Option<Lines> {
         match self {
             Lines::Rows => None,
@@ -74,7 +74,7 @@ impl Lines {
         }
     }
 
-    /// Counts a line by its call and its format.
+    /// Counts a line under its call and its format.
     fn count(self, text: &str, agrees: bool, summary: &mut Summary) -> Result<(), AllocError> {
         match self {
             Lines::Rows => summary.count_row(text, agrees),
@@ -85,7 +85,7 @@ impl Lines {
 }
 
 impl Check {
-    /// A check of no lines yet.
+    /// A check before the first line.
     pub fn new(task: Task, alloc: Global) -> Check {
         Check {
             alloc,
@@ -100,8 +100,8 @@ impl Check {
         self.tally
     }
 
-    /// Checks the lines of an input to its end. Differences and malformed lines are written to `out`, and from time to
-    /// time the count of lines to `err`. The memory for a line comes from `alloc`; it is that of the longest one.
+    /// Checks the lines of an input to its end. Differences and malformed lines are written to `out`, and progress to
+    /// `err`. The buffer for a line, as long as the longest one, is allocated from `alloc`.
     pub fn take<R: BufRead, A: Allocator, C: Clock, W: Write, V: Write>(
         &mut self,
         input: &mut R,
@@ -137,7 +137,7 @@ impl Check {
                 && seconds >= due
             {
                 due = seconds.saturating_add(SECONDS);
-                // It does no harm if this fails.
+                // A failure of this write is harmless.
                 let _ = writeln!(err, "check_vectors: {lines} lines after {seconds} seconds");
             }
         }
@@ -257,7 +257,7 @@ impl Check {
         Ok(())
     }
 
-    /// Counts a row, and writes it if it differs. Returns whether what is given has to be written too.
+    /// Counts a row, and writes it if it differs. Returns whether what the library gives has to be written too.
     fn takes_difference<W: Write>(
         &mut self,
         text: &str,
@@ -290,14 +290,14 @@ impl Check {
         Ok(writeln!(out, "line {number} malformed: {error}")?)
     }
 
-    /// Writes the counts by call and format, if they are asked for, and how many lines there were of each kind.
+    /// Writes the counts by call and format, if asked for, and the number of lines of each kind.
     pub fn write_counts<W: Write>(&self, out: &mut W) -> io::Result<()> {
         self.summary.write(out)?;
         writeln!(out, "{}", self.tally)
     }
 }
 
-/// Reads a line with its end. Returns how many bytes it has, which is 0 at the end of the input.
+/// Reads a line with its newline. Returns its length in bytes, which is 0 at the end of the input.
 fn read_line<R: BufRead, A: Allocator>(input: &mut R, line: &mut Vec<u8, A>) -> io::Result<usize> {
     let available = match input.fill_buf() {
         Ok(available) => available,
@@ -306,7 +306,7 @@ fn read_line<R: BufRead, A: Allocator>(input: &mut R, line: &mut Vec<u8, A>) -> 
             _ => return Err(error),
         },
     };
-    // Most lines are in the buffer as a whole.
+    // Most lines are in the buffer completely.
     let Some(end) = available.iter().position(|byte| *byte == b'\n') else {
         return input.read_until(b'\n', line);
     };
@@ -315,7 +315,7 @@ fn read_line<R: BufRead, A: Allocator>(input: &mut R, line: &mut Vec<u8, A>) -> 
     Ok(end + 1)
 }
 
-/// How many seconds have passed since a time. Without a clock there are none.
+/// The seconds since `start`; 0 without a clock.
 fn seconds_since(start: Option<Instant>, clock: &impl Clock) -> Option<u64> {
     Some(start?.elapsed(clock).ok()?.as_secs())
 }
@@ -325,13 +325,13 @@ fn increment(count: &mut u64) {
     *count = count.saturating_add(1);
 }
 
-/// A line without the characters that end it.
+/// A line without its newline or CR LF.
 fn without_end(line: &[u8]) -> &[u8] {
     let line = line.strip_suffix(b"\n").unwrap_or(line);
     line.strip_suffix(b"\r").unwrap_or(line)
 }
 
-/// How many lines of each kind there were.
+/// The number of lines of each kind.
 #[derive(Clone, Copy, Default)]
 pub struct Tally {
     /// Rows that agree with the library.
@@ -345,14 +345,14 @@ pub struct Tally {
 }
 
 impl Tally {
-    /// How many lines there were.
+    /// The number of all lines.
     pub fn lines(self) -> u64 {
         let well_formed = self.agreeing.saturating_add(self.differing);
         let others = self.malformed.saturating_add(self.skipped);
         well_formed.saturating_add(others)
     }
 
-    /// Whether there was nothing to check.
+    /// Whether there was no row to check.
     pub fn is_empty(self) -> bool {
         self.agreeing == 0 && self.differing == 0 && self.malformed == 0
     }

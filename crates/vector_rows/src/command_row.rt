@@ -1,4 +1,4 @@
-//! Rows of commands: each gets a reply as from the program `vectors`, which is compared with that of the row.
+//! Rows of commands: the reply that the program `vectors` gives is compared with that of the row.
 
 use crate::fault::width_of;
 use commands::{agrees, bits_of, run};
@@ -8,7 +8,7 @@ use std::alloc::{AllocError, Global};
 use std::{io, str};
 use vector_lines::{RowError, bits_error, mask, status_named};
 
-/// What a reply is, for messages.
+/// The form of a reply, for messages.
 const REPLY: &str = "bits and flags, as `5f40 OK`, or `refused: ` and a word";
 
 /// The formats of commands.
@@ -17,21 +17,21 @@ const FORMATS: &str = "half, single, double, quad, bfloat, e5m2, e4m3fn, e4m3fnu
 /// The modes of commands.
 const MODES: &str = "even, up, down, zero or away";
 
-/// How many words of a command are compared: one more than a command has.
+/// The number of words that are looked at: one more than a command has.
 const WORDS: usize = 7;
 
 /// A command and its reply.
 #[derive(Clone, Copy)]
 pub struct CommandRow<'a> {
-    /// The words of the command, separated by single spaces; `""` stands for an empty one.
+    /// The words of the command, separated by single spaces; an empty one is written `""`.
     pub command: &'a str,
-    /// The reply that is expected.
+    /// The expected reply.
     pub reply: &'a str,
 }
 
 impl<'a> CommandRow<'a> {
-    /// What is wrong with the row, if its reply has no form of one, or a reply other than a refusal belongs to a format
-    /// or a mode that does not exist.
+    /// What is wrong with the row, if its reply is malformed, or if the reply is a result although the format or the
+    /// mode does not exist.
     pub fn fault(self) -> Option<RowError<'a>> {
         if self.reply.starts_with("refused: ") {
             return None;
@@ -48,7 +48,7 @@ impl<'a> CommandRow<'a> {
         }
     }
 
-    /// What is wrong with a reply that has more bits than the format of its command, which no reply has.
+    /// What is wrong with a reply that has more bits than the format of its command.
     pub fn width_fault(self) -> Option<RowError<'a>> {
         let Some((format, _)) = self.command.split_once(' ') else {
             return None;
@@ -64,7 +64,7 @@ impl<'a> CommandRow<'a> {
         }
     }
 
-    /// Whether the reply to the command is the one that is expected, as the program writes it.
+    /// Whether the program replies to the command as expected.
     pub fn agrees(self) -> bool {
         let mut words = [""; WORDS];
         let mut count = 0;
@@ -78,7 +78,7 @@ impl<'a> CommandRow<'a> {
         agrees(&words[..count.min(WORDS)], self.reply)
     }
 
-    /// The reply to the command, with the end of its line, if it is another one than expected.
+    /// The reply to the command, with its newline, unless it is the expected one.
     pub fn wrong_reply(self, alloc: Global) -> io::Result<Option<Vec<u8>>> {
         let words = self.words(alloc)?;
         let given = reply_to(alloc, words.as_slice())?;
@@ -99,18 +99,18 @@ impl<'a> CommandRow<'a> {
     }
 }
 
-/// The reply to a command, with the end of its line.
+/// The reply to a command, with its newline.
 fn reply_to(alloc: Global, words: &[String]) -> io::Result<Vec<u8>> {
     let mut line = Vec::new(alloc);
     let mut refusal = Vec::new(alloc);
-    // A write to memory fails only if there is not enough of it.
+    // A write to memory fails only for lack of memory.
     if run(words, &mut line, &mut refusal) == 1 {
         return Err(io::Error::from(io::ErrorKind::OutOfMemory));
     }
     Ok(if line.is_empty() { refusal } else { line })
 }
 
-/// What is wrong with the mode, the second of the words of a command after its format, if there are more.
+/// What is wrong with the mode, the second word after the format, if another word follows it.
 fn mode_fault(words: &str) -> Option<RowError<'_>> {
     let Some((_, words)) = words.split_once(' ') else {
         return None;
@@ -123,7 +123,7 @@ fn mode_fault(words: &str) -> Option<RowError<'_>> {
     }
 }
 
-/// Whether a line of output has the bits and the flags of a reply, however these are written.
+/// Whether a line of output has the bits and the flags of a reply, however they are written.
 fn has_result(line: &[u8], reply: &str) -> bool {
     match (str::from_utf8(line), result_of(reply)) {
         (Ok(line), Some(expected)) => result_of(line.trim_end()) == Some(expected),
@@ -131,7 +131,7 @@ fn has_result(line: &[u8], reply: &str) -> bool {
     }
 }
 
-/// The bits and the flags of a reply that is no refusal.
+/// The bits and the flags of a reply that is not a refusal.
 fn result_of(reply: &str) -> Option<(u128, u8)> {
     let Some((bits, flags)) = reply.split_once(' ') else {
         return None;

@@ -17,7 +17,7 @@ use vector_lines::{
     CallFault, DecimalCall, ExtraField, Operand, Returned, RowAnswer, RowFormat, Text, ValueField,
 };
 
-/// What a call of decimals returns in a format, if that is a built-in one with its own flags.
+/// What a call of decimals returns in a format, if that is a built-in one with the flags of the built-in formats.
 pub fn in_decimals(format: RowFormat, call: DecimalCall, request: Request, text: &str) -> Answered {
     match format {
         RowFormat::BuiltIn(format, FlaggedFormat::BuiltIn(_)) => {
@@ -76,7 +76,7 @@ fn written<S: Semantics>(call: DecimalCall, request: Request) -> Answered
     }
 }
 
-/// The columns for a value rounded to a count of digits.
+/// The columns for a value rounded to `count` digits.
 fn rounded_columns<S: Semantics>(x: IeeeFloat<S>, count: Operand, round: Round) -> Answered
     requires { IsWithinQuad (format_of S.Semantics) }
 {

@@ -1,9 +1,9 @@
-//! What ends a check before the end of its input.
+//! Failures that end a check before the end of its input.
 
 use std::alloc::AllocError;
 use std::{fmt, io};
 
-/// What ended a check.
+/// The failure that ended a check.
 #[derive(Drop)]
 pub enum Failure {
     /// There was not enough memory.

@@ -1,15 +1,15 @@
-//! What is wrong with a row of a call.
+//! The errors of malformed rows of calls.
 
 use crate::call_row::CallRow;
 use crate::formats::Formats;
 use commands::bits_of;
 use vector_lines::{Call, CallFault, Form, Operand, RowError, bits_error};
 
-/// How a value is written, for messages.
+/// The form of a value, for messages.
 const VALUE: &str = "hexadecimal digits, or quanta as `+3q` in a format without bits";
 
 impl<'a> CallRow<'a> {
-    /// What is wrong, with the word that it is wrong with and what is expected.
+    /// The error for a fault of the row: the wrong word, and what is expected.
     pub fn error(self, fault: CallFault) -> RowError<'a> {
         match fault {
             CallFault::Call => RowError::Word(
@@ -42,10 +42,10 @@ impl<'a> CallRow<'a> {
     }
 }
 
-/// What values of a format without bits are, for messages.
+/// The form of values of a format without bits, for messages.
 const QUANTA: &str = "values of the format, in quanta as `+3q`";
 
-/// How many bits an operand in these formats has, if it has bits.
+/// The width of an operand in these formats, if it has bits.
 pub fn width_of(formats: &str) -> Option<usize> {
     match Formats::named(formats) {
         Some(formats) => formats.width(),
@@ -53,7 +53,7 @@ pub fn width_of(formats: &str) -> Option<usize> {
     }
 }
 
-/// What the operands of a call are.
+/// The form of the operands of a call.
 fn form_of(call: &str) -> Form {
     match Call::named(call) {
         Some(call) => call.form(),
@@ -61,7 +61,7 @@ fn form_of(call: &str) -> Form {
     }
 }
 
-/// The modes that a call takes.
+/// The modes that a call takes, for messages.
 fn modes(call: &str) -> &'static str {
     if takes_mode(call) {
         "even, up, down, zero, away or any"
@@ -75,7 +75,7 @@ pub fn takes_mode(call: &str) -> bool {
     call.ends_with("_r") || matches!(call, "round_to_integral" | "read_decimal" | "rounded")
 }
 
-/// The error of operands that do not have the form, by the first of them that is not a value.
+/// The error for operands that do not have this form, at the first of them that is not a value.
 fn operand_error(operands: &str, form: Form) -> RowError<'_> {
     let mut left = form.value_count();
     for word in operands.split(' ') {
@@ -90,7 +90,7 @@ fn operand_error(operands: &str, form: Form) -> RowError<'_> {
     RowError::Word("no operands of the call", operands, form.description())
 }
 
-/// The error of operands of which one is not a value of a format with that many bits, or without bits, by that one.
+/// The error for operands of which one is not a value of a format of this width, or without bits, at that operand.
 fn value_error(operands: &str, form: Form, width: Option<usize>) -> RowError<'_> {
     let Some(width) = width else {
         return RowError::Word("no operands of the call", operands, QUANTA);

@@ -1,4 +1,4 @@
-//! The calls of rows in their formats, and those that only some types have.
+//! The calls of rows in their formats, including those that only some types have.
 
 use crate::decimals::in_decimals;
 use crate::of_type::{Answered, Request, of_type, two_values, value_of};
@@ -43,7 +43,7 @@ impl Formats {
         }
     }
 
-    /// How many bits an operand has, if it has bits.
+    /// The width of an operand in bits, if it has bits.
     pub fn width(self) -> Option<usize> {
         match self {
             Formats::Pairs | Formats::FromPairs => Some(128),
@@ -61,7 +61,7 @@ impl Formats {
     }
 }
 
-/// What the call of a row returns in its formats. The text is its operand, if that is one.
+/// What the call of a row returns in its formats; `text` is its operand if that is a text.
 pub fn answered(formats: Formats, request: Request, text: &str) -> Answered {
     match formats {
         Formats::Pairs => of_type::<DoubleDouble>(request, text),
@@ -80,7 +80,7 @@ fn in_one_format(format: RowFormat, request: Request, text: &str) -> Answered {
     }
 }
 
-/// What a conversion returns. Each pair of formats takes code of its own, so only values of built-in formats are
+/// What a conversion returns. Each pair of formats has its own copy of the code, so only values of built-in formats are
 /// converted with the flags of IEEE 754.
 fn between(source: RowFormat, target: RowFormat, request: Request) -> Answered {
     match source {
@@ -164,7 +164,7 @@ fn of_format<S: Flagged>(request: Request, text: &str) -> Answered {
     }
 }
 
-/// What a call returns that only formats have.
+/// What a call that only formats have returns.
 fn of_format_alone<S: Flagged>(call: FormatCall, request: Request) -> Answered {
     match call {
         FormatCall::CFmodSteps => remainder_steps::<S>(request),
@@ -175,7 +175,7 @@ fn of_format_alone<S: Flagged>(call: FormatCall, request: Request) -> Answered {
     }
 }
 
-/// What a call returns that rounds once in a format of any precision, or a fused sum.
+/// What a product or a fused sum returns.
 fn rounded_once<S: Flagged>(
     call: FormatCall,
     request: Request,
@@ -194,7 +194,7 @@ fn rounded_once<S: Flagged>(
     }
 }
 
-/// What a call returns, with its status.
+/// A result with its status, or a fault of the row.
 type RoundedIn<S> = Result<StatusAnd<IeeeFloat<S>>, CallFault>;
 
 /// A product in a format of any precision.
@@ -232,7 +232,7 @@ fn fused_sum<S: Flagged>(operands: Operands, mode: Option<Round>) -> RoundedIn<S
     }
 }
 
-/// A remainder, with the steps that it takes and how many they are at most.
+/// A remainder, with the steps that it takes and their bound.
 fn remainder_steps<S: Flagged>(request: Request) -> Answered {
     let Some((x, y)) = two_values::<IeeeFloat<S>>(request.operands) else {
         return Err(CallFault::Operand);

@@ -1,10 +1,10 @@
-//! What the library returns for a line of another program's file, as numbers.
+//! What the library returns for a line of another program, as numbers.
 
 use crate::asked::Asked;
 use rustc_apfloat::{Flags, Status};
 use vector_lines::{Columns, LineCall, StatusField, ValueField};
 
-/// What a call returns, if there is such a call with a status.
+/// What a call returns, if it exists and returns a status.
 pub fn given(call: &LineCall) -> Option<Columns> {
     let (format, operands) = (call.format.as_str(), call.operands.as_str());
     let Ok(asked) = Asked::of(call.name, format, call.mode, operands, "-") else {

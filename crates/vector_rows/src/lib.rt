@@ -1,8 +1,8 @@
 //! Rows of test vectors, commands with their replies and calls with their results, and the program that checks them.
 //!
-//! `run` is the program `check_vectors`, given the arguments from the system; `docs/VECTORS.md` describes it. Each call
-//! of a row is made in its format, and what it returns is compared with the row. For the functions here only safety is
-//! proved, and that a row's columns are those of its line.
+//! `run` is the program `check_vectors`, given the arguments from the system; `docs/VECTORS.md` describes it. The call
+//! of each row is made in its format, and what it returns is compared with the row. Only safety is proved here, and
+//! that the columns of a row are those of its line.
 #![tactic(auto)]
 
 mod asked;

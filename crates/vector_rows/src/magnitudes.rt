@@ -7,7 +7,7 @@ use rustc_apfloat::ieee::{Double, Flagged, IeeeFloat};
 use rustc_apfloat::ppc::DoubleDouble;
 use std::cmp::Ordering;
 
-/// A type with a test for what `cmp_abs_normal` requires.
+/// A type with a test for the precondition of `cmp_abs_normal`.
 pub trait Magnitudes: Float {
     /// Whether the magnitudes can be compared.
     fn is_comparable(self, rhs: Self) -> bool
@@ -34,7 +34,7 @@ impl Magnitudes for DoubleDouble {
     }
 }
 
-/// The high part and the low one.
+/// The high and the low part.
 fn parts_of(x: DoubleDouble) -> (Double, Double)
     ensures high { result.0 ≡ x.high }
     ensures low { result.1 ≡ x.low }

@@ -12,7 +12,7 @@ use vector_lines::{
     WordCall, mask, shown,
 };
 
-/// What the call of a row returns, or what is wrong with the row.
+/// What the call of a row returns, or the fault of the row.
 pub type Answered = Result<RowAnswer, CallFault>;
 
 /// A call that a row asks for, in one mode.
@@ -20,7 +20,7 @@ pub type Answered = Result<RowAnswer, CallFault>;
 pub struct Request {
     /// The call.
     pub call: Call,
-    /// The mode, which matters only if the call takes one.
+    /// The mode, which is ignored if the call takes none.
     pub round: Round,
     /// The operands that are not texts.
     pub operands: Operands,
@@ -28,7 +28,7 @@ pub struct Request {
     pub stated: Option<Quanta>,
 }
 
-/// What a call returns. The text is its operand, if that is one.
+/// What a call returns; `text` is its operand if that is a text.
 pub fn of_type<F: ValueType + Magnitudes + Debug>(request: Request, text: &str) -> Answered {
     match request.call {
         Call::Constant(constant) => Ok(constant_of::<F>(constant, request.stated)),
@@ -81,7 +81,7 @@ fn constant_of<F: Float + Debug>(constant: Constant, stated: Option<Quanta>) -> 
     RowAnswer::of(returned, stated)
 }
 
-/// What a call of one value returns.
+/// What a call on one value returns.
 fn of_one_value<F: ValueType + Debug>(call: OneValueCall, request: Request) -> Answered {
     let Some(x) = value_of::<F>(request.operands.first) else {
         return Err(CallFault::Operand);
@@ -92,7 +92,7 @@ fn of_one_value<F: ValueType + Debug>(call: OneValueCall, request: Request) -> A
     }
 }
 
-/// What a call of one value returns, if the type has it.
+/// What a call on one value returns, if the type has the call.
 fn returned_of<F: ValueType + Debug>(
     call: OneValueCall,
     x: F,
@@ -148,7 +148,7 @@ fn has_property<F: Float>(property: Property, operand: Operand) -> Answered {
     Ok(RowAnswer::told(ValueField::Truth(holds)))
 }
 
-/// What a call of two values returns.
+/// What a call on two values returns.
 fn of_two_values<F: Magnitudes + Debug>(call: TwoValuesCall, request: Request) -> Answered {
     let Some((x, y)) = two_values::<F>(request.operands) else {
         return Err(CallFault::Operand);
@@ -159,7 +159,7 @@ fn of_two_values<F: Magnitudes + Debug>(call: TwoValuesCall, request: Request) -
     }
 }
 
-/// What a call of two values returns, if the type has it.
+/// What a call on two values returns, if the type has the call.
 fn returned_of_two<F: Magnitudes>(
     call: TwoValuesCall,
     x: F,
@@ -187,7 +187,7 @@ fn returned_of_two<F: Magnitudes>(
     }
 }
 
-/// What a call that rounds computes of two values, if the type has it.
+/// The result of a rounding call on two values, if the type has the call.
 fn computed<F: Float>(call: TwoValuesCall, x: F, y: F, round: Round) -> Option<StatusAnd<F>> {
     match call {
         TwoValuesCall::MulR | TwoValuesCall::Mul if !F::MULTIPLIES => None,
@@ -223,7 +223,7 @@ fn assigned<F: Float + Debug>(operator: AssigningOperator, request: Request) -> 
     Ok(RowAnswer::of(Returned::Value(value), request.stated))
 }
 
-/// What a call of a value and an integer returns.
+/// What a call on a value and an integer returns.
 fn of_value_and_integer<F: Float + Debug>(call: IntegerCall, request: Request) -> Answered {
     let Operand::Integer(integer) = request.operands.second else {
         return Err(CallFault::Operands);
@@ -242,7 +242,7 @@ fn of_value_and_integer<F: Float + Debug>(call: IntegerCall, request: Request) -
     }
 }
 
-/// A value as an integer, if the width is one.
+/// A value as an integer, if the width is a valid one.
 fn to_integer<F: Float>(
     call: IntegerCall,
     x: F,
@@ -294,7 +294,7 @@ fn to_signed<F: Float>(call: IntegerCall, x: F, width: usize, round: Round) -> R
     Returned::Integer(answer.status.and(ValueField::Signed(answer.value)), extra)
 }
 
-/// What a call of an integer or a payload returns.
+/// What a call on an integer or a payload returns.
 fn of_word<F: Float + Debug>(call: WordCall, request: Request) -> Answered {
     match from_word::<F>(call, request.operands.first, request.round) {
         Some(returned) => Ok(RowAnswer::of(returned, request.stated)),
@@ -302,7 +302,7 @@ fn of_word<F: Float + Debug>(call: WordCall, request: Request) -> Answered {
     }
 }
 
-/// The value of an integer, or a NaN with a payload or with none.
+/// The value of an integer, or a NaN with or without a payload.
 fn from_word<F: Float>(call: WordCall, operand: Operand, round: Round) -> Option<Returned<F>> {
     match (call, operand) {
         (WordCall::FromU128, Operand::Unsigned(number)) => {
@@ -323,7 +323,7 @@ fn from_word<F: Float>(call: WordCall, operand: Operand, round: Round) -> Option
     }
 }
 
-/// What a call of a text returns.
+/// What a call on a text returns.
 fn of_text<F: Float + Debug>(
     call: TextCall,
     text: &str,

@@ -1,4 +1,4 @@
-//! Lines of other programs' files, and what the library returns for them.
+//! Lines of other programs, and what the library returns for them.
 
 use crate::given::given;
 use crate::summary::Summary;
@@ -7,15 +7,15 @@ use std::io;
 use std::io::Write;
 use vector_lines::RowError;
 
-/// A function of TestFloat, and how it rounds: what the lines of a file are about.
+/// The function of TestFloat that the lines of a file test, and how it rounds.
 #[derive(Clone, Copy)]
 pub struct TestFloat {
     lines: vector_lines::TestFloat,
 }
 
 impl TestFloat {
-    /// The function of this name. It rounds to the nearest, ties to even, and finds results tiny after rounding;
-    /// integral values and integers do not raise the inexact flag, and each bit of a NaN matters.
+    /// The function of this name, with TestFloat's defaults: rounding to nearest, ties to even, tininess detected after
+    /// rounding, and the inexact flag not compared for integral values and integers. All bits of a NaN are compared.
     pub fn named(name: &str) -> Option<TestFloat> {
         match vector_lines::TestFloat::named(name) {
             Some(lines) => Some(TestFloat { lines }),
@@ -23,7 +23,7 @@ impl TestFloat {
         }
     }
 
-    /// The function with an option of TestFloat, or `--any-nan`.
+    /// The function with an option of TestFloat or `--any-nan`, if there is such an option.
     pub fn with(self, option: &str) -> Option<TestFloat> {
         match self.lines.with(option) {
             Some(lines) => Some(TestFloat { lines }),
@@ -43,7 +43,7 @@ impl TestFloat {
         }
     }
 
-    /// Counts a line by its call and its format.
+    /// Counts a line under its call and its format.
     pub fn count(self, agrees: bool, summary: &mut Summary) -> Result<(), AllocError> {
         let format = self.lines.format();
         summary.count(self.lines.call_name(), format.as_str(), agrees)
@@ -61,21 +61,21 @@ impl TestFloat {
     }
 }
 
-/// How lines of FPgen are read.
+/// How lines of FPgen are interpreted.
 #[derive(Clone, Copy)]
 pub struct Fpgen {
     lines: vector_lines::Fpgen,
 }
 
 impl Fpgen {
-    /// Lines whose results are found tiny after they are rounded.
+    /// Lines with tininess detected after rounding.
     pub fn new() -> Fpgen {
         Fpgen {
             lines: vector_lines::Fpgen::new(),
         }
     }
 
-    /// The lines with an option.
+    /// The same with this option, if there is such an option.
     pub fn with(self, option: &str) -> Option<Fpgen> {
         match self.lines.with(option) {
             Some(lines) => Some(Fpgen { lines }),
@@ -83,7 +83,8 @@ impl Fpgen {
         }
     }
 
-    /// Whether what the library returns agrees with a line, or nothing if the line says what a trap gets.
+    /// Whether what the library returns agrees with a line; `None` if the line states what is delivered to a trap
+    /// handler.
     pub fn agrees(self, line: &str) -> Result<Option<bool>, RowError<'_>> {
         let test = match self.lines.read(line) {
             Ok(Some(test)) => test,
@@ -96,7 +97,7 @@ impl Fpgen {
         }
     }
 
-    /// Counts a line by its call and its format.
+    /// Counts a line under its call and its format.
     pub fn count(self, line: &str, agrees: bool, summary: &mut Summary) -> Result<(), AllocError> {
         match self.lines.call_in(line) {
             Some((call, format)) => summary.count(call, format, agrees),

@@ -1,4 +1,4 @@
-//! What the program is asked to do, and how it ends.
+//! The arguments of the program, and how it ends.
 
 use crate::check::{Check, Lines, Task};
 use crate::failure::Failure;
@@ -7,7 +7,7 @@ use std::io::{BufRead, BufReader, BufWriter, ErrorKind, Read, Write};
 use std::rt::{Clock, Files};
 use std::{fs, io};
 
-/// What the program is for, what it reads and writes, and what its exit status means.
+/// The help: what the program is for, what it reads and writes, and what its exit status means.
 const HELP: &str = "\
 usage: check_vectors [FILE | --help]
        check_vectors [--summary] [--first N] [--testfloat FUNCTION | --fpgen] [OPTION..] [FILE]
@@ -67,7 +67,7 @@ pub fn run<R: Files + Clock + Input + AllocGlobal, W: Write, V: Write>(
 
 /// What the arguments ask for.
 enum Job<'a> {
-    /// To write what the program is for.
+    /// To write the help.
     Help,
     /// To check the lines of a file or of standard input.
     Check(Task, Option<&'a str>),
@@ -121,17 +121,17 @@ fn task_of(words: &[String]) -> Result<(Task, &[String]), WrongWord<'_>> {
     Ok((task, left))
 }
 
-/// What comes next among the words.
+/// The next of the words.
 enum NextOption<'a> {
-    /// An option: the task with it, and the words after it.
+    /// An option: the task with this option, and the words after it.
     Known(Task, &'a [String]),
-    /// An option whose count or function is wrong.
+    /// An option whose number or function is wrong.
     Wrong(WrongWord<'a>),
     /// No option.
     End,
 }
 
-/// What the next option adds to a task.
+/// The task with the next option.
 fn next_option(task: Task, words: &[String]) -> NextOption<'_> {
     match words {
         [] => NextOption::End,
@@ -152,7 +152,7 @@ fn next_option(task: Task, words: &[String]) -> NextOption<'_> {
     }
 }
 
-/// What the next option adds to a task if it says what the lines are, or is one of the program that writes them.
+/// The task with the next option, if that says what the lines are or is an option of the program that writes them.
 fn option_on_lines(task: Task, words: &[String]) -> NextOption<'_> {
     match words {
         [word, others @ ..] if word.as_str() == "--fpgen" => {
@@ -183,7 +183,7 @@ fn with_lines(task: Task, lines: Lines, others: &[String]) -> NextOption<'_> {
     NextOption::Known(Task { lines, ..task }, others)
 }
 
-/// The file that the last words name, or none for standard input.
+/// The file that the last words name, or `None` for standard input.
 fn file_of(words: &[String]) -> Result<Option<&str>, WrongWord<'_>> {
     match words {
         [] => Ok(None),
@@ -201,7 +201,7 @@ fn file_of(words: &[String]) -> Result<Option<&str>, WrongWord<'_>> {
     }
 }
 
-/// Reports arguments that could not be taken from the system. Returns the exit status.
+/// Reports that the system could not give the arguments. Returns the exit status.
 fn refuse<V: Write>(error: io::Error, err: &mut V) -> u8 {
     match error.kind() {
         ErrorKind::OutOfMemory => report("arguments", &Failure::Memory, err),
@@ -221,7 +221,7 @@ fn usage<V: Write>(err: &mut V) -> u8 {
     status_after(err.write_all(USAGE.as_bytes()), 2)
 }
 
-/// Writes what the program is for. Returns the exit status.
+/// Writes the help. Returns the exit status.
 fn help<W: Write, V: Write>(out: &mut W, err: &mut V) -> u8 {
     match out.write_all(HELP.as_bytes()) {
         Ok(()) => 0,
@@ -243,7 +243,7 @@ fn check_file<R: Files + Clock + AllocGlobal, W: Write, V: Write>(
     }
 }
 
-/// Checks what a reader of this name gives. Returns the exit status.
+/// Checks the lines from a reader; messages call it `name`. Returns the exit status.
 fn check_reader<R: Clock + AllocGlobal, I: Read + Drop, W: Write, V: Write>(
     rt: &R,
     name: &str,
@@ -258,7 +258,7 @@ fn check_reader<R: Clock + AllocGlobal, I: Read + Drop, W: Write, V: Write>(
     }
 }
 
-/// Checks the lines of an input of this name. Returns the exit status.
+/// Checks the lines of an input; messages call it `name`. Returns the exit status.
 pub fn check_lines<R: Clock + AllocGlobal, B: BufRead, W: Write, V: Write>(
     rt: &R,
     name: &str,
@@ -276,7 +276,7 @@ pub fn check_lines<R: Clock + AllocGlobal, B: BufRead, W: Write, V: Write>(
     if let Err(Failure::Output(error)) = ended {
         return report(name, &Failure::Output(error), err);
     }
-    // What was checked before a failure is counted too.
+    // The counts include what was checked before a failure.
     match (ended, write_counts(&check, &mut out)) {
         (_, Err(error)) => report(name, &Failure::from(error), err),
         (Err(failure), Ok(())) => report(name, &failure, err),
@@ -293,13 +293,13 @@ fn write_counts<W: Write>(check: &Check, out: &mut W) -> io::Result<()> {
     out.flush()
 }
 
-/// Reports what ended the program. Returns the exit status.
+/// Reports the failure that ended the program. Returns the exit status.
 fn report<V: Write>(name: &str, failure: &Failure, err: &mut V) -> u8 {
     let reported = writeln!(err, "check_vectors: {name}: {failure}");
     status_after(reported, failure.status())
 }
 
-/// The exit status after a write, which is 4 if that failed.
+/// The exit status after a write: 4 if it failed.
 fn status_after(written: io::Result<()>, status: u8) -> u8 {
     match written {
         Ok(()) => status,

@@ -1,8 +1,8 @@
-//! The operands of a row, by what its call takes.
+//! The operands of a row, in the form that its call takes.
 
 use vector_lines::{Form, Operand, Operands};
 
-/// The operands that a text has in a form; those that are texts stay in the row.
+/// The operands that a text spells, in this form; one that is a text stays in the row.
 pub fn operands_of(form: Form, text: &str) -> Option<Operands> {
     match form {
         Form::Nothing if text == "-" => Some(Operands::none()),

@@ -1,18 +1,18 @@
-//! How many rows of each call and format agree and differ.
+//! The counts of agreeing and differing rows, by call and format.
 
 use std::alloc::{AllocError, Global};
 use std::collections::BTreeMap;
 use std::io;
 use std::io::Write;
 
-/// The counts by call and format, in the order in which these first come.
+/// The counts by call and format, in the order in which these first occur.
 #[derive(Drop)]
 pub struct Summary {
     alloc: Global,
     groups: Vec<Group>,
-    // The group of the last row, where the next one is looked for first.
+    // The group of the last row, which is tried first for the next one.
     last: usize,
-    // Where the group of each call and format is, by both with a tab between them.
+    // The index of the group of each call and format, by both with a tab between them.
     places: BTreeMap<String, usize>,
 }
 
@@ -61,7 +61,7 @@ impl Summary {
         }
     }
 
-    /// Where the group of a call in a format is, which is added if there is none.
+    /// The index of the group of a call in a format, which is added if it does not exist.
     fn place_of(&mut self, call: &str, format: &str) -> Result<usize, AllocError> {
         let mut name = String::from_str(self.alloc, call)?;
         name.push('\t')?;
@@ -109,7 +109,7 @@ impl Group {
         }
     }
 
-    /// Whether it is that of a call in a format.
+    /// Whether this is the group of a call in a format.
     fn is_of(&self, call: &str, format: &str) -> bool {
         self.call.as_str() == call && self.format.as_str() == format
     }

@@ -1,8 +1,8 @@
-//! Computes one operation: `vectors FORMAT OP MODE A [B [C]]` prints the bits and the flags of the answer.
+//! Computes one operation: `vectors FORMAT OP MODE A [B [C]]` prints the bits and the flags of the result.
 //!
 //! The crate `commands` explains the arguments.
 //!
-//! The exit status is 0 for an answer, 2 for a refusal, 3 if there is not enough memory for the arguments, and 1 if a
+//! The exit status is 0 for a result, 2 for a refusal, 3 if there is not enough memory for the arguments, and 1 if a
 //! write fails or the arguments are not valid text.
 #![tactic(auto)]
 

@@ -1,4 +1,4 @@
-//! Runs of the program on writers that a test reads, or that fail.
+//! Runs of the program with writers that a test reads, or that fail.
 
 use crate::asserts::same;
 use commands::{Reply, command, run, run_given, write_line};
@@ -9,7 +9,7 @@ use std::io::{ErrorKind, Write};
 use std::process::Abort;
 use std::test::Fail;
 
-/// The words of a command that separates them with single spaces.
+/// The words of a command, which single spaces separate.
 fn words_of(alloc: Global, command: &str) -> Result<Vec<String>, AllocError> {
     let mut words = Vec::new(alloc);
     for word in command.split(' ') {
@@ -18,8 +18,8 @@ fn words_of(alloc: Global, command: &str) -> Result<Vec<String>, AllocError> {
     Ok(words)
 }
 
-/// Asserts that running a command writes this line to the right writer only, and returns the status of an answer or of
-/// a refusal.
+/// Asserts that a command writes this line to the right writer alone, and returns the status of a result or of a
+/// refusal.
 fn expect_reply<R: Abort + AllocGlobal>(rt: &R, command: &str, line: &str) -> Result<(), Fail> {
     let words = words_of(rt.alloc(), command)?;
     let mut out = Vec::new(rt.alloc());
@@ -36,7 +36,7 @@ fn expect_reply<R: Abort + AllocGlobal>(rt: &R, command: &str, line: &str) -> Re
     Ok(())
 }
 
-/// The bits, the count of digits and the bits of the status, or the refused word.
+/// The bits of the result, the number of their digits and the bits of the status; or the word of the refusal.
 fn reply_to(words: &[String]) -> Result<(u128, usize, u8), &str> {
     match command(words) {
         Reply::Line(bits, digits, status) => Ok((bits, digits, status.bits())),
@@ -58,7 +58,7 @@ fn replies_with_bits_digits_and_flags(rt: HostRuntime) -> Result<(), Fail> {
     Ok(())
 }
 
-/// Commands and what is written to a writer for them. A low part is the upper half of the digits.
+/// Commands and what is written for them. A low part is the upper half of the digits.
 static PAIRS: [(&str, &str); 5] = [
     (
         "dd add even 3ff0000000000000 3c90000000000000",
@@ -87,7 +87,7 @@ fn replies_with_pairs_of_doubles(rt: HostRuntime) -> Result<(), Fail> {
     Ok(())
 }
 
-/// Leading zeros are read, however many there are.
+/// Any number of leading zeros is read.
 #[test]
 fn reads_long_operands(rt: HostRuntime) -> Result<(), Fail> {
     let mut command = String::from_str(rt.alloc(), "half int even ")?;
@@ -100,7 +100,7 @@ fn reads_long_operands(rt: HostRuntime) -> Result<(), Fail> {
     Ok(())
 }
 
-/// A writer with room for a limited count of bytes, which takes one at each write.
+/// A writer with room for a limited number of bytes, which accepts one byte in each write.
 #[derive(Drop)]
 struct Failing {
     room: usize,
@@ -130,7 +130,7 @@ impl Write for Failing {
     }
 }
 
-/// A writer that takes everything in each call, and counts the calls.
+/// A writer that accepts everything, and counts the calls.
 #[derive(Drop)]
 struct Counting {
     calls: usize,
@@ -138,7 +138,7 @@ struct Counting {
 }
 
 impl Counting {
-    /// A writer that was not called yet.
+    /// A writer before the first call.
     fn new(alloc: Global) -> Counting {
         Counting {
             calls: 0,
@@ -158,7 +158,7 @@ impl Write for Counting {
     }
 }
 
-/// Asserts that a run on what the system gives calls its writers this often, and leaves these texts.
+/// Asserts that a run on what the system gives calls its writers this often, and writes these texts.
 fn expect_calls<R: Abort + AllocGlobal>(
     rt: &R,
     command: &str,
@@ -179,7 +179,7 @@ fn expect_calls<R: Abort + AllocGlobal>(
     Ok(())
 }
 
-/// Commands, and how often and what they write to each writer.
+/// Commands, and for each writer how often and what they write to it.
 static CALLS: [(&str, (usize, &str), (usize, &str)); 5] = [
     ("half int even 464", (1, "5f40 OK\n"), (0, "")),
     (
@@ -239,7 +239,7 @@ fn given_for(alloc: Global, command: &str) -> Result<io::Result<Vec<String>>, Al
     Ok(Ok(words_of(alloc, command)?))
 }
 
-/// Asserts that a run on writers with limited room leaves the first bytes of `on_out` and of `on_err` that fit, and
+/// Asserts that a run on writers with limited room writes the first bytes of `on_out` and of `on_err` that fit, and
 /// returns the status, or 1 if not all fit.
 fn expect_first_bytes<R: Abort + AllocGlobal>(
     rt: &R,

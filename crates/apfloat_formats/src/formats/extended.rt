@@ -7,10 +7,10 @@ ghost use Rattle.apfloat_model.proofs.formats.LawTest.{lawful_from_test};
 use apfloat_base::{ExpInt, NonfiniteBehavior};
 use apfloat_ieee::Semantics;
 
-/// The 80 bits of the x87, with an explicit integer bit.
+/// The 80-bit format of the x87, with an explicit integer bit.
 ///
-/// Encodings whose integer bit does not match their biased exponent are read too: a 1 with exponent 0 is part of a
-/// number, and a 0 with a greater exponent makes a NaN. A value is written with the matching bit.
+/// Encodings whose integer bit does not match their biased exponent can be read: a 1 with exponent 0 is a digit of a
+/// number (a pseudo-denormal), and a 0 with a greater exponent makes a NaN. Values are written with the matching bit.
 #[derive(Clone, Copy)]
 pub struct X87DoubleExtendedS;
 

@@ -67,7 +67,7 @@ impl Semantics for BFloatS {
     ghost lawful = { lawful_from_test _ refl };
 }
 
-/// Eight bits, five of them the exponents of binary16.
+/// Eight bits, five of them the exponent, with the exponents of binary16.
 #[derive(Clone, Copy)]
 pub struct Float8E5M2S;
 
@@ -187,7 +187,7 @@ impl Semantics for Float8E4M3FNS {
     ghost lawful = { lawful_from_test _ refl };
 }
 
-/// Eight bits without infinities and without a negative zero, whose encoding is the only NaN. The largest value is 240.
+/// Eight bits without infinities and a negative zero; the encoding of -0 is the only NaN. The largest value is 240.
 #[derive(Clone, Copy)]
 pub struct Float8E4M3FNUZS;
 

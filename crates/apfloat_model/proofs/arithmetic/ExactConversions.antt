@@ -13,7 +13,7 @@ use Rattle.apfloat_model.proofs.rounding.Deliveries.{signed_some}
 use Rattle.apfloat_model.proofs.rounding.Laws.{exact_delivered, delivered_once}
 use Rattle.apfloat_model.proofs.general.Choices.{same_sign_self}
 
--- a number that both formats have
+-- a number that both formats have is converted to itself
 number_exactly : (from into : Format) (mode : Round) (negative : Bool) (m n : ℕ) (value : Datum) (status : ℕ)
     (loses_info : Bool) → 0 < m → n * 2 ^ from.scale ≡ m * 2 ^ into.scale → IsFiniteOf into negative n
     → IsConvertedNumber from into mode negative m value status loses_info
@@ -31,7 +31,7 @@ number_exactly from into mode b m n value status loses_info l e t h =
       loses_is = h.loses_is ∙ ap (λ (s : ℕ). not (eqb s ok_bits)) o.1;
     }
 
--- a zero whose sign the format keeps
+-- a zero whose sign the format keeps is converted to itself
 zero_exactly : (format : Format) (negative : Bool) (value : Datum) (status : ℕ) (loses_info : Bool)
     → negative ≡ zero_sign format.nonfinite negative
     → IsKept (finite (zero_sign format.nonfinite negative) 0) (loses_zero_sign format negative) value status loses_info
@@ -46,7 +46,7 @@ zero_exactly format b value status loses_info z h =
           r.loses_is;
     }
 
--- each conversion keeps such a number and raises no flag
+-- the conversion of a finite datum that both formats have returns it unchanged, with no flag
 pub exactly_converted : (from into : Format) (mode : Round) (x value : Datum) (status : ℕ) (loses_info : Bool)
     → IsConversion from into mode x value status loses_info → IsExactlyConverted from into x value status loses_info
 exactly_converted from into mode (nan b s) value status loses_info h = tt

@@ -33,7 +33,7 @@ few_steps n fraction scale top d u h l z e =
     let k : n * 2 ^ d ≡ n * 2 ^ 0 = ap (λ (i : ℕ). n * 2 ^ i) z in
     power_below u n top (omega arith) h
 
--- from that of the quantum, -scale, to that of the power of two past all numbers
+-- the exponent is at least that of the quantum, -scale, and at most that of the power of two past all numbers
 pub record IsExponentWithin (format : Format) (exponent : ℤ) : Type 0 where
   pub low : neg_ℤ (pos format.scale) ≤ℤ exponent
   pub high : exponent ≤ℤ pos (format.precision + format.span)

@@ -24,7 +24,7 @@ product_stands sx sy a b ui uj di dj scale u d hx hy e =
     eq_of_mul-eq-mul_right (2 ^ di * 2 ^ dj) (mul-pos (pow_pos di) (pow_pos dj)) (a * b * 2 ^ d)
     (sx * sy * (2 ^ scale * 2 ^ u)) (l ∙ m ∙ regroup_product sx sy (2 ^ ui) (2 ^ uj) (2 ^ d) ∙ k ∙ r)
 
--- what is said of the quotient of two significands, and does not depend on its unit, is so of the quotient of the
+-- a property of the quotient of two significands that does not depend on the unit carries over to the quotient of the
 -- numbers of quanta
 pub quotient_carries : (Says : ℕ → ℕ → Type 0) (sx sy a b places ui uj di dj scale u d : ℕ)
     → ((amount unit w : ℕ) → 0 < w → Says amount unit → Says (amount * w) (unit * w))

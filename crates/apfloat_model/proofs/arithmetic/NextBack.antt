@@ -46,7 +46,7 @@ above_below precision n next p g b =
 
 -- ---- of a positive number
 
--- past the largest number is the infinity, if the format has one
+-- the value past the largest number is the infinity, if the format has one
 infinite_past : (kind : NonfiniteBehavior) (base : ℕ) → kind ≡ IEEE754 → past_largest kind base false ≡ infinite false
 infinite_past kind base e = rw e refl
 

@@ -1,4 +1,4 @@
--- A fraction that agrees with a square root at quarters of quanta is rounded as the root is.
+-- A fraction that agrees with a square root at quarters of quanta is rounded like the root.
 use Rattle.std.proofs.Common.{◌≡◌, ℕ, ◌+◌, ◌-◌, ◌*◌, ◌/◌, ◌%◌, ◌^◌, ◌<◌, ◌≤◌, Bool, true, false, not, ◌&&◌, ◌||◌, eqb, ltb, leb, cond, if◌then◌else◌, sym, refl, ap, ◌∙◌, ⊎_elim, arith}
 use Rattle.std.proofs.lemmas.Bool.{cases_lt, eq-eqb, ne_eqb, lt-ltb, le-ltb, le-leb, lt-leb, leb-false, ltb-true}
 use Rattle.apfloat_model.specs.declared.kinds.Round.{Round}
@@ -10,14 +10,14 @@ use Rattle.apfloat_model.specs.arithmetic.Roots.{IsBelowRoot, IsAboveRoot, IsRoo
 use Rattle.apfloat_model.proofs.rounding.Picks.{takes_less, takes_half, takes_more}
 use Rattle.apfloat_model.proofs.arithmetic.RootSides.{AgreesWithRoot, coarser}
 
--- what holds in each order of two numbers holds
+-- what holds in each of the three orders of two numbers holds
 by_order : (P : Type 0) (m n : ℕ) → (m < n → P) → (m ≡ n → P) → (n < m → P) → P
 by_order P m n l e g =
     ⊎_elim l (λ (h : n ≤ m). ⊎_elim g (λ (k : m ≤ n). e (omega arith)) (cases_lt n m)) (cases_lt m n)
 
 -- a fraction that agrees with the root at halves
 module _ (square amount parts : ℕ) (halves : AgreesWithRoot square 2 amount parts) where
-  -- so it does at whole quanta
+  -- a fraction that agrees with the root at halves agrees at whole quanta
   whole : AgreesWithRoot square 1 amount parts
   whole = coarser square 1 2 amount parts (omega arith) halves
 
@@ -30,7 +30,7 @@ module _ (square amount parts : ℕ) (halves : AgreesWithRoot square 2 amount pa
   point_more : (n : ℕ) → square < n * n → amount < n * parts
   point_more n h = let k = whole.more n (omega arith) in omega (arith, k)
 
-  -- and the other way round
+  -- the converse, at whole quanta
   not_above : (n : ℕ) → n * parts ≤ amount → n * n ≤ square
   not_above n h =
       ⊎_elim (λ (q : square < n * n). let k = point_more n q in absurd (omega (arith, k))) (λ q. q)
@@ -70,7 +70,7 @@ module _ (square amount parts : ℕ) (halves : AgreesWithRoot square 2 amount pa
     least = λ other g l. b.least other g (at_least other l);
   }
 
-  -- the mode takes the same of two neighbours
+  -- the mode picks the same of two neighbours for the fraction and for the root
   pub takes_same : (mode : Round) (below above : ℕ) (odd : Bool) → below * parts ≤ amount
       → amount ≤ above * parts
       → takes_above mode false (amount - below * parts) (above * parts - amount) odd
@@ -89,7 +89,7 @@ module _ (square amount parts : ℕ) (halves : AgreesWithRoot square 2 amount pa
       let k : amount * 2 < n * parts = halves.more n (omega arith) in
       takes_less mode false odd _ _ (omega arith) ∙ sym (takes_less mode false odd _ _ (omega arith)))
 
-  -- so the same is picked
+  -- the pick for the fraction is the pick for the root
   pub root_pick : (precision : ℕ) (mode : Round) (pick : ℕ) → IsPick precision mode false amount parts pick
       → IsRootPick precision mode square pick
   root_pick precision mode pick p = record {
@@ -103,7 +103,7 @@ module _ (square amount parts : ℕ) (halves : AgreesWithRoot square 2 amount pa
         p.is_above.not_below);
   }
 
-  -- a point tests as the fraction exactly if its square tests as that of the root
+  -- a point equals the fraction exactly if its square is that of the root
   exact_same : (n : ℕ) → eqb (n * parts) amount ≡ eqb (n * n) square
   exact_same n =
       by_order (eqb (n * parts) amount ≡ eqb (n * n) square) (n * n) square
@@ -132,7 +132,7 @@ module _ (square amount parts : ℕ) (halves : AgreesWithRoot square 2 amount pa
       (λ q. let k = point_more n q in
       le-leb amount (n * parts) (omega (arith, k)) ∙ sym (le-leb square (n * n) (omega arith)))
 
--- a choice is asked for only where the tests before it leave it open
+-- two chains of tests agree if they agree wherever the earlier tests leave the choice open
 where_open : (x y t u : Bool) → (x ≡ false → y ≡ true → t ≡ u)
     → (x || (y && not t)) ≡ (x || (y && not u))
 where_open true y t u h = refl
@@ -198,7 +198,7 @@ module _ (square amount parts : ℕ) (agrees : AgreesWithRoot square 4 amount pa
       else (if eqb (pick * pick) square then ok_bits
       else (if b then underflow_bit + inexact_bit else inexact_bit))) (tiny_same f mode pick)
 
-  -- and what is delivered of the fraction is delivered of the root
+  -- what is delivered for the fraction is delivered for the root
   pub root_delivered : (f : Format) (mode : Round) (value : Datum) (status : ℕ)
       → IsDelivered f mode false amount parts value status → IsDeliveredRoot f mode square value status
   root_delivered f mode value status d = record {

@@ -1,4 +1,4 @@
--- Laws of square roots: those of squares, and that none is halfway between two neighbours.
+-- Laws of square roots: the roots of squares, and that no root is halfway between two neighbours.
 use Rattle.std.proofs.Common.{◌≡◌, ℕ, ◌+◌, ◌-◌, ◌*◌, ◌/◌, ◌%◌, ◌^◌, ◌<◌, ◌≤◌, ◌⊎◌, Bool, true, false, not, ◌&&◌, ◌||◌, ltb, leb, eqb, cond, if◌then◌else◌, sym, ap, ◌∙◌, subst, ⊎_elim, inl, inr, lit<, arith}
 use Rattle.std.proofs.Math.Nat.{mul-le-mul_left, le_of_mul-le-mul_right, pow-le-pow_right}
 use Rattle.std.proofs.lemmas.Nat.{pow_pos, pow-add}
@@ -35,13 +35,13 @@ square_agrees root = record {
   more = λ n h. let k : root * 4 < n = root_lt (root * 4) n (omega arith) in omega arith;
 }
 
--- what is delivered of a number is delivered of the root of its square
+-- what is delivered for a number is delivered for the root of its square
 pub number_is_root : (format : Format) (mode : Round) (root : ℕ) (value : Datum) (status : ℕ)
     → IsDelivered format mode false root 1 value status → IsDeliveredRoot format mode (root * root) value status
 number_is_root format mode root value status d =
     root_delivered (root * root) root 1 (square_agrees root) format mode value status d
 
--- and the other way round
+-- what is delivered for the root of the square of a number is delivered for the number
 pub root_of_square : (format : Format) (mode : Round) (root : ℕ) (value : Datum) (status : ℕ)
     → 0 < format.precision
     → IsDeliveredRoot format mode (root * root) value status → IsDelivered format mode false root 1 value status
@@ -103,7 +103,7 @@ odd_square m s c k e l =
     let b : 2 * (s * 2 ^ (k - (c + 1))) ≤ (2 * m + 1) * (2 * m + 1) = le_of_mul-le-mul_right g (pow_pos c) in
     omega arith
 
--- nor is a long one a multiple of a power of two at most as great
+-- an odd square with many digits is not a multiple of a power of two that is at most as great
 long_square : (m s c k : ℕ) → (2 * m + 1) * (2 * m + 1) * 2 ^ c ≡ s * 2 ^ k → s ≤ 2 * m → k ≤ c → ⊥
 long_square m s c k e h l =
     let p : 2 ^ k ≤ 2 ^ c = pow-le-pow_right two_pos l in
@@ -128,7 +128,7 @@ midpoint_apart half m c s k f h e =
     (λ (g : half ≤ m). long_square m s (c + c) (k + 2) d (omega arith) l) f)
     (cases_lt (c + c) (k + 2))
 
--- away from the middle, both modes to nearest take the same neighbour
+-- away from the midpoint, both modes to nearest take the same neighbour
 both_nearest : (x y : ℕ) (odd : Bool) → (x ≡ y → ⊥)
     → takes_above NearestTiesToEven false x y odd ≡ takes_above NearestTiesToAway false x y odd
 both_nearest x y odd n =
@@ -140,7 +140,7 @@ both_nearest x y odd n =
     takes_more NearestTiesToEven false odd x y k ∙ sym (takes_more NearestTiesToAway false odd x y k))
     (cases_lt x y)
 
--- between neighbours of which the root is not halfway, both modes pick the same
+-- if the root is not halfway between its neighbours, both modes to nearest pick the same
 same_between : (below above square : ℕ)
     → (below ≡ above) ⊎ ((below + above) * (below + above) ≡ 4 * square → ⊥)
     → root_between NearestTiesToEven below above square ≡ root_between NearestTiesToAway below above square
@@ -169,7 +169,7 @@ apart precision half s k e l pick x =
     (ap (λ (z : ℕ). z * z) (sym t) ∙ d)))
     n.is_above
 
--- so the modes to nearest pick the same neighbour of the root of a number on the grid
+-- both modes to nearest pick the same neighbour of the root of a number on the grid
 pub no_tie : (precision s k pick : ℕ) → 0 < precision → s < 2 ^ precision
     → IsRootPick precision NearestTiesToEven (s * 2 ^ k) pick
     → IsRootPick precision NearestTiesToAway (s * 2 ^ k) pick
@@ -193,7 +193,8 @@ odd_apart w half square p d e =
     let c : 4 * (4 * square) ≡ v * v = e in
     omega arith
 
--- and agree on whether the root, rounded with an unbounded exponent, is below the smallest normalized number
+-- both modes to nearest agree on whether the root, rounded with an unbounded exponent, is below the smallest normalized
+-- number
 below_normal_agree : (precision square : ℕ) → 0 < precision
     → root_rounds_below_normal precision NearestTiesToEven square
     ≡ root_rounds_below_normal precision NearestTiesToAway square
@@ -204,7 +205,7 @@ below_normal_agree precision square p =
     (both_nearest (4 * (4 * square)) n true
     (odd_apart w (2 ^ (precision - 1)) square (pow_pos (precision - 1)) (sym (twice_half precision p))))
 
--- and deliver the same value and status
+-- both modes to nearest deliver the same value and status for the root
 pub nearest_agree : (format : Format) (quanta : ℕ) (value : Datum) (status : ℕ) → 0 < format.precision
     → IsOnGrid format.precision quanta
     → IsDeliveredRoot format NearestTiesToEven (quanta * 2 ^ format.scale) value status
@@ -239,7 +240,7 @@ implied_choice : (test : Bool) (P Q R : Type 0) → (Q → R) → MatchBool test
 implied_choice true P Q R f h = h
 implied_choice false P Q R f h = f h
 
--- so both modes to nearest give one root of each value of a format
+-- both modes to nearest give the same root of each value of a format
 pub root_nearest : (format : Format) (x value : Datum) (status : ℕ) → 0 < format.precision → IsMember format x
     → IsRoot format NearestTiesToEven x value status → IsRoot format NearestTiesToAway x value status
 root_nearest format (nan b s) value status p member h = h

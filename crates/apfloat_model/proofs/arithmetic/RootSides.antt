@@ -29,12 +29,12 @@ root_le m n h = ⊎_elim (λ (q : n < m). let k : n * n < m * m = square_lt n m 
     (λ (q : m ≤ n). q)
     (cases_lt n m)
 
--- a whole root: the greatest number whose square is not above
+-- an integer square root: the greatest number whose square is at most `square`
 pub record IsWholeRoot (root square : ℕ) : Type 0 where
   pub from : root * root ≤ square
   pub to : square < (root + 1) * (root + 1)
 
--- it grows by 1 where the next square is reached
+-- the integer square root increases by 1 where the next square is reached
 next_root : (root square : ℕ) → IsWholeRoot root square → (next : ℕ) × IsWholeRoot next (square + 1)
 next_root root square h =
     let f : root * root ≤ square = h.from in
@@ -44,7 +44,7 @@ next_root root square h =
     (λ (q : (root + 1) * (root + 1) ≤ square + 1). (root + 1, record { from = q; to = omega arith }))
     (cases_lt (square + 1) ((root + 1) * (root + 1)))
 
--- each number has a whole root
+-- each number has an integer square root
 pub whole_root : (square : ℕ) → (root : ℕ) × IsWholeRoot root square
 whole_root zero = (0, record { from = omega arith; to = omega arith })
 whole_root (suc n) =
@@ -87,7 +87,7 @@ coarser square c g amount parts p a =
           lt_of_mul-lt-mul_right g s;
     }
 
--- a whole root itself agrees, as that many multiples
+-- the root of a perfect square agrees with itself
 pub exact_agrees : (square fine root : ℕ) → 0 < fine → root * root ≡ square * (fine * fine)
     → AgreesWithRoot square fine root fine
 exact_agrees square fine root p e = record {
@@ -105,7 +105,7 @@ exact_agrees square fine root p e = record {
       mul-lt-mul_of_pos_right k p;
 }
 
--- between two multiples, their midpoint agrees
+-- if the root is between two multiples, their midpoint agrees
 pub inexact_agrees : (square fine root : ℕ) → 0 < fine → root * root < square * (fine * fine)
     → square * (fine * fine) < (root + 1) * (root + 1) → AgreesWithRoot square fine (2 * root + 1) (2 * fine)
 inexact_agrees square fine root p f t = record {
@@ -132,7 +132,7 @@ pub record HasAgreeing (square fine : ℕ) : Type 0 where
   pub parts : ℕ
   pub agrees : AgreesWithRoot square fine amount parts
 
--- there is one for each fineness
+-- there is such a fraction for each `fine`
 pub agreeing : (square fine : ℕ) → 0 < fine → HasAgreeing square fine
 agreeing square fine p =
     let w = whole_root (square * (fine * fine)) in

@@ -49,7 +49,7 @@ zero_and negative z = swapped_sum (signed negative 0) z ∙ and_zero z negative
 
 -- ---- the two parts of an integer
 
--- at least one of them is 0
+-- at least one of the positive and the negative part is 0
 pub one_side : (z : ℤ) → (up z ≡ 0) ⊎ (down z ≡ 0)
 one_side (pos n) = inr refl
 one_side (negsuc n) = inl refl

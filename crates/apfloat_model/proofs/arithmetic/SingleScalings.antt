@@ -43,7 +43,7 @@ scaled_is digits scale min_exp x j r s a k e h =
 
 -- ---- from one format into another
 
--- so do the places of a converted number
+-- the places of a converted number have equal sums on both sides
 balanced_conversion : (digits scale digits' scale' : ℕ) (min min' x r : ℤ) → pos scale ≡ pos digits -ℤ min
     → pos scale' ≡ pos digits' -ℤ min' → r ≡ (x -ℤ pos digits)
     → up (x -ℤ min) + scale' + down (r +ℤ pos scale') ≡ down (x -ℤ min) + scale + up (r +ℤ pos scale')

@@ -25,7 +25,7 @@ use Rattle.apfloat_model.proofs.arithmetic.Signs.{no_sign, magnitude_signed, one
 
 -- ---- Sterbenz's lemma
 
--- a multiple of a point's place, not above the point, is on the grid
+-- a multiple of the unit of a grid point, not above the point, is on the grid
 close_at : (precision d s p k : ℕ) → s < 2 ^ precision → d ≡ k * 2 ^ p → d ≤ s * 2 ^ p → IsOnGrid precision d
 close_at precision d s p k h q l =
     let l' : k * 2 ^ p ≤ s * 2 ^ p = omega arith in
@@ -166,7 +166,7 @@ pub signed_quanta_is : (negative : Bool) (p : ℕ) → signed_quanta IEEE754 neg
 signed_quanta_is negative zero = refl
 signed_quanta_is negative (suc n) = signed_some IEEE754 negative (suc n) (omega arith)
 
--- it is the delivered value
+-- in a format with infinities, this is the delivered value
 value_is : (format : Format) (mode : Round) (negative : Bool) (p : ℕ) → format.nonfinite ≡ IEEE754
     → delivered_value format mode negative p ≡ at (ltb (largest format) p)
     (leads_out mode negative) negative (largest format) p
@@ -188,7 +188,7 @@ up_grows false true true top p q x y l = refl
 up_grows false true false top p q x y l = let h : p ≤ top = grind arith in omega (arith, ints)
 up_grows false false out top p q x y l = omega (arith, ints)
 
--- with a minus sign, it decreases
+-- with a minus sign, the delivered value decreases with the pick
 down_grows : (first second out : Bool) (top p q : ℕ) → ltb top p ≡ first → ltb top q ≡ second → q ≤ p
     → AtMost (at first out true top p) (at second out true top q)
 down_grows true true true top p q x y l = inl refl
@@ -222,7 +222,7 @@ from_zero : (negative : Bool) (n : ℕ) → Ordered negative 0 false n
 from_zero true n = apart 0 n
 from_zero false n = both_up 0 n (omega arith)
 
--- nor below a number with a minus sign
+-- a zero of either sign is not below a number with a minus sign
 to_zero : (negative : Bool) (n : ℕ) → Ordered true n negative 0
 to_zero true n = both_down n 0 (omega arith)
 to_zero false n = apart n 0

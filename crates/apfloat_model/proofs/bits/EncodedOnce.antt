@@ -40,7 +40,7 @@ fields_by f layout (infinite b) =
     fields_with b (all_ones layout.exponent_bits) (cond f.explicit_integer_bit (smallest_normalized f) 0)
 fields_by f layout (nan b s) = fields_of_nan f.nonfinite layout b s
 
--- so a format with an explicit integer bit has infinities
+-- only a format with infinities may have an explicit integer bit
 pub explicit_kind : (kind : NonfiniteBehavior) (explicit : Bool) → MayBeExplicit kind explicit → explicit ≡ true
     → kind ≡ IEEE754
 explicit_kind IEEE754 explicit may e = refl
@@ -100,7 +100,7 @@ module _ (format : Format) (layout : Layout) (precise : 3 ≤ format.precision) 
         rw (ne_eqb e 0 n) (rw (c, d) at h))
         (cases_eq e 0)
 
-    -- and so does any datum
+    -- a datum that is read from fields has those fields, if the integer bit is implied
     implied_fields : (kind : NonfiniteBehavior) (negative : Bool) (e t : ℕ) → format.nonfinite ≡ kind
         → t < smallest_normalized format
         → fields_by format layout (implied_datum kind format layout (fields_with negative e t))
@@ -172,7 +172,7 @@ module _ (format : Format) (layout : Layout) (precise : 3 ≤ format.precision) 
         rw q (number_by b e t high c))
         (cases_eq e (all_ones layout.exponent_bits))
       where
-        -- and so does a number, below the greatest exponent
+        -- a number that is read from canonical fields below the greatest exponent has those fields
         number_by : (negative : Bool) (e t : ℕ) → t < 2 ^ format.precision
             → IsTrue (cond (eqb e 0) (ltb t (smallest_normalized format)) (leb (smallest_normalized format) t))
             → fields_by format layout (written_number format (fields_with negative e t)) ≡ fields_with negative e t

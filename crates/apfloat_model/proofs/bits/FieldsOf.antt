@@ -33,11 +33,11 @@ fields_encode format layout fields datum law h =
 
 -- ---- each layout
 
--- one or more ones are not 0
+-- a positive number of ones is not 0
 ones_some : (k : ℕ) → 1 ≤ k → 1 ≤ all_ones k
 ones_some k h = let m : 2 ^ 1 ≤ 2 ^ k = pow-le-pow_right two_pos h in omega arith
 
--- and fit in that many digits
+-- `k` ones fit in `k` digits
 ones_fit : (k : ℕ) → all_ones k < 2 ^ k
 ones_fit k = let p : 0 < 2 ^ k = pow_pos k in omega arith
 
@@ -71,7 +71,7 @@ low_is false NanNegativeZero format layout false n e h = refl
 low_is false NanNegativeZero format layout true n e h =
     ⊎_elim (λ (z : n ≡ 0). absurd (true≢false (h z))) (λ (k : n ≡ 0 → ⊥). rw (ne_eqb n 0 k) refl) (cases_eq n 0)
 
--- and are canonical
+-- the fields of a number below the smallest normalized one are canonical
 low_canonical : (explicit : Bool) (format : Format) (layout : Layout) (negative : Bool) (n : ℕ)
     → eqb 0 (all_ones layout.exponent_bits) ≡ false → n < smallest_normalized format
     → cond explicit (is_canonical_written format layout (fields_with negative 0 n)) true ≡ true
@@ -131,7 +131,7 @@ high_is false NanNegativeZero format layout false j m may low n =
     let y : j + 1 - 1 ≡ j = omega arith in
     rw (n, add-sub_of_le low, y) refl
 
--- and are canonical
+-- the fields of a normalized number are canonical
 high_canonical : (explicit : Bool) (kind : NonfiniteBehavior) (format : Format) (layout : Layout) (negative : Bool)
     (j m : ℕ) → MayBeExplicit kind explicit → smallest_normalized format ≤ m → IsNoSpecial kind format layout (j + 1) m
     → cond explicit (is_canonical_written format layout
@@ -306,7 +306,7 @@ one_nan_is explicit NanOnly format layout k e may = cc
 one_nan_is true NanNegativeZero format layout k e may = absurd (true≢false may)
 one_nan_is false NanNegativeZero format layout k e may = rw k refl
 
--- and are canonical
+-- the fields of the only NaN are canonical
 one_canonical : (explicit : Bool) (kind : NonfiniteBehavior) (format : Format) (layout : Layout)
     → kind ≡ NanNegativeZero
     → MayBeExplicit kind explicit

@@ -13,14 +13,14 @@ greatest_fits IEEE754 precision = let p : 0 < 2 ^ precision = pow_pos precision 
 greatest_fits NanOnly precision = let p : 0 < 2 ^ precision = pow_pos precision in omega arith
 greatest_fits NanNegativeZero precision = let p : 0 < 2 ^ precision = pow_pos precision in omega arith
 
--- it is all ones, or all ones except the last
+-- the greatest significand is all ones, or all ones except the last
 pub greatest_low : (kind : NonfiniteBehavior) (precision : ℕ)
     → 2 ^ precision - 2 ≤ greatest_significand kind precision
 greatest_low IEEE754 precision = omega arith
 greatest_low NanOnly precision = omega arith
 greatest_low NanNegativeZero precision = omega arith
 
--- it is at least half of the power of two past it
+-- the greatest significand is at least half of the power of two past it
 pub greatest_half : (kind : NonfiniteBehavior) (precision : ℕ) → 3 ≤ precision
     → 2 ^ precision ≤ 2 * greatest_significand kind precision
 greatest_half kind precision h =
@@ -28,7 +28,7 @@ greatest_half kind precision h =
     let l = greatest_low kind precision in
     omega (arith, a, l)
 
--- it has all the digits of the precision
+-- the greatest significand has all the digits of the precision
 pub greatest_full : (kind : NonfiniteBehavior) (precision : ℕ) → 3 ≤ precision
     → 2 ^ (precision - 1) ≤ greatest_significand kind precision
 greatest_full kind precision h =
@@ -36,7 +36,7 @@ greatest_full kind precision h =
     let a = greatest_half kind precision h in
     omega (arith, t, a)
 
--- it is not 0
+-- the greatest significand is not 0
 pub greatest_some : (kind : NonfiniteBehavior) (precision : ℕ) → 3 ≤ precision
     → 0 < greatest_significand kind precision
 greatest_some kind precision h =

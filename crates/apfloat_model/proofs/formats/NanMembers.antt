@@ -43,7 +43,7 @@ or_member IEEE754 true p s h (below, other) =
 or_member NanOnly e p s h m = rw (or_zero_r s) m
 or_member NanNegativeZero e p s h m = rw (or_zero_r s) m
 
--- the quiet bits with a payload form the significand of a NaN too, in each kind of format
+-- the quiet bits together with a payload form the significand of a NaN, in each kind of format
 quiet_kinds : (kind : NonfiniteBehavior) (explicit : Bool) (p payload : ℕ) → 3 ≤ p
     → IsNanSignificand kind explicit p (bit_or (bit_or (nan_base_of kind p) (quiet_bits_of kind explicit p))
     (bit_and payload (payload_mask_of kind p)))
@@ -68,20 +68,20 @@ quiet_kinds NanOnly e p payload h = let b = nan_base_of NanOnly p in
     rw (and_zero_r payload) rw (or_zero_r (bit_or b 0)) rw (or_zero_r b) refl
 quiet_kinds NanNegativeZero e p payload h = rw (and_zero_r payload) refl
 
--- so does a quiet NaN made from a payload
+-- `qnan` of a payload has the significand of a NaN
 pub quiet_member : (format : Format) (payload : ℕ) → 3 ≤ format.precision
     → IsNanSignificand format.nonfinite format.explicit_integer_bit format.precision (quiet_significand format payload)
 quiet_member format payload h = quiet_kinds format.nonfinite format.explicit_integer_bit format.precision payload h
 
--- if the quiet bit is not set, clearing it changes nothing
+-- if the quiet bit is 0, clearing it changes nothing
 less_nothing : (q : ℕ) → q - bit_and q 0 ≡ q
 less_nothing q = let e : bit_and q 0 ≡ 0 = and_zero_r q in omega (arith, e)
 
--- nor does setting the bit below it
+-- if the quiet bit is 0, neither clearing it nor setting the bit below it changes anything
 or_nothing : (q : ℕ) → bit_or (q - bit_and q 0) (0 / 2) ≡ q
 or_nothing q = ap (λ (x : ℕ). bit_or x 0) (less_nothing q) ∙ or_zero_r q
 
--- so do those bits without the quiet bit, with the bit below it set if no other is left
+-- a payload without the quiet bit, with the bit below it set if no other is left, forms the significand of a NaN too
 signaling_kinds : (kind : NonfiniteBehavior) (explicit : Bool) (p q : ℕ) → 3 ≤ p → IsNanSignificand kind explicit p q
     → IsNanSignificand kind explicit p (let c = q - bit_and q (quiet_bit_of kind p) in
     if eqb (bit_and c (payload_mask_of kind p)) 0
@@ -126,7 +126,7 @@ signaling_kinds NanNegativeZero e p q h m =
     (λ _. subst (λ (x : ℕ). IsNanSignificand NanNegativeZero e p x) (sym (or_nothing q)) m)
     (λ _. subst (λ (x : ℕ). IsNanSignificand NanNegativeZero e p x) (sym (less_nothing q)) m)
 
--- and so does a signaling NaN made from a payload
+-- `snan` of a payload has the significand of a NaN
 pub signaling_member : (format : Format) (payload : ℕ) → 3 ≤ format.precision
     → IsNanSignificand format.nonfinite format.explicit_integer_bit format.precision
     (signaling_significand format payload)

@@ -1,8 +1,8 @@
--- The law of a format does not speak of its flags.
+-- The law of a format does not depend on its rule of flags.
 use Rattle.std.proofs.Common.{Bool, inl, inr, ⊎_elim}
 use Rattle.apfloat_model.specs.formats.Lawful.{Constants, HasNoBits, HasBits, IsLawful}
 
--- so other flags leave it as it is
+-- constants stay lawful with another rule of flags
 pub other_flags : (c : Constants) (tiny ieee : Bool) → IsLawful c
     → IsLawful (record c { tiny_before_rounding = tiny; ieee_flags = ieee })
 other_flags c tiny ieee l = record {

@@ -10,14 +10,14 @@ use Rattle.apfloat_model.specs.bits.Interchange.{IsInterchange}
 use Rattle.apfloat_model.proofs.general.Powers.{two_pos, twice_half, four}
 use Rattle.apfloat_model.proofs.formats.Greatest.{greatest_low}
 
--- no greater significand than the greatest, at no higher place than the last
+-- within the largest value: a significand up to the greatest one, at a place up to the last one
 pub at_top : (format : Format) (m k : ℕ) → m ≤ greatest_significand format.nonfinite format.precision → k ≤ format.span
     → m * 2 ^ k ≤ largest format
 at_top format m k a b =
     mul-le m (2 ^ k) (greatest_significand format.nonfinite format.precision)
     (2 ^ format.span) a (pow-le-pow_right two_pos b)
 
--- any significand, below the last place
+-- within the largest value: any significand, below the last place
 pub below_top : (format : Format) (m k : ℕ) → 3 ≤ format.precision → m < 2 ^ format.precision → k < format.span
     → m * 2 ^ k ≤ largest format
 below_top format m k precise a b =
@@ -35,7 +35,7 @@ below_top format m k precise a b =
     ap (λ (v : ℕ). greatest_significand format.nonfinite format.precision * v) z in
     omega arith
 
--- a significand without its integer bit, at the quantum
+-- within the largest value: a significand without its integer bit, at the quantum
 pub low_within : (format : Format) (m : ℕ) → 3 ≤ format.precision → m < 2 ^ (format.precision - 1)
     → m * 1 ≤ largest format
 low_within format m precise h =
@@ -50,7 +50,7 @@ one_within format precise =
     let p = four format.precision precise in
     low_within format 1 precise (omega (arith, p))
 
--- and so is the smallest normalized one
+-- the smallest normalized number is within the largest value
 pub half_within : (format : Format) → 3 ≤ format.precision → 2 ^ (format.precision - 1) * 1 ≤ largest format
 half_within format precise =
     let t : 2 * 2 ^ (format.precision - 1) ≡ 2 ^ format.precision = twice_half format.precision (omega arith) in
@@ -58,7 +58,7 @@ half_within format precise =
     let l = greatest_low format.nonfinite format.precision in
     at_top format (2 ^ (format.precision - 1)) 0 (omega (arith, l, p, t)) (omega arith)
 
--- in a format with infinities, any significand at each exponent but the greatest
+-- in a format with infinities: any significand at any exponent but the greatest is within the largest value
 pub ieee_within : (format : Format) (layout : Layout) (m e : ℕ) → IsInterchange format layout
     → format.nonfinite ≡ IEEE754
     → m < 2 ^ format.precision → e < 2 ^ layout.exponent_bits → (e ≡ all_ones layout.exponent_bits → ⊥)
@@ -68,7 +68,7 @@ ieee_within format layout m e law k a b n =
     let t : m ≤ greatest_significand format.nonfinite format.precision = rw k (omega arith) in
     at_top format m (e - 1) t (omega arith)
 
--- with one NaN of each sign, any significand, except the last one at the greatest exponent
+-- with one NaN of each sign: any significand, except the last one at the greatest exponent, is within the largest value
 pub nan_only_within : (format : Format) (layout : Layout) (m e : ℕ) → IsInterchange format layout
     → format.nonfinite ≡ NanOnly → 1 ≤ e → m < 2 ^ format.precision → e < 2 ^ layout.exponent_bits
     → ((e ≡ all_ones layout.exponent_bits) → (m ≡ 2 ^ format.precision - 1) → ⊥) → m * 2 ^ (e - 1) ≤ largest format
@@ -82,7 +82,7 @@ nan_only_within format layout m e law k o a b n =
     (λ (p : e ≡ all_ones layout.exponent_bits → ⊥). below_top format m (e - 1) law.precise a (omega (arith, p)))
     (cases_eq e (all_ones layout.exponent_bits))
 
--- without a negative zero, any significand at each exponent
+-- without a negative zero: any significand at any exponent is within the largest value
 pub negative_zero_within : (format : Format) (layout : Layout) (m e : ℕ) → IsInterchange format layout
     → format.nonfinite ≡ NanNegativeZero → m < 2 ^ format.precision → e < 2 ^ layout.exponent_bits
     → m * 2 ^ (e - 1) ≤ largest format

@@ -1,4 +1,4 @@
--- Truth values, and choices by them.
+-- Truth values, and choices that depend on them.
 use Rattle.std.proofs.Common.{◌≡◌, ℕ, zero, suc, ◌+◌, ◌*◌, ◌%◌, ◌<◌, ◌≤◌, Bool, true, false, cond, not, ◌&&◌, eqb, ltb, leb, if◌then◌else◌, Option, Some, None, refl, sym, ◌∙◌, ⊎_elim, arith}
 use mathlib.Core.Bool.{beq}
 use Rattle.std.specs.Bool.{MatchBool}
@@ -110,7 +110,7 @@ pub digit_odd : (value : Bool) → eqb (cond value 1 0 % 2) 1 ≡ value
 digit_odd true = refl
 digit_odd false = refl
 
--- a number below 2 is the digit of whether it is odd
+-- a number below 2 is the digit of the truth value that it is odd
 pub odd_digit : (n : ℕ) → n < 2 → cond (eqb (n % 2) 1) 1 0 ≡ n
 odd_digit zero h = refl
 odd_digit (suc zero) h = refl
@@ -118,7 +118,7 @@ odd_digit (suc (suc n)) h = absurd (omega arith)
 
 -- ---- a fact chosen by a test
 
--- each of the following: the fact that a test of a known value chooses is proved
+-- each of the following proves the fact that a test of known value chooses
 pub match_true : (test : Bool) (P Q : Type 0) → test ≡ true → P → MatchBool test P Q
 match_true true P Q e p = p
 match_true false P Q e p = cc
@@ -133,13 +133,13 @@ pub match_one : {A : Type 0} (Holds : (A → Type 0) → Type 0) (test : Bool) (
 match_one Holds true P Q p q = p
 match_one Holds false P Q p q = q
 
--- and so for relations of two values
+-- what holds of two binary relations holds of whichever a test chooses
 pub match_case : {A B : Type 0} (Holds : (A → B → Type 0) → Type 0) (test : Bool) (P Q : A → B → Type 0) → Holds P
     → Holds Q → Holds (λ a b. MatchBool test (P a b) (Q a b))
 match_case Holds true P Q p q = p
 match_case Holds false P Q p q = q
 
--- and of three
+-- what holds of two ternary relations holds of whichever a test chooses
 pub match_three : {A B C : Type 0} (Holds : (A → B → C → Type 0) → Type 0) (test : Bool) (P Q : A → B → C → Type 0)
     → Holds P → Holds Q → Holds (λ a b c. MatchBool test (P a b c) (Q a b c))
 match_three Holds true P Q p q = p

@@ -1,4 +1,4 @@
--- Lists: members that pass a test, runs, what filters leave, and items by their places.
+-- Lists: items that pass a test, runs, filters, and items at their places.
 use mathlib.Core.Bool.{Bool}
 use Rattle.std.proofs.Common.{◌≡◌, ◌⊎◌, ℕ, true, false, cond, refl, sym, ap, ◌∙◌, List, [], ◌∷◌, ◌++◌, length, take, drop, get_or, filter, zero, suc, ◌-◌, ◌<◌, ◌≤◌, Some, subst, inl, inr, arith, append_assoc}
 use Rattle.std.specs.Prelude.{slice_get}
@@ -8,7 +8,7 @@ use Rattle.apfloat_model.specs.texts.Digits.{every, begins, run, after_run, is_e
 
 -- ---- members that pass
 
--- if two lists joined pass a test, each of them does
+-- if the concatenation of two lists passes a test, each of them does
 pub every-append : (test : ℕ → Bool) (xs ys : List ℕ) → every test (xs ++ ys) ≡ true
     → (every test xs ≡ true) × (every test ys ≡ true)
 every-append test [] ys h = (refl, h)
@@ -17,7 +17,7 @@ every-append test (c ∷ xs) ys h =
     let q = every-append test xs ys p.1 in
     (and_from (test c) (every test xs) p.0 q.0, q.1)
 
--- if both lists pass a test, so do they joined
+-- if both lists pass a test, so does their concatenation
 pub append-every : (test : ℕ → Bool) (xs ys : List ℕ) → every test xs ≡ true → every test ys ≡ true
     → every test (xs ++ ys) ≡ true
 append-every test [] ys h g = g
@@ -44,7 +44,7 @@ run_through test (c ∷ xs) rest h b =
     let p = and_parts (test c) (every test xs) h in
     rw p.0 (ap (λ (t : List ℕ). c ∷ t) (run_through test xs rest p.1 b))
 
--- what follows the run is that second list
+-- if a run extends up to a second list, that list follows the run
 pub after_run_through : (test : ℕ → Bool) (xs rest : List ℕ) → every test xs ≡ true → begins test rest ≡ false
     → after_run test (xs ++ rest) ≡ rest
 after_run_through test [] [] h b = refl
@@ -73,7 +73,7 @@ run_passes test (c ∷ xs) = go (cases_Bool (test c)) (run_passes test xs)
     go (inl e) h = rw (e, e, h) refl
     go (inr e) h = rw e refl
 
--- and what follows it does not begin with an item that passes
+-- what follows the run does not begin with an item that passes the test
 pub run_stops : (test : ℕ → Bool) (xs : List ℕ) → begins test (after_run test xs) ≡ false
 run_stops test [] = refl
 run_stops test (c ∷ xs) = go (cases_Bool (test c)) (run_stops test xs)
@@ -123,7 +123,7 @@ regroup whole point fraction tail =
 
 -- ---- items by their places
 
--- the items of the first of two joined lists keep their places
+-- the items of the first of two concatenated lists keep their places
 pub get_left : {X : Type 0} (xs ys : List X) (k : ℕ) → k < length xs → slice_get (xs ++ ys) k ≡ slice_get xs k
 get_left [] ys k within = absurd (omega arith)
 get_left (x ∷ xs) ys zero within = refl
@@ -156,7 +156,7 @@ pub begins_empty : (test : ℕ → Bool) (xs : List ℕ) → length xs < 1 → b
 begins_empty test [] h = refl
 begins_empty test (x ∷ xs) h = absurd (omega (arith, h))
 
--- nor does one whose first item fails it
+-- a list whose first item fails a test does not begin with one that passes
 pub begins_first : (test : ℕ → Bool) (xs : List ℕ) → 1 ≤ length xs → test (get_or xs 0 0) ≡ false
     → begins test xs ≡ false
 begins_first test [] h e = refl
@@ -169,7 +169,7 @@ pub not_empty : (xs : List ℕ) → 1 ≤ length xs → is_empty xs ≡ false
 not_empty [] h = absurd (omega (arith, h))
 not_empty (c ∷ xs) h = refl
 
--- nor is a list followed by an item
+-- a list followed by an item is not empty
 pub not_empty_through : (xs : List ℕ) (item : ℕ) (rest : List ℕ) → is_empty (xs ++ (item ∷ rest)) ≡ false
 not_empty_through [] item rest = refl
 not_empty_through (x ∷ xs) item rest = refl

@@ -11,7 +11,7 @@ digit_more base number digit place small less =
     let next : (number + 1) * base ≤ base ^ place * base = mul-le-mul_right base (omega arith) in
     omega arith
 
--- and so below each power of at least that many digits
+-- a number with one digit more is below each power of at least that many digits
 pub digit_fits : (base number digit place most : ℕ) → number < base ^ place → digit < base → place < most
     → number * base + digit < base ^ most
 digit_fits base number digit place most small less within =

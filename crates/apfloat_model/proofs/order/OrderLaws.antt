@@ -16,7 +16,7 @@ use Rattle.apfloat_model.specs.order.Order.{level, number, compared, is_equal}
 abbrev rank : Datum → Datum → Ordering
 rank = then_cmp (on level nat_cmp) (on number int_cmp)
 
--- it is a total order
+-- the order of data that are not NaNs is total
 rank_total : IsTotalOrder rank
 rank_total = then_total (on_total level nat_cmp_total) (on_total number int_cmp_total)
 

@@ -102,7 +102,7 @@ lesser_zero x y below e f s =
     let q = one_zero x y e f s in
     either (is_negative x) x y q ∙ q ∙ sym (either below y x (sym q))
 
--- or as the greater
+-- of two zeros of the same sign, either can be returned as the greater
 greater_zero : (x y : Datum) (below : Bool) → is_zero x ≡ true → is_zero y ≡ true
     → same_sign (is_negative x) (is_negative y) ≡ true → (if is_negative x then y else x) ≡ (if below then y else x)
 greater_zero x y below e f s =
@@ -163,12 +163,12 @@ pub largest_agrees : (format : Format) (x : Datum) → 0 < largest format
     → same_datum x (signed_like is_negative (negated format.nonfinite) (largest_datum format) x) ≡ is_largest format x
 largest_agrees format x h = magnitude_agrees format.nonfinite (largest format) x h
 
--- so is the absolute value of a datum
+-- the absolute value of a datum is that of the model
 pub abs_agrees : (format : Format) (x : Datum)
     → (if is_negative x then negated format.nonfinite x else x) ≡ abs format x
 abs_agrees format x = refl
 
--- and a datum with the sign of another
+-- a datum with the sign of another is that of the model
 pub copy_sign_agrees : (format : Format) (x y : Datum)
     → signed_like is_negative (negated format.nonfinite) x y ≡ copy_sign format x y
 copy_sign_agrees format x y = refl

@@ -28,7 +28,7 @@ pub signed_some : (kind : NonfiniteBehavior) (negative : Bool) (p : ℕ) → 0 <
     → signed_quanta kind negative p ≡ finite negative p
 signed_some kind negative p h = let e : eqb p 0 ≡ false = ne_eqb p 0 (λ z. omega arith) in rw e refl
 
--- a pick past the largest value
+-- what is delivered for a pick past the largest value
 pub delivered_past : (format : Format) (mode : Round) (negative : Bool) (amount parts p : ℕ) (value : Datum)
     (status : ℕ) → IsPick format.precision mode negative amount parts p → ltb (largest format) p ≡ true
     → value ≡ cond (leads_out mode negative) (past_largest format.nonfinite (nan_base format) negative)
@@ -37,7 +37,7 @@ pub delivered_past : (format : Format) (mode : Round) (negative : Bool) (amount 
 delivered_past format mode negative amount parts p v s i a e d =
     record { pick = p; is_pick = i; value_is = rw a e; status_is = rw a d }
 
--- a pick within the format that is the magnitude
+-- what is delivered for a pick within the format that is the magnitude
 pub delivered_exactly : (format : Format) (mode : Round) (negative : Bool) (amount parts p : ℕ) (value : Datum)
     (status : ℕ) → IsPick format.precision mode negative amount parts p → ltb (largest format) p ≡ false
     → p * parts ≡ amount
@@ -47,7 +47,7 @@ delivered_exactly format mode negative amount parts p v s i a e w d =
     let b : eqb (p * parts) amount ≡ true = eq-eqb (p * parts) amount e in
     record { pick = p; is_pick = i; value_is = rw a w; status_is = rw (a, b) d }
 
--- a pick within the format that is not the magnitude
+-- what is delivered for a pick within the format that is not the magnitude
 pub delivered_inexactly : (format : Format) (mode : Round) (negative : Bool) (amount parts p : ℕ) (value : Datum)
     (status : ℕ) → IsPick format.precision mode negative amount parts p → ltb (largest format) p ≡ false
     → (p * parts ≡ amount → ⊥)
@@ -109,7 +109,7 @@ small_before precision half m c amount parts p l i =
     (λ (f : half ≤ m). absurd (omega arith))
     i.full
 
--- a kept significand of at least the half means an amount of at least that
+-- a kept significand of at least the half means an amount of at least the half
 large_before : (precision half m c amount parts : ℕ) → half ≤ m → IsEnclosed precision half m c amount parts
     → half * parts ≤ amount
 large_before precision half m c amount parts l i =
@@ -120,7 +120,7 @@ large_before precision half m c amount parts l i =
     let f : m * 2 ^ c * parts ≤ amount = i.from in
     omega arith
 
--- so the kept significand decides whether the amount is tiny before rounding
+-- the kept significand decides whether the amount is tiny before rounding
 pub tiny_before : (precision half m c amount parts : ℕ) → 0 < parts → IsEnclosed precision half m c amount parts
     → ltb m half ≡ ltb amount (half * parts)
 tiny_before precision half m c amount parts p i =
@@ -136,14 +136,14 @@ small_after : (half s place : ℕ) → s < half → (place ≡ 0) ⊎ (half ≤ 
 small_after half s place l (inl z) = subst (λ (x : ℕ). s * 2 ^ x < half) (sym z) (omega arith)
 small_after half s place l (inr f) = absurd (omega arith)
 
--- a significand of at least the half leaves the pick there, at any place
+-- a significand of at least the half leaves the pick at or above the half, at any place
 large_after : (half s place : ℕ) → half ≤ s → half ≤ s * 2 ^ place
 large_after half s place l =
     let w : 1 ≤ 2 ^ place = pow_pos place in
     let a : s * 1 ≤ s * 2 ^ place = mul-le-mul_left s w in
     omega arith
 
--- so it is tiny after rounding exactly if its significand is below the half
+-- a pick is tiny after rounding exactly if its significand is below the half
 pub tiny_after : (half s place : ℕ) → (place ≡ 0) ⊎ (half ≤ s) → ltb s half ≡ ltb (s * 2 ^ place) half
 tiny_after half s place f =
     ⊎_elim

@@ -1,4 +1,4 @@
--- Magnitudes so far out of a format's range that only the side they are on matters.
+-- Magnitudes so far out of the range of a format that only their side matters.
 use Rattle.std.proofs.Common.{◌≡◌, ℕ, ◌+◌, ◌-◌, ◌*◌, ◌^◌, ◌<◌, ◌≤◌, Bool, true, false, cond, ltb, leb, eqb, sym, refl, ap, ◌∙◌, subst, inl, arith, zero, suc}
 use Rattle.std.proofs.Math.Nat.{mul-le-mul_right, mul-lt-mul_of_pos_right, pow-le-pow_right}
 use Rattle.std.proofs.lemmas.Nat.{pow-add, pow_pos}
@@ -64,7 +64,7 @@ value_past : (format : Format) (mode : Round) (negative : Bool) (p q : ℕ) → 
     → ltb (largest format) q ≡ true → delivered_value format mode negative p ≡ delivered_value format mode negative q
 value_past format mode negative p q a b = rw (a, b) refl
 
--- and one status
+-- all picks past the largest value deliver one status
 status_past : (format : Format) (mode : Round) (negative : Bool) (amount parts p amount' parts' q : ℕ)
     → ltb (largest format) p ≡ true → ltb (largest format) q ≡ true
     → delivered_status format mode negative amount parts p ≡ delivered_status format mode negative amount' parts' q
@@ -128,11 +128,11 @@ off_little zero amount parts h k l e = omega arith
 off_little (suc zero) amount parts h k l e = omega arith
 off_little (suc (suc p)) amount parts h k l e = omega arith
 
--- so the pick is not exact
+-- the pick for a magnitude below half a quantum is not exact
 inexact_little : (amount parts p : ℕ) → IsFarBelow amount parts → p ≤ 1 → eqb (p * parts) amount ≡ false
 inexact_little amount parts p x h = ne_eqb (p * parts) amount (off_little p amount parts h x.some x.to)
 
--- such a magnitude is below the smallest normalized number
+-- a magnitude below half a quantum is below the smallest normalized number
 before_little : (format : Format) (amount parts : ℕ) → IsFarBelow amount parts
     → ltb amount (smallest_normalized format * parts) ≡ true
 before_little format amount parts x =
@@ -141,7 +141,7 @@ before_little format amount parts x =
     let a : 1 * parts ≤ 2 ^ (format.precision - 1) * parts = mul-le-mul_right parts w in
     lt-ltb amount (smallest_normalized format * parts) (omega (arith, l, a))
 
--- also when it is rounded with an unbounded exponent
+-- a magnitude below half a quantum, rounded with an unbounded exponent, is below the smallest normalized number
 below_little : (precision : ℕ) (mode : Round) (negative : Bool) (amount parts : ℕ) → 0 < precision
     → IsFarBelow amount parts → rounds_below_normal precision mode negative amount parts ≡ true
 below_little precision mode negative amount parts h x =
@@ -154,7 +154,7 @@ below_little precision mode negative amount parts h x =
     le-leb (2 * amount) ((2 ^ precision - 1) * parts) (omega (arith, l, a)) in
     rw b refl
 
--- all such magnitudes are tiny, or none are
+-- all magnitudes below half a quantum are tiny, or none are
 tiny_little : (format : Format) (mode : Round) (negative : Bool) (amount parts amount' parts' p : ℕ)
     → 0 < format.precision → IsFarBelow amount parts → IsFarBelow amount' parts'
     → is_tiny format mode negative amount parts p ≡ is_tiny format mode negative amount' parts' p
@@ -169,7 +169,7 @@ tiny_little format mode negative amount parts amount' parts' p h x y =
     ∙ ap (λ (z : Bool). cond format.tiny_before_rounding (ltb amount' (smallest_normalized format * parts'))
     (cond format.ieee_flags z (ltb p (smallest_normalized format)))) (c ∙ sym d)
 
--- and they deliver one status
+-- all magnitudes below half a quantum deliver one status
 status_little : (format : Format) (mode : Round) (negative : Bool) (amount parts amount' parts' p : ℕ) → p ≤ 1
     → 0 < format.precision → IsFarBelow amount parts → IsFarBelow amount' parts'
     → delivered_status format mode negative amount parts p ≡ delivered_status format mode negative amount' parts' p

@@ -32,17 +32,17 @@ use Rattle.apfloat_model.specs.texts.Specials.{Meaning, infinity, not_a_number, 
 use Rattle.apfloat_model.specs.texts.Readings.{IsMeant, IsReading}
 use Rattle.apfloat_model.proofs.general.Choices.{match_case, if_case}
 
--- the relation holds only of such statuses
+-- the relation holds only of statuses in which these flags go together
 abbrev pub Together : {A : Type 0} → (A → ℕ → Type 0) → Type 0
 Together {A} R = (value : A) (status : ℕ) → R value status → FlagsGoTogether status
 
 -- ---- a status
 
--- with INEXACT
+-- a status with INEXACT is such a status
 inexact_together : (status : ℕ) → 0 < bit_and status inexact_bit → FlagsGoTogether status
 inexact_together status i = record { overflow = λ o. i; underflow = λ u. i }
 
--- with neither of the two
+-- a status with neither OVERFLOW nor UNDERFLOW is such a status
 neither_together : (status : ℕ) → bit_and status overflow_bit ≡ 0 → bit_and status underflow_bit ≡ 0
     → FlagsGoTogether status
 neither_together status o u =
@@ -108,7 +108,7 @@ raised_right k s t h =
     let m : bit_at t k ≤ max (bit_at s k) (bit_at t k) = le-max_right (bit_at s k) (bit_at t k) in
     omega (arith, a, m)))
 
--- if in each of two statuses one flag is raised only together with another, so it is in the union
+-- if in each of two statuses one flag is raised only together with another, the same holds for their union
 pub union_keeps : (j k s t : ℕ) → (0 < bit_and s (2 ^ j) → 0 < bit_and s (2 ^ k))
     → (0 < bit_and t (2 ^ j) → 0 < bit_and t (2 ^ k))
     → 0 < bit_and (bit_or s t) (2 ^ j) → 0 < bit_and (bit_or s t) (2 ^ k)
@@ -149,7 +149,7 @@ root_status_together format mode square pick =
     (λ lost. if_case FlagsGoTogether (is_tiny_root format mode square pick)
     (λ tiny. inexact_together (underflow_bit + inexact_bit) (lit< tt)) (λ normal. only_inexact_together)))
 
--- a result given outright
+-- a result given outright has such a status
 pub answer_together : (datum : Datum) (flags : ℕ) → FlagsGoTogether flags → Together (IsAnswer datum flags)
 answer_together datum flags h value status x = subst FlagsGoTogether (sym x.status_is) h
 
@@ -223,7 +223,7 @@ quotient_together format mode (finite b m) (finite c n) =
     (answer_together _ _ div_by_zero_together))
     (delivered_together format mode _ _ _)
 
--- a fused sum with a special operand: the product first, then the sum
+-- a fused sum with a special operand, which is the product and then the sum, has such a status
 sum_with_product_together : (format : Format) (mode : Round) (x y z : Datum)
     → Together (IsSumWithProduct format mode x y z)
 sum_with_product_together format mode x y z value status h =
@@ -244,7 +244,7 @@ fused_sum_together format mode (finite b l) (nan c t) z =
 fused_sum_together format mode (infinite b) y z = sum_with_product_together format mode (infinite b) y z
 fused_sum_together format mode (nan b u) y z = sum_with_product_together format mode (nan b u) y z
 
--- by any whole quotient: cut toward zero or nearest
+-- for any integer quotient: truncated toward zero or the nearest
 pub remainder_together : (format : Format) (quotient : ℕ → ℕ → ℕ) (x y : Datum)
     → Together (IsRemainder format quotient x y)
 remainder_together format quotient (nan b s) y = answer_together _ _ (invalid_if_together _)
@@ -308,7 +308,7 @@ conversion_together from into mode (finite b n) loses_info value status h =
     (kept_together (finite (zero_sign into.nonfinite b) 0) (loses_zero_sign into b) loses_info)
     (λ v s k. delivered_together into mode b _ _ v s k.is_delivered) value status h
 
--- ---- whole numbers
+-- ---- integers
 
 pub from_unsigned_together : (format : Format) (mode : Round) (number : ℕ)
     → Together (IsFromUnsigned format mode number)
@@ -324,7 +324,7 @@ round_to_integral_together format mode (nan b s) = answer_together _ _ (invalid_
 round_to_integral_together format mode (infinite b) = answer_together _ _ ok_together
 round_to_integral_together format mode (finite b n) = answer_together _ _ (inexact_unless_together _)
 
--- to a whole number in any range
+-- conversion to an integer in any range
 whole_within_together : (format : Format) (mode : Round) (low high : ℤ) (x : Datum)
     → FlagsGoTogether (whole_within format mode low high x).status
 whole_within_together format mode low high (nan b s) = invalid_together
@@ -345,7 +345,7 @@ to_signed_together format mode width x number status is_exact h =
     subst FlagsGoTogether (sym h.status_is)
     (whole_within_together format mode (neg_ℤ (pos (2 ^ (width - 1)))) (pos (2 ^ (width - 1) - 1)) x)
 
--- the signed whole number that is made from a magnitude
+-- conversion to a signed integer, from the magnitude
 pub negated_whole_together : (is_zero : Bool) (width number flags : ℕ) (exact : Bool) (value : ℤ) (status : ℕ)
     (is_exact : Bool) → FlagsGoTogether flags
     → IsNegatedWhole is_zero width number flags exact value status is_exact → FlagsGoTogether status

@@ -21,7 +21,7 @@ digits_below n h =
     let e : r.0 ≡ 128 - count_leading_zeros 128 n = omega (arith, e₀) in
     subst (λ (x : ℕ). n < 2 ^ x) e r.2
 
--- and not below the power before it
+-- a number is at least the power of two below its number of digits
 pub digits_full : (n : ℕ) → n < 2 ^ 128 → 0 < 128 - count_leading_zeros 128 n
     → 2 ^ ((128 - count_leading_zeros 128 n) - 1) ≤ n
 digits_full n h p =
@@ -35,7 +35,7 @@ digits_full n h p =
 
 -- ---- units
 
--- dividing amount and unit by a common factor does not change what a significand stands for
+-- dividing amount and unit by a common factor does not change what a significand represents
 pub stands_cancel : (s : ℕ) (loss : Loss) (amount unit w : ℕ) → 0 < w → StandsFor s loss (amount * w) (unit * w)
     → StandsFor s loss amount unit
 stands_cancel s ExactlyZero amount unit w p h = eq_of_mul-eq-mul_right w p amount (s * unit) (omega (arith, h))
@@ -48,7 +48,7 @@ stands_cancel s MoreThanHalf amount unit w p h =
     let a = h.0 in let b = h.1 in
     (lt_of_mul-lt-mul_right w (omega (arith, a)), lt_of_mul-lt-mul_right w (omega (arith, b)))
 
--- nor does multiplying both by a factor
+-- multiplying amount and unit by a factor does not change what a significand represents
 pub stands_times : (s : ℕ) (loss : Loss) (amount unit w : ℕ) → 0 < w → StandsFor s loss amount unit
     → StandsFor s loss (amount * w) (unit * w)
 stands_times s ExactlyZero amount unit w p h = let e : amount * w ≡ s * unit * w = ap (λ (x : ℕ). x * w) h in
@@ -75,14 +75,14 @@ same_unit parts k up down place e =
     let g : 2 ^ k * 2 ^ up * parts ≡ 2 ^ place * 2 ^ down * parts = ap (λ (x : ℕ). x * parts) f in
     omega arith
 
--- what a cut keeps stands for the amount in quanta
+-- what a cut keeps represents the amount in quanta
 pub kept_stands : (q : ℕ) (loss : Loss) (amount parts k up down place : ℕ) → k + up ≡ place + down
     → StandsFor q loss (amount * 2 ^ down) (2 ^ k * (parts * 2 ^ up)) → StandsFor q loss amount (2 ^ place * parts)
 kept_stands q loss amount parts k up down place e h =
     stands_cancel q loss amount (2 ^ place * parts) (2 ^ down) (pow_pos down)
     (subst (λ (x : ℕ). StandsFor q loss (amount * 2 ^ down) x) (same_unit parts k up down place e) h)
 
--- a significand shifted up, with nothing lost, stands for the amount in quanta
+-- a significand shifted up, with nothing lost, represents the amount in quanta
 pub shifted_stands : (s : ℕ) (loss : Loss) (amount parts j up down place : ℕ) → loss ≡ ExactlyZero
     → place + down + j ≡ up → StandsFor s loss (amount * 2 ^ down) (parts * 2 ^ up)
     → StandsFor (s * 2 ^ j) loss amount (2 ^ place * parts)
@@ -108,7 +108,7 @@ fits_cut s digits k precision h l =
     let d : s < 2 ^ precision * 2 ^ k = omega arith in
     (div-lt_iff_lt-mul (pow_pos k)).1 d
 
--- and if no more are cut off, it has all its digits
+-- with just the digits past the precision cut off, a significand has all the digits of the format
 pub full_cut : (s digits k precision : ℕ) → 0 < precision → (0 < digits → 2 ^ (digits - 1) ≤ s)
     → digits ≡ k + precision → 2 ^ (precision - 1) ≤ s / 2 ^ k
 full_cut s digits k precision p h e =
@@ -126,7 +126,7 @@ fits_shifted s digits j precision h l =
     let d : 2 ^ (digits + j) ≤ 2 ^ precision = pow-le-pow_right two_pos l in
     omega arith
 
--- shifted up to the precision, it has all its digits
+-- a significand shifted up to the precision has all the digits of the format
 pub full_shifted : (s digits j precision : ℕ) → 0 < digits → (0 < digits → 2 ^ (digits - 1) ≤ s)
     → digits + j ≡ precision → 2 ^ (precision - 1) ≤ s * 2 ^ j
 full_shifted s digits j precision p h e =
@@ -144,7 +144,7 @@ cut_fits precision s q digits k place up down b c e w =
     let l₀ : digits ≤ k + precision = omega arith in
     subst (λ (x : ℕ). x < 2 ^ precision) (sym w) (fits_cut s digits k precision b l₀)
 
--- and has all its digits, above the lowest place
+-- cut at the target place above the lowest one, a significand has all the digits of the format
 pub cut_full : (precision s q digits k place up down : ℕ) → 0 < precision → (0 < digits → 2 ^ (digits - 1) ≤ s)
     → (place ≡ 0) ⊎ (digits + up ≡ place + precision + down) → k + up ≡ place + down → q ≡ s / 2 ^ k
     → (place ≡ 0) ⊎ (2 ^ (precision - 1) ≤ q)
@@ -176,7 +176,7 @@ shift_fits precision s digits j place up down p' b c e =
     subst (λ (x : ℕ). x < 2 ^ precision) (shift_whole precision s digits j place up down p' b c e)
     (fits_shifted s digits j precision b l₀)
 
--- and has all its digits, above the lowest place
+-- shifted up to the target place above the lowest one, a significand has all the digits of the format
 pub shift_full : (precision s digits j place up down : ℕ) → precision ≤ 125 → s < 2 ^ digits
     → (0 < digits → 2 ^ (digits - 1) ≤ s) → (s ≡ 0 → ⊥) → digits + up ≤ place + precision + down
     → (place ≡ 0) ⊎ (digits + up ≡ place + precision + down) → place + down + j ≡ up
@@ -186,7 +186,7 @@ shift_full precision s digits j place up down p' b f n c r e =
     (λ y. inr (subst (λ (x : ℕ). 2 ^ (precision - 1) ≤ x) (shift_whole precision s digits j place up down p' b c e)
     (full_shifted s digits j precision (some_digits s digits b n) f (omega (arith, y))))) r
 
--- a significand that fits and stands for the amount, normalized or at the lowest place, encloses it
+-- a significand that fits and represents the amount, normalized or at the lowest place, encloses it
 pub enclosed_from : (precision q c : ℕ) (loss : Loss) (amount parts : ℕ) → 0 < precision → 0 < parts
     → q < 2 ^ precision → (c ≡ 0) ⊎ (2 ^ (precision - 1) ≤ q) → StandsFor q loss amount (2 ^ c * parts)
     → IsEnclosed precision (2 ^ (precision - 1)) q c amount parts

@@ -43,7 +43,7 @@ exact_below precision g amount parts p o e = record {
   greatest = λ other h l. let l' : other * parts ≤ g * parts = omega arith in le_of_mul-le-mul_right l' p;
 }
 
--- and its own neighbour above
+-- a grid number is its own neighbour above
 pub exact_above : (precision g amount parts : ℕ) → 0 < parts → IsOnGrid precision g → amount ≡ g * parts
     → IsAbove precision g amount parts
 exact_above precision g amount parts p o e = record {
@@ -52,7 +52,7 @@ exact_above precision g amount parts p o e = record {
   least = λ other h l. let l' : g * parts ≤ other * parts = omega arith in le_of_mul-le-mul_right l' p;
 }
 
--- and it is picked in each mode
+-- a grid number is picked in each mode
 pub exact_is_picked : (precision : ℕ) (mode : Round) (negative : Bool) (g amount parts : ℕ) → 0 < parts
     → IsOnGrid precision g → amount ≡ g * parts → IsPick precision mode negative amount parts g
 exact_is_picked precision mode negative g amount parts p o e = record {
@@ -104,7 +104,7 @@ takes_swapped TowardNegative false x y odd = refl
 takes_swapped TowardZero negative x y odd = refl
 takes_swapped NearestTiesToAway negative x y odd = refl
 
--- and leads out of the finite numbers exactly if the mode does
+-- on the other side of zero, the swapped mode leads out of the finite numbers exactly if the mode does
 leads_swapped : (mode : Round) (negative : Bool) → leads_out (swapped mode) (not negative) ≡ leads_out mode negative
 leads_swapped NearestTiesToEven negative = refl
 leads_swapped TowardPositive true = refl
@@ -114,7 +114,8 @@ leads_swapped TowardNegative false = refl
 leads_swapped TowardZero negative = refl
 leads_swapped NearestTiesToAway negative = refl
 
--- and rounds to a number below the smallest normalized one exactly if the mode does
+-- on the other side of zero, the swapped mode rounds to a number below the smallest normalized one exactly if the mode
+-- does
 below_swapped : (precision : ℕ) (mode : Round) (negative : Bool) (amount parts : ℕ)
     → rounds_below_normal precision (swapped mode) (not negative) amount parts
     ≡ rounds_below_normal precision mode negative amount parts
@@ -131,7 +132,7 @@ status_with format amount parts pick out below =
     (cond (cond format.tiny_before_rounding (ltb amount (smallest_normalized format * parts))
     (cond format.ieee_flags below (ltb pick (smallest_normalized format)))) 24 16))
 
--- so the flags are the same
+-- on the other side of zero, the swapped mode raises the same flags
 status_swapped : (format : Format) (mode : Round) (negative : Bool) (amount parts pick : ℕ)
     → delivered_status format mode negative amount parts pick
     ≡ delivered_status format (swapped mode) (not negative) amount parts pick
@@ -190,7 +191,7 @@ between_grows mode negative low high a b parts l h =
     cond_grows _ _ high low h (λ e. takes_more mode negative (a - low * parts) (high * parts - a) (b - low * parts)
     (high * parts - b) (eqb (low / (high - low) % 2) 1) (omega arith) (omega arith) e)
 
--- so for picks with the same two neighbours
+-- picks with the same two neighbours do not decrease as the magnitude increases
 grown : (precision : ℕ) (mode : Round) (negative : Bool) (a b parts p q : ℕ) → 0 < parts → a ≤ b
     → (low_pick : IsPick precision mode negative a parts p) → (high_pick : IsPick precision mode negative b parts q)
     → low_pick.below ≡ high_pick.below → low_pick.above ≡ high_pick.above → p ≤ q
@@ -212,7 +213,7 @@ below_grows : (precision low high a b parts : ℕ) → a ≤ b → IsBelow preci
 below_grows precision low high a b parts l x y = let k : low * parts ≤ a = x.not_above in
     y.greatest low x.on_grid (omega arith)
 
--- nor does the neighbour above
+-- the neighbour above does not decrease as the amount increases
 above_grows : (precision low high a b parts : ℕ) → a ≤ b → IsAbove precision low a parts
     → IsAbove precision high b parts → low ≤ high
 above_grows precision low high a b parts l x y = let k : b ≤ high * parts = y.not_below in
@@ -270,7 +271,7 @@ nonzero_swapped : (kind : NonfiniteBehavior) (negative : Bool) (p : ℕ) → (p 
     → signed_quanta kind (not negative) p ≡ negated kind (signed_quanta kind negative p)
 nonzero_swapped kind negative p n = let e : eqb p 0 ≡ false = ne_eqb p 0 n in rw e (rw e refl)
 
--- and so for any number of quanta
+-- the other sign negates any number of quanta
 signed_swapped : (kind : NonfiniteBehavior) (negative : Bool) (p : ℕ)
     → signed_quanta kind (not negative) p ≡ negated kind (signed_quanta kind negative p)
 signed_swapped kind negative p =
@@ -285,7 +286,7 @@ pub number_swapped : (kind : NonfiniteBehavior) (negative : Bool) (p : ℕ) → 
     → finite (not negative) p ≡ negated kind (finite negative p)
 number_swapped kind negative p h = let e : eqb p 0 ≡ false = ne_eqb p 0 (λ z. omega arith) in rw e refl
 
--- and for the value of any pick, past the largest value or not
+-- the other sign negates the value of any pick, past the largest value or not
 value_at : (format : Format) (negative : Bool) (p : ℕ) (past out : Bool) → 0 < largest format
     → cond past (cond out (past_largest format.nonfinite (nan_base format) (not negative))
     (finite (not negative) (largest format))) (signed_quanta format.nonfinite (not negative) p)

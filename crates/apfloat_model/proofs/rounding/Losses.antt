@@ -7,14 +7,14 @@ use Rattle.apfloat_model.specs.declared.loss.Loss.{Loss}
 use Rattle.apfloat_model.specs.declared.loss.Loss.TheVariants.{ExactlyZero, LessThanHalf, ExactlyHalf, MoreThanHalf}
 use Rattle.apfloat_model.specs.rounding.Standing.{StandsFor}
 
--- the amount is not below what the significand stands for
+-- the amount is not below what the significand represents
 pub stands_from : (s : ℕ) (loss : Loss) (amount unit : ℕ) → StandsFor s loss amount unit → s * unit ≤ amount
 stands_from s ExactlyZero amount unit h = omega (arith, h)
 stands_from s LessThanHalf amount unit h = let a = h.0 in omega (arith, a)
 stands_from s ExactlyHalf amount unit h = omega (arith, h)
 stands_from s MoreThanHalf amount unit h = let a = h.0 in omega (arith, a)
 
--- the amount is below what the next significand would stand for
+-- the amount is below what the next significand would represent
 pub stands_to : (s : ℕ) (loss : Loss) (amount unit : ℕ) → 0 < unit → StandsFor s loss amount unit
     → amount < (s + 1) * unit
 stands_to s ExactlyZero amount unit u h = omega (arith, h)
@@ -22,7 +22,7 @@ stands_to s LessThanHalf amount unit u h = let a = h.1 in omega (arith, a)
 stands_to s ExactlyHalf amount unit u h = omega (arith, h)
 stands_to s MoreThanHalf amount unit u h = let a = h.1 in omega (arith, a)
 
--- if something was lost, the amount is above what the significand stands for
+-- if something was lost, the amount is above what the significand represents
 pub stands_past : (s : ℕ) (loss : Loss) (amount unit : ℕ) → 0 < unit → (loss ≡ ExactlyZero → ⊥)
     → StandsFor s loss amount unit → s * unit < amount
 stands_past s ExactlyZero amount unit u n h = absurd (n refl)
@@ -43,7 +43,7 @@ stands_above point s loss amount unit u (inr n) h =
     let k : point * unit ≤ s * unit = mul-le-mul_right unit n.1 in
     omega arith
 
--- and a point above the significand is above the amount
+-- a point above the significand is above the amount
 stands_below : (point s : ℕ) (loss : Loss) (amount unit : ℕ) → 0 < unit → s < point → StandsFor s loss amount unit
     → amount < point * unit
 stands_below point s loss amount unit u l h =
@@ -102,7 +102,7 @@ cut_to_zero s places half loss answer p b hw f amount unit u h =
     subst (λ (x : ℕ). StandsFor x answer amount (2 ^ places * unit)) (div-eq_of_lt b)
     (cut_at s places half s loss answer p hw (sym (mod-eq_of_lt b)) f amount unit u h)
 
--- so does a cut of all 128 digits of the word
+-- a cut of all 128 digits of the word leaves 0
 pub cut_whole : (s places half : ℕ) (loss answer : Loss) → places ≡ 128 → s < 2 ^ 128 → half ≡ 2 ^ (places - 1)
     → ((q amount unit : ℕ) → 0 < unit → StandsFor (q * (2 * half) + s) loss amount unit
     → StandsFor q answer amount (2 * half * unit))
@@ -110,7 +110,7 @@ pub cut_whole : (s places half : ℕ) (loss answer : Loss) → places ≡ 128 �
 cut_whole s places half loss answer p b =
     cut_to_zero s places half loss answer (omega arith) (subst (λ (x : ℕ). s < 2 ^ x) (sym p) b)
 
--- and a cut of more than 128 digits, which loses less than half
+-- a cut of more than 128 digits leaves 0, with a loss of less than half
 pub cut_all : (s places : ℕ) (loss : Loss) (amount unit : ℕ) → 128 < places → s < 2 ^ 128 → 0 < unit
     → (0 < s) ⊎ (loss ≡ ExactlyZero → ⊥) → StandsFor s loss amount unit
     → StandsFor 0 LessThanHalf amount (2 ^ places * unit)

@@ -43,7 +43,7 @@ ok_tests true exact out tiny e = absurd (past_not_ok out e)
 ok_tests false true out tiny e = (refl, refl)
 ok_tests false false out tiny e = absurd (lost_not_ok tiny e)
 
--- the pick is a number of the format, and is the magnitude
+-- if the status is OK, the pick is a number of the format, and is the magnitude
 ok_is_exact : (format : Format) (mode : Round) (negative : Bool) (amount parts pick : ℕ)
     → delivered_status format mode negative amount parts pick ≡ ok_bits
     → (ltb (largest format) pick ≡ false) × (pick * parts ≡ amount)
@@ -61,7 +61,7 @@ pick_on_grid precision mode negative amount parts pick x =
     (eqb (x.below / (x.above - x.below) % 2) 1))
     (λ above. x.is_above.on_grid) (λ below. x.is_below.on_grid))
 
--- a rounding with status OK in one mode has that value, with status OK, in each mode
+-- a rounding with status OK in one mode has the same value, with status OK, in each mode
 pub ok_in_each_mode : (format : Format) (mode other : Round) (negative : Bool) (amount parts : ℕ) (value : Datum)
     → 0 < parts → IsDelivered format mode negative amount parts value ok_bits
     → IsDelivered format other negative amount parts value ok_bits
@@ -76,7 +76,7 @@ ok_in_each_mode format mode other negative amount parts value p x =
 
 -- ---- operations
 
--- where the status is OK in one mode, each mode gives that value, with status OK
+-- if the status is OK in one mode, each mode gives the same value, with status OK
 abbrev pub AgreesWhereOk : (Round → Datum → ℕ → Type 0) → Type 0
 AgreesWhereOk R =
     (mode other : Round) (value other_value : Datum) (status : ℕ)
@@ -93,7 +93,7 @@ delivered_agrees format negative amount parts p mode other v w s x y =
 answer_agrees : (datum : Datum) (flags : ℕ) → AgreesWhereOk (λ mode. IsAnswer datum flags)
 answer_agrees datum flags mode other v w s x y = (y.value_is ∙ sym x.value_is, y.status_is ∙ sym x.status_is)
 
--- of two such relations, the one that a test chooses
+-- if two relations agree where they are OK, so does the one that a test chooses
 match_agrees : (test : Bool) (P Q : Round → Datum → ℕ → Type 0) → (test ≡ true → AgreesWhereOk P)
     → (test ≡ false → AgreesWhereOk Q) → AgreesWhereOk (λ mode v s. MatchBool test (P mode v s) (Q mode v s))
 match_agrees true P Q p q = p refl
@@ -236,7 +236,7 @@ flags_ok format mode product z value flags h =
     sym a.status_is)
     (cases_eq flags ok_bits)
 
--- and then it is the sum of the product and the addend
+-- a fused sum with a special factor and status OK is the sum of the product and the addend
 pub added : (format : Format) (mode : Round) (product z value : Datum) (flags status : ℕ) → flags ≡ ok_bits
     → MatchBool (eqb flags ok_bits) (IsSum format mode product z value status) (IsAnswer product flags value status)
     → IsSum format mode product z value status

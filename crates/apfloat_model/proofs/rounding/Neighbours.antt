@@ -114,7 +114,7 @@ below_is precision half m c amount parts i = record {
       ⊎_elim (λ q. greatest_of precision half m c amount parts other i g l q) (λ q. q) (cases_lt (m * 2 ^ c) other);
 }
 
--- and the neighbour above too, if it is the magnitude itself
+-- the enclosing significand is the neighbour above too, if it is the magnitude itself
 pub above_is_same : (precision half m c amount parts : ℕ) → 0 < parts → IsEnclosed precision half m c amount parts
     → amount ≡ m * 2 ^ c * parts → IsAbove precision (m * 2 ^ c) amount parts
 above_is_same precision half m c amount parts p i e = record {
@@ -123,7 +123,7 @@ above_is_same precision half m c amount parts p i e = record {
   least = λ other g l. let l' : m * 2 ^ c * parts ≤ other * parts = omega arith in le_of_mul-le-mul_right l' p;
 }
 
--- otherwise the next significand is the neighbour above
+-- if the enclosing significand is not the magnitude itself, the next one is the neighbour above
 pub above_is_next : (precision half m c amount parts : ℕ) → IsEnclosed precision half m c amount parts
     → m * 2 ^ c * parts < amount → IsAbove precision ((m + 1) * 2 ^ c) amount parts
 above_is_next precision half m c amount parts i h = record {
@@ -143,7 +143,7 @@ below_unique precision a b amount parts x y =
     let k : b ≤ a = x.greatest b y.on_grid y.not_above in
     omega arith
 
--- and at most one above
+-- a magnitude has at most one neighbour above
 pub above_unique : (precision a b amount parts : ℕ) → IsAbove precision a amount parts
     → IsAbove precision b amount parts → a ≡ b
 above_unique precision a b amount parts x y =

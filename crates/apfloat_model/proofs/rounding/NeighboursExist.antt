@@ -24,7 +24,7 @@ enclosed_by_quotient precision half c amount parts p e h f =
       to = omega arith;
     }
 
--- how many binary digits a number has
+-- each number has a number of binary digits
 has_length : (n : ℕ) → (k : ℕ) × (n < 2 ^ k) × (2 ^ k ≤ 2 * n + 1)
 has_length n = let r = leading_length n n (below_power n) in (r.0, r.2, r.3)
 

@@ -11,7 +11,7 @@ use Rattle.apfloat_model.specs.rounding.RoundingToOdd.{IsRoundedToOdd, odd_for_r
 
 -- ---- a number that is cut
 
--- if something is lost, the amount lies strictly between two whole numbers of units
+-- if something is lost, the amount is strictly between two consecutive multiples of the unit
 stands_strictly : (q : ℕ) (loss : Loss) (amount u : ℕ) → 0 < u → (loss ≡ ExactlyZero → ⊥) → StandsFor q loss amount u
     → (q * u < amount) × (amount < (q + 1) * u)
 stands_strictly q ExactlyZero amount u p n h = absurd (n refl)
@@ -20,7 +20,7 @@ stands_strictly q ExactlyHalf amount zero p n h = absurd (omega arith)
 stands_strictly q ExactlyHalf amount (suc u) p n h = (omega (arith, h), omega (arith, h))
 stands_strictly q MoreThanHalf amount u p n h = let a = h.0 in let b = h.1 in (omega (arith, a, b), b)
 
--- an even number of units below which something is lost goes up to the odd one
+-- an even number of units below which something is lost is rounded up to the odd one
 pub raised_to_odd : (n u q : ℕ) → q * u < n → n < (q + 1) * u → q % 2 ≡ 0 → IsRoundedToOdd 1 (q + 1) n u
 raised_to_odd n u q a b e = inr (record {
   long = omega arith;
@@ -29,7 +29,7 @@ raised_to_odd n u q a b e = inr (record {
   below = omega (arith, b);
 })
 
--- and an odd one stays
+-- an odd number of units below which something is lost is unchanged
 pub stays_odd : (n u q : ℕ) → q * u ≤ n → n < (q + 1) * u → q % 2 ≡ 1 → IsRoundedToOdd 1 q n u
 stays_odd n u q a b o = inr (record {
   long = omega (arith, o);
@@ -38,7 +38,7 @@ stays_odd n u q a b o = inr (record {
   below = omega (arith, b);
 })
 
--- what is cut off as a whole leaves 1, if it is not 0
+-- a nonzero amount that is cut off completely is rounded to 1
 pub beyond_to_odd : (n digits k : ℕ) → digits ≤ k → n < 2 ^ digits → 0 < n → IsRoundedToOdd 1 1 n (2 ^ k)
 beyond_to_odd n digits k l h p =
     let w : 2 ^ digits ≤ 2 ^ k = pow-le-pow_right two_pos l in
@@ -68,7 +68,7 @@ set_if_lost n places true f g =
     (stays_odd n (2 ^ places) q (omega (arith, d)) (omega (arith, d, m)) (omega (arith, l))))
     (cases_lt (q % 2) 1)
 
--- as many places as the number has digits leave nothing of it, as more do
+-- shifting a number by as many places as it has digits, or more, leaves nothing
 pub nothing_left : (n digits limit near places : ℕ) → n < 2 ^ digits → digits ≤ limit
     → (places ≤ limit → near ≡ places) → (limit < places → near ≡ limit) → n / 2 ^ near ≡ n / 2 ^ places
 nothing_left n digits limit near places h d f g =
@@ -90,7 +90,7 @@ to_odd_least least lower s amount u l (inr b) =
     let m = b.long in
     inr (record { long = omega (arith, m, l); odd = b.odd; above = b.above; below = b.below })
 
--- what stands for an amount, with a loss, is rounded to odd by it: if it is even it goes up
+-- a significand that represents an amount, with a loss, is rounded to odd by moving up if it is even
 pub lost_to_odd : (least q : ℕ) (loss : Loss) (amount u : ℕ) → least ≤ q → 0 < u
     → (loss ≡ ExactlyZero → ⊥) → StandsFor q loss amount u
     → (q % 2 ≡ 0 → IsRoundedToOdd least (q + 1) amount u) × (q % 2 ≡ 1 → IsRoundedToOdd least q amount u)
@@ -128,7 +128,7 @@ at_most false q = omega arith
 pub odd_at_most : (q rest : ℕ) → odd_for_rest q rest ≤ q + 1 - q % 2
 odd_at_most q rest = at_most (eqb rest 0) q
 
--- a whole quotient below which something is left
+-- an integer quotient with a rest is rounded to odd by moving up if it is even
 left_to_odd : (least n d q : ℕ) → least ≤ q → q * d < n → n < (q + 1) * d
     → IsRoundedToOdd least (q + 1 - q % 2) n d
 left_to_odd least n d q l a b =
@@ -172,7 +172,7 @@ quotient_to_odd least n d p l =
 
 -- ---- units
 
--- a whole number of units is not changed
+-- rounding to odd does not change a whole number of units
 pub whole_to_odd : (least s m u : ℕ) → IsRoundedToOdd least s (m * u) u → s * u ≡ m * u
 whole_to_odd least s m u (inl e) = sym e
 whole_to_odd least s m u (inr b) =
@@ -181,7 +181,7 @@ whole_to_odd least s m u (inr b) =
     let e : s ≡ m = omega arith in
     ap (λ (x : ℕ). x * u) e
 
--- multiplying amount and unit by a factor changes nothing
+-- multiplying amount and unit by a factor does not change what is rounded to odd
 pub to_odd_times : (least s amount u w : ℕ) → 0 < w → IsRoundedToOdd least s amount u
     → IsRoundedToOdd least s (amount * w) (u * w)
 to_odd_times least s amount u w p (inl e) =
@@ -191,7 +191,7 @@ to_odd_times least s amount u w p (inr b) =
     let l : amount * w < (s + 1) * u * w = mul-lt-mul_of_pos_right b.below p in
     inr (record { long = b.long; odd = b.odd; above = omega arith; below = omega arith })
 
--- nor does dividing both by a common factor
+-- dividing amount and unit by a common factor does not change what is rounded to odd
 pub to_odd_cancel : (least s amount u w : ℕ) → 0 < w → IsRoundedToOdd least s (amount * w) (u * w)
     → IsRoundedToOdd least s amount u
 to_odd_cancel least s amount u w p (inl e) = inl (eq_of_mul-eq-mul_right w p amount (s * u) (omega (arith, e)))
@@ -206,7 +206,7 @@ to_odd_cancel least s amount u w p (inr b) =
 
 -- ---- sums
 
--- the number of units is at most the amount
+-- the rounded number of units is at most the amount
 pub to_odd_at_most : (least s amount u : ℕ) → 0 < u → IsRoundedToOdd least s amount u → s ≤ amount
 to_odd_at_most least s amount zero p (inl e) = absurd (omega arith)
 to_odd_at_most least s amount (suc u) p (inl e) = omega (arith, e)
@@ -216,7 +216,7 @@ to_odd_at_most least (suc s) amount u p (inr b) =
     let k : s * 1 ≤ s * u = mul-le-mul_left s p in
     omega (arith, a, k)
 
--- an even number of whole units can be added
+-- an even number of whole units can be added to an amount rounded to odd
 pub odd_together : (least high low j u : ℕ) → high % 2 ≡ 0 → least ≤ high → IsRoundedToOdd 1 j low u
     → IsRoundedToOdd least (high + j) (high * u + low) u
 odd_together least high low j u e l (inl d) = inl (omega (arith, d))
@@ -229,7 +229,7 @@ odd_together least high low j u e l (inr b) =
       below = omega (arith, d);
     })
 
--- and what was rounded can be subtracted from one that is greater
+-- an amount rounded to odd can be subtracted from a greater even number of whole units
 pub odd_apart : (least high low j u : ℕ) → high % 2 ≡ 0 → j + 1 + least ≤ high → IsRoundedToOdd 1 j low u
     → (low ≤ high * u) × IsRoundedToOdd least (high - j) (high * u - low) u
 odd_apart least high low j u e l (inl d) =

@@ -33,7 +33,7 @@ use Rattle.apfloat_model.proofs.rounding.ModesAgree.{some, added, product_agrees
 use Rattle.apfloat_model.proofs.texts.OneMeaning.{one_meaning}
 use Rattle.apfloat_model.proofs.rounding.OutwardRoundings.{at_most_self, equal_to_self, equal_numbers, number_at_most, Encloses, delivered_encloses}
 
--- a datum is a bound of itself
+-- a datum that is not a NaN bounds itself
 one_bounds : (IsExact : ℕ → Type 0) (datum : Datum) (flags : ℕ) → IsExact flags → is_nan datum ≡ false
     → AreBounds IsExact datum datum flags flags
 one_bounds IsExact datum flags e n =
@@ -43,31 +43,31 @@ one_bounds IsExact datum flags e n =
       equal_by_high = (λ _. e, λ _. equal_to_self datum n);
     }
 
--- a result given outright, whatever the mode, is exact or a NaN
+-- a result given outright, whatever the mode, gives bounds if it is exact or a NaN
 answer_encloses : (IsExact : ℕ → Type 0) (datum : Datum) (flags : ℕ)
     → (is_nan datum ≡ false → IsExact flags) → Encloses IsExact (λ mode. IsAnswer datum flags)
 answer_encloses IsExact datum flags e low high s t d g n m =
     let k : is_nan datum ≡ false = subst (λ (v : Datum). is_nan v ≡ false) d.value_is n in
     rw (d.value_is, g.value_is, d.status_is, g.status_is) (one_bounds IsExact datum flags (e k) k)
 
--- it has status OK
+-- a result given outright with status OK gives bounds
 ok_encloses : (datum : Datum) → Encloses IsOk (λ mode. IsAnswer datum ok_bits)
 ok_encloses datum = answer_encloses IsOk datum ok_bits (λ n. refl)
 
--- or it is a NaN
+-- a result given outright that is a NaN gives bounds, which claim nothing about NaNs
 nan_encloses : (IsExact : ℕ → Type 0) (negative : Bool) (significand flags : ℕ)
     → Encloses IsExact (λ mode. IsAnswer (nan negative significand) flags)
 nan_encloses IsExact negative significand flags =
     answer_encloses IsExact (nan negative significand) flags (λ n. absurd (true≢false n))
 
--- of two such relations, the one that a test chooses
+-- if two relations give bounds, so does the one that a test chooses
 match_encloses : (IsExact : ℕ → Type 0) (test : Bool) (P Q : Round → Datum → ℕ → Type 0)
     → (test ≡ true → Encloses IsExact P) → (test ≡ false → Encloses IsExact Q)
     → Encloses IsExact (λ mode v s. MatchBool test (P mode v s) (Q mode v s))
 match_encloses IsExact true P Q p q = p refl
 match_encloses IsExact false P Q p q = q refl
 
--- an invalid operation or a result given outright, as a test chooses
+-- an invalid operation or a result given outright, as a test chooses, gives bounds
 invalid_or_encloses : (IsExact : ℕ → Type 0) (format : Format) (test : Bool) (datum : Datum) (flags : ℕ)
     → (test ≡ false → is_nan datum ≡ false → IsExact flags)
     → Encloses IsExact (λ mode v s. MatchBool test (IsInvalid format v s) (IsAnswer datum flags v s))
@@ -88,7 +88,7 @@ product_encloses format (infinite b) (infinite c) = ok_encloses (infinite (produ
 product_encloses format (finite b m) (finite c n) =
     delivered_encloses format (product_sign b c) (m * n) (2 ^ format.scale) (pow_pos format.scale)
 
--- where the operand is not a zero, only status OK is exact
+-- if the operand is not a zero, only a status of OK is exact
 exact_by_ok : (operand low high : Datum) (s t : ℕ) → is_zero operand ≡ false → AreBounds IsOk low high s t
     → AreBounds (IsOkOrOfZero operand) low high s t
 exact_by_ok operand low high s t z b =
@@ -135,7 +135,7 @@ pub from_signed_encloses : (format : Format) (number : ℤ)
 from_signed_encloses format number =
     delivered_encloses format (sign_of false number) (magnitude number * 2 ^ format.scale) 1 (lit< tt)
 
--- infinities that the format has are kept, with status OK
+-- a conversion keeps an infinity that the format has, with status OK
 kept_infinity : (kind : NonfiniteBehavior) (base : ℕ) (negative : Bool)
     → is_nan (past_largest kind base negative) ≡ false
     → cond (not (has_infinities kind)) inexact_bit ok_bits ≡ ok_bits
@@ -143,7 +143,7 @@ kept_infinity IEEE754 base negative n = refl
 kept_infinity NanOnly base negative n = absurd (true≢false n)
 kept_infinity NanNegativeZero base negative n = absurd (true≢false n)
 
--- a result given outright, whatever the mode, and what it loses
+-- a conversion given outright, whatever the mode, gives bounds if it is exact or a NaN
 converted_encloses : (IsExact : ℕ → Type 0) (datum : Datum) (flags : ℕ) (losing : Bool)
     → (is_nan datum ≡ false → IsExact flags)
     → Encloses IsExact (λ mode value status. (loses : Bool) × IsConverted datum flags losing value status loses)
@@ -238,7 +238,7 @@ difference_encloses format (infinite b) (finite c n) = sum_encloses format (infi
 difference_encloses format (infinite b) (infinite c) = sum_encloses format (infinite b)
     (negated format.nonfinite (infinite c))
 
--- the product of operands that are not both numbers is a NaN, or has status OK
+-- a product of operands that are not both numbers is a NaN, or has status OK
 invalid_or_ok : (format : Format) (test : Bool) (datum value : Datum) (status : ℕ)
     → MatchBool test (IsInvalid format value status) (IsAnswer datum ok_bits value status)
     → (is_nan value ≡ true) ⊎ (status ≡ ok_bits)
@@ -258,7 +258,7 @@ special_product format mode (infinite b) (finite c k) v s n h =
 special_product format mode (infinite b) (infinite c) v s n h = inr h.status_is
 special_product format mode (finite b m) (finite c k) v s n h = absurd (true≢false n)
 
--- a sum with a NaN is one
+-- a sum with a NaN is a NaN
 nan_stays : (format : Format) (mode : Round) (test : Bool) (product z value : Datum) (flags status : ℕ)
     → is_nan product ≡ true
     → MatchBool test (IsSum format mode product z value status) (IsAnswer product flags value status)
@@ -268,7 +268,7 @@ nan_stays format mode false (nan b u) z v f s e h = ap is_nan h.value_is
 nan_stays format mode test (finite b m) z v f s e h = absurd (false≢true e)
 nan_stays format mode test (infinite b) z v f s e h = absurd (false≢true e)
 
--- so a fused sum that is not a NaN has a product with status OK
+-- if a fused sum is not a NaN, its product has status OK
 product_ok : (format : Format) (mode : Round) (x y z value : Datum) (status : ℕ)
     → is_finite x && is_finite y ≡ false → is_nan value ≡ false
     → (h : IsSumWithProduct format mode x y z value status) → h.flags ≡ ok_bits

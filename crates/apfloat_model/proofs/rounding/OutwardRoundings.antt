@@ -25,7 +25,7 @@ use Rattle.apfloat_model.proofs.rounding.ModesAgree.{AgreesWhereOk, delivered_ag
 
 -- ---- data in order
 
--- numbers are equal exactly if their integers are
+-- numbers compare equal exactly if their integers are equal
 pub equal_numbers : (x y : ℤ) → Decides (is_eq (int_cmp x y)) (x ≡ y)
 equal_numbers x y = ranked_equal x y (int_cmp x y) (int_ranks x y)
 
@@ -39,7 +39,7 @@ at_most_self (infinite true) h = inl refl
 at_most_self (infinite false) h = inr refl
 at_most_self (nan b s) h = absurd (true≢false h)
 
--- and equal to itself
+-- a datum that is not a NaN is equal to itself
 pub equal_to_self : (v : Datum) → is_nan v ≡ false → is_equal v v ≡ true
 equal_to_self (finite b n) h = (equal_numbers (signed b n) (signed b n)).1 refl
 equal_to_self (infinite true) h = refl
@@ -76,21 +76,21 @@ signed_number kind negative (suc n) =
 abbrev InOrder : Datum → Datum → Type 0 → Type 0
 InOrder low high Only = AtMost low high × (is_equal low high ≡ true → Only)
 
--- two numbers
+-- two numbers are in order if their integers are
 numbers_in_order : (x y : ℤ) (low high : Datum) → IsNumber x low → IsNumber y high → x ≤ℤ y
     → InOrder low high (x ≡ y)
 numbers_in_order x y low high a b l =
     rw (a.value_is, b.value_is, a.number_is, b.number_is) (l, (equal_numbers x y).0)
 
--- a number and +infinity
+-- a number is below +infinity
 below_infinity : (z : ℤ) (low : Datum) (Only : Type 0) → IsNumber z low → InOrder low (infinite false) Only
 below_infinity z low Only a = rw a.value_is (refl, λ e. absurd (false≢true e))
 
--- -infinity and a number
+-- -infinity is below a number
 above_infinity : (z : ℤ) (high : Datum) (Only : Type 0) → IsNumber z high → InOrder (infinite true) high Only
 above_infinity z high Only a = rw a.value_is (refl, λ e. absurd (false≢true e))
 
--- what is past the largest value, unless it is a NaN
+-- the value past the largest one, unless it is a NaN, is above a number
 before_past : (kind : NonfiniteBehavior) (base : ℕ) (z : ℤ) (low : Datum) (Only : Type 0) → IsNumber z low
     → is_nan (past_largest kind base false) ≡ false → InOrder low (past_largest kind base false) Only
 before_past IEEE754 base z low Only a h = below_infinity z low Only a
@@ -117,7 +117,7 @@ inner_number kind true negative top p =
     record { negative = negative; quanta = top; value_is = refl; number_is = refl }
 inner_number kind false negative top p = signed_number kind negative p
 
--- two neighbours that are equal and in range
+-- the two neighbours are equal and in range
 abbrev AreOne : ℕ → ℕ → ℕ → Type 0
 AreOne top p q = (p ≡ q) × (q ≤ top)
 
@@ -127,7 +127,7 @@ same_positive p q e = omega (arith, ints)
 same_negative : (p q : ℕ) → signed true q ≡ signed true p → p ≡ q
 same_negative p q e = omega (arith, ints)
 
--- positive neighbours
+-- the values for two positive neighbours are in order
 positive_in_order : (kind : NonfiniteBehavior) (base : ℕ) (first second : Bool) (top p q : ℕ)
     → ltb top p ≡ first
     → ltb top q ≡ second → p ≤ q → is_nan (outer kind base second false q) ≡ false
@@ -141,7 +141,7 @@ positive_in_order kind base false false top p q x y l h =
     (signed_number kind false q) (omega (arith, ints)) in
     (o.0, λ e. (same_positive p q (o.1 e), ltb-false top q y))
 
--- negative neighbours
+-- the values for two negative neighbours are in order
 negative_in_order : (kind : NonfiniteBehavior) (base : ℕ) (first second : Bool) (top p q : ℕ)
     → ltb top p ≡ first
     → ltb top q ≡ second → p ≤ q → is_nan (outer kind base second true q) ≡ false
@@ -168,7 +168,7 @@ one_neighbour_ok format mode negative amount parts p q v s h below above one d =
     (delivered_once format mode negative amount parts v _ s ok_bits d
     (exact_delivered format mode negative q amount parts h above.on_grid one.1 is)).1
 
--- one rounding downward and upward
+-- the results of one rounding downward and upward are in order
 delivered_in_order : (format : Format) (negative : Bool) (amount parts : ℕ) (low high : Datum) (s t : ℕ)
     → 0 < parts → IsDelivered format TowardNegative negative amount parts low s
     → IsDelivered format TowardPositive negative amount parts high t

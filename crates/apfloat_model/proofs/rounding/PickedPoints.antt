@@ -24,7 +24,7 @@ pub kept_moved : (mode : Round) (negative : Bool) (loss : Loss) (m : ℕ) (moved
     → moved ≡ rounds_up mode negative loss (eqb (m % 2) 1) → moved ≡ true → m + 1 ≡ kept mode negative loss m
 kept_moved mode negative loss m moved e t = ap (λ (b : Bool). cond b (m + 1) m) (sym t ∙ e)
 
--- otherwise the significand itself is kept
+-- if the mode does not move up, the significand itself is kept
 pub kept_stayed : (mode : Round) (negative : Bool) (loss : Loss) (m : ℕ) (moved : Bool)
     → moved ≡ rounds_up mode negative loss (eqb (m % 2) 1) → moved ≡ false → m ≡ kept mode negative loss m
 kept_stayed mode negative loss m moved e t = ap (λ (b : Bool). cond b (m + 1) m) (sym t ∙ e)

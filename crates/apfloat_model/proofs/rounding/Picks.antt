@@ -70,7 +70,7 @@ odd_is m c =
 abbrev pub kept : Round → Bool → Loss → ℕ → ℕ
 kept mode negative loss m = cond (rounds_up mode negative loss (eqb (m % 2) 1)) (m + 1) m
 
--- between two neighbours the mode decides
+-- between two neighbours, the mode picks the kept significand or the next one
 pub inexact_pick : (precision : ℕ) (mode : Round) (negative : Bool) (half m c amount parts : ℕ) (up : Bool)
     → IsEnclosed precision half m c amount parts → m * 2 ^ c * parts < amount
     → takes_above mode negative (amount - m * 2 ^ c * parts) ((m + 1) * 2 ^ c * parts - amount) (eqb (m % 2) 1) ≡ up

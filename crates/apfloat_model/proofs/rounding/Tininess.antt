@@ -69,7 +69,7 @@ taken mode negative last amount parts ExactlyHalf l h = takes_half mode negative
 taken mode negative last amount parts MoreThanHalf l h =
     let a = h.0 in let b = h.1 in takes_more mode negative true _ _ (omega (arith, a, b))
 
--- the amount of a kept significand that is not the last one before the half is below the half by a quantum or more
+-- if a kept significand below the half is not the last one, the amount is below the half by a quantum or more
 pub below_by_more : (precision half m c amount parts : ℕ) (mode : Round) (negative : Bool) → 0 < parts
     → m + 1 < half
     → IsEnclosed precision half m c amount parts → rounds_below_normal precision mode negative amount parts ≡ true
@@ -85,7 +85,7 @@ below_by_more precision half m c amount parts mode negative p l i =
     (λ (f : half ≤ m). absurd (omega arith))
     i.full
 
--- a kept significand of at least the half is not below
+-- if a kept significand is at least the half, the amount is not below the smallest normalized number
 pub not_below : (precision half m c amount parts : ℕ) (mode : Round) (negative : Bool) → 0 < parts → half ≤ m
     → IsEnclosed precision half m c amount parts
     → rounds_below_normal precision mode negative amount parts ≡ false
@@ -102,7 +102,7 @@ not_below precision half m c amount parts mode negative p l i =
     at_last precision mode negative amount parts
     ∙ from_next mode negative (2 ^ precision - 1) (2 * amount) parts p (omega (arith, k, f, e))
 
--- what a significand stands for with a loss of at most half is at most half a unit above it
+-- an amount with a loss of at most half is at most half a unit above its significand
 at_most_half : (m : ℕ) (loss : Loss) (amount parts : ℕ) → 0 < parts → (loss ≡ MoreThanHalf → ⊥)
     → StandsFor m loss amount parts → 2 * amount ≤ (2 * m + 1) * parts
 at_most_half m ExactlyZero amount parts p n h = omega (arith, h)
@@ -110,7 +110,8 @@ at_most_half m LessThanHalf amount parts p n h = let a = h.1 in omega (arith, a)
 at_most_half m ExactlyHalf amount parts p n h = omega (arith, h)
 at_most_half m MoreThanHalf amount parts p n h = absurd (n refl)
 
--- so if the significand is the last one before the half, the amount is below
+-- if the significand is the last one before the half, with a loss of at most half, the amount is below the smallest
+-- normalized number
 pub below_by_half : (precision half m amount parts : ℕ) (mode : Round) (negative : Bool) (loss : Loss) → 0 < parts
     → 2 ^ precision ≡ 2 * half → m + 1 ≡ half → (loss ≡ MoreThanHalf → ⊥)
     → StandsFor m loss amount parts → rounds_below_normal precision mode negative amount parts ≡ true

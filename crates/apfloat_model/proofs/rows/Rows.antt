@@ -15,7 +15,7 @@ use Rattle.apfloat_model.specs.arithmetic.Conversions.{IsConversion}
 use Rattle.apfloat_model.proofs.Once.{from_unsigned_once}
 use Rattle.apfloat_model.proofs.rows.RowsIn.{half, single, e5m2, e4m3fn, e4m3fnuz, half_tiny_before, half_ieee, half_ieee_before, in_half, in_single, in_e5m2, in_e4m3fn, in_e4m3fnuz, rounded}
 
--- ---- whole numbers in
+-- ---- integers in
 
 -- 464 is a value of half precision
 half_of_464 : (mode : Round) → IsFromUnsigned half mode 464 (in_half 0x5f40) ok_bits
@@ -83,16 +83,17 @@ sum_past_the_largest = rounded 2047 29 refl refl refl
 sum_kept_at_the_largest : IsSum half TowardZero (in_half 0x7bff) (in_half 0x4c00) (in_half 0x7bff) inexact_bit
 sum_kept_at_the_largest = rounded 2047 29 refl refl refl
 
--- twice 65504 is past the largest value also when it is rounded toward zero, which the built-in formats do not tell
+-- twice 65504 is past the largest value even if it is rounded toward zero, which the flags of the built-in formats do
+-- not show
 double_of_the_largest : IsSum half TowardZero (in_half 0x7bff) (in_half 0x7bff) (in_half 0x7bff) inexact_bit
 double_of_the_largest = rounded 2047 30 refl refl refl
 
--- with the flags of IEEE 754-2008 it is an overflow
+-- with the flags of IEEE 754-2008, it overflows
 overflow_toward_zero : IsSum half_ieee TowardZero (in_half 0x7bff) (in_half 0x7bff) (in_half 0x7bff)
     (overflow_bit + inexact_bit)
 overflow_toward_zero = rounded 2047 30 refl refl refl
 
--- but 65504 + 16 toward zero is 65504, which is not past it
+-- 65504 + 16 toward zero is 65504, which is not past the largest value
 no_overflow_toward_zero : IsSum half_ieee TowardZero (in_half 0x7bff) (in_half 0x4c00) (in_half 0x7bff) inexact_bit
 no_overflow_toward_zero = rounded 2047 29 refl refl refl
 
@@ -112,7 +113,7 @@ zero_difference = rounded 0 0 refl refl refl
 zero_difference_downward : IsDifference half TowardNegative (in_half 0x3c00) (in_half 0x3c00) (in_half 0x8000) ok_bits
 zero_difference_downward = rounded 0 0 refl refl refl
 
--- but +0 if the format has no -0
+-- downward it is +0 if the format has no -0
 zero_difference_without_minus : IsDifference e4m3fnuz TowardNegative (in_e4m3fnuz 0x40) (in_e4m3fnuz 0x40)
     (in_e4m3fnuz 0x00) ok_bits
 zero_difference_without_minus = rounded 0 0 refl refl refl
@@ -137,7 +138,7 @@ underflow_upward = rounded 0 0 refl refl refl
 tiny_after_rounding : IsProduct half NearestTiesToEven (in_half 0x0400) (in_half 0x3bff) (in_half 0x0400) inexact_bit
 tiny_after_rounding = rounded 1023 0 refl refl refl
 
--- before rounding it is
+-- if tininess is detected before rounding, it is tiny
 tiny_before_rounding : IsProduct half_tiny_before NearestTiesToEven (in_half 0x0400) (in_half 0x3bff)
     (in_half 0x0400) (underflow_bit + inexact_bit)
 tiny_before_rounding = rounded 1023 0 refl refl refl
@@ -157,7 +158,7 @@ tiny_toward_zero : IsProduct half_ieee TowardZero (in_half 0x0401) (in_half 0x3b
     (underflow_bit + inexact_bit)
 tiny_toward_zero = rounded 1023 0 refl refl refl
 
--- before rounding it is tiny in each mode
+-- if tininess is detected before rounding, it is tiny in each mode
 tiny_before_with_ieee_flags : IsProduct half_ieee_before NearestTiesToEven (in_half 0x0401) (in_half 0x3bfe)
     (in_half 0x0400) (underflow_bit + inexact_bit)
 tiny_before_with_ieee_flags = rounded 1023 0 refl refl refl
@@ -176,7 +177,7 @@ third_in_e4m3fn = rounded 10 4 refl refl refl
 
 -- ---- fused sums
 
--- the product is a little above the least positive value, which is subtracted: the rest is not lost
+-- the product is slightly above the least positive value, which is subtracted: the rest is not lost
 fused_rounded_once : IsFusedSum half TowardPositive (in_half 0x0d89) (in_half 0x09c8) (in_half 0x8001)
     (in_half 0x0001) (underflow_bit + inexact_bit)
 fused_rounded_once = rounded 0 0 refl refl refl
@@ -191,7 +192,7 @@ fused_exactly : (mode : Round)
     → IsFusedSum half mode (in_half 0x3c01) (in_half 0x3c01) (in_half 0xbc02) (in_half 0x0010) ok_bits
 fused_exactly mode = rounded 16 0 refl refl refl
 
--- ---- conversions, which also return whether something was lost
+-- ---- conversions, which also say whether information was lost
 
 -- -480, past the greatest magnitude, 448
 conversion_kept_at_the_largest : IsConversion single e4m3fn TowardPositive (in_single 0xc3f00000) (in_e4m3fn 0xfe)

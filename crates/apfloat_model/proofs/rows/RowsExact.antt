@@ -1,5 +1,5 @@
--- Worked rows of what needs no rounding: NaNs and infinities, remainders, whole numbers out,
--- neighbours, exponents, order. See `Rows`.
+-- Worked rows of what needs no rounding: NaNs and infinities, remainders, integers out, neighbours, exponents, order.
+-- See `Rows`.
 use Rattle.std.proofs.Common.{◌≡◌, ◌^◌, true, false, refl, neg_ℤ, pos, lit<, lit≤, arith}
 use Rattle.std.specs.Prelude.{Some, None}
 use Rattle.apfloat_model.specs.declared.kinds.Round.{Round}
@@ -38,7 +38,7 @@ infinities_of_one_sign = answer
 infinity_times_zero : IsProduct half NearestTiesToEven (in_half 0x7c00) (in_half 0x0000) (in_half 0x7e00) invalid_bit
 infinity_times_zero = answer
 
--- also in a fused sum whose addend is a NaN
+-- an infinity times zero is invalid even in a fused sum whose addend is a NaN
 invalid_product : IsFusedSum half NearestTiesToEven (in_half 0x7c00) (in_half 0x0000) (in_half 0x7e01)
     (in_half 0x7e00) invalid_bit
 invalid_product = record { product = in_half 0x7e00; flags = invalid_bit; is_product = answer; is = answer }
@@ -53,7 +53,7 @@ one_nan_is_not_negated = refl
 nan_converted : IsConversion single half NearestTiesToEven (in_single 0x7fa00000) (in_half 0x7f00) invalid_bit false
 nan_converted = converted
 
--- if a later bit is set, something is lost
+-- if a lower bit is set, information is lost
 nan_with_loss : IsConversion single half NearestTiesToEven (in_single 0x7fc00001) (in_half 0x7e00) ok_bits true
 nan_with_loss = converted
 
@@ -100,14 +100,14 @@ nearest_remainder_of_tie = answer
 nearest_remainder_of_next_tie : IsNearestRemainder half (in_half 0x4700) (in_half 0x4000) (in_half 0xbc00) ok_bits
 nearest_remainder_of_next_tie = answer
 
--- 448 / 1.875 is 238.9: the quotient is 238 cut toward zero, 239 to nearest
+-- 448 / 1.875 is 238.9: the quotient is 238 truncated toward zero, 239 to nearest
 truncated_remainder : IsTruncatedRemainder e4m3fn (in_e4m3fn 0x7e) (in_e4m3fn 0x3f) (in_e4m3fn 0x3e) ok_bits
 truncated_remainder = answer
 
 nearest_remainder : IsNearestRemainder e4m3fn (in_e4m3fn 0x7e) (in_e4m3fn 0x3f) (in_e4m3fn 0xa0) ok_bits
 nearest_remainder = answer
 
--- ---- rounding to a whole number
+-- ---- rounding to an integer
 
 -- 1.5 and 2.5
 integral_of_one_and_a_half : IsRoundToIntegral half NearestTiesToEven (in_half 0x3e00) (in_half 0x4000) inexact_bit
@@ -120,7 +120,7 @@ integral_of_two_and_a_half = answer
 integral_of_minus_one_half : IsRoundToIntegral half TowardZero (in_half 0xb800) (in_half 0x8000) inexact_bit
 integral_of_minus_one_half = answer
 
--- ---- whole numbers out
+-- ---- integers out
 
 -- 255.5 in eight bits: 256 is out of range
 out_of_range : IsToUnsigned single NearestTiesToEven 8 (in_single 0x437f8000) 255 invalid_bit false
@@ -143,7 +143,7 @@ minus_two_and_a_half_out = whole
 minus_three_out : IsToSigned half NearestTiesToEven 2 (in_half 0xc200) (neg_ℤ (pos 2)) invalid_bit false
 minus_three_out = whole
 
--- -0 is not a whole number
+-- -0 is not an integer
 minus_zero_out : IsToSigned single TowardNegative 8 (in_single 0x80000000) (pos 0) ok_bits false
 minus_zero_out = whole
 

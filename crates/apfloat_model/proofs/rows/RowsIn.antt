@@ -1,4 +1,4 @@
--- What the worked rows share: named formats, values given by their bits, and how a rounding is proved.
+-- What the worked rows have in common: named formats, values given by their bits, and the proof of a rounding.
 use Rattle.std.proofs.Common.{◌≡◌, ℕ, ◌+◌, ◌-◌, ◌*◌, ◌^◌, ◌<◌, Bool, true, false, ltb, leb, eqb, ◌&&◌, ◌||◌, if◌then◌else◌, refl, sym, ⊎_elim, inl, inr}
 use Rattle.std.proofs.Math.Arith.{lt_of_le-ne}
 use Rattle.std.proofs.lemmas.Bool.{and_parts, or_cases, leb-true, ltb-true, eqb-true, eqb-false}
@@ -64,7 +64,7 @@ in_e4m3fnuz bits = value_in e4m3fnuz_constants bits
 
 -- ---- results that need no rounding
 
--- a result given outright: a datum, a whole number, or a conversion
+-- a result given outright: a datum, an integer, or a conversion
 pub answer : {value : Datum} {status : ℕ} → IsAnswer value status value status
 answer = record { value_is = refl; status_is = refl }
 
@@ -94,7 +94,7 @@ picked mode negative m c amount parts =
 
 module _ (precision : ℕ) (mode : Round) (negative : Bool) (m c amount parts : ℕ)
     (i : IsEnclosed precision (2 ^ (precision - 1)) m c amount parts) (p : 0 < parts) where
-  -- that is the pick; `same` is whether the magnitude is the lower neighbour
+  -- `picked` is the pick; `same` says whether the magnitude is the lower neighbour
   is_picked : (same : Bool) → eqb amount (m * 2 ^ c * parts) ≡ same
       → IsPick precision mode negative amount parts
       (if same then m * 2 ^ c else pick_between mode negative (m * 2 ^ c) ((m + 1) * 2 ^ c) amount parts)
@@ -113,7 +113,7 @@ module _ (precision : ℕ) (mode : Round) (negative : Bool) (m c amount parts : 
     is = refl;
   }
 
--- a rounding is proved by the enclosing significand, and the value and the status that follow
+-- a rounding is proved from the enclosing significand, and the value and the status that follow
 pub rounded : {format : Format} {mode : Round} {negative : Bool} {amount parts : ℕ} {value : Datum} {status : ℕ}
     (m c : ℕ) → encloses format.precision m c amount parts ≡ true
     → value ≡ delivered_value format mode negative (picked mode negative m c amount parts)

@@ -1,4 +1,4 @@
--- Worked rows of square roots. Their values were computed from whole square roots elsewhere.
+-- Worked rows of square roots. Their values were computed elsewhere, from integer square roots.
 use Rattle.std.proofs.Common.{◌≡◌, ℕ, ◌+◌, ◌-◌, ◌*◌, ◌^◌, ◌<◌, ◌≤◌, ◌⊎◌, Bool, true, false, ltb, leb, eqb, ◌&&◌, ◌||◌, if◌then◌else◌, refl, sym, ⊎_elim, inl, inr, arith}
 use Rattle.std.proofs.Math.Arith.{lt_of_le-ne}
 use Rattle.std.proofs.lemmas.Bool.{cases_lt, and_parts, or_cases, leb-true, ltb-true, eqb-true, eqb-false}
@@ -178,15 +178,15 @@ few_exponents = record {
   ieee_flags = false;
 }
 
--- an exact one raises no flag
+-- an exact denormal root raises no flag
 denormal_root : (mode : Round) → IsRoot few_exponents mode (finite false 1) (finite false 128) ok_bits
 denormal_root mode = rooted 128 0 refl refl refl
 
--- any other one underflows
+-- an inexact denormal root underflows
 tiny_root : IsRoot few_exponents NearestTiesToEven (finite false 3) (finite false 222) (underflow_bit + inexact_bit)
 tiny_root = rooted 221 0 refl refl refl
 
--- so it does where tininess is decided before rounding
+-- an inexact denormal root underflows too if tininess is detected before rounding
 tiny_root_before : IsRoot (record few_exponents { tiny_before_rounding = true }) TowardPositive (finite false 63)
     (finite false 1016) (underflow_bit + inexact_bit)
 tiny_root_before = rooted 1015 0 refl refl refl
@@ -203,7 +203,7 @@ root_of_minus_zero mode = answer
 root_of_infinity : (mode : Round) → IsRoot half mode (in_half 0x7c00) (in_half 0x7c00) ok_bits
 root_of_infinity mode = answer
 
--- a negative number has none, however small, nor has minus infinity
+-- the root of a negative number, however small, and of minus infinity is invalid
 root_of_minus_one : (mode : Round) → IsRoot half mode (in_half 0xbc00) (in_half 0x7e00) invalid_bit
 root_of_minus_one mode = answer
 

@@ -36,7 +36,7 @@ bits_of_infinity = record { below = lit< tt; canonical = refl; is = refl }
 bits_of_a_nan : Encodes half_constants 0x7e01 (nan false 0x201)
 bits_of_a_nan = record { below = lit< tt; canonical = refl; is = refl }
 
--- here the quantum is 2 ^ -9, and all ones are the NaN
+-- in e4m3fn the quantum is 2 ^ -9, and all ones are the NaN
 largest_of_e4m3fn : Encodes e4m3fn_constants 0x7e (finite false (448 * 2 ^ 9))
 largest_of_e4m3fn = record { below = lit< tt; canonical = refl; is = refl }
 
@@ -77,7 +77,7 @@ with_dot whole fraction exponent spelled digits some exponent_digits some_expone
   e_is = refl;
 }
 
--- and so is a body with these parts and no dot
+-- a body with these parts and no dot is that of a hexadecimal number
 without_dot : {body : List ℕ} (whole exponent : List ℕ) → body ≡ codes "0x" ++ (whole ++ (codes "p" ++ exponent))
     → IsTrue (every is_hexadecimal (whole ++ [])) → 1 ≤ length (whole ++ [])
     → IsTrue (every is_decimal (after_mark exponent)) → 1 ≤ length (after_mark exponent)

@@ -85,7 +85,7 @@ record IsPointed (significand : List ℕ) : Type 0 where
   whole_digits : every is_hexadecimal whole ≡ true
   fraction_digits : every is_hexadecimal fraction ≡ true
 
--- after the only dot there is no other
+-- after the only dot there is no other dot
 short_tail : (c : ℕ) (xs : List ℕ) → is_dot c ≡ true → ltb 1 (length (filter is_dot (c ∷ xs))) ≡ false
     → filter is_dot xs ≡ []
 short_tail c xs d h = go (filter is_dot xs) (rw d at h)
@@ -94,7 +94,7 @@ short_tail c xs d h = go (filter is_dot xs) (rw d at h)
     go [] g = refl
     go (y ∷ ys) g = absurd (omega (arith, ltb-false 1 (length (c ∷ y ∷ ys)) g))
 
--- what follows the first digits is nothing, or a dot and digits
+-- a significand with at most one dot is digits, or digits, a dot and digits
 pointed_by : (significand whole rest : List ℕ) → significand ≡ whole ++ rest → every is_hexadecimal whole ≡ true
     → every is_digit_or_dot rest ≡ true
     → begins is_hexadecimal rest ≡ false → ltb 1 (length (filter is_dot rest)) ≡ false → IsPointed significand
@@ -182,7 +182,7 @@ rejoined : (rest significand tail whole point fraction letter exponent : List �
 rejoined rest significand tail whole point fraction letter exponent a b c =
     rw (a, b, c) (sym (regroup whole point fraction (letter ++ exponent)))
 
--- what follows the prefix and has no fault is a hexadecimal number
+-- if the text after the prefix has no fault, it is a hexadecimal number
 pub literal_from : (body prefix rest : List ℕ) → body ≡ prefix ++ rest
     → (prefix ≡ codes "0x") ⊎ (prefix ≡ codes "0X") → after_prefix_fault rest ≡ None → IsAnyHexadecimal body
 literal_from body prefix rest begun is_prefix h =

@@ -16,7 +16,7 @@ by_parts body rest e x =
     let i : IsHexadecimal body x.h x.f x.e = x.is in
     rw (← m.h_is, ← m.f_is, ← m.e_is) i
 
--- its meaning has the number of its digits, the places after its dot, and its exponent
+-- the meaning of a literal has the number that its digits spell, the places after its dot, and its exponent
 pub literal_meaning : (text : List ℕ) → begins_literal (after_mark text) ≡ true
     → after_prefix_fault (drop 2 (after_mark text)) ≡ None
     → Means text (hexadecimal (is_minus (mark_of text)) (digits_number (drop 2 (after_mark text)))

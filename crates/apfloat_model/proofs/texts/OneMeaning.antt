@@ -27,14 +27,14 @@ digit_is_digit_or_dot c h = or_left (is_hexadecimal c) (is_dot c) h
 
 -- ---- the parts of a literal
 
--- what the parts state about the significand
+-- the parts form a significand: its characters, digits, dots and places after the dot follow from them
 pub record IsSignificand (whole point fraction : List ℕ) : Type 0 where
   pub passes : every is_digit_or_dot (whole ++ (point ++ fraction)) ≡ true
   pub digits : filter is_hexadecimal (whole ++ (point ++ fraction)) ≡ whole ++ fraction
   pub dots : filter is_dot (whole ++ (point ++ fraction)) ≡ point
   pub places : length (drop 1 (after_run is_hexadecimal (whole ++ (point ++ fraction)))) ≡ length fraction
 
--- digits, at most one dot, and digits: what the model reads of them
+-- digits, at most one dot, and digits form a significand
 pub significand_parts : (whole point fraction : List ℕ) → (point ≡ codes ".") ⊎ ((point ≡ []) × (fraction ≡ []))
     → every is_hexadecimal whole ≡ true → every is_hexadecimal fraction ≡ true → IsSignificand whole point fraction
 significand_parts whole point fraction (inl e) w f =
@@ -59,13 +59,13 @@ significand_parts whole point fraction (inr e) w f =
       places = rw (after_run_through is_hexadecimal whole [] w refl) refl;
     })
 
--- such a significand has no second dot
+-- a significand of these parts has no second dot
 point_short : (point fraction : List ℕ) → (point ≡ codes ".") ⊎ ((point ≡ []) × (fraction ≡ []))
     → ltb 1 (length point) ≡ false
 point_short point fraction (inl e) = rw e refl
 point_short point fraction (inr e) = rw e.0 refl
 
--- what follows the prefix has no fault, and these digits, places and exponent
+-- the text after the prefix has no fault, and has these digits, places and exponent
 pub record IsLiteral (rest : List ℕ) (h f : ℕ) (e : ℤ) : Type 0 where
   pub h_is : h ≡ digits_number rest
   pub f_is : f ≡ places_after_dot rest
@@ -77,7 +77,7 @@ record IsExponent (exponent : List ℕ) : Type 0 where
   digits : every is_decimal (after_mark exponent) ≡ true
   some_digit : 1 ≤ length (after_mark exponent)
 
--- such an exponent has no fault
+-- an exponent of a mark or none and at least one digit has no fault
 no_exponent_fault : (exponent : List ℕ) → IsExponent exponent → exponent_fault (after_mark exponent) ≡ None
 no_exponent_fault exponent x = rw (x.digits, not_empty (after_mark exponent) x.some_digit) refl
 
@@ -110,7 +110,7 @@ literal_parts whole point fraction exponent c letter stops is_point digits some 
           (no_exponent_fault exponent x);
     })
 
--- the same with either letter
+-- reading a literal gives its parts back, with either letter before the exponent
 literal_with : (whole point fraction letter exponent : List ℕ) → (letter ≡ codes "p") ⊎ (letter ≡ codes "P")
     → (point ≡ codes ".") ⊎ ((point ≡ []) × (fraction ≡ [])) → every is_hexadecimal (whole ++ fraction) ≡ true
     → 1 ≤ length (whole ++ fraction)
@@ -122,7 +122,7 @@ literal_with whole point fraction letter exponent (inl p) is_point digits some x
 literal_with whole point fraction letter exponent (inr p) is_point digits some x =
     rw p (literal_parts whole point fraction exponent 80 refl refl is_point digits some x)
 
--- a literal with equal numbers
+-- a literal stays a literal if its numbers are replaced by equal ones
 same_literal : (rest : List ℕ) (h f h2 f2 : ℕ) (e e2 : ℤ) → h2 ≡ h → f2 ≡ f → e2 ≡ e → IsLiteral rest h f e
     → IsLiteral rest h2 f2 e2
 same_literal rest h f h2 f2 e e2 p q r l = rw (p, q, r) l
@@ -133,13 +133,13 @@ begun_with : (body prefix rest : List ℕ) → (prefix ≡ codes "0x") ⊎ (pref
 begun_with body prefix rest (inl p) e = inl (rw p at e)
 begun_with body prefix rest (inr p) e = inr (rw p at e)
 
--- a body of a prefix and a literal with these numbers
+-- a body is a prefix and a literal with these numbers
 record IsBody (body : List ℕ) (h f : ℕ) (e : ℤ) : Type 0 where
   rest : List ℕ
   begun : (body ≡ 48 ∷ 120 ∷ rest) ⊎ (body ≡ 48 ∷ 88 ∷ rest)
   literal : IsLiteral rest h f e
 
--- the body of a hexadecimal number is such a body
+-- the body of a hexadecimal number is a prefix and a literal with its numbers
 body_of : (body : List ℕ) (h f : ℕ) (e : ℤ) → IsHexadecimal body h f e → IsBody body h f e
 body_of body h f e x =
     record {
@@ -182,7 +182,7 @@ fault_small Unmarked rest = refl
 fault_small Plus rest = refl
 fault_small Minus rest = refl
 
--- and after `0X` too
+-- after the prefix `0X`, the fault is that of the literal
 fault_capital : (mark : Mark) (rest : List ℕ) → fault_by false mark (48 ∷ 88 ∷ rest) ≡ after_prefix_fault rest
 fault_capital Unmarked rest = refl
 fault_capital Plus rest = refl
@@ -194,7 +194,7 @@ begun_fault : (text rest : List ℕ) → (after_mark text ≡ 48 ∷ 120 ∷ res
 begun_fault text rest (inl p) = fault_at text (48 ∷ 120 ∷ rest) p refl ∙ fault_small (mark_of text) rest
 begun_fault text rest (inr p) = fault_at text (48 ∷ 88 ∷ rest) p refl ∙ fault_capital (mark_of text) rest
 
--- and is not special
+-- a text with a prefix is not special
 begun_special : (text rest : List ℕ) → (after_mark text ≡ 48 ∷ 120 ∷ rest) ⊎ (after_mark text ≡ 48 ∷ 88 ∷ rest)
     → special_of text ≡ None
 begun_special text rest (inl p) = ap (λ (b : List ℕ). special_meaning (mark_of text) b) p ∙
@@ -214,7 +214,7 @@ special_by : (mark : Mark) (body : List ℕ) (meaning : Meaning) → special_mea
 special_by mark [] meaning h = absurd (none-some _ (sym (no_special_alone mark) ∙ h))
 special_by mark (c ∷ body) meaning h = rw h refl
 
--- nor does a special text
+-- a special text has no fault
 special_no_fault : (text : List ℕ) (meaning : Meaning) → special_of text ≡ Some meaning → fault_of text ≡ None
 special_no_fault [] meaning h = absurd (none-some _ h)
 special_no_fault (c ∷ text) meaning h = special_by (mark_of (c ∷ text)) (after_mark (c ∷ text)) meaning h
@@ -235,7 +235,7 @@ begun_rest : (body rest : List ℕ) → (body ≡ 48 ∷ 120 ∷ rest) ⊎ (body
 begun_rest body rest (inl p) = rw p refl
 begun_rest body rest (inr p) = rw p refl
 
--- so what follows the two characters is the literal
+-- what follows the first two characters of the body is the literal
 literal_of_body : (body : List ℕ) (h f : ℕ) (e : ℤ) → IsBody body h f e → IsLiteral (drop 2 body) h f e
 literal_of_body body h f e b = rw (begun_rest body b.rest b.begun) at b.literal
 
@@ -244,7 +244,7 @@ pub literal_of_hexadecimal : (body : List ℕ) (h f : ℕ) (e : ℤ) → IsHexad
     → IsLiteral (drop 2 body) h f e
 literal_of_hexadecimal body h f e x = literal_of_body body h f e (body_of body h f e x)
 
--- two readings of one literal are one meaning
+-- two readings of one literal have the same meaning
 same_hexadecimal : (negative negative2 : Bool) (h f h2 f2 : ℕ) (e e2 : ℤ) → negative ≡ negative2
     → (rest : List ℕ)
     → IsLiteral rest h f e → IsLiteral rest h2 f2 e2 → hexadecimal negative h f e ≡ hexadecimal negative2 h2 f2 e2

@@ -9,7 +9,7 @@ use Rattle.apfloat_model.specs.arithmetic.Exact.{up, down}
 use Rattle.apfloat_model.specs.texts.Readings.{IsScaledDelivery}
 use Rattle.apfloat_model.proofs.rounding.Laws.{zero_delivered}
 
--- 0 times a power of two is a zero, of that sign if the format has one
+-- 0 times a power of two is delivered as a zero, with the sign of the text if the format has that zero
 pub zero_text : (format : Format) (mode : Round) (negative : Bool) (power : ℤ)
     → IsScaledDelivery format mode negative 0 power (finite (zero_sign format.nonfinite negative) 0) 0
 zero_text format mode negative power =

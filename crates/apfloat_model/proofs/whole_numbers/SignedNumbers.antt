@@ -1,4 +1,4 @@
--- A signed whole number in a format, from its magnitude.
+-- A signed integer in a format, from its magnitude.
 use Rattle.std.proofs.Common.{◌≡◌, ℕ, zero, suc, pos, neg_ℤ, ◌*◌, ◌^◌, ◌<◌, ◌≤◌, true, false, refl}
 use Rattle.std.proofs.Math.Nat.{mul-pos}
 use Rattle.std.proofs.lemmas.Nat.{pow_pos}

@@ -10,7 +10,7 @@ less_so a b h = by (int_lt a b) refl
     by true e = refl
     by false e = absurd (omega (arith, ints))
 
--- it does not hold if the first number is not less
+-- the comparison does not hold if the first number is not less
 pub less_not : (a b : ℤ) → b ≤ℤ a → int_lt a b ≡ false
 less_not a b h = by (int_lt a b) refl
   where

@@ -23,7 +23,7 @@ converted_nan f g negative significand =
     nan (nan_sign g.nonfinite negative)
     (quiet_significand g (quieted f significand * 2 ^ (g.precision - f.precision) / 2 ^ places_out f g))
 
--- a bit that was cut off is set, or the integer bit of a signaling NaN is lost, or the whole payload
+-- whether a bit that was cut off is set, or the integer bit of a signaling NaN or the whole payload is lost
 abbrev pub nan_loses : Format → Format → ℕ → Bool
 nan_loses f g significand =
     not (eqb (quieted f significand % 2 ^ places_out f g) 0) ||
@@ -37,7 +37,7 @@ has_infinities IEEE754 = true
 has_infinities NanOnly = false
 has_infinities NanNegativeZero = false
 
--- the target does not have the zero of that sign
+-- whether the target lacks the zero of that sign
 abbrev pub loses_zero_sign : Format → Bool → Bool
 loses_zero_sign g negative = not (same_sign negative (zero_sign g.nonfinite negative))
 
@@ -49,7 +49,7 @@ pub record IsConverted (given : Datum) (flags : ℕ) (loses : Bool) (value : Dat
   pub status_is : status ≡ flags
   pub loses_is : loses_info ≡ loses
 
--- inexact with information lost, or neither
+-- the datum is kept: either it is inexact and loses information, or it is exact and loses none
 abbrev pub IsKept : Datum → Bool → Datum → ℕ → Bool → Type 0
 IsKept given loses value status loses_info =
     IsConverted given (if loses then inexact_bit else ok_bits) loses value status loses_info

@@ -1,4 +1,4 @@
--- Exact results: a signed whole number divided by a whole number.
+-- Exact results: a signed integer divided by an integer.
 use Rattle.std.specs.Prelude.{ℕ, zero, suc, ◌+◌, Bool, true, false, not, ℤ, pos, negsuc, neg_ℤ}
 use Rattle.apfloat_model.specs.declared.kinds.Round.{Round}
 use Rattle.apfloat_model.specs.formats.Format.{Format}

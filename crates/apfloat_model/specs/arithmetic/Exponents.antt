@@ -28,7 +28,7 @@ IsIlogb f (nan b s) exponent = exponent ≡ nan_exponent
 IsIlogb f (infinite b) exponent = exponent ≡ infinite_exponent
 IsIlogb f (finite b n) exponent = MatchBool (eqb n 0) (exponent ≡ zero_exponent) (IsLogarithm f n exponent)
 
--- `quanta` quanta are a fraction from one half to below 1, times 2 ^ exponent
+-- `quanta` quanta equal a fraction from one half to below 1, times 2 ^ exponent
 pub record IsFraction (f : Format) (negative : Bool) (quanta : ℕ) (value : Datum) (exponent : ℤ) : Type 0 where
   pub fraction : ℕ
   pub low : 2 ^ (f.scale - 1) ≤ fraction

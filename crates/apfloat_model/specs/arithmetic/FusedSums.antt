@@ -10,7 +10,7 @@ use Rattle.apfloat_model.specs.arithmetic.Exact.{product_sign, signed, IsRounded
 use Rattle.apfloat_model.specs.arithmetic.Sums.{zero_sum_sign, IsSum}
 use Rattle.apfloat_model.specs.arithmetic.Products.{IsProduct}
 
--- the greatest precision of a format with a fused sum in the code: a sum with the product fits 128 bits
+-- the greatest precision of a format that has `mul_add_r`: a sum with the exact product fits in 128 bits
 abbrev pub fused_limit : ℕ
 fused_limit = 63
 

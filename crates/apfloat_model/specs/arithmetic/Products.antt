@@ -11,7 +11,7 @@ use Rattle.apfloat_model.specs.arithmetic.Exact.{product_sign}
 use Rattle.apfloat_model.specs.rounding.Negation.{swapped, negated}
 use Rattle.apfloat_model.specs.order.Classes.{is_finite_non_zero}
 
--- the greatest precision of a format with a product in the code: the digits of both factors fit 128 bits
+-- the greatest precision of a format that has `mul_r`: the exact product fits in 128 bits
 abbrev pub product_limit : ℕ
 product_limit = 64
 
@@ -26,7 +26,7 @@ IsProduct f mode (infinite b) (infinite c) value status = IsAnswer (infinite (pr
 IsProduct f mode (finite b m) (finite c n) value status =
     IsDelivered f mode (product_sign b c) (m * n) (2 ^ f.scale) value status
 
--- The product of nonzero finite factors under the opposite rounding: with one factor negated, it is the negated value,
+-- The product of nonzero finite factors with one factor negated, rounded in the opposite mode, is the negated value,
 -- with the same flags.
 abbrev pub IsOpposite : Format → Round → Datum → Datum → Datum → ℕ → Type 0
 IsOpposite f mode x y value status =

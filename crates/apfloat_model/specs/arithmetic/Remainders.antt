@@ -1,4 +1,4 @@
--- Remainders, by the quotient cut toward zero and by the nearest one (IEEE 754-2008 5.3.1); both are exact.
+-- Remainders, by the quotient truncated toward zero and by the nearest integer (IEEE 754-2008 5.3.1); both are exact.
 use Rattle.std.specs.Prelude.{ℕ, ◌-◌, ◌*◌, ◌/◌, Bool, false, not, ltb, eqb, count_ones, if◌then◌else◌}
 use Rattle.std.specs.Bool.{MatchBool}
 use Rattle.apfloat_model.specs.declared.kinds.NonfiniteBehavior.{NonfiniteBehavior}
@@ -10,7 +10,7 @@ use Rattle.apfloat_model.specs.rounding.Answer.{IsAnswer}
 use Rattle.apfloat_model.specs.formats.Nan.{IsOfNan, IsOfNans, IsInvalid}
 use Rattle.apfloat_model.specs.whole_numbers.WholeNumbers.{whole_pick}
 
--- The quotient of two magnitudes, cut toward zero, and the whole number nearest to it.
+-- The quotient of two magnitudes, truncated toward zero, and the integer nearest to it.
 abbrev pub truncated_quotient : ℕ → ℕ → ℕ
 truncated_quotient m n = m / n
 
@@ -22,7 +22,7 @@ abbrev pub rest_of : NonfiniteBehavior → Bool → ℕ → ℕ → Datum
 rest_of kind negative m taken =
     if ltb m taken then signed_quanta kind (not negative) (taken - m) else signed_quanta kind negative (m - taken)
 
--- the remainder by a given whole quotient
+-- the remainder by a given integer quotient
 abbrev pub IsRemainder : Format → (ℕ → ℕ → ℕ) → Datum → Datum → Datum → ℕ → Type 0
 IsRemainder f quotient (nan b s) y value status = IsOfNans f b s y value status
 IsRemainder f quotient x (nan c t) value status = IsOfNan f c t value status
@@ -33,15 +33,15 @@ IsRemainder f quotient (finite b m) (finite c n) value status =
     (IsInvalid f value status)
     (IsAnswer (rest_of f.nonfinite b m (n * quotient m n)) ok_bits value status)
 
--- x - y * t, where t is the quotient cut toward zero
+-- x - y * t, where t is the quotient truncated toward zero
 abbrev pub IsTruncatedRemainder : Format → Datum → Datum → Datum → ℕ → Type 0
 IsTruncatedRemainder f x y value status = IsRemainder f truncated_quotient x y value status
 
--- x - y * n, where n is the whole number nearest to the quotient, ties to even
+-- x - y * n, where n is the integer nearest to the quotient, ties to even
 abbrev pub IsNearestRemainder : Format → Datum → Datum → Datum → ℕ → Type 0
 IsNearestRemainder f x y value status = IsRemainder f nearest_quotient x y value status
 
--- how many binary digits of the quotient cut toward zero are ones
+-- how many binary digits of the quotient truncated toward zero are ones
 abbrev pub ones_of_quotient : Datum → Datum → ℕ
 ones_of_quotient (finite b m) (finite c n) = if eqb n 0 then 0 else count_ones (truncated_quotient m n)
 ones_of_quotient x y = 0

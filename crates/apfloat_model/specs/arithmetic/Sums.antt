@@ -43,7 +43,7 @@ IsDifference f mode x y value status = IsSum f mode x (negated f.nonfinite y) va
 
 -- ---- two laws
 
--- a finite value of exactly that many quanta, with no flag
+-- a finite value of exactly `exact` quanta, with no flag
 pub record IsExactly (exact : ℤ) (value : Datum) (status : ℕ) : Type 0 where
   pub negative : Bool
   pub quanta : ℕ

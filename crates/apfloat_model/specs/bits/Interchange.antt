@@ -1,4 +1,4 @@
--- A format whose data are written as bits, given by its format and its layout; and the bit pattern of fields.
+-- Formats whose data are written as bits, and the bit pattern of given fields.
 use Rattle.std.specs.Prelude.{◌≡◌, ℕ, ◌+◌, ◌*◌, ◌^◌, ◌<◌, ◌≤◌, true, if◌then◌else◌}
 use Rattle.apfloat_model.specs.formats.Format.{Format}
 use Rattle.apfloat_model.specs.formats.Datum.{Datum}

@@ -7,7 +7,7 @@ use Rattle.apfloat_model.specs.declared.kinds.NonfiniteBehavior.TheVariants.{IEE
 use Rattle.apfloat_model.specs.formats.Format.{Format, smallest_normalized, nan_base}
 use Rattle.apfloat_model.specs.formats.Datum.{Datum, finite, infinite, nan}
 
--- how many bits in all, and in the biased exponent; the format says how many the significand takes
+-- the number of bits in all, and in the biased exponent; the format determines the width of the significand
 pub record Layout : Type 0 where
   pub bits : ℕ
   pub exponent_bits : ℕ
@@ -36,7 +36,7 @@ fields_of f layout bits =
 abbrev pub has_all_ones : Layout → Fields → Bool
 has_all_ones layout x = eqb x.biased_exponent (all_ones layout.exponent_bits)
 
--- a number with an implied integer bit: the biased exponent 0 is that of the denormals, any other implies the bit
+-- a number with an implied integer bit: the biased exponent 0 is that of denormal numbers, any other implies the bit
 abbrev pub implied_number : Format → Fields → Datum
 implied_number f x =
     if eqb x.biased_exponent 0

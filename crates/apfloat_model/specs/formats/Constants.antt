@@ -16,7 +16,7 @@ smallest_normalized_datum f = finite false (smallest_normalized f)
 abbrev pub largest_datum : Format → Datum
 largest_datum f = finite false (largest f)
 
--- in a format without infinities, the NaN takes their place
+-- the infinity; in a format without infinities, the NaN in its place
 abbrev pub infinity_of : Format → Bool → Datum
 infinity_of f negative = past_largest f.nonfinite (nan_base f) negative
 

@@ -12,7 +12,7 @@ pub record Format : Type 0 where
   pub nonfinite : NonfiniteBehavior
   pub explicit_integer_bit : Bool
   pub tiny_before_rounding : Bool
-  -- whether flags are raised as IEEE 754-2008 7.4 and 7.5 say, and not as the built-in formats raise them
+  -- whether flags are raised as IEEE 754-2008 7.4 and 7.5 require, instead of as in the built-in formats
   pub ieee_flags : Bool
 
 -- in quanta: the least value whose significand has all digits, and the greatest finite value

@@ -1,4 +1,4 @@
--- The binary logarithm of a positive whole number, rounded down.
+-- The binary logarithm of a positive integer, rounded down.
 use Rattle.std.specs.Prelude.{ℕ, ◌+◌, ◌-◌}
 use Rattle.std.specs.Int.Count.{count_leading_zeros}
 

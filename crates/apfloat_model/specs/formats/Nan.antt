@@ -14,7 +14,7 @@ invalid_bit = 1
 abbrev pub invalid_if : Bool → ℕ
 invalid_if signaling = if signaling then invalid_bit else ok_bits
 
--- the first bit of a payload: of the bits that make a NaN quiet, the one that an operation sets (6.2.1)
+-- the first bit of the payload: of the bits that make a NaN quiet, the one that operations set (6.2.1)
 abbrev pub quiet_bit_of : NonfiniteBehavior → ℕ → ℕ
 quiet_bit_of IEEE754 precision = 2 ^ (precision - 2)
 quiet_bit_of NanOnly precision = 0
@@ -61,7 +61,7 @@ nan_sign NanNegativeZero negative = false
 
 -- ---- results (6.2.3)
 
--- for one operand that is a NaN
+-- the result if one operand is a NaN
 abbrev pub IsOfNan : Format → Bool → ℕ → Datum → ℕ → Type 0
 IsOfNan f negative significand value status =
     IsAnswer (nan negative (quieted f significand)) (invalid_if (is_signaling f significand)) value status
@@ -71,12 +71,12 @@ is_signaling_nan f (finite negative quanta) = false
 is_signaling_nan f (infinite negative) = false
 is_signaling_nan f (nan negative significand) = is_signaling f significand
 
--- for a left operand that is a NaN, and a right one
+-- the result if the left operand is a NaN, given the right one
 abbrev pub IsOfNans : Format → Bool → ℕ → Datum → Datum → ℕ → Type 0
 IsOfNans f negative significand right value status =
     IsAnswer (nan negative (quieted f significand))
     (invalid_if (is_signaling f significand || is_signaling_nan f right)) value status
 
--- for an invalid operation on operands that are not NaNs (7.2)
+-- the result of an invalid operation on operands that are not NaNs (7.2)
 abbrev pub IsInvalid : Format → Datum → ℕ → Type 0
 IsInvalid f value status = IsAnswer (qnan f 0) invalid_bit value status

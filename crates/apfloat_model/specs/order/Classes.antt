@@ -26,7 +26,7 @@ is_nan (finite b n) = false
 is_nan (infinite b) = false
 is_nan (nan b s) = true
 
--- for a finite datum
+-- the quanta of a finite datum
 abbrev pub quanta_of : Datum → ℕ
 quanta_of (finite b n) = n
 quanta_of (infinite b) = 0

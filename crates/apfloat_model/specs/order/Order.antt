@@ -30,7 +30,7 @@ is_below x y = is_some_and is_lt (compared x y)
 abbrev pub is_equal : Datum → Datum → Bool
 is_equal x y = is_some_and is_eq (compared x y)
 
--- not above, for data that are not NaNs
+-- the first datum is not above the second, if neither is a NaN
 abbrev pub AtMost : Datum → Datum → Type 0
 AtMost (finite b m) (finite c n) = signed b m ≤ℤ signed c n
 AtMost (finite b m) (infinite c) = c ≡ false
@@ -44,7 +44,7 @@ pub record AreFiniteNonZero (x y : Datum) : Type 0 where
   pub left : category_of x ≡ Normal
   pub right : category_of y ≡ Normal
 
--- for two nonzero finite data
+-- the order of the magnitudes of two nonzero finite data
 abbrev pub compared_magnitudes : Datum → Datum → Ordering
 compared_magnitudes x y = nat_cmp (quanta_of x) (quanta_of y)
 

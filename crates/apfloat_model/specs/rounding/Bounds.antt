@@ -1,7 +1,7 @@
--- How far exponents, units and places are from 0, so that signed 32-bit integers hold them.
+-- Bounds of exponents, units and places, within which they fit in signed 32-bit integers.
 --
 -- By the law of formats, `MIN_EXP` and `MAX_EXP` are within `format_bound`, and a significand has at most 125 digits.
--- Each further bound has room for all that is computed from numbers within the bounds before it.
+-- Each further bound has room for everything computed from numbers within the previous bounds.
 use Rattle.std.specs.Prelude.{ℕ, ◌-◌, ◌^◌, ℤ, pos, neg_ℤ, ◌≤ℤ◌}
 
 -- at most `bound` away from 0, on either side

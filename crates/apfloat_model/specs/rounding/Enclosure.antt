@@ -14,7 +14,7 @@ pub record IsEnclosed (precision half m c amount parts : ℕ) : Type 0 where
   pub from : m * 2 ^ c * parts ≤ amount
   pub to : amount < (m + 1) * 2 ^ c * parts
 
--- whether the mode moves a significand up for its loss; a loss decides like a rest of a third, a half or two thirds
+-- whether the mode rounds a significand up, given its loss; a loss decides like a rest of a third, a half or two thirds
 abbrev pub rounds_up : Round → Bool → Loss → Bool → Bool
 rounds_up mode negative ExactlyZero odd = false
 rounds_up mode negative LessThanHalf odd = takes_above mode negative 1 2 odd

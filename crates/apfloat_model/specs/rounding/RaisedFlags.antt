@@ -2,7 +2,7 @@
 use Rattle.std.specs.Prelude.{ℕ, ◌<◌, bit_and}
 use Rattle.apfloat_model.specs.rounding.Rounding.{overflow_bit, underflow_bit, inexact_bit}
 
--- the flag is one of those of the status
+-- the status has the flag
 abbrev pub Raises : ℕ → ℕ → Type 0
 Raises status flag = 0 < bit_and status flag
 

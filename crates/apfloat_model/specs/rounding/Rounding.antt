@@ -50,7 +50,7 @@ underflow_bit = 8
 abbrev pub inexact_bit : ℕ
 inexact_bit = 16
 
--- whether the mode rounds past the largest value if the pick is above it
+-- whether the mode delivers the value past the largest one if the pick is above the largest
 abbrev pub leads_out : Round → Bool → Bool
 leads_out TowardZero negative = false
 leads_out TowardPositive negative = not negative
@@ -70,7 +70,7 @@ zero_sign IEEE754 negative = negative
 zero_sign NanOnly negative = negative
 zero_sign NanNegativeZero negative = false
 
--- `quanta` quanta with that sign
+-- `quanta` quanta with that sign; a zero may lose it
 abbrev pub signed_quanta : NonfiniteBehavior → Bool → ℕ → Datum
 signed_quanta kind negative quanta = if eqb quanta 0 then finite (zero_sign kind negative) 0
     else finite negative quanta

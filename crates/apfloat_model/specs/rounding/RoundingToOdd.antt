@@ -9,12 +9,12 @@ pub record IsNearOdd (least significand amount unit : ℕ) : Type 0 where
   pub above : significand * unit < amount + unit
   pub below : amount < (significand + 1) * unit
 
--- `amount` is that many units, or less than one unit away from an odd number of them that is at least `least`
+-- `amount` is `significand` units, or less than one unit away from them if that number is odd and at least `least`
 abbrev pub IsRoundedToOdd : ℕ → ℕ → ℕ → ℕ → Type 0
 IsRoundedToOdd least significand amount unit =
     (amount ≡ significand * unit) ⊎ IsNearOdd least significand amount unit
 
--- a whole quotient and its rest: if there is one, the odd one of the two neighbours
+-- the quotient rounded to odd, from the integer quotient and its rest
 abbrev pub odd_for_rest : ℕ → ℕ → ℕ
 odd_for_rest quotient rest = if eqb rest 0 then quotient else quotient + 1 - quotient % 2
 

@@ -15,8 +15,8 @@ StandsFor significand ExactlyHalf amount unit = 2 * amount ≡ (2 * significand 
 StandsFor significand MoreThanHalf amount unit =
     ((2 * significand + 1) * unit < 2 * amount) × (amount < (significand + 1) * unit)
 
--- where something is lost below a significand, its unit, 2 ^ unit quanta, divides the spacing of the format there: the
--- unit is at most the quantum, or the significand has all digits
+-- if something is lost below a significand, its unit, 2 ^ unit quanta, divides the spacing of the format there: the
+-- unit is at most the quantum, or the significand has all the digits of the format
 abbrev pub IsFineEnough : ℕ → ℕ → ℤ → Loss → Type 0
 IsFineEnough precision significand unit loss =
     (loss ≡ ExactlyZero) ⊎ ((unit ≤ℤ pos 0) ⊎ (2 ^ (precision - 1) ≤ significand))

@@ -1,4 +1,4 @@
--- Two results of one operation on the same operands: in any two modes, and rounded downward and upward.
+-- Two results of the same operation on the same operands: in any two modes, and rounded downward and upward.
 use Rattle.std.specs.Prelude.{◌≡◌, ℕ, ◌⊎◌, true, false}
 use Rattle.std.specs.Bool.{Decides}
 use Rattle.apfloat_model.specs.declared.kinds.Round.{Round}
@@ -46,7 +46,7 @@ AreBoundsUnlessNan IsExact low high =
 abbrev pub IsOk : ℕ → Type 0
 IsOk status = status ≡ ok_bits
 
--- What comes of a zero is exact too: the infinity of a number divided by it (IEEE 754-2008 7.3), and the zero that it
--- is converted to, even if that has another sign.
+-- The results for a zero are exact too: the infinity of a number divided by it (IEEE 754-2008 7.3), and the zero that
+-- it is converted to, even with another sign.
 abbrev pub IsOkOrOfZero : Datum → ℕ → Type 0
 IsOkOrOfZero operand status = (status ≡ ok_bits) ⊎ (is_zero operand ≡ true)

@@ -5,7 +5,7 @@ use Rattle.apfloat_model.specs.declared.parse_error.Fault.TheVariants.{EmptyText
 use Rattle.apfloat_model.specs.texts.Digits.{same, every, begins, is_empty, run, after_run, is_decimal, is_hexadecimal}
 use Rattle.apfloat_model.specs.texts.Specials.{after_mark, special_of}
 
--- the words of the refusal
+-- the message of the refusal
 abbrev pub words : Fault → List ℕ
 words EmptyText = codes "Invalid string length"
 words LoneMark = codes "String has no digits"

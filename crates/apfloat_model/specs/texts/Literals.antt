@@ -5,7 +5,7 @@ use Rattle.apfloat_model.specs.texts.Specials.{mark_of, after_mark}
 use Rattle.apfloat_model.specs.texts.Texts.{marked}
 use Rattle.apfloat_model.specs.texts.Faults.{significand_of, after_significand}
 
--- the digits on both sides of the dot, as one whole number
+-- the digits on both sides of the dot, as one integer
 abbrev pub digits_number : List ℕ → ℕ
 digits_number rest = number 16 (filter is_hexadecimal (significand_of rest))
 

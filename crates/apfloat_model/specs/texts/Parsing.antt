@@ -8,7 +8,7 @@ use Rattle.apfloat_model.specs.formats.Format.{Format}
 use Rattle.apfloat_model.specs.formats.Datum.{Datum}
 use Rattle.apfloat_model.specs.texts.Readings.{IsReading, IsRefusal}
 
--- the value and the status of the text's meaning, or a refusal with the words for its first fault
+-- the value and the status of the text's meaning, or a refusal with the message for its first fault
 abbrev pub IsRead : Format → Round → List ℕ → Result (StatusAnd Datum) ParseError → Type 0
 IsRead f mode text (Ok answer) = Gives (IsReading f mode text) answer
 IsRead f mode text (Err error) = IsRefusal text error.0.now

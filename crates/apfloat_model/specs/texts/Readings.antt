@@ -37,7 +37,7 @@ pub record IsReading (f : Format) (mode : Round) (text : List ℕ) (value : Datu
   pub means : Means text meaning
   pub is_meant : IsMeant f mode meaning value status
 
--- a refusal has the words for the text's first fault
+-- a refusal has the message for the first fault of the text
 pub record IsRefusal (text said : List ℕ) : Type 0 where
   pub fault : Fault
   pub is_first : fault_of text ≡ Some fault

@@ -34,7 +34,7 @@ is_infinity Minus body = same body (codes "Inf") || same body (codes "inf") || s
 abbrev pub is_x : ℕ → Bool
 is_x c = eqb c 120 || eqb c 88
 
--- The prefix of a payload gives its base: 0x, or a 0 that something follows, or none.
+-- The base of a payload, from its prefix: 0x, a 0 that is not the last character, or no prefix.
 abbrev pub radix_of : List ℕ → Radix
 radix_of [] = Ten
 radix_of (c ∷ []) = Ten
@@ -45,7 +45,7 @@ after_prefix Sixteen text = drop 2 text
 after_prefix Eight text = drop 1 text
 after_prefix Ten text = text
 
--- one plus may follow the prefix
+-- the text after an optional plus, which may follow the prefix
 abbrev pub after_plus : List ℕ → List ℕ
 after_plus [] = []
 after_plus (c ∷ text) = if eqb c 43 then text else c ∷ text
@@ -60,7 +60,7 @@ base_of Sixteen = 16
 base_of Eight = 8
 base_of Ten = 10
 
--- one or more digits, of a whole number below 2 ^ 128
+-- the integer that one or more digits spell, if it is below 2 ^ 128
 abbrev pub number_of_digits : Radix → List ℕ → Option ℕ
 number_of_digits radix digits =
     if not (is_empty digits) && every (is_digit_of radix) digits && ltb (number (base_of radix) digits) (2 ^ 128)
@@ -95,7 +95,7 @@ abbrev pub named_nan : Bool → Bool → List ℕ → Option Meaning
 named_nan negative signaling text =
     if is_nan_name (take 3 text) then with_payload negative signaling (payload_of (drop 3 text)) else None
 
--- an s or S before the name makes it signaling
+-- an s or S before the name makes the NaN signaling
 abbrev pub is_s : ℕ → Bool
 is_s c = eqb c 115 || eqb c 83
 

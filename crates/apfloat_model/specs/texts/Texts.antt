@@ -5,7 +5,7 @@ use Rattle.apfloat_model.specs.declared.marks.Mark.TheVariants.{Unmarked, Plus, 
 use Rattle.apfloat_model.specs.texts.Digits.{every, is_decimal, is_hexadecimal, number}
 use Rattle.apfloat_model.specs.texts.Specials.{Meaning, infinity, not_a_number, hexadecimal, mark_of, after_mark, is_minus, special_of}
 
--- a whole number with the sign of its mark
+-- an integer with the sign of its mark
 abbrev pub marked : Mark → ℕ → ℤ
 marked Unmarked n = pos n
 marked Plus n = pos n

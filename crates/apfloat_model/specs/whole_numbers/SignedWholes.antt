@@ -1,8 +1,8 @@
--- How the trait makes the signed whole number of a negative value from the unsigned one of its magnitude.
+-- How the trait derives the signed integer of a negative value from the unsigned integer of its magnitude.
 use Rattle.std.specs.Prelude.{◌≡◌, ℕ, ◌-◌, ◌^◌, ◌<◌, ◌≤◌, ℤ, pos, neg_ℤ, Bool, false, not, ◌&&◌}
 use Rattle.apfloat_model.specs.formats.Nan.{invalid_bit}
 
--- `is_zero`: the value is -0; the whole number of the magnitude came with `flags` and `exact`
+-- `is_zero`: the value is -0; `number`, `flags` and `exact` are the result for the magnitude
 pub record IsNegatedWhole (is_zero : Bool) (width number flags : ℕ) (exact : Bool) (value : ℤ) (status : ℕ)
     (is_exact : Bool) : Type 0 where
   pub past : 2 ^ (width - 1) < number

@@ -1,5 +1,4 @@
--- From whole numbers, and rounding to a whole number (IEEE 754-2008 5.4.1 convertFromInt, 5.3.1 and 5.9
--- roundToIntegral).
+-- From integers, and rounding to an integer (IEEE 754-2008 5.4.1 convertFromInt, 5.3.1 and 5.9 roundToIntegral).
 use Rattle.std.specs.Prelude.{ℕ, ◌+◌, ◌*◌, ◌/◌, ◌%◌, ◌^◌, Bool, false, eqb, ℤ, if◌then◌else◌}
 use Rattle.apfloat_model.specs.declared.kinds.Round.{Round}
 use Rattle.apfloat_model.specs.formats.Format.{Format}
@@ -9,7 +8,7 @@ use Rattle.apfloat_model.specs.rounding.Answer.{IsAnswer}
 use Rattle.apfloat_model.specs.formats.Nan.{IsOfNan}
 use Rattle.apfloat_model.specs.arithmetic.Exact.{sign_of, magnitude}
 
--- ---- in: a whole number times 2 ^ scale is its count of quanta
+-- ---- in: an integer times 2 ^ scale is its count of quanta
 
 abbrev pub IsFromUnsigned : Format → Round → ℕ → Datum → ℕ → Type 0
 IsFromUnsigned f mode number value status = IsDelivered f mode false (number * 2 ^ f.scale) 1 value status
@@ -18,7 +17,7 @@ abbrev pub IsFromSigned : Format → Round → ℤ → Datum → ℕ → Type 0
 IsFromSigned f mode number value status =
     IsDelivered f mode (sign_of false number) (magnitude number * 2 ^ f.scale) 1 value status
 
--- ---- the whole number that the mode picks for amount / parts; its neighbours are whole numbers
+-- ---- the integer that the mode picks for amount / parts; its neighbours are integers
 
 abbrev pub whole_pick : Round → Bool → ℕ → ℕ → ℕ
 whole_pick mode negative amount parts =
@@ -26,7 +25,7 @@ whole_pick mode negative amount parts =
     then amount / parts
     else pick_between mode negative (amount / parts) (amount / parts + 1) amount parts
 
--- the whole number that the mode picks for `quanta` quanta, in quanta
+-- the integer that the mode picks for `quanta` quanta, in quanta
 abbrev pub whole_quanta : Format → Round → Bool → ℕ → ℕ
 whole_quanta f mode negative quanta = whole_pick mode negative quanta (2 ^ f.scale) * 2 ^ f.scale
 

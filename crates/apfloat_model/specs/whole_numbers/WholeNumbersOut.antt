@@ -1,4 +1,4 @@
--- To whole numbers (IEEE 754-2008 5.4.1 convertToInteger, 5.8).
+-- To integers (IEEE 754-2008 5.4.1 convertToInteger, 5.8).
 use Rattle.std.specs.Prelude.{◌≡◌, ℕ, ◌-◌, ◌^◌, Bool, false, not, ◌&&◌, eqb, ℤ, pos, neg_ℤ, int_lt, if◌then◌else◌}
 use Rattle.apfloat_model.specs.declared.kinds.Round.{Round}
 use Rattle.apfloat_model.specs.formats.Format.{Format}
@@ -10,7 +10,7 @@ use Rattle.apfloat_model.specs.whole_numbers.WholeNumbers.{whole_pick, whole_qua
 pub record Whole : Type 0 where
   pub number : ℤ
   pub status : ℕ
-  -- whether the whole number equals the operand; -0 is not a whole number
+  -- whether the integer equals the operand; -0 is not an integer
   pub is_exact : Bool
 
 abbrev pub invalid_whole : ℤ → Whole

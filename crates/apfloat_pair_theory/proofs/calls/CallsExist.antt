@@ -65,7 +65,7 @@ widened_exists part =
     let c = conversion_exists double wide some_wide NearestTiesToEven part in
     (c.0, record { status = c.1.0; loses_info = c.1.1.0; is_conversion = c.1.1.1 })
 
--- and the converted parts have a sum
+-- the converted parts of a pair have a sum
 sum_of_parts_exists : (x : Pair) → HasDatum (IsSumOfParts x)
 sum_of_parts_exists x =
     let a = widened_exists x.high in
@@ -102,7 +102,7 @@ wide_answer_exists call c x =
     let a = split_answer_exists (call j.0) (c j.0) in
     (a.0, (a.1.0, record { joined = j.0; is_joined = j.1; is_answer = a.1.1 }))
 
--- and so does a call of two operands
+-- a wide call that has a result for all operands has one for all pairs
 pub wide_answer_of_two_exists : (call : Datum → Datum → Datum → ℕ → Type 0)
     → ((left right : Datum) → HasAnswer (call left right)) → (x y : Pair) → HasPairAnswer (IsWideAnswerOfTwo call x y)
 wide_answer_of_two_exists call c x y =
@@ -141,7 +141,7 @@ pair_from_unsigned_exists mode number =
     split_answer_exists (IsFromUnsigned wide mode number)
     (delivered_exists wide mode false (number * 2 ^ wide.scale) 1 some_wide (lit< tt))
 
--- the conversion of a negative whole number has a result
+-- the conversion of a negative integer has a result
 from_negative_exists : (mode : Round) (magnitude : ℕ) → HasPairAnswer (IsPairFromNegative mode magnitude)
 from_negative_exists mode magnitude =
     let a = pair_from_unsigned_exists (swapped mode) magnitude in
@@ -163,7 +163,7 @@ pair_scaling_exists mode x power =
     let p : Pair = record { high = a.0; low = b.0 } in
     (p, record { high_is = a.1; low_is = b.1 })
 
--- from the sum of its parts, each pair is denormal or not
+-- each pair is denormal or not, by the sum of its parts
 denormal_by_parts_exists : (x : Pair) → (answer : Bool) × IsDenormalByParts x answer
 denormal_by_parts_exists x =
     let s = sum_exists double some_double NearestTiesToEven x.high x.low in (

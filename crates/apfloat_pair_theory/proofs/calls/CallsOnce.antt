@@ -82,14 +82,14 @@ pair_exact_inverse_once x v w h k =
     (subst (λ (d : Datum). IsExactInverse wide d k.inverse) (sym e) k.is_inverse) in
     split_option_once h.inverse v w h.is_split (subst (λ (o : Option Datum). IsSplitOption o w) (sym i) k.is_split)
 
--- ---- whole numbers
+-- ---- integers
 
--- the conversion of a whole number has at most one result in each mode
+-- the conversion of an integer has at most one result in each mode
 pub pair_from_unsigned_once : (mode : Round) (number : ℕ) → OncePair (IsPairFromUnsigned mode number)
 pair_from_unsigned_once mode number =
     split_answer_once (IsFromUnsigned wide mode number) (from_unsigned_once wide mode number)
 
--- and so does that of a negative whole number
+-- the conversion of a negative integer has at most one result in each mode
 from_negative_once : (mode : Round) (magnitude : ℕ) → OncePair (IsPairFromNegative mode magnitude)
 from_negative_once mode magnitude v w r s h k =
     let e = pair_from_unsigned_once (swapped mode) magnitude h.positive k.positive r s h.is_positive k.is_positive in
@@ -104,7 +104,7 @@ pair_from_signed_once mode number =
 abbrev pub OnceWhole : {N : Type 0} → (N → ℕ → Bool → Type 0) → Type 0
 OnceWhole R = (m n : _) (r s : ℕ) (a b : Bool) → R m r a → R n s b → (m ≡ n) × (r ≡ s) × (a ≡ b)
 
--- the conversion to a whole number determines the number, the status and whether it is exact
+-- the conversion to an integer determines the number, the status and whether it is exact
 pub pair_to_unsigned_once : (mode : Round) (width : ℕ) (x : Pair) → OnceWhole (IsPairToUnsigned mode width x)
 pair_to_unsigned_once mode width x m n r s a b h k =
     let e = joined_once x h.joined k.joined h.is_joined k.is_joined in
@@ -112,7 +112,7 @@ pair_to_unsigned_once mode width x m n r s a b h k =
     (subst (λ (d : Datum). IsToUnsigned wide mode width d n s b) (sym e) k.is) in
     (ap unsigned_abs w.0, w.1, w.2)
 
--- the negation of a magnitude determines these too
+-- the negation of the integer of a magnitude determines the number, the status and whether it is exact
 negated_whole_once : (is_zero : Bool) (width number flags : ℕ) (exact : Bool)
     → OnceWhole (IsNegatedWhole is_zero width number flags exact)
 negated_whole_once is_zero width number flags exact m n r s a b h k =
@@ -127,7 +127,7 @@ negated_whole_once is_zero width number flags exact m n r s a b h k =
     (x.1.0 ∙ sym y.1.0, x.0 ∙ sym y.0, x.1.1 ∙ sym y.1.1))
     (cases_lt (2 ^ (width - 1)) number)
 
--- so the conversion of a negative pair determines them
+-- the conversion of a negative pair to an integer determines the number, the status and whether it is exact
 to_negative_once : (mode : Round) (width : ℕ) (x : Pair) → OnceWhole (IsPairToNegative mode width x)
 to_negative_once mode width x m n r s a b h k =
     let e = pair_to_unsigned_once (swapped mode) width
@@ -137,7 +137,7 @@ to_negative_once mode width x m n r s a b h k =
     (subst (λ (i : ℕ). IsNegatedWhole (is_zero x.high) width k.magnitude i h.exact n s b) (sym e.1)
     (subst (λ (i : Bool). IsNegatedWhole (is_zero x.high) width k.magnitude k.flags i n s b) (sym e.2) k.is)))
 
--- and so does that of any other pair
+-- the conversion of any other pair to an integer determines the number, the status and whether it is exact
 to_natural_once : (mode : Round) (width : ℕ) (x : Pair) → OnceWhole (IsPairToNatural mode width x)
 to_natural_once mode width x m n r s a b h k =
     let e = pair_to_unsigned_once mode width x h.magnitude k.magnitude r s a b h.is_magnitude k.is_magnitude in

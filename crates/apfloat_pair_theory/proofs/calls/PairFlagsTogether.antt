@@ -29,7 +29,7 @@ use Rattle.apfloat_pair_theory.specs.PairProducts.{IsLostOfProduct, IsNumberProd
 use Rattle.apfloat_pair_theory.specs.PairCalls.{IsPairQuotient, IsPairTruncatedRemainder, IsPairNearestRemainder, IsPairRoundToIntegral, IsPairNextUp, IsPairNextDown, IsPairReading, IsPairFromUnsigned, IsPairFromNegative, IsPairFromSigned, IsPairToUnsigned, IsPairToNegative, IsPairToNatural, IsPairToSigned}
 use Rattle.apfloat_pair_theory.specs.PairRoots.{IsPairRoot}
 
--- a given pair and its flags
+-- a given pair whose flags go together
 given_together : (given : Pair) (flags : ℕ) → FlagsGoTogether flags → Together (IsPairAnswer given flags)
 given_together given flags h answer status x = subst FlagsGoTogether (sym x.status_is) h
 
@@ -68,7 +68,7 @@ closed_together mode z zz flags f answer status x =
 
 -- ---- sums
 
--- of what a sum of high parts loses, and the low parts
+-- the flags of the error of the sum of the high parts, plus the low parts, go together
 lost_together : (mode : Round) (a aa c cc z zz : Datum) (flags : ℕ) → IsLost mode a aa c cc z zz flags
     → FlagsGoTogether flags
 lost_together mode a aa c cc z zz flags x =
@@ -239,7 +239,7 @@ pair_next_down_together x answer status h =
 pub pair_reading_together : (mode : Round) (text : List ℕ) → Together (IsPairReading mode text)
 pair_reading_together mode text = split_together (IsReading wide mode text) (reading_together wide mode text)
 
--- ---- whole numbers
+-- ---- integers
 
 pub pair_from_unsigned_together : (mode : Round) (number : ℕ) → Together (IsPairFromUnsigned mode number)
 pair_from_unsigned_together mode number =
@@ -255,7 +255,7 @@ pair_from_signed_together mode number =
     (IsPairFromUnsigned mode (unsigned_abs number)) (from_negative_together mode (unsigned_abs number))
     (pair_from_unsigned_together mode (unsigned_abs number))
 
--- the relation of a number, a status and whether the number is exact holds only of such statuses
+-- the relation of a number, a status and whether the number is exact holds only of statuses whose flags go together
 abbrev pub WholeTogether : {N : Type 0} → (N → ℕ → Bool → Type 0) → Type 0
 WholeTogether {N} R =
     (number : N) (status : ℕ) (is_exact : Bool) → R number status is_exact → FlagsGoTogether status

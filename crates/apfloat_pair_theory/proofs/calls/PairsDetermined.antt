@@ -24,7 +24,7 @@ pair_gives_once Says once r s h k =
     let e = once r.value s.value (bits_of r.status) (bits_of s.status) h k in
     same_answer r s e.0 e.1
 
--- and so for a relation that also says whether the number is exact
+-- a relation that determines the number, the status bits and the exactness determines the number and the status
 whole_gives_once : {Number : Type 0} (Says : Number → ℕ → Bool → Type 0) → OnceWhole Says
     → DeterminesBoth (λ (answer : StatusAnd Number) (exact : Bool). Says answer.value (bits_of answer.status) exact)
 whole_gives_once Says once r s a b h k =

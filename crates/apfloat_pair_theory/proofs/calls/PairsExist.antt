@@ -179,7 +179,7 @@ sum_of_infinities_exists x y =
     (IsPairAnswer (pair_nan_signed_as x) invalid_bit)
     (pair_answer_exists x ok_bits) (pair_answer_exists (pair_nan_signed_as x) invalid_bit)
 
--- each row of the sum has a result
+-- each row of the table of sums has a result
 sum_of_categories_exists : (first second : Category) (mode : Round) (x y : Pair)
     → HasPairAnswer (IsSumOfCategories first second mode x y)
 sum_of_categories_exists Zero Zero mode x y = pair_answer_exists _ _
@@ -199,7 +199,7 @@ sum_of_categories_exists NaN Normal mode x y = pair_answer_exists _ _
 sum_of_categories_exists NaN Infinity mode x y = pair_answer_exists _ _
 sum_of_categories_exists NaN NaN mode x y = pair_answer_exists _ _
 
--- so do each sum and each difference
+-- each sum and each difference has a result
 pub pair_sum_exists : (mode : Round) (x y : Pair) → HasPairAnswer (IsPairSum mode x y)
 pair_sum_exists mode x y = sum_of_categories_exists (pair_category x) (pair_category y) mode x y
 
@@ -255,7 +255,7 @@ product_of_numbers_exists mode x y =
     (number_product_exists mode x y t.0 t.1.0) (pair_answer_exists (alone t.0) t.1.0) in
     (a.0, (a.1.0, record { t = t.0; t_flags = t.1.0; is_t = t.1.1; is_answer = a.1.1 }))
 
--- each row of the product has a result
+-- each row of the table of products has a result
 product_of_categories_exists : (first second : Category) (mode : Round) (x y : Pair)
     → HasPairAnswer (IsProductOfCategories first second mode x y)
 product_of_categories_exists NaN Zero mode x y = pair_answer_exists _ _
@@ -275,6 +275,6 @@ product_of_categories_exists Normal Zero mode x y = pair_answer_exists _ _
 product_of_categories_exists Normal Infinity mode x y = pair_answer_exists _ _
 product_of_categories_exists Normal Normal mode x y = product_of_numbers_exists mode x y
 
--- so does each product
+-- each product has a result
 pub pair_product_exists : (mode : Round) (x y : Pair) → HasPairAnswer (IsPairProduct mode x y)
 pair_product_exists mode x y = product_of_categories_exists (pair_category x) (pair_category y) mode x y

@@ -36,7 +36,7 @@ sum_same mode a b c d v w r s e g x y =
     (subst (λ (i : Datum). IsSum double mode i c w s) (sym e)
     (subst (λ (i : Datum). IsSum double mode b i w s) (sym g) y))
 
--- and one difference
+-- equal operands have one difference
 difference_same : (mode : Round) (left other_left right other_right answer other : Datum) (r s : ℕ) → left ≡ other_left
     → right ≡ other_right → IsDifference double mode left right answer r
     → IsDifference double mode other_left other_right other s → (answer ≡ other) × (r ≡ s)
@@ -202,7 +202,7 @@ sum_of_infinities_once x y =
     (IsPairAnswer (pair_nan_signed_as x) invalid_bit)
     (pair_answer_once x ok_bits) (pair_answer_once (pair_nan_signed_as x) invalid_bit)
 
--- each row of the sum has at most one result
+-- each row of the table of sums has at most one result
 sum_of_categories_once : (first second : Category) (mode : Round) (x y : Pair)
     → OncePair (IsSumOfCategories first second mode x y)
 sum_of_categories_once Zero Zero mode x y = pair_answer_once _ _
@@ -222,7 +222,7 @@ sum_of_categories_once NaN Normal mode x y = pair_answer_once _ _
 sum_of_categories_once NaN Infinity mode x y = pair_answer_once _ _
 sum_of_categories_once NaN NaN mode x y = pair_answer_once _ _
 
--- so do each sum and each difference
+-- each sum and each difference has at most one result
 pub pair_sum_once : (mode : Round) (x y : Pair) → OncePair (IsPairSum mode x y)
 pair_sum_once mode x y = sum_of_categories_once (pair_category x) (pair_category y) mode x y
 
@@ -268,7 +268,7 @@ product_of_numbers_once mode x y v w r s h k =
     (subst (λ (i : Datum). IsProductAt mode x y i h.t_flags w s) (sym e.0)
     (subst (λ (i : ℕ). IsProductAt mode x y k.t i w s) (sym e.1) k.is_answer))
 
--- each row of the product has at most one result
+-- each row of the table of products has at most one result
 product_of_categories_once : (first second : Category) (mode : Round) (x y : Pair)
     → OncePair (IsProductOfCategories first second mode x y)
 product_of_categories_once Zero Zero mode x y = pair_answer_once _ _
@@ -288,7 +288,7 @@ product_of_categories_once NaN Normal mode x y = pair_answer_once _ _
 product_of_categories_once NaN Infinity mode x y = pair_answer_once _ _
 product_of_categories_once NaN NaN mode x y = pair_answer_once _ _
 
--- so does each product
+-- each product has at most one result
 pub pair_product_once : (mode : Round) (x y : Pair) → OncePair (IsPairProduct mode x y)
 pair_product_once mode x y = product_of_categories_once (pair_category x) (pair_category y) mode x y
 
@@ -304,7 +304,7 @@ widened_once part v w x y =
     x.is_conversion
     y.is_conversion).0
 
--- and the converted parts have at most one sum
+-- the converted parts of a pair have at most one sum
 sum_of_parts_once : (x : Pair) → OnceDatum (IsSumOfParts x)
 sum_of_parts_once x v w h k =
     let a = widened_once x.high h.high k.high h.high_is k.high_is in
@@ -344,7 +344,7 @@ wide_answer_once call c x v w r s h k =
     split_answer_once (call h.joined) (c h.joined) v w r s h.is_answer
     (subst (λ (i : Datum). IsSplitAnswer (call i) w s) (sym e) k.is_answer)
 
--- and so does a call of two operands
+-- a wide call with at most one result for all operands has at most one for all pairs
 pub wide_answer_of_two_once : (call : Datum → Datum → Datum → ℕ → Type 0)
     → ((left right : Datum) → Once (call left right)) → (x y : Pair) → OncePair (IsWideAnswerOfTwo call x y)
 wide_answer_of_two_once call c x y v w r s h k =

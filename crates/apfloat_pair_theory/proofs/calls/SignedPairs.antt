@@ -1,4 +1,4 @@
--- Conversions of signed whole numbers and pairs, from the unsigned conversions of magnitudes.
+-- Conversions of signed integers and pairs, from the unsigned conversions of magnitudes.
 use Rattle.std.proofs.Common.{◌≡◌, ℕ, zero, suc, ◌-◌, ◌<◌, Bool, true, false, refl, subst, arith}
 use Rattle.std.specs.Prelude.{ℤ, pos, neg_ℤ, int_lt}
 use Rattle.std.proofs.lemmas.Int.{ints}

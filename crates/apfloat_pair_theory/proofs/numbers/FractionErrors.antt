@@ -25,7 +25,7 @@ fraction_at half m u w d n h l k =
     let b : half * (u * w) ≤ m * (u * w) = mul-le-mul_right (u * w) h in
     omega arith
 
--- so is a distance that is at most that of either neighbour
+-- a distance that is at most that of either neighbour is small relative to a normalized significand
 fraction_by : (precision half m c amount parts d : ℕ) → IsEnclosed precision half m c amount parts
     → (c ≡ 0) ⊎ (half ≤ m) → d ≤ apart (m * 2 ^ c * parts) amount → d ≤ apart ((m + 1) * 2 ^ c * parts) amount
     → 2 * (2 ^ precision * d) ≤ 2 * amount + 2 ^ precision * parts
@@ -60,7 +60,7 @@ nearer precision parts exact z g n o =
     (signed_away s g (magnitude exact) parts) in
     subst (λ (i : ℕ). magnitude ((z *ℤ pos parts) -ℤ exact) ≤ i) e a
 
--- a nearest number is that close
+-- a nearest number is that close to the fraction
 pub fraction_error : (precision parts : ℕ) (exact z : ℤ) → 0 < precision → 0 < parts
     → IsNearestFraction precision parts exact z → IsCloseFraction precision parts exact z
 fraction_error precision parts exact z h u x =

@@ -1,5 +1,4 @@
--- A grid number nearest to a whole number, whichever way ties go; the
--- error of a rounded sum, and exact subtractions.
+-- A grid number nearest to an integer, whichever way ties go; the error of a rounded sum, and exact subtractions.
 use Rattle.std.proofs.Common.{◌≡◌, ℕ, ◌+◌, ◌-◌, ◌*◌, ◌/◌, ◌^◌, ◌<◌, ◌≤◌, ◌⊎◌, sym, ap, inl, inr, ⊎_elim, arith, lit<}
 use Rattle.std.specs.Prelude.{ℤ, pos, negsuc, ◌+ℤ◌, ◌-ℤ◌, ◌≤ℤ◌, neg_ℤ}
 use Rattle.std.proofs.Math.Nat.{mul-le-mul_right, mul-le-mul_left}
@@ -40,7 +39,7 @@ nearest_of_exact precision x g = record {
 above_from : (g x z : ℤ) → g ≤ℤ x → magnitude (z -ℤ x) ≤ magnitude (g -ℤ x) → g ≤ℤ z
 above_from g x z l h = omega (arith, ints, h, one_side (z -ℤ x), one_side (g -ℤ x))
 
--- and a number no farther from x than a number above x is not above that number
+-- a number no farther from x than a number above x is not above that number
 below_from : (g x z : ℤ) → x ≤ℤ g → magnitude (z -ℤ x) ≤ magnitude (g -ℤ x) → z ≤ℤ g
 below_from g x z l h = omega (arith, ints, h, one_side (z -ℤ x), one_side (g -ℤ x))
 
@@ -48,11 +47,11 @@ below_from g x z l h = omega (arith, ints, h, one_side (z -ℤ x), one_side (g -
 pub nearest_above : (precision : ℕ) (g x z : ℤ) → IsGridNumber precision g → g ≤ℤ x → IsNearest precision x z → g ≤ℤ z
 nearest_above precision g x z o l n = above_from g x z l (n.nearest g o)
 
--- nor a grid number above
+-- a nearest number does not pass a grid number above
 pub nearest_below : (precision : ℕ) (g x z : ℤ) → IsGridNumber precision g → x ≤ℤ g → IsNearest precision x z → z ≤ℤ g
 nearest_below precision g x z o l n = below_from g x z l (n.nearest g o)
 
--- and its magnitude is at least each grid magnitude that is at most the number's
+-- the magnitude of a nearest number is at least each grid magnitude that is at most the number's
 pub nearest_reaches : (precision n : ℕ) (x z : ℤ) → IsOnGrid precision n → n ≤ magnitude x → IsNearest precision x z
     → n ≤ magnitude z
 nearest_reaches precision n (pos m) z o l e =
@@ -106,7 +105,7 @@ at_least_place half m c n d f l h x y =
     let e : half * 2 ^ c ≤ m * 2 ^ c = mul-le-mul_right (2 ^ c) f in
     omega arith
 
--- so it is small relative to the number
+-- an error of at most half a unit in the last place is small relative to the number
 relative_at : (precision half m c : ℕ) (x z : ℤ) → IsEnclosed precision half m c (magnitude x) 1
     → IsNearest precision x z → (c ≡ 0) ⊎ (half ≤ m) → 2 ^ precision * magnitude (z -ℤ x) ≤ magnitude x
 relative_at precision half m c x z i n (inl q) =

@@ -1,4 +1,4 @@
--- Operations on finite data, to nearest, as roundings of signed whole numbers.
+-- Operations on finite data, to nearest, as roundings of signed integers.
 use Rattle.std.proofs.Common.{◌≡◌, ℕ, zero, suc, ◌+◌, ◌-◌, ◌*◌, ◌^◌, ◌<◌, ◌≤◌, Bool, true, false, not, cond, eqb, ltb, sym, refl, ap, ◌∙◌, subst, ⊎_elim, le_trans, arith, lit<}
 use Rattle.std.specs.Prelude.{ℤ, pos, negsuc, neg_ℤ, ◌+ℤ◌, ◌-ℤ◌, ◌*ℤ◌}
 use Rattle.std.proofs.Math.Nat.{mul-le-mul_right, le_of_mul-le-mul_right}
@@ -129,7 +129,7 @@ away_times parts exact x z e =
     ap magnitude (sym (difference_times z x (pos parts))) ∙
     magnitude-times (z -ℤ x) parts
 
--- an exact result of whole quanta rounds like that number
+-- an exact result of an integral number of quanta rounds like that number
 pub whole_nearest : (precision parts : ℕ) (exact x z : ℤ) → 0 < parts → (x *ℤ pos parts) ≡ exact
     → IsNearestFraction precision parts exact z → IsNearest precision x z
 whole_nearest precision parts exact x z u e n = record {
@@ -191,7 +191,7 @@ pub record IsFractionRoundedTo (precision parts : ℕ) (exact : ℤ) (value : Da
   pub is_finite : is_finite value ≡ true
   pub nearest : IsNearestFraction precision parts exact (number value)
 
--- a rounding in parts that make whole quanta is a rounding of those quanta
+-- a rounding of a fraction that is an integral number of quanta is a rounding of those quanta
 pub whole_rounded : (precision parts : ℕ) (exact x : ℤ) (value : Datum) → 0 < parts → (x *ℤ pos parts) ≡ exact
     → IsFractionRoundedTo precision parts exact value → IsRoundedTo precision x value
 whole_rounded precision parts exact x value u e r = record {

@@ -1,4 +1,4 @@
--- Whole numbers with a sign: magnitudes, multiples and grid points.
+-- Integers with a sign: magnitudes, multiples and grid points.
 use Rattle.std.proofs.Common.{◌≡◌, ℕ, suc, ◌+◌, ◌-◌, ◌*◌, ◌^◌, ◌<◌, ◌≤◌, ◌⊎◌, sym, ap, ◌∙◌, subst, inl, inr, ⊎_elim, arith}
 use Rattle.std.specs.Prelude.{ℤ, pos, negsuc, ◌+ℤ◌, ◌-ℤ◌, neg_ℤ}
 use Rattle.std.proofs.Math.Nat.{mul-le-mul_left, mul-lt-mul_of_pos_right, lt_of_mul-lt-mul_right, le_of_mul-le-mul_right, pow-le-pow_right}
@@ -35,7 +35,7 @@ sum_cases (negsuc m) (pos n) =
 pub magnitude-neg : (a : ℤ) → magnitude (neg_ℤ a) ≡ magnitude a
 magnitude-neg a = omega (arith, ints, one_side a, one_side (neg_ℤ a))
 
--- and so do the two differences of two numbers
+-- the two differences of two numbers have the same magnitude
 pub magnitude-sub : (a b : ℤ) → magnitude (a -ℤ b) ≡ magnitude (b -ℤ a)
 magnitude-sub a b = omega (arith, ints, one_side (b -ℤ a), one_side (a -ℤ b))
 
@@ -74,7 +74,7 @@ less_multiple u m n d p x y e =
       is = rest_is u x.times y.times (x.times - y.times) d (omega arith) (omega arith);
     }
 
--- and so is the sum
+-- the sum of two multiples is a multiple
 more_multiple : (u m n d : ℕ) → IsMultiple u m → IsMultiple u n → d ≡ m + n → IsMultiple u d
 more_multiple u m n d x y e =
     let a : m ≡ x.times * u = x.is in
@@ -122,7 +122,7 @@ coarse_multiple precision n k grid h =
     ap (λ (x : ℕ). grid.significand * x) w in
     record { times = grid.significand * 2 ^ (grid.place - k); is = omega arith }
 
--- and has at most `precision` digits in it
+-- a grid number has at most `precision` digits in its unit
 pub grid_bound : (precision n : ℕ) (grid : IsOnGrid precision n) → n < 2 ^ precision * 2 ^ grid.place
 grid_bound precision n grid =
     let h : grid.significand * 2 ^ grid.place < 2 ^ precision * 2 ^ grid.place =

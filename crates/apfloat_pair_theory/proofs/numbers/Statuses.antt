@@ -88,7 +88,7 @@ within_status format negative amount p status w l x e =
     inr (e ∙ d))
     (cases_eq (p * 1) amount)
 
--- and so does any rounding with a finite value
+-- any rounding with a finite value raises at most INEXACT
 rounded_status : (format : Format) (of_zero : Bool) (exact : ℤ) (value : Datum) (status : ℕ)
     → format.nonfinite ≡ IEEE754 → 1 < 2 ^ format.precision → is_finite value ≡ true
     → IsRounded format NearestTiesToEven of_zero exact 1 value status
@@ -118,7 +118,7 @@ sum_status format (finite b m) (nan c n) value status k w p q h s = absurd (fals
 sum_status format (infinite b) y value status k w p q h s = absurd (false≢true p)
 sum_status format (nan b m) y value status k w p q h s = absurd (false≢true p)
 
--- and so does a finite difference
+-- a finite difference of finite data raises at most INEXACT
 pub difference_status : (format : Format) (x y value : Datum) (status : ℕ) → format.nonfinite ≡ IEEE754
     → 1 < 2 ^ format.precision → is_finite x ≡ true → is_finite y ≡ true → is_finite value ≡ true
     → IsDifference format NearestTiesToEven x y value status → IsOkOrInexact status

@@ -87,7 +87,7 @@ module _ (precision : ℕ) (wide : 8 ≤ 2 ^ precision) where
       on_grid_as v (bound_on_grid precision k (omega (arith, wide))))
       (cases_lt (magnitude (z -ℤ a)) (2 ^ precision * 2 ^ k))
 
-  -- and if a and z are multiples of twice the unit
+  -- z - a is a grid number if a and z are multiples of twice the unit
   fast_high : (k : ℕ) (a c z : ℤ) → IsMultiple (2 ^ (k + 1)) (magnitude a) → magnitude c < 2 ^ precision * 2 ^ k
       → IsMultiple (2 ^ (k + 1)) (magnitude z)
       → magnitude (z -ℤ (a +ℤ c)) ≤ magnitude c → IsGridNumber precision (z -ℤ a)
@@ -122,7 +122,7 @@ module _ (precision : ℕ) (wide : 8 ≤ 2 ^ precision) where
       (nearest_cases precision wide s.place (a +ℤ c) z
       (sum_multiple (2 ^ s.place) a c (pow_pos s.place) s.first s.second) n)
 
-  -- the same if the magnitude of a is not the lesser
+  -- the subtraction of Fast2Sum is exact if the magnitude of a is not the lesser
   pub fast_two_sum_difference_greater : (a c z : ℤ) → IsGridNumber precision a → IsGridNumber precision c
       → magnitude c ≤ magnitude a
       → IsNearest precision (a +ℤ c) z
@@ -161,7 +161,7 @@ module _ (precision : ℕ) (wide : 8 ≤ 2 ^ precision) where
       let e₅ : w ≡ (zz +ℤ neg_ℤ d) = nearest_exact precision (zz +ℤ neg_ℤ d) w (on_grid_as m₅ s) x.last in
       omega (arith, ints)
 
-  -- and if the first operand is the lesser
+  -- if the first operand is the lesser, w is the exact error
   rounded_first : (a c z q zz r d w : ℤ) → IsGridNumber precision a → IsGridNumber precision c
       → magnitude a < magnitude c → magnitude a ≤ magnitude z → IsTwoSum precision a c z q zz r d w
       → w ≡ ((a +ℤ c) -ℤ z)

@@ -1,4 +1,4 @@
--- Products that are a whole number of quanta: the rounded product, and its exact error by a fused multiply-add.
+-- Products that are an integral number of quanta: the rounded product, and its exact error by a fused multiply-add.
 use Rattle.std.proofs.Common.{◌≡◌, ℕ, ◌+◌, ◌-◌, ◌*◌, ◌^◌, ◌<◌, ◌≤◌, true, false, refl, sym, ap, ◌∙◌, subst, arith}
 use Rattle.std.specs.Prelude.{ℤ, pos, neg_ℤ, ◌+ℤ◌, ◌-ℤ◌, ◌*ℤ◌}
 use Rattle.std.proofs.Math.Nat.{mul-le-mul_right, lt_of_mul-lt-mul_left, mul-lt-mul_of_pos_right}
@@ -124,7 +124,7 @@ size_of_product precision scale m n m_grid n_grid l =
       },
     )
 
--- if the lowest digits of the product are not below the quantum, it is a whole number of quanta
+-- if the lowest digits of the product are not below the quantum, it is an integral number of quanta
 pub whole_product : (precision scale : ℕ) (a c : ℤ) (a_grid : IsGridNumber precision a)
     (c_grid : IsGridNumber precision c) → scale ≤ a_grid.place + c_grid.place
     → (x : ℤ) × IsWholeProduct precision scale a c x

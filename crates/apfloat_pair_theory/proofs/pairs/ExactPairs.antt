@@ -10,7 +10,7 @@ use Rattle.apfloat_pair_theory.specs.PairCalls.{IsPairQuotient, IsPairTruncatedR
 use Rattle.apfloat_pair_theory.specs.PairAccuracy.{IsExactAnswerOfTwo, IsExactQuotient, IsExactTruncatedRemainder, IsExactNearestRemainder}
 use Rattle.apfloat_pair_theory.proofs.pairs.SplitLaws.{exact_split}
 
--- for a call of two pairs
+-- for a call of two pairs, the parts add up exactly to the wide result
 exact_answer_of_two : (call : Datum → Datum → Datum → ℕ → Type 0) (x y answer : Pair) (status : ℕ)
     → IsWideAnswerOfTwo call x y answer status → IsExactAnswerOfTwo call x y answer status
 exact_answer_of_two call x y answer status a = record {
@@ -23,7 +23,7 @@ exact_answer_of_two call x y answer status a = record {
   exactly = exact_split a.is_answer.value answer a.is_answer.is_split;
 }
 
--- so quotients and both remainders add up exactly
+-- the parts of a quotient and of both remainders add up exactly to the wide result
 pub exact_quotient : (mode : Round) (x y answer : Pair) (status : ℕ) → IsPairQuotient mode x y answer status
     → IsExactQuotient mode x y answer status
 exact_quotient mode x y answer status a = exact_answer_of_two (IsQuotient wide mode) x y answer status a

@@ -52,13 +52,13 @@ some_rounded false z n m =
     (rounded_exactly wide z (signed false (suc n)) refl (on_grid_as (sym q) (more_digits (suc n) m.on_grid))
     (rw q (le_trans m.within (lit≤ tt))))
 
--- so is its sum with a zero
+-- the sum of a nonzero double and a zero is the double itself
 sum_with_zero : (negative other : Bool) (n : ℕ) → IsFiniteOf double negative (suc n)
     → IsSum wide NearestTiesToEven (finite negative (suc n)) (finite other 0) (finite negative (suc n)) ok_bits
 sum_with_zero b c n m =
     rw (plus_zero b c (suc n)) (some_rounded b (zero_sum_sign NearestTiesToEven b c) n m)
 
--- by the kinds of the parts
+-- the join of a pair whose low part is a zero, by cases of the parts
 parts_joined : (first second high : Datum) → IsMember double first → is_zero second ≡ true → IsWidened first high
     → IsJoined (record { high = first; low = second }) high
 parts_joined (finite b zero) y high m z w = w

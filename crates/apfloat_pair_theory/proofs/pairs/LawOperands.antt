@@ -1,4 +1,4 @@
--- The operands of the laws: doubles alone, and normalised pairs.
+-- The operands of the laws: doubles alone, and normalized pairs.
 use Rattle.std.proofs.Common.{◌≡◌, ℕ, ◌+◌, ◌*◌, ◌≤◌, true, sym, ap, arith}
 use Rattle.std.specs.Prelude.{pos, ◌+ℤ◌}
 use Rattle.std.proofs.lemmas.Bool.{false≢true}
@@ -38,17 +38,17 @@ pub record IsDoubleAlone (x : Pair) : Type 0 where
   pub is_finite : is_finite x.high ≡ true
   pub low_is : x.low ≡ positive_zero
 
--- such an operand is a double alone
+-- a double with low part +0 is a double alone
 pub double_alone : (x : Pair) → IsMember double x.high → IsSingle x → IsDoubleAlone x
 double_alone x m s = record { is_double = m; is_finite = s.is_finite; low_is = s.low_is }
 
--- its low part has the number 0
+-- the low part of a double alone has the number 0
 pub single_low : (x : Pair) → IsDoubleAlone x → number x.low ≡ pos 0
 single_low x s = ap number s.low_is
 
--- ---- normalised pairs
+-- ---- normalized pairs
 
--- the high part of a normalised pair is nearest to the number of the pair
+-- the high part of a normalized pair is nearest to the number of the pair
 pub normalised_nearest : (x : Pair) → IsNormalised x
     → IsNearest double.precision (number x.high +ℤ number x.low) (number x.high)
 normalised_nearest x n =
@@ -58,7 +58,7 @@ normalised_nearest x n =
 seven_low : (h l : ℕ) → 8 * l ≤ h + l → 7 * l ≤ h
 seven_low h l a = omega arith
 
--- the low part of a normalised pair is at most a seventh of its high part
+-- the low part of a normalized pair is at most a seventh of its high part
 pub normalised_low : (x : Pair) → IsNormalised x → 7 * magnitude (number x.low) ≤ magnitude (number x.high)
 normalised_low x n =
     seven_low _ _ (low_eighth double.precision wide_enough (number x.high) (number x.low) (normalised_nearest x n))

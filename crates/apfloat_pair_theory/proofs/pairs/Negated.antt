@@ -1,4 +1,4 @@
--- The negation of a normalised pair is normalised, and has the negated number.
+-- The negation of a normalized pair is normalized, and has the negated number.
 use Rattle.std.proofs.Common.{◌≡◌, ℕ, zero, suc, ◌<◌, Bool, true, false, not, ltb, cond, sym, refl, ap, ◌∙◌, subst, arith, lit<}
 use Rattle.std.specs.Prelude.{ℤ, pos, negsuc, neg_ℤ, ◌+ℤ◌}
 use Rattle.std.proofs.lemmas.Int.{ints}
@@ -135,7 +135,7 @@ low_finite (finite s n) h = either (is_finite_non_zero (finite s n)) where
 low_finite (infinite s) h = absurd (false≢true h)
 low_finite (nan s n) h = absurd (false≢true h)
 
--- and its number is the negated one
+-- the number of the negation of a finite low part is the negated number
 low_number : (datum : Datum) → is_finite datum ≡ true → number (negated_low datum) ≡ neg_ℤ (number datum)
 low_number (finite s zero) h = not_of s
 low_number (finite s (suc n)) h =
@@ -144,7 +144,7 @@ low_number (finite s (suc n)) h =
 low_number (infinite s) h = absurd (false≢true h)
 low_number (nan s n) h = absurd (false≢true h)
 
--- the negation of a normalised pair is normalised, also if its number is zero
+-- the negation of a normalized pair is normalized, even if its number is zero
 pub negated_normalised : (x : Pair) → IsNormalised x → IsNormalised (negated_pair x)
 negated_normalised x n =
     let fh = negated_finite x.high n.finite_high in
@@ -186,7 +186,7 @@ negated_member (finite s n) e m =
 negated_member (infinite s) e m = absurd (false≢true e)
 negated_member (nan s n) e m = absurd (false≢true e)
 
--- ---- the negation twice is the pair itself
+-- ---- a pair negated twice
 
 -- a datum negated twice is itself
 negated_twice : (datum : Datum) → negated IEEE754 (negated IEEE754 datum) ≡ datum
@@ -201,13 +201,13 @@ negated_is_number (finite b n) = ap is_finite_non_zero (negated_is b n)
 negated_is_number (infinite b) = refl
 negated_is_number (nan b s) = refl
 
--- so is a low part, even if its sign is kept
+-- a low part negated twice is itself, even if its sign is kept
 low_twice : (is_number : Bool) (datum : Datum) → is_number ≡ is_finite_non_zero datum
     → negated_low (cond is_number (negated IEEE754 datum) datum) ≡ datum
 low_twice true x e = rw (negated_is_number x, ← e) (negated_twice x)
 low_twice false x e = rw (← e) refl
 
--- and so is a pair
+-- a pair negated twice is itself
 pub negated_pair_twice : (x : Pair) → negated_pair (negated_pair x) ≡ x
 negated_pair_twice x =
     parts_same (negated_pair (negated_pair x)) x (negated_twice x.high)

@@ -1,4 +1,4 @@
--- What follows from a pair being normalised, and what it follows from.
+-- Consequences of a pair being normalized, and conditions for it.
 use Rattle.std.proofs.Common.{◌≡◌, ℕ, zero, suc, ◌≤◌, Bool, true, false, sym, refl, ap, ◌∙◌, subst, arith, lit<}
 use Rattle.std.specs.Prelude.{ℤ, pos, negsuc, ◌+ℤ◌}
 use Rattle.std.proofs.lemmas.Bool.{false≢true}
@@ -155,7 +155,7 @@ high_alone format (finite b m) k fh g w =
 high_alone format (infinite b) k fh g w = absurd (false≢true fh)
 high_alone format (nan b m) k fh g w = absurd (false≢true fh)
 
--- such a high part is nearest to the sum of the parts
+-- a high part that equals the rounded sum of the parts is nearest to their sum
 pub high_nearest : (format : Format) (high low nearest : Datum) (status : ℕ) → format.nonfinite ≡ IEEE754
     → is_finite high ≡ true
     → is_finite low ≡ true → IsSum format NearestTiesToEven high low nearest status → is_equal high nearest ≡ true

@@ -29,13 +29,13 @@ double_of bits = datum_of double (layout_with double_constants) bits
 
 -- ---- two halves, of k bits
 
--- the lower bits of a number are those of its lower half
+-- the lowest bits of a number are those of its lower half
 mod-mod : (n j k : ℕ) → n % 2 ^ (j + k) % 2 ^ k ≡ n % 2 ^ k
 mod-mod n j k =
     ap (λ (i : ℕ). i % 2 ^ k) (mod-pow-add n j k) ∙
     mod_low (n / 2 ^ k % 2 ^ j) k (n % 2 ^ k) (mod_below n (2 ^ k) (pow_pos k))
 
--- and so are any bits within it
+-- the bits of a field within the lower half are those of the number
 field-mod : (n i j k : ℕ) → n % 2 ^ (i + j + k) / 2 ^ k % 2 ^ j ≡ n / 2 ^ k % 2 ^ j
 field-mod n i j k = ap (λ (m : ℕ). m % 2 ^ j) (field_of n (i + j) k) ∙ mod-mod (n / 2 ^ k) i j
 
@@ -44,7 +44,7 @@ lower_half : (k h l : ℕ) → h < 2 ^ k → (h + 2 ^ k * l) % 2 ^ k ≡ h
 lower_half k h l b =
     let e : h + 2 ^ k * l ≡ l * 2 ^ k + h = omega arith in ap (λ (i : ℕ). i % 2 ^ k) e ∙ mod_low l k h b
 
--- and the upper half is the second
+-- the upper half of two halves is the second
 upper_half : (k h l : ℕ) → h < 2 ^ k → (h + 2 ^ k * l) / 2 ^ k ≡ l
 upper_half k h l b =
     let e : h + 2 ^ k * l ≡ l * 2 ^ k + h = omega arith in ap (λ (i : ℕ). i / 2 ^ k) e ∙ shr_high l k h b
@@ -93,7 +93,7 @@ pub lower_bits : (bits : ℕ) → double_of (bits % 2 ^ 64) ≡ double_of bits
 lower_bits bits =
     ap (λ (x : Fields). datum_of_fields double (layout_with double_constants) x) (lower_fields bits)
 
--- so a pair is read from its halves, whatever the bits above them
+-- a pair is read from its two halves, whatever the bits above them
 pub pair_of_halves : (bits : ℕ) (x : Pair) → x.high ≡ double_of bits → x.low ≡ double_of (bits / 2 ^ 64)
     → x ≡ pair_of bits
 pair_of_halves bits x h l =
@@ -110,18 +110,18 @@ pair_encoded h l x a b = record {
   low = subst (λ (i : ℕ). IsDoubleEncodedBy i x.low) (sym (upper_half 64 h l a.below)) b;
 }
 
--- also if they are joined by `or`
+-- the bits of the low part above those of the high part, joined by `or`, encode the pair
 pub pair_encoded_by_or : (h l : ℕ) (x : Pair) → IsDoubleEncodedBy h x.high → IsDoubleEncodedBy l x.low
     → IsPairEncodedBy (bit_or h (l * 2 ^ 64 % 2 ^ 128)) x
 pair_encoded_by_or h l x a b =
     subst (λ (i : ℕ). IsPairEncodedBy i x) (sym (joined_bits h l a.below b.below)) (pair_encoded h l x a b)
 
--- read back, they are the pair
+-- the bits that encode a pair are read back as the pair
 pub pair_read_back : (bits : ℕ) (x : Pair) → IsPairEncodedBy bits x → pair_of bits ≡ x
 pair_read_back bits x e =
     parts_same (pair_of bits) x e.high.is (lower_bits (bits / 2 ^ 64) ∙ e.low.is)
 
--- and each number below 2 ^ 128 encodes the pair that is read from it
+-- each number below 2 ^ 128 encodes the pair that is read from it
 pub pair_written_back : (bits : ℕ) → bits < 2 ^ 128 → IsPairEncodedBy bits (pair_of bits)
 pair_written_back bits b =
     let l : bits / 2 ^ 64 < 2 ^ 64 = div_below bits (2 ^ 64) (2 ^ 64) (pow_pos 64) b in

@@ -1,4 +1,4 @@
--- A split loses nothing: within the largest double, the pair is normalised and has the number of the wide datum.
+-- A split loses nothing: within the largest double, the pair is normalized and has the number of the wide datum.
 use Rattle.std.proofs.Common.{◌≡◌, ℕ, zero, suc, ◌-◌, ◌*◌, ◌/◌, ◌%◌, ◌^◌, ◌<◌, ◌≤◌, Bool, true, false, not, ◌&&◌, cond, eqb, ltb, refl, sym, ap, ◌∙◌, subst, ⊎_elim, arith, lit<, mul_assoc}
 use Rattle.std.specs.Prelude.{ℤ, pos, neg_ℤ, ◌+ℤ◌, ◌-ℤ◌}
 use Rattle.std.proofs.Math.Nat.{mul-le-mul_right, le_of_mul-le-mul_right, eq_of_mul-eq-mul_right}
@@ -30,7 +30,7 @@ use Rattle.apfloat_pair_theory.proofs.sums.ClosingSums.{wide_enough}
 use Rattle.apfloat_pair_theory.proofs.numbers.WholeProducts.{IsWholeProduct, product_error_on_grid, IsNumber}
 use Rattle.apfloat_pair_theory.proofs.numbers.Roundings.{signed_exact, IsRoundedTo, within_nearest, finite_nearest, within_is, beyond_is}
 
--- ---- a whole number of quanta, in parts
+-- ---- an integral number of quanta, in parts of a quantum
 
 -- how many parts a quantum has does not change the pick
 pick_times : (negative : Bool) (below above m u : ℕ) → 0 < u
@@ -69,7 +69,7 @@ pick_whole precision s m u p h x =
       is = x.is ∙ pick_times s x.below x.above m u h;
     }
 
--- the delivered value is the same; only the flags may differ
+-- the value delivered for a number of quanta given in parts is the same; only the flags may differ
 pub delivered_whole : (format : Format) (negative : Bool) (m u : ℕ) (value : Datum) (status : ℕ) → 0 < u
     → IsDelivered format NearestTiesToEven negative (m * u) u value status
     → (again : ℕ) × IsDelivered format NearestTiesToEven negative m 1 value again
@@ -189,7 +189,7 @@ finite_pick b p high f v =
     (λ (h : p ≤ largest double). h)
     (cases_lt (largest double) p)
 
--- a split with a finite high part: normalised, with the number of the wide datum
+-- a split with a finite high part: normalized, with the number of the wide datum
 pub record IsCut (negative : Bool) (m : ℕ) (answer : Pair) : Type 0 where
   pub exactly : IsExactPair (signed negative m) 1 answer
   pub high_is : IsRoundedTo double.precision (signed negative m) answer.high
@@ -210,7 +210,7 @@ number_converted b m high status loses_info p c =
     MatchBool-at_false _ (IsConvertedNumber wide double NearestTiesToEven b m high status loses_info)
     (ne_eqb m 0 (λ z. omega (arith, p, z))) c
 
--- if the high part is finite, the pair is normalised and has the number of the wide datum
+-- if the high part is finite, the pair is normalized and has the number of the wide datum
 pub split_exactly : (negative : Bool) (m : ℕ) (answer : Pair) → 0 < m → is_finite answer.high ≡ true
     → IsSplit (finite negative m) answer → IsCut negative m answer
 split_exactly b m answer p f s =

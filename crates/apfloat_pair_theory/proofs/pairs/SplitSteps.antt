@@ -1,5 +1,5 @@
--- What is left over of a wide number, in steps: the high part widened again, the difference from it in the wide format,
--- and that difference as a double. Each of the three steps is exact.
+-- The rest of a wide number beyond its high part, in three steps: the high part is widened again, subtracted in the
+-- wide format, and the difference is converted to a double. Each step is exact.
 use Rattle.std.proofs.Common.{◌≡◌, ℕ, zero, suc, ◌*◌, ◌^◌, ◌<◌, ◌≤◌, Bool, true, false, not, ◌&&◌, eqb, refl, sym, ap, ◌∙◌, subst, le_trans, arith, lit≤}
 use Rattle.std.specs.Prelude.{ℤ, pos, ◌+ℤ◌, ◌-ℤ◌}
 use Rattle.std.proofs.lemmas.Nat.{pow_pos}
@@ -29,7 +29,7 @@ use Rattle.apfloat_pair_theory.proofs.numbers.Roundings.{finite_is, signed_not, 
 use Rattle.apfloat_pair_theory.proofs.products.ProductAnswers.{finite_number}
 use Rattle.apfloat_pair_theory.proofs.pairs.SplitLaws.{delivered_whole, high_rounded_to, number_converted, wide_number}
 
--- what is left over of a wide number, in three steps
+-- the rest of a wide number beyond its high part, in three steps
 pub record IsRestBySteps (x high low : Datum) (status : ℕ) : Type 0 where
   pub is_wide : IsMember wide x
   pub is_double : IsMember double high
@@ -116,7 +116,7 @@ record IsSmallRest (negative : Bool) (m n : ℕ) : Type 0 where
 eighth_within : (e m l w : ℕ) → 8 * e ≤ m → m ≤ w → w ≤ 8 * l → e ≤ l
 eighth_within e m l w h k i = omega arith
 
--- the rest of a wide number beyond its high part is such a rest
+-- the rest of a wide number beyond its high part is on the grid of doubles and within their range
 small_rest : (negative : Bool) (m n : ℕ) → IsFiniteOf wide negative m
     → IsRoundedTo double.precision (signed negative m) (finite negative n) → IsSmallRest negative m n
 small_rest b m n t r =
@@ -130,7 +130,7 @@ small_rest b m n t r =
       within = eighth_within _ m (largest double) (largest wide) a' t.within (lit≤ tt);
     }
 
--- so both steps keep it unchanged
+-- the subtraction and the conversion keep the rest unchanged
 rest_exactly : (negative : Bool) (m n : ℕ) (rest low : Datum) (rest_status low_status : ℕ) (loses_info : Bool)
     → IsSmallRest negative m n
     → IsDifference wide NearestTiesToEven (finite negative m) (finite negative n) rest rest_status
@@ -146,7 +146,7 @@ rest_exactly b m n rest low rest_status low_status loses_info s d c =
 
 -- ---- the high part is finite, and so is the wide number
 
--- for a nonzero number, the steps compute what is left over
+-- for a nonzero number, the steps compute the rest
 some_rest : (negative : Bool) (m : ℕ) (high low : Datum) (status : ℕ) → 0 < m → is_finite high ≡ true
     → IsRestBySteps (finite negative m) high low status → low ≡ left_over (finite negative m) high
 some_rest b m high low status p f s =
@@ -165,7 +165,7 @@ some_rest b m high low status p f s =
     (small_rest b m n s.is_wide r) d s.low_is in
     subst (λ (i : Datum). low ≡ left_over (finite b m) i) (sym e) z
 
--- the steps compute what the model calls left over
+-- the steps compute the rest that the model defines (`left_over`)
 pub rest_by_steps : (x high low : Datum) (status : ℕ) → is_finite_non_zero high ≡ true
     → IsRestBySteps x high low status → low ≡ left_over x high
 rest_by_steps (finite b zero) high low status f s =

@@ -13,7 +13,7 @@ use Rattle.apfloat_pair_theory.specs.NearestSums.{nearest_sum, nearest_sum_is}
 use Rattle.apfloat_pair_theory.specs.PairParts.{is_denormal_pair, IsDenormalByParts, IsDenormalPair}
 use Rattle.apfloat_pair_theory.proofs.calls.CallsOnce.{pair_denormal_once}
 
--- any sum to nearest is that of the function
+-- any sum to nearest is the value of the function `nearest_sum`
 pub nearest_sum_at : (x y sum : Datum) (status : ℕ) → IsSum double NearestTiesToEven x y sum status
     → nearest_sum x y ≡ sum
 nearest_sum_at x y sum status s =
@@ -42,6 +42,6 @@ is_denormal_is x =
     (is_denormal double x.high || not (is_equal x.high (nearest_sum x.high x.low))) x
     (λ a e. record { sum = nearest_sum x.high x.low; status = n.0; is_sum = n.1; is = e })
 
--- and what satisfies the relation is the value of the function
+-- only the value of the function satisfies the relation
 pub is_denormal_at : (x : Pair) (answer : Bool) → IsDenormalPair x answer → is_denormal_pair x ≡ answer
 is_denormal_at x answer d = pair_denormal_once x (is_denormal_pair x) answer (is_denormal_is x) d

@@ -8,6 +8,6 @@ use Rattle.apfloat_pair_theory.specs.PairParts.{is_equal_pair, compared_pairs}
 pub equal_pair_laws : IsPartialEquivalence is_equal_pair
 equal_pair_laws = and_per (on_per (λ (x : Pair). x.high) equal_laws) (on_per (λ (x : Pair). x.low) equal_laws)
 
--- and their order is a partial order that agrees with it
+-- the order of pairs is a partial order that agrees with equality
 pub compared_pair_laws : IsPartialOrder is_equal_pair compared_pairs
 compared_pair_laws = then_po (on_po (λ (x : Pair). x.high) compared_laws) (on_po (λ (x : Pair). x.low) compared_laws)

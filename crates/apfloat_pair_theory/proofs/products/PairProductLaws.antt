@@ -1,5 +1,5 @@
--- The product of two pairs of doubles, rounded to nearest: that of two doubles is exact, and that of normalised pairs
--- is normalised, and close to the exact product.
+-- The product of two pairs of doubles, rounded to nearest: that of two doubles is exact, and that of normalized pairs
+-- is normalized, and close to the exact product.
 use Rattle.std.proofs.Common.{◌≡◌, ℕ, ◌+◌, ◌*◌, ◌^◌, ◌<◌, ◌≤◌, true, sym, ap, ◌∙◌, subst, arith, lit≤}
 use Rattle.std.specs.Prelude.{ℤ, pos, neg_ℤ, ◌+ℤ◌, ◌-ℤ◌, ◌*ℤ◌}
 use Rattle.std.proofs.Math.Nat.{mul-le-mul_right, le_of_mul-le-mul_left, le_of_mul-le-mul_right}
@@ -77,7 +77,7 @@ no_product m n e =
     let z : magnitude m * magnitude n ≡ magnitude m * 0 = ap (λ (i : ℤ). magnitude m * magnitude i) e in
     magnitude-mul m n ∙ z ∙ omega arith
 
--- the same for the first factor
+-- a product with a first factor of 0 has the magnitude 0
 no_product_first : (m n : ℤ) → m ≡ pos 0 → magnitude (m *ℤ n) ≡ 0
 no_product_first m n e =
     let z : magnitude m * magnitude n ≡ 0 * magnitude n = ap (λ (i : ℤ). magnitude i * magnitude n) e in
@@ -124,19 +124,19 @@ alone_product x y answer status k s t e =
           ap (λ (i : ℤ). pair_number x *ℤ i) (high_alone (number y.high) (number y.low) zy);
     }
 
--- so the product of two doubles is error-free
+-- the law of error-free products
 pub error_free_product : (x y answer : Pair) (status : ℕ) → IsMember double x.high → IsMember double y.high
     → IsPairProduct NearestTiesToEven x y answer status → IsErrorFreeProduct x y answer
 error_free_product x y answer status mx my k s t e =
     alone_product x y answer status k (double_alone x mx s) (double_alone y my t) e
 
--- ---- two normalised pairs
+-- ---- two normalized pairs
 
--- the low part of a normalised pair is small relative to the pair
+-- the low part of a normalized pair is small relative to the pair
 low_below : (p k m s : ℕ) → 128 ≤ p → p * k ≤ s → s ≤ m + k → 64 * k ≤ m
 low_below p k m s w h l = let b : 128 * k ≤ p * k = mul-le-mul_right k w in omega arith
 
--- and the high part is at least half of it
+-- the high part of a normalized pair is at least half of the number
 half_of : (m s k : ℕ) → m ≤ s + k → 64 * k ≤ m → m ≤ 2 * s
 half_of m s k h l = omega arith
 
@@ -153,24 +153,24 @@ big_enough p u x A C m n w h l e f g =
 sixteenth : (e s : ℕ) → 2 ^ 53 * (2 ^ 53 * e) ≤ 16 * s → e * 2 ^ 102 ≤ s
 sixteenth e s h = omega arith
 
--- the low part of a normalised pair is small relative to its number
+-- the low part of a normalized pair is small relative to its number
 number_low : (x : Pair) → IsNormalised x → 2 ^ double.precision * size x.low ≤ magnitude (pair_number x)
 number_low x n = low_small double.precision wide_enough (number x.high) (number x.low) (normalised_nearest x n)
 
--- so it is at most a 64th of the high part
+-- the low part of a normalized pair is at most a 64th of the high part
 low_quanta : (x : Pair) → IsNormalised x → 64 * size x.low ≤ size x.high
 low_quanta x n =
     low_below (2 ^ double.precision) _ _ _ (lit≤ tt) (number_low x n) (magnitude_le (number x.high) (number x.low))
 
--- and the high part is at most twice the number of the pair
+-- the high part of a normalized pair is at most twice its number
 half_high : (x : Pair) → IsNormalised x → size x.high ≤ 2 * magnitude (pair_number x)
 half_high x n = half_of _ _ _ (first_most (number x.high) (number x.low)) (low_quanta x n)
 
--- a normalised pair is a factor of the laws
+-- a normalized pair is a factor of the laws
 normalised_factor : (x : Pair) → IsNormalised x → is_finite_non_zero x.high ≡ true → IsFactor x
 normalised_factor x s n = record { is_number = n; finite_low = s.finite_low; small = low_quanta x s }
 
--- the product of normalised pairs is normalised, and close to the exact product
+-- the product of normalized pairs is normalized, and close to the exact product
 pub accurate_product : (x y answer : Pair) (status : ℕ) → IsPairProduct NearestTiesToEven x y answer status
     → IsAccurateProduct x y answer
 accurate_product x y answer status k s t e =

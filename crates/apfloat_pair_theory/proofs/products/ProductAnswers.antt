@@ -1,5 +1,5 @@
 -- The written product of two pairs of doubles whose high parts are not zero: its steps are roundings, and they leave a
--- normalised pair.
+-- normalized pair.
 use Rattle.std.proofs.Common.{◌≡◌, ℕ, ◌+◌, ◌*◌, ◌^◌, ◌<◌, ◌≤◌, true, false, eqb, refl, subst, arith, lit≤}
 use Rattle.std.specs.Prelude.{ℤ, ◌+ℤ◌, ◌-ℤ◌, ◌*ℤ◌}
 use Rattle.std.proofs.lemmas.Bool.{ne_eqb, lt-ltb, ltb-true, false≢true, MatchBool-at_true}

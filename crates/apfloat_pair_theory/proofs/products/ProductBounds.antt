@@ -1,4 +1,4 @@
--- The error of a product of two normalised pairs, in terms of numbers.
+-- The error of a product of two normalized pairs, in terms of numbers.
 use Rattle.std.proofs.Common.{◌≡◌, ℕ, ◌+◌, ◌*◌, ◌^◌, ◌≤◌, sym, ap, ◌∙◌, subst, arith}
 use Rattle.std.specs.Prelude.{ℤ, pos, ◌+ℤ◌, ◌-ℤ◌, ◌*ℤ◌}
 use Rattle.std.proofs.Math.Nat.{mul-le-mul_right, mul-le-mul_left}
@@ -87,7 +87,7 @@ loss_is tu tauu xu crossu vu wu dtu dcu ac ad bc bd e f g = omega (arith, ints, 
 rest_is : (z x : ℤ) → z ≡ ((z -ℤ x) +ℤ x)
 rest_is z x = omega (arith, ints)
 
--- and so for their multiples
+-- multiples of x and of z - x add up to the multiple of z
 rest_times : (z x u : ℤ) → (z *ℤ u) ≡ (((z -ℤ x) *ℤ u) +ℤ (x *ℤ u))
 rest_times z x u = ap (λ (i : ℤ). i *ℤ u) (rest_is z x) ∙ sum_times (z -ℤ x) x u
 

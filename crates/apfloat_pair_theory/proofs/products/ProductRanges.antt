@@ -63,7 +63,7 @@ range_low : (i j least down : ℕ) (d e : ℤ) → d ≡ (pos i -ℤ pos 1074) �
     → neg_ℤ (pos down) ≤ℤ (d +ℤ e) → least + down ≤ 2148 → least ≤ i + j
 range_low i j least down d e x y h l = omega (arith, ints)
 
--- and from the greatest sum of their exponents
+-- the lengths of two factors, from the greatest sum of their exponents
 range_high : (i j greatest high : ℕ) (d e : ℤ) → d ≡ (pos i -ℤ pos 1074) → e ≡ (pos j -ℤ pos 1074)
     → (d +ℤ e) ≤ℤ pos high → high + 2148 ≤ greatest → i + j ≤ greatest
 range_high i j greatest high d e x y h l = omega (arith, ints)

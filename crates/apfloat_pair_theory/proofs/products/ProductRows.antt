@@ -133,14 +133,14 @@ five_is = record {
   zero_has = λ h. refl;
 }
 
--- each is a pair with low part +0
+-- 3 and 5 are pairs with low part +0
 three_single : IsSingle three
 three_single = record { is_finite = refl; low_is = refl }
 
 five_single : IsSingle five
 five_single = record { is_finite = refl; low_is = refl }
 
--- so both pairs are normalised
+-- the pairs of 3 and of 5 are normalized
 three_normalised : IsNormalised three
 three_normalised = single_normalised three (double_alone three three_is three_single) (lit≤ tt)
 
@@ -160,7 +160,7 @@ exponents below above h = record {
   not_above = omega (arith, ints);
 }
 
--- some pair is the product, it is normalised, and its number times 2 ^ 1074 quanta is 3 times 5
+-- some pair is the product, it is normalized, and its number times 2 ^ 1074 quanta is 3 times 5
 pub fifteen : (answer : Pair)
     × ((status : ℕ) × (IsPairProduct NearestTiesToEven three five answer status × IsNormalised answer
     × ((pair_number answer *ℤ pos (2 ^ 1074)) ≡ (pair_number three *ℤ pair_number five))))

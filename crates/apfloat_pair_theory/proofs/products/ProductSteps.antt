@@ -24,7 +24,7 @@ use Rattle.apfloat_pair_theory.proofs.sums.SumSteps.{size}
 use Rattle.apfloat_pair_theory.proofs.numbers.WholeProducts.{IsWholeProduct, whole_size, product_within, two_product}
 use Rattle.apfloat_pair_theory.proofs.numbers.FractionErrors.{IsCloseFraction, fraction_error, fraction_size}
 
--- ---- what is lost, as numbers
+-- ---- the losses, as numbers
 
 -- x is the exact product of the high parts and t the rounded one, both in quanta; ad and bc, the products of a high
 -- part and a low one, are in parts of a quantum
@@ -65,7 +65,7 @@ pub record AreFactors (format : Format) (x : ℤ) (a b c d : Datum) : Type 0 whe
   pub low_first : 64 * size b ≤ size a
   pub low_second : 64 * size d ≤ size c
 
--- tau is finite, is the total of what is lost, and is small relative to x
+-- tau is finite, is the total of the losses, and is small relative to x
 pub record IsLostDatum (format : Format) (x ad bc t : ℤ) (tau : Datum) : Type 0 where
   pub is_finite : is_finite tau ≡ true
   pub number_is : IsLostNumber format.precision format.scale x ad bc t (number tau)
@@ -113,14 +113,14 @@ product_le m n l x u L h e k =
     let b : x * u ≤ L * u = mul-le-mul_right u k in
     (omega arith, omega arith)
 
--- and so is the product of the first low part and the second high part
+-- the product of the first low part and the second high part is small relative to the whole product
 product_le_first : (m n l x u L : ℕ) → 64 * l ≤ m → x * u ≡ m * n → x ≤ L → (64 * (l * n) ≤ x * u) × (l * n ≤ L * u)
 product_le_first m n l x u L h e k =
     let a : (64 * l) * n ≤ m * n = mul-le-mul_right n h in
     let b : x * u ≤ L * u = mul-le-mul_right u k in
     (omega arith, omega arith)
 
--- bounds of the sum of the cross products, of what t lost with that sum, and of tau
+-- bounds of the sum of the cross products, of its sum with the error of t, and of tau
 cross_bound : (x v w s : ℕ) → 32 * v ≤ x → 32 * w ≤ x → s ≤ v + w → 16 * s ≤ x
 cross_bound x v w s h k l = omega arith
 

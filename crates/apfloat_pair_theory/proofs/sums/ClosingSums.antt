@@ -1,5 +1,5 @@
--- The closing sum of two doubles z and y, which ends each sum and each product of pairs: within reach,
--- it is exact, and the result is normalised.
+-- The closing sum of two doubles z and y, which ends each sum and each product of pairs: within reach, it is exact, and
+-- the result is normalized.
 use Rattle.std.proofs.Common.{◌≡◌, ℕ, ◌*◌, ◌^◌, ◌<◌, ◌≤◌, true, false, eqb, sym, refl, ap, ◌∙◌, subst, arith, inl, lit<, lit≤}
 use Rattle.std.specs.Prelude.{ℤ, pos, ◌+ℤ◌}
 use Rattle.std.proofs.lemmas.Bool.{false≢true, and_parts, eqb-true, MatchBool-at_true}
@@ -34,7 +34,7 @@ is_ieee = refl
 pub wide_enough : 8 ≤ 2 ^ double.precision
 wide_enough = lit≤ tt
 
--- and so at least one
+-- doubles have at least one digit
 pub digits : 1 < 2 ^ double.precision
 digits = lit< tt
 
@@ -52,14 +52,13 @@ finite_is_not_infinite (nan b n) h = absurd (false≢true h)
 
 -- ---- the closing sum
 
--- a normalised result whose number is the sum plus the rest; its status is OK or INEXACT if the flags
--- before it are
+-- a normalized result whose number is the sum plus the rest; its status is OK or INEXACT if the flags before it are
 pub record IsPairOf (sum rest : Datum) (flags : ℕ) (answer : Pair) (status : ℕ) : Type 0 where
   pub normalised : IsNormalised answer
   pub number_is : pair_number answer ≡ number sum +ℤ number rest
   pub plain : IsOkOrInexact flags → IsOkOrInexact status
 
--- a high part with the exact rest of the sum as its low part is a normalised pair
+-- a high part with the exact rest of the sum as its low part is a normalized pair
 pair_of_high : (sum rest high low : Datum) (flags status : ℕ) → is_finite high ≡ true → is_finite low ≡ true
     → (number high +ℤ number low) ≡ (number sum +ℤ number rest) → IsHighOf double high low
     → (IsOkOrInexact flags → IsOkOrInexact status) → IsPairOf sum rest flags (record { high = high; low = low }) status
@@ -129,7 +128,7 @@ closed_pair z y flags answer status a x =
     x.is_h
     (MatchBool-at_true _ _ n.is_finite x.is_answer)
 
--- ---- nothing remains to be added
+-- ---- a rest of zero
 
 -- a datum that is +0 has the number 0
 pub zero_number : (datum : Datum) → same_datum datum positive_zero ≡ true → number datum ≡ pos 0

@@ -19,7 +19,7 @@ use Rattle.apfloat_pair_theory.proofs.sums.PairSumLaws.{error_free_sum, accurate
 negated_single : (x : Pair) → IsSingle x → IsSingle (negated_pair x)
 negated_single x s = record { is_finite = negated_finite x.high s.is_finite; low_is = ap negated_low s.low_is }
 
--- and negation keeps a pair within the reach
+-- negation keeps a pair within the reach of sums
 second_negated : (x y : Pair) → AreWithinReach x y → AreWithinReach x (negated_pair y)
 second_negated x y r = record {
   first = r.first;
@@ -41,7 +41,7 @@ error_free_difference x y answer status mx my k s t r =
     (negated_single y t)
     (second_negated x y r))
 
--- the difference of normalised pairs is normalised, and close to the exact difference
+-- the difference of normalized pairs is normalized, and close to the exact difference
 pub accurate_difference : (x y answer : Pair) (status : ℕ) → IsPairDifference NearestTiesToEven x y answer status
     → IsAccurateDifference x y answer
 accurate_difference x y answer status k s t r =
@@ -53,7 +53,7 @@ accurate_difference x y answer status k s t r =
     (minus_is (pair_number x) (pair_number y) (pair_number (negated_pair y)) n)
     (accurate_sum x (negated_pair y) answer status k s (negated_normalised y t) (second_negated x y r)))
 
--- the status is OK or INEXACT
+-- the status of a difference of normalized pairs is OK or INEXACT
 pub plain_difference : (x y answer : Pair) (status : ℕ) → IsPairDifference NearestTiesToEven x y answer status
     → HasPlainStatus x y status
 plain_difference x y answer status k s t r =

@@ -71,7 +71,7 @@ small_rest : (z e s a aa c cc i x j y : ℕ) → 8 * e ≤ s → s ≤ z + e →
     → x ≤ e + aa + i → 8 * j ≤ x + cc → y ≤ x + cc + j → a ≤ s + c → z < y → y ≤ c
 small_rest z e s a aa c cc i x j y h1 h2 h3 h4 h5 h6 h7 h8 h9 h0 = omega arith
 
--- and at most the first summand
+-- if the rounded sum is less than what is added to it, that is at most the first summand
 small_rest_first : (z e s a aa c cc i x j y : ℕ) → 8 * e ≤ s → s ≤ z + e → 8 * aa ≤ a + aa → 8 * cc ≤ c + cc
     → 8 * i ≤ e + aa → x ≤ e + aa + i → 8 * j ≤ x + cc → y ≤ x + cc + j → c ≤ s + a → z < y → y ≤ a
 small_rest_first z e s a aa c cc i x j y h1 h2 h3 h4 h5 h6 h7 h8 h9 h0 = omega arith
@@ -154,7 +154,7 @@ module _ (precision : ℕ) (wide : 8 ≤ 2 ^ precision) where
       subst (λ (i : ℕ). 2 ^ precision * i ≤ magnitude (a +ℤ aa)) m
       (relative_error precision (a +ℤ aa) a (positive precision wide) n)
 
-  -- the low part of a normalised pair is a seventh of its high part at most
+  -- the low part of a normalized pair is at most a seventh of its high part
   pub low_eighth : (a aa : ℤ) → IsNearest precision (a +ℤ aa) a → 8 * magnitude aa ≤ magnitude a + magnitude aa
   low_eighth a aa n = let r = eighth _ _ _ wide (low_small a aa n) in let l = magnitude_le a aa in omega (arith, r, l)
 
@@ -162,7 +162,7 @@ module _ (precision : ℕ) (wide : 8 ≤ 2 ^ precision) where
   error_low : (x y z : ℤ) → IsNearest precision (x +ℤ y) z → 8 * magnitude (z -ℤ (x +ℤ y)) ≤ magnitude x + magnitude y
   error_low x y z n = let r = error_eighth (x +ℤ y) z n in let l = magnitude_le x y in omega (arith, r, l)
 
-  -- the closing sum of two normalised pairs has no error
+  -- the closing sum of two normalized pairs has no error
   pub closing_shared : (a aa c cc z e x y : ℤ) → IsNearest precision (a +ℤ aa) a → IsNearest precision (c +ℤ cc) c
       → IsNearest precision (a +ℤ c) z → e ≡ ((a +ℤ c) -ℤ z)
       → IsNearest precision (e +ℤ aa) x → IsNearest precision (x +ℤ cc) y → IsShared precision z y

@@ -37,7 +37,7 @@ finite_category (finite b n) h =
 finite_category (infinite b) h = absurd (false≢true h)
 finite_category (nan b n) h = absurd (false≢true h)
 
--- one operand is zero, and the result is the other
+-- one operand is zero, and the other is returned
 pub record IsGivenBack (other given answer : Pair) (status : ℕ) : Type 0 where
   pub other_is : number other.high ≡ pos 0
   pub answer_is : answer ≡ given

@@ -1,5 +1,5 @@
--- The sum of two pairs of doubles, rounded to nearest: that of two doubles is exact, and that of normalised pairs is
--- normalised, and close to the exact sum.
+-- The sum of two pairs of doubles, rounded to nearest: that of two doubles is exact, and that of normalized pairs is
+-- normalized, and close to the exact sum.
 use Rattle.std.proofs.Common.{◌≡◌, ℕ, ◌+◌, ◌*◌, ◌^◌, ◌≤◌, true, sym, ap, ◌∙◌, subst, inl, ⊎_elim, arith}
 use Rattle.std.specs.Prelude.{ℤ, pos, ◌+ℤ◌, ◌-ℤ◌, ◌*ℤ◌}
 use Rattle.std.proofs.lemmas.Int.{ints}
@@ -52,7 +52,7 @@ single_summand x s r = record {
   low_within = no_sevenths sum_reach (number x.low) (single_low x s);
 }
 
--- a double with low part +0 is a normalised pair
+-- a double with low part +0 is a normalized pair
 pub single_normalised : (x : Pair) → IsDoubleAlone x → quanta_of x.high ≤ sum_reach → IsNormalised x
 single_normalised x s r =
     let w = within_quanta x.high s.is_finite r in
@@ -83,7 +83,7 @@ singles_open x y z q v r d e u w s t k =
 first_back : (a aa c cc : ℤ) → c ≡ pos 0 → cc ≡ pos 0 → (a +ℤ aa) ≡ ((a +ℤ aa) +ℤ (c +ℤ cc))
 first_back a aa c cc e g = omega (arith, ints)
 
--- or the second one
+-- adding a pair to a pair that is 0 leaves the second pair
 second_back : (a aa c cc : ℤ) → a ≡ pos 0 → aa ≡ pos 0 → (c +ℤ cc) ≡ ((a +ℤ aa) +ℤ (c +ℤ cc))
 second_back a aa c cc e g = omega (arith, ints)
 
@@ -91,7 +91,7 @@ second_back a aa c cc e g = omega (arith, ints)
 in_quanta : (p s : ℤ) → p ≡ s → (p *ℤ pos 1) ≡ s
 in_quanta p s e = times_one p ∙ e
 
--- the same for an error
+-- an error bound in parts of a quantum, for one part
 close_in_quanta : (p s : ℤ) (digits size : ℕ) → magnitude (p -ℤ s) * 2 ^ digits ≤ size
     → magnitude ((p *ℤ pos 1) -ℤ s) * 2 ^ digits ≤ size
 close_in_quanta p s digits size h = subst (λ (i : ℤ). magnitude (i -ℤ s) * 2 ^ digits ≤ size) (sym (times_one p)) h
@@ -114,7 +114,7 @@ summed_exactly x y answer status s t m =
           (single_low x s) (single_low y t) m.number_is o.0);
     }
 
--- and neither does a result that is one of the operands
+-- a given result whose number is the exact sum loses nothing
 given_exactly : (x y given answer : Pair) → answer ≡ given → IsNormalised given
     → pair_number given ≡ (pair_number x +ℤ pair_number y) → IsExactPair (pair_number x +ℤ pair_number y) 1 answer
 given_exactly x y given answer e n s =
@@ -142,19 +142,19 @@ alone_sum x y answer status k s t r =
     h)
     (sum_rows x y answer status s.is_finite t.is_finite k)
 
--- so the sum of two doubles is error-free
+-- the law of error-free sums
 pub error_free_sum : (x y answer : Pair) (status : ℕ) → IsMember double x.high → IsMember double y.high
     → IsPairSum NearestTiesToEven x y answer status → IsErrorFreeSum x y answer
 error_free_sum x y answer status mx my k s t r =
     alone_sum x y answer status k (double_alone x mx s) (double_alone y my t) r
 
--- ---- two normalised pairs
+-- ---- two normalized pairs
 
 -- a low part of at most a seventh of the high part is at most a seventh of its bound
 low_enough : (t h l : ℕ) → 7 * l ≤ h → h ≤ t → 7 * l ≤ t
 low_enough t h l a b = omega arith
 
--- a normalised pair is a summand of the laws
+-- a normalized pair is a summand of the laws
 normalised_summand : (x : Pair) → IsNormalised x → quanta_of x.high ≤ sum_reach → IsPairSummand x
 normalised_summand x s r =
     let w : magnitude (number x.high) ≤ sum_reach = within_quanta x.high s.finite_high r in
@@ -167,7 +167,7 @@ normalised_summand x s r =
       low_within = low_enough sum_reach (magnitude (number x.high)) (magnitude (number x.low)) (normalised_low x s) w;
     }
 
--- the sum and the rest of two normalised pairs are multiples of one power of two
+-- the sum and the rest of two normalized pairs are multiples of one power of two
 normalised_share : (x y : Pair) → IsNormalised x → IsNormalised y → IsSharing x y
 normalised_share x y s t z q v r d e u w k =
     let m = normalised_nearest x s in
@@ -201,7 +201,7 @@ given_closely x y given answer e n s =
 small_error : (d s : ℕ) → 2 ^ 53 * (2 ^ 53 * d) ≤ 8 * s → d * 2 ^ 103 ≤ s
 small_error d s h = omega arith
 
--- the sum of two normalised pairs is close
+-- the sum of two normalized pairs is close
 summed_closely : (x y answer : Pair) (status : ℕ) → IsNormalised x → IsNormalised y → IsSummed x y answer status
     → IsClosePair (pair_number x +ℤ pair_number y) 1 103 (total_size x y) answer
 summed_closely x y answer status s t m =
@@ -216,7 +216,7 @@ summed_closely x y answer status s t m =
           (small_error _ (total_size x y) b));
     }
 
--- the sum of normalised pairs is normalised, and close to the exact sum
+-- the sum of normalized pairs is normalized, and close to the exact sum
 pub accurate_sum : (x y answer : Pair) (status : ℕ) → IsPairSum NearestTiesToEven x y answer status
     → IsAccurateSum x y answer
 accurate_sum x y answer status k s t r =

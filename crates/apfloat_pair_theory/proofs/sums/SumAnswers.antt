@@ -1,4 +1,4 @@
--- The steps of the sum of two pairs of doubles: within reach, they are roundings that give a normalised pair.
+-- The steps of the sum of two pairs of doubles: within reach, they are roundings that give a normalized pair.
 use Rattle.std.proofs.Common.{◌≡◌, ℕ, Bool, true, false, sym, refl, subst}
 use Rattle.std.proofs.lemmas.Bool.{MatchBool-at_false}
 use Rattle.std.specs.Prelude.{ℤ, ◌+ℤ◌}

@@ -70,7 +70,7 @@ near = parts_of false (2 ^ 53) false 1
 abbrev far : Pair
 far = parts_of true ((2 ^ 52 + 2) * 2 ^ 54) true (2 ^ 53)
 
--- both are normalised and within reach
+-- both are normalized and within reach
 near_normalised : IsNormalised near
 near_normalised = record {
   finite_high = refl;

@@ -34,7 +34,7 @@ pub record IsTwoSumSteps (format : Format) (a c z q lost_of_c z_again gained los
   pub fourth : IsDifference format NearestTiesToEven z_again a gained fourth_flags
   pub last : IsSum format NearestTiesToEven lost_of_c (negated IEEE754 gained) lost last_flags
 
--- and the two sums with the low parts
+-- the six steps of TwoSum, and the two sums with the low parts
 pub record IsOpeningSteps (format : Format) (a aa c cc z q lost_of_c z_again gained lost with_aa zz : Datum) : Type 0
   where
     pub six : IsTwoSumSteps format a c z q lost_of_c z_again gained lost
@@ -81,13 +81,13 @@ pub record AreFinite (z q lost_of_c z_again gained lost : Datum) : Type 0 where
   pub fourth : is_finite gained ≡ true
   pub last : is_finite lost ≡ true
 
--- they are roundings of the numbers
+-- the results of the six steps are roundings of the numbers
 pub record IsTwoSumRounded (precision : ℕ) (a c z q lost_of_c z_again gained lost : Datum) : Type 0 where
   pub finite : AreFinite z q lost_of_c z_again gained lost
   pub roundings : IsTwoSum precision (number a) (number c) (number z) (number q) (number lost_of_c) (number z_again)
       (number gained) (number lost)
 
--- so are the steps with the low parts
+-- the results of the steps with the low parts are roundings of the numbers
 pub record IsOpened (precision top : ℕ) (a aa c cc z q lost_of_c z_again gained lost with_aa zz : Datum) : Type 0 where
   pub finite : AreFinite z q lost_of_c z_again gained lost
   pub finite_middle : is_finite with_aa ≡ true
@@ -95,7 +95,7 @@ pub record IsOpened (precision top : ℕ) (a aa c cc z q lost_of_c z_again gaine
   pub roundings : IsOpening precision (number a) (number aa) (number c) (number cc) (number z) (number q)
       (number lost_of_c) (number z_again) (number gained) (number lost) (number with_aa) (number zz)
 
--- and so are those of the closing sum
+-- the results of the closing sum are roundings of the numbers
 pub record IsClosedSum (precision : ℕ) (z zz h left low : Datum) : Type 0 where
   pub finite_high : is_finite h ≡ true
   pub finite_left : is_finite left ≡ true
@@ -117,22 +117,22 @@ fourth_at a z q r = omega (arith, ints, one_side (r -ℤ a), one_side (r -ℤ (q
 sum_low : (t a c s : ℕ) → a ≤ t → c ≤ t → s ≤ a + c → s ≤ 2 * t
 sum_low t a c s h l k = omega arith
 
--- and its error, at most an eighth of it, is at most a quarter of `top`
+-- the error of that sum, at most an eighth of it, is at most a quarter of `top`
 error_low : (t e s : ℕ) → s ≤ 2 * t → 8 * e ≤ s → 4 * e ≤ t
 error_low t e s h l = omega arith
 
--- an operand and such an error are at most twice `top`
+-- the sum of an operand and such an error is at most twice `top`
 with_error : (t c e s : ℕ) → c ≤ t → 4 * e ≤ t → s ≤ c + e → s ≤ 2 * t
 with_error t c e s h l k = omega arith
 
--- two such errors are at most half of `top`
+-- the sum of two such errors is at most half of `top`
 two_errors : (t i e s : ℕ) → 4 * i ≤ t → 4 * e ≤ t → s ≤ i + e → 2 * s ≤ t
 two_errors t i e s h l k = omega arith
 
 half_low : (t s : ℕ) → 2 * s ≤ t → s ≤ 2 * t
 half_low t s h = omega arith
 
--- and their rounded sum is at most `top`
+-- the rounded sum of two such errors is at most `top`
 value_low : (t s e v : ℕ) → 2 * s ≤ t → 8 * e ≤ s → v ≤ s + e → v ≤ t
 value_low t s e v h l k = omega arith
 
@@ -149,7 +149,7 @@ second_low : (t e aa s i x cc u : ℕ) → 4 * e ≤ t → 7 * aa ≤ t → s �
     → u ≤ x + cc → (u ≤ 2 * t) × (3 * u ≤ 2 * t)
 second_low t e aa s i x cc u h1 h2 h3 h4 h5 h6 h7 = (omega arith, omega arith)
 
--- rounded again, that is at most three quarters of `top`
+-- a number of at most two thirds of `top`, rounded, is at most three quarters of `top`
 rest_low_by : (t u j y : ℕ) → 3 * u ≤ 2 * t → 8 * j ≤ u → y ≤ u + j → 4 * y ≤ 3 * t
 rest_low_by t u j y h l k = omega arith
 
@@ -165,7 +165,7 @@ closing_within t l z y s h1 h2 h3 h4 = (omega arith, omega arith)
 closing_first : (t s e y u : ℕ) → s ≤ 3 * t → 8 * e ≤ s → 4 * y ≤ 3 * t → u ≤ y + e → u ≤ 2 * t
 closing_first t s e y u h1 h2 h3 h4 = omega arith
 
--- and so is that difference plus zz
+-- the difference of z and h, plus zz, is at most twice `top`
 closing_last : (t s e g u v : ℕ) → s ≤ 3 * t → 8 * e ≤ s → u ≤ 2 * t → 8 * g ≤ u → v ≤ g + e → v ≤ 2 * t
 closing_last t s e g u v h1 h2 h3 h4 h5 = omega arith
 
@@ -241,7 +241,8 @@ module _ (format : Format) (kind : format.nonfinite ≡ IEEE754) (wide : 8 ≤ 2
         };
       }
 
-  -- nor do the steps with the low parts, and their results are within the bounds of the closing sum
+  -- within a third of the largest value, the steps with the low parts do not overflow, and their results are within the
+  -- bounds of the closing sum
   pub opened : (a aa c cc z q lost_of_c z_again gained lost with_aa zz : Datum) → IsSummand format top a aa
       → IsSummand format top c cc → IsOpeningSteps format a aa c cc z q lost_of_c z_again gained lost with_aa zz
       → IsOpened format.precision top a aa c cc z q lost_of_c z_again gained lost with_aa zz

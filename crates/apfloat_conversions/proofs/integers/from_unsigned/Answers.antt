@@ -13,7 +13,7 @@ deliver_u128_digits-requires-clause-within c =
       high = omega (arith, ints, c.aligned_exponent.ensures);
     }
 
--- a number that was moved up and 1 part, each in units of 2 ^ -scale
+-- the units of a shifted integer and those of 1 agree, each in quanta of 2 ^ -scale
 moved_units : (number scale places up down : ℕ) → scale + down ≡ places + up
     → number * 2 ^ scale * 2 ^ down ≡ number * 2 ^ places * (1 * 2 ^ up)
 moved_units number scale places up down e =

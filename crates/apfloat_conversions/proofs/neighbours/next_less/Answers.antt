@@ -65,7 +65,7 @@ returns-then-x-integer_bit-clause-next c =
     rw ex (before_is s (quanta_at s.min_exp c.args.x.significand c.args.x.exponent)
     (c.args.x.significand - c.step.result) c.args.x.exponent c.requires.within (stays c))
 
--- a significand that is not above the integer bit is it
+-- a significand that is at most the integer bit equals it
 is_half : (m bit half : ℕ) → m ≤ bit → bit ≡ half → half ≤ m → m ≡ half
 is_half m bit half f e g = omega arith
 

@@ -16,7 +16,7 @@ overflow_add-result c =
           (omega (arith, a, c.requires.fits)) c.cut_at_dot-kept.ensures.quotient;
     }
 
--- the digits kept, with the loss, stand for any amount that has the value
+-- the kept digits, with the loss, represent the value in any units
 stands : (state : After-cut_at_dot-kept) (amount parts : ℕ) → 0 < parts
     → amount * 2 ^ state.args.places ≡ state.args.significand * parts
     → StandsFor state.cut_at_dot-kept.result.significand state.cut_at_dot-kept.result.loss amount parts

@@ -8,7 +8,7 @@ use Rattle.apfloat_conversions.proofs.StoredExponents.{top_fits, word_places}
 use Rattle.apfloat_conversions.proofs.whole.round_word.Goals.{After-from}
 use Rattle.apfloat_conversions.proofs.whole.round_word.Goals as goal
 
--- the significand, moved up
+-- the significand, shifted up
 top : (c : After-from) → c.from.result ≡ c.args.x.significand * 2 ^ (62 - c.args.shape.precision)
 top c =
     let f = top_fits c.args.shape.precision c.args.x.significand c.requires.short c.requires.normal.operand.fits in

@@ -27,7 +27,7 @@ is_positive_zero (finite b n) = zero_without_sign b _
 is_positive_zero (infinite b) = refl
 is_positive_zero (nan b s) = refl
 
--- with no error, the sum of the high parts is the result
+-- without an error, the sum of the high parts is the result
 exact_sum : (mode : Round) (x y : Pair) (z zz : Datum) (z_flags zz_flags : ℕ) (is_none : Bool) (answer : Pair)
     (status : ℕ) → IsLost mode x.high x.low y.high y.low z zz zz_flags
     → is_none ≡ (is_zero_category (category_of zz) && not (is_negative zz)) → is_none ≡ true
@@ -43,7 +43,7 @@ exact_sum mode x y z zz z_flags zz_flags is_none answer status lost e none a s =
           (sym (is_positive_zero zz) ∙ sym e ∙ none) (record { answer_is = a; status_is = s });
     }
 
--- and with an error, one more sum
+-- with an error, the result takes one more sum
 closed_sum : (mode : Round) (x y : Pair) (z zz : Datum) (z_flags zz_flags flags : ℕ) (is_none : Bool) (answer : Pair)
     (status : ℕ) → IsLost mode x.high x.low y.high y.low z zz zz_flags
     → is_none ≡ (is_zero_category (category_of zz) && not (is_negative zz)) → is_none ≡ false

@@ -3,7 +3,7 @@ use Rattle.std.proofs.Math.Nat.{div-le_of_le-mul, mul-le-mul_right}
 use Rattle.array_conversions.specs.Widths.{source_width, target_width}
 use Rattle.convert_values.proofs.stream.convert_through.Goals as goal
 
--- values of which a block has room in one format have it in the other one
+-- if a block has room for as many values in one format, it has room for them in the other
 has_room : (read block source target buffer : ℕ) → read ≤ block * source → buffer ≡ block * target
     → read / source * target ≤ buffer
 has_room read block source target buffer l is =
