@@ -16,5 +16,5 @@ mod SpecialProducts
 mod Additions
 mod SumCases
 mod StepBounds
-pub mod ShortQuotients
+pub mod WordQuotients
 pub mod RootStandings

@@ -17,10 +17,7 @@ use apfloat_rounding::rounding::deliver;
 use apfloat_rounding::rounding::from_word::deliver_word_digits;
 use apfloat_rounding::shape::Shape;
 use apfloat_rounding::unpacked::Unpacked;
-use apfloat_words::{
-    NEAR_LIMIT, WORD_LIMIT, divide_by_words, divide_short_by_guess, divide_word,
-    divide_word_by_guess, guess_quotient,
-};
+use apfloat_words::{WORD_LIMIT, divide_by_guess, divide_u128, divide_word, guess_quotient};
 
 /// By how many places a dividend is moved up to be at least the divisor.
 #[inline(always)]
@@ -32,10 +29,10 @@ fn places_up(dividend: u64, divisor: u64) -> u32
     u32::from(dividend < divisor)
 }
 
-/// The quotient of two significands of few digits, with one place more than the precision, rounded to odd: by a machine
-/// division of 32 digits if they suffice, and by a guess otherwise.
+/// The quotient of two significands that each fit in a word, with one place more than the precision, rounded to odd: by
+/// a machine division of 32 digits if they suffice, and by a guess otherwise.
 #[inline(always)]
-fn short_quotient_of(precision: u32, dividend: u64, divisor: u64) -> u64
+fn word_quotient_of(precision: u32, dividend: u64, divisor: u64) -> u64
     requires some { 0 < precision }
     requires short { precision ≤ 59 }
     requires close { dividend < 2 * divisor }
@@ -48,17 +45,14 @@ fn short_quotient_of(precision: u32, dividend: u64, divisor: u64) -> u64
         return divide_word(dividend, divisor, places);
     }
     let guess = guess_quotient(precision, dividend, divisor);
-    if precision <= NEAR_LIMIT {
-        divide_word_by_guess(guess, dividend, divisor, places)
-    } else {
-        divide_short_by_guess(guess, dividend, divisor, places)
-    }
+    divide_by_guess(guess, dividend, divisor, places)
 }
 
-/// The quotient of two nonzero numbers with few digits, rounded once. If the dividend is moved up by a place where it is
-/// less than the divisor, one place more than the precision always gives two digits more than the format has.
+/// The quotient of two nonzero numbers whose significands fit in a word, rounded once. If the dividend is moved up by a
+/// place where it is less than the divisor, one place more than the precision always gives two digits more than the
+/// format has.
 #[inline(always)]
-fn divide_short_numbers(shape: Shape, x: Unpacked, y: Unpacked, round: Round) -> StatusAnd<Unpacked>
+fn divide_word_numbers(shape: Shape, x: Unpacked, y: Unpacked, round: Round) -> StatusAnd<Unpacked>
     requires short { shape.precision ≤ 59 }
     requires left { IsNormal shape x }
     requires right { IsNormal shape y }
@@ -73,7 +67,7 @@ fn divide_short_numbers(shape: Shape, x: Unpacked, y: Unpacked, round: Round) ->
     let places = shape.precision + 1 + up;
     deliver_word_digits(
         shape,
-        short_quotient_of(shape.precision, dividend << up, divisor),
+        word_quotient_of(shape.precision, dividend << up, divisor),
         quotient_exponent(x.exponent, y.exponent, places),
         round,
         product_sign(x.negative, y.negative),
@@ -92,10 +86,10 @@ fn divide_numbers(shape: Shape, x: Unpacked, y: Unpacked, round: Round) -> Statu
         (quanta_of shape y)) result }
 {
     if shape.precision <= WORD_LIMIT {
-        return divide_short_numbers(shape, x, y, round);
+        return divide_word_numbers(shape, x, y, round);
     }
     let places = shape.precision + 1;
-    let quotient = divide_by_words(x.significand, y.significand, places);
+    let quotient = divide_u128(x.significand, y.significand, places);
     deliver(
         shape,
         quotient.whole,

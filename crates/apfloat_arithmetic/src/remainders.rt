@@ -1,19 +1,21 @@
 //! Remainders: by the quotient cut toward zero, and by the whole number nearest to the quotient. Both are exact.
 //!
-//! The rest is found by many digits of the quotient at a time (`moved_rest`). Where the subtractions are counted, each
-//! turn subtracts the greatest multiple of the divisor by a power of two that is not above the rest, so there is one
-//! turn for each digit of the quotient that is 1. A significand has a place, which is counted from that of the last
+//! The rest is found by many digits of the quotient at a time (`rest_of_moved`). Where the subtractions are counted,
+//! each turn subtracts the greatest multiple of the divisor by a power of two that is not above the rest, so there is
+//! one turn for each digit of the quotient that is 1. A significand has a place, which is counted from that of the last
 //! digit of the least number whose significand has all its digits.
 
-ghost use Rattle.std.specs.Prelude.{◌≡◌, ℕ, ◌+◌, ◌-◌, ◌*◌, ◌/◌, ◌%◌, ◌^◌, ◌<◌, ◌≤◌, ◌⊎◌, false, eqb, count_ones, cond, ℤ, pos, ◌≤ℤ◌, ◌+ℤ◌, ◌-ℤ◌};
+ghost use Rattle.std.specs.Prelude.{◌≡◌, ℕ, ◌+◌, ◌-◌, ◌*◌, ◌/◌, ◌%◌, ◌^◌, ◌<◌, ◌≤◌, ◌⊎◌, false, eqb, count_ones, cond};
+ghost use Rattle.std.specs.Prelude.{ℤ, pos, ◌≤ℤ◌, ◌+ℤ◌, ◌-ℤ◌};
 ghost use Rattle.apfloat_model.specs.declared.kinds.Round.{Round};
 ghost use Rattle.apfloat_model.specs.rounding.Bounds.{place_bound};
 ghost use Rattle.apfloat_model.specs.rounding.Answer.{IsAnswer};
 ghost use Rattle.apfloat_model.specs.rounding.Rounding.{ok_bits, takes_above};
 ghost use Rattle.apfloat_model.specs.arithmetic.Exponents.{IsIlogb};
-ghost use Rattle.apfloat_model.specs.arithmetic.Remainders.{truncated_quotient, nearest_quotient, rest_of, IsTruncatedRemainder, IsNearestRemainder, ones_of_quotient};
+ghost use Rattle.apfloat_model.specs.arithmetic.Remainders.{truncated_quotient, nearest_quotient, ones_of_quotient};
+ghost use Rattle.apfloat_model.specs.arithmetic.Remainders.{rest_of, IsTruncatedRemainder, IsNearestRemainder};
 ghost use Rattle.apfloat_rounding.specs.Shapes.{format_at};
-ghost use Rattle.apfloat_rounding.specs.Stored.{IsOperand, IsNormal, IsStored, datum_at, quanta_of, GivesAt};
+ghost use Rattle.apfloat_rounding.specs.Stored.{IsNormal, IsStored, datum_at, quanta_of, GivesAt};
 ghost use Rattle.apfloat_arithmetic.specs.Magnitudes.{units_of, HasAllDigits};
 
 use crate::classes::are_normal;
@@ -21,7 +23,7 @@ use crate::specials::{Operation, special};
 use apfloat_model::{ExpInt, Status, StatusAnd};
 use apfloat_rounding::shape::Shape;
 use apfloat_rounding::unpacked::{Unpacked, from_quanta};
-use apfloat_words::{MovedRest, digits, moved_rest, short_moved_rest};
+use apfloat_words::{MovedRest, digits, u128_moved_rest, word_moved_rest};
 
 /// `significand * 2^place` units.
 #[derive(Clone, Copy, Debug)]
@@ -139,9 +141,9 @@ fn rest_of_moved(precision: u32, dividend: u128, divisor: u128, places: u32) -> 
     ensures odd { result.odd ≡ eqb (dividend * 2 ^ places / divisor % 2) 1 }
 {
     if precision <= 62 {
-        short_moved_rest(dividend as u64, divisor as u64, places)
+        word_moved_rest(dividend as u64, divisor as u64, places)
     } else {
-        moved_rest(dividend, divisor, places)
+        u128_moved_rest(dividend, divisor, places)
     }
 }
 
@@ -242,7 +244,8 @@ fn nearest_by(precision: u32, x: Magnitude, y: Magnitude) -> Nearest
 /// An operand at its place.
 #[inline(always)]
 fn magnitude_of(shape: Shape, x: Unpacked) -> Magnitude
-    requires { IsOperand shape x }
+    requires { IsNormal shape x }
+    ensures units { units_of result ≡ quanta_of shape x * 2 ^ (shape.precision - 1) }
     ensures significand { result.significand ≡ x.significand }
     ensures place { pos result.place
         ≡ ((x.exponent -ℤ shape.min_exp) +ℤ pos (shape.precision - 1)) }

@@ -1,6 +1,7 @@
 pub mod Divisions
 pub mod LongDivisions
 pub mod RootSteps
+pub mod MovedUp
 pub mod Estimates
 pub mod PowerRests
 pub mod Totals

@@ -4,24 +4,23 @@ ghost use Rattle.std.specs.Prelude.{◌*◌, ◌^◌, ◌<◌, ◌≤◌};
 
 use crate::asserts::same;
 use apfloat_words::{
-    divide, divide_by_words, divide_short, divide_short_by_guess, divide_short_by_words, is_exact,
-    moved_rest, short_moved_rest,
+    divide, divide_by_guess, divide_u128, is_exact, u128_moved_rest, word_moved_rest,
 };
 
-/// Whether the division by words returns what the division by single digits does.
+/// Whether the division by many digits at a time returns what the division by single digits does.
 fn agree(dividend: u128, divisor: u128, places: u32) -> bool
     requires some { 0 < divisor }
     requires narrow { divisor < 2 ^ 125 }
     requires close { dividend < 2 * divisor }
     requires short { places ≤ 126 }
 {
-    let words = divide_by_words(dividend, divisor, places);
+    let many = divide_u128(dividend, divisor, places);
     let single = divide(dividend, divisor, places);
-    words.whole == single.whole && words.loss == single.loss
+    many.whole == single.whole && many.loss == single.loss
 }
 
 #[test]
-fn words_and_single_digits_agree(rt: HostRuntime) {
+fn many_and_single_digits_agree(rt: HostRuntime) {
     for places in 0..127 {
         let dividend = 0x1234_5678_9abc_def0_0fed_cba9_8765;
         let agreeing = [
@@ -37,18 +36,6 @@ fn words_and_single_digits_agree(rt: HostRuntime) {
     }
 }
 
-/// Whether the division of short significands by words returns what the division by single digits does.
-fn short_agree(dividend: u64, divisor: u64, places: u32) -> bool
-    requires some { 0 < divisor }
-    requires narrow { divisor < 2 ^ 62 }
-    requires close { dividend < 2 * divisor }
-    requires short { places ≤ 62 }
-{
-    let words = divide_short_by_words(dividend, divisor, places);
-    let single = divide_short(dividend, divisor, places);
-    words.whole == single.whole && words.loss == single.loss
-}
-
 /// Whether the division by a guess at that distance from the quotient returns that quotient, rounded to odd.
 fn guess_agrees(distance: u64, dividend: u64, divisor: u64, places: u32) -> bool
     requires some { 0 < divisor }
@@ -56,11 +43,11 @@ fn guess_agrees(distance: u64, dividend: u64, divisor: u64, places: u32) -> bool
     requires close { dividend < 2 * divisor }
     requires short { places ≤ 61 }
 {
-    let single = divide_short(dividend, divisor, places);
+    let single = divide(u128::from(dividend), u128::from(divisor), places);
     let whole = (single.whole % (1 << 64)) as u64;
     let more = u64::from(!is_exact(single.loss) & (whole % 2 == 0));
     let guess = whole.wrapping_add(distance);
-    divide_short_by_guess(guess, dividend, divisor, places) == whole.wrapping_add(more)
+    divide_by_guess(guess, dividend, divisor, places) == whole.wrapping_add(more)
 }
 
 /// Whether guesses agree that are right, or too great or too small by 1, 2 and much.
@@ -99,15 +86,15 @@ fn rests_agree(dividend: u128, divisor: u128, places: u32) -> bool
     requires close { dividend < 2 * divisor }
 {
     let single = doubled_rest(dividend, divisor, places);
-    let long = moved_rest(dividend, divisor, places);
-    if long.rest != single.0 || long.odd != single.1 {
+    let in_u128 = u128_moved_rest(dividend, divisor, places);
+    if in_u128.rest != single.0 || in_u128.odd != single.1 {
         return false;
     }
     if divisor >= 1 << 62 {
         return true;
     }
-    let short = short_moved_rest(dividend as u64, divisor as u64, places);
-    short.rest == single.0 && short.odd == single.1
+    let in_word = word_moved_rest(dividend as u64, divisor as u64, places);
+    in_word.rest == single.0 && in_word.odd == single.1
 }
 
 /// The next word of a generator (xorshift).
@@ -131,54 +118,31 @@ fn close_to(divisor: u128, dividend: u128) -> u128
 }
 
 /// Whether all ways agree for a dividend and a divisor made of two words.
-fn words_agree(first: u64, second: u64, places: u32) -> bool {
-    let divisor = u128::from(first % (1 << 61)) + 1;
-    let dividend = close_to(divisor, u128::from(second % (1 << 62)));
-    let long_divisor = u128::from(first) * (1 << 60) + 1;
-    let long_dividend = close_to(
-        long_divisor,
+fn made_operands_agree(first: u64, second: u64, places: u32) -> bool {
+    let word_divisor = u128::from(first % (1 << 61)) + 1;
+    let word_dividend = close_to(word_divisor, u128::from(second % (1 << 62)));
+    let divisor = u128::from(first) * (1 << 60) + 1;
+    let dividend = close_to(
+        divisor,
         u128::from(second) * (1 << 60) + u128::from(first),
     );
-    rests_agree(dividend, divisor, places) && rests_agree(long_dividend, long_divisor, places)
-}
-
-/// Whether both ways agree for a short dividend and divisor made of two words.
-fn short_words_agree(first: u64, second: u64) -> bool {
-    let divisor = first % (1 << 61) + 1;
-    let dividend = second % (1 << 62);
-    if dividend < 2 * divisor {
-        short_agree(dividend, divisor, (first % 63) as u32)
-    } else {
-        short_agree(divisor - 1, divisor, (first % 63) as u32)
-    }
+    rests_agree(word_dividend, word_divisor, places)
+        && agree(word_dividend, word_divisor, places % 127)
+        && rests_agree(dividend, divisor, places)
+        && agree(dividend, divisor, places % 127)
 }
 
 #[test]
-fn words_and_single_digits_agree_on_made_operands(rt: HostRuntime) {
+fn many_and_single_digits_agree_on_made_operands(rt: HostRuntime) {
     let mut word: u64 = 88172645463325252;
     for round in 0..1000u32 {
         let first = next_word(word);
         word = next_word(first);
         let agreeing = [
-            words_agree(first, word, round % 400),
-            short_words_agree(first >> (round % 60), word >> (round % 60)),
+            made_operands_agree(first, word, round % 400),
+            made_operands_agree(first >> (round % 60), word >> (round % 60), round % 400),
         ];
         same(&rt, agreeing, [true; 2], round);
-    }
-}
-
-#[test]
-fn short_words_and_single_digits_agree(rt: HostRuntime) {
-    for places in 0..63 {
-        let agreeing = [
-            short_agree(1, 1, places),
-            short_agree(5, 3, places),
-            short_agree((1 << 53) - 1, 1 << 52, places),
-            short_agree(1 << 52, (1 << 53) - 1, places),
-            short_agree((1 << 62) - 2, (1 << 62) - 1, places),
-            short_agree((1 << 62) - 1, (1 << 61) + 1, places),
-        ];
-        same(&rt, agreeing, [true; 6], places);
     }
 }
 

@@ -14,19 +14,19 @@ use Rattle.apfloat_arithmetic.proofs.quotients.divide_numbers.Goals as goal
 pub overflow_add-places : goal.overflow_add-places
 overflow_add-places c = omega (arith, c.args.shape.parameters.precision_high)
 
-pub divide_by_words-quotient-requires-clause-some : goal.divide_by_words-quotient-requires-clause-some
-divide_by_words-quotient-requires-clause-some c =
+pub divide_u128-quotient-requires-clause-some : goal.divide_u128-quotient-requires-clause-some
+divide_u128-quotient-requires-clause-some c =
     normal_some c.args.shape c.args.y.significand c.args.y.exponent c.requires.right
 
-pub divide_by_words-quotient-requires-clause-narrow : goal.divide_by_words-quotient-requires-clause-narrow
-divide_by_words-quotient-requires-clause-narrow c =
+pub divide_u128-quotient-requires-clause-narrow : goal.divide_u128-quotient-requires-clause-narrow
+divide_u128-quotient-requires-clause-narrow c =
     let a : 2 ^ c.args.shape.precision ≤ 2 ^ 125 =
     pow-le-pow_right two_pos c.args.shape.parameters.precision_high in
     let f = c.requires.right.operand.fits in
     omega (arith, a, f)
 
-pub divide_by_words-quotient-requires-clause-close : goal.divide_by_words-quotient-requires-clause-close
-divide_by_words-quotient-requires-clause-close c =
+pub divide_u128-quotient-requires-clause-close : goal.divide_u128-quotient-requires-clause-close
+divide_u128-quotient-requires-clause-close c =
     let l = c.args.shape.parameters.precision_low in
     let t : 2 * 2 ^ (c.args.shape.precision - 1) ≡ 2 ^ c.args.shape.precision =
     twice_half c.args.shape.precision (omega (arith, l)) in
@@ -62,10 +62,10 @@ pub deliver-requires-clause-fine : goal.deliver-requires-clause-fine
 deliver-requires-clause-fine c =
     let s = c.args.shape in
     let t = c.args.shape.parameters.precision_low in
-    inr (inr (quotient_full c.divide_by_words-quotient.result.whole c.args.x.significand c.args.y.significand
+    inr (inr (quotient_full c.divide_u128-quotient.result.whole c.args.x.significand c.args.y.significand
     s.precision (s.precision + 1)
     (normal_some s c.args.y.significand c.args.y.exponent c.requires.right) c.requires.left.operand.full
-    c.requires.right.operand.fits (omega arith) (omega arith) c.divide_by_words-quotient.ensures.quotient))
+    c.requires.right.operand.fits (omega arith) (omega arith) c.divide_u128-quotient.ensures.quotient))
 
 pub returns-clause-stored : goal.returns-clause-stored
 returns-clause-stored c = c.deliver.ensures.stored
@@ -83,9 +83,9 @@ returns-clause-delivered c =
     (quanta_at s.min_exp c.args.y.significand c.args.y.exponent)
     (quanta_some s c.args.y.significand c.args.y.exponent c.requires.right)
     (quotient_is s c.args.x.exponent c.args.y.exponent c.quotient_exponent.result (s.precision + 1)
-    c.divide_by_words-quotient.result.whole c.divide_by_words-quotient.result.loss c.args.x.significand
+    c.divide_u128-quotient.result.whole c.divide_u128-quotient.result.loss c.args.x.significand
     c.args.y.significand c.requires.left c.requires.right v
-    c.divide_by_words-quotient.ensures.stands) in
+    c.divide_u128-quotient.ensures.stands) in
     subst (λ (b : Bool). IsDelivered (format_at s) c.args.round b
     (quanta_at s.min_exp c.args.x.significand c.args.x.exponent * 2 ^ (format_at s).scale)
     (quanta_at s.min_exp c.args.y.significand c.args.y.exponent) (datum_at s c.deliver.result.value)

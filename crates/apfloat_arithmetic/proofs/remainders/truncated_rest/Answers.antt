@@ -1,33 +1,14 @@
-use Rattle.std.proofs.Common.{◌≡◌, ℕ, ◌-◌, ◌*◌, ◌%◌, ◌^◌, ◌-ℤ◌}
+use Rattle.std.proofs.Common.{◌≡◌, ℕ, ◌-◌, ◌*◌, ◌%◌, ◌^◌}
 use Rattle.std.proofs.lemmas.Nat.{pow_pos}
 use Rattle.apfloat_rounding.specs.Stored.{quanta_of}
-use Rattle.apfloat_arithmetic.specs.Magnitudes.{units_of}
-use Rattle.apfloat_arithmetic.proofs.NearestMultiples.{operand_scaled, rest_in}
-use Rattle.apfloat_arithmetic.proofs.remainders.truncated_rest.Goals.{After-magnitude_of-2}
+use Rattle.apfloat_arithmetic.proofs.NearestMultiples.{rest_in}
 use Rattle.apfloat_arithmetic.proofs.remainders.truncated_rest.Goals as goal
-
-number_scaled : (state : After-magnitude_of-2)
-    → units_of state.magnitude_of.result
-    ≡ quanta_of state.args.shape state.args.x * 2 ^ (state.args.shape.precision - 1)
-number_scaled c =
-    operand_scaled c.magnitude_of.result.place (c.args.shape.precision - 1) (quanta_of c.args.shape c.args.x) _ _
-    (c.args.x.exponent -ℤ c.args.shape.min_exp) c.magnitude_of.ensures.significand c.magnitude_of.ensures.place
-    c.requires.x.whole
-
-divisor_scaled : (state : After-magnitude_of-2)
-    → units_of state.magnitude_of-2.result
-    ≡ quanta_of state.args.shape state.args.y * 2 ^ (state.args.shape.precision - 1)
-divisor_scaled c =
-    operand_scaled c.magnitude_of-2.result.place (c.args.shape.precision - 1) (quanta_of c.args.shape c.args.y) _ _
-    (c.args.y.exponent -ℤ c.args.shape.min_exp) c.magnitude_of-2.ensures.significand c.magnitude_of-2.ensures.place
-    c.requires.y.whole
 
 pub returns-clause-quanta : goal.returns-clause-quanta
 returns-clause-quanta c =
-    let state = (goal.at.returns-clause-quanta c).After-magnitude_of-2 in
     let low : ℕ = c.args.shape.precision - 1 in
     let a : ℕ = quanta_of c.args.shape c.args.x in
     let b : ℕ = quanta_of c.args.shape c.args.y in
     c.in_quanta.ensures.same (a % b)
-    (rest_in _ _ a b (2 ^ low) _ (pow_pos low) (number_scaled state) (divisor_scaled state)
+    (rest_in _ _ a b (2 ^ low) _ (pow_pos low) c.magnitude_of.ensures.units c.magnitude_of-2.ensures.units
     c.remaining_by-rest.ensures.rest)

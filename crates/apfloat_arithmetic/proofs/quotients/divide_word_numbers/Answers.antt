@@ -1,0 +1,86 @@
+use Rattle.std.proofs.Common.{◌≡◌, ℕ, ◌+◌, ◌*◌, ◌^◌, Bool, w32, to_z, of_z, sym, ap, ◌∙◌, subst, arith}
+use Rattle.std.proofs.lemmas.Int.{to_z-of_z}
+use Rattle.apfloat_model.specs.rounding.Flags.{bits_of}
+use Rattle.apfloat_model.specs.rounding.Rounding.{IsDelivered}
+use Rattle.apfloat_model.specs.rounding.RoundingToOdd.{IsRoundedToOdd, odd_quotient}
+use Rattle.apfloat_model.proofs.rounding.OddRoundings.{quotient_to_odd}
+use Rattle.apfloat_rounding.specs.Shapes.{format_at}
+use Rattle.apfloat_rounding.specs.Stored.{quanta_at, datum_at}
+use Rattle.apfloat_rounding.proofs.StoredBack.{quanta_some}
+use Rattle.apfloat_arithmetic.proofs.WordQuotients.{IsClose, moved_close, moved_fits, moved_places, quotient_long, odd_quotient_long, odd_quotient_fits}
+use Rattle.apfloat_arithmetic.proofs.ProductExponents.{normal_near, normal_some, odd_quotient_is}
+use Rattle.apfloat_arithmetic.proofs.quotients.divide_word_numbers.Goals.{After-word_quotient_of}
+use Rattle.apfloat_arithmetic.proofs.quotients.divide_word_numbers.Goals as goal
+
+close : (c : After-word_quotient_of)
+    → IsClose c.args.x.significand c.args.y.significand c.args.shape.precision c.places_up-up.result
+close c =
+    let t = c.args.shape.parameters.precision_low in
+    record {
+      some = omega (arith, t);
+      dividend_fits = c.requires.left.operand.fits;
+      dividend_full = c.requires.left.operand.full;
+      divisor_fits = c.requires.right.operand.fits;
+      divisor_full = c.requires.right.operand.full;
+      less = c.places_up-up.ensures.less;
+      close = c.places_up-up.ensures.close;
+    }
+
+quotient : (c : After-word_quotient_of)
+    → c.word_quotient_of.result
+    ≡ odd_quotient (c.args.x.significand * 2 ^ c.places_up-up.result * 2 ^ (c.args.shape.precision + 1))
+    c.args.y.significand
+quotient c =
+    let f = moved_fits c.args.x.significand c.args.y.significand c.args.shape.precision c.places_up-up.result
+    c.requires.short (close c) in
+    c.word_quotient_of.ensures
+    ∙ ap (λ (n : ℕ). odd_quotient (n * 2 ^ (c.args.shape.precision + 1)) c.args.y.significand) f
+
+pub deliver_word_digits-requires-clause-fits : goal.deliver_word_digits-requires-clause-fits
+deliver_word_digits-requires-clause-fits c =
+    let state = (goal.at.deliver_word_digits-requires-clause-fits c).After-word_quotient_of in
+    let s = c.args.shape in
+    let b = moved_close c.args.x.significand c.args.y.significand s.precision c.places_up-up.result (close state) in
+    let f = odd_quotient_fits c.word_quotient_of.result (c.args.x.significand * 2 ^ c.places_up-up.result)
+    c.args.y.significand (s.precision + 1) (normal_some s c.args.y.significand c.args.y.exponent c.requires.right) b.1
+    (quotient state) in
+    let e : c.args.shape.precision + 1 + 1 ≡ c.args.shape.precision + 2 = omega arith in
+    rw e at f
+
+pub deliver_word_digits-requires-clause-full : goal.deliver_word_digits-requires-clause-full
+deliver_word_digits-requires-clause-full c =
+    let state = (goal.at.deliver_word_digits-requires-clause-full c).After-word_quotient_of in
+    let s = c.args.shape in
+    let b = moved_close c.args.x.significand c.args.y.significand s.precision c.places_up-up.result (close state) in
+    odd_quotient_long c.word_quotient_of.result (c.args.x.significand * 2 ^ c.places_up-up.result)
+    c.args.y.significand (s.precision + 1) (normal_some s c.args.y.significand c.args.y.exponent c.requires.right) b.0
+    (quotient state)
+
+pub returns-clause-delivered : goal.returns-clause-delivered
+returns-clause-delivered c =
+    let state = (goal.at.returns-clause-delivered c).After-word_quotient_of in
+    let s = c.args.shape in
+    let m = c.args.x.significand in
+    let n = c.args.y.significand in
+    let up = c.places_up-up.result in
+    let places = s.precision + 1 in
+    let some = normal_some s c.args.y.significand c.args.y.exponent c.requires.right in
+    let x = normal_near s c.args.x.significand c.args.x.exponent c.requires.left in
+    let y = normal_near s c.args.y.significand c.args.y.exponent c.requires.right in
+    let v = rw (x.word, y.word) at c.quotient_exponent.ensures.value in
+    let w : to_z w32 (of_z w32 c.quotient_exponent.result) ≡ c.quotient_exponent.result =
+    to_z-of_z w32 c.quotient_exponent.result (record { sfits = c.quotient_exponent.type_inv }) in
+    let b = moved_close m n s.precision up (close state) in
+    let q = subst (λ (k : ℕ). IsRoundedToOdd (2 ^ places) k (m * 2 ^ up * 2 ^ places) n) (sym (quotient state))
+    (quotient_to_odd (2 ^ places) (m * 2 ^ up * 2 ^ places) n some (quotient_long (m * 2 ^ up) n places some b.0)) in
+    let r = subst (λ (k : ℕ). IsRoundedToOdd (2 ^ places) c.word_quotient_of.result k n) (moved_places m up places) q in
+    let g = rw w at c.deliver_word_digits.ensures.delivered in
+    let d = g (quanta_at s.min_exp c.args.x.significand c.args.x.exponent * 2 ^ (format_at s).scale)
+    (quanta_at s.min_exp c.args.y.significand c.args.y.exponent)
+    (quanta_some s c.args.y.significand c.args.y.exponent c.requires.right)
+    (odd_quotient_is s c.args.x.exponent c.args.y.exponent c.quotient_exponent.result (places + up) (2 ^ places)
+    c.word_quotient_of.result m n c.requires.left c.requires.right v r) in
+    subst (λ (b : Bool). IsDelivered (format_at s) c.args.round b
+    (quanta_at s.min_exp c.args.x.significand c.args.x.exponent * 2 ^ (format_at s).scale)
+    (quanta_at s.min_exp c.args.y.significand c.args.y.exponent) (datum_at s c.deliver_word_digits.result.value)
+    (bits_of c.deliver_word_digits.result.status)) c.product_sign.ensures d
