@@ -1,5 +1,6 @@
 -- What a call on arrays that is made knows of its arguments, and what it leaves.
-use Rattle.std.proofs.Common.{◌≡◌, ℕ, ◌+◌, ◌*◌, ◌/◌, ◌%◌, ◌≤◌, ◌⊎◌, Bool, true, false, List, ◌++◌, length, drop, Option, Some, None, Result, Ok, Err, refl, sym, ◌∙◌, subst, inl, inr, arith}
+use Rattle.std.proofs.Common.{◌≡◌, ℕ, ◌+◌, ◌*◌, ◌/◌, ◌%◌, ◌≤◌, ◌⊎◌, Bool, true, false, List, ◌++◌, length, drop, Option}
+use Rattle.std.proofs.Common.{Some, None, Result, Ok, Err, refl, sym, ◌∙◌, subst, inl, inr, arith}
 use Rattle.std.specs.Prelude.{◌&&◌, ◌==◌, if◌then◌else◌}
 use Rattle.std.proofs.Math.Nat.{mul-le-mul_right}
 use Rattle.std.proofs.lemmas.Bool.{and_parts, eqb-true, leb-true}
@@ -22,7 +23,9 @@ use Rattle.apfloat_c.specs.declared.array_calls.MapCall.{MapCall}
 use Rattle.apfloat_c.specs.declared.array_data.ArrayAnswer.{ArrayAnswer}
 use Rattle.apfloat_c.specs.declared.array_data.ElementCounts.{ElementCounts}
 use Rattle.apfloat_c.specs.KnownCalls.{◌>>=◌, no_such_operation}
-use Rattle.apfloat_c.specs.ArrayCalls.{bytes_in, fitting, formats_of, has_element_operation, if_fitting, known_array_conversion, known_map, lengths_fit, operand_length, operands_fit, operands_of}
+use Rattle.apfloat_c.specs.ArrayCalls.{bytes_in, fitting, formats_of, has_element_operation, if_fitting}
+use Rattle.apfloat_c.specs.ArrayCalls.{known_array_conversion, known_map, lengths_fit, operand_length, operands_fit}
+use Rattle.apfloat_c.specs.ArrayCalls.{operands_of}
 use Rattle.apfloat_c.specs.Arrays.{AreConverted, AreElements, AreMapped, IsConvertedArray, IsMappedArray, answer_with}
 
 -- ---- lengths that fit

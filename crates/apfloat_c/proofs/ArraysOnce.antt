@@ -1,5 +1,6 @@
 -- A call on arrays leaves one code, the same bytes and the same counts.
-use Rattle.std.proofs.Common.{◌≡◌, ℕ, ◌*◌, ◌≤◌, Bool, List, ◌++◌, length, take, drop, Result, Ok, Err, sym, ap, ◌∙◌, arith}
+use Rattle.std.proofs.Common.{◌≡◌, ℕ, ◌*◌, ◌≤◌, Bool, List, ◌++◌, length, take, drop, Result, Ok, Err, sym, ap, ◌∙◌}
+use Rattle.std.proofs.Common.{arith}
 use Rattle.std.specs.Prelude.{◌/◌, min}
 use Rattle.std.proofs.lemmas.List.{take-take, take-append-drop, length-take}
 use Rattle.formats_at_run_time.specs.BuiltIns.{constants_in}
@@ -16,7 +17,8 @@ use Rattle.apfloat_c.specs.declared.array_data.ArrayAnswer.{ArrayAnswer}
 use Rattle.apfloat_c.specs.declared.array_data.Element.{Element}
 use Rattle.apfloat_c.specs.declared.array_data.ElementCounts.{ElementCounts}
 use Rattle.apfloat_c.specs.ArrayCalls.{bytes_in}
-use Rattle.apfloat_c.specs.Arrays.{AreConverted, AreMapped, IsElement, IsElementAt, answer_with, call_of, counts_of, is_nan_in}
+use Rattle.apfloat_c.specs.Arrays.{AreConverted, AreMapped, IsElement, IsElementAt, answer_with, call_of, counts_of}
+use Rattle.apfloat_c.specs.Arrays.{is_nan_in}
 use Rattle.apfloat_c.specs.OneAnswer.{IsConvertedArrayOnce, IsLeftIn, IsMappedArrayOnce}
 use Rattle.apfloat_c.proofs.ExportsOnce.{format_law, kind_law, kind_once}
 

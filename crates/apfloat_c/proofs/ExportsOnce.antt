@@ -1,5 +1,6 @@
 -- What an export leaves is determined by its arguments: one code, and one answer.
-use Rattle.std.proofs.Common.{◌≡◌, ℕ, ◌^◌, ◌<◌, ◌≤◌, Bool, Option, Some, None, Ok, refl, sym, ap, ◌∙◌, subst, ⊎_elim, true, arith, lit<}
+use Rattle.std.proofs.Common.{◌≡◌, ℕ, ◌^◌, ◌<◌, ◌≤◌, Bool, Option, Some, None, Ok, refl, sym, ap, ◌∙◌, subst, ⊎_elim}
+use Rattle.std.proofs.Common.{true, arith, lit<}
 use Rattle.std.specs.Int.{w128, cast_unsigned}
 use Rattle.std.specs.Prelude.{ℤ, ⊤}
 use Rattle.std.proofs.lemmas.Bool.{cases_lt, ltb-true}
@@ -36,10 +37,16 @@ use Rattle.formats_at_run_time.specs.Relations.{Relations, in_format, in_pairs}
 use Rattle.formats_at_run_time.specs.ValueKinds.{Kind, of_format, of_pairs, value_of}
 use Rattle.formats_at_run_time.proofs.OfTwoOnce.{of_two_once}
 use Rattle.apfloat_c.specs.declared.exported_call.ExportedCall.{ExportedCall}
-use Rattle.apfloat_c.specs.declared.exported_call.ExportedCall.TheVariants.{OfTwo, FusedSum, SquareRoot, FromUnsigned, FromSigned, ToUnsigned, ToSigned, RoundToIntegral, Scaling, Fraction, Exponent, NextUp, NextDown, Comparison, Class, Conversion, Text}
+use Rattle.apfloat_c.specs.declared.exported_call.ExportedCall.TheVariants.{OfTwo, FusedSum, SquareRoot, FromUnsigned}
+use Rattle.apfloat_c.specs.declared.exported_call.ExportedCall.TheVariants.{FromSigned, ToUnsigned, ToSigned}
+use Rattle.apfloat_c.specs.declared.exported_call.ExportedCall.TheVariants.{RoundToIntegral, Scaling, Fraction}
+use Rattle.apfloat_c.specs.declared.exported_call.ExportedCall.TheVariants.{Exponent, NextUp, NextDown, Comparison}
+use Rattle.apfloat_c.specs.declared.exported_call.ExportedCall.TheVariants.{Class, Conversion, Text}
 use Rattle.apfloat_c.specs.OneAnswer.{SameAnswer}
 use Rattle.apfloat_c.specs.KnownCalls.{fault_in, known_call, without}
-use Rattle.apfloat_c.specs.Answers.{IsKindAnswer, IsConverted, IsConvertedInto, IsConvertedTo, IsFractionOf, IsNumber, IsReturned, IsSigned, IsTypeAnswer, IsUnsigned, IsUntold, IsValue, IsWritten, one_if, whole}
+use Rattle.apfloat_c.specs.Answers.{IsKindAnswer, IsConverted, IsConvertedInto, IsConvertedTo, IsFractionOf, IsNumber}
+use Rattle.apfloat_c.specs.Answers.{IsReturned, IsSigned, IsTypeAnswer, IsUnsigned, IsUntold, IsValue, IsWritten}
+use Rattle.apfloat_c.specs.Answers.{one_if, whole}
 
 -- at most one answer
 abbrev pub OnceAnswer : (Answer → Type 0) → Type 0
@@ -47,7 +54,7 @@ OnceAnswer Holds = (first second : Answer) → Holds first → Holds second → 
 
 -- ---- answers without a value
 
--- a relation with one result leaves one answer: a whole number
+-- a relation with one result leaves one answer: an integer
 unsigned_once : (Holds : StatusAnd ℕ → Bool → Type 0) → DeterminesBoth Holds → OnceAnswer (IsUnsigned Holds)
 unsigned_once Holds once a b x y =
     let same = once x.given y.given x.is_exact y.is_exact x.holds y.holds in

@@ -1,4 +1,3 @@
-pub mod AsciiTexts
 pub mod MeaningfulTexts
 pub mod ExponentWords
 pub mod WrittenAnswers

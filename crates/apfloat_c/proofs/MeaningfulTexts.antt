@@ -1,15 +1,25 @@
--- A text that has a meaning is ASCII.
+-- A text that has a meaning, or is a decimal, is ASCII.
 use mathlib.Core.Bool.{Bool}
-use Rattle.std.proofs.Common.{◌≡◌, ◌⊎◌, inl, inr, ℕ, ◌<◌, ◌≤◌, ◌^◌, ℤ, not, true, false, ◌&&◌, ◌||◌, cond, refl, ap, subst, ⊎_elim, arith, List, [], ◌∷◌, ◌++◌, take, drop, take-append-drop, codes, eqb, leb, ltb, Option, Some, None, is_some}
+use Rattle.std.proofs.Common.{◌≡◌, ◌⊎◌, inl, inr, ℕ, ◌<◌, ◌≤◌, ◌^◌, ℤ, not, true, false, ◌&&◌, ◌||◌, cond, refl, ap}
+use Rattle.std.proofs.Common.{subst, ⊎_elim, arith, List, [], ◌∷◌, ◌++◌, take, drop, take-append-drop, codes, eqb, leb}
+use Rattle.std.proofs.Common.{ltb, Option, Some, None, is_some}
 use Rattle.std.specs.Char.{is_ascii}
 use Rattle.std.proofs.lemmas.Bool.{and_parts, and_from, or_cases, cond_both, eqb-true, leb-true, lt-ltb, false≢true}
 use Rattle.apfloat_model.specs.texts.Digits.{every, same, begins, is_empty, is_decimal, is_hexadecimal, number}
-use Rattle.apfloat_model.specs.texts.Specials.{Meaning, infinity, not_a_number, hexadecimal, mark_of, after_mark, is_minus, is_infinity, is_x, radix_of, after_prefix, after_plus, is_digit_of, base_of, number_of_digits, plain_payload, inside, in_parentheses, payload_of, with_payload, is_nan_name, named_nan, is_s, nan_meaning, special_meaning, special_of}
+use Rattle.apfloat_model.specs.texts.Specials.{Meaning, infinity, not_a_number, hexadecimal, mark_of, after_mark}
+use Rattle.apfloat_model.specs.texts.Specials.{is_minus, is_infinity, is_x, radix_of, after_prefix, after_plus}
+use Rattle.apfloat_model.specs.texts.Specials.{is_digit_of, base_of, number_of_digits, plain_payload, inside}
+use Rattle.apfloat_model.specs.texts.Specials.{in_parentheses, payload_of, with_payload, is_nan_name, named_nan, is_s}
+use Rattle.apfloat_model.specs.texts.Specials.{nan_meaning, special_meaning, special_of}
 use Rattle.apfloat_model.specs.texts.Texts.{IsHexadecimal, Means}
 use Rattle.apfloat_model.specs.declared.marks.Mark.{Mark}
 use Rattle.apfloat_model.specs.declared.marks.Mark.TheVariants.{Unmarked, Plus, Minus}
 use Rattle.apfloat_model.specs.declared.marks.Radix.{Radix}
 use Rattle.apfloat_model.specs.declared.marks.Radix.TheVariants.{Sixteen, Eight, Ten}
+use Rattle.apfloat_model.specs.declared.kinds.Round.{Round}
+use Rattle.apfloat_model.specs.formats.Datum.{Datum}
+use Rattle.apfloat_model.specs.formats.Format.{Format}
+use Rattle.apfloat_decimals.specs.DecimalTexts.{IsWrittenExponent, IsDecimalText, IsDecimalReading}
 use Rattle.apfloat_model.proofs.general.ListLaws.{every-append, append-every, every_weaker}
 
 abbrev IsAllAscii : List ℕ → Type 0
@@ -238,3 +248,28 @@ meaningful_ascii text (not_a_number negative signaling payload) means =
     special_ascii text (not_a_number negative signaling payload) means
 meaningful_ascii text (hexadecimal negative h f e) means =
     after_mark_ascii text (literal_ascii (after_mark text) h f e means.1)
+
+-- ---- decimals
+
+exponent_ascii : (tail : List ℕ) (e : ℤ) → IsWrittenExponent tail e → IsAllAscii tail
+exponent_ascii [] e h = refl
+exponent_ascii (letter ∷ exponent) e h =
+    with_first letter exponent (is_either letter 101 69 refl refl h.0)
+    (after_mark_ascii exponent (every_weaker is_decimal is_ascii decimal_ascii (after_mark exponent) h.1))
+
+decimal_text_ascii : (body : List ℕ) (digits : ℕ) (exponent : ℤ) → IsDecimalText body digits exponent
+    → IsAllAscii body
+decimal_text_ascii body digits exponent x =
+    let all = every-append is_ascii x.whole x.fraction
+    (every_weaker is_decimal is_ascii decimal_ascii (x.whole ++ x.fraction) x.are_digits) in
+    rw x.spelled
+    (append-every is_ascii x.whole _ all.0
+    (append-every is_ascii x.point _ (point_ascii x.point x.fraction x.is_point)
+    (append-every is_ascii x.fraction x.tail all.1 (exponent_ascii x.tail x.written x.is_written))))
+
+-- a text that is read as a decimal, or as it is read without decimals
+pub read_ascii : (f : Format) (mode : Round) (text : List ℕ) (value : Datum) (status : ℕ)
+    → IsDecimalReading f mode text value status → every is_ascii text ≡ true
+read_ascii f mode text value status (inl x) =
+    after_mark_ascii text (decimal_text_ascii (after_mark text) x.digits x.exponent x.is_text)
+read_ascii f mode text value status (inr x) = meaningful_ascii text x.meaning x.means

@@ -1,5 +1,6 @@
 -- The text of a value is determined by its bits: one code, and one text.
-use Rattle.std.proofs.Common.{◌≡◌, ℕ, zero, suc, ◌-◌, ◌<◌, Bool, List, ◌++◌, length, replicate, Err, Ok, Result, refl, sym, ap, ◌∙◌, arith}
+use Rattle.std.proofs.Common.{◌≡◌, ℕ, zero, suc, ◌-◌, ◌<◌, Bool, List, ◌++◌, length, replicate, Err, Ok, Result, refl}
+use Rattle.std.proofs.Common.{sym, ap, ◌∙◌, arith}
 use Rattle.rustc_apfloat.specs.Datum.{Datum, finite, infinite, nan}
 use Rattle.rustc_apfloat.specs.Format.{Format}
 use Rattle.rustc_apfloat.specs.Lawful.{format_with}

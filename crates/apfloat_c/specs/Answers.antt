@@ -1,5 +1,6 @@
 -- What a call returns.
-use Rattle.std.specs.Prelude.{⊤, FitsSigned, ◌≡◌, ℕ, ◌+◌, ◌*◌, ◌^◌, ℤ, pos, neg_ℤ, Bool, if◌then◌else◌, Option, Some, None, Result, Ok, Err}
+use Rattle.std.specs.Prelude.{⊤, FitsSigned, ◌≡◌, ℕ, ◌+◌, ◌*◌, ◌^◌, ℤ, pos, neg_ℤ, Bool, if◌then◌else◌, Option, Some}
+use Rattle.std.specs.Prelude.{None, Result, Ok, Err}
 use Rattle.std.specs.Int.{w32, w128, cast_unsigned}
 use Rattle.std.specs.declared.cmp.Ordering.{Ordering}
 use Rattle.std.specs.declared.cmp.Ordering.TheVariants.{Less, Equal, Greater}
@@ -20,7 +21,11 @@ use Rattle.formats_at_run_time.specs.ValueKinds.{Kind, of_format, of_pairs, valu
 use Rattle.formats_at_run_time.specs.OfTwo.{IsOfTwo}
 use Rattle.formats_at_run_time.specs.Relations.{Relations, in_format, in_pairs}
 use Rattle.apfloat_c.specs.declared.exported_call.ExportedCall.{ExportedCall}
-use Rattle.apfloat_c.specs.declared.exported_call.ExportedCall.TheVariants.{OfTwo, FusedSum, SquareRoot, FromUnsigned, FromSigned, ToUnsigned, ToSigned, RoundToIntegral, Scaling, Fraction, Exponent, NextUp, NextDown, Comparison, Class, Conversion, Text}
+use Rattle.apfloat_c.specs.declared.exported_call.ExportedCall.TheVariants.{OfTwo, FusedSum, SquareRoot, FromUnsigned}
+use Rattle.apfloat_c.specs.declared.exported_call.ExportedCall.TheVariants.{FromSigned, ToUnsigned, ToSigned}
+use Rattle.apfloat_c.specs.declared.exported_call.ExportedCall.TheVariants.{RoundToIntegral, Scaling, Fraction}
+use Rattle.apfloat_c.specs.declared.exported_call.ExportedCall.TheVariants.{Exponent, NextUp, NextDown, Comparison}
+use Rattle.apfloat_c.specs.declared.exported_call.ExportedCall.TheVariants.{Class, Conversion, Text}
 use Rattle.apfloat_c.specs.KnownCalls.{KnownCall, answered, fault_in, type_fault}
 
 -- the number that two halves stand for
@@ -48,7 +53,7 @@ class_code Zero negative denormal signaling = if negative then pos 5 else pos 6
 
 -- ---- answers without a value
 
--- a whole number, its flags, and whether it is the value
+-- an integer, its flags, and whether it is the value
 pub record IsUnsigned (Holds : StatusAnd ℕ → Bool → Type 0) (answer : Answer) : Type 0 where
   pub given : StatusAnd ℕ
   pub is_exact : Bool

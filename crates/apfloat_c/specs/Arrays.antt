@@ -1,5 +1,6 @@
 -- What calls on arrays leave.
-use Rattle.std.specs.Prelude.{◌≡◌, ℕ, ◌+◌, ◌-◌, ◌*◌, ◌/◌, ◌^◌, ◌<◌, ◌==◌, bit_and, Bool, not, if◌then◌else◌, List, length, take, drop, count_by, Result, Ok, Err}
+use Rattle.std.specs.Prelude.{◌≡◌, ℕ, ◌+◌, ◌-◌, ◌*◌, ◌/◌, ◌^◌, ◌<◌, ◌==◌, bit_and, Bool, not, if◌then◌else◌, List}
+use Rattle.std.specs.Prelude.{length, take, drop, count_by, Result, Ok, Err}
 use Rattle.rustc_apfloat.specs.Classes.{is_nan, is_nan_category}
 use Rattle.rustc_apfloat.specs.Pairs.{pair_category, pair_of}
 use Rattle.formats_at_run_time.specs.BuiltIns.{constants_in}
@@ -20,7 +21,9 @@ use Rattle.apfloat_c.specs.declared.array_calls.ElementOperation.{ElementOperati
 use Rattle.apfloat_c.specs.declared.array_calls.ElementOperation.TheVariants.{OfTwo, FusedSum, SquareRoot}
 use Rattle.apfloat_c.specs.declared.array_calls.MapCall.{MapCall}
 use Rattle.apfloat_c.specs.declared.exported_call.ExportedCall.{ExportedCall}
-use Rattle.apfloat_c.specs.declared.exported_call.ExportedCall.TheVariants.{OfTwo as CallOfTwo, FusedSum as CallFusedSum, SquareRoot as CallSquareRoot}
+use Rattle.apfloat_c.specs.declared.exported_call.ExportedCall.TheVariants.{OfTwo as CallOfTwo}
+use Rattle.apfloat_c.specs.declared.exported_call.ExportedCall.TheVariants.{FusedSum as CallFusedSum}
+use Rattle.apfloat_c.specs.declared.exported_call.ExportedCall.TheVariants.{SquareRoot as CallSquareRoot}
 use Rattle.apfloat_c.specs.KnownCalls.{answered}
 use Rattle.apfloat_c.specs.Answers.{IsKindAnswer, whole}
 use Rattle.apfloat_c.specs.ArrayCalls.{bytes_in}

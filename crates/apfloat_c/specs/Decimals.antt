@@ -1,5 +1,6 @@
 -- Decimals: texts as values, and the texts of values.
-use Rattle.std.specs.Prelude.{◌≡◌, ◌⊎◌, ℕ, ◌-◌, ◌<◌, IsTrue, List, ◌++◌, codes, length, replicate, Option, Some, None, is_some, ok_or, Result, Ok, Err}
+use Rattle.std.specs.Prelude.{◌≡◌, ◌⊎◌, ℕ, ◌-◌, ◌<◌, IsTrue, List, ◌++◌, codes, length, replicate, Option, Some, None}
+use Rattle.std.specs.Prelude.{is_some, ok_or, Result, Ok, Err}
 use Rattle.std.specs.Char.{is_ascii}
 use Rattle.rustc_apfloat.specs.declared.Round.{Round}
 use Rattle.rustc_apfloat.specs.Datum.{Datum, finite, infinite, nan}

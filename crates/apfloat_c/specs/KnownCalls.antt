@@ -1,5 +1,6 @@
 -- What a call asks for, or its error.
-use Rattle.std.specs.Prelude.{ℕ, Bool, ◌&&◌, nat_le, if◌then◌else◌, List, Option, is_none, Some, None, ok_or, Result, Ok, Err}
+use Rattle.std.specs.Prelude.{ℕ, Bool, ◌&&◌, nat_le, if◌then◌else◌, List, Option, is_none, Some, None, ok_or, Result}
+use Rattle.std.specs.Prelude.{Ok, Err}
 use Rattle.rustc_apfloat.specs.declared.Round.{Round}
 use Rattle.std.specs.Char.{is_ascii}
 use Rattle.rustc_apfloat.specs.Digits.{every}
@@ -9,7 +10,8 @@ use Rattle.formats_at_run_time.specs.declared.FlaggedKind.TheVariants.{OfFormat,
 use Rattle.formats_at_run_time.specs.FlaggedKinds.{flagged_kind_of}
 use Rattle.formats_at_run_time.specs.ValueKinds.{Kind, of_format, of_pairs}
 use Rattle.apfloat_c.specs.declared.exported_call.ExportedCall.{ExportedCall}
-use Rattle.apfloat_c.specs.declared.exported_call.ExportedCall.TheVariants.{FusedSum, ToUnsigned, ToSigned, Conversion, Text}
+use Rattle.apfloat_c.specs.declared.exported_call.ExportedCall.TheVariants.{FusedSum, ToUnsigned, ToSigned, Conversion}
+use Rattle.apfloat_c.specs.declared.exported_call.ExportedCall.TheVariants.{Text}
 
 -- ---- codes
 
@@ -37,7 +39,7 @@ refused_text = 5
 abbrev pub unless : Bool → ℕ → Option ℕ
 unless holds error = if holds then None else Some error
 
--- the least width of a whole number is 1, and with a sign 2
+-- the least width of an unsigned integer is 1, and that of a signed one 2
 abbrev pub width_fault : ℕ → ℕ → Option ℕ
 width_fault least width = unless (nat_le least width && nat_le width 128) wrong_width
 

@@ -1,13 +1,18 @@
-//! The answers of calls in a kind of values. Each is written where it belongs by a function of its own, which takes its
-//! operands in registers: the answer first, so that the others stay in those in which C passes them.
+//! The answers of calls in a kind of values. A function for each writes it into its place. The place is the first
+//! argument, so that the operands stay in the registers in which C passes them.
 
 ghost use Rattle.std.specs.Prelude.{◌≡◌, ◌<◌, pos};
 ghost use Rattle.rustc_apfloat.specs.FlaggedTypes.{constants_of};
-ghost use Rattle.formats_at_run_time.specs.declared.Arithmetic.TheVariants.{Sum, Difference, Product, Quotient, NearestRemainder, TruncatedRemainder};
+ghost use Rattle.formats_at_run_time.specs.declared.Arithmetic.TheVariants.{Sum, Difference, Product, Quotient};
+ghost use Rattle.formats_at_run_time.specs.declared.Arithmetic.TheVariants.{NearestRemainder, TruncatedRemainder};
 ghost use Rattle.formats_at_run_time.specs.Relations.{relations_of};
 ghost use Rattle.formats_at_run_time.specs.ValueKinds.{of_format, value_of};
-ghost use Rattle.apfloat_c.specs.declared.exported_call.ExportedCall.TheVariants.{OfTwo, FusedSum, SquareRoot, FromUnsigned, FromSigned, ToUnsigned, ToSigned, RoundToIntegral, Scaling, Fraction, Conversion, Text};
-ghost use Rattle.apfloat_c.specs.Answers.{FractionFits, IsConvertedInto, IsKindAnswer, IsLeft, IsNumber, IsTypeAnswer, IsTypeLeft, IsValue, IsWritten, class_of, order_code};
+ghost use Rattle.apfloat_c.specs.declared.exported_call.ExportedCall.TheVariants.{OfTwo, FusedSum, SquareRoot};
+ghost use Rattle.apfloat_c.specs.declared.exported_call.ExportedCall.TheVariants.{FromUnsigned, FromSigned, ToUnsigned};
+ghost use Rattle.apfloat_c.specs.declared.exported_call.ExportedCall.TheVariants.{ToSigned, RoundToIntegral, Scaling};
+ghost use Rattle.apfloat_c.specs.declared.exported_call.ExportedCall.TheVariants.{Fraction, Conversion, Text};
+ghost use Rattle.apfloat_c.specs.Answers.{FractionFits, IsConvertedInto, IsKindAnswer, IsLeft, IsNumber, IsTypeAnswer};
+ghost use Rattle.apfloat_c.specs.Answers.{IsTypeLeft, IsValue, IsWritten, class_of, order_code};
 
 use crate::codes::{
     ANSWERED, NO_SUCH_OPERATION, REFUSED_TEXT, UNKNOWN_FORMAT, WRONG_WIDTH, class_code, is_width,
@@ -63,7 +68,7 @@ pub fn quotient<F: ValueType>(answer: &mut Answer, round: Round, x: u128, y: u12
     *answer = written(x.div_r(y, round));
 }
 
-/// The remainder by the whole number nearest to the quotient.
+/// The remainder by the integer nearest to the quotient.
 #[inline(never)]
 pub fn nearest_remainder<F: ValueType>(answer: &mut Answer, round: Round, x: u128, y: u128)
     requires { F.PRECISION < F.BITS }
@@ -110,7 +115,7 @@ pub fn root<F: ValueType>(answer: &mut Answer, round: Round, x: u128)
     *answer = written(F::from_bits(x).sqrt_r(round));
 }
 
-/// A whole number.
+/// An integer.
 #[inline(never)]
 pub fn from_unsigned<F: ValueType>(answer: &mut Answer, round: Round, number: u128)
     requires { F.PRECISION < F.BITS }
@@ -120,7 +125,7 @@ pub fn from_unsigned<F: ValueType>(answer: &mut Answer, round: Round, number: u1
     *answer = written(F::from_u128_r(number, round));
 }
 
-/// A whole number with a sign.
+/// A signed integer.
 #[inline(never)]
 pub fn from_signed<F: ValueType>(answer: &mut Answer, round: Round, number: i128)
     requires { F.PRECISION < F.BITS }
@@ -130,7 +135,7 @@ pub fn from_signed<F: ValueType>(answer: &mut Answer, round: Round, number: i128
     *answer = written(F::from_i128_r(number, round));
 }
 
-/// A value as a whole number.
+/// A value as an integer.
 #[inline(never)]
 pub fn to_unsigned<F: ValueType>(answer: &mut Answer, round: Round, x: u128, width: u32) -> u32
     requires { F.PRECISION < F.BITS }
@@ -146,7 +151,7 @@ pub fn to_unsigned<F: ValueType>(answer: &mut Answer, round: Round, x: u128, wid
     ANSWERED
 }
 
-/// A value as a whole number with a sign.
+/// A value as a signed integer.
 #[inline(never)]
 pub fn to_signed<F: ValueType>(answer: &mut Answer, round: Round, x: u128, width: u32) -> u32
     requires { F.PRECISION < F.BITS }
@@ -314,7 +319,7 @@ fn converted_to<S: Flagged, T: Flagged>(answer: &mut Answer, round: Round, x: u1
     *answer = shown(given, one_if(loses_info));
 }
 
-/// The value of a text. One that has a value is ASCII, so its bytes are looked at once.
+/// The value of a text. A text that has a value is ASCII, so its bytes need no check before they are read.
 #[inline(never)]
 pub fn read<F: ValueType>(answer: &mut Answer, round: Round, bytes: &[u8]) -> u32
     requires { F.PRECISION < F.BITS }

@@ -1,8 +1,10 @@
-//! What is asked of arrays, or the first error.
+//! The meaning of the codes and lengths that calls on arrays are given, or their first error.
 
 ghost use Rattle.std.specs.Prelude.{◌≡◌, ◌≤◌};
 ghost use Rattle.formats_at_run_time.specs.Modes.{mode_coded};
-ghost use Rattle.apfloat_c.specs.ArrayCalls.{bytes_in, conversion_mode_coded, has_element_operation, known_array_conversion, known_map, lengths_fit, operands_fit, operands_of, operation_coded};
+ghost use Rattle.apfloat_c.specs.ArrayCalls.{bytes_in, conversion_mode_coded, has_element_operation};
+ghost use Rattle.apfloat_c.specs.ArrayCalls.{known_array_conversion, known_map, lengths_fit, operands_fit, operands_of};
+ghost use Rattle.apfloat_c.specs.ArrayCalls.{operation_coded};
 
 use crate::codes::{NO_SUCH_OPERATION, UNKNOWN_FORMAT, UNKNOWN_MODE, WRONG_LENGTH};
 use array_conversions::{ArrayConversion, Extended, Overflow, width};
@@ -21,11 +23,11 @@ pub struct ConversionMode {
 /// An operation on elements of arrays.
 #[derive(Clone, Copy)]
 pub enum ElementOperation {
-    /// On two.
+    /// Of two values.
     OfTwo(Arithmetic),
-    /// The product of two plus a third, rounded once.
+    /// The product of two values plus a third, rounded once.
     FusedSum,
-    /// The square root of one.
+    /// The square root of a value.
     SquareRoot,
 }
 
@@ -40,7 +42,7 @@ pub struct MapCall {
     pub operation: ElementOperation,
 }
 
-/// The mode of this code: that of a rounding mode, and the bit above its eight lowest asks for saturation.
+/// The mode with this code: its lowest eight bits are those of a rounding mode, and the next bit asks for saturation.
 pub fn conversion_mode_coded(code: u32) -> Option<ConversionMode>
     ensures { result ≡ conversion_mode_coded code }
 {
@@ -159,7 +161,7 @@ pub fn known_map(
     }
 }
 
-/// Whether the bytes given are those of whole values, and there is room for as many of the other width.
+/// Whether the bytes are a whole number of values, and the output has room for as many of the other width.
 fn lengths_fit(source: usize, target: usize, given: usize, room: usize) -> bool
     requires { (1 ≤ source) × (1 ≤ target) }
     ensures { result ≡ lengths_fit source target given room }
@@ -167,7 +169,7 @@ fn lengths_fit(source: usize, target: usize, given: usize, room: usize) -> bool
     given % source == 0 && given / source <= room / target
 }
 
-/// Whether there are as many bytes of each operand taken, and none of the others.
+/// Whether each operand that the operation takes has as many bytes as the first, and the others have none.
 fn operands_fit(operands: usize, lengths: (usize, usize, usize)) -> bool
     ensures { result ≡ operands_fit operands lengths }
 {

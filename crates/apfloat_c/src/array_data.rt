@@ -30,7 +30,7 @@ pub struct ArrayAnswer {
     pub reserved: u32,
 }
 
-// A C program has these sizes from the header. The order of the fields is tested from C (`tests/c/check_rows.c`).
+// C programs take these sizes from the header. The order of the fields is tested from C (`tests/c/check_rows.c`).
 const _: () = prove!(size_of::<ArrayAnswer>() == 64);
 
 const _: () = prove!(align_of::<ArrayAnswer>() == 8);
@@ -44,7 +44,7 @@ pub struct Element {
     pub is_nan: bool,
 }
 
-/// Counts of elements, with those of divisions by zero, which no conversion raises.
+/// Counts of elements: those of conversions, and that of divisions by zero, which no conversion raises.
 #[derive(Clone, Copy)]
 pub struct ElementCounts {
     /// The counts that conversions have too.

@@ -35,7 +35,7 @@ pub extern "C" fn apfloat_convert_array(
     )
 }
 
-/// The same, by the codes' meanings.
+/// The same, from what the codes mean.
 fn convert_array(
     source: Option<FlaggedKind>,
     mode: Option<ConversionMode>,

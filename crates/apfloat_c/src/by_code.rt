@@ -20,7 +20,7 @@ pub fn reply<O: Operation>(format: u32, mode: u32, operation: O, answer: &mut An
     reply_in_kind(format, mode, InType { operation }, answer)
 }
 
-/// Computes a call that differs in formats and in pairs of doubles, as `reply` does those that every type has.
+/// Computes a call that formats and pairs of doubles have separately, as `reply` does those that every type has.
 #[inline(always)]
 pub fn reply_in_kind<O: KindOperation>(
     format: u32,

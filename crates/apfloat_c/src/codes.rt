@@ -6,25 +6,25 @@ ghost use Rattle.apfloat_c.specs.Answers.{class_code, one_if, order_code};
 use rustc_apfloat::Category;
 use std::cmp::Ordering;
 
-/// What an export returns where it answered.
+/// What an export returns on success.
 pub const ANSWERED: u32 = 0;
 
-/// The error of a format without a code.
+/// The error for a code that no format has.
 pub const UNKNOWN_FORMAT: u32 = 1;
 
-/// The error of a rounding mode without a code.
+/// The error for a code that no rounding mode has.
 pub const UNKNOWN_MODE: u32 = 2;
 
-/// The error of an operation that the format does not have.
+/// The error for an operation that the format does not have.
 pub const NO_SUCH_OPERATION: u32 = 3;
 
-/// The error of a width that whole numbers cannot have.
+/// The error for a width that no integer may have.
 pub const WRONG_WIDTH: u32 = 4;
 
-/// The error of a text without a meaning.
+/// The error for a text without a meaning.
 pub const REFUSED_TEXT: u32 = 5;
 
-/// The error of arrays whose lengths do not fit together.
+/// The error for arrays whose lengths do not match.
 pub const WRONG_LENGTH: u32 = 6;
 
 /// The mode of calls that take none.

@@ -20,7 +20,7 @@ pub struct Halves {
 #[repr(C)]
 #[derive(Clone, Copy)]
 pub struct Answer {
-    /// The bits of a value, or a whole number.
+    /// The bits of a value, or an integer.
     pub bits: Halves,
     /// The flags that the operation raised.
     pub status: u32,
@@ -28,7 +28,7 @@ pub struct Answer {
     pub number: i32,
 }
 
-// A C program has these sizes from the header. The order of the fields is tested from C (`tests/c/check_rows.c`).
+// C programs take these sizes from the header. The order of the fields is tested from C (`tests/c/check_rows.c`).
 const _: () = prove!(size_of::<Halves>() == 16);
 
 const _: () = prove!(size_of::<Answer>() == 24);

@@ -10,15 +10,15 @@ ghost use Rattle.formats_at_run_time.specs.FormatKinds.{IfFormat};
 ghost use Rattle.formats_at_run_time.specs.Modes.{mode_coded};
 ghost use Rattle.formats_at_run_time.specs.Relations.{in_format, in_pairs};
 ghost use Rattle.apfloat_c.specs.Answers.{IsWritten, whole};
-ghost use Rattle.apfloat_c.specs.Decimals.{IsDecimalOutcome, IsKindText, IsParsed, IsShortestWritten, IsText, IsValueText, decimal_kind, known_reading, text_format};
+ghost use Rattle.apfloat_c.specs.Decimals.{IsDecimalOutcome, IsKindText, IsParsed, IsShortestWritten, IsText};
+ghost use Rattle.apfloat_c.specs.Decimals.{IsValueText, decimal_kind, known_reading, text_format};
 
-use crate::ascii::text_of;
 use crate::codes::{ANSWERED, NO_SUCH_OPERATION, REFUSED_TEXT, UNKNOWN_FORMAT, UNKNOWN_MODE};
 use crate::data::{Answer, Halves};
-use apfloat_decimals::line::{CAPACITY, Line, line_of};
-use apfloat_decimals::{read_decimal, shortest};
+use apfloat_decimals::formatting::{CAPACITY, Line, line_of};
+use apfloat_decimals::{read_decimal_ascii, shortest};
 use formats_at_run_time::{BuiltInKind, FlaggedFormat, FlaggedKind, InFormat, InKind, mode_coded};
-use pair_decimals::read_decimal_pair;
+use pair_decimals::read_decimal_pair_ascii;
 use rustc_apfloat::ieee::{IeeeFloat, Semantics};
 use rustc_apfloat::ppc::DoubleDouble;
 use rustc_apfloat::{Float, Round, StatusAnd};
@@ -84,7 +84,7 @@ pub extern "C" fn apfloat_shortest(format: u32, x: Halves, text: &mut DecimalTex
     }
 }
 
-/// The kind of values in which decimals are read: one with the flags of the built-in formats.
+/// The kind of values in which decimals are read, if it has the flags of the built-in formats.
 fn decimal_kind(kind: FlaggedKind) -> Option<BuiltInKind>
     ensures { result ≡ decimal_kind kind }
 {
@@ -112,10 +112,7 @@ impl InFormat for DecimalReading<'_> {
     ghost gives = { λ it kind answer. IsDecimalOutcome kind it.round it.text.now answer };
 
     fn in_format<S: Semantics>(self) -> Option<Answer> {
-        let Some(text) = text_of(self.text) else {
-            return None;
-        };
-        match read_decimal::<S>(text, self.round) {
+        match read_decimal_ascii::<S>(self.text, self.round) {
             Ok(read) => Some(in_bits(read)),
             Err(_) => None,
         }
@@ -124,10 +121,7 @@ impl InFormat for DecimalReading<'_> {
 
 impl InKind for DecimalReading<'_> {
     fn in_pairs(self) -> Option<Answer> {
-        let Some(text) = text_of(self.text) else {
-            return None;
-        };
-        match read_decimal_pair(text, self.round) {
+        match read_decimal_pair_ascii(self.text, self.round) {
             Ok(read) => Some(pair_in_bits(read)),
             Err(_) => None,
         }
@@ -198,7 +192,7 @@ fn special_line(is_nan: bool, negative: bool) -> Line
     line
 }
 
-/// A line as C has it.
+/// A line as it is passed to C.
 fn text_in(line: Line) -> DecimalText
     requires { length line < 64 }
     ensures { IsText line result }

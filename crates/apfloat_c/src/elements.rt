@@ -34,7 +34,7 @@ pub struct CodedMap {
 }
 
 impl CodedMap {
-    /// Makes the operation with each element, in its place. The arrays of operands that it does not take are empty.
+    /// Applies the operation to each element. The arrays of operands that it does not take are empty.
     pub fn over(
         self,
         xs: &[u8],
@@ -68,7 +68,7 @@ impl CodedMap {
         counted
     }
 
-    /// Makes the operation with an element, and writes the bytes of its result.
+    /// Applies the operation to an element, and writes the bytes of its result.
     fn element(self, x: u128, y: u128, z: u128, bytes: &mut [u8]) -> Element
         requires format { flagged_kind_coded self.format ≡ Some self.map.kind }
         requires mode { mode_coded self.mode ≡ Some self.map.round }
@@ -132,7 +132,7 @@ fn number_at(bytes: &[u8], place: usize, width: usize) -> u128
     number_of(&bytes[place..place + width])
 }
 
-/// A call that tells whether these are the bits of a NaN.
+/// A call that says whether these are the bits of a NaN.
 #[derive(Clone, Copy)]
 struct NanCall {
     bits: u128,

@@ -11,9 +11,9 @@ pub enum ExportedCall<'a> {
     FusedSum(u128, u128, u128),
     /// The square root of a value.
     SquareRoot(u128),
-    /// A whole number as a value.
+    /// An integer as a value.
     FromUnsigned(u128),
-    /// A whole number with a sign as a value.
+    /// A signed integer as a value.
     FromSigned(i128),
     /// A value as an integer of that many binary digits.
     ToUnsigned(u128, u32),

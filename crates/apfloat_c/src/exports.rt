@@ -3,8 +3,13 @@
 ghost use Rattle.std.specs.Prelude.{Some};
 ghost use Rattle.std.specs.Int.{cast_signed, w128};
 ghost use Rattle.rustc_apfloat.specs.declared.Round.TheVariants.{NearestTiesToEven};
-ghost use Rattle.formats_at_run_time.specs.declared.Arithmetic.TheVariants.{Sum, Difference, Product, Quotient, NearestRemainder, TruncatedRemainder};
-ghost use Rattle.apfloat_c.specs.declared.exported_call.ExportedCall.TheVariants.{OfTwo, FusedSum, SquareRoot, FromUnsigned, FromSigned, ToUnsigned, ToSigned, RoundToIntegral, Scaling, Fraction, Exponent, NextUp, NextDown, Comparison, Class, Conversion, Text};
+ghost use Rattle.formats_at_run_time.specs.declared.Arithmetic.TheVariants.{Sum, Difference, Product, Quotient};
+ghost use Rattle.formats_at_run_time.specs.declared.Arithmetic.TheVariants.{NearestRemainder, TruncatedRemainder};
+ghost use Rattle.apfloat_c.specs.declared.exported_call.ExportedCall.TheVariants.{OfTwo, FusedSum, SquareRoot};
+ghost use Rattle.apfloat_c.specs.declared.exported_call.ExportedCall.TheVariants.{FromUnsigned, FromSigned, ToUnsigned};
+ghost use Rattle.apfloat_c.specs.declared.exported_call.ExportedCall.TheVariants.{ToSigned, RoundToIntegral, Scaling};
+ghost use Rattle.apfloat_c.specs.declared.exported_call.ExportedCall.TheVariants.{Fraction, Exponent, NextUp, NextDown};
+ghost use Rattle.apfloat_c.specs.declared.exported_call.ExportedCall.TheVariants.{Comparison, Class, Conversion, Text};
 ghost use Rattle.formats_at_run_time.specs.FlaggedKinds.{flagged_kind_coded};
 ghost use Rattle.formats_at_run_time.specs.Modes.{mode_coded};
 ghost use Rattle.apfloat_c.specs.KnownCalls.{known_call};
@@ -116,7 +121,7 @@ pub extern "C" fn apfloat_div(
     )
 }
 
-/// The remainder by the whole number nearest to the quotient, ties to even.
+/// The remainder by the integer nearest to the quotient, ties to even.
 #[unsafe(no_mangle)]
 pub extern "C" fn apfloat_rem(format: u32, x: Halves, y: Halves, answer: &mut Answer) -> u32
     ensures { let call = OfTwo NearestRemainder (whole x) (whole y) in
@@ -204,7 +209,7 @@ pub extern "C" fn apfloat_convert(
     reply_in_kind(format, mode, ConversionCall { x: x.number(), to }, answer)
 }
 
-/// A whole number as a value, rounded once.
+/// An integer as a value, rounded once.
 #[unsafe(no_mangle)]
 pub extern "C" fn apfloat_from_u128(
     format: u32,
@@ -226,7 +231,7 @@ pub extern "C" fn apfloat_from_u128(
     )
 }
 
-/// A whole number in two's complement as a value, rounded once.
+/// An integer in two's complement as a value, rounded once.
 #[unsafe(no_mangle)]
 pub extern "C" fn apfloat_from_i128(
     format: u32,
@@ -248,7 +253,7 @@ pub extern "C" fn apfloat_from_i128(
     )
 }
 
-/// A value as a whole number of `width` binary digits, 1 to 128, in `bits`; `number` says whether that equals the
+/// A value as an integer of `width` binary digits, 1 to 128, in `bits`; `number` says whether that equals the
 /// value.
 #[unsafe(no_mangle)]
 pub extern "C" fn apfloat_to_u128(
@@ -273,7 +278,7 @@ pub extern "C" fn apfloat_to_u128(
     )
 }
 
-/// A value as a whole number of `width` binary digits, 2 to 128, in 128-bit two's complement, in `bits`; `number` says
+/// A value as an integer of `width` binary digits, 2 to 128, in 128-bit two's complement, in `bits`; `number` says
 /// whether that equals the value.
 #[unsafe(no_mangle)]
 pub extern "C" fn apfloat_to_i128(
@@ -298,7 +303,7 @@ pub extern "C" fn apfloat_to_i128(
     )
 }
 
-/// A value rounded to a whole number, as a value.
+/// A value rounded to an integer, as a value.
 #[unsafe(no_mangle)]
 pub extern "C" fn apfloat_round_to_integral(
     format: u32,

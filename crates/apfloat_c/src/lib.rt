@@ -8,7 +8,6 @@ mod answers;
 mod array_calls;
 mod array_data;
 mod arrays;
-mod ascii;
 mod by_code;
 mod codes;
 mod data;

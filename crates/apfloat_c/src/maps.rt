@@ -1,4 +1,4 @@
-//! The export that makes operations on arrays, declared for C programs in `include/apfloat.h`.
+//! The export that applies operations to arrays, declared for C programs in `include/apfloat.h`.
 
 ghost use Rattle.std.specs.Prelude.{ℕ, length};
 ghost use Rattle.formats_at_run_time.specs.FlaggedKinds.{flagged_kind_coded};
@@ -12,7 +12,7 @@ use crate::codes::ANSWERED;
 use crate::elements::CodedMap;
 use formats_at_run_time::{FlaggedKind, mode_coded};
 
-/// Makes an operation on each element of an array, or on the elements of two or three arrays.
+/// Applies an operation to each element of an array, or to the elements of two or three arrays.
 #[unsafe(no_mangle)]
 pub extern "C" fn apfloat_map_array(
     format: u32,

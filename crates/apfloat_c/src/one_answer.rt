@@ -1,6 +1,7 @@
 //! What an export leaves is determined by its arguments.
 
-ghost use Rattle.apfloat_c.specs.OneAnswer.{IsConvertedArrayOnce, IsMappedArrayOnce, IsParsedOnce, IsReplyOnce, IsTextOnce};
+ghost use Rattle.apfloat_c.specs.OneAnswer.{IsConvertedArrayOnce, IsMappedArrayOnce, IsParsedOnce, IsReplyOnce};
+ghost use Rattle.apfloat_c.specs.OneAnswer.{IsTextOnce};
 
 /// The contract of each export allows one code and one answer, text or array.
 pub fn one_answer()

@@ -6,9 +6,14 @@ ghost use Rattle.formats_at_run_time.specs.FlaggedKinds.{flagged_kind_coded};
 ghost use Rattle.formats_at_run_time.specs.Modes.{mode_coded};
 ghost use Rattle.formats_at_run_time.specs.Relations.{relations_of};
 ghost use Rattle.formats_at_run_time.specs.ValueKinds.{of_format, of_pairs};
-ghost use Rattle.formats_at_run_time.specs.declared.Arithmetic.TheVariants.{Sum, Difference, Product, Quotient, NearestRemainder, TruncatedRemainder};
+ghost use Rattle.formats_at_run_time.specs.declared.Arithmetic.TheVariants.{Sum, Difference, Product, Quotient};
+ghost use Rattle.formats_at_run_time.specs.declared.Arithmetic.TheVariants.{NearestRemainder, TruncatedRemainder};
 ghost use Rattle.apfloat_c.specs.declared.exported_call.ExportedCall.{ExportedCall};
-ghost use Rattle.apfloat_c.specs.declared.exported_call.ExportedCall.TheVariants.{OfTwo, FusedSum, SquareRoot, FromUnsigned, FromSigned, ToUnsigned, ToSigned, RoundToIntegral, Scaling, Fraction, Exponent, NextUp, NextDown, Comparison, Class, Conversion, Text};
+ghost use Rattle.apfloat_c.specs.declared.exported_call.ExportedCall.TheVariants.{OfTwo, FusedSum, SquareRoot};
+ghost use Rattle.apfloat_c.specs.declared.exported_call.ExportedCall.TheVariants.{FromUnsigned, FromSigned, ToUnsigned};
+ghost use Rattle.apfloat_c.specs.declared.exported_call.ExportedCall.TheVariants.{ToSigned, RoundToIntegral, Scaling};
+ghost use Rattle.apfloat_c.specs.declared.exported_call.ExportedCall.TheVariants.{Fraction, Exponent, NextUp, NextDown};
+ghost use Rattle.apfloat_c.specs.declared.exported_call.ExportedCall.TheVariants.{Comparison, Class, Conversion, Text};
 ghost use Rattle.apfloat_c.specs.Answers.{IsLeft, IsReturned, IsTypeLeft};
 ghost use Rattle.apfloat_c.specs.KnownCalls.{known_in};
 
@@ -36,7 +41,7 @@ pub trait Operation: Copy {
             IsTypeLeft of_type round (call self) answer.old answer.new result };
 }
 
-/// A call with its operands, which differs in formats and in pairs of doubles.
+/// A call with its operands, which formats and pairs of doubles have separately.
 pub trait KindOperation: Copy {
     // Which call it is.
     ghost call: { Self → ExportedCall };
@@ -185,7 +190,7 @@ impl Operation for QuotientCall {
     }
 }
 
-/// The remainder by the whole number nearest to the quotient.
+/// The remainder by the integer nearest to the quotient.
 #[derive(Clone, Copy)]
 pub struct NearestRemainderCall {
     /// The first value.
@@ -266,7 +271,7 @@ impl Operation for SquareRootCall {
     }
 }
 
-/// A whole number as a value.
+/// An integer as a value.
 #[derive(Clone, Copy)]
 pub struct FromUnsignedCall {
     /// The number.
@@ -283,7 +288,7 @@ impl Operation for FromUnsignedCall {
     }
 }
 
-/// A whole number with a sign as a value.
+/// A signed integer as a value.
 #[derive(Clone, Copy)]
 pub struct FromSignedCall {
     /// The number.
@@ -300,12 +305,12 @@ impl Operation for FromSignedCall {
     }
 }
 
-/// A value as a whole number.
+/// A value as an integer.
 #[derive(Clone, Copy)]
 pub struct ToUnsignedCall {
     /// The value.
     pub x: u128,
-    /// The binary digits of the whole number.
+    /// The binary digits of the integer.
     pub width: u32,
 }
 
@@ -318,12 +323,12 @@ impl Operation for ToUnsignedCall {
     }
 }
 
-/// A value as a whole number with a sign.
+/// A value as a signed integer.
 #[derive(Clone, Copy)]
 pub struct ToSignedCall {
     /// The value.
     pub x: u128,
-    /// The binary digits of the whole number.
+    /// The binary digits of the integer.
     pub width: u32,
 }
 

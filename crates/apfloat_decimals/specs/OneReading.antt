@@ -8,7 +8,8 @@ use Rattle.apfloat_model.specs.formats.Format.{Format}
 use Rattle.apfloat_model.specs.Determined.{AreOneReading}
 use Rattle.apfloat_decimals.specs.declared.decimal.Decimal.{Decimal}
 use Rattle.apfloat_decimals.specs.declared.parsing.DecimalError.{DecimalError}
-use Rattle.apfloat_decimals.specs.declared.parsing.DecimalError.TheVariants.{NoDecimal, TooManyDigits, ExponentOutOfRange}
+use Rattle.apfloat_decimals.specs.declared.parsing.DecimalError.TheVariants.{NoDecimal, TooManyDigits}
+use Rattle.apfloat_decimals.specs.declared.parsing.DecimalError.TheVariants.{ExponentOutOfRange}
 use Rattle.apfloat_decimals.specs.DecimalTexts.{IsDecimalRead}
 use Rattle.apfloat_decimals.specs.Parsing.{IsParsed}
 use Rattle.apfloat_decimals.specs.ReadBack.{IsStoredDecimal}
@@ -24,8 +25,8 @@ IsReadOnce =
 
 -- ---- as a decimal
 
--- A decimal that was read has numbers of its types. `IsParsed` alone doesn't say that: digits of 2 ^ 128 or more would
--- be an answer, beside the refusal.
+-- A decimal that was read has numbers of its types. `IsParsed` alone does not say that: digits of 2 ^ 128 or more would
+-- be an answer, besides the refusal.
 abbrev pub IsStoredAnswer : Result Decimal DecimalError → Type 0
 IsStoredAnswer (Ok decimal) = IsStoredDecimal decimal
 IsStoredAnswer (Err error) = ⊤

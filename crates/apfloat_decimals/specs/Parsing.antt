@@ -1,5 +1,6 @@
 -- A text that is read as a decimal (IEEE 754-2008 5.12.2).
-use Rattle.std.specs.Prelude.{◌≡◌, ◌⊎◌, ℕ, ◌+◌, ◌^◌, ◌<◌, ◌≤◌, ℤ, pos, neg_ℤ, ◌≤ℤ◌, Bool, List, if◌then◌else◌, Option, Some, Result, Ok, Err}
+use Rattle.std.specs.Prelude.{◌≡◌, ◌⊎◌, ℕ, ◌+◌, ◌^◌, ◌<◌, ◌≤◌, ℤ, pos, neg_ℤ, ◌≤ℤ◌, Bool, List, if◌then◌else◌, Option}
+use Rattle.std.specs.Prelude.{Some, Result, Ok, Err}
 use Rattle.apfloat_model.specs.declared.parse_error.Fault.{Fault}
 use Rattle.apfloat_model.specs.declared.parse_error.Fault.TheVariants.{EmptyText, LoneMark}
 use Rattle.apfloat_model.specs.texts.Digits.{is_empty}
@@ -7,7 +8,8 @@ use Rattle.apfloat_model.specs.texts.Faults.{words}
 use Rattle.apfloat_model.specs.texts.Specials.{mark_of, after_mark, is_minus}
 use Rattle.apfloat_decimals.specs.declared.decimal.Decimal.{Decimal}
 use Rattle.apfloat_decimals.specs.declared.parsing.DecimalError.{DecimalError}
-use Rattle.apfloat_decimals.specs.declared.parsing.DecimalError.TheVariants.{NoDecimal, TooManyDigits, ExponentOutOfRange}
+use Rattle.apfloat_decimals.specs.declared.parsing.DecimalError.TheVariants.{NoDecimal, TooManyDigits}
+use Rattle.apfloat_decimals.specs.declared.parsing.DecimalError.TheVariants.{ExponentOutOfRange}
 use Rattle.apfloat_decimals.specs.DecimalTexts.{IsDecimalText, body_fault}
 
 -- the text spells digits * 10 ^ exponent with that sign

@@ -14,7 +14,7 @@ pub record IsStoredDecimal (x : Decimal) : Type 0 where
 abbrev pub is_written_whole : ℕ → ℤ → Bool
 is_written_whole n e = is_plain n e && eqb (down e) 0
 
--- the text of a decimal spells the same decimal, except that a zero and a whole number get a zero after their dot
+-- the text of a decimal spells the same decimal, except that a zero and an integer get a zero after their dot
 abbrev pub written : Decimal → Decimal
 written x =
     if eqb x.digits 0 then record { negative = x.negative; digits = 0; exponent = neg_ℤ (pos 1) }

@@ -1,10 +1,11 @@
 -- How a decimal is written.
-use Rattle.std.specs.Prelude.{ℕ, ◌+◌, ◌-◌, ◌*◌, ◌/◌, ◌%◌, ◌^◌, ℤ, pos, ◌+ℤ◌, Bool, ◌&&◌, leb, eqb, if◌then◌else◌, List, [], ◌++◌, length, replicate, codes}
+use Rattle.std.specs.Prelude.{ℕ, ◌+◌, ◌-◌, ◌*◌, ◌/◌, ◌%◌, ◌^◌, ℤ, pos, ◌+ℤ◌, Bool, ◌&&◌, leb, eqb, if◌then◌else◌, List}
+use Rattle.std.specs.Prelude.{[], ◌++◌, length, replicate, codes}
 use Rattle.std.specs.Fmt.{decimal, signed_decimal}
 use Rattle.apfloat_model.specs.arithmetic.Exact.{up, down}
 use Rattle.apfloat_decimals.specs.declared.decimal.Decimal.{Decimal}
 
--- with zeros in front, up to so many digits
+-- with zeros in front, up to that many digits
 abbrev pub padded : ℕ → ℕ → List ℕ
 padded places n = replicate (places - length (decimal n)) 48 ++ decimal n
 
@@ -16,7 +17,7 @@ pointed n places = decimal (n / 10 ^ places) ++ (codes "." ++ padded places (n %
 abbrev pub is_plain : ℕ → ℤ → Bool
 is_plain n e = leb (down e) (up e + length (decimal n) + 5) && leb (up e + length (decimal n)) (down e + 21)
 
--- n * 10 ^ e without an exponent; a whole number has a zero after its dot
+-- n * 10 ^ e without an exponent; an integer has a zero after its dot
 abbrev pub plain_text : ℕ → ℤ → List ℕ
 plain_text n e = if eqb (down e) 0 then pointed (n * 10 ^ (up e + 1)) 1 else pointed n (down e)
 

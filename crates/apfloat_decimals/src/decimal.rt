@@ -1,12 +1,14 @@
 //! Decimals as values of a format.
 
-ghost use Rattle.apfloat_model.specs.formats.Formats.{half_constants, single_constants, double_constants, quad_constants, bfloat_constants, e5m2_constants, e4m3fn_constants, e4m3fnuz_constants, x87_constants};
+ghost use Rattle.apfloat_model.specs.formats.Formats.{half_constants, single_constants, double_constants};
+ghost use Rattle.apfloat_model.specs.formats.Formats.{quad_constants, bfloat_constants, e5m2_constants};
+ghost use Rattle.apfloat_model.specs.formats.Formats.{e4m3fn_constants, e4m3fnuz_constants, x87_constants};
 ghost use Rattle.apfloat_model.specs.formats.Lawful.{format_with};
 ghost use Rattle.apfloat_model.specs.rounding.Flags.{Gives};
 ghost use Rattle.apfloat_ieee.specs.Types.{format_of};
 ghost use Rattle.apfloat_decimals.specs.Decimals.{IsDecimalDelivery, HasQuadExponents};
 
-use crate::reading::{nearest, scaled};
+use crate::scaling::{nearest, scaled};
 use apfloat_base::{ExpInt, Round, StatusAnd};
 use apfloat_ieee::{IeeeFloat, Semantics, deliver};
 use apfloat_model::Loss;
@@ -16,7 +18,7 @@ use apfloat_model::Loss;
 pub struct Decimal {
     /// Whether the number is below zero, or a zero with a negative sign.
     pub negative: bool,
-    /// Its digits, as a whole number.
+    /// Its digits, as an integer.
     pub digits: u128,
     /// The exponent of ten of the last digit.
     pub exponent: ExpInt,
@@ -24,8 +26,8 @@ pub struct Decimal {
 
 /// The value of a decimal, rounded once to the format (IEEE 754-2008 5.12.2), with exactly the flags of that rounding.
 ///
-/// The exponents of the format are within those of `Quad`, as in each built-in format; that of the decimal is any. A
-/// zero keeps its sign if the format has it.
+/// The exponents of the format are within those of `Quad`, as in each built-in format; the decimal may have any
+/// exponent. A zero keeps its sign if the format has signed zeros.
 pub fn from_decimal<S: Semantics>(decimal: Decimal, round: Round) -> StatusAnd<IeeeFloat<S>>
     requires { HasQuadExponents (format_of S.Semantics) }
     ensures { Gives (IsDecimalDelivery (format_of S.Semantics) round decimal.negative

@@ -1,41 +1,41 @@
-//! Decimals, by exact arithmetic on whole numbers of any size that they need, without allocation.
+//! Decimals: their texts, and their values in a format, by exact integer arithmetic without allocation.
 //!
-//! `from_decimal` gives the value of a `Decimal`, rounded once, in any format whose exponents are within those of
-//! `Quad`. Below it are large whole numbers in words on the stack (`large`): multiples, sums, differences and
-//! comparisons of numbers of up to 40960 binary digits; their quotients (`quotient`), cut to 127 or 128 digits, with
-//! what was cut off; and decimals as such quotients (`reading`). `narrow` has the quotients that 128 bits serve. Most
-//! decimals need none of these: `powers` has each power of five between bounds, and `settling` finds the digits that
-//! all numbers between such bounds have.
+//! Reading: `read_decimal` reads a text of any length (`texts`), and `from_decimal` rounds a `Decimal` (`decimal`).
+//! Both find the digits times a power of ten as a binary significand (`scaling`): by a multiplication with a table of
+//! powers of five (`powers_of_five`) if bounds of the product settle the result (`bounded_cut`), as Eisel and Lemire
+//! do, and otherwise by an exact division, in 128 binary digits (`short_division`) or in words on the stack
+//! (`long_division`, `large`). `FromStr` of a `Decimal` keeps the digits of its text (`parsing`).
 //!
-//! `read_decimal` reads a text of any length (`texts`), `shortest` finds the shortest decimal that reads back as a
-//! value (`search`, `quick_search`), `rounded` gives a value to a count of digits (`rounding`), both by its first
-//! digits (`leading_digits`). `line` has the text of a `Decimal`, and its `Display` writes that (`writing`). `FromStr` of a `Decimal` reads its
-//! text (`parsing`), and `exact` finds the decimal that equals a value (`exact_decimal`). `round_trips` has what holds
-//! of values that are read back.
+//! Writing: `shortest` finds the shortest decimal that reads back as a value (`shortest_decimal`, `shortest_guess`),
+//! `rounded` gives a value to a count of digits (`rounded_decimal`), both from its first digits (`leading_digits`), and
+//! `exact` the decimal that equals a value (`exact_decimal`). `formatting` has the text of a `Decimal`, which `Display`
+//! writes. `round_trips` states what holds of values that are read back.
+//!
+//! The exponents of the formats are within those of `Quad`.
 #![tactic(auto)]
 
+mod bounded_cut;
 mod decimal;
 mod exact_decimal;
+mod exponents;
+pub mod formatting;
 mod large;
 mod leading_digits;
-pub mod line;
-mod narrow;
+mod long_division;
 mod parsing;
-mod powers;
-mod quick_search;
-mod quotient;
-mod reading;
+mod powers_of_five;
 mod round_trips;
-mod rounding;
-mod search;
-mod settling;
+mod rounded_decimal;
+mod scaling;
+mod short_division;
+mod shortest_decimal;
+mod shortest_guess;
 mod texts;
-mod writing;
 
 pub use decimal::{Decimal, built_in_formats, from_decimal};
 pub use exact_decimal::{exact, exact_once};
 pub use parsing::{DecimalError, decimal_text_once, one_reading, written_text};
 pub use round_trips::shortest_reads_back;
-pub use rounding::{rounded, rounded_once};
-pub use search::{shortest, shortest_once};
-pub use texts::read_decimal;
+pub use rounded_decimal::{rounded, rounded_once};
+pub use shortest_decimal::{shortest, shortest_once};
+pub use texts::{read_decimal, read_decimal_ascii};

@@ -1,6 +1,7 @@
-//! A decimal from its text.
+//! A decimal from its text, with all its digits.
 
-ghost use Rattle.std.specs.Prelude.{◌≡◌, ℕ, ℤ, pos, ◌-ℤ◌, ◌≤◌, ◌^◌, ◌++◌, List, Bool, IsTrue, MatchOption, Result, Ok, IsOkAnd};
+ghost use Rattle.std.specs.Prelude.{◌≡◌, ℕ, ℤ, pos, ◌-ℤ◌, ◌≤◌, ◌^◌, ◌++◌, List, Bool};
+ghost use Rattle.std.specs.Prelude.{IsTrue, MatchOption, Result, Ok, IsOkAnd};
 ghost use Rattle.apfloat_model.specs.declared.kinds.Round.{Round};
 ghost use Rattle.apfloat_model.specs.declared.parse_error.ParseError.{ParseError};
 ghost use Rattle.apfloat_model.specs.declared.status.StatusAnd.{StatusAnd};
@@ -32,13 +33,13 @@ use std::str::FromStr;
 pub enum DecimalError {
     /// The text is not a decimal; with the words for its first fault from the left.
     NoDecimal(ParseError),
-    /// The digits on both sides of the dot, as one whole number, are 2^128 or more.
+    /// The digits on both sides of the dot, as one integer, are 2^128 or more.
     TooManyDigits,
     /// The exponent of the last digit is below -2^31 or at least 2^31.
     ExponentOutOfRange,
 }
 
-/// The whole number with the digits of `number` followed by these, if it fits.
+/// The integer with the digits of `number` followed by these, if it fits.
 fn followed_by(number: u128, digits: &[u8]) -> Option<u128>
     requires { IsTrue (every is_decimal digits.now) }
     ensures { MatchOption result (2 ^ 128 ≤ number_from number digits.now)
@@ -58,7 +59,7 @@ fn followed_by(number: u128, digits: &[u8]) -> Option<u128>
     Some(all)
 }
 
-/// The whole number that two texts of digits spell, the first before the second, if it fits.
+/// The integer that two texts of digits spell, the first before the second, if it fits.
 fn digits_of(whole: &[u8], fraction: &[u8]) -> Option<u128>
     requires whole { IsTrue (every is_decimal whole.now) }
     requires fraction { IsTrue (every is_decimal fraction.now) }
@@ -72,7 +73,7 @@ fn digits_of(whole: &[u8], fraction: &[u8]) -> Option<u128>
 }
 
 /// The exponent of the last digit of a number with `places` digits after its dot, if it fits.
-fn unit_of(exponent: i128, places: usize) -> Option<ExpInt>
+fn fitting_unit(exponent: i128, places: usize) -> Option<ExpInt>
     requires { IsWithin count_bound exponent }
     ensures { (exact : ℤ) → IsNear far_bound exact exponent → MatchOption result
         (IsPast32Bits (exact -ℤ pos places)) (λ unit. unit ≡ exact -ℤ pos places) }
@@ -98,7 +99,7 @@ fn read_body(negative: bool, body: &[u8]) -> Result<Decimal, DecimalError>
     let Some(digits) = digits_of(whole, fraction) else {
         return Err(DecimalError::TooManyDigits);
     };
-    let Some(unit) = unit_of(exponent, fraction.len()) else {
+    let Some(unit) = fitting_unit(exponent, fraction.len()) else {
         return Err(DecimalError::ExponentOutOfRange);
     };
     Ok(Decimal {
@@ -117,9 +118,9 @@ impl FromStr for Decimal {
     /// exponent -2.
     ///
     /// A decimal text is an optional sign, decimal digits with at most one dot, and optionally `e` or `E` and an
-    /// exponent with an optional sign. Infinities, NaNs and hexadecimal numbers are refused, and so is a number if
-    /// its digits are 2^128 or more as a whole number, for which zeros at the start do not count and those at the end
-    /// do, or if the exponent of its last digit does not fit in 32 bits, even if the number is zero.
+    /// exponent with an optional sign. Infinities, NaNs and hexadecimal numbers are refused. So is a number if its
+    /// digits, as an integer, are 2^128 or more (zeros at the start do not count, those at the end do), or if the
+    /// exponent of its last digit does not fit in 32 bits, even if the number is zero.
     fn from_str(s: &str) -> Result<Self, DecimalError> {
         let (mark, body) = split_mark(s.as_bytes());
         if s.is_empty() {
@@ -149,8 +150,8 @@ pub fn decimal_text_once()
         → answer ≡ Ok x }
 {}
 
-/// A text is read in one way: what `read_decimal` and `FromStr` may return of it is one value or decimal, or refusals for
-/// one reason, with the same words.
+/// A text is read in one way: `read_decimal` and `FromStr` may return one value or decimal of it, or refuse it for one
+/// reason, with the same words.
 pub fn one_reading()
     ensures read { IsReadOnce }
     ensures parsed { IsParsedOnce }
@@ -158,7 +159,7 @@ pub fn one_reading()
 
 /// The text that `Display` writes of a decimal is a decimal text with its sign and of the same number.
 ///
-/// It spells the same digits and exponent, unless the decimal is a zero or written as a whole number without an
+/// It spells the same digits and exponent, unless the decimal is a zero or written as an integer without an
 /// exponent: those get a zero after their dot, so their exponent is -1.
 pub fn written_text()
     ensures spells { (x : Decimal) → IsStoredDecimal x

@@ -2,7 +2,7 @@
 
 ghost use Rattle.std.specs.Prelude.{◌<◌};
 
-use apfloat_decimals::read_decimal;
+use apfloat_decimals::{read_decimal, read_decimal_ascii};
 use apfloat_formats::{DoubleS, Semantics};
 use apfloat_model::{Flags, ParseError, Round, Status};
 use std::process::Abort;
@@ -76,4 +76,17 @@ fn refused_texts(rt: HostRuntime) {
     check_refused(&rt, ".e5", "Significand has no digits");
     check_refused(&rt, "1e+", "Exponent has no digits");
     check_refused(&rt, "1e5x", "Invalid character in exponent");
+}
+
+/// Asserts that bytes are refused with these words.
+fn check_refused_bytes(rt: &impl Abort, bytes: &[u8], words: &str) {
+    let answer = read_decimal_ascii::<DoubleS>(bytes, Round::NearestTiesToEven);
+    assert!(rt; matches!(answer, Err(ParseError(said)) if said == words));
+}
+
+#[test]
+fn refused_bytes(rt: HostRuntime) {
+    check_refused_bytes(&rt, b"\xff", "Invalid character in significand");
+    check_refused_bytes(&rt, b"-1.5\x80", "Invalid character in significand");
+    check_refused_bytes(&rt, b"1e\xc35", "Invalid character in exponent");
 }

@@ -8,7 +8,7 @@ ghost use Rattle.pair_decimals.specs.OneReading.{IsPairReadOnce};
 ghost use Rattle.pair_decimals.specs.PairReadings.{IsPairDecimalRead};
 
 use apfloat_base::{ParseError, Round, StatusAnd};
-use apfloat_decimals::read_decimal;
+use apfloat_decimals::read_decimal_ascii;
 use apfloat_ieee::IeeeFloat;
 use apfloat_pairs::{DoubleDouble, FallbackS};
 
@@ -20,7 +20,18 @@ use apfloat_pairs::{DoubleDouble, FallbackS};
 pub fn read_decimal_pair(text: &str, round: Round) -> Result<StatusAnd<DoubleDouble>, ParseError>
     ensures { IsPairDecimalRead round text.now result }
 {
-    match read_decimal::<FallbackS>(text, round) {
+    read_decimal_pair_ascii(text.as_bytes(), round)
+}
+
+/// Reads a text of ASCII characters like `read_decimal_pair`. Other bytes are refused, since no text with them has a
+/// value.
+pub fn read_decimal_pair_ascii(
+    text: &[u8],
+    round: Round,
+) -> Result<StatusAnd<DoubleDouble>, ParseError>
+    ensures { IsPairDecimalRead round text.now result }
+{
+    match read_decimal_ascii::<FallbackS>(text, round) {
         Ok(answer) => Ok(answer.status.and(pair_of_wide(answer.value))),
         Err(error) => Err(error),
     }

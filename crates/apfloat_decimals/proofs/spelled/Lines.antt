@@ -1,5 +1,7 @@
 -- Lines of text: digits one by one, and how long texts are.
-use Rattle.std.proofs.Common.{◌≡◌, ℕ, suc, eqb, leb, FitsSigned, w32, ◌+◌, ◌-◌, ◌*◌, ◌/◌, ◌%◌, ◌^◌, ◌<◌, ◌≤◌, List, [], ◌∷◌, ◌++◌, length, refl, sym, ap, ◌∙◌, replicate, arith, ⊎_elim, lit<, lit≤, false, true, Bool, if◌then◌else◌, codes}
+use Rattle.std.proofs.Common.{◌≡◌, ℕ, suc, eqb, leb, FitsSigned, w32, ◌+◌, ◌-◌, ◌*◌, ◌/◌, ◌%◌, ◌^◌, ◌<◌, ◌≤◌, List, []}
+use Rattle.std.proofs.Common.{◌∷◌, ◌++◌, length, refl, sym, ap, ◌∙◌, replicate, arith, ⊎_elim, lit<, lit≤, false, true}
+use Rattle.std.proofs.Common.{Bool, if◌then◌else◌, codes}
 use Rattle.std.specs.Prelude.{ℤ, pos, negsuc, ◌+ℤ◌}
 use Rattle.std.proofs.lemmas.Int.{ints}
 use Rattle.apfloat_model.specs.arithmetic.Exact.{up, down}
@@ -12,7 +14,8 @@ use Rattle.std.proofs.lemmas.List.{append_assoc, length-append, length-replicate
 use Rattle.std.specs.Fmt.{decimal, signed_decimal}
 use Rattle.apfloat_decimals.proofs.numbers.Values.{power_pos}
 use Rattle.apfloat_decimals.proofs.spelled.WrittenNumbers.{few_digits, shorter, single, ten_great, times_ten_small}
-use Rattle.apfloat_decimals.specs.Texts.{is_plain, padded, pointed, some_pointed, scientific_text, plain_text, magnitude_text, sign_text}
+use Rattle.apfloat_decimals.specs.Texts.{is_plain, padded, pointed, some_pointed, scientific_text, plain_text}
+use Rattle.apfloat_decimals.specs.Texts.{magnitude_text, sign_text}
 
 -- ---- digits one by one
 

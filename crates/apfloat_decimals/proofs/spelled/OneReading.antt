@@ -1,5 +1,6 @@
 -- A text is read in one way, as a value and as a decimal.
-use Rattle.std.proofs.Common.{◌≡◌, ℕ, ◌*◌, ◌^◌, Bool, true, false, not, refl, sym, ap, ◌∙◌, subst, inl, inr, List, Option, Some, None, Result, Ok, Err, arith}
+use Rattle.std.proofs.Common.{◌≡◌, ℕ, ◌*◌, ◌^◌, Bool, true, false, not, refl, sym, ap, ◌∙◌, subst, inl, inr, List}
+use Rattle.std.proofs.Common.{Option, Some, None, Result, Ok, Err, arith}
 use Rattle.std.specs.Prelude.{if◌then◌else◌, is_some}
 use Rattle.std.specs.Option.{unwrap_or}
 use Rattle.std.proofs.lemmas.Option.{none-some}
@@ -23,7 +24,8 @@ use Rattle.apfloat_decimals.specs.OneReading.{IsReadOnce, IsParsedOnce, AreOnePa
 use Rattle.apfloat_decimals.specs.Parsing.{Spells, IsRefusedFor, plain_fault_of}
 use Rattle.apfloat_decimals.specs.declared.decimal.Decimal.{Decimal}
 use Rattle.apfloat_decimals.specs.declared.parsing.DecimalError.{DecimalError}
-use Rattle.apfloat_decimals.specs.declared.parsing.DecimalError.TheVariants.{NoDecimal, TooManyDigits, ExponentOutOfRange}
+use Rattle.apfloat_decimals.specs.declared.parsing.DecimalError.TheVariants.{NoDecimal, TooManyDigits}
+use Rattle.apfloat_decimals.specs.declared.parsing.DecimalError.TheVariants.{ExponentOutOfRange}
 use Rattle.apfloat_decimals.proofs.spelled.TextParts.{no_fault_of, no_plain_fault}
 use Rattle.apfloat_decimals.proofs.spelled.TextReadings.{text_once, text_parsed, reading_is}
 

@@ -1,5 +1,6 @@
 -- The digits of a decimal text as a number that fits, and its exponent.
-use Rattle.std.proofs.Common.{◌≡◌, ℕ, true, ◌+◌, ◌-◌, ◌*◌, ◌<◌, ◌≤◌, ap, ◌∙◌, arith, List, [], ◌∷◌, ◌++◌, length, take, drop, take-append-drop, get_or}
+use Rattle.std.proofs.Common.{◌≡◌, ℕ, true, ◌+◌, ◌-◌, ◌*◌, ◌<◌, ◌≤◌, ap, ◌∙◌, arith, List, [], ◌∷◌, ◌++◌, length, take}
+use Rattle.std.proofs.Common.{drop, take-append-drop, get_or}
 use Rattle.apfloat_model.specs.texts.Digits.{every, is_decimal, digit_value}
 use Rattle.apfloat_decimals.specs.LeadingDigits.{number_from}
 use Rattle.apfloat_decimals.proofs.numbers.LeadingNumbers.{digit_of, value_of_digit, number_next, number_joined}

@@ -1,5 +1,6 @@
 -- What is read of a decimal text is its number.
-use Rattle.std.proofs.Common.{◌≡◌, ℕ, Bool, sym, ◌∙◌, inl, inr, List, Result, Ok, Err, ℤ, pos, neg_ℤ, ◌≤ℤ◌, ◌+◌, ◌^◌, ap, ⊎_elim, arith}
+use Rattle.std.proofs.Common.{◌≡◌, ℕ, Bool, sym, ◌∙◌, inl, inr, List, Result, Ok, Err, ℤ, pos, neg_ℤ, ◌≤ℤ◌, ◌+◌, ◌^◌}
+use Rattle.std.proofs.Common.{ap, ⊎_elim, arith}
 use Rattle.std.proofs.lemmas.Int.{ints}
 use Rattle.std.proofs.lemmas.Option.{none-some}
 use Rattle.std.specs.Result.{IsOkAnd}
@@ -18,7 +19,8 @@ use Rattle.apfloat_decimals.specs.Parsing.{Spells, IsParsed}
 use Rattle.apfloat_decimals.specs.ReadBack.{IsStoredDecimal}
 use Rattle.apfloat_decimals.specs.declared.decimal.Decimal.{Decimal}
 use Rattle.apfloat_decimals.specs.declared.parsing.DecimalError.{DecimalError}
-use Rattle.apfloat_decimals.specs.declared.parsing.DecimalError.TheVariants.{NoDecimal, TooManyDigits, ExponentOutOfRange}
+use Rattle.apfloat_decimals.specs.declared.parsing.DecimalError.TheVariants.{NoDecimal, TooManyDigits}
+use Rattle.apfloat_decimals.specs.declared.parsing.DecimalError.TheVariants.{ExponentOutOfRange}
 use Rattle.apfloat_decimals.proofs.spelled.TextParts.{only_text, no_other_meaning, no_fault_of, no_plain_fault}
 
 -- a text spells one number

@@ -48,7 +48,7 @@ ten_great number places few l =
     let least : 10 ^ 39 ≤ 10 ^ places = pow-le-pow_right (omega arith) more in
     omega arith
 
--- a whole number of at most 21 digits, times 10
+-- an integer of at most 21 digits, times 10
 pub times_ten_small : (n e : ℕ) → n < 2 ^ 128 → e + length (decimal n) ≤ 21 → n * 10 ^ (e + 1) < 2 ^ 128
 times_ten_small n e few l =
     let below = below_power n few in

@@ -1,5 +1,8 @@
 -- The text of a decimal is a decimal text of the same number.
-use Rattle.std.proofs.Common.{◌≡◌, ◌⊎◌, ℕ, ◌+◌, ◌-◌, ◌*◌, ◌/◌, ◌%◌, ◌^◌, ◌<◌, ◌≤◌, Bool, true, false, refl, sym, ap, ◌∙◌, inl, inr, ⊎_elim, arith, lit<, zero, suc, add-one, List, [], ◌∷◌, ◌++◌, length, replicate, codes, append_assoc, length-append, ℤ, pos, negsuc, neg_ℤ, ◌+ℤ◌, ◌-ℤ◌, ◌≤ℤ◌, eqb, leb}
+use Rattle.std.proofs.Common.{◌≡◌, ◌⊎◌, ℕ, ◌+◌, ◌-◌, ◌*◌, ◌/◌, ◌%◌, ◌^◌, ◌<◌, ◌≤◌, Bool, true, false, refl, sym, ap}
+use Rattle.std.proofs.Common.{◌∙◌, inl, inr, ⊎_elim, arith, lit<, zero, suc, add-one, List, [], ◌∷◌, ◌++◌, length}
+use Rattle.std.proofs.Common.{replicate, codes, append_assoc, length-append, ℤ, pos, negsuc, neg_ℤ, ◌+ℤ◌, ◌-ℤ◌, ◌≤ℤ◌}
+use Rattle.std.proofs.Common.{eqb, leb}
 use Rattle.std.proofs.lemmas.Bool.{cases_Bool, eqb-true, eqb-false, ne_eqb, le-leb, leb-true, and_parts, and_from}
 use Rattle.std.proofs.lemmas.Fmt.{decimal_by_steps_wide, length-decimal-le_wide}
 use Rattle.std.proofs.lemmas.Int.{ints}
@@ -16,7 +19,8 @@ use Rattle.apfloat_decimals.specs.LeadingDigits.{number_from}
 use Rattle.apfloat_decimals.specs.Parsing.{Spells}
 use Rattle.apfloat_decimals.specs.ReadBack.{IsStoredDecimal, is_written_whole, written}
 use Rattle.apfloat_decimals.specs.Shortest.{IsSameNumber}
-use Rattle.apfloat_decimals.specs.Texts.{padded, pointed, is_plain, some_pointed, scientific_text, magnitude_text, sign_text, decimal_text}
+use Rattle.apfloat_decimals.specs.Texts.{padded, pointed, is_plain, some_pointed, scientific_text, magnitude_text}
+use Rattle.apfloat_decimals.specs.Texts.{sign_text, decimal_text}
 use Rattle.apfloat_decimals.proofs.numbers.LeadingNumbers.{value_of_digit, number_joined}
 use Rattle.apfloat_decimals.proofs.numbers.Values.{power_pos}
 use Rattle.apfloat_decimals.proofs.spelled.WrittenNumbers.{length_more, few_digits, times_ten_small}

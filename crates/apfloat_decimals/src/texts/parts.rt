@@ -56,7 +56,7 @@ pub fn split_fraction(rest: &[u8]) -> (&[u8], &[u8])
     }
 }
 
-/// The exponent in what follows the digits of a text; `some` says whether there is one.
+/// The exponent in what follows the digits of a text; `some` says whether there are any digits.
 pub fn exponent_in(tail: &[u8], some: bool) -> Result<i128, Fault>
     ensures { MatchResult result (λ e. IsNear far_bound (exponent_number (drop 1 tail.now)) e
         × IsWithin count_bound e

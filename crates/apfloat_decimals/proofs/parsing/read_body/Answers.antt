@@ -41,15 +41,15 @@ returns-in_default c = record {
   many = c.in_default.ensures;
 }
 
-pub returns-in_default-unit_of : goal.returns-in_default-unit_of
-returns-in_default-unit_of c =
-    let state = (goal.at.returns-in_default-unit_of c).After-digits_of in
+pub returns-in_default-fitting_unit : goal.returns-in_default-fitting_unit
+returns-in_default-fitting_unit c =
+    let state = (goal.at.returns-in_default-fitting_unit c).After-digits_of in
     record {
       digits = _;
       exponent = _;
       is_text = spelled state;
       few = omega (arith, c.in-Some.ensures);
-      far = c.in_default-unit_of.ensures _ (near state);
+      far = c.in_default-fitting_unit.ensures _ (near state);
     }
 
 pub returns : goal.returns
@@ -57,7 +57,7 @@ returns c =
     let state = (goal.at.returns c).After-digits_of in
     let text = spelled state in
     let digits = c.in-Some.ensures in
-    let exponent = c.in-Some-unit_of.ensures _ (near state) in
-    let fits : FitsSigned w32 c.in-Some-unit_of.unit = search rules in
-    let same = to_z-of_z w32 c.in-Some-unit_of.unit fits in
+    let exponent = c.in-Some-fitting_unit.ensures _ (near state) in
+    let fits : FitsSigned w32 c.in-Some-fitting_unit.unit = search rules in
+    let same = to_z-of_z w32 c.in-Some-fitting_unit.unit fits in
     (refl, rw (same, digits, exponent) text)

@@ -1,7 +1,8 @@
 use Rattle.std.proofs.Common.{◌≡◌, ◌∙◌, drop, false, sym}
 use Rattle.apfloat_model.specs.texts.Digits.{begins, is_decimal}
 use Rattle.apfloat_decimals.proofs.numbers.LeadingNumbers.{begins_next, begins_none, digits_until}
-use Rattle.apfloat_decimals.proofs.texts.parts.split_digits.Goals.{After-split_at, then-loop-count-test+else-is_decimal, else-loop-count-test}
+use Rattle.apfloat_decimals.proofs.texts.parts.split_digits.Goals.{After-split_at, then-loop-count-test+else-is_decimal}
+use Rattle.apfloat_decimals.proofs.texts.parts.split_digits.Goals.{else-loop-count-test}
 use Rattle.apfloat_decimals.proofs.texts.parts.split_digits.Goals as goal
 
 -- no digit follows
