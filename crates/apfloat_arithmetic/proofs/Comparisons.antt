@@ -125,7 +125,7 @@ one_sign true false e = cc
 one_sign false true e = cc
 one_sign false false e = refl
 
--- an infinity is not on either side of 0 where numbers are
+-- the side of an infinity is not that of the numbers of either sign
 near_end : (left right : Bool) → number_side left ≡ side (infinite right) → ⊥
 near_end true true e = cc
 near_end true false e = cc

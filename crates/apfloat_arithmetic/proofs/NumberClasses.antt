@@ -13,7 +13,7 @@ use Rattle.apfloat_rounding.specs.declared.shape.Shape.{Shape}
 use Rattle.apfloat_rounding.specs.Stored.{IsNormalAt, quanta_at}
 use Rattle.apfloat_rounding.proofs.StoredNumbers.{quanta_low_below, quanta_high}
 
--- the result of a comparison of signed numbers is any test that holds in the same cases
+-- a test that holds exactly if a is less than b has the result of the comparison
 pub compares_as : (less : Bool) (a b : ℤ) (holds : Bool) → lt_z a b ≡ less
     → (a <ℤ b → holds ≡ true) → (b ≤ℤ a → holds ≡ false) → less ≡ holds
 compares_as true a b x e f g = sym (f (lt_z_yes (subst T (sym e) tt)))

@@ -72,7 +72,7 @@ few_digits precision r p t q z f l g =
     let c : t * 2 ^ (p + 1) ≡ t * (2 ^ (p + 1 - q) * 2 ^ q) = ap (λ (x : ℕ). t * x) b in
     ones-le (p + 1 - q) (r * 2 ^ p / (t * 2 ^ q)) ((div-lt_iff_lt-mul d).1 (omega arith))
 
--- a significand moved up within a greater place is the same number
+-- a significand moved up by j digits, at a place lower by j, is the same number
 pub moved_up : (s j p : ℕ) → j ≤ p → s * 2 ^ j * 2 ^ (p - j) ≡ s * 2 ^ p
 moved_up s j p l =
     let w : j + (p - j) ≡ p = omega arith in

@@ -161,7 +161,7 @@ built_in_law format =
     let known = known_format format in
     record { law = known.lawful; wide = ltb-true _ _ known.wide }
 
--- a format with other flags is as lawful
+-- a lawful format with other flags is lawful
 other_flags_law : (c : Constants) (tiny ieee : Bool) → HasLaw c
     → HasLaw (record c { tiny_before_rounding = tiny; ieee_flags = ieee })
 other_flags_law c tiny ieee has = record { law = other_flags c tiny ieee has.law; wide = has.wide }

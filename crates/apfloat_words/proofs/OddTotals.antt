@@ -211,7 +211,7 @@ ordered_to_odd count least base high low x y negative e q (inr d) h =
       rounded = g.rounded;
     }
 
--- two signs are equal if they are not unlike
+-- two signs are equal exactly if they are not unlike
 pub unlike_false : (s t : Bool) → not (beq s t) ≡ false → s ≡ t
 unlike_false true true e = refl
 unlike_false true false e = cc

@@ -4,7 +4,7 @@ use Rattle.std.proofs.lemmas.Int.{ints}
 use Rattle.apfloat_words.specs.declared.terms.Term.{Term}
 use Rattle.apfloat_words.specs.Totals.{IsGreater}
 
--- what holds of both terms holds of the one with the greater exponent
+-- what holds of both terms holds of each of them in order
 pub of_high : {T : Type 0} (P : T → Type 0) (high low x y : T)
     → ((high ≡ x) × (low ≡ y)) ⊎ ((high ≡ y) × (low ≡ x)) → P x → P y → P high
 of_high P high low x y (inl d) a b = subst P (sym d.0) a

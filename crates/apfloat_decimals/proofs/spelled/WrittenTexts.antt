@@ -68,7 +68,7 @@ number_of_decimal : (n : ℕ) → n < 10 ^ 64 → IsNumber n (decimal n)
 number_of_decimal n few =
     decimal_by_steps_wide (λ (m : ℕ) (ds : List ℕ). IsNumber m ds) single_digit more_digits n few
 
--- digits appended to a number add their number to it, moved up
+-- a number with digits appended is the number moved up, plus that of the digits
 after : (n : ℕ) (digits : List ℕ) → number_from n digits ≡ n * 10 ^ length digits + number_from 0 digits
 after n [] = omega arith
 after n (c ∷ digits) =
