@@ -1,4 +1,4 @@
--- A call on arrays leaves one code, and determines the bytes and the numbers of outcomes.
+-- A call on arrays leaves one code, and determines the bytes and the counts.
 use Rattle.std.proofs.Common.{◌≡◌, ℕ, ◌*◌, ◌≤◌, Bool, List, ◌++◌, length, take, drop, Result, Ok, Err, sym, ap, ◌∙◌}
 use Rattle.std.proofs.Common.{arith}
 use Rattle.std.specs.Prelude.{◌/◌, min}

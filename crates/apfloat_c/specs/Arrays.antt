@@ -51,7 +51,7 @@ counts_of elements =
       div_by_zero = count_by (raised 2) elements;
     }
 
--- the numbers after one more element
+-- the counts after one more element
 abbrev pub with_element : ElementCounts → Element → ElementCounts
 with_element counted element =
     record {
@@ -66,7 +66,7 @@ with_element counted element =
       div_by_zero = counted.div_by_zero + one_if (raised 2 element);
     }
 
--- each number can grow by 1
+-- each count can grow by 1
 pub record HaveRoomFor (counted : ElementCounts) : Type 0 where
   pub counts : HaveRoom counted.counts
   pub div_by_zero : counted.div_by_zero < 2 ^ 64 - 1
@@ -140,7 +140,7 @@ IsElementAt map xs ys zs index bytes element =
     (number_of (value_at (bytes_in map.kind) index ys))
     (number_of (value_at (bytes_in map.kind) index zs)) bytes element
 
--- the operation is done at each index, with these numbers of outcomes
+-- the operation is done at each index, with these counts of outcomes
 pub record AreElements (map : MapCall) (xs ys zs : List ℕ) (count : ℕ) (bytes : List ℕ)
     (counted : ElementCounts) : Type 0 where
   pub elements : List Element

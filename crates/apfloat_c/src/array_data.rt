@@ -44,17 +44,17 @@ pub struct Element {
     pub is_nan: bool,
 }
 
-/// Numbers of elements: those of conversions, and that of divisions by zero, which no conversion raises.
+/// Counts of elements: those of conversions, and that of divisions by zero, which no conversion raises.
 #[derive(Clone, Copy)]
 pub struct ElementCounts {
-    /// The numbers that conversions have too.
+    /// The counts that conversions have too.
     pub counts: Counts,
     /// The number of elements that raised `DIV_BY_ZERO`.
     pub div_by_zero: u64,
 }
 
 impl ElementCounts {
-    /// The numbers before any element.
+    /// The counts before any element.
     pub const NONE: ElementCounts = ElementCounts {
         counts: Counts::NONE,
         div_by_zero: 0,
@@ -87,7 +87,7 @@ impl ElementCounts {
 }
 
 impl ArrayAnswer {
-    /// The result with these numbers.
+    /// The result with these counts.
     pub fn of(counted: ElementCounts) -> ArrayAnswer
         ensures { result ≡ answer_with counted }
     {
