@@ -36,7 +36,7 @@ fn many_and_single_digits_agree(rt: HostRuntime) {
     }
 }
 
-/// Whether the division by a guess that is off by that much returns the quotient, rounded to odd.
+/// Whether the division by a guess that is off by `distance` returns the quotient, rounded to odd.
 fn guess_agrees(distance: u64, dividend: u64, divisor: u64, places: u32) -> bool
     requires some { 0 < divisor }
     requires narrow { divisor < 2 ^ 62 }
