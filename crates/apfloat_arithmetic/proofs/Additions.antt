@@ -13,9 +13,9 @@ use Rattle.apfloat_model.proofs.rounding.OddRoundings.{to_odd_times, to_odd_canc
 use Rattle.apfloat_words.proofs.Totals.{no_down}
 use Rattle.apfloat_rounding.specs.Stored.{IsQuantaAt}
 
--- ---- a finer count of quanta
+-- ---- a finer unit than the quantum
 
--- a term counted from the base of a sum, in quanta
+-- a significand counted from the base of a sum is the number of quanta, scaled
 pub quanta_counted : (min xe tx base : ℤ) (k mx m : ℕ) → base ≤ℤ tx → (tx +ℤ min) ≡ ((xe +ℤ base) +ℤ pos k)
     → IsQuantaAt min mx xe m → mx * 2 ^ up (tx -ℤ base) ≡ m * 2 ^ k
 quanta_counted min xe tx base k mx m l e i =
@@ -29,7 +29,7 @@ quanta_counted min xe tx base k mx m l e i =
     eq_of_mul-eq-mul_right (2 ^ down (xe -ℤ min)) (pow_pos (down (xe -ℤ min))) (mx * 2 ^ up (tx -ℤ base))
     (m * 2 ^ k) (omega arith)
 
--- the sum of two multiples is that multiple of the sum
+-- the sum of two scaled numbers is the scaled sum
 pub scaled_sum : (left right : Bool) (m n w : ℕ) (y z : ℤ) → y ≡ (signed left (m * w) +ℤ signed right (n * w))
     → z ≡ (signed left m +ℤ signed right n) → up y + down z * w ≡ down y + up z * w
 scaled_sum true true m n w y z e d =
@@ -49,7 +49,7 @@ scaled_sum false false m n w y z e d =
     let b : up z * w ≡ (down z + (m + n)) * w = ap (λ (x : ℕ). x * w) a in
     omega (arith, ints)
 
--- what a scaled number says of its sign and its magnitude
+-- if a signed amount is an integer scaled by w, the amount is w times the integer's magnitude
 pub read_amount : (negative : Bool) (amount w : ℕ) (z : ℤ) → 0 < w
     → up (signed negative amount) + down z * w ≡ down (signed negative amount) + up z * w → amount ≡ magnitude z * w
 read_amount true amount w (pos n) p e = omega (arith, ints)
@@ -57,7 +57,7 @@ read_amount true amount w (negsuc n) p e = omega (arith, ints)
 read_amount false amount w (pos n) p e = omega (arith, ints)
 read_amount false amount w (negsuc n) p e = omega (arith, ints)
 
--- the whole number has the sign of the scaled one
+-- if a signed amount is an integer scaled by w, both have the same sign
 read_signed : (negative : Bool) (amount w : ℕ) (z : ℤ) → 0 < w
     → up (signed negative amount) + down z * w ≡ down (signed negative amount) + up z * w
     → signed negative (magnitude z) ≡ z
@@ -67,14 +67,14 @@ read_signed true amount w (negsuc n) p e = omega (arith, ints)
 read_signed false amount w (pos n) p e = omega (arith, ints)
 read_signed false amount w (negsuc n) p e = absurd (omega (arith, ints))
 
--- ---- the sum of the significands, as a count of quanta
+-- ---- the sum of the significands, as a number of quanta
 
--- `exact` quanta have that sign, and their number is rounded to odd
+-- `exact` quanta have that sign, and their magnitude is rounded to odd
 pub record IsRepresentedToOdd (least : ℕ) (exact : ℤ) (negative : Bool) (unit : ℤ) (significand : ℕ) : Type 0 where
   pub rounded : IsRoundedToOdd least significand (magnitude exact * 2 ^ down unit) (1 * 2 ^ up unit)
   pub is : signed negative (magnitude exact) ≡ exact
 
--- what a significand is rounded from, counted from the quantum
+-- a significand that was rounded to odd from units above a base is rounded to odd from quanta
 read_to_odd : (least : ℕ) (base e unit : ℤ) (k amount whole q : ℕ) → base ≤ℤ e → e ≡ ((unit +ℤ base) +ℤ pos k)
     → amount ≡ whole * 2 ^ k → IsRoundedToOdd least q amount (2 ^ up (e -ℤ base))
     → IsRoundedToOdd least q (whole * 2 ^ down unit) (1 * 2 ^ up unit)
@@ -91,7 +91,7 @@ read_to_odd least base e unit k amount whole q l d a h =
     to_odd_cancel least q (whole * 2 ^ down unit) (1 * 2 ^ up unit) (2 ^ k) (pow_pos k)
     (subst₂ (λ (x : ℕ) (y : ℕ). IsRoundedToOdd least q x y) w p' t)
 
--- an amount above 0 is not rounded to 0, and 0 is
+-- an amount that is rounded to odd to a nonzero significand is above 0, and one that is rounded to 0 is 0
 odd_amount : (least q amount unit : ℕ) → 0 < unit → (q ≡ 0 → ⊥) → IsRoundedToOdd least q amount unit → 0 < amount
 odd_amount least zero amount unit p n h = absurd (n refl)
 odd_amount least (suc q) (suc amount) unit p n h = omega arith
@@ -103,7 +103,7 @@ even_amount least zero amount unit z (inl e) = omega (arith, e)
 even_amount least zero amount unit z (inr b) = let o = b.odd in absurd (omega (arith, o))
 even_amount least (suc q) amount unit z h = absurd (omega (arith, z))
 
--- the sum of two terms that was rounded to odd, as the sum of their numbers of quanta
+-- the sum of two terms that was rounded to odd represents the sum of their numbers of quanta
 pub read_odd_sum : (least : ℕ) (base e unit : ℤ) (k m n : ℕ) (left right negative : Bool) (q : ℕ)
     → e ≡ ((unit +ℤ base) +ℤ pos k)
     → IsSignedToOdd least base (signed left (m * 2 ^ k) +ℤ signed right (n * 2 ^ k)) negative e q
@@ -119,7 +119,7 @@ read_odd_sum least base e unit k m n s t negative q d h =
       is = read_signed negative h.amount (2 ^ k) (signed s m +ℤ signed t n) w b;
     }
 
--- the sign of an amount; a zero has the one that is given for it
+-- the sign of an amount; a zero has the sign given for it
 sign_of_none : (of_zero negative : Bool) → of_zero ≡ sign_of of_zero (signed negative 0)
 sign_of_none of_zero true = refl
 sign_of_none of_zero false = refl
@@ -128,7 +128,7 @@ sign_of_some : (of_zero negative : Bool) (amount : ℕ) → negative ≡ sign_of
 sign_of_some of_zero true amount = refl
 sign_of_some of_zero false amount = refl
 
--- the sign of a total that was rounded to odd, where a zero takes the sign that the mode gives it
+-- the sign of a total that was rounded to odd; a zero has the sign that the mode gives it
 pub odd_sign : (least : ℕ) (of_zero negative answer : Bool) (q amount w unit : ℕ) → 0 < w → 0 < unit
     → IsRoundedToOdd least q (amount * w) unit → (q ≡ 0 → answer ≡ of_zero)
     → ((q ≡ 0 → ⊥) → answer ≡ negative) → answer ≡ sign_of of_zero (signed negative amount)
@@ -150,12 +150,12 @@ read_odd_sign least of_zero exact unit negative answer significand r f g =
     odd_sign least of_zero negative answer significand (magnitude exact) (2 ^ down unit) (1 * 2 ^ up unit)
     (pow_pos (down unit)) u r.rounded f g ∙ ap (λ (z : ℤ). sign_of of_zero z) r.is
 
--- an amount with a sign has that magnitude
+-- the magnitude of an amount with a sign is the amount
 pub magnitude_of_signed : (negative : Bool) (amount : ℕ) → magnitude (signed negative amount) ≡ amount
 magnitude_of_signed true amount = omega (arith, ints)
 magnitude_of_signed false amount = omega (arith, ints)
 
--- the two numbers and the sum of their terms
+-- the sum of the terms of two numbers, rounded to odd, represents the sum of their numbers of quanta
 pub odd_sum_read : (least digits precision scale : ℕ) (min xe ye tx ty e unit : ℤ)
     (left right negative : Bool) (mx my m n q : ℕ)
     → ((min +ℤ pos 1) -ℤ pos precision) ≤ℤ xe → ((min +ℤ pos 1) -ℤ pos precision) ≤ℤ ye
@@ -180,7 +180,7 @@ odd_sum_read least digits precision scale min xe ye tx ty e unit s t negative mx
     subst₂ (λ (z : ℕ) (v : ℕ). IsSignedToOdd least base (signed s z +ℤ signed t v) negative e q) x y h in
     read_odd_sum least base e unit k m n s t negative q (omega (arith, ints)) h'
 
--- the least exponent and the scale, by the precision
+-- the scale plus the least exponent plus 1 is the precision
 pub scale_is : (precision : ℕ) (min : ℤ) → 3 ≤ precision → min ≤ℤ negsuc 0
     → ((pos (unsigned_abs (pos (precision - 1) -ℤ min)) +ℤ min) +ℤ pos 1) ≡ pos precision
 scale_is precision min p h = omega (arith, ints)

@@ -25,7 +25,7 @@ use Rattle.apfloat_rounding.proofs.StoredBack.{IsFull, top_of, full_low, full_hi
 use Rattle.apfloat_arithmetic.specs.Sides.{number_side, side}
 use Rattle.apfloat_arithmetic.proofs.SumCases.{datum_is}
 
--- ---- two numbers with all their digits: the exponents come first
+-- ---- two numbers with all their digits are ordered by their exponents first
 
 -- a number whose first digit is at a lower place is less
 below_top : (precision s n u d t m v e : ℕ) → IsFull precision s n u d → IsFull precision t m v e
@@ -44,7 +44,7 @@ below_exponent shape s d t e m n h =
     let g = normal_full shape t e n in
     below_top _ _ _ _ _ _ _ _ _ f g (omega (arith, ints, h, f.short, g.short))
 
--- at one exponent, one with a lesser significand is less
+-- of two numbers with the same exponent, the one with the lesser significand is less
 below_significand : (precision s n t m u d : ℕ) → IsFull precision s n u d → IsFull precision t m u d → s < t → n < m
 below_significand precision s n t m u d f g h =
     let a : s * 2 ^ u < t * 2 ^ u = mul-lt-mul_of_pos_right h (pow_pos u) in
@@ -53,7 +53,7 @@ below_significand precision s n t m u d f g h =
     let l : n * 2 ^ d < m * 2 ^ d = omega arith in
     lt_of_mul-lt-mul_right (2 ^ d) l
 
--- so that at one exponent the significands decide
+-- two numbers with the same exponent are ordered as their significands
 at_one_exponent : (shape : Shape) (s t : ℕ) (e : ℤ) → IsNormalAt shape s e → IsNormalAt shape t e
     → nat_cmp s t ≡ nat_cmp (quanta_at shape.min_exp s e) (quanta_at shape.min_exp t e)
 at_one_exponent shape s t e m n =
@@ -64,7 +64,7 @@ at_one_exponent shape s t e m n =
     (λ c h. c ∙ nat_cmp_is _ _ Equal (ap (λ x. quanta_at shape.min_exp x e) h))
     (λ c h. c ∙ nat_cmp_is _ _ Greater (below_significand _ _ _ _ _ _ _ g f h))
 
--- the order by exponents, and then by significands, is that of the numbers
+-- numbers are ordered by their exponents, and then by their significands
 pub exponents_first : (shape : Shape) (s : ℕ) (d : ℤ) (t : ℕ) (e : ℤ) → IsNormalAt shape s d → IsNormalAt shape t e
     → ordering_then (int_cmp d e) (nat_cmp s t) ≡ nat_cmp (quanta_at shape.min_exp s d) (quanta_at shape.min_exp t e)
 exponents_first shape s d t e m n =
@@ -76,7 +76,7 @@ exponents_first shape s d t e m n =
     ap (λ x. nat_cmp (quanta_at shape.min_exp s x) (quanta_at shape.min_exp t e)) (sym h))
     (λ c h. ap (λ x. ordering_then x (nat_cmp s t)) c ∙ nat_cmp_is _ _ Greater (below_exponent shape t e s d n m h))
 
--- ---- numbers of one sign
+-- ---- numbers of the same sign
 
 -- numbers without a minus sign are ordered as their magnitudes
 both_positive : (m n : ℕ) → nat_cmp m n ≡ int_cmp (pos m) (pos n)
@@ -86,7 +86,7 @@ both_positive m n =
     (λ e h. e ∙ int_cmp_is (pos m) (pos n) Equal (ap pos h))
     (λ e h. e ∙ int_cmp_is (pos m) (pos n) Greater (omega (arith, ints, h)))
 
--- numbers with a minus sign are ordered the other way round
+-- numbers with a minus sign are ordered opposite to their magnitudes
 both_negative : (m n : ℕ) → nat_cmp n m ≡ int_cmp (neg_ℤ (pos m)) (neg_ℤ (pos n))
 both_negative m n =
     by_ranked (n < m) (n ≡ m) (m < n) (nat_cmp n m) (ranks n m)
@@ -94,7 +94,7 @@ both_negative m n =
     (λ e h. e ∙ int_cmp_is (neg_ℤ (pos m)) (neg_ℤ (pos n)) Equal (ap (λ x. neg_ℤ (pos x)) (sym h)))
     (λ e h. e ∙ int_cmp_is (neg_ℤ (pos m)) (neg_ℤ (pos n)) Greater (omega (arith, ints, h)))
 
--- ---- numbers of two signs
+-- ---- numbers of opposite signs
 
 -- -m is less than n, unless both are 0
 below_both : (m n : ℕ) → 0 < m + n → Less ≡ int_cmp (neg_ℤ (pos m)) (pos n)
@@ -118,21 +118,21 @@ side_of_normal shape x b e f h =
     let n : IsNormalAt shape x.significand x.exponent = rw e at h in
     rw (e, ← f) (some_side x.negative _ (quanta_some shape x.significand x.exponent n))
 
--- numbers on one side have one sign
+-- numbers on the same side of 0 have the same sign
 one_sign : (left right : Bool) → number_side left ≡ number_side right → right ≡ left
 one_sign true true e = refl
 one_sign true false e = cc
 one_sign false true e = cc
 one_sign false false e = refl
 
--- an infinity is on no side of numbers
+-- the side of an infinity is not that of the numbers of either sign
 near_end : (left right : Bool) → number_side left ≡ side (infinite right) → ⊥
 near_end true true e = cc
 near_end true false e = cc
 near_end false true e = cc
 near_end false false e = cc
 
--- only a number of the same sign is next to a number that is not zero
+-- a value on the side of the numbers of one sign has the category of a nonzero number, and that sign
 number_beside : (category : Category) (shape : Shape) (y : Unpacked) (negative : Bool) → IsStoredBy category shape y
     → number_side negative ≡ side (datum_by category shape y) → (category ≡ Normal) × (y.negative ≡ negative)
 number_beside Normal shape y b h e =
@@ -144,12 +144,12 @@ number_beside Infinity shape y b h e = absurd (near_end b y.negative e)
 number_beside NaN shape y true h e = cc
 number_beside NaN shape y false h e = cc
 
--- a stored value on the side of the numbers of one sign is a number other than 0 with that sign
+-- a stored value on the side of the numbers of one sign is a nonzero number with that sign
 pub beside_normal : (shape : Shape) (y : Unpacked) (negative : Bool) → IsStored shape y
     → number_side negative ≡ side (datum_at shape y) → (y.category ≡ Normal) × (y.negative ≡ negative)
 beside_normal shape y b h e = number_beside y.category shape y b h e
 
--- two numbers of one sign
+-- two stored numbers below 0 are ordered opposite to their quanta
 pub beside_negative : (shape : Shape) (x y : Unpacked) → x.category ≡ Normal → x.negative ≡ true → IsStored shape x
     → IsStored shape y → side (datum_at shape x) ≡ side (datum_at shape y) → (order : Ordering)
     → (IsNormalAt shape y.significand y.exponent → IsNormalAt shape x.significand x.exponent
@@ -164,7 +164,7 @@ beside_negative shape x y e f h k s r g =
     (g b a ∙ both_negative (quanta_at shape.min_exp x.significand x.exponent)
     (quanta_at shape.min_exp y.significand y.exponent))
 
--- two numbers above 0 are compared by their quanta
+-- two stored numbers above 0 are ordered as their quanta
 pub beside_positive : (shape : Shape) (x y : Unpacked) → x.category ≡ Normal → x.negative ≡ false → IsStored shape x
     → IsStored shape y → side (datum_at shape x) ≡ side (datum_at shape y) → (order : Ordering)
     → (IsNormalAt shape x.significand x.exponent → IsNormalAt shape y.significand y.exponent
@@ -179,9 +179,9 @@ beside_positive shape x y e f h k s r g =
     (g a b ∙ both_positive (quanta_at shape.min_exp x.significand x.exponent)
     (quanta_at shape.min_exp y.significand y.exponent))
 
--- ---- by the sides, and on one side by the numbers
+-- ---- order by sides, and on one side by the numbers
 
--- data on two sides are compared by those, and on one side by their numbers
+-- two data are ordered by their sides of 0, and on the same side by their numbers
 pub by_sides : (x y : Datum) (order : Ordering) → is_nan x ≡ false → is_nan y ≡ false
     → (side x ≡ side y → order ≡ int_cmp (number x) (number y))
     → Some (ordering_then (nat_cmp (side x) (side y)) order) ≡ compared x y
@@ -218,9 +218,9 @@ by_sides (finite true (suc m)) (finite false (suc n)) r e f h = ap Some (below_b
 by_sides (finite false (suc m)) (finite true (suc n)) r e f h = ap Some (above_both (suc m) (suc n) (omega arith))
 by_sides (finite false (suc m)) (finite false (suc n)) r e f h = ap Some (h refl)
 
--- ---- sameness
+-- ---- equality of data
 
--- data that are found to be the same are equal
+-- if `same_datum` holds of two data, they are equal
 same_is : (x y : Datum) → same_datum x y ≡ true → x ≡ y
 same_is (finite a m) (finite b n) e =
     let p = and_parts _ _ e in
@@ -236,18 +236,18 @@ same_is (infinite a) (nan b t) e = cc
 same_is (nan a s) (finite b n) e = cc
 same_is (nan a s) (infinite b) e = cc
 
--- a datum is found to be the same as itself
+-- `same_datum` holds of a datum and itself
 same_of : (x : Datum) → same_datum x x ≡ true
 same_of (finite a m) = rw (same_sign_self a, eq-eqb m m refl) refl
 same_of (infinite a) = same_sign_self a
 same_of (nan a s) = rw (same_sign_self a, eq-eqb s s refl) refl
 
--- values with equal parts are equal
+-- values with equal fields are equal
 parts_same : (x y : Unpacked) → x.significand ≡ y.significand → x.exponent ≡ y.exponent → x.category ≡ y.category
     → x.negative ≡ y.negative → x ≡ y
 parts_same x y a b c d = rw (sym a, sym b, sym c, sym d) refl
 
--- what is stored is the same exactly where the data are
+-- if `same_datum` holds of the data of two stored values, the values are equal
 stored_same : (shape : Shape) (x y : Unpacked) → IsStored shape x → IsStored shape y
     → same_datum (datum_at shape x) (datum_at shape y) ≡ true → x ≡ y
 stored_same shape x y h k e =
@@ -261,7 +261,7 @@ IsSameClass x y = (x.category ≡ y.category) × (x.negative ≡ y.negative)
 abbrev pub IsSameNumber : Unpacked → Unpacked → Type 0
 IsSameNumber x y = (x.significand ≡ y.significand) × (x.exponent ≡ y.exponent)
 
--- values of one class are one datum where significands and exponents are equal
+-- values of the same class are the same datum exactly if their significands and exponents are equal
 pub same_both : (shape : Shape) (x y : Unpacked) (same_class same_number : Bool) → IsStored shape x → IsStored shape y
     → Decides same_class (IsSameClass x y) → Decides same_number (IsSameNumber x y) → same_class ≡ true
     → same_number ≡ same_datum (datum_at shape x) (datum_at shape y)
@@ -277,7 +277,7 @@ same_both shape x y a false h k c n e = off_by _ (λ t.
     ) in
     cc)
 
--- values of other classes are different data
+-- values of different classes are different data
 pub other_class : (shape : Shape) (x y : Unpacked) (same_class : Bool) → IsStored shape x → IsStored shape y
     → Decides same_class (IsSameClass x y) → same_class ≡ false
     → same_class ≡ same_datum (datum_at shape x) (datum_at shape y)
@@ -291,7 +291,7 @@ other_class shape x y a h k c e = e ∙ off_by _ (λ t.
 
 -- ---- magnitudes of data
 
--- the order of what is stored of two finite values that are not zero is that of their magnitudes
+-- two stored nonzero numbers are ordered by magnitude as their numbers of quanta
 pub magnitudes_compared : (shape : Shape) (x y : Unpacked) (order : Ordering) → x.category ≡ Normal
     → y.category ≡ Normal → IsStored shape x → IsStored shape y
     → (IsNormal shape x → IsNormal shape y → order ≡ nat_cmp (quanta_of shape x) (quanta_of shape y))

@@ -25,14 +25,14 @@ use Rattle.apfloat_arithmetic.proofs.NumberClasses.{quanta_low_is, quanta_high_i
 abbrev pub steps_of : Shape → ℤ → ℕ
 steps_of s e = unsigned_abs (e -ℤ s.min_exp)
 
--- a significand at an exponent that is not below the least
+-- a number with an exponent not below the least one is its significand moved up
 pub whole_from : (shape : Shape) (m : ℕ) (e : ℤ) → shape.min_exp ≤ℤ e
     → IsQuantaAt shape.min_exp m e (m * 2 ^ steps_of shape e)
 whole_from shape m e l =
     let a = above_zero (e -ℤ shape.min_exp) (steps_of shape e) (omega (arith, ints)) in
     rw (a.0, a.1) (omega arith)
 
--- a power of two with an exponent of the format is within its largest value
+-- a power of two with an exponent of the format is at most its largest value
 pub power_within : (shape : Shape) (e : ℤ) → shape.min_exp ≤ℤ e → e ≤ℤ shape.max_exp
     → 2 ^ (shape.precision - 1) * 2 ^ steps_of shape e ≤ largest (format_at shape)
 power_within shape e l h =
@@ -66,18 +66,18 @@ inverted_normal shape m e n i =
       within = rw (quanta_high_is shape m (neg_ℤ e) i.inverse_normal) g;
     }
 
--- moved up, a magnitude is no less
+-- a magnitude moved up is not less than before
 power_full : (half j : ℕ) → half ≤ half * 2 ^ j
 power_full half j =
     let o : 1 ≤ 2 ^ j = pow_pos j in
     let a : half * 1 ≤ half * 2 ^ j = mul-le-mul_left half o in
     omega arith
 
--- the product of two powers of two, where their exponents add up to twice w, is the square of 2 ^ w
+-- the product of two powers of two whose exponents add up to twice w is the square of 2 ^ w
 powers_product : (h j k w : ℕ) → (h + j) + (h + k) ≡ w + w → 2 ^ h * 2 ^ j * (2 ^ h * 2 ^ k) ≡ 2 ^ w * 2 ^ w
 powers_product h j k w e = sym (pow22 h j h k) ∙ ap (λ (x : ℕ). 2 ^ x) e ∙ pow-add 2 w w
 
--- an invertible number and the one with the opposite exponent are inverse
+-- an invertible number and the number with the opposite exponent are inverses
 pub inverted_product : (shape : Shape) (m : ℕ) (e : ℤ) → IsNormalAt shape m e → IsInvertibleAt shape m e
     → AreInverse (format_at shape) (quanta_at shape.min_exp m e) (quanta_at shape.min_exp m (neg_ℤ e))
 inverted_product shape m e n i =
@@ -109,7 +109,7 @@ power_factor q i m d u w h e =
     let c : 2 ^ (w + w + d) ≡ 2 ^ w * 2 ^ w * 2 ^ d = pow3 w w d in
     omega arith
 
--- so it is a power of two
+-- the significand of a number with an inverse is the least one with all digits
 is_power : (shape : Shape) (m i : ℕ) (e : ℤ) → IsNormalAt shape m e
     → AreInverse (format_at shape) (quanta_at shape.min_exp m e) i → m ≡ 2 ^ (shape.precision - 1)
 is_power shape m i e n h =
@@ -120,7 +120,7 @@ is_power shape m i e n h =
     power_with_digits shape.precision m (omega arith) n.operand.full n.operand.fits
     (factor_of_power (w + w + d) m (2 ^ u * i) (power_factor (quanta_at shape.min_exp m e) i m d u w n.whole h.product))
 
--- how long the inverse is
+-- an inverse with all its digits bounds the exponent of the number from above
 short_inverse : (h j w i : ℕ) → 2 ^ h ≤ i → 2 ^ h * 2 ^ j * i ≡ 2 ^ w * 2 ^ w → h + j + h ≤ w + w
 short_inverse h j w i l e =
     let a : 2 ^ h * 2 ^ j * 2 ^ h ≤ 2 ^ h * 2 ^ j * i = mul-le-mul_left (2 ^ h * 2 ^ j) l in
@@ -129,7 +129,7 @@ short_inverse h j w i l e =
     let k : 2 ^ (h + j + h) ≤ 2 ^ (w + w) = omega arith in
     exponent_at_most (h + j + h) (w + w) k
 
--- the inverse of a number far from 1 has an exponent as far on the other side
+-- an inverse within the range of the format bounds the exponent of the number from below
 long_inverse : (h j w i p span : ℕ) → i < 2 ^ p * 2 ^ span → 2 ^ h * 2 ^ j * i ≡ 2 ^ w * 2 ^ w
     → w + w < h + j + (p + span)
 long_inverse h j w i p span l e =
@@ -140,7 +140,7 @@ long_inverse h j w i p span l e =
     let k : 2 ^ (w + w) < 2 ^ (h + j + (p + span)) = omega arith in
     exponent_below (w + w) (h + j + (p + span)) k
 
--- a number with an inverse is not denormal
+-- a number with an exact inverse is not denormal
 not_low : (shape : Shape) (m i : ℕ) (e : ℤ) → IsNormalAt shape m e
     → AreInverse (format_at shape) (quanta_at shape.min_exp m e) i → shape.min_exp ≤ℤ e
 not_low shape m i e n h =
@@ -180,7 +180,7 @@ invertible_from shape m i e n h =
       inverse_within = omega (arith, ints, long, c, l, shape.parameters);
     }
 
--- the opposite of an exponent is a number of its type
+-- the opposite of an exponent fits in the type of exponents
 pub opposite_word : (shape : Shape) (m : ℕ) (e : ℤ) → IsNormalAt shape m e
     → to_z w32 (of_z w32 (pos 0 -ℤ e)) ≡ neg_ℤ e
 opposite_word shape m e n =
@@ -188,14 +188,14 @@ opposite_word shape m e n =
     let z : pos 0 -ℤ e ≡ neg_ℤ e = omega (arith, ints) in
     to_z-of_z w32 (pos 0 -ℤ e) (fits_in w32 (pos 0 -ℤ e) (omega (arith, ints, x.within))) ∙ z
 
--- what is returned for a number
+-- the inverse of an invertible number is the one with the opposite exponent
 pub inverse_answer : (shape : Shape) (negative : Bool) (m : ℕ) (e : ℤ) → IsNormalAt shape m e
     → IsInvertibleAt shape m e
     → IsExactInverse (format_at shape) (finite negative (quanta_at shape.min_exp m e))
     (Some (finite negative (quanta_at shape.min_exp m (neg_ℤ e))))
 inverse_answer shape b m e n i = (quanta_at shape.min_exp m (neg_ℤ e), inverted_product shape m e n i, refl)
 
--- and one that is not invertible has none
+-- a number that is not invertible has no exact inverse
 pub no_inverse_answer : (shape : Shape) (negative : Bool) (m : ℕ) (e : ℤ) → IsNormalAt shape m e
     → (IsInvertibleAt shape m e → ⊥)
     → IsExactInverse (format_at shape) (finite negative (quanta_at shape.min_exp m e)) None

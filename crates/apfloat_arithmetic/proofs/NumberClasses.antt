@@ -13,7 +13,7 @@ use Rattle.apfloat_rounding.specs.declared.shape.Shape.{Shape}
 use Rattle.apfloat_rounding.specs.Stored.{IsNormalAt, quanta_at}
 use Rattle.apfloat_rounding.proofs.StoredNumbers.{quanta_low_below, quanta_high}
 
--- what a comparison of signed numbers returns
+-- a test that holds exactly if a is less than b has the result of the comparison
 pub compares_as : (less : Bool) (a b : ℤ) (holds : Bool) → lt_z a b ≡ less
     → (a <ℤ b → holds ≡ true) → (b ≤ℤ a → holds ≡ false) → less ≡ holds
 compares_as true a b x e f g = sym (f (lt_z_yes (subst T (sym e) tt)))
@@ -25,12 +25,12 @@ pub quanta_low_is : (shape : Shape) (m : ℕ) (e : ℤ) → IsNormalAt shape m e
 quanta_low_is shape m e n p l =
     quanta_low_below shape m e (unsigned_abs (shape.min_exp -ℤ e)) n p (omega (arith, ints)) (omega (arith, ints))
 
--- from there on it is its significand moved up
+-- a number with an exponent not below the least one is its significand moved up
 pub quanta_high_is : (shape : Shape) (m : ℕ) (e : ℤ) → shape.min_exp ≤ℤ e
     → quanta_at shape.min_exp m e ≡ m * 2 ^ unsigned_abs (e -ℤ shape.min_exp)
 quanta_high_is shape m e l = quanta_high shape m e (unsigned_abs (e -ℤ shape.min_exp)) (omega (arith, ints))
 
--- from the least exponent on a number has all its digits
+-- a number with an exponent not below the least one has all its digits
 quanta_full : (shape : Shape) (m : ℕ) (e : ℤ) → IsNormalAt shape m e → shape.min_exp ≤ℤ e
     → 2 ^ (shape.precision - 1) ≤ quanta_at shape.min_exp m e
 quanta_full shape m e n l =
@@ -40,7 +40,7 @@ quanta_full shape m e n l =
     let a : m * 1 ≤ m * 2 ^ unsigned_abs (e -ℤ shape.min_exp) = mul-le-mul_left m o in
     omega arith
 
--- so its exponent tells which of the two it is
+-- a number is below the smallest one with all digits exactly if its exponent is below the least one
 pub below_is : (shape : Shape) (m : ℕ) (e : ℤ) → IsNormalAt shape m e → 3 ≤ shape.precision
     → lt_z e shape.min_exp ≡ ltb (quanta_at shape.min_exp m e) (2 ^ (shape.precision - 1))
 below_is shape m e n p =
@@ -48,7 +48,7 @@ below_is shape m e n p =
     refl (λ l. lt-ltb (quanta_at shape.min_exp m e) (2 ^ (shape.precision - 1)) (quanta_low_is shape m e n p l))
     (λ l. le-ltb (quanta_at shape.min_exp m e) (2 ^ (shape.precision - 1)) (quanta_full shape m e n l))
 
--- a number other than 0 is denormal where it is less than the smallest one with all digits
+-- a nonzero number is denormal exactly if it is less than the smallest one with all digits
 pub denormal_number : (format : Format) (negative : Bool) (n : ℕ) → 0 < n
     → is_denormal format (finite negative n) ≡ ltb n (smallest_normalized format)
 denormal_number format b n p = rw (lt-ltb 0 n p) refl

@@ -12,13 +12,13 @@ pub record IsHalved (n : ℕ) : Type 0 where
   pub half : ℕ
   pub is : (n ≡ 2 * half) ⊎ (n ≡ 2 * half + 1)
 
--- twice a whole number and a rest below 2 is an even or an odd number
+-- twice an integer plus a rest below 2 is an even or an odd number
 halves : (n h r : ℕ) → r < 2 → h * 2 + r ≡ n → IsHalved n
 halves n h zero l e = record { half = h; is = inl (omega arith) }
 halves n h (suc zero) l e = record { half = h; is = inr (omega arith) }
 halves n h (suc (suc r)) l e = absurd (omega arith)
 
--- each whole number is even or odd
+-- each integer is even or odd
 halved : (n : ℕ) → IsHalved n
 halved n = halves n (n / 2) (n % 2) (mod-lt n two_pos) (div-add-mod' n 2)
 
@@ -59,7 +59,7 @@ factor_of_power (suc k) a b e =
     y.is)
     x.is
 
--- a power of two with so many digits
+-- a power of two with exactly that many digits is the least number with that many digits
 pub power_with_digits : (precision m : ℕ) → 0 < precision → 2 ^ (precision - 1) ≤ m → m < 2 ^ precision → IsPower m
     → m ≡ 2 ^ (precision - 1)
 power_with_digits precision m p l h i =

@@ -14,12 +14,12 @@ use Rattle.apfloat_rounding.specs.Shapes.{format_at}
 use Rattle.apfloat_rounding.specs.Stored.{IsNormalAt, quanta_at}
 use Rattle.apfloat_rounding.proofs.ShapeExponents.{scale_is, exponent_word}
 
--- the exponent of a number that is stored
+-- the exponent of a stored number is within the bounds of numbers, and fits in its type
 pub record IsNear (e : ℤ) : Type 0 where
   pub within : IsWithin number_bound e
   pub word : to_z w32 (of_z w32 e) ≡ e
 
--- the exponent of a number is far within the range of its type
+-- the exponent of a stored number is within those bounds
 pub normal_near : (shape : Shape) (m : ℕ) (e : ℤ) → IsNormalAt shape m e → IsNear e
 normal_near shape m e n =
     let l = shape.parameters in
@@ -29,28 +29,28 @@ normal_near shape m e n =
       word = exponent_word shape m e n;
     }
 
--- the places of a product add up alike on both sides
+-- the exponents of a product, with those of its factors, balance
 balanced_product : (precision scale : ℕ) (min_exp x y r : ℤ) → 3 ≤ precision
     → pos scale ≡ pos (precision - 1) -ℤ min_exp → r ≡ ((x +ℤ y) -ℤ pos (2 * (precision - 1)))
     → up (x -ℤ min_exp) + up (y -ℤ min_exp) + down (r +ℤ pos scale)
     ≡ down (x -ℤ min_exp) + down (y -ℤ min_exp) + (scale + up (r +ℤ pos scale))
 balanced_product precision scale min_exp x y r t l e = omega (arith, ints)
 
--- also if it was moved up, and its exponent lowered as far
+-- the exponents of a product that was moved up balance if its exponent is lowered by as many places
 balanced_raised : (precision scale moved : ℕ) (min_exp x y e r : ℤ) → 3 ≤ precision
     → pos scale ≡ pos (precision - 1) -ℤ min_exp → e ≡ ((x +ℤ y) -ℤ pos (2 * (precision - 1)))
     → r ≡ e -ℤ pos moved → up (x -ℤ min_exp) + up (y -ℤ min_exp) + down (r +ℤ pos scale)
     ≡ down (x -ℤ min_exp) + down (y -ℤ min_exp) + (scale + (moved + up (r +ℤ pos scale)))
 balanced_raised precision scale moved min_exp x y e r t l g h = omega (arith, ints)
 
--- and so do those of a quotient
+-- the exponents of a quotient, with those of its operands, balance
 balanced_quotient : (precision places scale : ℕ) (min_exp x y r : ℤ) → 3 ≤ precision
     → pos scale ≡ pos (precision - 1) -ℤ min_exp → r ≡ ((x -ℤ y) -ℤ pos places)
     → down (x -ℤ min_exp) + places + up (y -ℤ min_exp) + up (r +ℤ pos scale)
     ≡ scale + down (r +ℤ pos scale) + (down (y -ℤ min_exp) + up (x -ℤ min_exp))
 balanced_quotient precision places scale min_exp x y r t l e = omega (arith, ints)
 
--- the product of the significands stands for the product of the numbers, both in quanta
+-- the product of the significands represents the product of the numbers, both in quanta
 pub product_is : (shape : Shape) (x y r : ℤ) (m n p : ℕ) → IsNormalAt shape m x → IsNormalAt shape n y
     → p ≡ m * n
     → r ≡ ((x +ℤ y) -ℤ pos (2 * (shape.precision - 1)))
@@ -65,7 +65,7 @@ product_is shape x y r m n p hx hy v e =
     shape.parameters.precision_low
     (scale_is shape) e) ∙ ap (λ (z : ℕ). z * (2 ^ (format_at shape).scale * 2 ^ up unit)) (sym v)
 
--- so does the product that was moved up, with the exponent that was lowered as far
+-- the product of the significands, moved up, represents the product of the numbers with the lowered exponent
 pub raised_product_is : (shape : Shape) (x y e r : ℤ) (m n p moved : ℕ) → IsNormalAt shape m x
     → IsNormalAt shape n y → p ≡ m * n * 2 ^ moved
     → e ≡ ((x +ℤ y) -ℤ pos (2 * (shape.precision - 1))) → r ≡ e -ℤ pos moved
@@ -86,7 +86,7 @@ raised_product_is shape x y e r m n p moved hx hy v g l =
     omega arith in
     a ∙ d ∙ f ∙ ap (λ (z : ℕ). z * (2 ^ scale * 2 ^ up unit)) (sym v)
 
--- what is said of the quotient of the significands is so of the quotient of the numbers
+-- a relation that scaling preserves holds for the quotient of the numbers if it holds for that of the significands
 quotient_says : (shape : Shape) (Says : ℕ → ℕ → Type 0) (x y r : ℤ) (places m n : ℕ)
     → ((amount unit w : ℕ) → 0 < w → Says amount unit → Says (amount * w) (unit * w))
     → ((amount unit w : ℕ) → 0 < w → Says (amount * w) (unit * w) → Says amount unit)
@@ -102,7 +102,7 @@ quotient_says shape Says x y r places m n times cancel hx hy e h =
     hx.whole hy.whole (balanced_quotient shape.precision places (format_at shape).scale shape.min_exp x y r
     shape.parameters.precision_low (scale_is shape) e) h
 
--- the quotient of the significands stands for the quotient of the numbers
+-- the quotient of the significands represents the quotient of the numbers
 pub quotient_is : (shape : Shape) (x y r : ℤ) (places q : ℕ) (loss : Loss) (m n : ℕ)
     → IsNormalAt shape m x
     → IsNormalAt shape n y → r ≡ ((x -ℤ y) -ℤ pos places) → StandsFor q loss (m * 2 ^ places) n
@@ -112,7 +112,7 @@ quotient_is shape x y r places q loss m n hx hy e h =
     quotient_says shape (λ (a : ℕ) (u : ℕ). StandsFor q loss a u) x y r places m n
     (λ a u w p k. stands_times q loss a u w p k) (λ a u w p k. stands_cancel q loss a u w p k) hx hy e h
 
--- and is rounded to odd as that is
+-- the quotient of the significands, rounded to odd, is the quotient of the numbers, rounded to odd
 pub odd_quotient_is : (shape : Shape) (x y r : ℤ) (places least q m n : ℕ)
     → IsNormalAt shape m x
     → IsNormalAt shape n y → r ≡ ((x -ℤ y) -ℤ pos places) → IsRoundedToOdd least q (m * 2 ^ places) n

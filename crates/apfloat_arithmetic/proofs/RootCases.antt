@@ -7,7 +7,7 @@ use Rattle.apfloat_model.specs.formats.Datum.{Datum, finite}
 use Rattle.apfloat_model.specs.formats.Nan.{IsInvalid}
 use Rattle.apfloat_model.specs.arithmetic.Roots.{IsDeliveredRoot, IsRootOfNumber, IsRoot}
 
--- the root of a number that is not 0
+-- the root of a nonzero number
 some_root : (format : Format) (mode : Round) (negative : Bool) (n : ℕ) (value : Datum) (status : ℕ) → 0 < n
     → IsRootOfNumber format mode negative n value status → IsRoot format mode (finite negative n) value status
 some_root format mode b n value status p h = rw (ne_eqb n 0 (λ z. omega (arith, z, p))) h
@@ -20,7 +20,7 @@ positive_root format mode b n value status p e h =
     some_root format mode b n value status p
     (subst (λ (x : Bool). IsRootOfNumber format mode x n value status) (sym e) h)
 
--- that of a negative number is invalid
+-- the root of a negative number is invalid
 pub negative_root : (format : Format) (mode : Round) (negative : Bool) (n : ℕ) (value : Datum) (status : ℕ)
     → 0 < n
     → negative ≡ true → IsInvalid format value status → IsRoot format mode (finite negative n) value status

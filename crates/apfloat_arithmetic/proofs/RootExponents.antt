@@ -9,7 +9,7 @@ use Rattle.apfloat_rounding.specs.Shapes.{format_at}
 use Rattle.apfloat_rounding.specs.Stored.{IsNormalAt, quanta_at}
 use Rattle.apfloat_rounding.proofs.ShapeExponents.{scale_is}
 
--- a product with the square of a power of two
+-- a product with a power of two and the square of another one
 power_of_both : (n x y : ℕ) → n * 2 ^ x * (2 ^ y * 2 ^ y) ≡ n * 2 ^ (x + (y + y))
 power_of_both n x y =
     let e : 2 ^ (x + (y + y)) ≡ 2 ^ x * (2 ^ y * 2 ^ y) = pow-add 2 x (y + y) ∙
@@ -17,7 +17,7 @@ power_of_both n x y =
     let d : n * 2 ^ (x + (y + y)) ≡ n * (2 ^ x * (2 ^ y * 2 ^ y)) = ap (λ (z : ℕ). n * z) e in
     omega arith
 
--- one number by two counts of digits, with further places on both sides
+-- if two numbers are equal at some places, they are equal with further places that balance
 same_places : (n s a b x y : ℕ) → n * 2 ^ a ≡ s * 2 ^ b → b + x ≡ y + a → n * 2 ^ x ≡ s * 2 ^ y
 same_places n s a b x y e l =
     let p : 2 ^ b * 2 ^ x ≡ 2 ^ y * 2 ^ a = sym (pow-add 2 b x) ∙ ap (λ (z : ℕ). 2 ^ z) l ∙ pow-add 2 y a in
@@ -29,7 +29,7 @@ same_places n s a b x y e l =
     let v : s * 2 ^ y ≤ n * 2 ^ x = le_of_mul-le-mul_right k (pow_pos a) in
     omega arith
 
--- the places of a root add up alike on both sides
+-- the exponents of a root, with that of its operand, balance
 balanced_root : (precision places scale odd : ℕ) (min_exp x half r : ℤ) → 3 ≤ precision
     → pos scale ≡ pos (precision - 1) -ℤ min_exp → x ≡ (half +ℤ half) +ℤ pos odd
     → places ≡ precision - 1 + odd → r ≡ half -ℤ pos (precision - 1)

@@ -1,4 +1,4 @@
--- A significand and a loss that stand for a square root decide how it is rounded.
+-- A significand and a loss that represent a square root determine how it is rounded.
 use Rattle.std.proofs.Common.{◌≡◌, ℕ, ◌+◌, ◌*◌, ◌<◌, false, ap, subst, arith}
 use Rattle.std.proofs.Math.Nat.{mul-lt-mul_of_pos_right, mul-pos}
 use Rattle.apfloat_model.specs.declared.kinds.Round.{Round}
@@ -41,7 +41,7 @@ module _ (square radicand over under amount parts : ℕ) (some : 0 < over)
       let r : amount * (2 * under) < n * over * parts = agrees.more (n * over) l in
       omega arith
 
-  -- what stands for the root stands for the fraction
+  -- a significand and a loss that represent the root also represent the fraction
   pub stands : (whole : ℕ) (loss : Loss) → RootStandsFor whole loss radicand
       → StandsFor whole loss (amount * under) (parts * over)
   stands whole ExactlyZero s =
@@ -59,8 +59,8 @@ module _ (square radicand over under amount parts : ℕ) (some : 0 < over)
       let l = halves_more (2 * (whole + 1)) (omega (arith, b)) in
       (omega (arith, k), omega (arith, l))
 
--- what is delivered of each fraction that a significand and its loss stand for is delivered of the root that they
--- stand for
+-- if each fraction that a significand and its loss represent is delivered as a value, the root that they represent is
+-- delivered as that value
 pub delivered_of_standing : (f : Format) (mode : Round) (square radicand over under whole : ℕ) (loss : Loss)
     (value : Datum) (status : ℕ) → 0 < over → 0 < under → square * (under * under) ≡ radicand * (over * over)
     → RootStandsFor whole loss radicand

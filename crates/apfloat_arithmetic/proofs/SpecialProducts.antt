@@ -25,17 +25,17 @@ not_finite : (shape : Shape) (x : Unpacked) → (x.category ≡ Infinity) ⊎ (x
 not_finite shape x (inl e) = subst (λ (k : Category). is_finite (datum_by k shape x) ≡ false) (sym e) refl
 not_finite shape x (inr e) = subst (λ (k : Category). is_finite (datum_by k shape x) ≡ false) (sym e) refl
 
--- what holds of both choices holds of the choice
+-- what follows from both cases of a choice follows from the choice
 of_either : (R : Type 0) (test : Bool) (P Q : Type 0) → (P → R) → (Q → R) → MatchBool test P Q → R
 of_either R true P Q p q h = p h
 of_either R false P Q p q h = q h
 
--- an answer that is not finite, with any flags
+-- if a given datum that is not finite is the result, the result is not finite
 is_given : (given value : Datum) (flags status : ℕ) → is_finite given ≡ false → IsAnswer given flags value status
     → is_finite value ≡ false
 is_given given value flags status e h = rw h.value_is e
 
--- where a number is multiplied by an infinity, the result is either NaN or infinity
+-- the product of a number and an infinity is a NaN or an infinity
 no_number : (format : Format) (negative : Bool) (test : Bool) (value : Datum) (status : ℕ)
     → MatchBool test (IsInvalid format value status) (IsAnswer (infinite negative) ok_bits value status)
     → is_finite value ≡ false
@@ -43,7 +43,7 @@ no_number format b t value status h =
     of_either (is_finite value ≡ false) t (IsInvalid format value status) (IsAnswer (infinite b) ok_bits value status)
     (λ a. is_given _ value _ status refl a) (λ a. is_given _ value _ status refl a) h
 
--- a product with such a factor is not finite
+-- a product with a factor that is not finite is not finite
 product_of_special : (format : Format) (mode : Round) (x y value : Datum) (status : ℕ)
     → (is_finite x ≡ false) ⊎ (is_finite y ≡ false) → IsProduct format mode x y value status
     → is_finite value ≡ false
@@ -62,7 +62,7 @@ product_of_special format mode (finite b m) (finite c n) value status (inr e) h 
 apart : true ≡ false → ⊥
 apart e = cc
 
--- so it is stored as no number
+-- the stored product of values, one of which is an infinity or a NaN, is not a number
 pub is_no_number : (shape : Shape) (mode : Round) (x y value : Unpacked) (status : ℕ)
     → ((x.category ≡ Infinity) ⊎ (x.category ≡ NaN)) ⊎ ((y.category ≡ Infinity) ⊎ (y.category ≡ NaN))
     → IsProduct (format_at shape) mode (datum_at shape x) (datum_at shape y) (datum_at shape value) status
@@ -76,7 +76,7 @@ is_no_number shape mode x y value status (inr k) h e =
     (product_of_special (format_at shape) mode (datum_at shape x) (datum_at shape y) (datum_at shape value) status
     (inr (not_finite shape y k)) h))
 
--- a sum with a product that is known
+-- a fused sum whose product is known: the sum with it, or the product itself if it raised flags
 pub with_product : (format : Format) (mode : Round) (x y z value product : Datum) (status flags : ℕ)
     → IsProduct format mode x y product flags
     → MatchBool (eqb flags ok_bits) (IsSum format mode product z value status) (IsAnswer product flags value status)

@@ -1,4 +1,4 @@
--- Remainders of operands that are not both numbers other than zero, by their categories.
+-- Remainders of operands that are not both nonzero numbers, by their categories.
 use Rattle.std.proofs.Common.{◌≡◌, ◌⊎◌, inl, inr, ℕ, Bool, eqb, if◌then◌else◌, count_ones, ◌*◌, ◌/◌, ◌<◌, refl, sym, ap, subst, arith}
 use Rattle.std.proofs.Math.Nat.{zero-div}
 use Rattle.std.proofs.lemmas.Bool.{ne_eqb}
@@ -20,7 +20,7 @@ abbrev pub Says : Shape → (ℕ → ℕ → ℕ) → Category → Category → 
 Says s quotient k l x y value status =
     IsRemainder (format_at s) quotient (datum_by k s x) (datum_by l s y) value status
 
--- a number other than zero on the right
+-- the remainder of a finite dividend by a nonzero number
 pub by_number : (shape : Shape) (quotient : ℕ → ℕ → ℕ) (x y : Unpacked) (m : ℕ) (value : Datum) (status : ℕ)
     → IsStoredBy Normal shape y → IsAnswer (rest_of shape.nonfinite x.negative m
     (quanta_at shape.min_exp y.significand y.exponent * quotient m (quanta_at shape.min_exp y.significand y.exponent)))
@@ -30,12 +30,12 @@ by_number shape quotient x y m value status t h =
     let p = quanta_some shape y.significand y.exponent t in
     rw (ne_eqb (quanta_at shape.min_exp y.significand y.exponent) 0 (λ z. omega (arith, z, p))) h
 
--- 0 less 0 is the zero of the dividend
+-- the rest of a zero dividend is the zero with its sign
 zero_rest : (kind : NonfiniteBehavior) (negative : Bool) (n q : ℕ) → q ≡ 0 → negative ≡ zero_sign kind negative
     → finite negative 0 ≡ rest_of kind negative 0 (n * q)
 zero_rest kind b n q e z = let w : n * 0 ≡ 0 = omega arith in rw (e, w) (ap (λ (u : Bool). finite u 0) z)
 
--- a dividend of 0 and a divisor that is a number
+-- the remainder of a zero by a nonzero number is that zero
 zero_by_number : (shape : Shape) (quotient : ℕ → ℕ → ℕ) (x y : Unpacked) (value : Datum) (status : ℕ)
     → IsStoredBy Zero shape x → IsStoredBy Normal shape y
     → ((n : ℕ) → 0 < n → quotient 0 n ≡ 0) → IsAnswer (finite x.negative 0) ok_bits value status
@@ -46,7 +46,7 @@ zero_by_number shape quotient x y value status u t q h =
     u.sign_is in
     by_number shape quotient x y 0 value status t (subst (λ (d : Datum). IsAnswer d ok_bits value status) e h)
 
--- a dividend of 0 is the remainder
+-- the remainder of a zero by a nonzero number is the dividend
 pub of_zero : (shape : Shape) (quotient : ℕ → ℕ → ℕ) (first second : Category) (x y : Unpacked) (value : Datum)
     (status : ℕ) → (first ≡ Zero) ⊎ (first ≡ Normal) → (first ≡ Normal → ⊥) → second ≡ Normal
     → IsStoredBy first shape x → IsStoredBy second shape y → ((n : ℕ) → 0 < n → quotient 0 n ≡ 0)
@@ -58,9 +58,9 @@ of_zero shape quotient first second x y value status (inl z) n e t u q h =
     (λ t h. subst (λ (o : Category). IsStoredBy o shape y → Says shape quotient Zero o x y value status) (sym e)
     (λ u. zero_by_number shape quotient x y value status t u q h) u) t h
 
--- ---- both numbers other than zero
+-- ---- both operands nonzero numbers
 
--- of two numbers it is the remainder by quanta
+-- the remainder of two nonzero numbers is that of their quanta
 pub of_numbers : (shape : Shape) (quotient : ℕ → ℕ → ℕ) (first second : Category) (x y : Unpacked) (value : Datum)
     (status : ℕ) → first ≡ Normal → second ≡ Normal → IsStoredBy second shape y
     → IsAnswer (rest_of shape.nonfinite x.negative (quanta_at shape.min_exp x.significand x.exponent)
@@ -72,7 +72,7 @@ of_numbers shape quotient first second x y value status e f u h =
     (subst (λ (o : Category). IsStoredBy o shape y → Says shape quotient Normal o x y value status) (sym f)
     (λ u. by_number shape quotient x y (quanta_at shape.min_exp x.significand x.exponent) value status u h) u)
 
--- by a divisor other than 0, the ones of the quotient are those of the quotient of the quanta
+-- the ones of the quotient by a nonzero number are those of the quotient of the quanta
 number_ones : (shape : Shape) (x y : Unpacked) (m : ℕ) → IsStoredBy Normal shape y
     → count_ones (m / quanta_at shape.min_exp y.significand y.exponent)
     ≡ ones_of_quotient (finite x.negative m) (datum_by Normal shape y)
@@ -80,7 +80,7 @@ number_ones shape x y m t =
     let p = quanta_some shape y.significand y.exponent t in
     rw (ne_eqb (quanta_at shape.min_exp y.significand y.exponent) 0 (λ z. omega (arith, z, p))) refl
 
--- the ones of the quotient of two numbers
+-- the ones of the quotient of two nonzero numbers are those of the quotient of their quanta
 pub ones_of_numbers : (shape : Shape) (first second : Category) (x y : Unpacked) → first ≡ Normal → second ≡ Normal
     → IsStoredBy second shape y
     → count_ones (quanta_at shape.min_exp x.significand x.exponent / quanta_at shape.min_exp y.significand y.exponent)
@@ -94,14 +94,14 @@ ones_of_numbers shape first second x y e f u =
     ≡ ones_of_quotient (datum_by Normal shape x) (datum_by o shape y)) (sym f)
     (λ u. number_ones shape x y (quanta_at shape.min_exp x.significand x.exponent) u) u)
 
--- ---- not both numbers other than zero
+-- ---- not both operands nonzero numbers
 
 -- a quotient with a dividend of 0 has no ones
 zero_ones : (n : ℕ) → 0 ≡ (if eqb n 0 then 0 else count_ones (0 / n))
 unfolding lib.Count.ones
 zero_ones n = zero_if (eqb n 0) (count_ones (0 / n)) (ap count_ones (zero-div n))
 
--- and none where one of them is not a number
+-- if one of two values is not a nonzero number, their quotient has no ones
 pub no_ones : (shape : Shape) (first second : Category) (x y : Unpacked) → (first ≡ Normal → second ≡ Normal → ⊥)
     → 0 ≡ ones_of_quotient (datum_by first shape x) (datum_by second shape y)
 no_ones shape Normal Normal x y h = absurd (h refl refl)

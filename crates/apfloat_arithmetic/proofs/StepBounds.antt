@@ -1,4 +1,4 @@
--- The count of ones of a quotient is at most that of its digits, by the exponents of the operands.
+-- The number of ones of a quotient is at most that of its digits, which the exponents of the operands bound.
 use Rattle.std.proofs.Common.{◌≡◌, ℕ, zero, suc, false, eqb, ◌+◌, ◌-◌, ◌*◌, ◌/◌, ◌^◌, ◌<◌, ◌≤◌, count_ones, ap, ◌∙◌, ⊎_elim, arith, lit<, ℤ, pos, ◌+ℤ◌, ◌-ℤ◌, ◌≤ℤ◌}
 use Rattle.std.proofs.lemmas.Int.{ints}
 use Rattle.std.proofs.lemmas.Bool.{ne_eqb, cases_lt}
@@ -17,7 +17,7 @@ none m n l p =
     let z : count_ones 0 ≤ 0 = ones-le 0 0 (lit< tt) in
     omega arith
 
--- m has p digits and one, n has q digits and one
+-- a quotient of numbers of at most p + 1 and at least q + 1 digits has at most p + 1 - q ones
 few : (m n p q : ℕ) → 0 < n → m < 2 ^ (p + 1) → 2 ^ q ≤ n → q ≤ p → count_ones (m / n) ≤ p + 1 - q
 few m n p q d f l g =
     let w : p + 1 ≡ (p + 1 - q) + q = omega arith in
@@ -25,7 +25,7 @@ few m n p q d f l g =
     let b : 2 ^ (p + 1 - q) * 2 ^ q ≤ 2 ^ (p + 1 - q) * n = mul-le-mul_left (2 ^ (p + 1 - q)) l in
     ones-le (p + 1 - q) (m / n) ((div-lt_iff_lt-mul d).1 (omega arith))
 
--- the ones of a quotient of two numbers, by their logarithms
+-- the number of ones of a quotient of two numbers, bounded by their logarithms
 of_numbers : (format : Format) (m n : ℕ) (a b : ℤ) → 0 < n → IsLogarithm format m a → IsLogarithm format n b
     → 0 < count_ones (m / n) → pos (count_ones (m / n)) ≤ℤ ((a -ℤ b) +ℤ pos 1)
 of_numbers format m n a b d h k p =
@@ -47,7 +47,7 @@ of_numbers format m n a b d h k p =
     omega (arith, ints))
     (cases_lt m n)
 
--- the ones of a quotient are at most one more than the difference of the operands' exponents
+-- the number of ones of a quotient is at most one more than the difference of the operands' exponents
 pub few_steps : (format : Format) (x y : Datum) (a b : ℤ) → IsIlogb format x a → IsIlogb format y b
     → 0 < ones_of_quotient x y → pos (ones_of_quotient x y) ≤ℤ ((a -ℤ b) +ℤ pos 1)
 few_steps format (finite s zero) (finite t zero) a b h k p = absurd (omega (arith, p))

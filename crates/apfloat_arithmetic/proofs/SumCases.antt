@@ -1,4 +1,4 @@
--- Sums and differences of stored values, by the kinds of their operands.
+-- Sums and differences of stored values, by the categories of their operands.
 use Rattle.std.proofs.Common.{◌≡◌, ℕ, ◌<◌, Bool, false, ap, subst, rules}
 use Rattle.apfloat_model.specs.declared.kinds.Category.{Category}
 use Rattle.apfloat_model.specs.declared.kinds.Category.TheVariants.{Normal}
@@ -18,7 +18,7 @@ use Rattle.apfloat_rounding.proofs.StoredBack.{quanta_some}
 use Rattle.apfloat_rounding.proofs.StoredMembers.{member_is}
 use Rattle.apfloat_arithmetic.specs.Subtrahends.{added}
 
--- a stored number is one of the format, and not 0
+-- a stored nonzero number belongs to the format, and its number of quanta is above 0
 pub number_stored : (shape : Shape) (x : Unpacked) → x.category ≡ Normal → IsStored shape x
     → IsFiniteOf (format_at shape) x.negative (quanta_at shape.min_exp x.significand x.exponent)
     × (0 < quanta_at shape.min_exp x.significand x.exponent)
@@ -33,17 +33,17 @@ pub same_sum : (format : Format) (mode : Round) (x y value left right answer : D
     → value ≡ answer → i ≡ j → IsSum format mode left right answer j → IsSum format mode x y value i
 same_sum format mode x y v a b d i j p q r e h = rw (p, q, r, e) h
 
--- a value of a given category stands for the datum that the category makes of it
+-- a value of a given category represents the datum that the category determines
 pub datum_is : (category : Category) (shape : Shape) (x : Unpacked) → x.category ≡ category
     → datum_at shape x ≡ datum_by category shape x
 datum_is category shape x e = ap (λ (l : Category). datum_by l shape x) e
 
--- a negated number is not a signaling NaN
+-- a negated number or zero is not a signaling NaN
 not_signaling : (format : Format) (kind : NonfiniteBehavior) (negative : Bool) (n : ℕ)
     → is_signaling_nan format (negated kind (finite negative n)) ≡ false
 not_signaling format kind b n = search rules
 
--- a difference is the sum with the negated operand
+-- a difference is the sum with the negated subtrahend
 pub difference_is : (format : Format) (mode : Round) (x y value : Datum) (i : ℕ)
     → IsSum format mode x (added format.nonfinite y) value i → IsDifference format mode x y value i
 difference_is format mode (nan b s) (nan c t) v i h = h

@@ -1,28 +1,28 @@
--- A whole quotient, by one multiple of the divisor less at a time.
+-- An integral quotient, computed by subtracting one multiple of the divisor at a time.
 use Rattle.std.proofs.Common.{◌≡◌, ℕ, false, eqb, ◌+◌, ◌-◌, ◌*◌, ◌/◌, ◌%◌, ◌^◌, ◌<◌, ◌≤◌, count_ones, sym, ap, ◌∙◌, subst, arith, lit<}
 use lib.Count.{ones, ones_in}
 use Rattle.std.proofs.Math.Nat.{mul-le-mul_right, mul-le-mul_left, mul-lt-mul_of_pos_right, pow-le-pow_right, div-lt_iff_lt-mul, mod-eq_of_lt, div-eq_of_lt, mul-pos, add-mul-div_right, add-mul-mod_self_right}
 use Rattle.std.proofs.lemmas.Nat.{pow-add, pow_pos, ones_cat, ones-le}
 use Rattle.apfloat_model.proofs.general.Powers.{twice_power, two_pos, twice_half}
 
--- r less 2 ^ k times the divisor d is s
+-- an iteration: r minus 2 ^ k times the divisor d is s, which is below that multiple
 pub record IsTurn (d r s k : ℕ) : Type 0 where
   pub taken : r ≡ s + 2 ^ k * d
   pub below : s < 2 ^ k * d
 
--- a turn leaves the remainder
+-- an iteration leaves the remainder unchanged
 pub turn_rest : (d r s k : ℕ) → IsTurn d r s k → r % d ≡ s % d
 turn_rest d r s k t = ap (λ (x : ℕ). x % d) t.taken ∙ add-mul-mod_self_right s (2 ^ k) d
 
--- and takes its power of two off the quotient
+-- an iteration takes its power of two off the quotient
 pub turn_quotient : (d r s k : ℕ) → 0 < d → IsTurn d r s k → r / d ≡ s / d + 2 ^ k
 turn_quotient d r s k p t = ap (λ (x : ℕ). x / d) t.taken ∙ add-mul-div_right s (2 ^ k) p
 
--- what is left of the quotient is below that power
+-- the quotient after an iteration is below its power of two
 pub turn_small : (d r s k : ℕ) → 0 < d → IsTurn d r s k → s / d < 2 ^ k
 turn_small d r s k p t = (div-lt_iff_lt-mul p).1 t.below
 
--- so that the quotient has one binary one less
+-- an iteration takes one binary one off the quotient
 pub turn_ones : (d r s k : ℕ) → 0 < d → IsTurn d r s k → count_ones (r / d) ≡ 1 + count_ones (s / d)
 unfolding ones ones_in
 turn_ones d r s k p t =
@@ -31,7 +31,7 @@ turn_ones d r s k p t =
     let e : r / d ≡ 1 * 2 ^ k + s / d = omega arith in
     ap count_ones e ∙ ones_cat k 1 (s / d) l
 
--- one subtraction, by significands and places
+-- one subtraction of significands at their places is an iteration
 pub is_turn : (r p t q s b : ℕ) → (s + t) * 2 ^ b ≡ r * 2 ^ p → s < t → q ≤ b
     → IsTurn (t * 2 ^ q) (r * 2 ^ p) (s * 2 ^ b) (b - q)
 is_turn r p t q s b e l g =
@@ -58,7 +58,7 @@ below_divisor precision r p t q z f l g =
     let k : 2 ^ (precision - 1) * 2 ^ q ≤ t * 2 ^ q = mul-le-mul_right (2 ^ q) l in
     omega arith
 
--- the digits of the whole quotient
+-- the number of ones of the integral quotient is at most that of its digits
 pub few_digits : (precision r p t q : ℕ) → 0 < precision → r < 2 ^ precision → 2 ^ (precision - 1) ≤ t → q ≤ p
     → count_ones (r * 2 ^ p / (t * 2 ^ q)) ≤ p + 1 - q
 few_digits precision r p t q z f l g =
@@ -72,7 +72,7 @@ few_digits precision r p t q z f l g =
     let c : t * 2 ^ (p + 1) ≡ t * (2 ^ (p + 1 - q) * 2 ^ q) = ap (λ (x : ℕ). t * x) b in
     ones-le (p + 1 - q) (r * 2 ^ p / (t * 2 ^ q)) ((div-lt_iff_lt-mul d).1 (omega arith))
 
--- digits moved up
+-- a significand moved up by j digits, at a place lower by j, is the same number
 pub moved_up : (s j p : ℕ) → j ≤ p → s * 2 ^ j * 2 ^ (p - j) ≡ s * 2 ^ p
 moved_up s j p l =
     let w : j + (p - j) ≡ p = omega arith in
@@ -80,7 +80,7 @@ moved_up s j p l =
     let f : s * (2 ^ j * 2 ^ (p - j)) ≡ s * 2 ^ p = ap (λ (x : ℕ). s * x) e in
     omega arith
 
--- digits at a lower place
+-- a number at a place, counted from a lower place
 pub at_lower_place : (s p q : ℕ) → q ≤ p → s * 2 ^ p ≡ s * 2 ^ (p - q) * 2 ^ q
 at_lower_place s p q l =
     let w : p ≡ (p - q) + q = omega arith in
@@ -88,7 +88,7 @@ at_lower_place s p q l =
     let f : s * 2 ^ p ≡ s * (2 ^ (p - q) * 2 ^ q) = ap (λ (x : ℕ). s * x) e in
     omega arith
 
--- one place lower
+-- twice the significand less the divisor, one place lower, plus the divisor there, is the number before
 pub one_lower : (r t p : ℕ) → 0 < p → t ≤ 2 * r → (2 * r - t + t) * 2 ^ (p - 1) ≡ r * 2 ^ p
 one_lower r t p z l =
     let e : 2 ^ p ≡ 2 * 2 ^ (p - 1) = sym (twice_half p z) in
@@ -97,31 +97,31 @@ one_lower r t p z l =
     let h : (2 * r - t + t) * 2 ^ (p - 1) ≡ 2 * r * 2 ^ (p - 1) = ap (λ (x : ℕ). x * 2 ^ (p - 1)) g in
     omega arith
 
--- a turn makes the rest less
+-- an iteration makes the rest less
 pub turn_less : (d r s k : ℕ) → 0 < d → IsTurn d r s k → s < r
 turn_less d r s k p t =
     let a = t.taken in
     let m : 0 < 2 ^ k * d = mul-pos (pow_pos k) p in
     omega arith
 
--- ---- less than the divisor is left
+-- ---- a rest below the divisor
 
 -- a rest below the divisor is the remainder
 pub left_all : (d r : ℕ) → r < d → r ≡ r % d
 left_all d r l = sym (mod-eq_of_lt l)
 
--- and its quotient has no ones
+-- the quotient of a rest below the divisor has no ones
 pub none_set : (d r : ℕ) → r < d → 0 ≡ count_ones (r / d)
 none_set d r l =
     let e : count_ones (r / d) ≡ count_ones 0 = ap count_ones (div-eq_of_lt l) in
     let z : count_ones 0 ≤ 0 = ones-le 0 0 (lit< tt) in
     omega arith
 
--- and is not odd
+-- the quotient of a rest below the divisor is not odd
 pub not_odd : (d r : ℕ) → r < d → false ≡ eqb (r / d % 2) 1
 not_odd d r l = sym (ap (λ (q : ℕ). eqb (q % 2) 1) (div-eq_of_lt l))
 
--- at one place, a lesser significand is less
+-- of two significands at the same place, the lesser is the lesser number
 pub at_place : (r t p q : ℕ) → r < t → p ≡ q → r * 2 ^ p < t * 2 ^ q
 at_place r t p q l e = subst (λ (x : ℕ). r * 2 ^ p < t * 2 ^ x) e (mul-lt-mul_of_pos_right l (pow_pos p))
 
@@ -132,10 +132,10 @@ divisor_pos precision t q l =
     let u : 0 < t = omega arith in
     mul-pos u (pow_pos q)
 
--- the turn at the lowest power
+-- an iteration with the power 2 ^ k is the last one if k is 0
 pub last_turn : (d r s k : ℕ) → k ≡ 0 → IsTurn d r s k → IsTurn d r s 0
 last_turn d r s k e t = subst (λ (x : ℕ). IsTurn d r s x) e t
 
--- after the last turn the rest is below the divisor
+-- after the last iteration the rest is below the divisor
 pub last_below : (d r s : ℕ) → IsTurn d r s 0 → s < d
 last_below d r s t = let b = t.below in omega arith

@@ -1,4 +1,4 @@
--- Quotients of significands that fit in a word, of which the dividend is at least the divisor, and below twice it.
+-- Quotients of significands that fit in a word; the dividend is at least the divisor, and below twice the divisor.
 use Rattle.std.proofs.Common.{◌≡◌, ℕ, ◌+◌, ◌-◌, ◌*◌, ◌/◌, ◌%◌, ◌^◌, ◌<◌, ◌≤◌, ap, ⊎_elim, arith}
 use Rattle.std.proofs.Math.Nat.{mod-eq_of_lt, pow-le-pow_right, mul-le-mul_right, mul-lt-mul_of_pos_right, le-div_iff_mul-le, div-lt_iff_lt-mul}
 use Rattle.std.proofs.lemmas.Nat.{pow-add, pow_pos}
@@ -7,7 +7,7 @@ use Rattle.apfloat_model.specs.rounding.RoundingToOdd.{odd_quotient}
 use Rattle.apfloat_model.proofs.general.Powers.{two_pos, twice_half, twice_power}
 use Rattle.apfloat_model.proofs.rounding.OddRoundings.{odd_at_least, odd_at_most}
 
--- a dividend that is moved up where it is less than the divisor
+-- a dividend that is moved up if it is less than the divisor
 pub record IsClose (m n precision up : ℕ) : Type 0 where
   pub some : 0 < precision
   pub dividend_fits : m < 2 ^ precision
@@ -33,7 +33,7 @@ moved_close m n precision up i =
     (omega (arith, k), omega (arith, k, t, a, b)))
     (cases_lt m n)
 
--- it stays within a word
+-- a dividend moved up in this way fits in a word
 pub moved_fits : (m n precision up : ℕ) → precision ≤ 59 → IsClose m n precision up → m * 2 ^ up % 2 ^ 64 ≡ m * 2 ^ up
 moved_fits m n precision up s i =
     let c = moved_close m n precision up i in
@@ -41,20 +41,20 @@ moved_fits m n precision up s i =
     let w : 2 ^ precision ≤ 2 ^ 59 = pow-le-pow_right two_pos s in
     mod-eq_of_lt (omega (arith, c.1, f, w))
 
--- the places of both moves
+-- moving up twice is moving up by the sum of the places
 pub moved_places : (m up places : ℕ) → m * 2 ^ up * 2 ^ places ≡ m * 2 ^ (places + up)
 moved_places m up places =
     let e : 2 ^ (places + up) ≡ 2 ^ places * 2 ^ up = pow-add 2 places up in
     let d : m * 2 ^ (places + up) ≡ m * (2 ^ places * 2 ^ up) = ap (λ (x : ℕ). m * x) e in
     omega (arith, d)
 
--- the whole quotient has one digit more than the places
+-- the integral quotient has one more digit than there are places
 pub quotient_long : (n d places : ℕ) → 0 < d → d ≤ n → 2 ^ places ≤ n * 2 ^ places / d
 quotient_long n d places p l =
     let a : d * 2 ^ places ≤ n * 2 ^ places = mul-le-mul_right (2 ^ places) l in
     (le-div_iff_mul-le p).1 (omega (arith, a))
 
--- and so has the one that is rounded to odd
+-- the quotient rounded to odd has one more digit than there are places
 pub odd_quotient_long : (s n d places : ℕ) → 0 < d → d ≤ n → s ≡ odd_quotient (n * 2 ^ places) d → 2 ^ places ≤ s
 odd_quotient_long s n d places p l e =
     let a = quotient_long n d places p l in

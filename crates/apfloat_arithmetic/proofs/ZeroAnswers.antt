@@ -17,14 +17,14 @@ use Rattle.apfloat_rounding.specs.declared.shape.Shape.{Shape}
 use Rattle.apfloat_rounding.specs.declared.unpacked.Unpacked.{Unpacked}
 use Rattle.apfloat_rounding.specs.Stored.{datum_at, datum_by}
 
--- what holds of two data holds of values that stand for them
+-- what holds of two data holds of the values that represent them
 pub by_categories : (P : Datum → Datum → Type 0) (shape : Shape) (x y : Unpacked) (first second : Category)
     → x.category ≡ first → y.category ≡ second → P (datum_by first shape x) (datum_by second shape y)
     → P (datum_at shape x) (datum_at shape y)
 by_categories P shape x y first second d e h =
     subst₂ (λ (a : Category) (b : Category). P (datum_by a shape x) (datum_by b shape y)) (sym d) (sym e) h
 
--- a product with a factor of 0
+-- a product with a factor of 0 is a zero
 pub zero_product : (format : Format) (mode : Round) (left right sign : Bool) (m n : ℕ) (value : Datum) (status : ℕ)
     → sign ≡ product_sign left right → m * n ≡ 0
     → ((parts : ℕ) → 0 < parts → IsDelivered format mode sign 0 parts value status)
@@ -51,7 +51,7 @@ pub infinity_by_number : (format : Format) (mode : Round) (left right sign : Boo
 infinity_by_number format mode b c sign n value status p e h =
     rw (ne_eqb n 0 (λ z. omega (arith, z, p))) (subst (λ (x : Bool). IsAnswer (infinite x) ok_bits value status) e h)
 
--- a number other than 0 divided by 0 is what the format has for an infinity, with DIV_BY_ZERO
+-- a nonzero number divided by 0 is the format's infinity or its replacement, with DIV_BY_ZERO
 pub number_by_zero : (format : Format) (mode : Round) (left right sign : Bool) (m : ℕ) (value : Datum) (status : ℕ)
     → 0 < m → sign ≡ product_sign left right
     → IsAnswer (infinity_of format sign) div_by_zero_bit value status
@@ -60,13 +60,13 @@ number_by_zero format mode b c sign m value status p e h =
     rw (ne_eqb m 0 (λ z. omega (arith, z, p)))
     (subst (λ (x : Bool). IsAnswer (infinity_of format x) div_by_zero_bit value status) e h)
 
--- a quotient of two numbers
+-- a quotient of two nonzero numbers is rounded
 pub some_quotient : (format : Format) (mode : Round) (left right : Bool) (m n : ℕ) (value : Datum) (status : ℕ) → 0 < n
     → IsDelivered format mode (product_sign left right) (m * 2 ^ format.scale) n value status
     → IsQuotient format mode (finite left m) (finite right n) value status
 some_quotient format mode b c m n value status p h = rw (ne_eqb n 0 (λ z. omega (arith, z, p))) h
 
--- a quotient of 0
+-- a quotient of 0 by a nonzero number is a zero
 pub zero_quotient : (format : Format) (mode : Round) (left right sign : Bool) (n : ℕ) (value : Datum) (status : ℕ)
     → 0 < n → sign ≡ product_sign left right
     → ((parts : ℕ) → 0 < parts → IsDelivered format mode sign 0 parts value status)

@@ -10,6 +10,6 @@ pub record IsInvertibleAt (s : Shape) (significand : ℕ) (exponent : ℤ) : Typ
   pub inverse_normal : s.min_exp ≤ℤ neg_ℤ exponent
   pub inverse_within : neg_ℤ exponent ≤ℤ s.max_exp
 
--- the same for an unpacked number
+-- the inverse of an unpacked number
 abbrev pub IsInvertible : Shape → Unpacked → Type 0
 IsInvertible s x = IsInvertibleAt s x.significand x.exponent

@@ -2,7 +2,7 @@
 use Rattle.std.specs.Prelude.{ℕ, ◌-◌, ◌*◌, ◌^◌, ◌<◌, ◌≤◌}
 use Rattle.apfloat_arithmetic.specs.declared.remainders.Magnitude.{Magnitude}
 
--- how many units it is
+-- the number of units
 abbrev pub units_of : Magnitude → ℕ
 units_of magnitude = magnitude.significand * 2 ^ magnitude.place
 

@@ -2,7 +2,7 @@
 use Rattle.std.specs.Prelude.{ℕ, zero, suc, Bool, if◌then◌else◌}
 use Rattle.apfloat_model.specs.formats.Datum.{Datum, finite, infinite, nan}
 
--- for a nonzero number
+-- the position of a nonzero number
 abbrev pub number_side : Bool → ℕ
 number_side negative = if negative then 1 else 3
 

@@ -1,5 +1,4 @@
--- Operations of which an operand is no nonzero number, and what each of them gives (IEEE 754-2008 6.1 to 6.3, 7.2,
--- 7.3).
+-- Operations with a special operand, and the result of each of them (IEEE 754-2008 6.1 to 6.3, 7.2, 7.3).
 use Rattle.std.specs.Prelude.{◌≡◌, ℕ, ◌<◌, true}
 use Rattle.apfloat_model.specs.declared.kinds.Category.TheVariants.{Normal}
 use Rattle.apfloat_model.specs.declared.kinds.Round.{Round}
@@ -24,14 +23,14 @@ pub record AreSpecial (s : Shape) (x y : Unpacked) : Type 0 where
   pub right : IsStored s y
   pub special : x.category ≡ Normal → y.category ≡ Normal → ⊥
 
--- three of them
+-- three stored values, not all nonzero numbers
 pub record AreSpecialTerms (s : Shape) (x y z : Unpacked) : Type 0 where
   pub left : IsStored s x
   pub right : IsStored s y
   pub addend : IsStored s z
   pub special : x.category ≡ Normal → y.category ≡ Normal → z.category ≡ Normal → ⊥
 
--- a stored value, no positive number
+-- a stored value that is not a positive number
 pub record IsSpecialRadicand (s : Shape) (x : Unpacked) : Type 0 where
   pub stored : IsStored s x
   pub special : x.category ≡ Normal → x.negative ≡ true
@@ -44,7 +43,7 @@ HasSpecials s (FusedSum x y z mode) = AreSpecialTerms s x y z
 HasSpecials s (Root x) = IsSpecialRadicand s x
 HasSpecials s (Remainder x y) = AreSpecial s x y
 
--- Of a product, a quotient and a root the rounding mode does not matter, nor does the whole quotient of a remainder.
+-- For a product, a quotient and a root the rounding mode does not matter, nor does the rounded quotient of a remainder.
 abbrev pub IsResult : Shape → Operation → Datum → ℕ → Type 0
 IsResult s (Sum x y mode) value status = IsSum (format_at s) mode (datum_at s x) (datum_at s y) value status
 IsResult s (Product x y) value status =

@@ -13,7 +13,7 @@ use apfloat_model::{Status, StatusAnd};
 use apfloat_rounding::shape::Shape;
 use apfloat_rounding::unpacked::{Unpacked, infinity_of, zero_of};
 
-/// An exact zero, with that sign if the format has that zero.
+/// The exact zero, with that sign if the format has that zero.
 #[inline(always)]
 pub fn exact_zero(shape: Shape, negative: bool) -> StatusAnd<Unpacked>
     ensures stored { IsStored shape result.value }

@@ -19,7 +19,7 @@ use apfloat_rounding::shape::Shape;
 use apfloat_rounding::unpacked::Unpacked;
 use apfloat_words::{WORD_LIMIT, divide_by_guess, divide_u128, divide_word, guess_quotient};
 
-/// By how many places a dividend is moved up to be at least the divisor.
+/// The number of places by which a dividend is moved up to be at least the divisor.
 #[inline(always)]
 fn places_up(dividend: u64, divisor: u64) -> u32
     ensures less { dividend < divisor → result ≡ 1 }
@@ -48,9 +48,9 @@ fn word_quotient_of(precision: u32, dividend: u64, divisor: u64) -> u64
     divide_by_guess(guess, dividend, divisor, places)
 }
 
-/// The quotient of two nonzero numbers whose significands fit in a word, rounded once. If the dividend is moved up by a
-/// place where it is less than the divisor, one place more than the precision always gives two digits more than the
-/// format has.
+/// The quotient of two nonzero numbers whose significands fit in a word, rounded once. If a dividend that is less than
+/// the divisor is moved up by one place, one place more than the precision always gives two more digits than the format
+/// has.
 #[inline(always)]
 fn divide_word_numbers(shape: Shape, x: Unpacked, y: Unpacked, round: Round) -> StatusAnd<Unpacked>
     requires short { shape.precision ≤ 59 }

@@ -1,8 +1,7 @@
-//! Remainders: by the quotient cut toward zero, and by the whole number nearest to the quotient. Both are exact.
-//!
-//! The rest is found by many digits of the quotient at a time (`rest_of_moved`). Where the subtractions are counted,
-//! each turn subtracts the greatest multiple of the divisor by a power of two that is not above the rest, so there is
-//! one turn for each digit of the quotient that is 1. A significand has a place, which is counted from that of the last
+//! Remainders: by the quotient truncated to an integer, and by the integer nearest to the quotient. Both are exact. The
+//! rest is computed by many digits of the quotient at a time (`rest_of_moved`). If the subtractions are counted, each
+//! iteration subtracts the greatest multiple of the divisor by a power of two that is not above the rest, so there is
+//! one iteration for each digit of the quotient that is 1. The place of a significand is counted from that of the last
 //! digit of the least number whose significand has all its digits.
 
 ghost use Rattle.std.specs.Prelude.{◌≡◌, ℕ, ◌+◌, ◌-◌, ◌*◌, ◌/◌, ◌%◌, ◌^◌, ◌<◌, ◌≤◌, ◌⊎◌, false, eqb, count_ones, cond};
@@ -59,7 +58,7 @@ fn raised(precision: u32, magnitude: Magnitude, least: u32) -> Magnitude
     }
 }
 
-/// The rest after subtracting the greatest multiple of the divisor by a power of two that is not above it.
+/// The rest after subtracting the greatest product of the divisor and a power of two that is not above it.
 #[inline(always)]
 fn less_multiple(rest: Magnitude, divisor: Magnitude) -> Magnitude
     requires narrow { rest.significand < 2 ^ 126 }
@@ -85,7 +84,7 @@ fn less_multiple(rest: Magnitude, divisor: Magnitude) -> Magnitude
     }
 }
 
-/// The rest of a number, after how many subtractions.
+/// The rest of a number, and the number of subtractions.
 #[derive(Clone, Copy, Debug)]
 struct Rest {
     magnitude: Magnitude,
@@ -129,7 +128,7 @@ fn rest_by(precision: u32, x: Magnitude, y: Magnitude) -> Rest
     }
 }
 
-/// The rest of a number moved up, by the fastest division that has room.
+/// The rest of a number moved up, by the fastest division that can hold it.
 #[inline(always)]
 fn rest_of_moved(precision: u32, dividend: u128, divisor: u128, places: u32) -> MovedRest
     requires some { 0 < precision }
@@ -147,14 +146,14 @@ fn rest_of_moved(precision: u32, dividend: u128, divisor: u128, places: u32) -> 
     }
 }
 
-/// The rest of a number, and whether the whole quotient is odd.
+/// The rest of a number, and whether the integral quotient is odd.
 #[derive(Clone, Copy, Debug)]
 struct Remaining {
     magnitude: Magnitude,
     odd: bool,
 }
 
-/// The rest of `x` by a divisor, and whether the whole quotient is odd.
+/// The rest of `x` by a divisor, and whether the integral quotient is odd.
 fn remaining_by(precision: u32, x: Magnitude, y: Magnitude) -> Remaining
     requires some { 0 < precision }
     requires precise { precision ≤ 125 }
@@ -181,7 +180,7 @@ fn remaining_by(precision: u32, x: Magnitude, y: Magnitude) -> Remaining
     }
 }
 
-/// Whether the upper neighbour is the nearest, ties to even.
+/// Whether the multiple of the divisor above is the nearest, ties to even.
 #[inline(always)]
 fn is_upper_nearest(below_by: u128, above_by: u128, odd: bool) -> bool
     ensures { result ≡ takes_above Round.NearestTiesToEven false below_by above_by odd }
@@ -196,7 +195,7 @@ struct Nearest {
     past: bool,
 }
 
-/// How far the nearest multiple of the divisor is from `x`, and whether it is above.
+/// How far the nearest multiple of the divisor is from `x`, and whether it is above `x`.
 fn nearest_by(precision: u32, x: Magnitude, y: Magnitude) -> Nearest
     requires some { 0 < precision }
     requires precise { precision ≤ 125 }
@@ -213,7 +212,7 @@ fn nearest_by(precision: u32, x: Magnitude, y: Magnitude) -> Nearest
 {
     let rest = remaining_by(precision, x, y);
     let gap = y.place - rest.magnitude.place;
-    // at least two places below the divisor means less than half of it
+    // a number at least two places below the divisor is less than half of it
     if gap > 1 {
         return Nearest {
             magnitude: rest.magnitude,
@@ -257,7 +256,7 @@ fn magnitude_of(shape: Shape, x: Unpacked) -> Magnitude
     }
 }
 
-/// The same magnitude in quanta, if it is a whole number of them.
+/// The same magnitude in quanta, if it is an integral number of them.
 #[inline(always)]
 fn in_quanta(precision: u32, magnitude: Magnitude) -> Magnitude
     requires some { 0 < precision }
@@ -282,7 +281,7 @@ fn in_quanta(precision: u32, magnitude: Magnitude) -> Magnitude
     }
 }
 
-/// The rest of `x` after the quotient cut toward zero, in quanta.
+/// The rest of `x` after the quotient truncated to an integer, in quanta.
 fn truncated_rest(shape: Shape, x: Unpacked, y: Unpacked) -> Magnitude
     requires x { IsNormal shape x }
     requires y { IsNormal shape y }
@@ -298,7 +297,7 @@ fn truncated_rest(shape: Shape, x: Unpacked, y: Unpacked) -> Magnitude
     in_quanta(shape.precision, rest.magnitude)
 }
 
-/// The same, and the count of subtractions.
+/// The rest of `x` after the quotient truncated to an integer, in quanta, and the number of subtractions.
 fn counted_rest(shape: Shape, x: Unpacked, y: Unpacked) -> Rest
     requires x { IsNormal shape x }
     requires y { IsNormal shape y }
@@ -319,7 +318,7 @@ fn counted_rest(shape: Shape, x: Unpacked, y: Unpacked) -> Rest
     }
 }
 
-/// How far the nearest multiple of `y` is from `x`, in quanta, and whether it is above.
+/// How far the nearest multiple of `y` is from `x`, in quanta, and whether it is above `x`.
 fn nearest_rest(shape: Shape, x: Unpacked, y: Unpacked) -> Nearest
     requires x { IsNormal shape x }
     requires y { IsNormal shape y }
@@ -340,16 +339,16 @@ fn nearest_rest(shape: Shape, x: Unpacked, y: Unpacked) -> Nearest
     }
 }
 
-/// A result, and the count of subtractions that led to it.
+/// A remainder, and the number of subtractions that led to it.
 #[derive(Clone, Copy, Debug)]
 pub struct Remainder {
     /// The remainder, with its status.
     pub answer: StatusAnd<Unpacked>,
-    /// How many multiples of the divisor by a power of two were subtracted.
+    /// How many products of the divisor and a power of two were subtracted.
     pub steps: u32,
 }
 
-/// The remainder of numbers by the quotient cut toward zero, which is exact.
+/// The remainder of numbers by the quotient truncated to an integer, which is exact.
 fn truncated_number(shape: Shape, x: Unpacked, y: Unpacked) -> StatusAnd<Unpacked>
     requires x { IsNormal shape x }
     requires y { IsNormal shape y }
@@ -362,7 +361,7 @@ fn truncated_number(shape: Shape, x: Unpacked, y: Unpacked) -> StatusAnd<Unpacke
     Status::OK.and(from_quanta(shape, x.negative, rest.significand, rest.place))
 }
 
-/// The same, and the count of subtractions.
+/// The remainder of numbers by the truncated quotient, and the number of subtractions.
 fn counted_number(shape: Shape, x: Unpacked, y: Unpacked) -> Remainder
     requires x { IsNormal shape x }
     requires y { IsNormal shape y }
@@ -385,7 +384,7 @@ fn counted_number(shape: Shape, x: Unpacked, y: Unpacked) -> Remainder
     }
 }
 
-/// The remainder of numbers by the whole number nearest to the quotient, which is exact.
+/// The remainder of numbers by the integer nearest to the quotient, which is exact.
 fn nearest_number(shape: Shape, x: Unpacked, y: Unpacked) -> StatusAnd<Unpacked>
     requires x { IsNormal shape x }
     requires y { IsNormal shape y }
@@ -403,7 +402,7 @@ fn nearest_number(shape: Shape, x: Unpacked, y: Unpacked) -> StatusAnd<Unpacked>
     ))
 }
 
-/// The remainder by the quotient cut toward zero.
+/// The remainder by the quotient truncated to an integer.
 pub fn truncated_remainder(shape: Shape, x: Unpacked, y: Unpacked) -> StatusAnd<Unpacked>
     requires x { IsStored shape x }
     requires y { IsStored shape y }
@@ -418,7 +417,7 @@ pub fn truncated_remainder(shape: Shape, x: Unpacked, y: Unpacked) -> StatusAnd<
     }
 }
 
-/// The same, and the count of subtractions.
+/// The remainder by the quotient truncated to an integer, and the number of subtractions.
 ///
 /// If an operand is a NaN or infinite, or the divisor is zero, nothing is subtracted.
 pub fn counted_remainder(shape: Shape, x: Unpacked, y: Unpacked) -> Remainder
@@ -442,7 +441,7 @@ pub fn counted_remainder(shape: Shape, x: Unpacked, y: Unpacked) -> Remainder
     }
 }
 
-/// The remainder by the whole number nearest to the quotient, ties to even (IEEE 754-2008 5.3.1).
+/// The remainder by the integer nearest to the quotient, ties to even (IEEE 754-2008 5.3.1).
 pub fn nearest_remainder(shape: Shape, x: Unpacked, y: Unpacked) -> StatusAnd<Unpacked>
     requires x { IsStored shape x }
     requires y { IsStored shape y }

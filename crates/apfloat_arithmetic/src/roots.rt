@@ -21,11 +21,11 @@ struct Halves {
     odd: u32,
 }
 
-/// Half of the even number by which an exponent is raised, so that it is not negative: exponents of numbers are at most
+/// Half of the even number that is added to an exponent so that it is not negative: exponents of numbers are at most
 /// this far from 0.
 const HALF_RAISE: ExpInt = 2097152;
 
-/// Half of an exponent. It is raised by an even number first, so that it is not negative.
+/// Half of an exponent. An even number is added first, so that the exponent is not negative.
 #[inline(always)]
 fn halves_of(exponent: ExpInt) -> Halves
     requires { IsWithin number_bound exponent }
@@ -40,8 +40,8 @@ fn halves_of(exponent: ExpInt) -> Halves
     }
 }
 
-/// The root of a positive number, rounded once. Its significand is followed by as many zeros as it takes for a whole
-/// root with all digits of the format, and for an even exponent.
+/// The root of a positive number, rounded once. The significand is followed by as many zeros as an integral root with
+/// all digits of the format and an even exponent require.
 #[inline(always)]
 fn root_of_number(shape: Shape, x: Unpacked, round: Round) -> StatusAnd<Unpacked>
     requires { IsNormal shape x }

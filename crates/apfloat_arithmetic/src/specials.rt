@@ -1,8 +1,6 @@
-//! Special operands: what each operation gives if not all its operands are nonzero numbers (IEEE 754-2008 6.1 to 6.3,
-//! 7.2 and 7.3).
-//!
-//! Each function has a row for every category of the left operand, and in it one for every category of the right one.
-//! The mode matters for the sign of a sum of zeros, and where a fused sum is a product alone.
+//! Special operands: the result of each operation if not all its operands are nonzero numbers (IEEE 754-2008 6.1 to
+//! 6.3, 7.2 and 7.3). Each function has a row for every category of the left operand, and in it one for every category
+//! of the right one. The mode matters for the sign of a sum of zeros, and if a fused sum reduces to a product.
 
 ghost use Rattle.std.specs.Prelude.{◌≡◌, ℕ, ◌*◌, ◌<◌, ◌⊎◌, true, Bool};
 ghost use Rattle.apfloat_model.specs.declared.kinds.Category.{Category};
@@ -43,7 +41,7 @@ pub(crate) enum Operation {
     FusedSum(Unpacked, Unpacked, Unpacked, Round),
     /// The square root of a value.
     Root(Unpacked),
-    /// The remainder of the first value by the second, whatever whole number the quotient is taken to.
+    /// The remainder of the first value by the second, whichever way the quotient is rounded to an integer.
     Remainder(Unpacked, Unpacked),
 }
 
@@ -89,7 +87,7 @@ fn add_to_zero(shape: Shape, x: Unpacked, y: Unpacked, round: Round) -> StatusAn
     }
 }
 
-/// The sum of a nonzero number and a value that is none.
+/// The sum of a nonzero number and a special value.
 fn add_to_number(shape: Shape, x: Unpacked, y: Unpacked, round: Round) -> StatusAnd<Unpacked>
     requires normal { x.category ≡ Category.Normal }
     requires special { y.category ≡ Category.Normal → ⊥ }
@@ -220,7 +218,7 @@ fn add_to_zero_product(
     }
 }
 
-/// The product of two nonzero numbers, plus a value that is none: a zero adds nothing.
+/// The product of two nonzero numbers, plus a special value: a zero adds nothing.
 fn add_to_number_product(
     shape: Shape,
     x: Unpacked,
@@ -306,7 +304,7 @@ fn multiply_add_specials(
     }
 }
 
-/// The root of a special operand: of any value but a positive number.
+/// The root of a special operand: any value but a positive number.
 fn root_specials(shape: Shape, x: Unpacked) -> StatusAnd<Unpacked>
     requires stored { IsStored shape x }
     requires special { x.category ≡ Category.Normal → x.negative ≡ true }
@@ -347,7 +345,7 @@ fn remainder_of_finite(shape: Shape, x: Unpacked, y: Unpacked) -> StatusAnd<Unpa
     }
 }
 
-/// A remainder with special operands: the whole quotient does not matter.
+/// A remainder with special operands: the rounding of the quotient does not matter.
 fn remainder_specials(shape: Shape, x: Unpacked, y: Unpacked) -> StatusAnd<Unpacked>
     requires x_stored { IsStored shape x }
     requires y_stored { IsStored shape y }
@@ -370,7 +368,7 @@ fn remainder_specials(shape: Shape, x: Unpacked, y: Unpacked) -> StatusAnd<Unpac
     }
 }
 
-/// The result of an operation with special operands. Kept out of line, so that only the way of numbers is inlined.
+/// The result of an operation with special operands. Kept out of line, so that only the path for numbers is inlined.
 #[cold]
 #[inline(never)]
 fn result_of(shape: Shape, operation: Operation) -> StatusAnd<Unpacked>
@@ -389,7 +387,7 @@ fn result_of(shape: Shape, operation: Operation) -> StatusAnd<Unpacked>
 }
 
 /// The result of an operation with special operands, rebuilt from its fields. The shape whose address is passed on is
-/// made here: made where numbers are computed with, it would be zeroed for each of those too.
+/// created here: created in the function that computes with numbers, it would be initialized for those too.
 #[inline(always)]
 pub(crate) fn special(shape: Shape, operation: Operation) -> StatusAnd<Unpacked>
     requires { HasSpecials shape operation }

@@ -57,7 +57,7 @@ pub(crate) fn sign_of_zero(round: Round, left: bool, right: bool) -> bool
     }
 }
 
-/// The sign of a total that was rounded to odd; `of_zero` if it is zero, which it is only exactly.
+/// The sign of a total that was rounded to odd; `of_zero` if it is zero, in which case it is exact.
 #[inline(always)]
 fn sign_of_odd_total(significand: u128, negative: bool, of_zero: bool) -> bool
     ensures zero { significand ≡ 0 → result ≡ of_zero }
@@ -193,7 +193,7 @@ pub fn add(shape: Shape, x: Unpacked, y: Unpacked, round: Round) -> StatusAnd<Un
     }
 }
 
-/// What is added when a value is subtracted: a NaN is not negated.
+/// The term that is added when a value is subtracted: a NaN is not negated.
 #[inline(always)]
 fn added(shape: Shape, y: Unpacked) -> Unpacked
     requires { IsStored shape y }

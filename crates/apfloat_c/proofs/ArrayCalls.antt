@@ -1,4 +1,4 @@
--- What a call on arrays that is made knows of its arguments, and what it leaves.
+-- What is known about the arguments of a call on arrays that is not refused, and what it leaves.
 use Rattle.std.proofs.Common.{◌≡◌, ℕ, ◌+◌, ◌*◌, ◌/◌, ◌%◌, ◌≤◌, ◌⊎◌, Bool, true, false, List, ◌++◌, length, drop, Option}
 use Rattle.std.proofs.Common.{Some, None, Result, Ok, Err, refl, sym, ◌∙◌, subst, inl, inr, arith}
 use Rattle.std.specs.Prelude.{◌&&◌, ◌==◌, if◌then◌else◌}
@@ -30,7 +30,7 @@ use Rattle.apfloat_c.specs.Arrays.{AreConverted, AreElements, AreMapped, IsConve
 
 -- ---- lengths that fit
 
--- the bytes given are those of whole values, and there is room for the results
+-- the given bytes are an integral number of values, and there is room for the results
 pub record AreRoomy (source target given room : ℕ) : Type 0 where
   pub whole : given ≡ given / source * source
   pub enough : given / source * target ≤ room
@@ -46,7 +46,7 @@ roomy source target given room fits =
     let wide : given / source * target ≤ room / target * target = mul-le-mul_right target few in
     record { whole = omega arith; enough = omega arith }
 
--- ---- what is known
+-- ---- calls that are not refused
 
 if_fitting_ok : {A : Type 0} (fits : Bool) (call known : A) → if_fitting fits call ≡ Ok known
     → (fits ≡ true) × (call ≡ known)
@@ -64,7 +64,7 @@ fits_of (Ok wanted) given room conversion e =
     (λ (c : ArrayConversion). lengths_fit (array_widths c).source (array_widths c).target given room ≡ true)
     both.1 both.0
 
--- the lengths of a conversion that is made fit
+-- the lengths of a conversion that is not refused fit
 pub conversion_fits : (source : Option FlaggedKind) (mode : Option ConversionMode) (target : Option FlaggedKind)
     (given room : ℕ) (conversion : ArrayConversion)
     → known_array_conversion source mode target given room ≡ Ok conversion
@@ -75,7 +75,7 @@ conversion_fits (Some from) (Some rounding) None given room conversion e = absur
 conversion_fits (Some from) (Some rounding) (Some to) given room conversion e =
     roomy _ _ given room (fits_of (formats_of from to rounding) given room conversion e)
 
--- an operation that is made
+-- an operation that is not refused
 pub record IsKnownMap (kind : Option FlaggedKind) (mode : Option Round) (first second third room : ℕ)
     (map : MapCall) : Type 0 where
   pub kind_is : kind ≡ Some map.kind
@@ -126,9 +126,9 @@ map_is_known (Some k) (Some m) None first second third room map e = absurd (cc)
 map_is_known (Some k) (Some m) (Some o) first second third room map e =
     map_if k m o first second third room (has_element_operation k o) map refl e
 
--- ---- what is left
+-- ---- results
 
--- the converted values at the front, and after them the bytes that were there
+-- the converted values are at the front, and the bytes after them are as before
 pub are_converted : (conversion : ArrayConversion) (count : ℕ) (given old front : List ℕ) (counts : Counts)
     → length front ≡ count * (array_widths conversion).target
     → IsBlock
@@ -153,7 +153,7 @@ are_converted conversion count given old front counts size block =
       answer_is = refl;
     }
 
--- the same of operations
+-- the results of an operation are at the front, and the bytes after them are as before
 pub are_mapped : (map : MapCall) (count : ℕ) (xs ys zs old front : List ℕ) (counted : ElementCounts)
     → length front ≡ count * bytes_in map.kind
     → AreElements map xs ys zs count front counted
@@ -168,7 +168,7 @@ are_mapped map count xs ys zs old front counted size elements =
       answer_is = refl;
     }
 
--- and so of the array
+-- a conversion that is not refused leaves the array converted
 pub converted_array : (known : Result ArrayConversion ℕ) (conversion : ArrayConversion) (given old new : List ℕ)
     (before after : ArrayAnswer) → known ≡ Ok conversion
     → AreConverted conversion (length given / (array_widths conversion).source) given old new after
@@ -197,7 +197,7 @@ refused_map known error xs ys zs old answer is =
     subst (λ (k : Result MapCall ℕ). IsMappedArray k xs ys zs old old answer answer error) (sym is)
     (refl, refl, refl)
 
--- what is left of the results, where the code has the widths in a variable
+-- a conversion with the widths in a variable leaves the array converted
 pub conversion_left : (known : Result ArrayConversion ℕ) (conversion : ArrayConversion) (widths : Widths)
     (given old front : List ℕ) (counts : Counts) (before after : ArrayAnswer)
     → widths ≡ array_widths conversion → known ≡ Ok conversion
@@ -241,7 +241,7 @@ map_left known map width xs ys zs old front counted before after width_is known_
     (are_mapped map (length xs / bytes_in map.kind) xs ys zs old front counted long made)) in
     (subst Left (sym width_is) at_width) size elements
 
--- ---- the same widths, in a variable of the code
+-- ---- widths in a variable
 
 pub conversion_room : (source : Option FlaggedKind) (mode : Option ConversionMode) (target : Option FlaggedKind)
     (given room : ℕ) (conversion : ArrayConversion) (widths : Widths) → widths ≡ array_widths conversion
@@ -257,13 +257,13 @@ pub map_room : (kind : Option FlaggedKind) (mode : Option Round) (first second t
 map_room kind mode first second third room map width width_is known =
     subst (λ (w : ℕ). AreRoomy w w first room) (sym width_is) known.roomy
 
--- as many bytes of the first operands as there are elements
+-- the bytes of the first operands are an integral number of elements
 pub first_whole : (first width bytes room : ℕ) → width ≡ bytes → AreRoomy width width first room
     → first ≡ first / width * bytes
 first_whole first width bytes room width_is roomy =
     subst (λ (w : ℕ). first ≡ first / width * w) width_is roomy.whole
 
--- and of the others, or none
+-- the bytes of another operand are none, or as many as those of the first operands
 pub other_whole : (other first whole : ℕ) → (other ≡ 0) ⊎ (other ≡ first) → first ≡ whole
     → (other ≡ 0) ⊎ (other ≡ whole)
 other_whole other first whole (inl none) is = inl none

@@ -1,4 +1,4 @@
--- A call on arrays leaves one code, the same bytes and the same counts.
+-- A call on arrays leaves one code, and determines the bytes and the counts.
 use Rattle.std.proofs.Common.{◌≡◌, ℕ, ◌*◌, ◌≤◌, Bool, List, ◌++◌, length, take, drop, Result, Ok, Err, sym, ap, ◌∙◌}
 use Rattle.std.proofs.Common.{arith}
 use Rattle.std.specs.Prelude.{◌/◌, min}
@@ -24,13 +24,13 @@ use Rattle.apfloat_c.proofs.ExportsOnce.{format_law, kind_law, kind_once}
 
 -- ---- lists
 
--- the first bytes of lists of one length are as many
+-- the first bytes of lists of equal length have equal lengths
 same_front_size : (n : ℕ) (bytes other : List ℕ) → length bytes ≡ length other
     → length (take n bytes) ≡ length (take n other)
 same_front_size n bytes other size =
     length-take n bytes ∙ ap (λ (k : ℕ). min n k) size ∙ sym (length-take n other)
 
--- lists with the same bytes before and after a place are one
+-- lists with the same bytes before and after a place are equal
 same_whole : (n : ℕ) (bytes other : List ℕ) → take n (take n bytes) ≡ take n (take n other)
     → drop n bytes ≡ drop n other → bytes ≡ other
 same_whole n bytes other front rest =

@@ -12,7 +12,7 @@ use Rattle.apfloat_c.specs.declared.array_data.ElementCounts.{ElementCounts}
 use Rattle.apfloat_c.specs.ArrayCalls.{bytes_in}
 use Rattle.apfloat_c.specs.Arrays.{AreElements, IsElement, IsElementAt, became_nan, counts_of, raised, with_element}
 
--- one more element is counted
+-- counting one more element counts the list with that element
 counts_push : (elements : List Element) (element : Element)
     → with_element (counts_of elements) element ≡ counts_of (elements ++ element ∷ [])
 counts_push elements element =
@@ -25,7 +25,7 @@ counts_push elements element =
     let nans = count_push became_nan elements element in
     cc
 
--- and made in its place
+-- one more element is computed in its place
 pub elements_more : (map : MapCall) (xs ys zs : List ℕ) (width index count : ℕ) (x y z : ℕ) (bytes new : List ℕ)
     (counted : ElementCounts) (element : Element)
     → width ≡ bytes_in map.kind → index < count → length bytes ≡ count * bytes_in map.kind

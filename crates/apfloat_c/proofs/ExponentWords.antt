@@ -25,7 +25,7 @@ past_all constants law =
     omega (arith, ints, p.precision_low, p.min_exp_high, p.max_exp_low) in
     omega (arith, ints, p.precision_high, p.min_exp_low, p.max_exp_high, scale, span)
 
--- the exponent of the fraction of a finite value fits 32 bits
+-- the exponent of the fraction of a finite value fits in 32 bits
 number_fits : (constants : Constants) → IsLawful constants
     → (negative : Bool) (n : ℕ) (none : Bool) (value : Datum) (e : ℤ)
     → eqb n 0 ≡ none → n ≤ largest (format_with constants)
@@ -41,7 +41,7 @@ number_fits constants law b (suc n) false value e test within h =
     let past = past_all constants law in
     omega (arith, ints, inside.low, inside.high, past)
 
--- the number of the exponent of a value of the format
+-- the exponent of the fraction of a value of the format fits in 32 bits
 pub frexp_fits : (constants : Constants) → IsLawful constants → (x value : Datum) (e : ℤ)
     → IsMember (format_with constants) x → IsFrexp (format_with constants) x value e → FitsSigned w32 e
 frexp_fits constants law (nan b s) value e member h = subst (λ (z : ℤ). FitsSigned w32 z) (sym h.1)

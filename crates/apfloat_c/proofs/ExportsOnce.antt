@@ -1,4 +1,4 @@
--- What an export leaves is determined by its arguments: one code, and one answer.
+-- What an export leaves is determined by its arguments: one code, and one result.
 use Rattle.std.proofs.Common.{◌≡◌, ℕ, ◌^◌, ◌<◌, ◌≤◌, Bool, Option, Some, None, Ok, refl, sym, ap, ◌∙◌, subst, ⊎_elim}
 use Rattle.std.proofs.Common.{true, arith, lit<}
 use Rattle.std.specs.Int.{w128, cast_unsigned}
@@ -48,13 +48,13 @@ use Rattle.apfloat_c.specs.Answers.{IsKindAnswer, IsConverted, IsConvertedInto, 
 use Rattle.apfloat_c.specs.Answers.{IsReturned, IsSigned, IsTypeAnswer, IsUnsigned, IsUntold, IsValue, IsWritten}
 use Rattle.apfloat_c.specs.Answers.{one_if, whole}
 
--- at most one answer
+-- at most one result
 abbrev pub OnceAnswer : (Answer → Type 0) → Type 0
 OnceAnswer Holds = (first second : Answer) → Holds first → Holds second → SameAnswer first second
 
--- ---- answers without a value
+-- ---- results without a value
 
--- a relation with one result leaves one answer: an integer
+-- if a relation has one result, it leaves one unsigned integer
 unsigned_once : (Holds : StatusAnd ℕ → Bool → Type 0) → DeterminesBoth Holds → OnceAnswer (IsUnsigned Holds)
 unsigned_once Holds once a b x y =
     let same = once x.given y.given x.is_exact y.is_exact x.holds y.holds in
@@ -64,7 +64,7 @@ unsigned_once Holds once a b x y =
       number = x.number_is ∙ ap one_if same.1 ∙ sym y.number_is;
     }
 
--- one with a sign
+-- if a relation has one result, it leaves one signed integer
 signed_once : (Holds : StatusAnd ℤ → Bool → Type 0) → DeterminesBoth Holds → OnceAnswer (IsSigned Holds)
 signed_once Holds once a b x y =
     let same = once x.given y.given x.is_exact y.is_exact x.holds y.holds in
@@ -74,7 +74,7 @@ signed_once Holds once a b x y =
       number = x.number_is ∙ ap one_if same.1 ∙ sym y.number_is;
     }
 
--- a number alone
+-- if a relation has one number, it leaves one result
 number_once : (Holds : ℤ → Type 0) → Determines Holds → OnceAnswer (IsNumber Holds)
 number_once Holds once a b x y = record {
   bits = x.bits_are ∙ sym y.bits_are;
@@ -82,7 +82,7 @@ number_once Holds once a b x y = record {
   number = once a.number b.number x.holds y.holds;
 }
 
--- the answer that is a given number is one
+-- a result that is a given number is unique
 given_once : (given : ℤ) → OnceAnswer (IsNumber (λ (n : ℤ). n ≡ given))
 given_once given = number_once (λ (n : ℤ). n ≡ given) (λ m n h k. h ∙ sym k)
 
@@ -102,27 +102,27 @@ module _ {A : Type 0} (of_type : Relations A) (inverts : A → Option A → Type
         number = x.number_is ∙ number_is ∙ sym y.number_is;
       }
 
-  -- a value with its status
+  -- if a relation has one value with one status, it leaves one result
   pub value_once : (Holds : StatusAnd A → Type 0) → Determines Holds → OnceAnswer (IsValue of_type Holds)
   value_once Holds determines a b x y =
       let same = determines x.given y.given x.holds y.holds in
       written_once x.given y.given _ _ a b same refl x.is_written y.is_written
 
-  -- a value alone
+  -- if a relation has one value, it leaves one result without flags
   untold_once : (Holds : A → Type 0) → Determines Holds → OnceAnswer (IsUntold of_type Holds)
   untold_once Holds determines a b x y =
       let same = determines x.given.value y.given.value x.holds y.holds in
       let given = same_answer x.given y.given same (x.no_flags ∙ sym y.no_flags) in
       written_once x.given y.given _ _ a b given refl x.is_written y.is_written
 
-  -- a fraction and its exponent
+  -- if a relation has one fraction and one exponent, it leaves one result
   fraction_once : (Holds : A → ℤ → Type 0) → DeterminesBoth Holds → OnceAnswer (IsFractionOf of_type Holds)
   fraction_once Holds determines a b x y =
       let same = determines x.given.value y.given.value x.exponent y.exponent x.holds y.holds in
       let given = same_answer x.given y.given same.0 (x.no_flags ∙ sym y.no_flags) in
       written_once x.given y.given x.exponent y.exponent a b given same.1 x.is_written y.is_written
 
-  -- a call on values of a type, each of which has one square root, has one answer
+  -- if each value of a type has one square root, a call on its values has one result
   type_once : ((x : A) → Determines (of_type.takes_root x mode)) → (call : ExportedCall)
       → OnceAnswer (IsTypeAnswer of_type mode call)
   type_once root (OfTwo arithmetic x y) =
@@ -155,18 +155,18 @@ abbrev pub KindHasLaw : Kind → Type 0
 KindHasLaw (of_format c) = HasLaw c
 KindHasLaw of_pairs = ⊤
 
--- each built-in format is one
+-- each built-in format is lawful
 pub built_in_law : (format : BuiltInFormat) → HasLaw (constants_in format)
 built_in_law format =
     let known = known_format format in
     record { law = known.lawful; wide = ltb-true _ _ known.wide }
 
--- with any flags
+-- a lawful format with other flags is lawful
 other_flags_law : (c : Constants) (tiny ieee : Bool) → HasLaw c
     → HasLaw (record c { tiny_before_rounding = tiny; ieee_flags = ieee })
 other_flags_law c tiny ieee has = record { law = other_flags c tiny ieee has.law; wide = has.wide }
 
--- so each format of the codes is one
+-- each format of the codes is lawful
 pub format_law : (format : FlaggedFormat) → HasLaw (flagged_constants format)
 format_law (BuiltIn format) = built_in_law format
 format_law (AfterRounding format) =
@@ -188,7 +188,7 @@ module _ (constants : Constants) (has : HasLaw constants) (mode : Round) where
       determined (format_with constants) (layout_with constants) constants.precision constants.bits mode
       (scale_some constants has.law) (lawful_interchange constants has.law)
 
-  -- a value in another format
+  -- a value converted to another format has one result
   converted_once : (Holds : Datum → ℕ → Bool → Type 0) → OnceWith Holds
       → OnceAnswer (IsConvertedTo constants Holds)
   converted_once Holds determines a b x y =
@@ -198,14 +198,14 @@ module _ (constants : Constants) (has : HasLaw constants) (mode : Round) where
       constants.bits has.wide format_determined x.given y.given _ _ a b
       (same_answer x.given y.given same.0 same.1) (ap one_if same.2) x.is_written y.is_written
 
--- a conversion to a known kind has at most one answer, and none to pairs
+-- a conversion to a known kind has at most one result, and none to pairs
 converted_into_once : (constants : Constants) (mode : Round) (x : Datum) (target : Kind) → KindHasLaw target
     → OnceAnswer (IsConvertedInto constants mode x target)
 converted_into_once constants mode x (of_format d) has =
     converted_once d has mode _ (conversion_once (format_with constants) (format_with d) mode x)
 converted_into_once constants mode x of_pairs has = λ a b h k. absurd h
 
--- and so has one whose target may be an unknown code
+-- a conversion to the kind of a code, which may be unknown, has at most one result
 conversion_answer_once : (constants : Constants) (mode : Round) (x : Datum) (target : Option FlaggedKind)
     → OnceAnswer (IsConverted constants mode x target)
 conversion_answer_once constants mode x None = λ a b h k. absurd h
@@ -214,13 +214,13 @@ conversion_answer_once constants mode x (Some target) =
 
 -- ---- of pairs of doubles
 
--- the square root of a pair is one
+-- a pair has one square root
 pair_root_once : (mode : Round) (x : Pair) → OncePair (IsPairRoot mode x)
 pair_root_once mode x = wide_answer_once (IsRoot wide mode) (root_once wide mode) x
 
 -- ---- one reply
 
--- a call on values of any kind has one answer
+-- a call on values of any kind has one result
 pub kind_once : (kind : Kind) → KindHasLaw kind → (mode : Round) (call : ExportedCall)
     → OnceAnswer (IsKindAnswer kind mode call)
 kind_once (of_format c) has mode (FusedSum x y z) =
@@ -235,7 +235,7 @@ kind_once of_pairs has mode call =
     type_once in_pairs IsPairExactInverse mode 106 128 (lit< tt) (pairs_determined mode)
     (λ x. gives_once _ (pair_root_once mode x)) call
 
--- an answer that is left as it was
+-- two results that are left as before are the same
 pub unchanged : (old first second : Answer) → first ≡ old → second ≡ old → SameAnswer first second
 unchanged old a b a_is b_is =
     let same = a_is ∙ sym b_is in
@@ -245,7 +245,7 @@ unchanged old a b a_is b_is =
       number = ap (λ (x : Answer). x.number) same;
     }
 
--- and one code
+-- a call that may have a fault leaves one code and one result
 without_once : (fault : Option ℕ) (known : FlaggedKind) (mode : Round) (call : ExportedCall)
     (old first second : Answer) (code other : ℕ)
     → IsReturned (without fault (record { kind = flagged_kind_of known; mode = mode; call = call })) old first code
@@ -256,7 +256,7 @@ without_once None known mode call old a b code other x y =
 without_once (Some fault) known mode call old a b code other x y =
     (x.0 ∙ sym y.0, unchanged old a b x.1 y.1)
 
--- two replies to the same arguments are one
+-- two replies to the same arguments are the same
 pub reply_once : (format : Option FlaggedKind) (mode : Option Round) (call : ExportedCall) (old first second : Answer)
     (code other : ℕ)
     → IsReturned (known_call format mode call) old first code
@@ -267,9 +267,9 @@ reply_once (Some known) None call old a b code other x y = (x.0 ∙ sym y.0, unc
 reply_once (Some known) (Some mode) call old a b code other x y =
     without_once (fault_in (flagged_kind_of known) call) known mode call old a b code other x y
 
--- ---- answers as C holds them, whose halves have 64 bits
+-- ---- results as they are stored for C, whose halves have 64 bits
 
--- two pairs of halves that make one number have the same upper half
+-- two pairs of halves of the same number have the same upper half
 high_once : (first second : Halves) → first.low < 2 ^ 64 → second.low < 2 ^ 64 → whole first ≡ whole second
     → first.high ≡ second.high
 high_once a b a_fits b_fits same =
@@ -282,7 +282,7 @@ high_once a b a_fits b_fits same =
     (cases_lt b.high a.high))
     (cases_lt a.high b.high)
 
--- and then the same lower half
+-- two pairs of halves of the same number, with the same upper half, have the same lower half
 low_once : (first second : Halves) → first.high ≡ second.high → whole first ≡ whole second
     → first.low ≡ second.low
 low_once a b high same = omega arith
@@ -293,14 +293,14 @@ halves_of a b low high =
     ap (λ (n : ℕ). record { low = n; high = a.high }) low
     ∙ ap (λ (n : ℕ). record { low = b.low; high = n }) high
 
--- so both halves are the same
+-- two pairs of halves of the same number are equal
 halves_once : (first second : Halves) → first.low < 2 ^ 64 → second.low < 2 ^ 64 → whole first ≡ whole second
     → first ≡ second
 halves_once a b a_fits b_fits same =
     let high = high_once a b a_fits b_fits same in
     halves_of a b (low_once a b high same) high
 
--- two answers as C holds them are equal where they say the same
+-- two results that are stored for C are equal if they represent the same result
 pub same_bytes : (first second : Answer) → first.bits.low < 2 ^ 64 → second.bits.low < 2 ^ 64
     → SameAnswer first second → first ≡ second
 same_bytes a b a_fits b_fits same =

@@ -27,13 +27,13 @@ IsAllAscii text = every is_ascii text ≡ true
 
 -- ---- characters
 
--- a character up to one of ASCII
+-- a character that is at most an ASCII character is ASCII
 up_to : (c last : ℕ) → last < 128 → leb c last ≡ true → is_ascii c ≡ true
 up_to c last small h =
     let most : c ≤ last = leb-true c last h in
     lt-ltb c 128 (omega (arith, small, most))
 
--- one between two of ASCII
+-- a character up to an ASCII character, and not below another, is ASCII
 between : (first c last : ℕ) → last < 128 → (leb first c && leb c last) ≡ true → is_ascii c ≡ true
 between first c last small h = up_to c last small (and_parts (leb first c) (leb c last) h).1
 
@@ -60,7 +60,7 @@ digit_ascii Sixteen c h = hexadecimal_ascii c h
 digit_ascii Eight c h = between 48 c 55 (omega arith) h
 digit_ascii Ten c h = decimal_ascii c h
 
--- one of two
+-- a character that is one of two ASCII characters is ASCII
 is_either : (c one other : ℕ) → is_ascii one ≡ true → is_ascii other ≡ true → (eqb c one || eqb c other) ≡ true
     → is_ascii c ≡ true
 is_either c one other first second h =
@@ -72,7 +72,7 @@ is_either c one other first second h =
 with_first : (c : ℕ) (text : List ℕ) → is_ascii c ≡ true → IsAllAscii text → IsAllAscii (c ∷ text)
 with_first c text first rest = and_from (is_ascii c) (every is_ascii text) first rest
 
--- a text that is the same as one of ASCII
+-- a text that equals an ASCII text is ASCII
 same_ascii : (text other : List ℕ) → IsAllAscii other → same text other ≡ true → IsAllAscii text
 same_ascii [] other ascii h = refl
 same_ascii (c ∷ text) [] ascii h = absurd (false≢true h)
@@ -81,7 +81,7 @@ same_ascii (c ∷ text) (d ∷ other) ascii h =
     let ascii_parts = and_parts (is_ascii d) (every is_ascii other) ascii in
     with_first c text (is_one_of c d ascii_parts.0 parts.0) (same_ascii text other ascii_parts.1 parts.1)
 
--- one that is the same as one of two
+-- a text that equals one of two ASCII texts is ASCII
 same_as_either : (text one other : List ℕ) → IsAllAscii one → IsAllAscii other
     → (same text one || same text other) ≡ true → IsAllAscii text
 same_as_either text one other first second h =
@@ -89,7 +89,7 @@ same_as_either text one other first second h =
     (λ (e : same text other ≡ true). same_ascii text other second e)
     (or_cases (same text one) (same text other) h)
 
--- one whose start and whose rest are
+-- a text whose first characters and whose others are ASCII is ASCII
 of_parts : (count : ℕ) (text : List ℕ) → IsAllAscii (take count text) → IsAllAscii (drop count text)
     → IsAllAscii text
 of_parts count text start rest =
@@ -104,7 +104,7 @@ after_mark_ascii (c ∷ text) =
 
 -- ---- payloads
 
--- what has a payload is ASCII
+-- if there is a payload, the text is ASCII
 abbrev HasAscii : {A : Type 0} → List ℕ → Option A → Type 0
 HasAscii {A} text found = is_some found ≡ true → IsAllAscii text
 
@@ -173,7 +173,7 @@ named_ascii negative signaling text =
     (payload_ascii (drop 3 text) (with_payload_some negative signaling payload some)))
     (λ e some. absurd (false≢true some))
 
--- with an s in front or without
+-- a text that begins with a character of an ASCII test, and whose other characters are ASCII, is ASCII
 begins_ascii : (test : ℕ → Bool) (text : List ℕ) → ((c : ℕ) → test c ≡ true → is_ascii c ≡ true)
     → begins test text ≡ true → IsAllAscii (drop 1 text) → IsAllAscii text
 begins_ascii test [] ascii first rest = refl
@@ -241,7 +241,7 @@ literal_ascii body h f e x =
     (append-every is_ascii x.point _ point
     (append-every is_ascii x.fraction _ digits.1 (append-every is_ascii x.letter x.exponent letter exponent)))))
 
--- a text with a meaning
+-- a text with a meaning is ASCII
 pub meaningful_ascii : (text : List ℕ) (meaning : Meaning) → Means text meaning → every is_ascii text ≡ true
 meaningful_ascii text (infinity negative) means = special_ascii text (infinity negative) means
 meaningful_ascii text (not_a_number negative signaling payload) means =
@@ -267,7 +267,7 @@ decimal_text_ascii body digits exponent x =
     (append-every is_ascii x.point _ (point_ascii x.point x.fraction x.is_point)
     (append-every is_ascii x.fraction x.tail all.1 (exponent_ascii x.tail x.written x.is_written))))
 
--- a text that is read as a decimal, or as it is read without decimals
+-- a text that is read, as a decimal or otherwise, is ASCII
 pub read_ascii : (f : Format) (mode : Round) (text : List ℕ) (value : Datum) (status : ℕ)
     → IsDecimalReading f mode text value status → every is_ascii text ≡ true
 read_ascii f mode text value status (inl x) =

@@ -1,4 +1,4 @@
--- A decimal text is read in one way: one code, and one answer.
+-- A decimal text is read in one way: one code, and one result.
 use Rattle.std.proofs.Common.{◌≡◌, ℕ, true, false, List, Option, None, Some, Ok, Err, sym, ◌∙◌, subst, inl, inr, lit<}
 use Rattle.std.specs.Prelude.{IsTrue, is_some}
 use Rattle.rustc_apfloat.specs.declared.Round.{Round}
@@ -23,7 +23,7 @@ use Rattle.apfloat_c.specs.Decimals.{IsDecimalAnswer, IsDecimalOutcome, IsReadIn
 use Rattle.apfloat_c.specs.OneAnswer.{IsParsedOnce, SameAnswer}
 use Rattle.apfloat_c.proofs.ExportsOnce.{KindHasLaw, OnceAnswer, built_in_law, format_determined, unchanged, value_once}
 
--- a text has one value with one status
+-- a text has one result
 decimal_answer_once : (kind : Kind) → KindHasLaw kind → (mode : Round) (text : List ℕ)
     → OnceAnswer (IsDecimalAnswer kind mode text)
 decimal_answer_once (of_format c) has mode text =
@@ -33,7 +33,7 @@ decimal_answer_once of_pairs has mode text =
     value_once in_pairs IsPairExactInverse mode 106 128 (lit< tt) (pairs_determined mode) _
     (gives_once _ (pair_decimal_reading_once mode text))
 
--- and no fault
+-- a text with a result has no fault
 answer_no_fault : (kind : Kind) (mode : Round) (text : List ℕ) (answer : Answer) → IsDecimalAnswer kind mode text answer
     → decimal_fault_of text ≡ None
 answer_no_fault (of_format c) mode text answer x =
@@ -44,7 +44,7 @@ answer_no_fault of_pairs mode text answer x =
 never : false ≡ true → ⊥
 never e = cc
 
--- so it is read or refused, not both
+-- a text is not both read and refused
 read_or_refused : (kind : Kind) (mode : Round) (text : List ℕ) (answer : Answer)
     → IsDecimalOutcome kind mode text (Some answer) → IsDecimalOutcome kind mode text None → ⊥
 read_or_refused kind mode text answer x y =

@@ -14,7 +14,7 @@ use Rattle.formats_at_run_time.specs.ValueKinds.{value_of}
 use Rattle.apfloat_c.specs.declared.decimals.DecimalText.{DecimalText}
 use Rattle.apfloat_c.specs.Decimals.{IsShortestWritten, IsText, IsValueText}
 
--- decimals with the same parts are one
+-- decimals with the same parts are equal
 decimal_of_parts : (first second : Decimal) → first.negative ≡ second.negative → first.digits ≡ second.digits
     → first.exponent ≡ second.exponent → first ≡ second
 decimal_of_parts a b negative digits exponent =
@@ -43,7 +43,7 @@ one_text f (finite negative quanta) a b some x y =
 one_text f (infinite negative) a b some x y = x ∙ sym y
 one_text f (nan negative significand) a b some x y = x ∙ sym y
 
--- and a text fills the struct in one way
+-- a text fills the struct in one way
 one_struct : (written other : List ℕ) (first second : DecimalText) → written ≡ other
     → IsText written first → IsText other second → first ≡ second
 one_struct written other a b same x y =
@@ -59,7 +59,7 @@ some_precision format =
     let law = (known_format format).lawful in
     omega (arith, law.parameters.precision_low)
 
--- two texts for the same arguments are one
+-- two texts for the same arguments are equal
 pub text_once : (format : Result BuiltInFormat ℕ) (bits : ℕ) (old first second : DecimalText) (code other : ℕ)
     → IsShortestWritten format bits old first code → IsShortestWritten format bits old second other
     → (code ≡ other) × (first ≡ second)

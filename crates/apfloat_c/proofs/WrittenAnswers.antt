@@ -24,13 +24,13 @@ use Rattle.apfloat_c.specs.declared.exported_call.ExportedCall.TheVariants.{Conv
 use Rattle.apfloat_c.specs.KnownCalls.{answered, is_text, unless, without}
 use Rattle.apfloat_c.specs.Answers.{FractionFits, IsKindAnswer, IsLeft, IsLeftBy, IsReturned, IsTypeLeft}
 
--- where the test holds, a call leaves an answer
+-- if the test holds, a call leaves the result
 pub answered_if : (holds : Bool) (error : ℕ) (Holds : Answer → Type 0) (old answer : Answer)
     → holds ≡ true → Holds answer → IsLeftBy (unless holds error) Holds old answer answered
 answered_if true error Holds old answer e h = (refl, h)
 answered_if false error Holds old answer e h = absurd (false≢true e)
 
--- where it does not hold, it leaves the code of the error and what was there
+-- if the test does not hold, a call leaves the code of the error and the previous contents
 pub refused_unless : (holds : Bool) (error : ℕ) (Holds : Answer → Type 0) (old : Answer)
     → holds ≡ false → IsLeftBy (unless holds error) Holds old old error
 refused_unless true error Holds old e = absurd (true≢false e)
@@ -42,18 +42,18 @@ text_without_fault bytes none =
     let meant = no_fault_meaning bytes none in
     rw (meaningful_ascii bytes meant.0 meant.1, none) refl
 
--- bytes with a fault are none
+-- bytes with a fault are not a text
 pub text_with_fault : (bytes : List ℕ) (fault : Fault) → fault_of bytes ≡ Some fault → is_text bytes ≡ false
 text_with_fault bytes fault some = and_right (every is_ascii bytes) _ (rw some refl)
 
--- what a call leaves, with the kind of values and the mode that are known
+-- what a call leaves in a known kind of values and a known mode is what the export leaves
 pub left_returned : (fault : Option ℕ) (kind : Kind) (mode : Round) (call : ExportedCall) (old new : Answer) (code : ℕ)
     → IsLeftBy fault (IsKindAnswer kind mode call) old new code
     → IsReturned (without fault (record { kind = kind; mode = mode; call = call })) old new code
 left_returned None kind mode call old new code left = left
 left_returned (Some fault) kind mode call old new code left = left
 
--- what a call of every type leaves in a format
+-- what a call of every type leaves for a format is what a call in that format leaves
 pub left_in_format : (constants : Constants) (mode : Round) (call : ExportedCall) (old new : Answer) (code : ℕ)
     → IsTypeLeft (in_format constants) mode call old new code
     → IsLeft (of_format constants) mode call old new code
@@ -61,7 +61,7 @@ left_in_format constants mode (FusedSum x y z) old new code left = absurd left.1
 left_in_format constants mode (Conversion x target) old new code left = absurd left.1
 left_in_format constants mode call old new code left = left
 
--- and in pairs
+-- what a call of every type leaves for pairs is what a call in pairs leaves
 pub left_in_pairs : (mode : Round) (call : ExportedCall) (old new : Answer) (code : ℕ)
     → IsTypeLeft in_pairs mode call old new code → IsLeft of_pairs mode call old new code
 left_in_pairs mode (FusedSum x y z) old new code left = absurd left.1
@@ -70,7 +70,7 @@ left_in_pairs mode call old new code left = left
 
 -- ---- fractions
 
--- one that asks for that of a value of a format
+-- the exponent of the fraction of a value of a format fits in 32 bits, if a call asks for it
 pub fraction_fits : (constants : Constants) → IsLawful constants → (call : ExportedCall) (x : ℕ) (value : Datum)
     → call ≡ Fraction x → value ≡ value_of constants x → IsMember (format_with constants) value
     → FractionFits (in_format constants) call
@@ -79,7 +79,7 @@ fraction_fits constants law call x value is_fraction read member =
     frexp_fits constants law (value_of constants x) v e
     (subst (IsMember (format_with constants)) read member) holds)
 
--- one that asks for that of a pair
+-- the exponent of the fraction of a pair fits in 32 bits, if a call asks for it
 pub pair_fraction_fits : (call : ExportedCall) (x : ℕ) (value : Pair)
     → call ≡ Fraction x → value ≡ pair_of x → IsMember double value.high
     → FractionFits in_pairs call

@@ -28,11 +28,11 @@ use Rattle.apfloat_c.specs.declared.exported_call.ExportedCall.TheVariants.{Expo
 use Rattle.apfloat_c.specs.declared.exported_call.ExportedCall.TheVariants.{Class, Conversion, Text}
 use Rattle.apfloat_c.specs.KnownCalls.{KnownCall, answered, fault_in, type_fault}
 
--- the number that two halves stand for
+-- the number that two halves represent
 abbrev pub whole : Halves → ℕ
 whole halves = halves.low + halves.high * 2 ^ 64
 
--- ---- the numbers that stand for other answers
+-- ---- the numbers that represent other results
 
 abbrev pub one_if : Bool → ℤ
 one_if holds = if holds then pos 1 else pos 0
@@ -43,7 +43,7 @@ order_code (Some Equal) = pos 0
 order_code (Some Greater) = pos 1
 order_code None = pos 2
 
--- the classes in the order of IEEE 754-2008 5.7.2; of a category with its sign, whether denormal, and whether signaling
+-- the classes in the order of IEEE 754-2008 5.7.2, by the category, the sign, whether denormal, and whether signaling
 abbrev pub class_code : Category → Bool → Bool → Bool → ℤ
 class_code NaN negative denormal signaling = if signaling then pos 0 else pos 1
 class_code Infinity negative denormal signaling = if negative then pos 2 else pos 9
@@ -51,9 +51,9 @@ class_code Normal negative denormal signaling =
     if negative then (if denormal then pos 4 else pos 3) else (if denormal then pos 7 else pos 8)
 class_code Zero negative denormal signaling = if negative then pos 5 else pos 6
 
--- ---- answers without a value
+-- ---- results without a value
 
--- an integer, its flags, and whether it is the value
+-- an integer, its flags, and whether it equals the value
 pub record IsUnsigned (Holds : StatusAnd ℕ → Bool → Type 0) (answer : Answer) : Type 0 where
   pub given : StatusAnd ℕ
   pub is_exact : Bool
@@ -62,7 +62,7 @@ pub record IsUnsigned (Holds : StatusAnd ℕ → Bool → Type 0) (answer : Answ
   pub status_is : answer.status ≡ bits_of given.status
   pub number_is : answer.number ≡ one_if is_exact
 
--- the same in two's complement
+-- a signed integer in two's complement, its flags, and whether it equals the value
 pub record IsSigned (Holds : StatusAnd ℤ → Bool → Type 0) (answer : Answer) : Type 0 where
   pub given : StatusAnd ℤ
   pub is_exact : Bool
@@ -142,7 +142,7 @@ IsTypeAnswer of_type mode (Conversion x target) answer = ⊥
 IsTypeAnswer of_type mode (Text text) answer =
     IsValue of_type (λ given. of_type.reads text.now mode (Ok given)) answer
 
--- the exponent of the fraction that is asked for is a number of 32 bits
+-- the exponent of the requested fraction is a number of 32 bits
 abbrev pub FractionFits : {A : Type 0} → Relations A → ExportedCall → Type 0
 FractionFits {A} of_type (Fraction x) =
     (mode : Round) (value : A) (exponent : ℤ)
@@ -180,8 +180,8 @@ IsKindAnswer (of_format c) mode (Conversion x target) answer = IsConverted c mod
 IsKindAnswer (of_format c) mode call answer = IsTypeAnswer (in_format c) mode call answer
 IsKindAnswer of_pairs mode call answer = IsTypeAnswer in_pairs mode call answer
 
--- what a call leaves: the code 0 and an answer if nothing is refused, otherwise the code of the error and what was
--- there before
+-- what a call leaves: the code 0 and a result if nothing is refused, otherwise the code of the error and the previous
+-- contents
 abbrev pub IsLeftBy : Option ℕ → (Answer → Type 0) → Answer → Answer → ℕ → Type 0
 IsLeftBy None Holds old new code = (code ≡ answered) × Holds new
 IsLeftBy (Some fault) Holds old new code = (code ≡ fault) × (new ≡ old)
@@ -193,7 +193,7 @@ IsTypeLeft of_type mode call old new code =
 abbrev pub IsLeft : Kind → Round → ExportedCall → Answer → Answer → ℕ → Type 0
 IsLeft kind mode call old new code = IsLeftBy (fault_in kind call) (IsKindAnswer kind mode call) old new code
 
--- what an export leaves: the code 0 and the answer, or the code of the error and what was there before
+-- what an export leaves: the code 0 and the result, or the code of the error and the previous contents
 abbrev pub IsReturned : Result KnownCall ℕ → Answer → Answer → ℕ → Type 0
 IsReturned (Err error) old new code = (code ≡ error) × (new ≡ old)
 IsReturned (Ok known) old new code =

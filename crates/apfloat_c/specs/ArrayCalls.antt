@@ -21,7 +21,7 @@ use Rattle.apfloat_c.specs.KnownCalls.{◌>>=◌, no_such_operation, unknown_for
 abbrev pub wrong_length : ℕ
 wrong_length = 6
 
--- whole values of the first width, and room for as many of the second
+-- an integral number of values of the first width, and room for as many of the second
 abbrev pub lengths_fit : ℕ → ℕ → ℕ → ℕ → Bool
 lengths_fit source target given room = (given % source == 0) && nat_le (given / source) (room / target)
 

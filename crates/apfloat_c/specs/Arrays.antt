@@ -51,7 +51,7 @@ counts_of elements =
       div_by_zero = count_by (raised 2) elements;
     }
 
--- the counts with one more
+-- the counts after one more element
 abbrev pub with_element : ElementCounts → Element → ElementCounts
 with_element counted element =
     record {
@@ -104,7 +104,7 @@ pub record AreConverted (conversion : ArrayConversion) (count : ℕ) (given old 
   pub kept : drop (count * (array_widths conversion).target) new ≡ drop (count * (array_widths conversion).target) old
   pub answer_is : answer ≡ answer_with (record { counts = counts; div_by_zero = 0 })
 
--- the code 0 and the conversions, or the code of the error and what was there before
+-- the code 0 and the conversions, or the code of the error and the previous contents
 abbrev pub IsConvertedArray : Result ArrayConversion ℕ → List ℕ → List ℕ → List ℕ → ArrayAnswer
     → ArrayAnswer → ℕ → Type 0
 IsConvertedArray (Err error) given old new before after code = (code ≡ error) × (new ≡ old) × (after ≡ before)
@@ -125,7 +125,7 @@ abbrev pub is_nan_in : Kind → ℕ → Bool
 is_nan_in (of_format c) bits = is_nan (value_of c bits)
 is_nan_in of_pairs bits = is_nan_category (pair_category (pair_of bits))
 
--- the element's bytes are the bits of an answer of that call, and its outcome is the answer's
+-- the element's bytes are the bits of a result of that call, and its outcome is that of the result
 pub record IsElement (map : MapCall) (x y z : ℕ) (bytes : List ℕ) (element : Element) : Type 0 where
   pub answer : Answer
   pub is_answer : IsKindAnswer (flagged_kind_of map.kind) map.round (call_of map.operation x y z) answer
@@ -140,14 +140,14 @@ IsElementAt map xs ys zs index bytes element =
     (number_of (value_at (bytes_in map.kind) index ys))
     (number_of (value_at (bytes_in map.kind) index zs)) bytes element
 
--- the operation is made at each index, with these counts of outcomes
+-- the operation is done at each index, with these counts of outcomes
 pub record AreElements (map : MapCall) (xs ys zs : List ℕ) (count : ℕ) (bytes : List ℕ)
     (counted : ElementCounts) : Type 0 where
   pub elements : List Element
   pub places : AreInPlaces (IsElementAt map xs ys zs) (bytes_in map.kind) count bytes elements
   pub counted_are : counted ≡ counts_of elements
 
--- the operation is made at each index, and the bytes after the last result are as before
+-- the operation is done at each index, and the bytes after the last result are as before
 pub record AreMapped (map : MapCall) (count : ℕ) (xs ys zs old new : List ℕ) (answer : ArrayAnswer) : Type 0 where
   pub counted : ElementCounts
   pub are_elements : AreElements map xs ys zs count (take (count * bytes_in map.kind) new) counted

@@ -37,7 +37,7 @@ IsDecimalAnswer (of_format c) mode text answer =
 IsDecimalAnswer of_pairs mode text answer =
     IsValue in_pairs (λ given. Gives (IsPairDecimalReading mode text) given) answer
 
--- an answer to ASCII bytes, and none only where a byte is above 127 or the text has a fault
+-- a result for ASCII bytes; there is none if a byte is above 127 or the text has a fault
 abbrev pub IsDecimalOutcome : Kind → Round → List ℕ → Option Answer → Type 0
 IsDecimalOutcome kind mode text (Some answer) = IsTrue (every is_ascii text) × IsDecimalAnswer kind mode text answer
 IsDecimalOutcome kind mode text None = IsTrue (every is_ascii text) → IsTrue (is_some (decimal_fault_of text))
@@ -59,7 +59,7 @@ known_reading format mode =
     ok_or format unknown_format >>= λ known. ok_or mode unknown_mode >>= λ rounding.
     ok_or (decimal_kind known) no_such_operation >>= λ kind. Ok (record { kind = kind; mode = rounding })
 
--- the code 0 and the answer, or the code of the error and what was there before
+-- the code 0 and the result, or the code of the error and the previous contents
 abbrev pub IsReadInto : Kind → Round → List ℕ → Answer → Answer → ℕ → Type 0
 IsReadInto kind mode text old new code =
     ((code ≡ answered) × IsDecimalOutcome kind mode text (Some new))
@@ -71,7 +71,7 @@ IsParsed (Ok known) text old new code = IsReadInto (kind_of known.kind) known.mo
 
 -- ---- writing
 
--- that of the shortest decimal; an infinity is `inf` or `-inf`, and each NaN `nan`
+-- the text of the shortest decimal; that of an infinity is `inf` or `-inf`, and that of each NaN `nan`
 abbrev pub IsValueText : Format → Datum → List ℕ → Type 0
 IsValueText f (finite negative quanta) text =
     (decimal : Decimal) × (IsShortestOf f negative quanta decimal × (text ≡ decimal_text decimal))
@@ -99,7 +99,7 @@ text_format None = Err unknown_format
 text_format (Some Pairs) = Err no_such_operation
 text_format (Some (OfFormat format)) = Ok (format_without_rule format)
 
--- the code 0 and the text, or the code of the error and what was there before
+-- the code 0 and the text, or the code of the error and the previous contents
 abbrev pub IsShortestWritten : Result BuiltInFormat ℕ → ℕ → DecimalText → DecimalText → ℕ → Type 0
 IsShortestWritten (Err error) bits old new code = (code ≡ error) × (new ≡ old)
 IsShortestWritten (Ok format) bits old new code = (code ≡ answered) × IsTextOfBits (constants_in format) bits new

@@ -71,7 +71,7 @@ fault_in of_pairs (FusedSum x y z) = Some no_such_operation
 fault_in of_pairs (Conversion x target) = Some (unknown_target target)
 fault_in kind call = type_fault call
 
--- ---- what is asked
+-- ---- requests
 
 pub record KnownCall : Type 0 where
   pub kind : Kind

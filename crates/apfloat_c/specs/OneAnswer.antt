@@ -1,4 +1,4 @@
--- What an export leaves is determined by its arguments: one code, and one answer, one text or one array.
+-- What an export leaves is determined by its arguments: one code, and one result, text or array.
 use Rattle.std.specs.Prelude.{◌≡◌, ℕ, List, length, Option, Result}
 use Rattle.rustc_apfloat.specs.declared.Round.{Round}
 use Rattle.formats_at_run_time.specs.declared.BuiltInFormat.{BuiltInFormat}
@@ -15,7 +15,7 @@ use Rattle.apfloat_c.specs.Arrays.{IsConvertedArray, IsMappedArray}
 use Rattle.apfloat_c.specs.Decimals.{KnownReading, IsParsed, IsShortestWritten}
 use Rattle.apfloat_c.specs.KnownCalls.{known_call}
 
--- two answers with the same number of 128 bits, the same flags, and the same other number
+-- two results with the same number of 128 bits, the same flags, and the same extra number
 pub record SameAnswer (first second : Answer) : Type 0 where
   pub bits : whole first.bits ≡ whole second.bits
   pub status : first.status ≡ second.status
@@ -44,7 +44,7 @@ IsTextOnce =
     → IsShortestWritten format bits old first code → IsShortestWritten format bits old second other
     → (code ≡ other) × (first ≡ second)
 
--- what a call leaves where these numbers were lent, as in every `&mut [u8]`: as many, and each a byte
+-- what a call leaves in bytes that were lent, as in every `&mut [u8]`: the same number of them, each of them a byte
 pub record IsLeftIn (old bytes : List ℕ) : Type 0 where
   pub are_bytes : AreBytes bytes
   pub size : length bytes ≡ length old

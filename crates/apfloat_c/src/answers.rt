@@ -1,4 +1,4 @@
-//! The answers of calls in a kind of values. A function for each writes it into its place. The place is the first
+//! The results of calls in a kind of values. Each of these functions writes one into its place. The place is the first
 //! argument, so that the operands stay in the registers in which C passes them.
 
 ghost use Rattle.std.specs.Prelude.{◌≡◌, ◌<◌, pos};
@@ -79,7 +79,7 @@ pub fn nearest_remainder<F: ValueType>(answer: &mut Answer, round: Round, x: u12
     *answer = written(x.ieee_rem(y));
 }
 
-/// The remainder by the quotient cut toward zero.
+/// The remainder by the quotient truncated to an integer.
 #[inline(never)]
 pub fn truncated_remainder<F: ValueType>(answer: &mut Answer, round: Round, x: u128, y: u128)
     requires { F.PRECISION < F.BITS }
@@ -319,7 +319,7 @@ fn converted_to<S: Flagged, T: Flagged>(answer: &mut Answer, round: Round, x: u1
     *answer = shown(given, one_if(loses_info));
 }
 
-/// The value of a text. A text that has a value is ASCII, so its bytes need no check before they are read.
+/// The value of a text. A text that has a value is ASCII, so its bytes are not checked before they are read.
 #[inline(never)]
 pub fn read<F: ValueType>(answer: &mut Answer, round: Round, bytes: &[u8]) -> u32
     requires { F.PRECISION < F.BITS }
@@ -345,7 +345,7 @@ fn written<F: ValueType>(answer: StatusAnd<F>) -> Answer
     shown(answer, 0)
 }
 
-/// A value with its flags and a number.
+/// A value with its flags and an extra number.
 #[inline(always)]
 fn shown<F: ValueType>(answer: StatusAnd<F>, number: i32) -> Answer
     requires { F.PRECISION < F.BITS }

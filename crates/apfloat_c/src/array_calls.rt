@@ -1,4 +1,4 @@
-//! The meaning of the codes and lengths that calls on arrays are given, or their first error.
+//! The meaning of the codes and lengths that calls on arrays receive, or their first error.
 
 ghost use Rattle.std.specs.Prelude.{◌≡◌, ◌≤◌};
 ghost use Rattle.formats_at_run_time.specs.Modes.{mode_coded};
@@ -23,7 +23,7 @@ pub struct ConversionMode {
 /// An operation on elements of arrays.
 #[derive(Clone, Copy)]
 pub enum ElementOperation {
-    /// Of two values.
+    /// An operation on two values.
     OfTwo(Arithmetic),
     /// The product of two values plus a third, rounded once.
     FusedSum,
@@ -77,7 +77,7 @@ pub fn operation_coded(code: u32) -> Option<ElementOperation>
     }
 }
 
-/// How many bytes a value of the kind takes.
+/// How many bytes a value of the kind has.
 pub fn bytes_in(kind: FlaggedKind) -> usize
     ensures is { result ≡ bytes_in kind }
     ensures least { 1 ≤ result }
@@ -161,7 +161,7 @@ pub fn known_map(
     }
 }
 
-/// Whether the bytes are a whole number of values, and the output has room for as many of the other width.
+/// Whether the bytes are an integral number of values, and the output has room for as many of the other width.
 fn lengths_fit(source: usize, target: usize, given: usize, room: usize) -> bool
     requires { (1 ≤ source) × (1 ≤ target) }
     ensures { result ≡ lengths_fit source target given room }

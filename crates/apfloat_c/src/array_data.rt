@@ -10,23 +10,23 @@ use array_conversions::Counts;
 #[repr(C)]
 #[derive(Clone, Copy)]
 pub struct ArrayAnswer {
-    /// All values.
+    /// The number of values.
     pub values: u64,
-    /// Those that raised `INEXACT`.
+    /// The number of values that raised `INEXACT`.
     pub inexact: u64,
-    /// Those that raised `UNDERFLOW`.
+    /// The number of values that raised `UNDERFLOW`.
     pub underflow: u64,
-    /// Those that raised `OVERFLOW`.
+    /// The number of values that raised `OVERFLOW`.
     pub overflow: u64,
-    /// Those that raised `DIV_BY_ZERO`.
+    /// The number of values that raised `DIV_BY_ZERO`.
     pub div_by_zero: u64,
-    /// Those that raised `INVALID_OP`.
+    /// The number of values that raised `INVALID_OP`.
     pub invalid_op: u64,
-    /// Those whose results are NaNs.
+    /// The number of results that are NaNs.
     pub nans: u64,
     /// The flags that any of them raised.
     pub status: u32,
-    /// 0.
+    /// Always 0.
     pub reserved: u32,
 }
 
@@ -49,7 +49,7 @@ pub struct Element {
 pub struct ElementCounts {
     /// The counts that conversions have too.
     pub counts: Counts,
-    /// The elements that raised `DIV_BY_ZERO`.
+    /// The number of elements that raised `DIV_BY_ZERO`.
     pub div_by_zero: u64,
 }
 

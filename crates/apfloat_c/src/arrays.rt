@@ -35,7 +35,7 @@ pub extern "C" fn apfloat_convert_array(
     )
 }
 
-/// The same, from what the codes mean.
+/// Converts each value of an array, as the decoded arguments ask.
 fn convert_array(
     source: Option<FlaggedKind>,
     mode: Option<ConversionMode>,

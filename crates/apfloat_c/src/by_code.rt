@@ -10,8 +10,8 @@ use crate::data::Answer;
 use crate::operations::{InMode, InType, KindOperation, Operation};
 use formats_at_run_time::FlaggedKind;
 
-/// Computes a call in the values of a code, and returns 0 or the code of the first error; on an error the answer is
-/// unchanged.
+/// Computes a call in the values of a code, and returns 0 or the code of the first error; on an error the result is
+/// left unchanged.
 #[inline(always)]
 pub fn reply<O: Operation>(format: u32, mode: u32, operation: O, answer: &mut Answer) -> u32
     ensures { IsReturned (known_call (flagged_kind_coded format) (mode_coded mode)

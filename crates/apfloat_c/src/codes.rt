@@ -9,10 +9,10 @@ use std::cmp::Ordering;
 /// What an export returns on success.
 pub const ANSWERED: u32 = 0;
 
-/// The error for a code that no format has.
+/// The error for a code that is not that of a format.
 pub const UNKNOWN_FORMAT: u32 = 1;
 
-/// The error for a code that no rounding mode has.
+/// The error for a code that is not that of a rounding mode.
 pub const UNKNOWN_MODE: u32 = 2;
 
 /// The error for an operation that the format does not have.
@@ -21,13 +21,13 @@ pub const NO_SUCH_OPERATION: u32 = 3;
 /// The error for a width that no integer may have.
 pub const WRONG_WIDTH: u32 = 4;
 
-/// The error for a text without a meaning.
+/// The error for a text that has no value.
 pub const REFUSED_TEXT: u32 = 5;
 
 /// The error for arrays whose lengths do not match.
 pub const WRONG_LENGTH: u32 = 6;
 
-/// The mode of calls that take none.
+/// The mode of calls that take no mode.
 pub const NEAREST_EVEN: u32 = 0;
 
 /// Whether an integer may have this width: at least `least`, and at most 128 bits.
@@ -37,7 +37,7 @@ pub fn is_width(least: u32, width: u32) -> bool
     least <= width && width <= 128
 }
 
-/// 1 if it holds, otherwise 0.
+/// 1 if the condition holds, otherwise 0.
 pub fn one_if(holds: bool) -> i32
     ensures { result ≡ one_if holds }
 {

@@ -29,7 +29,7 @@ use rustc_apfloat::{Float, Round, StatusAnd};
 pub struct DecimalText {
     /// The text and the zeros.
     pub bytes: [u8; CAPACITY],
-    /// How many bytes the text has.
+    /// How many bytes the text has, without the zeros.
     pub length: u32,
 }
 

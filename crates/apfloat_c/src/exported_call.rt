@@ -1,11 +1,11 @@
-//! What can be asked of a kind of values, as the contracts of calls name it.
+//! The operations of a kind of values, by which the contracts name calls.
 
 use formats_at_run_time::{Arithmetic, FlaggedKind};
 
-/// An operation with its operands, values by their bits.
+/// An operation with its operands; values are given by their bits.
 #[derive(Clone, Copy)]
 pub enum ExportedCall<'a> {
-    /// Of two values.
+    /// An operation on two values.
     OfTwo(Arithmetic, u128, u128),
     /// The product of the first two values plus the third, rounded once.
     FusedSum(u128, u128, u128),

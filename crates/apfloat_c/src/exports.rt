@@ -139,7 +139,7 @@ pub extern "C" fn apfloat_rem(format: u32, x: Halves, y: Halves, answer: &mut An
     )
 }
 
-/// The remainder by the quotient cut toward zero, like `fmod` in C.
+/// The remainder by the quotient truncated to an integer, like `fmod` in C.
 #[unsafe(no_mangle)]
 pub extern "C" fn apfloat_mod(format: u32, x: Halves, y: Halves, answer: &mut Answer) -> u32
     ensures { let call = OfTwo TruncatedRemainder (whole x) (whole y) in

@@ -1,9 +1,9 @@
-//! What an export leaves is determined by its arguments.
+//! The result of an export is determined by its arguments.
 
 ghost use Rattle.apfloat_c.specs.OneAnswer.{IsConvertedArrayOnce, IsMappedArrayOnce, IsParsedOnce, IsReplyOnce};
 ghost use Rattle.apfloat_c.specs.OneAnswer.{IsTextOnce};
 
-/// The contract of each export allows one code and one answer, text or array.
+/// The contract of each export allows one code and one result, text or array.
 pub fn one_answer()
     ensures reply { IsReplyOnce }
     ensures parsed { IsParsedOnce }

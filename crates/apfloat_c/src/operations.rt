@@ -1,4 +1,4 @@
-//! The calls of the exports, each of them a type, so that each export has its own choice of a format.
+//! The calls of the exports. Each of them is a type, so that each export has its own choice of a format.
 
 ghost use Rattle.std.specs.Prelude.{◌<◌};
 ghost use Rattle.rustc_apfloat.specs.FlaggedTypes.{constants_of};
@@ -209,7 +209,7 @@ impl Operation for NearestRemainderCall {
     }
 }
 
-/// The remainder by the quotient cut toward zero.
+/// The remainder by the quotient truncated to an integer.
 #[derive(Clone, Copy)]
 pub struct TruncatedRemainderCall {
     /// The first value.

@@ -22,7 +22,7 @@ use Rattle.apfloat_decimals.specs.Decimals.{IsDecimalDelivery}
 abbrev pub is_e : ℕ → Bool
 is_e c = eqb c 101 || eqb c 69
 
--- nothing, for an exponent of 0; or a letter, a sign or none, and digits
+-- the exponent of a text: nothing, which means 0; or a letter, an optional sign, and digits
 abbrev pub IsWrittenExponent : List ℕ → ℤ → Type 0
 IsWrittenExponent [] e = e ≡ pos 0
 IsWrittenExponent (letter ∷ exponent) e =
@@ -58,7 +58,7 @@ abbrev pub written_fault : List ℕ → Option Fault
 written_fault [] = None
 written_fault (letter ∷ exponent) = exponent_fault (after_mark exponent)
 
--- the fault in what follows the digits on both sides of a dot; `some` says whether there is one
+-- the fault in what follows the digits on both sides of a dot; `some` says whether there are any digits
 abbrev pub fault_after : Bool → List ℕ → Option Fault
 fault_after some tail =
     if begins is_dot tail then Some SecondDot
@@ -97,7 +97,7 @@ abbrev pub IsDecimalReading : Format → Round → List ℕ → Datum → ℕ �
 IsDecimalReading f mode text value status =
     IsSpelled f mode (is_minus (mark_of text)) (after_mark text) value status ⊎ IsReading f mode text value status
 
--- a refusal has the words for the text's first fault
+-- a refusal has the message of the text's first fault
 pub record IsDecimalRefusal (text said : List ℕ) : Type 0 where
   pub fault : Fault
   pub is_first : decimal_fault_of text ≡ Some fault

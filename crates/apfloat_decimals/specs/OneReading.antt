@@ -17,7 +17,7 @@ use Rattle.apfloat_decimals.specs.ReadBack.{IsStoredDecimal}
 -- ---- as a value
 
 -- whether special, hexadecimal or decimal, a text has one value with one status; a text with a fault has none, and is
--- refused with the words for it
+-- refused with its message
 abbrev pub IsReadOnce : Type 0
 IsReadOnce =
     (f : Format) (mode : Round) (text : List ℕ) (answer other : Result (StatusAnd Datum) ParseError)
@@ -25,13 +25,13 @@ IsReadOnce =
 
 -- ---- as a decimal
 
--- A decimal that was read has numbers of its types. `IsParsed` alone does not say that: digits of 2 ^ 128 or more would
--- be an answer, besides the refusal.
+-- The numbers of a decimal that was read belong to their types. `IsParsed` alone does not say that: digits of 2 ^ 128
+-- or more would be a result, besides the refusal.
 abbrev pub IsStoredAnswer : Result Decimal DecimalError → Type 0
 IsStoredAnswer (Ok decimal) = IsStoredDecimal decimal
 IsStoredAnswer (Err error) = ⊤
 
--- the same decimal, or refusals for the same reason, with the same words
+-- the same decimal, or refusals for the same reason, with the same message
 abbrev pub AreOneParsing : Result Decimal DecimalError → Result Decimal DecimalError → Type 0
 AreOneParsing (Ok x) (Ok y) = x ≡ y
 AreOneParsing (Ok x) (Err other) = ⊥

@@ -23,7 +23,7 @@ plain_fault_of text =
     if is_empty text then Some EmptyText
     else (if is_empty (after_mark text) then Some LoneMark else body_fault (after_mark text))
 
--- a refusal has the words for the first fault
+-- a refusal has the message of the first fault
 pub record IsRefusedFor (first : Option Fault) (said : List ℕ) : Type 0 where
   pub fault : Fault
   pub is_first : first ≡ Some fault
@@ -39,7 +39,7 @@ pub record HasTooManyDigits (body : List ℕ) : Type 0 where
 abbrev pub IsPast32Bits : ℤ → Type 0
 IsPast32Bits exponent = (pos (2 ^ 31) ≤ℤ exponent) ⊎ (exponent ≤ℤ neg_ℤ (pos (2 ^ 31 + 1)))
 
--- its digits are few enough, but not its exponent
+-- the digits are few enough, but the exponent is out of range
 pub record HasFarExponent (body : List ℕ) : Type 0 where
   pub digits : ℕ
   pub exponent : ℤ
@@ -55,7 +55,7 @@ IsParsedBody negative body (Err (NoDecimal error)) = IsRefusedFor (body_fault bo
 IsParsedBody negative body (Err TooManyDigits) = HasTooManyDigits body
 IsParsedBody negative body (Err ExponentOutOfRange) = HasFarExponent body
 
--- the decimal that the text spells, or why there is none
+-- the decimal that the text spells, or the reason why there is none
 abbrev pub IsParsed : List ℕ → Result Decimal DecimalError → Type 0
 IsParsed text (Ok decimal) = Spells text decimal.negative decimal.digits decimal.exponent
 IsParsed text (Err (NoDecimal error)) = IsRefusedFor (plain_fault_of text) error.0.now

@@ -4,7 +4,7 @@ use Rattle.apfloat_model.specs.arithmetic.Exact.{up, down}
 use Rattle.apfloat_decimals.specs.declared.decimal.Decimal.{Decimal}
 use Rattle.apfloat_decimals.specs.Texts.{is_plain}
 
--- the numbers of a `Decimal` are those of its types
+-- the numbers of a `Decimal` belong to their types
 pub record IsStoredDecimal (x : Decimal) : Type 0 where
   pub digits : x.digits < 2 ^ 128
   pub exponent_low : neg_ℤ (pos (2 ^ 31)) ≤ℤ x.exponent

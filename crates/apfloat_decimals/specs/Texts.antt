@@ -5,7 +5,7 @@ use Rattle.std.specs.Fmt.{decimal, signed_decimal}
 use Rattle.apfloat_model.specs.arithmetic.Exact.{up, down}
 use Rattle.apfloat_decimals.specs.declared.decimal.Decimal.{Decimal}
 
--- with zeros in front, up to that many digits
+-- n with leading zeros, up to that many digits
 abbrev pub padded : ℕ → ℕ → List ℕ
 padded places n = replicate (places - length (decimal n)) 48 ++ decimal n
 

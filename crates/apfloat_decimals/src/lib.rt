@@ -7,9 +7,9 @@
 //! (`long_division`, `large`). `FromStr` of a `Decimal` keeps the digits of its text (`parsing`).
 //!
 //! Writing: `shortest` finds the shortest decimal that reads back as a value (`shortest_decimal`, `shortest_guess`),
-//! `rounded` gives a value to a count of digits (`rounded_decimal`), both from its first digits (`leading_digits`), and
-//! `exact` the decimal that equals a value (`exact_decimal`). `formatting` has the text of a `Decimal`, which `Display`
-//! writes. `round_trips` states what holds of values that are read back.
+//! `rounded` rounds a value to a number of digits (`rounded_decimal`), both from its first digits (`leading_digits`),
+//! and `exact` gives the decimal that equals a value (`exact_decimal`). `formatting` produces the text of a `Decimal`,
+//! which `Display` writes. `round_trips` states what holds for values that are read back.
 //!
 //! The exponents of the formats are within those of `Quad`.
 #![tactic(auto)]

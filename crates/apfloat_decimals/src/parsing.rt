@@ -31,7 +31,7 @@ use std::str::FromStr;
 /// Why a text gives no `Decimal`.
 #[derive(Clone, Copy, PartialEq, Eq, Debug)]
 pub enum DecimalError {
-    /// The text is not a decimal; with the words for its first fault from the left.
+    /// The text is not a decimal; with the message of its first fault from the left.
     NoDecimal(ParseError),
     /// The digits on both sides of the dot, as one integer, are 2^128 or more.
     TooManyDigits,
@@ -151,7 +151,7 @@ pub fn decimal_text_once()
 {}
 
 /// A text is read in one way: `read_decimal` and `FromStr` may return one value or decimal of it, or refuse it for one
-/// reason, with the same words.
+/// reason, with the same message.
 pub fn one_reading()
     ensures read { IsReadOnce }
     ensures parsed { IsParsedOnce }

@@ -7,7 +7,7 @@ use Rattle.std.proofs.Math.Nat.{mod-eq_of_lt}
 use Rattle.std.specs.Int.{trailing_zeros, w128}
 use Rattle.std.specs.Int.Count.{trailing_of_zero}
 
--- digits that are all 0 are a rest of 0
+-- if the lowest digits are all 0, the rest is 0
 all_zero : (n places : ℕ) → ((i : ℕ) → i < places → n / 2 ^ i % 2 ≡ 0) → n % 2 ^ places ≡ 0
 all_zero n zero f = omega arith
 all_zero n (suc k) f =
@@ -19,7 +19,7 @@ all_zero n (suc k) f =
     let r : n % 2 ^ k ≡ 0 = all_zero n k (λ i l. f i (omega arith)) in
     omega (arith, s, w, r)
 
--- and a digit that is 1 is a rest of more
+-- if one of the lowest digits is 1, the rest is above 0
 one_within : (n lowest places : ℕ) → n / 2 ^ lowest % 2 ≡ 1 → lowest < places → 0 < n % 2 ^ places
 one_within n lowest places o l =
     let e : places - (1 + lowest) + (1 + lowest) ≡ places = omega arith in
@@ -31,7 +31,7 @@ one_within n lowest places o l =
     let p : 0 < 2 ^ lowest = pow_pos lowest in
     omega (arith, a, b, w, p)
 
--- a number of 128 digits that is not 0 has a rest exactly where the places are more than the zeros below its lowest 1
+-- a nonzero number of 128 digits has a nonzero rest exactly if the places are more than the zeros below its lowest 1
 pub rest_past_zeros : (n places : ℕ) → 0 < n → n < 2 ^ 128
     → (trailing_zeros w128 n < places → 0 < n % 2 ^ places)
     × (places ≤ trailing_zeros w128 n → n % 2 ^ places ≡ 0)
@@ -41,7 +41,7 @@ rest_past_zeros n places p f =
       λ l. all_zero n places (λ i k. h.2 i (omega (arith, k, l))),
     )
 
--- nor has 0, of which all 128 digits are zeros
+-- the same test of the rest holds for 0, whose 128 digits are all zeros, if there are at most 128 places
 pub rest_within_zeros : (n places : ℕ) → (n ≡ 0 → places ≤ 128) → n < 2 ^ 128
     → (trailing_zeros w128 n < places → 0 < n % 2 ^ places)
     × (places ≤ trailing_zeros w128 n → n % 2 ^ places ≡ 0)
@@ -51,7 +51,7 @@ rest_within_zeros zero places g f =
     (λ l. absurd (omega (arith, l, z, w)), λ k. mod-eq_of_lt (pow_pos places))
 rest_within_zeros (suc n) places g f = rest_past_zeros (suc n) places (omega arith) f
 
--- ---- the last digit, set
+-- ---- setting the last digit
 
 none_set : (n : ℕ) → bit_or n 0 ≡ n
 none_set n = or_comm n 0 ∙ or_disjoint 0 n (and_none n) ∙ omega arith
@@ -64,7 +64,7 @@ last_set zero l = refl
 last_set (suc zero) l = refl
 last_set (suc (suc d)) l = absurd (omega arith)
 
--- the last digit of a number is set, or not
+-- setting the last digit of a number, or leaving it unchanged
 pub set_last : (n digit : ℕ) (is_set : Bool) → (is_set ≡ true → digit ≡ 1) → (is_set ≡ false → digit ≡ 0)
     → bit_or n digit ≡ cond is_set (n + (1 - n % 2)) n
 set_last n digit false f g = ap (λ (x : ℕ). bit_or n x) (g refl) ∙ none_set n

@@ -40,7 +40,7 @@ moved_full m precision digits p l h =
     mul-le-mul_right (2 ^ (digits - precision)) h in
     omega (arith, d, w)
 
--- their last digit is zero
+-- the last digit of a significand that was moved up by at least one place is zero
 pub moved_free : (m precision digits : ℕ) → precision + 1 ≤ digits → m * 2 ^ (digits - precision) % 2 ≡ 0
 moved_free m precision digits l =
     let e : (digits - precision - 1) + 1 ≡ digits - precision = omega arith in
@@ -50,9 +50,9 @@ moved_free m precision digits l =
     ap (λ (x : ℕ). m * x) w ∙ omega arith in
     omega (arith, d)
 
--- ---- together and apart, in one unit
+-- ---- sums and differences, in one unit
 
--- a number with a free digit loses nothing by a cut of at most one
+-- a number whose last digit is zero is cut exactly by at most one place
 free_cut : (low j gap : ℕ) → low % 2 ≡ 0 → gap ≤ 1 → IsRoundedToOdd 1 j low (2 ^ gap) → low ≡ j * 2 ^ gap
 free_cut low j gap f l h =
     let e : (1 - gap) + gap ≡ 1 = omega arith in
@@ -62,7 +62,7 @@ free_cut low j gap f l h =
     k ∙ sym (whole_to_odd 1 j (low / 2 * 2 ^ (1 - gap)) (2 ^ gap)
     (subst (λ (x : ℕ). IsRoundedToOdd 1 j x (2 ^ gap)) k h))
 
--- and a cut of more leaves less than a quarter of a power of two above it
+-- a number that is cut by at least two places is less than a quarter of its bound
 far_cut : (low j gap few : ℕ) → low < few * 4 → few % 2 ≡ 0 → 2 ≤ gap → IsRoundedToOdd 1 j low (2 ^ gap) → j < few
 far_cut low zero gap few f even l h = omega arith
 far_cut low (suc i) gap few f even l h =
@@ -73,7 +73,7 @@ far_cut low (suc i) gap few f even l h =
     (λ b. let a = b.above in let o = b.odd in omega (arith, a, o, m, f, even))
     h
 
--- an exact difference
+-- an exact difference is the difference rounded to odd
 exact_apart : (least high low j gap : ℕ) (flipped : Bool) → low ≡ j * 2 ^ gap → flipped ≡ ltb high j
     → IsApartToOdd least (high * 2 ^ gap) low flipped (cond flipped j high - cond flipped high j) (2 ^ gap)
 exact_apart least high low j gap flipped e f =
@@ -98,7 +98,7 @@ exact_apart least high low j gap flipped e f =
     }))
     (cases_lt high j)
 
--- the quarter of a power of two, by the halves of it
+-- a power of two is four times the power two places below, which is even
 quarters : (digits : ℕ) → 3 ≤ digits
     → (2 ^ digits ≡ 2 ^ (digits - 2) * 4) × (2 ^ (digits - 1) ≡ 2 ^ (digits - 2) * 2)
     × (2 ^ (digits - 2) ≡ 2 ^ (digits - 3) * 2)
@@ -195,7 +195,7 @@ total_to_odd base eh el e s t true flipped least digits mh ml room gap q l r g d
           (to_odd_times least q h.amount (2 ^ gap) w (pow_pos (up (lowest -ℤ base))) h.rounded);
     }
 
--- in which order the terms are does not matter
+-- the order of the terms does not matter to the total
 pub ordered_to_odd : {T : Type 0} (count : T → ℤ) (least : ℕ) (base : ℤ) (high low x y : T) (negative : Bool) (e : ℤ)
     (q : ℕ) → ((high ≡ x) × (low ≡ y)) ⊎ ((high ≡ y) × (low ≡ x))
     → IsSignedToOdd least base (count high +ℤ count low) negative e q
@@ -211,7 +211,7 @@ ordered_to_odd count least base high low x y negative e q (inr d) h =
       rounded = g.rounded;
     }
 
--- two signs that differ, and two that do not
+-- two signs are equal exactly if they are not unlike
 pub unlike_false : (s t : Bool) → not (beq s t) ≡ false → s ≡ t
 unlike_false true true e = refl
 unlike_false true false e = cc

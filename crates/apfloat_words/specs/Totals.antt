@@ -22,12 +22,12 @@ pub record IsGreater (z a b : ℤ) : Type 0 where
   pub first : a ≤ℤ z
   pub second : b ≤ℤ z
 
--- `amount` is how far apart a and b are; true if b is the greater
+-- `amount` is the difference of a and b; true if b is the greater
 abbrev pub Balances : Bool → ℕ → ℕ → ℕ → Type 0
 Balances false amount a b = a ≡ b + amount
 Balances true amount a b = b ≡ a + amount
 
--- how far apart a and b are, in units, rounded to odd
+-- the difference of a and b, in units, rounded to odd
 pub record IsApartToOdd (least a b : ℕ) (flipped : Bool) (significand unit : ℕ) : Type 0 where
   pub amount : ℕ
   pub balances : Balances flipped amount a b

@@ -1,10 +1,11 @@
-//! Arithmetic on whole numbers of one and two words, significands among them, and what is lost when their low digits
-//! are cut off. It knows nothing of formats, statuses or rounding modes.
+//! Arithmetic on integers of one machine word, of 128 bits and of 256 bits, significands among them, and the loss when
+//! their low digits are cut off. It knows nothing of formats, statuses or rounding modes.
 //!
 //! A significand `s` with a unit and a `Loss` represents each magnitude that is `s` units plus a rest below one unit
 //! that the `Loss` describes (`StandsFor` in `apfloat_model/specs/rounding/Standing.antt`).
 //!
-//! Products of long significands, and sums with them, take two words (`Wide`) until they are cut to one.
+//! Products of significands of more than 64 digits, and sums with them, take two words of 128 bits (`Wide`) until they
+//! are cut to one.
 #![tactic(auto)]
 
 pub mod guessed_quotient;

@@ -1,4 +1,4 @@
-//! Whether anything was lost when digits were cut off, and what is lost when more of them are.
+//! Whether anything was lost when digits were cut off, and the loss when more of them are.
 
 ghost use Rattle.std.specs.Prelude.{◌≡◌, ℕ, ◌+◌, ◌*◌, ◌<◌, true, false};
 ghost use Rattle.apfloat_model.specs.rounding.Standing.{StandsFor};

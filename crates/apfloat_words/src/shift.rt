@@ -27,7 +27,7 @@ pub fn steps_between(high: ExpInt, low: ExpInt) -> u32
     (high - low) as u32
 }
 
-/// How many binary digits a whole number has; 0 has none.
+/// The number of binary digits of an integer; 0 has none.
 #[inline(always)]
 pub fn digits(number: u128) -> u32
     ensures bound { result ≤ 128 }
@@ -37,7 +37,7 @@ pub fn digits(number: u128) -> u32
     128 - number.leading_zeros()
 }
 
-/// The lowest `places` binary digits of a whole number.
+/// The lowest `places` binary digits of an integer.
 #[inline(always)]
 pub fn low_digits(number: u128, places: u32) -> u128
     requires { places < 128 }

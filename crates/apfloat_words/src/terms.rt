@@ -12,7 +12,7 @@ pub struct Term {
     pub negative: bool,
     /// The exponent of the last digit.
     pub exponent: ExpInt,
-    /// The digits, as a whole number.
+    /// The digits, as an integer.
     pub significand: u128,
 }
 
@@ -23,7 +23,7 @@ pub struct WideTerm {
     pub negative: bool,
     /// The exponent of the last digit.
     pub exponent: ExpInt,
-    /// The digits, as a whole number.
+    /// The digits, as an integer.
     pub significand: Wide,
 }
 
@@ -34,7 +34,7 @@ pub(crate) struct Ordered {
     pub low: Term,
 }
 
-/// The same for terms of two words.
+/// Two terms of two words, the first of which does not have the lower exponent.
 #[derive(Clone, Copy, Debug)]
 pub(crate) struct WideOrdered {
     pub high: WideTerm,
@@ -62,7 +62,7 @@ pub(crate) fn in_order_of_exponents(x: Term, y: Term) -> Ordered
     }
 }
 
-/// The same for terms of two words.
+/// The terms of two words, ordered by their exponents.
 #[inline(always)]
 pub(crate) fn wide_in_order_of_exponents(x: WideTerm, y: WideTerm) -> WideOrdered
     ensures order { result.low.exponent ≤ℤ result.high.exponent }
@@ -83,7 +83,7 @@ pub(crate) fn wide_in_order_of_exponents(x: WideTerm, y: WideTerm) -> WideOrdere
     }
 }
 
-/// The first, or the second.
+/// The first if `is_first`, otherwise the second.
 #[inline(always)]
 pub(crate) fn either<T: Copy>(is_first: bool, first: T, second: T) -> T
     ensures { result ≡ (if is_first then first else second) }

@@ -1,9 +1,9 @@
-//! Assertions. To prove a call of this function takes a small part of the time that an `assert_eq!` takes.
+//! Assertions. Proving a call of this function takes a small part of the time that an `assert_eq!` takes.
 
 use std::fmt::Debug;
 use std::process::Abort;
 
-/// Asserts that a result is the expected one. `case` tells in the message which case it is.
+/// Asserts that a result is the expected one. The message names the case.
 pub fn same<T: PartialEq + Debug + Drop, C: Debug + Drop>(
     rt: &impl Abort,
     got: T,

@@ -18,7 +18,7 @@ const HALF_LEAST: &str =
     3508986338858792562830275599565752445550725518931369083625477918694866799496832404970582102851318545\
     1396213837722826145437693412532098591327667236328125e-1075";
 
-/// A little more than that.
+/// A little more than half of the least double.
 const ABOVE_HALF_LEAST: &str =
     "2470328229206232720882843964341106861825299013071623822127928412503377536351043759326499181808179961\
     8989828234772285886546332835517796989819938739800539093906315035659515570226392290858392449105184435\
@@ -39,7 +39,7 @@ fn check(rt: &impl Abort, text: &str, bits: u128, status: Status) {
     }
 }
 
-/// Asserts that a text is refused with these words.
+/// Asserts that a text is refused with this message.
 fn check_refused(rt: &impl Abort, text: &str, words: &str) {
     let answer = read_decimal::<DoubleS>(text, Round::NearestTiesToEven);
     assert!(rt; matches!(answer, Err(ParseError(said)) if said == words));
@@ -78,7 +78,7 @@ fn refused_texts(rt: HostRuntime) {
     check_refused(&rt, "1e5x", "Invalid character in exponent");
 }
 
-/// Asserts that bytes are refused with these words.
+/// Asserts that bytes are refused with this message.
 fn check_refused_bytes(rt: &impl Abort, bytes: &[u8], words: &str) {
     let answer = read_decimal_ascii::<DoubleS>(bytes, Round::NearestTiesToEven);
     assert!(rt; matches!(answer, Err(ParseError(said)) if said == words));

@@ -36,7 +36,7 @@ fn many_and_single_digits_agree(rt: HostRuntime) {
     }
 }
 
-/// Whether the division by a guess at that distance from the quotient returns that quotient, rounded to odd.
+/// Whether the division by a guess that is off by `distance` returns the quotient, rounded to odd.
 fn guess_agrees(distance: u64, dividend: u64, divisor: u64, places: u32) -> bool
     requires some { 0 < divisor }
     requires narrow { divisor < 2 ^ 62 }
@@ -50,7 +50,7 @@ fn guess_agrees(distance: u64, dividend: u64, divisor: u64, places: u32) -> bool
     divide_by_guess(guess, dividend, divisor, places) == whole.wrapping_add(more)
 }
 
-/// Whether guesses agree that are right, or too great or too small by 1, 2 and much.
+/// Whether the division returns the same for guesses that are exact, or too great or too small by 1, 2 and much more.
 fn guesses_agree(dividend: u64, divisor: u64, places: u32) -> bool
     requires some { 0 < divisor }
     requires narrow { divisor < 2 ^ 62 }
@@ -65,7 +65,7 @@ fn guesses_agree(dividend: u64, divisor: u64, places: u32) -> bool
         && guess_agrees(0u64.wrapping_sub(2), dividend, divisor, places)
 }
 
-/// The rest after `places` doublings, one at a time, and whether the whole quotient is odd.
+/// The rest after `places` doublings, one at a time, and whether the integral quotient is odd.
 fn doubled_rest(dividend: u128, divisor: u128, places: u32) -> (u128, bool)
     requires some { 0 < divisor }
 {
@@ -117,15 +117,12 @@ fn close_to(divisor: u128, dividend: u128) -> u128
     }
 }
 
-/// Whether all ways agree for a dividend and a divisor made of two words.
+/// Whether all methods agree for a dividend and a divisor made of two words.
 fn made_operands_agree(first: u64, second: u64, places: u32) -> bool {
     let word_divisor = u128::from(first % (1 << 61)) + 1;
     let word_dividend = close_to(word_divisor, u128::from(second % (1 << 62)));
     let divisor = u128::from(first) * (1 << 60) + 1;
-    let dividend = close_to(
-        divisor,
-        u128::from(second) * (1 << 60) + u128::from(first),
-    );
+    let dividend = close_to(divisor, u128::from(second) * (1 << 60) + u128::from(first));
     rests_agree(word_dividend, word_divisor, places)
         && agree(word_dividend, word_divisor, places % 127)
         && rests_agree(dividend, divisor, places)

@@ -1,4 +1,4 @@
-//! Values rounded to a count of decimal digits. The digits were computed with fractions in Python.
+//! Values rounded to a number of decimal digits. The digits were computed with fractions in Python.
 
 ghost use Rattle.std.specs.Prelude.{◌≡◌, ◌<◌, ◌≤◌};
 ghost use Rattle.apfloat_ieee.specs.Types.{format_of};
@@ -17,7 +17,7 @@ struct Expected {
     exact: bool,
 }
 
-/// Asserts what the value with the given bits is, rounded to that many digits.
+/// Asserts the result of rounding the value with the given bits to that many digits.
 fn check<S: Semantics>(rt: &impl Abort, bits: u128, count: u32, round: Round, expected: Expected)
     requires bits { S.PRECISION < S.BITS }
     requires exponents { HasQuadExponents (format_of S.Semantics) }
@@ -32,7 +32,7 @@ fn check<S: Semantics>(rt: &impl Abort, bits: u128, count: u32, round: Round, ex
     assert!(rt; rounded::<S>(S::from_bits(bits), count, round) == Some((decimal, expected.exact)));
 }
 
-/// A double to that many digits.
+/// A double rounded to that many digits.
 fn check_double(rt: &impl Abort, bits: u128, count: u32, round: Round, expected: Expected)
     requires some { 0 < count }
     requires few { count ≤ 36 }

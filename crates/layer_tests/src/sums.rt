@@ -35,7 +35,7 @@ fn less(x_exponent: ExpInt, x: u128, y_exponent: ExpInt, y: u128) -> Parts
     (total.negative, total.exponent, total.significand)
 }
 
-/// The same in two words: the significands are moved up by 117 places, to 126 digits.
+/// The difference of two significands in two words: they are moved up by 117 places, to 126 digits.
 fn wide_less(x_exponent: ExpInt, x: u128, y_exponent: ExpInt, y: u128) -> Parts
     requires x { IsWithin integer_bit_bound x_exponent }
     requires y { IsWithin integer_bit_bound y_exponent }

@@ -7,7 +7,7 @@ use apfloat_model::{ExpInt, Round, Status};
 use std::alloc::{AllocError, Global};
 use std::test::Fail;
 
-/// The significand, the exponent and the status of a text read as a binary16 value, rounding upward, or the words of
+/// The significand, the exponent and the status of a text read as a binary16 value, rounding upward, or the message of
 /// the refusal.
 fn read_up(text: &str) -> Result<(u128, ExpInt, Status), &'static str> {
     match read(HALF, text.as_bytes(), Round::TowardPositive) {
@@ -20,7 +20,7 @@ fn read_up(text: &str) -> Result<(u128, ExpInt, Status), &'static str> {
     }
 }
 
-/// A text, and what it is read as or the words of the refusal.
+/// A text, and what it is read as or the message of the refusal.
 static ROWS: [(&str, Result<(u128, ExpInt, Status), &str>); 19] = [
     ("0x1.8p-1", Ok((0x600, -1, Status::OK))),
     ("0x.8p1", Ok((0x400, 0, Status::OK))),

@@ -1,4 +1,4 @@
-//! Unpacked values: their significands, and the one rounding.
+//! Unpacked values: their significands, and the rounding.
 
 ghost use Rattle.std.specs.Prelude.{◌^◌, ◌≤◌};
 

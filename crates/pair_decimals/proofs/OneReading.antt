@@ -18,7 +18,7 @@ pub pair_decimal_reading_once : (mode : Round) (text : List ℕ) → OncePair (I
 pair_decimal_reading_once mode text =
     split_answer_once (IsDecimalReading wide mode text) (decimal_reading_once wide mode text)
 
--- a text is read or refused, not both
+-- a text is not both read and refused
 reading_or_refusal : (mode : Round) (text said : List ℕ) (value : Pair) (status : ℕ)
     → IsPairDecimalReading mode text value status → IsDecimalRefusal text said → ⊥
 reading_or_refusal mode text said value status x y =

@@ -8,7 +8,7 @@ use Rattle.apfloat_pair_theory.specs.Pairs.{Pair}
 use Rattle.pair_decimals.specs.PairReadings.{IsPairDecimalRead}
 
 -- whether special, hexadecimal or decimal, a text has one pair with one status; a text with a fault has none, and is
--- refused with the words for it
+-- refused with its message
 abbrev pub IsPairReadOnce : Type 0
 IsPairReadOnce =
     (mode : Round) (text : List ℕ) (answer other : Result (StatusAnd Pair) ParseError)

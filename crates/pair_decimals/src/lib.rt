@@ -1,6 +1,6 @@
 //! Decimal texts as pairs of doubles.
 //!
-//! A crate of its own, since decimals know no pairs, and pairs no decimals.
+//! A separate crate, so that the decimals do not depend on pairs, nor the pairs on decimals.
 #![tactic(auto)]
 
 ghost use Rattle.apfloat_pair_theory.specs.Pairs.{IsSplit};
@@ -37,7 +37,7 @@ pub fn read_decimal_pair_ascii(
     }
 }
 
-/// A text is read as one pair, or refused with the same words.
+/// A text is read as one pair, or refused with the same message.
 pub fn one_pair_reading()
     ensures { IsPairReadOnce }
 {}

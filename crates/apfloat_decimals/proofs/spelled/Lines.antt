@@ -1,4 +1,4 @@
--- Lines of text: digits one by one, and how long texts are.
+-- Lines of text: digits one by one, and the lengths of texts.
 use Rattle.std.proofs.Common.{◌≡◌, ℕ, suc, eqb, leb, FitsSigned, w32, ◌+◌, ◌-◌, ◌*◌, ◌/◌, ◌%◌, ◌^◌, ◌<◌, ◌≤◌, List, []}
 use Rattle.std.proofs.Common.{◌∷◌, ◌++◌, length, refl, sym, ap, ◌∙◌, replicate, arith, ⊎_elim, lit<, lit≤, false, true}
 use Rattle.std.proofs.Common.{Bool, if◌then◌else◌, codes}
@@ -19,14 +19,14 @@ use Rattle.apfloat_decimals.specs.Texts.{magnitude_text, sign_text}
 
 -- ---- digits one by one
 
--- the last digit of a number is added after the others
+-- appending the last digit of a number after the others appends the number
 pub last_digit : (text : List ℕ) (n : ℕ) → 10 ≤ n → n < 2 ^ 128
     → (text ++ decimal (n / 10)) ++ ((48 + n % 10) ∷ []) ≡ text ++ decimal n
 last_digit text n some few =
     append_assoc text (decimal (n / 10)) ((48 + n % 10) ∷ [])
     ∙ ap (λ (x : List ℕ). text ++ x) (sym (decimal_step_wide n some (omega arith)))
 
--- and there is room for it
+-- the text has room for the last digit
 pub room_for_last : (text : List ℕ) (n : ℕ) → 10 ≤ n → n < 2 ^ 128 → length text + length (decimal n) ≤ 64
     → length (text ++ decimal (n / 10)) < 64
 room_for_last text n some few room =
@@ -39,9 +39,9 @@ only_digit text n few =
     let same : 48 + n % 10 ≡ 48 + n = omega arith in
     ap (λ (d : ℕ). text ++ (d ∷ [])) same ∙ ap (λ (x : List ℕ). text ++ x) (sym (decimal_digit n few))
 
--- ---- how long texts are
+-- ---- lengths of texts
 
--- the whole part of a number in units of 10 ^ places
+-- the length of the integral part of a number in units of 10 ^ places
 pub whole_length : (n places : ℕ) → n < 2 ^ 128 → places ≤ 39
     → length (decimal (n / 10 ^ places)) ≤ 40 - places
 whole_length n places few within =
@@ -54,7 +54,7 @@ whole_length n places few within =
     let most : 10 ^ (40 - places) ≤ 10 ^ 64 = pow-le-pow_right (lit< tt) few_places in
     length-decimal-le_wide (40 - places) (n / 10 ^ places) (omega arith) below (omega (arith, below, most))
 
--- the rest of it, with zeros
+-- the length of the fraction in units of 10 ^ places, with zeros
 pub padded_length : (n places : ℕ) → n < 2 ^ 128 → 0 < places
     → length (padded places (n % 10 ^ places)) ≡ places
 padded_length n places few some =
@@ -65,7 +65,7 @@ padded_length n places few some =
     length-append (replicate (places - length (decimal (n % 10 ^ places))) 48) (decimal (n % 10 ^ places))
     ∙ omega (arith, zeros_are, digits)
 
--- all of it, with a dot
+-- the length of a number with a dot
 pub pointed_length : (n places : ℕ) → n < 2 ^ 128 → 0 < places → places ≤ 44
     → length (pointed n places) ≤ 46
 pointed_length n places few some within =
@@ -83,7 +83,7 @@ pointed_length n places few some within =
     omega (arith, rest, dotted, both, none))
     (cases_lt places 39)
 
--- without its dot if there are no places after it
+-- the length of a number, with a dot only if there are places after it
 some_pointed_from : (n places : ℕ) (none : Bool) → n < 2 ^ 128 → places ≤ 38 → eqb places 0 ≡ none
     → length (if none then decimal n else pointed n places) ≤ 46
 some_pointed_from n places true few within e = let all = few_digits n few in omega (arith, all)
@@ -98,7 +98,7 @@ mag_below : (z : ℤ) (k : ℕ) → up z < down z + k → down z < up z + k → 
 mag_below (pos n) k low high = omega arith
 mag_below (negsuc n) k low high = omega arith
 
--- with the exponent of its first digit
+-- the length of a number with the exponent of its first digit
 pub scientific_length : (n : ℕ) (e : ℤ) → n < 2 ^ 128 → FitsSigned w32 e → length (scientific_text n e) ≤ 58
 scientific_length n e few fits =
     let digits = few_digits n few in
@@ -112,7 +112,7 @@ scientific_length n e few fits =
     let both = length-append (some_pointed n (length (decimal n) - 1)) (codes "e" ++ signed_decimal first) in
     omega (arith, pointed_is, exponent, tail, both)
 
--- without an exponent
+-- the bounds of the exponent of a number that is written without an exponent
 plain_parts : (n : ℕ) (e : ℤ) → is_plain n e ≡ true
     → (down e ≤ up e + length (decimal n) + 5) × (up e + length (decimal n) ≤ down e + 21)
 plain_parts n e plain =

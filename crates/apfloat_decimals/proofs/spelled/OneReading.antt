@@ -31,7 +31,7 @@ use Rattle.apfloat_decimals.proofs.spelled.TextReadings.{text_once, text_parsed,
 
 -- ---- as a value
 
--- a text has one value and one status: a decimal text has no other meaning
+-- a text has at most one value and one status: a decimal text has no other meaning
 pub decimal_reading_once : (f : Format) (mode : Round) (text : List ℕ) → Once (IsDecimalReading f mode text)
 decimal_reading_once f mode text v w r s (inl x) y =
     let spells : Spells text (is_minus (mark_of text)) x.digits x.exponent =
@@ -47,7 +47,7 @@ decimal_reading_once f mode text v w r s (inr x) (inl y) =
     (reading_is f mode text (is_minus (mark_of text)) y.digits y.exponent v r spells (inr x)) y.delivered
 decimal_reading_once f mode text v w r s (inr x) (inr y) = reading_once f mode text v w r s x y
 
--- a fault of a text that may be a decimal is one of a text that may not, unless that is for having no literal
+-- if a text has no fault, it has no fault as a decimal text either
 same_fault : (empty bare special literal : Bool) (rest body : Option Fault)
     → (if empty then Some EmptyText
     else (if bare then Some LoneMark
@@ -60,30 +60,30 @@ same_fault false false true literal rest body h = refl
 same_fault false false false true rest body h = h
 same_fault false false false false rest body h = absurd (none-some NoLiteral (sym h))
 
--- so a text that has a meaning has no fault
+-- a text with a meaning has no fault as a decimal text
 meaning_no_decimal_fault : (text : List ℕ) (meaning : Meaning) → Means text meaning → decimal_fault_of text ≡ None
 meaning_no_decimal_fault text meaning means =
     same_fault (is_empty text) (is_empty (after_mark text)) (is_some (special_of text))
     (begins_literal (after_mark text)) _ (body_fault (after_mark text)) (meaning_no_fault text meaning means)
 
--- and neither has any text that is read
+-- a text that is read has no fault as a decimal text
 pub reading_no_fault : (f : Format) (mode : Round) (text : List ℕ) (value : Datum) (status : ℕ)
     → IsDecimalReading f mode text value status → decimal_fault_of text ≡ None
 reading_no_fault f mode text value status (inl x) = no_fault_of text x.digits x.exponent x.is_text
 reading_no_fault f mode text value status (inr x) = meaning_no_decimal_fault text x.meaning x.means
 
--- so a text is read or refused, not both
+-- a text is not both read and refused
 reading_or_refusal : (f : Format) (mode : Round) (text said : List ℕ) (value : Datum) (status : ℕ)
     → IsDecimalReading f mode text value status → IsDecimalRefusal text said → ⊥
 reading_or_refusal f mode text said value status x y =
     none-some y.fault (sym (reading_no_fault f mode text value status x) ∙ y.is_first)
 
--- faults that are the first one of a text have the same words
+-- two faults that are the first one of a text have the same message
 same_words : (first : Option Fault) (fault other : Fault) → first ≡ Some fault → first ≡ Some other
     → words fault ≡ words other
 same_words first fault other x y = ap (λ (o : Option Fault). words (unwrap_or o fault)) (sym x ∙ y)
 
--- so a text is refused in one way
+-- a text is refused with one message
 pub decimal_refusal_once : (text said other : List ℕ) → IsDecimalRefusal text said → IsDecimalRefusal text other
     → said ≡ other
 decimal_refusal_once text said other x y =

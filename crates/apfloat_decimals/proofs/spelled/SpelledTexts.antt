@@ -24,7 +24,7 @@ use Rattle.apfloat_decimals.specs.DecimalTexts.{decimal_fault_of}
 
 -- ---- the parts of a text
 
--- what follows the first digits
+-- the division of the text after the first digits: a dot or none, digits, and the rest
 record IsSplit (rest : List ℕ) : Type 0 where
   point : List ℕ
   spelled : rest ≡ point ++ (fraction_in rest ++ after_fraction rest)
@@ -50,14 +50,14 @@ split (c ∷ rest) = go (cases_Bool (is_dot c))
 pub first_digits : (body whole : List ℕ) → whole ≡ run is_decimal body → every is_decimal whole ≡ true
 first_digits body whole e = subst (λ (t : List ℕ). every is_decimal t ≡ true) (sym e) (run_passes is_decimal body)
 
--- so are those after a dot
+-- the digits after a dot are digits
 pub fraction_digits : (rest fraction : List ℕ) → fraction ≡ fraction_in rest
     → every is_decimal fraction ≡ true
 fraction_digits rest fraction e =
     let s = split rest in
     subst (λ (t : List ℕ). every is_decimal t ≡ true) (sym e) s.digits
 
--- an exponent without a fault is one
+-- an exponent without a fault is a written exponent
 written : (tail : List ℕ) → (not (is_empty tail) && not (begins is_e tail)) ≡ false
     → written_fault tail ≡ None → IsWrittenExponent tail (exponent_number (drop 1 tail))
 written [] b d = refl
@@ -109,7 +109,7 @@ body_text body whole rest fraction tail some w r f t n h =
     empty_none [] h = absurd (false≢true h)
     empty_none (x ∷ xs) h = refl
 
--- and its value is that number, rounded once
+-- a text without a fault has that number, rounded once, as its value
 pub body_spelled : (format : Format) (mode : Round) (negative : Bool) (body whole rest fraction tail : List ℕ)
     (some : Bool) (value : Datum) (status : ℕ) → whole ≡ run is_decimal body
     → rest ≡ after_run is_decimal body
@@ -126,7 +126,7 @@ body_spelled format mode negative body whole rest fraction tail some value statu
       delivered = delivered;
     }
 
--- the fault of a text by its parts
+-- the first fault of a text, from its parts
 pub body_faulted : (body whole rest fraction tail : List ℕ) (some : Bool) (fault : Fault)
     → whole ≡ run is_decimal body
     → rest ≡ after_run is_decimal body → fraction ≡ fraction_in rest → tail ≡ after_fraction rest
@@ -161,7 +161,7 @@ some_first (c ∷ first) second h = refl
 
 -- ---- the fault of a text
 
--- with nothing after the sign, or the prefix of a hexadecimal number, it is that of any text
+-- if nothing or the prefix of a hexadecimal number follows the sign, a decimal text has the fault that any text has
 pub same_fault : (text : List ℕ)
     → (not (is_empty (after_mark text)) && not (begins_literal (after_mark text))) ≡ false
     → decimal_fault_of text ≡ fault_of text
@@ -178,7 +178,7 @@ same_fault text h =
     go false false false true x y h = refl
     go false false false false x y h = absurd (false≢true (sym h))
 
--- otherwise the first fault is that of any text
+-- if nothing or the prefix of a hexadecimal number follows the sign, a known fault is that of the decimal text
 pub other_fault : (text : List ℕ) (fault : Fault)
     → (not (is_empty (after_mark text)) && not (begins_literal (after_mark text))) ≡ false
     → fault_of text ≡ Some fault → decimal_fault_of text ≡ Some fault
@@ -196,7 +196,7 @@ other_fault (c ∷ text) fault h first =
     go false false true x y h first = first
     go false false false x y h first = absurd (false≢true (sym h))
 
--- in another text that is refused, it is that of what follows the sign
+-- for any other text that is refused, the fault is that of what follows the sign
 pub plain_fault : (text : List ℕ) (fault other : Fault)
     → (not (is_empty (after_mark text)) && not (begins_literal (after_mark text))) ≡ true
     → fault_of text ≡ Some other → body_fault (after_mark text) ≡ Some fault

@@ -1,4 +1,4 @@
--- A decimal text has one division into its parts, so it spells one number and has no fault.
+-- A decimal text has only one division into its parts, so it spells one number and has no fault.
 use Rattle.std.proofs.Common.{◌≡◌, ◌⊎◌, ℕ, ◌≤◌, ◌<◌, Bool, true, false, not, ◌&&◌, ◌||◌, cond, refl, sym, ap, ◌∙◌}
 use Rattle.std.proofs.Common.{subst, inl, inr, ⊎_elim, arith, List, [], ◌∷◌, ◌++◌, length, take, drop, codes, Option}
 use Rattle.std.proofs.Common.{Some, None, is_some, ℤ, pos, ◌-ℤ◌, eqb, leb}
@@ -22,7 +22,7 @@ use Rattle.apfloat_decimals.specs.Parsing.{plain_fault_of}
 
 -- ---- the exponent
 
--- what a written exponent begins with, and its number
+-- the start and the number of a written exponent, which has no fault
 record IsTail (tail : List ℕ) (written : ℤ) : Type 0 where
   no_digit : begins is_decimal tail ≡ false
   no_dot : begins is_dot tail ≡ false
@@ -30,7 +30,7 @@ record IsTail (tail : List ℕ) (written : ℤ) : Type 0 where
   faultless : written_fault tail ≡ None
   number_is : written ≡ exponent_number (drop 1 tail)
 
--- a letter for the exponent is neither a digit nor a dot
+-- the letter of an exponent is neither a digit nor a dot
 letter_no_digit : (c : ℕ) → is_e c ≡ true → (is_decimal c ≡ false) × (is_dot c ≡ false)
 letter_no_digit c h =
     ⊎_elim
@@ -93,7 +93,7 @@ parts_of whole point fraction tail (inr none) w f t d = rw (none.0, none.1) (par
 
 -- ---- the number
 
--- the number of a decimal text, and that it has no fault
+-- the number of a decimal text from its parts; the text has no fault
 pub record IsOnlyText (body : List ℕ) (digits : ℕ) (exponent : ℤ) : Type 0 where
   pub digits_are : digits ≡ number 10 (all_digits body)
   pub exponent_is : exponent
@@ -130,9 +130,9 @@ only_text body digits exponent x =
     filled body [] [] (c ∷ fraction) tail e h = ap is_empty e
     filled body [] [] [] tail e h = absurd (omega (arith, h))
 
--- ---- neither specials nor hexadecimal
+-- ---- a decimal text is neither special nor hexadecimal
 
--- a text that begins as hexadecimal numbers do has a fault as a decimal
+-- a text with the prefix of a hexadecimal number has a fault as a decimal text
 literal_faulty : (body : List ℕ) → begins_literal body ≡ true → body_fault body ≡ None → ⊥
 literal_faulty [] h f = false≢true h
 literal_faulty (c ∷ []) h f =
@@ -157,11 +157,11 @@ no_literal body f =
     ⊎_elim (λ (h : begins_literal body ≡ true). absurd (literal_faulty body h f))
     (λ (h : begins_literal body ≡ false). h) (cases_Bool (begins_literal body))
 
--- texts with other first characters differ
+-- texts whose first characters differ are different
 differs : (c k : ℕ) (rest word : List ℕ) → c ≤ 57 → 57 < k → same (c ∷ rest) (k ∷ word) ≡ false
 differs c k rest word low high = and_left (eqb c k) (same rest word) (ne_eqb c k (λ e. omega arith))
 
--- no special begins with a dot or a digit
+-- no special text begins with a dot or a digit
 no_infinity : (mark : Mark) (c : ℕ) (rest : List ℕ) → c ≤ 57 → is_infinity mark (c ∷ rest) ≡ false
 no_infinity Unmarked c rest l =
     or_from (same (c ∷ rest) (codes "inf")) (same (c ∷ rest) (codes "INFINITY"))
@@ -199,7 +199,7 @@ no_special mark c rest l =
     (no_infinity mark c rest l)
     ∙ no_nan mark c rest l
 
--- a decimal text begins with a dot or a digit
+-- a decimal text is not special: it begins with a dot or a digit
 no_special_text : (mark : Mark) (body whole point fraction tail : List ℕ)
     → body ≡ whole ++ (point ++ (fraction ++ tail))
     → (point ≡ codes ".") ⊎ ((point ≡ []) × (fraction ≡ []))
@@ -230,7 +230,7 @@ no_other_meaning (c ∷ text) digits exponent x =
     let literal = no_literal body only.faultless in
     rw (only.some, special, literal) refl
 
--- nor has it a fault
+-- a decimal text has no fault
 pub no_fault_of : (text : List ℕ) (digits : ℕ) (exponent : ℤ) → IsDecimalText (after_mark text) digits exponent
     → decimal_fault_of text ≡ None
 no_fault_of [] digits exponent x = absurd (false≢true (sym (only_text [] digits exponent x).some))

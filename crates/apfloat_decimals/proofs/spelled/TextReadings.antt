@@ -1,4 +1,4 @@
--- What is read of a decimal text is its number.
+-- A decimal text is read as its number.
 use Rattle.std.proofs.Common.{◌≡◌, ℕ, Bool, sym, ◌∙◌, inl, inr, List, Result, Ok, Err, ℤ, pos, neg_ℤ, ◌≤ℤ◌, ◌+◌, ◌^◌}
 use Rattle.std.proofs.Common.{ap, ⊎_elim, arith}
 use Rattle.std.proofs.lemmas.Int.{ints}
@@ -23,7 +23,7 @@ use Rattle.apfloat_decimals.specs.declared.parsing.DecimalError.TheVariants.{NoD
 use Rattle.apfloat_decimals.specs.declared.parsing.DecimalError.TheVariants.{ExponentOutOfRange}
 use Rattle.apfloat_decimals.proofs.spelled.TextParts.{only_text, no_other_meaning, no_fault_of, no_plain_fault}
 
--- a text spells one number
+-- a decimal text spells one number
 pub text_once : (body : List ℕ) (digits other : ℕ) (exponent place : ℤ) → IsDecimalText body digits exponent
     → IsDecimalText body other place → (digits ≡ other) × (exponent ≡ place)
 text_once body digits other exponent place x y =
@@ -31,7 +31,7 @@ text_once body digits other exponent place x y =
     let two = only_text body other place y in
     (one.digits_are ∙ sym two.digits_are, one.exponent_is ∙ sym two.exponent_is)
 
--- a reading of the text is that of its number
+-- a value that is read from a text is delivered for the number that the text spells
 pub reading_is : (format : Format) (mode : Round) (text : List ℕ) (negative : Bool) (digits : ℕ) (exponent : ℤ)
     (value : Datum) (status : ℕ) → Spells text negative digits exponent
     → IsDecimalReading format mode text value status

@@ -27,7 +27,7 @@ use Rattle.apfloat_decimals.proofs.spelled.WrittenNumbers.{length_more, few_digi
 
 -- ---- digits
 
--- the list consists of digits, of that number
+-- a list of digits of the number n
 record IsNumber (n : ℕ) (digits : List ℕ) : Type 0 where
   are_digits : every is_decimal digits ≡ true
   some : 1 ≤ length digits
@@ -63,12 +63,12 @@ more_digits n digits l x =
           ∙ omega arith;
     }
 
--- the digits that are written of a number
+-- the written digits of a number are digits of it
 number_of_decimal : (n : ℕ) → n < 10 ^ 64 → IsNumber n (decimal n)
 number_of_decimal n few =
     decimal_by_steps_wide (λ (m : ℕ) (ds : List ℕ). IsNumber m ds) single_digit more_digits n few
 
--- zeros and digits after a number
+-- a number with digits appended is the number moved up, plus that of the digits
 after : (n : ℕ) (digits : List ℕ) → number_from n digits ≡ n * 10 ^ length digits + number_from 0 digits
 after n [] = omega arith
 after n (c ∷ digits) =
@@ -150,7 +150,7 @@ exponent_written (negsuc m) low high =
 
 -- ---- numbers with a dot
 
--- digits on both sides of a dot
+-- digits with a dot among them, and a tail, are a decimal text
 dotted : (n places : ℕ) (tail : List ℕ) (written : ℤ) → n < 2 ^ 128 → 0 < places
     → IsWrittenExponent tail written
     → IsDecimalText (pointed n places ++ tail) n (written -ℤ pos places)
@@ -181,7 +181,7 @@ dotted n places tail written few some exponent =
       exponent_is = rw fraction.length_is refl;
     }
 
--- digits without a dot
+-- digits without a dot, and a tail, are a decimal text
 undotted : (n : ℕ) (tail : List ℕ) (written : ℤ) → n < 2 ^ 128 → IsWrittenExponent tail written
     → IsDecimalText (decimal n ++ tail) n (written -ℤ pos 0)
 undotted n tail written few exponent =
@@ -204,13 +204,13 @@ undotted n tail written few exponent =
 
 -- ---- magnitudes
 
--- a text without a sign
+-- a decimal text without a sign
 record IsMagnitude (text : List ℕ) (digits : ℕ) (exponent : ℤ) : Type 0 where
   is_text : IsDecimalText text digits exponent
   no_mark : mark_of text ≡ Unmarked
   no_sign : after_mark text ≡ text
 
--- a text that begins with the digits of a number
+-- a decimal text that begins with the digits of a number has no sign
 begun : (m n : ℕ) (e : ℤ) (rest text : List ℕ) → m < 2 ^ 128 → text ≡ decimal m ++ rest
     → IsDecimalText text n e → IsMagnitude text n e
 begun m n e rest text few same x =
@@ -218,7 +218,7 @@ begun m n e rest text few same x =
     let mark = unmarked (decimal m) rest first.are_digits first.some in
     record { is_text = x; no_mark = rw same mark.0; no_sign = rw same mark.1 }
 
--- with a dot, and maybe an exponent
+-- a number with a dot and an optional exponent has no sign
 begun_dotted : (n places : ℕ) (tail : List ℕ) (written e : ℤ) → n < 2 ^ 128 → 0 < places
     → IsWrittenExponent tail written → written -ℤ pos places ≡ e → IsMagnitude (pointed n places ++ tail) n e
 begun_dotted n places tail written e few some exponent same =
@@ -249,7 +249,7 @@ zero_text = record {
   no_sign = refl;
 }
 
--- without an exponent
+-- an integer written without an exponent, with a zero after its dot
 plain_whole : (n : ℕ) (e : ℤ) → n < 2 ^ 128 → is_plain n e ≡ true → eqb (down e) 0 ≡ true
     → IsMagnitude (pointed (n * 10 ^ (up e + 1)) 1) (n * 10 ^ (up e + 1)) (neg_ℤ (pos 1))
 plain_whole n e few plain whole =
@@ -277,7 +277,7 @@ plain_fraction n e few some =
     below zero h = absurd (h refl)
     below (suc m) h = omega arith
 
--- with an exponent
+-- a number written with an exponent
 scientific : (n : ℕ) (e : ℤ) → n < 2 ^ 128 → neg_ℤ (pos (2 ^ 31)) ≤ℤ e → e ≤ℤ pos (2 ^ 31 - 1)
     → IsMagnitude (scientific_text n e) n e
 scientific n e few low high =
@@ -336,7 +336,7 @@ text_spelled x stored =
     signed_spelled x.negative (magnitude_text x.digits x.exponent) (written x).digits (written x).exponent
     (magnitude_spelled x stored)
 
--- it is the same number
+-- the written decimal is the same number
 pub written_same : (x : Decimal) → IsSameNumber (written x).digits (written x).exponent x.digits x.exponent
 written_same x =
     ⊎_elim
@@ -356,7 +356,7 @@ written_same x =
     same : (n high more low : ℕ) → more ≡ high * 10 → low ≡ 1 → n * more * 1 * low ≡ n * high * 10
     same n high more low e one = rw (e, one) (omega arith)
 
--- and it fits
+-- the numbers of the written decimal belong to their types
 pub written_stored : (x : Decimal) → IsStoredDecimal x → IsStoredDecimal (written x)
 written_stored x stored =
     ⊎_elim

@@ -4,7 +4,7 @@ ghost use Rattle.std.specs.Prelude.{◌≡◌, ◌+◌, ◌*◌, ◌^◌, ◌<�
 ghost use Rattle.apfloat_model.specs.texts.Digits.{every, is_decimal, number};
 ghost use Rattle.apfloat_decimals.specs.LeadingDigits.{IsFront, number_from};
 
-/// How many digits are taken at most.
+/// The greatest number of digits that are taken.
 const TAKEN: usize = 38;
 
 /// Numbers below this, with one more digit, fit in one machine word.

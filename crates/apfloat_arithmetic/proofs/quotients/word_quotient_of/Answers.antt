@@ -4,14 +4,14 @@ use Rattle.apfloat_model.proofs.general.Powers.{two_pos, twice_power}
 use Rattle.apfloat_model.proofs.rounding.KeptDigits.{fits_shifted}
 use Rattle.apfloat_arithmetic.proofs.quotients.word_quotient_of.Goals as goal
 
--- significands that fit in a precision fit in each greater one
+-- a significand that fits in a precision fits in each greater one
 fits_within : (significand precision bound : ℕ) → significand < 2 ^ precision → precision ≤ bound
     → significand < 2 ^ bound
 fits_within significand precision bound fits l =
     let a : 2 ^ precision ≤ 2 ^ bound = pow-le-pow_right two_pos l in
     omega (arith, a, fits)
 
--- a dividend below twice such a divisor, moved up, fits in a word
+-- a dividend below twice a divisor of at most 31 digits, moved up, fits in a word
 moved_within : (dividend divisor precision : ℕ) → dividend < 2 * divisor → divisor < 2 ^ precision → precision ≤ 31
     → dividend * 2 ^ (precision + 1) < 2 ^ 64
 moved_within dividend divisor precision close fits l =

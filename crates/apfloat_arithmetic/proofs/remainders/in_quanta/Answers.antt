@@ -3,7 +3,7 @@ use Rattle.std.proofs.Math.Nat.{eq_of_mul-eq-mul_right, div-eq_of_eq-mul_left}
 use Rattle.std.proofs.lemmas.Nat.{pow-add, pow_pos}
 use Rattle.apfloat_arithmetic.proofs.remainders.in_quanta.Goals as goal
 
--- the place counted from the quantum's
+-- a significand at a place not below the quantum, in quanta
 lowered : (s p low n : ℕ) → low ≤ p → s * 2 ^ p ≡ n * 2 ^ low → s * 2 ^ (p - low) ≡ n
 lowered s p low n l e =
     let w : p ≡ (p - low) + low = omega arith in
@@ -11,7 +11,7 @@ lowered s p low n l e =
     let b : s * 2 ^ p ≡ s * (2 ^ (p - low) * 2 ^ low) = ap (λ (x : ℕ). s * x) a in
     eq_of_mul-eq-mul_right (2 ^ low) (pow_pos low) (s * 2 ^ (p - low)) n (omega arith)
 
--- the places below the quantum hold no digit
+-- an integral number of quanta has no digits below the quantum
 cut_below : (s p low n : ℕ) → p ≤ low → s * 2 ^ p ≡ n * 2 ^ low → s / 2 ^ (low - p) * 1 ≡ n
 cut_below s p low n l e =
     let w : low ≡ (low - p) + p = omega arith in

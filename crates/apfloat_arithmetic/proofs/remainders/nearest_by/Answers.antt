@@ -29,7 +29,7 @@ overflow_mul-divisor c =
 level_places : (t p q : ℕ) → p ≡ q → t * 2 ^ p ≡ t * 2 ^ q
 level_places t p q e = ap (λ (x : ℕ). t * 2 ^ x) e
 
--- the divisor at the place of the rest
+-- the divisor at the place of the rest is the divisor
 divisor_there : (state : Joined-gap-eq1)
     → state.if-gap-eq1.divisor * 2 ^ state.remaining_by-rest.result.magnitude.place ≡ units_of state.args.y
 divisor_there c =
@@ -55,7 +55,7 @@ overflow_sub-other c =
     (divisor_there (goal.at.overflow_sub-other c).Joined-gap-eq1) l in
     omega arith
 
--- which multiple is nearest, by the digits at the place of the rest
+-- the digits at the place of the rest decide which multiple is nearest
 nearest_there : (state : Joined-gap-eq1)
     → upper state.remaining_by-rest.result.magnitude.significand
     (state.if-gap-eq1.divisor - state.remaining_by-rest.result.magnitude.significand) state.remaining_by-rest.result.odd

@@ -19,7 +19,7 @@ returns-then-x-y-clause-rest c = left_all (units_of c.args.y) (units_of c.args.x
 pub returns-then-x-y-clause-odd : goal.returns-then-x-y-clause-odd
 returns-then-x-y-clause-odd c = not_odd (units_of c.args.y) (units_of c.args.x) (is_less c)
 
--- the number at the divisor's place
+-- a number at a place not below the divisor's, counted from the divisor's place
 lowered : (state : After-rest_of_moved-left) → state.args.y.place ≤ state.args.x.place → units_of state.args.x
     ≡ state.args.x.significand * 2 ^ (state.args.x.place - state.args.y.place) * 2 ^ state.args.y.place
 lowered c l = at_lower_place c.args.x.significand c.args.x.place c.args.y.place l

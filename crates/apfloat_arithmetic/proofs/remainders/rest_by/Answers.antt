@@ -24,7 +24,7 @@ less_multiple-less-requires-clause-narrow c =
     let f = c.loop-rest.invariant.fits in
     omega arith
 
--- ---- one turn
+-- ---- one iteration
 
 divides : (state : After-less_multiple-less) → 0 < units_of state.args.y
 divides c = divisor_pos c.args.precision c.args.y.significand c.args.y.place c.requires.y.full
@@ -38,7 +38,7 @@ turn c =
     c.less_multiple-less.ensures.taken c.less_multiple-less.ensures.below
     c.less_multiple-less.ensures.least
 
--- it takes one digit off the quotient
+-- one iteration takes one binary one off the quotient
 one_digit : (state : After-less_multiple-less)
     → count_ones (units_of state.loop-rest.rest / units_of state.args.y)
     ≡ 1 + count_ones (units_of state.less_multiple-less.result / units_of state.args.y)
@@ -55,7 +55,7 @@ overflow_add-steps c =
     let i = c.loop-rest.invariant.counted in
     record { fits = omega arith }
 
--- ---- the last turn
+-- ---- the last iteration
 
 last : (state : Then-less-y)
     → IsTurn (units_of state.args.y) (units_of state.loop-rest.rest) (units_of state.less_multiple-less.result) 0
@@ -82,7 +82,7 @@ returns-then-less-y-clause-steps c =
     let n = none_set (units_of c.args.y) (units_of c.less_multiple-less.result) (leaves_less c) in
     omega arith
 
--- ---- any other turn
+-- ---- any other iteration
 
 pub loop-rest-smaller : goal.loop-rest-smaller
 loop-rest-smaller c =

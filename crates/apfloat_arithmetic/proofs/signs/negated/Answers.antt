@@ -9,7 +9,7 @@ use Rattle.apfloat_rounding.specs.Stored.{IsStored, datum_at, quanta_at}
 use Rattle.apfloat_arithmetic.proofs.SumCases.{number_stored, datum_is}
 use Rattle.apfloat_arithmetic.proofs.signs.negated.Goals as goal
 
--- a number or an infinity
+-- negating a nonzero number or an infinity flips its sign
 turned_datum : (category : Category) (shape : Shape) (x : Unpacked) → x.category ≡ category → IsStored shape x
     → (category ≡ Zero → ⊥) → (category ≡ NaN → ⊥)
     → datum_at shape (record x { negative = not x.negative }) ≡ negated shape.nonfinite (datum_at shape x)

@@ -17,7 +17,7 @@ pub digits_of-requires-clause-fraction : goal.digits_of-requires-clause-fraction
 digits_of-requires-clause-fraction c =
     fraction_digits c.split_digits.result.1.now _ c.split_fraction.ensures.digits
 
--- the number of the text
+-- the text spells its digits times the power of ten
 spelled : (c : After-digits_of) → IsDecimalText c.args.body.now
     (number 10 (c.split_digits.result.0.now ++ c.split_fraction.result.0.now))
     (exponent_number (drop 1 c.split_fraction.result.1.now) -ℤ pos (length c.split_fraction.result.0.now))
@@ -26,7 +26,7 @@ spelled c =
     c.split_fraction.result.1.now c.has_some.result c.split_digits.ensures.digits c.split_digits.ensures.rest
     c.split_fraction.ensures.digits c.split_fraction.ensures.rest c.has_some.ensures c.in-Ok.ensures.2
 
--- the exponent that was counted is near it
+-- the exponent that was counted is near that of the text
 near : (c : After-digits_of) → IsNear far_bound (exponent_number (drop 1 c.split_fraction.result.1.now))
     (to_z w128 (of_z w128 c.in-Ok.exponent))
 near c =

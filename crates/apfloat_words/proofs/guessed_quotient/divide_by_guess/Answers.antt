@@ -6,7 +6,7 @@ use Rattle.apfloat_model.proofs.general.Powers.{two_pos}
 use Rattle.apfloat_model.proofs.rounding.KeptDigits.{fits_shifted}
 use Rattle.apfloat_words.proofs.guessed_quotient.divide_by_guess.Goals as goal
 
--- the dividend moved up, which fits in a u128
+-- the dividend, moved up, fits in a u128
 moved : (dividend divisor places from : ℕ) → from ≡ dividend → dividend < 2 * divisor → divisor < 2 ^ 62 → places ≤ 61
     → from * 2 ^ places % 2 ^ 128 ≡ dividend * 2 ^ places
 moved dividend divisor places from e l n s =

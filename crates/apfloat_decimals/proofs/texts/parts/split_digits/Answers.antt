@@ -5,7 +5,7 @@ use Rattle.apfloat_decimals.proofs.texts.parts.split_digits.Goals.{After-split_a
 use Rattle.apfloat_decimals.proofs.texts.parts.split_digits.Goals.{else-loop-count-test}
 use Rattle.apfloat_decimals.proofs.texts.parts.split_digits.Goals as goal
 
--- no digit follows
+-- the text after the split does not begin with a digit
 stops : (state : After-split_at) → begins is_decimal (drop state.loop-count.count state.args.text.now) ≡ false
 stops c =
     elim c.loop-count-test.branch [
