@@ -4,7 +4,7 @@
 //! A significand `s` with a unit and a `Loss` represents each magnitude that is `s` units plus a rest below one unit
 //! that the `Loss` describes (`StandsFor` in `apfloat_model/specs/rounding/Standing.antt`).
 //!
-//! Products of long significands, and sums with them, take two words (`Wide`) until they are cut to one.
+//! Products and sums that are too long for a `u128` take two (`Wide`), and are rounded to odd once they are cut to one.
 #![tactic(auto)]
 
 pub mod guessed_quotient;
