@@ -66,7 +66,8 @@ fn sign_of_odd_total(significand: u128, negative: bool, of_zero: bool) -> bool
     if significand == 0 { of_zero } else { negative }
 }
 
-/// Delivers the total of two numbers with these signs, which was rounded to odd, rounded once.
+/// Delivers the total of two numbers with these signs, which was rounded to odd, rounded once. An exact zero has the
+/// sign that the mode gives it (IEEE 754-2008 6.3).
 #[inline(always)]
 pub(crate) fn deliver_total(
     shape: Shape,

@@ -4,8 +4,7 @@
 //! A significand `s` with a unit and a `Loss` represents each magnitude that is `s` units plus a rest below one unit
 //! that the `Loss` describes (`StandsFor` in `apfloat_model/specs/rounding/Standing.antt`).
 //!
-//! Products of significands of more than 64 digits, and sums with them, take two words of 128 bits (`Wide`) until they
-//! are cut to one.
+//! Products and sums that are too long for a `u128` take two (`Wide`), and are rounded to odd when they are cut to one.
 #![tactic(auto)]
 
 pub mod guessed_quotient;
