@@ -2,7 +2,7 @@ use Rattle.std.proofs.Common.{ap, Option}
 use Rattle.std.specs.Prelude.{is_some}
 use Rattle.apfloat_model.specs.declared.parse_error.Fault.{Fault}
 use Rattle.apfloat_model.specs.rounding.Flags.{bits_of}
-use Rattle.apfloat_ieee.specs.Types.{format_of}
+use Rattle.rustc_apfloat.specs.Types.{format_of}
 use Rattle.apfloat_c.proofs.MeaningfulTexts.{read_ascii}
 use Rattle.apfloat_c.proofs.decimals.DecimalReadingInFormat.in_format.Goals as goal
 
