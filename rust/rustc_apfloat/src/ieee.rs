@@ -1,12 +1,12 @@
 //! Formats of one significand.
 
-use crate::decimal;
+use crate::digits;
 use crate::erased::apfloat_base::{self, Float as _, FloatConvert as _};
 use crate::erased::apfloat_rounding::unpacked::Unpacked;
 use crate::erased::{apfloat_decimals, apfloat_ieee};
 use crate::law::Constants;
 use crate::status::answered;
-use crate::{Category, ExpInt, Float, FloatConvert, ParseError, Round, StatusAnd};
+use crate::{Category, Decimal, ExpInt, Float, FloatConvert, ParseError, Round, StatusAnd};
 use core::cmp::Ordering;
 use core::fmt;
 use core::marker::PhantomData;
@@ -149,6 +149,12 @@ impl<S: Semantics> LawOfFormat<S> {
 
     /// Whether the format's exponents are within those of `Quad`, as those have to be that the library reads decimals in.
     const HAS_QUAD_EXPONENTS: bool = S::MIN_EXP >= -16382 && S::MAX_EXP <= 16383;
+
+    /// That values of the format can be written by the library.
+    const IS_WRITTEN: () = assert!(Self::HAS_QUAD_EXPONENTS, "the format's exponents are past those of Quad");
+
+    /// That the library finds shortest decimals in the format.
+    const HAS_SHORTEST: () = assert!(S::PRECISION <= 113, "PRECISION is more than 113");
 }
 
 /// The format `S` as the library knows formats, with the flags of the built-in ones.
@@ -329,6 +335,42 @@ impl<S: Semantics> IeeeFloat<S> {
         }
     }
 
+    #[inline]
+    fn plain(self) -> apfloat_ieee::IeeeFloat<PlainS<S>> {
+        apfloat_ieee::IeeeFloat::packed(self.value)
+    }
+
+    /// The shortest decimal that gives the value when it is rounded to nearest, ties to even, and of those the nearest;
+    /// infinities and NaNs have none. It does not compile in a format of more digits or farther exponents than `Quad`.
+    ///
+    /// The crate `rustc_apfloat` has no such call.
+    pub fn shortest(self) -> Option<Decimal> {
+        let () = LawOfFormat::<S>::IS_WRITTEN;
+        let () = LawOfFormat::<S>::HAS_SHORTEST;
+        apfloat_decimals::shortest(self.plain())
+    }
+
+    /// The decimal that equals the value, if its digits are below 2^128; infinities and NaNs have none.
+    ///
+    /// The crate `rustc_apfloat` has no such call.
+    pub fn exact_decimal(self) -> Option<Decimal> {
+        apfloat_decimals::exact(self.plain())
+    }
+
+    /// The value rounded to `count` decimal digits, and whether that is the value itself; infinities and NaNs have none.
+    /// It does not compile in a format of farther exponents than `Quad`.
+    ///
+    /// The crate `rustc_apfloat` has no such call.
+    ///
+    /// # Panics
+    ///
+    /// Unless the count is from 1 to 36.
+    pub fn rounded_decimal(self, count: u32, round: Round) -> Option<(Decimal, bool)> {
+        let () = LawOfFormat::<S>::IS_WRITTEN;
+        assert!((1..=36).contains(&count), "a value is rounded to 1 to 36 digits, and not to {count}");
+        apfloat_decimals::rounded(self.plain(), count, round)
+    }
+
     /// The square root, rounded once. The crate `rustc_apfloat` has none.
     #[inline]
     pub fn sqrt_r(self, round: Round) -> StatusAnd<Self> {
@@ -374,7 +416,7 @@ impl<S: Semantics> fmt::Display for IeeeFloat<S> {
     fn fmt(&self, f: &mut fmt::Formatter<'_>) -> fmt::Result {
         let (significand, exponent) = self.parts();
         let last = exponent - (S::PRECISION as ExpInt - 1);
-        decimal::write(f, self.category(), self.is_negative(), significand, last, S::PRECISION)
+        digits::write(f, self.category(), self.is_negative(), significand, last, S::PRECISION)
     }
 }
 
@@ -434,7 +476,7 @@ impl<S: Semantics> Float for IeeeFloat<S> {
         }
         // A decimal, or a text with a fault, whatever the format.
         let _ = apfloat_decimals::read_decimal::<PlainS<QuadS>>(s, round)?;
-        Ok(Self::answered(decimal::read(s, round)))
+        Ok(Self::answered(digits::read(s, round)))
     }
 
     #[inline]

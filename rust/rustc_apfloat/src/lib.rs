@@ -20,7 +20,7 @@
 
 extern crate alloc;
 
-mod decimal;
+mod digits;
 mod erased;
 #[macro_use]
 mod float;
@@ -29,6 +29,7 @@ mod law;
 pub mod ppc;
 mod status;
 
+pub use erased::apfloat_decimals::{Decimal, DecimalError};
 pub use erased::apfloat_model::{Category, ExpInt, IEK_INF, IEK_NAN, IEK_ZERO, ParseError, Round};
 pub use float::{Float, FloatConvert};
 pub use status::{Status, StatusAnd};
