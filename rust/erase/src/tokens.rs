@@ -247,6 +247,9 @@ impl<'a> Reader<'a> {
             return self.fault(format!("{of} without its braces"));
         }
         let length = self.logic("")?;
+        if self.rest()[1..length - 1].trim().is_empty() {
+            return self.fault(format!("{of} with nothing in its braces"));
+        }
         self.take(Kind::Clause, length);
         Ok(())
     }

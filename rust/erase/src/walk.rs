@@ -29,7 +29,7 @@ pub(crate) struct Place<'a> {
 /// What is between the innermost brackets.
 #[derive(Clone, Copy, Debug, PartialEq, Eq)]
 enum Within {
-    /// Items: the file, a module, an `impl`, a trait.
+    /// Items: the file, an `impl`, a trait.
     Items,
     /// The fields of a struct or the variants of an enum.
     Fields,
@@ -266,7 +266,7 @@ impl<'a> Walk<'a, '_> {
         }
         match (self.innermost(), self.item) {
             (Within::Code, _) => Ok(Within::Code),
-            (Within::Items, "impl" | "trait" | "mod") => Ok(Within::Items),
+            (Within::Items, "impl" | "trait") => Ok(Within::Items),
             (Within::Items, "struct" | "enum") => Ok(Within::Fields),
             (Within::Fields, "enum") => Ok(Within::Fields),
             (Within::Items, "const") => Ok(Within::Code),
@@ -349,6 +349,9 @@ impl<'a> Walk<'a, '_> {
         let mut end = at + 1;
         while self.kind(end) != Some(Kind::Clause) {
             end += 1;
+        }
+        if !matches!(self.text(end + 1), "requires" | "ensures" | "{" | ";") {
+            return self.fault(end, "a clause before neither a clause, nor a body, nor a semicolon");
         }
         self.leave_out(at, end + 1);
         Ok(end + 1)
