@@ -19,7 +19,7 @@ fn compare(source: &Path, erased: &Path) -> usize {
         assert_eq!(text.lines().count() - added, original.lines().count(), "{}", path.display());
         for (number, (line, from)) in text.lines().zip(original.lines()).enumerate() {
             // What is left of a line is what it had, but for paths and the few forms that are rewritten.
-            let same = line.trim() == from.trim() || matches!(line.trim(), "" | ";");
+            let same = line.trim() == from.trim().trim_start_matches("final ") || matches!(line.trim(), "" | ";");
             let rewritten = ["crate::erased::", "core::", " Copy for ", "fn fmt(&self", "pub(crate) use "];
             let known = same || rewritten.iter().any(|form| line.contains(form)) || from.contains("derive(");
             assert!(known, "{}:{}: {line}", path.display(), number + 1);

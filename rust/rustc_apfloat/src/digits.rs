@@ -184,16 +184,16 @@ fn rounded_digits(significand: u128, exponent: ExpInt, wanted: usize) -> (Vec<u8
                 digits.pop();
                 last += 1;
             }
-            match digits.last_mut() {
-                Some(digit) => *digit += 1,
-                None => digits.push(1),
+            if let Some(digit) = digits.last_mut() {
+                *digit += 1;
             }
         } else {
             drop_zeros(&mut digits, &mut last);
-            if digits.is_empty() {
-                digits.push(1);
-            }
         }
+    }
+    // A carry past the first digit; or no digits were wanted.
+    if digits.is_empty() {
+        digits.push(1);
     }
     (digits, last)
 }

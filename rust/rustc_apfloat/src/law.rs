@@ -142,3 +142,79 @@ impl Constants {
         None
     }
 }
+
+#[cfg(test)]
+mod tests {
+    use super::*;
+    use crate::ieee::{DoubleS, Float8E4M3FNS, Float8E4M3FNUZS, HalfS, IeeeFlags, QuadS, TinyBefore, X87DoubleExtendedS};
+    use crate::ieee::{BFloatS, Double, Float8E5M2S, SingleS};
+    use crate::ppc::{FallbackExtendedS, FallbackS};
+
+    #[test]
+    fn the_built_in_formats_are_lawful() {
+        let all = [
+            Constants::of::<HalfS>(),
+            Constants::of::<SingleS>(),
+            Constants::of::<DoubleS>(),
+            Constants::of::<QuadS>(),
+            Constants::of::<BFloatS>(),
+            Constants::of::<Float8E5M2S>(),
+            Constants::of::<Float8E4M3FNS>(),
+            Constants::of::<Float8E4M3FNUZS>(),
+            Constants::of::<X87DoubleExtendedS>(),
+            Constants::of::<FallbackS<Double>>(),
+            Constants::of::<FallbackExtendedS<Double>>(),
+            Constants::of::<IeeeFlags<TinyBefore<DoubleS>>>(),
+        ];
+        assert!(all.iter().all(|constants| constants.fault().is_none()));
+    }
+
+    /// The format `S` with a change.
+    fn fault<S: Semantics>(change: impl FnOnce(&mut Constants)) -> Option<&'static str> {
+        let mut constants = Constants::of::<S>();
+        change(&mut constants);
+        constants.fault()
+    }
+
+    #[test]
+    fn each_clause_is_named() {
+        macro_rules! faults {
+            ($($format:ty: $constant:ident = $value:expr, $text:literal;)*) => {$(
+                let text = fault::<$format>(|constants| constants.$constant = $value);
+                assert!(text.is_some_and(|text| text.starts_with($text)), "{text:?}, not {}", $text);
+            )*};
+        }
+        type Wide = FallbackS<Double>;
+        faults! {
+            HalfS: precision = 2, "PRECISION is at least 3";
+            HalfS: precision = 126, "PRECISION is at most 125";
+            HalfS: min_exp = -(1 << 20) - 1, "MIN_EXP is at least";
+            HalfS: min_exp = 0, "MIN_EXP is at most -1";
+            HalfS: max_exp = 10, "MAX_EXP is at least PRECISION";
+            HalfS: max_exp = (1 << 20) + 1, "MAX_EXP is at most";
+            Wide: exp_bits = 1, "EXP_BITS is 0 in a format without bits";
+            Wide: ieee_min_exp = 1, "IEEE_MIN_EXP is 0 in a format without bits";
+            Wide: ieee_max_exp = 1, "IEEE_MAX_EXP is 0 in a format without bits";
+            Wide: explicit_integer_bit = true, "EXPLICIT_INTEGER_BIT is false in a format without bits";
+            HalfS: exp_bits = 0, "EXP_BITS is at least 1";
+            HalfS: bits = 129, "BITS is at most 128";
+            HalfS: bits = 17, "BITS is EXP_BITS + PRECISION";
+            HalfS: ieee_min_exp = -13, "IEEE_MIN_EXP is 2 - 2^(EXP_BITS - 1)";
+            HalfS: ieee_max_exp = 16, "IEEE_MAX_EXP is 1 - IEEE_MIN_EXP";
+            HalfS: max_exp = 16, "MAX_EXP is IEEE_MAX_EXP";
+            Float8E4M3FNS: max_exp = 7, "MAX_EXP is IEEE_MAX_EXP";
+            HalfS: nan_significand_base = 1, "NAN_SIGNIFICAND_BASE";
+            Float8E4M3FNS: nan_significand_base = 0, "NAN_SIGNIFICAND_BASE";
+            HalfS: nan_payload_mask = 0, "NAN_PAYLOAD_MASK";
+            Float8E4M3FNUZS: nan_payload_mask = 1, "NAN_PAYLOAD_MASK";
+            HalfS: qnan_significand = 1, "QNAN_SIGNIFICAND";
+            X87DoubleExtendedS: qnan_significand = 1 << 62, "QNAN_SIGNIFICAND";
+        }
+        let text = fault::<HalfS>(|constants| (constants.bits, constants.exp_bits) = (34, 23));
+        assert!(text.is_some_and(|text| text.starts_with("EXP_BITS is at most 22")), "{text:?}");
+        let text = fault::<Float8E4M3FNS>(|constants| {
+            (constants.bits, constants.explicit_integer_bit) = (9, true);
+        });
+        assert!(text.is_some_and(|text| text.starts_with("EXPLICIT_INTEGER_BIT")), "{text:?}");
+    }
+}
