@@ -31,8 +31,7 @@ pub(crate) const ATTRIBUTES: [(&str, Attribute); 10] = [
 ];
 
 /// The traits that a `derive` may name, other than `Drop`: each does what it does in Rust.
-pub(crate) const DERIVED: [&str; 8] =
-    ["Clone", "Copy", "Debug", "Default", "Eq", "Ord", "PartialEq", "PartialOrd"];
+pub(crate) const DERIVED: [&str; 8] = ["Clone", "Copy", "Debug", "Default", "Eq", "Ord", "PartialEq", "PartialOrd"];
 
 /// The items of `std` that are the same in both languages. `std` becomes `core`, which has each of them.
 pub(crate) const STD: [&str; 18] = [
@@ -96,8 +95,30 @@ pub(crate) const REFUSED: [(&str, &str); 22] = [
 /// How `fmt` is written in the proved language, and in Rust. The former is generic in what it writes to.
 pub(crate) const FMT: (&[&str], &str) = (
     &[
-        "fn", "fmt", "<", "W", ":", "fmt", "::", "Write", ">", "(", "&", "self", ",", "f", ":", "&", "mut", "fmt",
-        "::", "Formatter", "<", "W", ">", ")",
+        "fn",
+        "fmt",
+        "<",
+        "W",
+        ":",
+        "fmt",
+        "::",
+        "Write",
+        ">",
+        "(",
+        "&",
+        "self",
+        ",",
+        "f",
+        ":",
+        "&",
+        "mut",
+        "fmt",
+        "::",
+        "Formatter",
+        "<",
+        "W",
+        ">",
+        ")",
     ],
     "fn fmt(&self, f: &mut fmt::Formatter<'_>)",
 );

@@ -247,8 +247,8 @@ impl<'a> Walk<'a, '_> {
                 }
             }
             ".." => {
-                let counts = matches!(self.kind(at.wrapping_sub(1)), Some(Kind::Number | Kind::Word))
-                    || self.before(at) == ")";
+                let counts =
+                    matches!(self.kind(at.wrapping_sub(1)), Some(Kind::Number | Kind::Word)) || self.before(at) == ")";
                 if self.innermost() == Within::Code && counts && matches!(self.text(at + 1), ")" | "{") {
                     return self.fault(at, "a range without an end, which ends elsewhere in Rust");
                 }

@@ -36,14 +36,29 @@ fn code_stays() {
     stays("//! A file.\n\n/* a /* nested */ comment */\n/// An item.\npub const LIMIT: usize = 0x40_usize;\n");
     stays("pub struct Point { x: u8, pub(crate) y: [u8; 4], }\nenum Kind { A, B(u8), C { d: u8 } }\n");
     stays("fn f(x: u8) -> u8 {\n    let y = [x as u16; 2];\n    if x != 1 { y[0] as u8 } else { x }\n}\n");
-    stays("fn f<'a>(s: &'a [u8]) -> &'a [u8] {\n    match s {\n        [b'e' | b'E', tail @ ..] => tail,\n        _ => &s[1..],\n    }\n}\n");
-    stays("impl<S: Bound, T> Trait<T> for Type<S> {\n    type Output = u8;\n    const N: u8 = 1;\n    fn f(self) {}\n}\n");
-    stays("fn f() -> u128 {\n    'outer: for i in 0..10 {\n        if i == 1_000 { break 'outer; }\n    }\n    u128::MAX\n}\n");
-    stays("fn f(c: char) -> bool {\n    c == '\\'' || c == '\"' || c == '{' || \"// { \\\" ghost\".len() == 3 || r#\"a\"b\"#.is_empty()\n}\n");
-    stays("fn f(x: Option<u8>) -> Option<u8> {\n    let Some(y) = x else { return None; };\n    Some(if !true { y } else { 0 })\n}\n");
+    stays(
+        "fn f<'a>(s: &'a [u8]) -> &'a [u8] {\n    match s {\n        [b'e' | b'E', tail @ ..] => tail,\n        _ => &s[1..],\n    }\n}\n",
+    );
+    stays(
+        "impl<S: Bound, T> Trait<T> for Type<S> {\n    type Output = u8;\n    const N: u8 = 1;\n    fn f(self) {}\n}\n",
+    );
+    stays(
+        "fn f() -> u128 {\n    'outer: for i in 0..10 {\n        if i == 1_000 { break 'outer; }\n    }\n    u128::MAX\n}\n",
+    );
+    stays(
+        "fn f(c: char) -> bool {\n    c == '\\'' || c == '\"' || c == '{' || \"// { \\\" ghost\".len() == 3 || r#\"a\"b\"#.is_empty()\n}\n",
+    );
+    stays(
+        "fn f(x: Option<u8>) -> Option<u8> {\n    let Some(y) = x else { return None; };\n    Some(if !true { y } else { 0 })\n}\n",
+    );
     stays("pub(super) fn f() {}\ntrait T { fn g(&self) -> u8; }\n");
-    becomes("pub const fn f(x: u8) -> u8\n    ensures { result ≡ x }\n{\n    x\n}\n", "pub const fn f(x: u8) -> u8\n    \n{\n    x\n}\n");
-    stays("fn f(g: fn(u8) -> u8) -> u8 {\n    fn inner() -> u8 { 1 }\n    g(inner())\n}\nconst N: [u8; 2] = { [1, 2] };\ntype T = u8;\n");
+    becomes(
+        "pub const fn f(x: u8) -> u8\n    ensures { result ≡ x }\n{\n    x\n}\n",
+        "pub const fn f(x: u8) -> u8\n    \n{\n    x\n}\n",
+    );
+    stays(
+        "fn f(g: fn(u8) -> u8) -> u8 {\n    fn inner() -> u8 { 1 }\n    g(inner())\n}\nconst N: [u8; 2] = { [1, 2] };\ntype T = u8;\n",
+    );
     stays("#[inline(always)]\n#[cold]\n#[must_use]\nfn f() -> f64 { 1.5e-3 }\n");
 }
 
@@ -62,7 +77,10 @@ fn clauses_are_left_out() {
 
 #[test]
 fn ghost_items_are_left_out() {
-    becomes("ghost use Rattle.std.specs.Prelude.{◌≡◌, [], ◌∷◌};\nuse crate::a;\n", "\nuse crate::erased::apfloat_base::a;\n");
+    becomes(
+        "ghost use Rattle.std.specs.Prelude.{◌≡◌, [], ◌∷◌};\nuse crate::a;\n",
+        "\nuse crate::erased::apfloat_base::a;\n",
+    );
     becomes("#![tactic(auto)]\n\nghost use A.{b};\n", "\n\n\n");
     becomes(
         "trait T {\n    /// What it adds.\n    ghost adds: { Self → ℕ };\n\n    ghost valid: { ℕ } = { 1 };\n    fn f();\n}\n",
@@ -103,7 +121,10 @@ fn paths_are_of_one_crate() {
     becomes("use crate::a::{b, c};\n", "use crate::erased::apfloat_base::a::{b, c};\n");
     becomes("use apfloat_model::Round;\n", "use crate::erased::apfloat_model::Round;\n");
     becomes("pub use apfloat_model as model;\n", "pub use crate::erased::apfloat_model as model;\n");
-    becomes("fn f() { apfloat_model::g(crate::h()) }\n", "fn f() { crate::erased::apfloat_model::g(crate::erased::apfloat_base::h()) }\n");
+    becomes(
+        "fn f() { apfloat_model::g(crate::h()) }\n",
+        "fn f() { crate::erased::apfloat_model::g(crate::erased::apfloat_base::h()) }\n",
+    );
     becomes("use std::ops::{Add, Neg};\nuse std::fmt;\n", "use core::ops::{Add, Neg};\nuse core::fmt;\n");
     becomes("fn f(s: &[u8]) { std::str::from_utf8(s) }\n", "fn f(s: &[u8]) { core::str::from_utf8(s) }\n");
     stays("mod a;\npub use a::b;\nuse super::c;\n");

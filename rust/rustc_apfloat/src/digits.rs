@@ -1,10 +1,10 @@
 //! What the library has no calls for: exact decimal digits of any count, which `Display` needs, and decimal texts in
 //! formats whose exponents are past those of binary128, or that raise the flags of IEEE 754.
 
+use crate::Category;
 use crate::erased::apfloat_base::{ExpInt, Round, StatusAnd};
 use crate::erased::apfloat_ieee::{Flagged, IeeeFloat, deliver};
 use crate::erased::apfloat_model::Loss;
-use crate::Category;
 use alloc::vec::Vec;
 use core::cmp::Ordering;
 use core::fmt::{self, Write};

@@ -146,8 +146,10 @@ impl Constants {
 #[cfg(test)]
 mod tests {
     use super::*;
-    use crate::ieee::{DoubleS, Float8E4M3FNS, Float8E4M3FNUZS, HalfS, IeeeFlags, QuadS, TinyBefore, X87DoubleExtendedS};
     use crate::ieee::{BFloatS, Double, Float8E5M2S, SingleS};
+    use crate::ieee::{
+        DoubleS, Float8E4M3FNS, Float8E4M3FNUZS, HalfS, IeeeFlags, QuadS, TinyBefore, X87DoubleExtendedS,
+    };
     use crate::ppc::{FallbackExtendedS, FallbackS};
 
     #[test]

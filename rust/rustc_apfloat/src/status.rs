@@ -134,9 +134,8 @@ impl Status {
     }
 
     /// Each flag of the set, and then its other bits, if there are any.
-    pub fn iter(&self) -> impl Iterator<Item = Self> + use<> {
-        let others = Status(self.0 & !Self::all().0);
-        self.iter_names().map(|(_, flag)| flag).chain((!others.is_empty()).then_some(others))
+    pub const fn iter(&self) -> Iter {
+        Iter { left: *self }
     }
 
     /// Each flag of the set, with its name.
@@ -159,6 +158,31 @@ const NAMES: [(&str, Status); 5] = [
     ("UNDERFLOW", Status::UNDERFLOW),
     ("INEXACT", Status::INEXACT),
 ];
+
+/// The flags of a set, one by one, and then its other bits.
+#[derive(Clone, Debug)]
+pub struct Iter {
+    left: Status,
+}
+
+impl Iterator for Iter {
+    type Item = Status;
+
+    fn next(&mut self) -> Option<Status> {
+        let first = self.left.iter_names().next().map_or(self.left, |(_, flag)| flag);
+        self.left.remove(first);
+        (!first.is_empty()).then_some(first)
+    }
+}
+
+impl IntoIterator for Status {
+    type Item = Status;
+    type IntoIter = Iter;
+
+    fn into_iter(self) -> Iter {
+        self.iter()
+    }
+}
 
 impl fmt::Debug for Status {
     /// `Status(OVERFLOW | INEXACT)`, `Status(0x0)`.

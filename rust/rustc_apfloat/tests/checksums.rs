@@ -136,7 +136,7 @@ impl Encoding {
 
     fn text(self, set: Set, generator: &mut Generator) -> String {
         let head = generator.word();
-        let most = (self.precision as u64 + 3) / 4 + 4;
+        let most = (self.precision as u64).div_ceil(4) + 4;
         let count = generator.word() % most + 1;
         let mut text = String::from(if head >> 63 == 1 { "-0x1." } else { "0x1." });
         for _ in 0..count {

@@ -9,11 +9,17 @@ use std::panic::{UnwindSafe, catch_unwind};
 fn sets_of_flags() {
     const BOTH: Status = Status::OVERFLOW.union(Status::INEXACT);
     assert_eq!(BOTH.bits(), 0x14);
-    assert_eq!(format!("{:?} {:?} {:?}", Status::OK, BOTH, Status::from_bits_retain(0x28)), "Status(0x0) Status(OVERFLOW | INEXACT) Status(UNDERFLOW | 0x20)");
+    assert_eq!(
+        format!("{:?} {:?} {:?}", Status::OK, BOTH, Status::from_bits_retain(0x28)),
+        "Status(0x0) Status(OVERFLOW | INEXACT) Status(UNDERFLOW | 0x20)"
+    );
     assert_eq!(Status::from_bits(0x20), None);
     assert_eq!(Status::from_bits(0x1f), Some(Status::all()));
     assert_eq!(Status::from_bits_truncate(0xff), Status::all());
-    assert_eq!((Status::from_name("OK"), Status::from_name("UNDERFLOW"), Status::from_name("under")), (Some(Status::OK), Some(Status::UNDERFLOW), None));
+    assert_eq!(
+        (Status::from_name("OK"), Status::from_name("UNDERFLOW"), Status::from_name("under")),
+        (Some(Status::OK), Some(Status::UNDERFLOW), None)
+    );
     assert!(BOTH.contains(Status::INEXACT) && !BOTH.contains(Status::all()) && BOTH.intersects(Status::all()));
     assert!(Status::empty().is_empty() && Status::all().is_all() && !BOTH.is_all());
     assert_eq!((BOTH | Status::UNDERFLOW) - Status::INEXACT, Status::OVERFLOW | Status::UNDERFLOW);
@@ -28,6 +34,9 @@ fn sets_of_flags() {
     set |= Status::DIV_BY_ZERO;
     assert_eq!(set, Status::INVALID_OP | Status::UNDERFLOW | Status::DIV_BY_ZERO);
     assert_eq!(set.iter().collect::<Status>(), set);
+    let odd = Status::from_bits_retain(0x31);
+    assert_eq!(odd.into_iter().map(|set| set.bits()).collect::<Vec<_>>(), [0x01, 0x10, 0x20]);
+    assert_eq!(Status::OK.iter().count(), 0);
     assert_eq!(set.iter_names().map(|(name, _)| name).collect::<Vec<_>>(), ["INVALID_OP", "DIV_BY_ZERO", "UNDERFLOW"]);
     assert_eq!(format!("{BOTH:#b} {BOTH:x}"), "0b10100 14");
 }
@@ -71,8 +80,7 @@ fn constants_are_the_values_of_calls() {
     constants::<X87DoubleExtended>();
     constants::<IeeeFloat<IeeeFlags<TinyBefore<DoubleS>>>>();
     constants::<DoubleDouble>();
-    const LIMITS: (usize, usize, ExpInt, ExpInt) =
-        (Double::BITS, Double::PRECISION, Double::MAX_EXP, Double::MIN_EXP);
+    const LIMITS: (usize, usize, ExpInt, ExpInt) = (Double::BITS, Double::PRECISION, Double::MAX_EXP, Double::MIN_EXP);
     assert_eq!(LIMITS, (64, 53, 1023, -1022));
     assert_eq!((DoubleDouble::BITS, DoubleDouble::PRECISION, DoubleDouble::MIN_EXP), (128, 106, -969));
 }

@@ -596,7 +596,12 @@ fn stored_rows() {
         }
     }
     println!("{agreed} rows agree, {without} are of no call of the crate");
-    assert!(differing.is_empty(), "{} rows differ:\n{}", differing.len(), differing[..differing.len().min(40)].join("\n"));
+    assert!(
+        differing.is_empty(),
+        "{} rows differ:\n{}",
+        differing.len(),
+        differing[..differing.len().min(40)].join("\n")
+    );
     assert!(agreed > 30_000, "{agreed} rows agree");
 }
 

@@ -39,7 +39,7 @@ fn trimmed(text: &str) -> String {
 
 #[test]
 fn all_digits_are_those_of_the_number() {
-    for x in doubles().take(300) {
+    for x in doubles().take(100) {
         assert_eq!(format!("{:1$.2$}", double(x), 0, 800), trimmed(&format!("{x:.799e}")));
     }
 }
@@ -100,11 +100,11 @@ fn values_for_debugging() {
     assert_eq!(format!("{:?}", Half::NAN), "NaN(NaN | +[512] * 2^16)");
     assert_eq!(format!("{:?}", Float8E4M3FN::NAN), "NaN(NaN | +[7] * 2^8)");
     let pair = DoubleDouble::from_bits(0x3ff0_0000_0000_0000);
+    assert_eq!(format!("{pair:?}"), "DoubleFloat(1(Normal | +[4503599627370496] * 2^0), 0(Zero | +[0] * 2^-1023))");
     assert_eq!(
-        format!("{pair:?}"),
-        "DoubleFloat(1(Normal | +[4503599627370496] * 2^0), 0(Zero | +[0] * 2^-1023))"
+        format!("{:?}", Half::from_u128(2049)),
+        "StatusAnd { status: Status(INEXACT), value: 2048(Normal | +[1024] * 2^11) }"
     );
-    assert_eq!(format!("{:?}", Half::from_u128(2049)), "StatusAnd { status: Status(INEXACT), value: 2048(Normal | +[1024] * 2^11) }");
 }
 
 #[test]
