@@ -44,6 +44,31 @@ fn the_library_is_erased_line_by_line() {
     assert_eq!(modules.matches("mod ").count(), erase::LIBRARY.len());
 }
 
+/// The crates that a crate needs, itself included, lowest first.
+fn needed(lines: &str, name: &str, all: &mut Vec<String>) {
+    let line = lines.lines().find_map(|line| line.strip_prefix(&format!("{name}: ")));
+    for other in line.unwrap_or("").split(' ').filter(|other| !other.is_empty() && *other != "bitflags") {
+        needed(lines, other, all);
+    }
+    if !all.iter().any(|known| known == name) {
+        all.push(name.to_owned());
+    }
+}
+
+#[test]
+fn the_library_is_what_crates_txt_says() {
+    let lines = fs::read_to_string(concat!(env!("CARGO_MANIFEST_DIR"), "/../../crates.txt")).unwrap();
+    let mut all = Vec::new();
+    needed(&lines, "rustc_apfloat", &mut all);
+    // Its text is re-exports alone, which the interface in Rust has in place of it.
+    all.pop();
+    needed(&lines, "pair_decimals", &mut all);
+    let mut listed: Vec<&str> = erase::LIBRARY.to_vec();
+    all.sort();
+    listed.sort();
+    assert_eq!(all, listed);
+}
+
 #[test]
 fn a_crate_that_is_not_there_is_refused() {
     let out = Path::new(env!("CARGO_TARGET_TMPDIR")).join("none");

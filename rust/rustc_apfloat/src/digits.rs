@@ -9,6 +9,10 @@ use alloc::vec::Vec;
 use core::cmp::Ordering;
 use core::fmt::{self, Write};
 
+/// Decimal digits are taken in groups of so many, which fit in a word.
+const GROUP: u32 = 9;
+const TEN_TO_GROUP: u32 = 10u32.pow(GROUP);
+
 /// A whole number: 32-bit words, the lowest first, without zeros at the top.
 #[derive(Clone)]
 struct Whole(Vec<u32>);
@@ -17,6 +21,20 @@ impl Whole {
     fn new(value: u128) -> Self {
         let mut whole = Whole((0..4).map(|i| (value >> (32 * i)) as u32).collect());
         whole.trim();
+        whole
+    }
+
+    fn of_digits(digits: impl Iterator<Item = u32>) -> Self {
+        let mut whole = Whole(Vec::new());
+        let (mut group, mut scale) = (0, 1);
+        for digit in digits {
+            (group, scale) = (group * 10 + digit, scale * 10);
+            if scale == TEN_TO_GROUP {
+                whole.times_plus(scale, group);
+                (group, scale) = (0, 1);
+            }
+        }
+        whole.times_plus(scale, group);
         whole
     }
 
@@ -95,10 +113,9 @@ impl Whole {
 
     /// The decimal digits, the first one first.
     fn digits(mut self) -> Vec<u8> {
-        const GROUP: u32 = 9;
         let mut digits = Vec::new();
         while !self.0.is_empty() {
-            let mut group = self.divide(10u32.pow(GROUP));
+            let mut group = self.divide(TEN_TO_GROUP);
             for _ in 0..GROUP {
                 digits.push((group % 10) as u8);
                 group /= 10;
@@ -257,27 +274,34 @@ pub(crate) fn read<S: Flagged>(text: &str, round: Round) -> StatusAnd<IeeeFloat<
     let (number, exponent) = text.split_once(['e', 'E']).unwrap_or((text, "0"));
     let places = number.split_once('.').map_or(0, |(_, fraction)| fraction.len());
     let digits = number.bytes().filter(u8::is_ascii_digit).map(|byte| u32::from(byte - b'0'));
-    let count = digits.clone().skip_while(|digit| *digit == 0).count();
-
-    // A number with its first digit past this place is past every value on its side.
-    const FAR: i64 = 1 << 19;
-    let exponent = clamped(exponent).saturating_sub_unsigned(places as u64);
-    let first = exponent.saturating_add_unsigned(count as u64);
+    let digits = digits.skip_while(|digit| *digit == 0);
+    let count = digits.clone().count();
     if count == 0 {
         return deliver::<S>(0, 0, Loss::ExactlyZero, round, negative);
     }
+
+    // A number with its first digit past this place is past every value on its side.
+    const FAR: i64 = 1 << 19;
+    let first = clamped(exponent).saturating_sub_unsigned(places as u64).saturating_add_unsigned(count as u64);
     if !(-FAR..FAR).contains(&first) {
         let exponent = if first < 0 { -(1 << 22) } else { 1 << 22 };
         return deliver::<S>(1, exponent, Loss::ExactlyZero, round, negative);
     }
 
-    let mut number = Whole::new(0);
-    digits.for_each(|digit| number.times_plus(10, digit));
+    // No value, nor the middle of two, has as many digits; one digit says whether there are others after these.
+    let most = 2 * S::PRECISION + S::MIN_EXP.unsigned_abs().max(S::MAX_EXP.unsigned_abs()) as usize;
+    let mut number = Whole::of_digits(digits.clone().take(most));
+    let mut last = first - count.min(most) as i64;
+    if digits.skip(most).any(|digit| digit != 0) {
+        number.times_plus(10, 1);
+        last -= 1;
+    }
+
     let mut divisor = Whole::new(1);
-    let fives = if exponent < 0 { &mut divisor } else { &mut number };
-    fives.times_five_to(exponent.unsigned_abs() as u32);
+    let fives = if last < 0 { &mut divisor } else { &mut number };
+    fives.times_five_to(last.unsigned_abs() as u32);
     let (quotient, twos, loss) = quotient(number, divisor);
-    deliver::<S>(quotient, twos + exponent as ExpInt, loss, round, negative)
+    deliver::<S>(quotient, twos + last as ExpInt, loss, round, negative)
 }
 
 /// The number that an exponent spells, or one past all that matter.

@@ -153,6 +153,15 @@ fn decimals_are_read_in_formats_of_far_exponents() {
     assert_eq!((below.status, below.value.is_smallest()), (Status::UNDERFLOW | Status::INEXACT, true));
     let zero = Far::from_str_r("-0.00e7", Round::NearestTiesToEven).unwrap();
     assert_eq!((zero.status, zero.value.is_neg_zero()), (Status::OK, true));
+    // 1 + 2^-53, a tie in a format of 53 digits, and the same with one more digit far behind.
+    let tie = "1.00000000000000011102230246251565404236316680908203125";
+    for round in MODES {
+        for text in [tie.to_owned(), format!("{tie}{}1", "0".repeat(3000)), format!("{}{tie}", "0".repeat(9))] {
+            let (far, plain) = (Far::from_str_r(&text, round).unwrap(), Double::from_str_r(&text, round).unwrap());
+            let back: Double = far.value.convert(&mut false).value;
+            assert_eq!((far.status, back.to_bits()), (plain.status, plain.value.to_bits()), "{round:?}");
+        }
+    }
     assert_eq!("1.5e1".parse::<Far>().unwrap(), Far::from_u128(15).value);
 }
 
@@ -169,6 +178,8 @@ fn decimals_are_read_with_the_flags_of_ieee_754() {
             assert_eq!(exact(raised.status), exact(plain.status), "{text} {round:?}");
         }
     }
+    let text = format!("1{}1e-20000", "0".repeat(20_000));
+    assert_eq!(Raised::from_str_r(&text, Round::TowardPositive).unwrap().value.to_bits(), 0x4024_0000_0000_0001);
     let both = Status::OVERFLOW | Status::INEXACT;
     assert_eq!(Double::from_str_r("1e400", Round::TowardZero).unwrap().status, Status::INEXACT);
     assert_eq!(Raised::from_str_r("1e400", Round::TowardZero).unwrap().status, both);
