@@ -53,6 +53,7 @@ pub(crate) fn erase(text: &str, place: &Place<'_>) -> Result<Erased, Fault> {
         item: "",
         modules: Vec::new(),
         macros: Vec::new(),
+        defined: Vec::new(),
         exports: false,
         opening: 0,
     };
@@ -83,6 +84,8 @@ struct Walk<'a, 'p> {
     item: &'a str,
     modules: Vec<String>,
     macros: Vec<String>,
+    /// The macros that the file has defined.
+    defined: Vec<&'a str>,
     /// Whether `#[macro_export]` stands before the item.
     exports: bool,
     /// The place after the last `#![..]`.
@@ -285,11 +288,8 @@ impl<'a> Walk<'a, '_> {
             }
             _ => {}
         }
-        if let Some((_, why)) = REFUSED.iter().find(|(refused, _)| *refused == word) {
-            return self.fault(at, format!("`{word}`: {why}"));
-        }
-        let keyword = matches!(word, "if" | "while" | "match" | "return" | "in" | "as" | "break");
-        if !keyword && self.text(at + 1) == "!" && self.text(at + 2) != "=" {
+        self.known_word(at)?;
+        if self.is_invocation(at) {
             return self.invocation(at);
         }
         if self.innermost() == Within::Items && matches!(self.item, "" | "pub") {
@@ -299,6 +299,30 @@ impl<'a> Walk<'a, '_> {
             return self.function(at);
         }
         self.path(at)
+    }
+
+    /// Refuses the words that stand only in forms that are known.
+    fn known_word(&self, at: usize) -> Result<(), Fault> {
+        let word = self.text(at);
+        match REFUSED.iter().find(|(refused, _)| *refused == word) {
+            Some((_, why)) => self.fault(at, format!("`{word}`: {why}")),
+            None => Ok(()),
+        }
+    }
+
+    /// Whether `name!` stands here.
+    fn is_invocation(&self, at: usize) -> bool {
+        let keyword = matches!(self.text(at), "if" | "while" | "match" | "return" | "in" | "as" | "break");
+        !keyword && self.text(at + 1) == "!" && self.text(at + 2) != "="
+    }
+
+    /// Whether the macro is the same in both languages, or the file or the library defines it.
+    fn known_macro(&self, at: usize) -> Result<(), Fault> {
+        let name = self.text(at);
+        if MACROS.contains(&name) || self.defined.contains(&name) {
+            return Ok(());
+        }
+        self.fault(at, format!("the macro `{name}!`"))
     }
 
     /// The first word of an item, after a `pub`.
@@ -426,16 +450,14 @@ impl<'a> Walk<'a, '_> {
             let name = self.text(at + 2);
             let end = self.after_bracket(at + 3)?;
             self.rules(at + 3, end)?;
+            self.defined.push(name);
             if std::mem::take(&mut self.exports) {
                 self.append(end - 1, &format!(" pub(crate) use {name};"));
                 self.macros.push(name.to_owned());
             }
             return Ok(end);
         }
-        let known = MACROS.contains(&word) || self.macros.iter().any(|known| known == word);
-        if !known {
-            return self.fault(at, format!("the macro `{word}!`"));
-        }
+        self.known_macro(at)?;
         let end = self.after_bracket(at + 2)?;
         if self.innermost() == Within::Items {
             // Items by a macro: its rules are of the crate that exports it.
@@ -452,7 +474,15 @@ impl<'a> Walk<'a, '_> {
             if matches!(self.text(at), "ghost" | "requires" | "ensures") {
                 return self.fault(at, "a clause in a macro");
             }
-            at = if self.is_word(at) { self.path(at)? } else { at + 1 };
+            if !self.is_word(at) {
+                at += 1;
+                continue;
+            }
+            self.known_word(at)?;
+            if self.is_invocation(at) {
+                self.known_macro(at)?;
+            }
+            at = self.path(at)?;
         }
         Ok(())
     }

@@ -148,6 +148,7 @@ fn macros_are_known() {
         "\nmacro_rules! unpack {\n    ($e:expr) => { $crate::erased::apfloat_base::f($e) };\n} pub(crate) use unpack;\n",
     );
     stays("fn f(b: u8) -> bool { matches!(b, b'0'..=b'9') }\n");
+    stays("macro_rules! one {\n    () => { 1 };\n}\nfn f() -> u8 { one!() }\n");
     stays("fn f() -> u8 { unreachable!() }\n");
     stays("bitflag_items! {\n    impl S: u8 {\n        /// None.\n        const OK = 0x00;\n    }\n}\n");
 }
@@ -223,6 +224,8 @@ fn macros_that_are_unknown_are_refused() {
     is_refused("fn f() { println!(\"\") }\n", 1, "the macro `println!`");
     is_refused("fn f() { assert!(true) }\n", 1, "the macro `assert!`");
     is_refused("macro_rules! m ( () => {} );\n", 1, "`macro_rules!` of an unknown form");
+    is_refused("macro_rules! m { () => { x.clone() } }\n", 1, "`clone`");
+    is_refused("macro_rules! m { () => { println!() } }\n", 1, "the macro `println!`");
     is_refused("macro_rules! m { () => { fn f() ensures { a } {} } }\n", 1, "a clause in a macro");
 }
 

@@ -129,7 +129,7 @@ impl Whole {
     }
 }
 
-/// Writes a value as the crate `rustc_apfloat` does, from its significand and the exponent of that's last digit.
+/// Writes a value as the crate `rustc_apfloat` does, from its significand and the exponent of the last digit.
 pub(crate) fn write(
     f: &mut fmt::Formatter<'_>,
     category: Category,

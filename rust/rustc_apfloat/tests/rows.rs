@@ -233,6 +233,30 @@ impl Row<'_> {
     }
 }
 
+/// The outcome of a row of a call that rounds.
+fn rounded<F: Type>(row: Row<'_>) -> Outcome {
+    let round = row.round;
+    let x = || row.operand::<F>(0);
+    let y = || row.operand::<F>(1);
+    let given = match row.call {
+        "add_r" => Given::Answer(x().add_r(y(), round)),
+        "sub_r" => Given::Answer(x().sub_r(y(), round)),
+        "mul_r" | "wide_mul_r" => Given::Answer(x().mul_r(y(), round)),
+        "div_r" => Given::Answer(x().div_r(y(), round)),
+        "mul_add_r" | "wide_mul_add_r" => Given::Answer(x().mul_add_r(y(), row.operand(2), round)),
+        "sqrt_r" => Given::Answer(x().sqrt_of(round)),
+        "from_u128_r" => Given::Answer(F::from_u128_r(row.number(0), round)),
+        "from_str_r" => match F::from_str_r(row.operands, round) {
+            // The library's own calls refuse decimals with these words; here they are read.
+            _ if row.value == "Not a special or hexadecimal literal" => return Outcome::NoCall,
+            Ok(answer) => Given::Answer(answer),
+            Err(error) => Given::Refused(error),
+        },
+        call => panic!("no call {call}"),
+    };
+    row.compared(given, None)
+}
+
 /// The outcome of a row in a type.
 fn in_type<F: Type>(row: Row<'_>) -> Outcome {
     let round = row.round;
@@ -250,13 +274,7 @@ fn in_type<F: Type>(row: Row<'_>) -> Outcome {
     let truth = |truth: bool| Given::Text(truth.to_string());
     let constant = |number: i64| Given::Text(number.to_string());
     let given = match row.call {
-        "add_r" => Given::Answer(x().add_r(y(), round)),
-        "sub_r" => Given::Answer(x().sub_r(y(), round)),
-        "mul_r" | "wide_mul_r" => Given::Answer(x().mul_r(y(), round)),
-        "div_r" => Given::Answer(x().div_r(y(), round)),
-        "mul_add_r" | "wide_mul_add_r" => Given::Answer(x().mul_add_r(y(), z(), round)),
         "mul_add" => Given::Answer(x().mul_add(y(), z())),
-        "sqrt_r" => Given::Answer(x().sqrt_of(round)),
         "sqrt" => Given::Answer(x().sqrt_of(Round::NearestTiesToEven)),
         "ieee_rem" => Given::Answer(x().ieee_rem(y())),
         // The count of steps is of the library alone.
@@ -294,7 +312,6 @@ fn in_type<F: Type>(row: Row<'_>) -> Outcome {
             Given::Value(fraction)
         }
         "from_u128" => Given::Answer(F::from_u128(row.number(0))),
-        "from_u128_r" => Given::Answer(F::from_u128_r(row.number(0), round)),
         "from_i128" => Given::Answer(F::from_i128(row.number(0))),
         "from_i128_r" => Given::Answer(F::from_i128_r(row.number(0), round)),
         "through_i128" => Given::Value(F::from_i128(x().to_i128(128).value).value),
@@ -320,23 +337,15 @@ fn in_type<F: Type>(row: Row<'_>) -> Outcome {
             };
             Given::Number(answer.status, answer.value.to_string())
         }
-        "from_str_r" | "from_str" | "read_decimal" => {
-            // The library's own calls refuse decimals with these words; here they are read.
-            if row.call != "read_decimal" && row.value == "Not a special or hexadecimal literal" {
-                return Outcome::NoCall;
-            }
-            match F::from_str_r(row.operands, round) {
-                Ok(answer) if row.call == "from_str" => {
-                    assert!(row.operands.parse::<F>().is_ok_and(|x| x.bitwise_eq(answer.value)));
-                    Given::Value(answer.value)
-                }
-                Ok(answer) => Given::Answer(answer),
-                Err(error) => {
-                    assert!(row.operands.parse::<F>().is_err_and(|other| other == error));
-                    Given::Refused(error)
-                }
-            }
-        }
+        "from_str" if row.value == "Not a special or hexadecimal literal" => return Outcome::NoCall,
+        "from_str" => match row.operands.parse::<F>() {
+            Ok(x) => Given::Value(x),
+            Err(error) => Given::Refused(error),
+        },
+        "read_decimal" => match F::from_str_r(row.operands, round) {
+            Ok(answer) => Given::Answer(answer),
+            Err(error) => Given::Refused(error),
+        },
         "to_bits" => {
             let digits = row.value.len();
             Given::Text(format!("{:0digits$x}", x().to_bits()))
@@ -378,7 +387,9 @@ fn in_type<F: Type>(row: Row<'_>) -> Outcome {
         "is_smallest_normalized" => truth(x().is_smallest_normalized()),
         "is_largest" => truth(x().is_largest()),
         "is_negative" => truth(x().is_negative()),
-        _ => return Outcome::NoCall,
+        // Of the library alone.
+        "MULTIPLIES" | "debug" => return Outcome::NoCall,
+        _ => return rounded::<F>(row),
     };
     row.compared(given, more)
 }
@@ -439,15 +450,6 @@ fn decimals<S: Semantics>(row: Row<'_>) -> Outcome {
 }
 
 fn call(format: &str, row: Row<'_>) -> Outcome {
-    if matches!(row.call, "shortest" | "exact" | "rounded") {
-        macro_rules! written {
-            ($S:ty) => {
-                decimals::<$S>(row)
-            };
-        }
-        return with_built_in_format!(format, written);
-    }
-    let (name, rule) = format.split_once('+').unwrap_or((format, ""));
     macro_rules! plain {
         ($S:ty) => {
             in_type::<IeeeFloat<$S>>(row)
@@ -455,19 +457,25 @@ fn call(format: &str, row: Row<'_>) -> Outcome {
     }
     macro_rules! raised {
         ($S:ty) => {
-            in_type::<IeeeFloat<IeeeFlags<$S>>>(row)
+            rounded::<IeeeFloat<IeeeFlags<$S>>>(row)
         };
     }
     macro_rules! raised_before {
         ($S:ty) => {
-            in_type::<IeeeFloat<IeeeFlags<TinyBefore<$S>>>>(row)
+            rounded::<IeeeFloat<IeeeFlags<TinyBefore<$S>>>>(row)
         };
     }
-    match (name, rule) {
+    macro_rules! written {
+        ($S:ty) => {
+            decimals::<$S>(row)
+        };
+    }
+    match format.split_once('+').unwrap_or((format, "")) {
         ("dd", _) => in_type::<DoubleDouble>(row),
-        (_, "ieee") => with_ieee_format!(name, raised),
-        (_, "ieee+before") => with_ieee_format!(name, raised_before),
-        _ => with_format!(name, plain),
+        (name, "ieee") => with_ieee_format!(name, raised),
+        (name, "ieee+before") => with_ieee_format!(name, raised_before),
+        (name, _) if matches!(row.call, "shortest" | "exact" | "rounded") => with_built_in_format!(name, written),
+        (name, _) => with_format!(name, plain),
     }
 }
 
@@ -482,12 +490,16 @@ fn convert_to<S: Semantics, T: Semantics>(row: Row<'_>) -> Outcome {
 }
 
 fn convert_from<S: Semantics>(target: &str, row: Row<'_>) -> Outcome {
-    let (name, rule) = target.split_once('+').unwrap_or((target, ""));
     macro_rules! plain {
         ($T:ty) => {
             convert_to::<S, $T>(row)
         };
     }
+    with_format!(target, plain)
+}
+
+/// The flags are those of the target.
+fn convert_from_with_flags<S: Semantics>(target: &str, row: Row<'_>) -> Outcome {
     macro_rules! raised {
         ($T:ty) => {
             convert_to::<S, IeeeFlags<$T>>(row)
@@ -498,10 +510,10 @@ fn convert_from<S: Semantics>(target: &str, row: Row<'_>) -> Outcome {
             convert_to::<S, IeeeFlags<TinyBefore<$T>>>(row)
         };
     }
-    match rule {
-        "ieee" => with_ieee_format!(name, raised),
-        "ieee+before" => with_ieee_format!(name, raised_before),
-        _ => with_format!(name, plain),
+    match target.split_once('+') {
+        Some((name, "ieee")) => with_ieee_format!(name, raised),
+        Some((name, "ieee+before")) => with_ieee_format!(name, raised_before),
+        _ => panic!("no format {target}"),
     }
 }
 
@@ -521,9 +533,14 @@ fn conversion(source: &str, target: &str, row: Row<'_>) -> Outcome {
             convert_from::<$S>(target, row)
         };
     }
+    macro_rules! from_with_flags {
+        ($S:ty) => {
+            convert_from_with_flags::<$S>(target, row)
+        };
+    }
     // The source is read in the plain format.
     let name = source.split('+').next().unwrap();
-    with_format!(name, from)
+    if target.contains('+') { with_ieee_format!(name, from_with_flags) } else { with_format!(name, from) }
 }
 
 /// A row of seven columns; `any` for each mode.
@@ -562,6 +579,7 @@ fn command_row(command: &str, reply: &str) -> Outcome {
         "int" if operands.starts_with('-') => "from_i128_r",
         "int" => "from_u128_r",
         "parse" => "from_str_r",
+        // A word that the commands' program refuses.
         _ => return Outcome::NoCall,
     };
     let operands = if operands == "\"\"" { "" } else { operands };

@@ -46,7 +46,7 @@ fn all_digits_are_those_of_the_number() {
 
 #[test]
 fn few_digits_are_rounded_half_up() {
-    for x in doubles().take(3000) {
+    for x in doubles().take(600) {
         let digits = x.to_bits() as usize % 14 + 3;
         let text = format!("{:1$.2$}", double(x), 0, digits);
         // Where the digits are cut, and not rounded, they are those of the number rounded toward zero.
@@ -109,7 +109,7 @@ fn values_for_debugging() {
 
 #[test]
 fn decimals_are_read() {
-    for x in doubles().take(2000) {
+    for x in doubles().take(1000) {
         let text = format!("{x:e}");
         assert_eq!(text.parse::<Double>().unwrap().to_bits(), u128::from(x.to_bits()), "{text}");
     }
@@ -132,7 +132,7 @@ type Far = IeeeFloat<FarS>;
 
 #[test]
 fn decimals_are_read_in_formats_of_far_exponents() {
-    for (i, x) in doubles().take(400).enumerate() {
+    for (i, x) in doubles().take(100).enumerate() {
         // Not the value itself, but a number near it, of few digits or of many.
         let text = format!("{:.1$e}", x, i % 40);
         for round in MODES {
@@ -168,7 +168,7 @@ fn decimals_are_read_in_formats_of_far_exponents() {
 #[test]
 fn decimals_are_read_with_the_flags_of_ieee_754() {
     type Raised = IeeeFloat<IeeeFlags<DoubleS>>;
-    for (i, x) in doubles().take(400).enumerate() {
+    for (i, x) in doubles().take(100).enumerate() {
         let text = format!("{:.1$e}", x, i % 40);
         for round in MODES {
             let plain = Double::from_str_r(&text, round).unwrap();
