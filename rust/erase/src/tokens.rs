@@ -300,7 +300,7 @@ fn length_while(text: &str, fits: impl Fn(char) -> bool) -> usize {
     text.find(|c| !fits(c)).unwrap_or(text.len())
 }
 
-/// The length of the number at the start of a text: `12`, `0x1f_u8`, `1.5`, `1e-3`, and `1` of `1..2` and of `1.max(2)`.
+/// The length of the number at the start of a text: `12`, `0x1f_u8`, `1.5`, `1e-3`, the `1` of `1..2` and `1.max(2)`.
 fn number(text: &str) -> usize {
     let mut length = length_while(text, is_of_word);
     if text[length..].starts_with('.') && text[length + 1..].starts_with(|c: char| c.is_ascii_digit()) {

@@ -381,8 +381,8 @@ impl<'a> Walk<'a, '_> {
         Ok(end + 1)
     }
 
-    /// `ghost use ..;`, `ghost name: {..};`, `ghost name = {..};` among items and members, and `ghost name: {..},` among
-    /// fields, each with a `pub` or without: left out, with its doc comment.
+    /// `ghost use ..;`, `ghost name: {..};`, `ghost name = {..};` among items and members, and `ghost name: {..},`
+    /// among fields, each with a `pub` or without: left out, with its doc comment.
     fn ghost(&mut self, at: usize) -> Result<usize, Fault> {
         let within = self.innermost();
         let first = match self.beginning(at) {

@@ -37,19 +37,38 @@ fn code_stays() {
     stays("pub struct Point { x: u8, pub(crate) y: [u8; 4], }\nenum Kind { A, B(u8), C { d: u8 } }\n");
     stays("fn f(x: u8) -> u8 {\n    let y = [x as u16; 2];\n    if x != 1 { y[0] as u8 } else { x }\n}\n");
     stays(
-        "fn f<'a>(s: &'a [u8]) -> &'a [u8] {\n    match s {\n        [b'e' | b'E', tail @ ..] => tail,\n        _ => &s[1..],\n    }\n}\n",
+        "fn f<'a>(s: &'a [u8]) -> &'a [u8] {
+    match s {
+        [b'e' | b'E', tail @ ..] => tail,
+        _ => &s[1..],
+    }
+}
+",
     );
     stays(
         "impl<S: Bound, T> Trait<T> for Type<S> {\n    type Output = u8;\n    const N: u8 = 1;\n    fn f(self) {}\n}\n",
     );
     stays(
-        "fn f() -> u128 {\n    'outer: for i in 0..10 {\n        if i == 1_000 { break 'outer; }\n    }\n    u128::MAX\n}\n",
+        "fn f() -> u128 {
+    'outer: for i in 0..10 {
+        if i == 1_000 { break 'outer; }
+    }
+    u128::MAX
+}
+",
     );
     stays(
-        "fn f(c: char) -> bool {\n    c == '\\'' || c == '\"' || c == '{' || \"// { \\\" ghost\".len() == 3 || r#\"a\"b\"#.is_empty()\n}\n",
+        "fn f(c: char) -> bool {
+    c == '\\'' || c == '\"' || c == '{' || \"// { \\\" ghost\".len() == 3 || r#\"a\"b\"#.is_empty()
+}
+",
     );
     stays(
-        "fn f(x: Option<u8>) -> Option<u8> {\n    let Some(y) = x else { return None; };\n    Some(if !true { y } else { 0 })\n}\n",
+        "fn f(x: Option<u8>) -> Option<u8> {
+    let Some(y) = x else { return None; };
+    Some(if !true { y } else { 0 })
+}
+",
     );
     stays("pub(super) fn f() {}\ntrait T { fn g(&self) -> u8; }\n");
     becomes(
@@ -57,7 +76,13 @@ fn code_stays() {
         "pub const fn f(x: u8) -> u8\n    \n{\n    x\n}\n",
     );
     stays(
-        "fn f(g: fn(u8) -> u8) -> u8 {\n    fn inner() -> u8 { 1 }\n    g(inner())\n}\nconst N: [u8; 2] = { [1, 2] };\ntype T = u8;\n",
+        "fn f(g: fn(u8) -> u8) -> u8 {
+    fn inner() -> u8 { 1 }
+    g(inner())
+}
+const N: [u8; 2] = { [1, 2] };
+type T = u8;
+",
     );
     stays("#[inline(always)]\n#[cold]\n#[must_use]\nfn f() -> f64 { 1.5e-3 }\n");
 }
@@ -83,7 +108,14 @@ fn ghost_items_are_left_out() {
     );
     becomes("#![tactic(auto)]\n\nghost use A.{b};\n", "\n\n\n");
     becomes(
-        "trait T {\n    /// What it adds.\n    ghost adds: { Self → ℕ };\n\n    ghost valid: { ℕ } = { 1 };\n    fn f();\n}\n",
+        "trait T {
+    /// What it adds.
+    ghost adds: { Self → ℕ };
+
+    ghost valid: { ℕ } = { 1 };
+    fn f();
+}
+",
         "trait T {\n    \n    \n\n    \n    fn f();\n}\n",
     );
     becomes("impl T for U {\n    ghost adds = { λ x.\n        x };\n}\n", "impl T for U {\n    \n\n}\n");
@@ -112,7 +144,11 @@ fn attributes_are_known() {
     becomes("#[cfg(test)]\nmod tests;\nfn f() {}\n", "\n\nfn f() {}\n");
     becomes(
         "#[derive_where(Clone, Copy)]\npub struct P<S: Bound> {\n    marker: PhantomData<S>,\n}\n",
-        "\npub struct P<S: Bound> {\n    marker: PhantomData<S>,\n} impl<S: Bound> Copy for P<S> {} impl<S: Bound> Clone for P<S> { fn clone(&self) -> Self { *self } }\n",
+        "
+pub struct P<S: Bound> {
+    marker: PhantomData<S>,
+} impl<S: Bound> Copy for P<S> {} impl<S: Bound> Clone for P<S> { fn clone(&self) -> Self { *self } }
+",
     );
 }
 
@@ -134,8 +170,18 @@ fn paths_are_of_one_crate() {
 fn functions_are_rewritten() {
     becomes("trait T {\n    final fn f() {}\n}\n", "trait T {\n     fn f() {}\n}\n");
     becomes(
-        "impl fmt::Display for P {\n    fn fmt<W: fmt::Write>(&self, f: &mut fmt::Formatter<W>) -> fmt::Result {\n        write!(f, \"\")\n    }\n}\n",
-        "impl fmt::Display for P {\n    fn fmt(&self, f: &mut fmt::Formatter<'_>) -> fmt::Result {\n        write!(f, \"\")\n    }\n}\n",
+        "impl fmt::Display for P {
+    fn fmt<W: fmt::Write>(&self, f: &mut fmt::Formatter<W>) -> fmt::Result {
+        write!(f, \"\")
+    }
+}
+",
+        "impl fmt::Display for P {
+    fn fmt(&self, f: &mut fmt::Formatter<'_>) -> fmt::Result {
+        write!(f, \"\")
+    }
+}
+",
     );
     becomes("fn f(x: u8) { prove!(x > 0); }\n", "fn f(x: u8) { debug_assert!(x > 0); }\n");
     becomes("const _: () = prove_eq!(A, B);\n", "const _: () = debug_assert_eq!(A, B);\n");
@@ -145,7 +191,11 @@ fn functions_are_rewritten() {
 fn macros_are_known() {
     becomes(
         "#[macro_export]\nmacro_rules! unpack {\n    ($e:expr) => { $crate::f($e) };\n}\n",
-        "\nmacro_rules! unpack {\n    ($e:expr) => { $crate::erased::apfloat_base::f($e) };\n} pub(crate) use unpack;\n",
+        "
+macro_rules! unpack {
+    ($e:expr) => { $crate::erased::apfloat_base::f($e) };
+} pub(crate) use unpack;
+",
     );
     stays("fn f(b: u8) -> bool { matches!(b, b'0'..=b'9') }\n");
     stays("macro_rules! one {\n    () => { 1 };\n}\nfn f() -> u8 { one!() }\n");

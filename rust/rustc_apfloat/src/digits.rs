@@ -172,8 +172,8 @@ fn write_zero(f: &mut fmt::Formatter<'_>) -> fmt::Result {
 
 /// The digits of `significand * 2^exponent`, at most so many, and the exponent of ten of the last.
 ///
-/// Digits that are clearly more than those wanted are cut first, by a count that is estimated from the binary digits, and
-/// only then is the number rounded, half up; so it is cut where the estimate leaves exactly the digits wanted.
+/// Digits that are clearly more than those wanted are cut first, by a count that is estimated from the binary digits,
+/// and only then is the number rounded, half up; so it is cut where the estimate leaves exactly the digits wanted.
 fn rounded_digits(significand: u128, exponent: ExpInt, wanted: usize) -> (Vec<u8>, ExpInt) {
     let zeros = significand.trailing_zeros();
     let mut number = Whole::new(significand >> zeros);

@@ -213,8 +213,8 @@ pub trait FloatConvert<T: Float>: Float {
     }
 }
 
-/// Methods of `Float` that are the library's: `inner` is the library's value, `of` the value of one, and `answered` that
-/// with its status.
+/// Methods of `Float` that are the library's: `inner` is the library's value, `of` the value of one, and `answered`
+/// that with its status.
 macro_rules! by_the_library {
     () => {
         by_the_library! {

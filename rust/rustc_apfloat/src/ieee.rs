@@ -113,8 +113,8 @@ pub trait Semantics: Sized {
     /// Whether an inexact result is tiny by its exact magnitude, and not by the rounded one (IEEE 754-2008 7.5).
     const TINY_BEFORE_ROUNDING: bool = false;
 
-    /// Whether `OVERFLOW` and `UNDERFLOW` are raised as IEEE 754-2008 asks (7.4, 7.5), in modes that deliver the largest
-    /// value too. `IeeeFlags` sets it.
+    /// Whether `OVERFLOW` and `UNDERFLOW` are raised as IEEE 754-2008 asks (7.4, 7.5), also in modes that deliver the
+    /// largest value. `IeeeFlags` sets it.
     const IEEE_FLAGS: bool = false;
 
     /// The value whose encoding is `bits`; bits at and above `BITS` are ignored.
@@ -147,7 +147,7 @@ impl<S: Semantics> LawOfFormat<S> {
         Some(clause) => panic!("{}", clause),
     };
 
-    /// Whether the format's exponents are within those of `Quad`, as those have to be that the library reads decimals in.
+    /// Whether the format's exponents are within those of `Quad`: in such a format the library reads decimals.
     const HAS_QUAD_EXPONENTS: bool = S::MIN_EXP >= -16382 && S::MAX_EXP <= 16383;
 
     /// That values of the format can be written by the library.
@@ -357,8 +357,8 @@ impl<S: Semantics> IeeeFloat<S> {
         apfloat_decimals::exact(self.plain())
     }
 
-    /// The value rounded to `count` decimal digits, and whether that is the value itself; infinities and NaNs have none.
-    /// It does not compile in a format of farther exponents than `Quad`.
+    /// The value rounded to `count` decimal digits, and whether that is the value itself; infinities and NaNs have
+    /// none. It does not compile in a format of farther exponents than `Quad`.
     ///
     /// The crate `rustc_apfloat` has no such call.
     ///
@@ -410,8 +410,8 @@ impl<S: Semantics> Neg for IeeeFloat<S> {
 }
 
 impl<S: Semantics> fmt::Display for IeeeFloat<S> {
-    /// Writes the value in decimal: to as many digits as the precision says, or as many as tell it from the other values.
-    /// The width is how many zeros may stand before the digits or after them, 3 if there is none; a value with more is
+    /// Writes the value in decimal: to as many digits as the precision says, or as many as tell it from the others. The
+    /// width is how many zeros may stand before the digits or after them, 3 if there is none; a value with more is
     /// written with an exponent, as `1.0E-5`, and with `#` as `1.0000000e-05`.
     fn fmt(&self, f: &mut fmt::Formatter<'_>) -> fmt::Result {
         let (significand, exponent) = self.parts();

@@ -2,8 +2,8 @@
 //! numbers alone.
 //!
 //! The interface is that of the crate `rustc_apfloat` 0.2.3. The arithmetic is the text of a library that is proved
-//! against a mathematical model, with its contracts left out; `docs/RUST.md` of the repository says how it is made, what
-//! differs from that crate, and what is trusted.
+//! against a mathematical model, with its contracts left out; `docs/RUST.md` of the repository says how it is made,
+//! what differs from that crate, and what is trusted.
 //!
 //! ```
 //! use rustc_apfloat::ieee::Double;

@@ -1,5 +1,5 @@
-//! The rows of `crates/check_vectors/stdin`: known answers, from elsewhere, of calls and commands. `docs/VECTORS.md` of the
-//! repository says what a row means.
+//! The rows of `crates/check_vectors/stdin`: known answers, from elsewhere, of calls and commands. `docs/VECTORS.md` of
+//! the repository says what a row means.
 
 use rustc_apfloat::ieee::*;
 use rustc_apfloat::ppc::{DoubleDouble, FallbackExtendedS, FallbackS};
