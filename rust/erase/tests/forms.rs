@@ -1,0 +1,304 @@
+//! Each form that is left out or rewritten, and each refusal.
+
+use erase::erase_text;
+
+/// The text without its contracts.
+#[track_caller]
+fn becomes(text: &str, expected: &str) {
+    match erase_text(text, "apfloat_base") {
+        Ok(erased) => {
+            assert_eq!(erased, expected);
+            assert_eq!(erased.lines().count(), text.lines().count(), "lines move");
+        }
+        Err(refusal) => panic!("{refusal}"),
+    }
+}
+
+#[track_caller]
+fn stays(text: &str) {
+    becomes(text, text);
+}
+
+/// The text is refused, at that line, for that reason.
+#[track_caller]
+fn is_refused(text: &str, line: usize, why: &str) {
+    match erase_text(text, "apfloat_base") {
+        Ok(erased) => panic!("not refused: {erased}"),
+        Err(refusal) => {
+            assert!(refusal.why.contains(why), "refused for another reason: {refusal}");
+            assert_eq!(refusal.line, line, "{refusal}");
+        }
+    }
+}
+
+#[test]
+fn code_stays() {
+    stays("//! A file.\n\n/* a /* nested */ comment */\n/// An item.\npub const LIMIT: usize = 0x40_usize;\n");
+    stays("pub struct Point { x: u8, pub(crate) y: [u8; 4], }\nenum Kind { A, B(u8), C { d: u8 } }\n");
+    stays("fn f(x: u8) -> u8 {\n    let y = [x as u16; 2];\n    if x != 1 { y[0] as u8 } else { x }\n}\n");
+    stays(
+        "fn f<'a>(s: &'a [u8]) -> &'a [u8] {
+    match s {
+        [b'e' | b'E', tail @ ..] => tail,
+        _ => &s[1..],
+    }
+}
+",
+    );
+    stays(
+        "impl<S: Bound, T> Trait<T> for Type<S> {\n    type Output = u8;\n    const N: u8 = 1;\n    fn f(self) {}\n}\n",
+    );
+    stays(
+        "fn f() -> u128 {
+    'outer: for i in 0..10 {
+        if i == 1_000 { break 'outer; }
+    }
+    u128::MAX
+}
+",
+    );
+    stays(
+        "fn f(c: char) -> bool {
+    c == '\\'' || c == '\"' || c == '{' || \"// { \\\" ghost\".len() == 3 || r#\"a\"b\"#.is_empty()
+}
+",
+    );
+    stays(
+        "fn f(x: Option<u8>) -> Option<u8> {
+    let Some(y) = x else { return None; };
+    Some(if !true { y } else { 0 })
+}
+",
+    );
+    stays("pub(super) fn f() {}\ntrait T { fn g(&self) -> u8; }\n");
+    becomes(
+        "pub const fn f(x: u8) -> u8\n    ensures { result ≡ x }\n{\n    x\n}\n",
+        "pub const fn f(x: u8) -> u8\n    \n{\n    x\n}\n",
+    );
+    stays(
+        "fn f(g: fn(u8) -> u8) -> u8 {
+    fn inner() -> u8 { 1 }
+    g(inner())
+}
+const N: [u8; 2] = { [1, 2] };
+type T = u8;
+",
+    );
+    stays("#[inline(always)]\n#[cold]\n#[must_use]\nfn f() -> f64 { 1.5e-3 }\n");
+}
+
+#[test]
+fn clauses_are_left_out() {
+    becomes(
+        "fn f(x: u8) -> u8\n    requires { x < 2 }\n    ensures name { result ≡ x + 1 }\n{\n    x + 1\n}\n",
+        "fn f(x: u8) -> u8\n    \n    \n{\n    x + 1\n}\n",
+    );
+    becomes("fn f()\n    ensures* { (n : ℕ) → λ x. { [\"}\"] } }\n{}\n", "fn f()\n    \n{}\n");
+    becomes(
+        "trait T {\n    fn f(self) -> bool\n        ensures { result ≡ (a\n            × b) };\n}\n",
+        "trait T {\n    fn f(self) -> bool\n        \n;\n}\n",
+    );
+}
+
+#[test]
+fn ghost_items_are_left_out() {
+    becomes(
+        "ghost use Rattle.std.specs.Prelude.{◌≡◌, [], ◌∷◌};\nuse crate::a;\n",
+        "\nuse crate::erased::apfloat_base::a;\n",
+    );
+    becomes("#![tactic(auto)]\n\nghost use A.{b};\n", "\n\n\n");
+    becomes(
+        "trait T {
+    /// What it adds.
+    ghost adds: { Self → ℕ };
+
+    ghost valid: { ℕ } = { 1 };
+    fn f();
+}
+",
+        "trait T {\n    \n    \n\n    \n    fn f();\n}\n",
+    );
+    becomes("impl T for U {\n    ghost adds = { λ x.\n        x };\n}\n", "impl T for U {\n    \n\n}\n");
+    becomes(
+        "pub struct P {\n    value: u8,\n    pub ghost small: { value ≤ 100 },\n}\n",
+        "pub struct P {\n    value: u8,\n    \n}\n",
+    );
+    becomes("struct P { value: u8, ghost small: { value ≤ 100 } }\n", "struct P { value: u8,  }\n");
+}
+
+#[test]
+fn models_are_left_out() {
+    becomes(
+        "use std::marker::Model;\n\n/// What is seen.\nimpl<S: Bound> Model for P<S> {\n    ghost Value = { ℕ };\n}\n",
+        "\n\n\n\n\n\n",
+    );
+    becomes("use std::marker::{Model, PhantomData};\n", "use core::marker::{ PhantomData};\n");
+}
+
+#[test]
+fn attributes_are_known() {
+    becomes("#[tactic(auto, using(a, b))]\nfn f() {}\n", "\nfn f() {}\n");
+    becomes("#[derive(Drop)]\nstruct P;\n", "\nstruct P;\n");
+    becomes("#[derive(Debug, Drop)]\nstruct P;\n", "#[derive(Debug)]\nstruct P;\n");
+    stays("#[derive(Clone, Copy, PartialEq, Eq, PartialOrd, Ord, Debug, Default)]\nstruct P;\n");
+    becomes("#[cfg(test)]\nmod tests;\nfn f() {}\n", "\n\nfn f() {}\n");
+    becomes(
+        "#[derive_where(Clone, Copy)]\npub struct P<S: Bound> {\n    marker: PhantomData<S>,\n}\n",
+        "
+pub struct P<S: Bound> {
+    marker: PhantomData<S>,
+} impl<S: Bound> Copy for P<S> {} impl<S: Bound> Clone for P<S> { fn clone(&self) -> Self { *self } }
+",
+    );
+}
+
+#[test]
+fn paths_are_of_one_crate() {
+    becomes("use crate::a::{b, c};\n", "use crate::erased::apfloat_base::a::{b, c};\n");
+    becomes("use apfloat_model::Round;\n", "use crate::erased::apfloat_model::Round;\n");
+    becomes("pub use apfloat_model as model;\n", "pub use crate::erased::apfloat_model as model;\n");
+    becomes(
+        "fn f() { apfloat_model::g(crate::h()) }\n",
+        "fn f() { crate::erased::apfloat_model::g(crate::erased::apfloat_base::h()) }\n",
+    );
+    becomes("use std::ops::{Add, Neg};\nuse std::fmt;\n", "use core::ops::{Add, Neg};\nuse core::fmt;\n");
+    becomes("fn f(s: &[u8]) { std::str::from_utf8(s) }\n", "fn f(s: &[u8]) { core::str::from_utf8(s) }\n");
+    stays("mod a;\npub use a::b;\nuse super::c;\n");
+}
+
+#[test]
+fn functions_are_rewritten() {
+    becomes("trait T {\n    final fn f() {}\n}\n", "trait T {\n     fn f() {}\n}\n");
+    becomes(
+        "impl fmt::Display for P {
+    fn fmt<W: fmt::Write>(&self, f: &mut fmt::Formatter<W>) -> fmt::Result {
+        write!(f, \"\")
+    }
+}
+",
+        "impl fmt::Display for P {
+    fn fmt(&self, f: &mut fmt::Formatter<'_>) -> fmt::Result {
+        write!(f, \"\")
+    }
+}
+",
+    );
+    becomes("fn f(x: u8) { prove!(x > 0); }\n", "fn f(x: u8) { debug_assert!(x > 0); }\n");
+    becomes("const _: () = prove_eq!(A, B);\n", "const _: () = debug_assert_eq!(A, B);\n");
+}
+
+#[test]
+fn macros_are_known() {
+    becomes(
+        "#[macro_export]\nmacro_rules! unpack {\n    ($e:expr) => { $crate::f($e) };\n}\n",
+        "
+macro_rules! unpack {
+    ($e:expr) => { $crate::erased::apfloat_base::f($e) };
+} pub(crate) use unpack;
+",
+    );
+    stays("fn f(b: u8) -> bool { matches!(b, b'0'..=b'9') }\n");
+    stays("macro_rules! one {\n    () => { 1 };\n}\nfn f() -> u8 { one!() }\n");
+    stays("fn f() -> u8 { unreachable!() }\n");
+    stays("bitflag_items! {\n    impl S: u8 {\n        /// None.\n        const OK = 0x00;\n    }\n}\n");
+}
+
+#[test]
+fn clauses_of_unknown_forms_are_refused() {
+    is_refused("fn f()\n    ensures;\n", 2, "without its braces");
+    is_refused("fn f()\n    ensures x\n{}\n", 3, "nothing in its braces");
+    is_refused("fn f()\n    ensures x\n{\n    g()\n}\nfn g() {}\n", 3, "neither a clause, nor a body");
+    is_refused("fn f() ensures { a ∀ b } {}\n", 1, "'∀'");
+    is_refused("fn f() ensures {\n a' } {}\n", 2, "'\\''");
+    is_refused("fn f() ensures { a // b\n } {}\n", 1, "a comment in a clause");
+    is_refused("fn f() ensures { a -- b\n } {}\n", 1, "a comment in a clause");
+    is_refused("fn f() ensures { (a ] } {}\n", 1, "closes no bracket");
+    is_refused("fn f() ensures { \"a\\n\" } {}\n", 1, "a string of an unknown form");
+    is_refused("fn f() ensures { a\n", 1, "without its end");
+    is_refused("fn f() {\n    let g = |x: u8| requires { x < 2 } { x };\n}\n", 2, "outside the head of a function");
+    is_refused("struct P { requires: u8 }\n", 1, "without its braces");
+}
+
+#[test]
+fn ghost_of_unknown_forms_is_refused() {
+    is_refused("ghost let x = 1;\n", 1, "`ghost` of an unknown form");
+    is_refused("ghost { x }\n", 1, "`ghost` without a name");
+    is_refused("fn f() {\n    ghost use A.{b};\n}\n", 2, "`ghost` of an unknown form");
+    is_refused("fn f() {\n    ghost x = { 1 };\n}\n", 2, "`ghost` of an unknown form");
+    is_refused("fn f(ghost x: { 1 }) {}\n", 1, "`ghost` in an unknown place");
+    is_refused("#[inline]\nghost x = { 1 };\n", 2, "`ghost` in an unknown place");
+    is_refused("struct P {\n    ghost a: { ∥ b ∥ },\n}\n", 2, "'∥'");
+    is_refused("impl Model for P {\n    ghost Value = { ℕ };\n    fn f() {}\n}\n", 3, "no ghost member");
+    is_refused("fn f<M: Model>() {}\n", 1, "`Model`");
+}
+
+#[test]
+fn attributes_that_are_unknown_are_refused() {
+    is_refused("#[repr(C)]\nstruct P;\n", 1, "the attribute `#[repr(C)]`");
+    is_refused("#![no_std]\n", 1, "the attribute");
+    is_refused("#![inline]\n", 1, "the attribute `#![inline]`");
+    is_refused("#[derive(Hash)]\nstruct P;\n", 1, "`derive(Hash)`");
+    is_refused("#[cfg(test)]\nfn f() {}\n", 1, "`#[cfg(test)]` before anything but");
+    is_refused("#[derive_where(Clone, Copy)]\nstruct P;\n", 1, "`derive_where` before an unknown form");
+    is_refused("#[derive_where(Clone, Copy)]\nstruct P<'a, S: B> { s: &'a S }\n", 2, "a type parameter");
+}
+
+#[test]
+fn items_that_are_unknown_are_refused() {
+    is_refused("mod inner {\n}\n", 1, "an item that begins with `mod`");
+    is_refused("union U { a: u8 }\n", 1, "an item that begins with `union`");
+    is_refused("unsafe fn f() {}\n", 1, "`unsafe`");
+    is_refused("extern \"C\" fn f() {}\n", 1, "`extern`");
+    is_refused("static S: u8 = 1;\n", 1, "`static`");
+    is_refused("impl Drop for P {}\n", 1, "`Drop`");
+    is_refused("fn f(x: Vec<u8>) {}\n", 1, "`Vec`");
+    is_refused("fn f(x: P) -> P { x.clone() }\n", 1, "`clone`");
+    is_refused("fn f(rt: &HostRuntime) {}\n", 1, "`HostRuntime`");
+    is_refused("final struct P;\n", 1, "`final`");
+    is_refused("pub(in crate::a) fn f() {}\n", 1, "a visibility");
+    is_refused("fn f<W: fmt::Write>(w: &mut W) {}\n", 1, "generic in what it writes to");
+}
+
+#[test]
+fn paths_that_are_unknown_are_refused() {
+    is_refused("use std::alloc::Global;\n", 1, "`std::alloc::Global`");
+    is_refused("use std::ops::{Add, Index};\n", 1, "`std::ops::Index`");
+    is_refused("fn f() { std::process::exit(1) }\n", 1, "`std::process");
+    is_refused("use anyhow::Error;\n", 1, "no crate and no module");
+    is_refused("use super::*;\n", 1, "`use` of an unknown form");
+    is_refused("fn f(apfloat_model: u8) {}\n", 1, "the name of a crate, in an unknown place");
+}
+
+#[test]
+fn macros_that_are_unknown_are_refused() {
+    is_refused("fn f() { println!(\"\") }\n", 1, "the macro `println!`");
+    is_refused("fn f() { assert!(true) }\n", 1, "the macro `assert!`");
+    is_refused("macro_rules! m ( () => {} );\n", 1, "`macro_rules!` of an unknown form");
+    is_refused("macro_rules! m { () => { x.clone() } }\n", 1, "`clone`");
+    is_refused("macro_rules! m { () => { println!() } }\n", 1, "the macro `println!`");
+    is_refused("macro_rules! m { () => { fn f() ensures { a } {} } }\n", 1, "a clause in a macro");
+}
+
+#[test]
+fn texts_that_are_no_tokens_are_refused() {
+    is_refused("fn f() {\n    let λ = 1;\n}\n", 2, "'λ'");
+    is_refused("fn f() { let s = \"a }\n", 1, "a string without its end");
+    is_refused("/* a\n", 1, "a comment without its end");
+    is_refused("fn f() { '' }\n", 1, "a quote");
+    is_refused("fn r#fn() {}\n", 1, "a raw name");
+    is_refused("fn f() {\n", 1, "a bracket without its end");
+    is_refused("fn f() {}\n}\n", 2, "a bracket that closes none");
+}
+
+#[test]
+fn ranges_without_an_end_are_refused() {
+    is_refused("fn f() {\n    for i in 0.. {\n    }\n}\n", 2, "a range without an end");
+    is_refused("fn f() { g((250..)) }\n", 1, "a range without an end");
+    stays("fn f(x: Option<u8>) { let Some(..) = x else { return; }; }\n");
+}
+
+#[test]
+fn a_refusal_names_the_file_and_the_line() {
+    let refusal = erase_text("fn f() {}\nstatic S: u8 = 1;\n", "apfloat_base").unwrap_err();
+    assert_eq!(refusal.to_string(), "apfloat_base:2: `static`: a static");
+}

@@ -1,0 +1,77 @@
+//! The crates of the repository.
+
+use std::fs;
+use std::path::Path;
+
+/// Compares the lines of each erased file with those of its source, and counts the files.
+fn compare(source: &Path, erased: &Path) -> usize {
+    let mut count = 0;
+    for entry in fs::read_dir(erased).unwrap() {
+        let path = entry.unwrap().path();
+        if path.is_dir() {
+            count += compare(&source.join(path.file_name().unwrap()), &path);
+            continue;
+        }
+        let name = Path::new(path.file_name().unwrap()).with_extension("rt");
+        let text = fs::read_to_string(&path).unwrap();
+        let original = fs::read_to_string(source.join(&name)).unwrap();
+        let added = text.lines().filter(|line| line.starts_with("pub(crate) use self::")).count();
+        assert_eq!(text.lines().count() - added, original.lines().count(), "{}", path.display());
+        for (number, (line, from)) in text.lines().zip(original.lines()).enumerate() {
+            // What is left of a line is what it had, but for paths and the few forms that are rewritten.
+            let same = line.trim() == from.trim().trim_start_matches("final ") || matches!(line.trim(), "" | ";");
+            let rewritten = ["crate::erased::", "core::", " Copy for ", "fn fmt(&self", "pub(crate) use "];
+            let known = same || rewritten.iter().any(|form| line.contains(form)) || from.contains("derive(");
+            assert!(known, "{}:{}: {line}", path.display(), number + 1);
+            assert!(line.contains("//") || !["ghost ", "requires ", "ensures "].iter().any(|word| line.contains(word)));
+        }
+        count += 1;
+    }
+    count
+}
+
+#[test]
+fn the_library_is_erased_line_by_line() {
+    let crates = Path::new(concat!(env!("CARGO_MANIFEST_DIR"), "/../../crates"));
+    let out = Path::new(env!("CARGO_TARGET_TMPDIR")).join("library");
+    let _ = fs::remove_dir_all(&out);
+    if let Err(refusal) = erase::erase(crates, &erase::LIBRARY, &out) {
+        panic!("{refusal}");
+    }
+    let count: usize = erase::LIBRARY.iter().map(|name| compare(&crates.join(name).join("src"), &out.join(name))).sum();
+    assert!(count > 100, "{count} files");
+    let modules = fs::read_to_string(out.join("erased.rs")).unwrap();
+    assert_eq!(modules.matches("mod ").count(), erase::LIBRARY.len());
+}
+
+/// The crates that a crate needs, itself included, lowest first.
+fn needed(lines: &str, name: &str, all: &mut Vec<String>) {
+    let line = lines.lines().find_map(|line| line.strip_prefix(&format!("{name}: ")));
+    for other in line.unwrap_or("").split(' ').filter(|other| !other.is_empty() && *other != "bitflags") {
+        needed(lines, other, all);
+    }
+    if !all.iter().any(|known| known == name) {
+        all.push(name.to_owned());
+    }
+}
+
+#[test]
+fn the_library_is_what_crates_txt_says() {
+    let lines = fs::read_to_string(concat!(env!("CARGO_MANIFEST_DIR"), "/../../crates.txt")).unwrap();
+    let mut all = Vec::new();
+    needed(&lines, "rustc_apfloat", &mut all);
+    // Its text is re-exports alone, which the interface in Rust has in place of it.
+    all.pop();
+    needed(&lines, "pair_decimals", &mut all);
+    let mut listed: Vec<&str> = erase::LIBRARY.to_vec();
+    all.sort();
+    listed.sort();
+    assert_eq!(all, listed);
+}
+
+#[test]
+fn a_crate_that_is_not_there_is_refused() {
+    let out = Path::new(env!("CARGO_TARGET_TMPDIR")).join("none");
+    let refusal = erase::erase(Path::new("nowhere"), &["none"], &out).unwrap_err();
+    assert!(refusal.to_string().starts_with("nowhere/none/src/lib.rt: "), "{refusal}");
+}

@@ -1,0 +1,37 @@
+//! What the library's crates use of the crate `bitflags`.
+
+/// A flag of a set, with its name.
+pub struct Flag<B: 'static> {
+    pub name: &'static str,
+    pub value: B,
+}
+
+/// A set of flags in the bits of an integer.
+pub trait Flags: Copy + 'static {
+    type Bits;
+
+    fn flags<'a>() -> &'a [Flag<Self>];
+
+    fn bits(&self) -> u8;
+
+    fn from_bits_retain(bits: u8) -> Self;
+
+    #[inline]
+    fn union(self, other: Self) -> Self {
+        Self::from_bits_retain(self.bits() | other.bits())
+    }
+}
+
+/// The constants of a set.
+macro_rules! bitflag_items {
+    (impl $name:ident: $bits:ty { $($(#[$attribute:meta])* const $flag:ident = $value:expr;)* }) => {
+        impl $name {
+            $($(#[$attribute])* pub const $flag: $name = $name($value);)*
+
+            const FLAGS: &'static [$crate::erased::bitflags::Flag<$name>] = &[
+                $($crate::erased::bitflags::Flag { name: stringify!($flag), value: $name::$flag },)*
+            ];
+        }
+    };
+}
+pub(crate) use bitflag_items;

@@ -1,0 +1,495 @@
+//! Formats of one significand.
+
+use crate::digits;
+use crate::erased::apfloat_base::{self, Float as _, FloatConvert as _};
+use crate::erased::apfloat_rounding::unpacked::Unpacked;
+use crate::erased::{apfloat_decimals, apfloat_ieee};
+use crate::law::Constants;
+use crate::status::answered;
+use crate::{Category, Decimal, ExpInt, Float, FloatConvert, ParseError, Round, StatusAnd};
+use core::cmp::Ordering;
+use core::fmt;
+use core::marker::PhantomData;
+use core::ops::Neg;
+
+pub use crate::erased::apfloat_base::NonfiniteBehavior;
+
+/// A value of the format `S`.
+#[must_use]
+pub struct IeeeFloat<S> {
+    value: Unpacked,
+    marker: PhantomData<S>,
+}
+
+impl<S> Copy for IeeeFloat<S> {}
+
+impl<S> Clone for IeeeFloat<S> {
+    #[inline]
+    fn clone(&self) -> Self {
+        *self
+    }
+}
+
+/// A binary format.
+///
+/// Its constants have to obey the law of formats: a format that breaks it does not compile, and the error names the
+/// clause.
+///
+/// ```
+/// use rustc_apfloat::Float;
+/// use rustc_apfloat::ieee::{IeeeFloat, Semantics};
+///
+/// struct TwelveS;
+/// impl Semantics for TwelveS {
+///     const BITS: usize = 12;
+///     const EXP_BITS: usize = 5;
+/// }
+/// assert_eq!(IeeeFloat::<TwelveS>::from_u128(3).value.to_bits(), 0x420);
+/// ```
+///
+/// ```compile_fail
+/// use rustc_apfloat::Float;
+/// use rustc_apfloat::ieee::{IeeeFloat, Semantics};
+///
+/// struct WrongS;
+/// impl Semantics for WrongS {
+///     const BITS: usize = 12;
+///     const EXP_BITS: usize = 5;
+///     const MAX_EXP: i32 = 14;
+/// }
+/// assert_eq!(IeeeFloat::<WrongS>::from_u128(3).value.to_bits(), 0x420);
+/// ```
+pub trait Semantics: Sized {
+    /// How many bits an encoding has, at most 128; 0 in a format for computing only, which has no bits.
+    const BITS: usize;
+
+    /// How many of them are the biased exponent; 0 in a format without bits.
+    const EXP_BITS: usize;
+
+    /// How many digits a significand has, from 3 to 125, the integer bit included.
+    const PRECISION: usize = Self::BITS - Self::EXP_BITS;
+
+    /// Which non-finite values the format has.
+    const NONFINITE_BEHAVIOR: NonfiniteBehavior = NonfiniteBehavior::IEEE754;
+
+    /// The greatest exponent of a finite value, from `PRECISION` to 2^20.
+    const MAX_EXP: ExpInt = Self::IEEE_MAX_EXP
+        + (Self::MIN_EXP - Self::IEEE_MIN_EXP)
+        + match Self::NONFINITE_BEHAVIOR {
+            NonfiniteBehavior::IEEE754 => 0,
+            NonfiniteBehavior::NanOnly | NonfiniteBehavior::NanNegativeZero => 1,
+        };
+
+    /// The greatest exponent in IEEE 754 for this count of exponent bits; 0 in a format without bits.
+    const IEEE_MAX_EXP: ExpInt = if Self::EXP_BITS == 0 { 0 } else { 1 - Self::IEEE_MIN_EXP };
+
+    /// The least exponent of a value that is not denormal, from -2^20 to -1.
+    const MIN_EXP: ExpInt = Self::IEEE_MIN_EXP;
+
+    /// The least exponent in IEEE 754 for this count of exponent bits; 0 in a format without bits.
+    const IEEE_MIN_EXP: ExpInt = if Self::EXP_BITS == 0 { 0 } else { 2 - (1 << (Self::EXP_BITS - 1)) };
+
+    /// The bits that every NaN's significand has.
+    const NAN_SIGNIFICAND_BASE: u128 = match Self::NONFINITE_BEHAVIOR {
+        NonfiniteBehavior::IEEE754 | NonfiniteBehavior::NanNegativeZero => 0,
+        NonfiniteBehavior::NanOnly => (1 << (Self::PRECISION - 1)) - 1,
+    };
+
+    /// The bits that a NaN's payload may set.
+    const NAN_PAYLOAD_MASK: u128 = match Self::NONFINITE_BEHAVIOR {
+        NonfiniteBehavior::IEEE754 => (1 << (Self::PRECISION - 1)) - 1,
+        NonfiniteBehavior::NanOnly | NonfiniteBehavior::NanNegativeZero => 0,
+    };
+
+    /// The bits that make a NaN quiet; with the integer bit, if that is explicit.
+    const QNAN_SIGNIFICAND: u128 = match Self::NONFINITE_BEHAVIOR {
+        NonfiniteBehavior::IEEE754 => 1 << (Self::PRECISION - 2),
+        NonfiniteBehavior::NanOnly | NonfiniteBehavior::NanNegativeZero => 0,
+    };
+
+    /// Whether the integer bit is explicit, as in the x87's format.
+    const EXPLICIT_INTEGER_BIT: bool = Self::QNAN_SIGNIFICAND >> (Self::PRECISION - 1) & 1 == 1;
+
+    /// Whether an inexact result is tiny by its exact magnitude, and not by the rounded one (IEEE 754-2008 7.5).
+    const TINY_BEFORE_ROUNDING: bool = false;
+
+    /// Whether `OVERFLOW` and `UNDERFLOW` are raised as IEEE 754-2008 asks (7.4, 7.5), also in modes that deliver the
+    /// largest value. `IeeeFlags` sets it.
+    const IEEE_FLAGS: bool = false;
+
+    /// The value whose encoding is `bits`; bits at and above `BITS` are ignored.
+    ///
+    /// # Panics
+    ///
+    /// In a format without bits.
+    fn from_bits(bits: u128) -> IeeeFloat<Self> {
+        assert!(Self::BITS > Self::PRECISION, "a format without bits");
+        IeeeFloat::of(Inner::<Self>::from_bits(bits))
+    }
+
+    /// The bits of the value's encoding.
+    ///
+    /// # Panics
+    ///
+    /// In a format without bits.
+    fn to_bits(x: IeeeFloat<Self>) -> u128 {
+        assert!(Self::BITS > Self::PRECISION, "a format without bits");
+        x.inner().to_bits()
+    }
+}
+
+/// The law of the format `S`.
+struct LawOfFormat<S>(PhantomData<S>);
+
+impl<S: Semantics> LawOfFormat<S> {
+    const HOLDS: () = match Constants::of::<S>().fault() {
+        None => {}
+        Some(clause) => panic!("{}", clause),
+    };
+
+    /// Whether the format's exponents are within those of `Quad`: in such a format the library reads decimals.
+    const HAS_QUAD_EXPONENTS: bool = S::MIN_EXP >= -16382 && S::MAX_EXP <= 16383;
+
+    /// That values of the format can be written by the library.
+    const IS_WRITTEN: () = assert!(Self::HAS_QUAD_EXPONENTS, "the format's exponents are past those of Quad");
+
+    /// That the library finds shortest decimals in the format.
+    const HAS_SHORTEST: () = assert!(S::PRECISION <= 113, "PRECISION is more than 113");
+}
+
+/// The format `S` as the library knows formats, with the flags of the built-in ones.
+pub struct PlainS<S>(PhantomData<S>);
+
+/// The format `S` as the library knows formats, with its rule of flags.
+pub struct FlaggedS<S>(PhantomData<S>);
+
+macro_rules! library_formats {
+    ($($name:ident: $trait:path { $($more:tt)* })*) => {$(
+        impl<S> Copy for $name<S> {}
+
+        impl<S> Clone for $name<S> {
+            fn clone(&self) -> Self {
+                *self
+            }
+        }
+
+        impl<S: Semantics> $trait for $name<S> {
+            const BITS: usize = S::BITS;
+            const EXP_BITS: usize = S::EXP_BITS;
+            const PRECISION: usize = {
+                let () = LawOfFormat::<S>::HOLDS;
+                S::PRECISION
+            };
+            const NONFINITE_BEHAVIOR: NonfiniteBehavior = S::NONFINITE_BEHAVIOR;
+            const MAX_EXP: ExpInt = S::MAX_EXP;
+            const IEEE_MAX_EXP: ExpInt = S::IEEE_MAX_EXP;
+            const MIN_EXP: ExpInt = S::MIN_EXP;
+            const IEEE_MIN_EXP: ExpInt = S::IEEE_MIN_EXP;
+            const NAN_SIGNIFICAND_BASE: u128 = S::NAN_SIGNIFICAND_BASE;
+            const NAN_PAYLOAD_MASK: u128 = S::NAN_PAYLOAD_MASK;
+            const QNAN_SIGNIFICAND: u128 = S::QNAN_SIGNIFICAND;
+            const EXPLICIT_INTEGER_BIT: bool = S::EXPLICIT_INTEGER_BIT;
+            const TINY_BEFORE_ROUNDING: bool = S::TINY_BEFORE_ROUNDING;
+            $($more)*
+        }
+    )*};
+}
+
+library_formats! {
+    PlainS: apfloat_ieee::Semantics {}
+    FlaggedS: apfloat_ieee::Flagged {
+        const IEEE_FLAGS: bool = S::IEEE_FLAGS;
+    }
+}
+
+/// The library's value.
+type Inner<S> = apfloat_ieee::IeeeFloat<FlaggedS<S>>;
+
+macro_rules! formats {
+    ($($(#[$attribute:meta])* $name:ident = $format:ident($bits:literal: $exp_bits:literal) { $($more:tt)* })*) => {$(
+        #[doc = concat!("The format of [`", stringify!($name), "`].")]
+        pub struct $format;
+
+        $(#[$attribute])*
+        pub type $name = IeeeFloat<$format>;
+
+        impl Semantics for $format {
+            const BITS: usize = $bits;
+            const EXP_BITS: usize = $exp_bits;
+            $($more)*
+        }
+    )*};
+}
+
+formats! {
+    /// Binary16.
+    Half = HalfS(16: 5) {}
+    /// Binary32.
+    Single = SingleS(32: 8) {}
+    /// Binary64.
+    Double = DoubleS(64: 11) {}
+    /// Binary128.
+    Quad = QuadS(128: 15) {}
+    /// The upper half of a binary32.
+    BFloat = BFloatS(16: 8) {}
+    /// Eight bits with the exponents of binary16.
+    Float8E5M2 = Float8E5M2S(8: 5) {}
+    /// Eight bits without infinities.
+    Float8E4M3FN = Float8E4M3FNS(8: 4) {
+        const NONFINITE_BEHAVIOR: NonfiniteBehavior = NonfiniteBehavior::NanOnly;
+    }
+    /// Eight bits without infinities and without a negative zero.
+    Float8E4M3FNUZ = Float8E4M3FNUZS(8: 4) {
+        const NONFINITE_BEHAVIOR: NonfiniteBehavior = NonfiniteBehavior::NanNegativeZero;
+        const MIN_EXP: ExpInt = -7;
+    }
+    /// The 80 bits of the x87.
+    X87DoubleExtended = X87DoubleExtendedS(80: 15) {
+        const PRECISION: usize = 64;
+        const QNAN_SIGNIFICAND: u128 = 0b11 << 62;
+    }
+}
+
+macro_rules! formats_of {
+    ($($(#[$attribute:meta])* $name:ident { $constant:ident, other $($other:ident: $type:ty),* })*) => {$(
+        $(#[$attribute])*
+        pub struct $name<S>(PhantomData<S>);
+
+        impl<S: Semantics> Semantics for $name<S> {
+            const BITS: usize = S::BITS;
+            const EXP_BITS: usize = S::EXP_BITS;
+            const PRECISION: usize = S::PRECISION;
+            const NONFINITE_BEHAVIOR: NonfiniteBehavior = S::NONFINITE_BEHAVIOR;
+            const MAX_EXP: ExpInt = S::MAX_EXP;
+            const IEEE_MAX_EXP: ExpInt = S::IEEE_MAX_EXP;
+            const MIN_EXP: ExpInt = S::MIN_EXP;
+            const IEEE_MIN_EXP: ExpInt = S::IEEE_MIN_EXP;
+            const NAN_SIGNIFICAND_BASE: u128 = S::NAN_SIGNIFICAND_BASE;
+            const NAN_PAYLOAD_MASK: u128 = S::NAN_PAYLOAD_MASK;
+            const QNAN_SIGNIFICAND: u128 = S::QNAN_SIGNIFICAND;
+            const EXPLICIT_INTEGER_BIT: bool = S::EXPLICIT_INTEGER_BIT;
+            $(const $other: $type = S::$other;)*
+            const $constant: bool = true;
+        }
+    )*};
+}
+
+formats_of! {
+    /// The format `S` with the flags of IEEE 754-2008, tininess detected after rounding: those of x86 and RISC-V.
+    /// `IeeeFlags<TinyBefore<S>>` has those of Arm and POWER. The crate `rustc_apfloat` has no such formats.
+    IeeeFlags { IEEE_FLAGS, other TINY_BEFORE_ROUNDING: bool }
+    /// The format `S` with tininess detected before rounding.
+    TinyBefore { TINY_BEFORE_ROUNDING, other IEEE_FLAGS: bool }
+}
+
+impl<S> IeeeFloat<S> {
+    pub(crate) const fn from_unpacked(value: Unpacked) -> Self {
+        IeeeFloat { value, marker: PhantomData }
+    }
+
+    #[inline]
+    pub(crate) fn unpacked(self) -> Unpacked {
+        self.value
+    }
+}
+
+impl<S: Semantics> IeeeFloat<S> {
+    const fn made(significand: u128, exponent: ExpInt, category: Category) -> Self {
+        let () = LawOfFormat::<S>::HOLDS;
+        Self::from_unpacked(Unpacked { significand, exponent, category, negative: false })
+    }
+
+    #[inline]
+    fn inner(self) -> Inner<S> {
+        Inner::<S>::packed(self.value)
+    }
+
+    #[inline]
+    fn of(inner: Inner<S>) -> Self {
+        Self::from_unpacked(inner.unpacked())
+    }
+
+    #[inline]
+    fn answered(answer: apfloat_base::StatusAnd<Inner<S>>) -> StatusAnd<Self> {
+        answered(answer).map(Self::of)
+    }
+
+    /// The significand and the exponent of its integer bit, as the crate `rustc_apfloat` holds them.
+    fn parts(self) -> (u128, ExpInt) {
+        let Unpacked { significand, exponent, category, .. } = self.value;
+        match category {
+            Category::Zero => (0, S::MIN_EXP - 1),
+            Category::Infinity => ((S::EXPLICIT_INTEGER_BIT as u128) << (S::PRECISION - 1), S::MAX_EXP + 1),
+            Category::NaN => {
+                let exponent = match S::NONFINITE_BEHAVIOR {
+                    NonfiniteBehavior::IEEE754 => S::MAX_EXP + 1,
+                    NonfiniteBehavior::NanOnly => S::MAX_EXP,
+                    NonfiniteBehavior::NanNegativeZero => S::MIN_EXP - 1,
+                };
+                (significand, exponent)
+            }
+            Category::Normal => {
+                let below = (S::MIN_EXP - exponent).max(0);
+                (significand >> below, exponent + below)
+            }
+        }
+    }
+
+    #[inline]
+    fn plain(self) -> apfloat_ieee::IeeeFloat<PlainS<S>> {
+        apfloat_ieee::IeeeFloat::packed(self.value)
+    }
+
+    /// The shortest decimal that gives the value when it is rounded to nearest, ties to even, and of those the nearest;
+    /// infinities and NaNs have none. It does not compile in a format of more digits or farther exponents than `Quad`.
+    ///
+    /// The crate `rustc_apfloat` has no such call.
+    pub fn shortest(self) -> Option<Decimal> {
+        let () = LawOfFormat::<S>::IS_WRITTEN;
+        let () = LawOfFormat::<S>::HAS_SHORTEST;
+        apfloat_decimals::shortest(self.plain())
+    }
+
+    /// The decimal that equals the value, if its digits are below 2^128; infinities and NaNs have none.
+    ///
+    /// The crate `rustc_apfloat` has no such call.
+    pub fn exact_decimal(self) -> Option<Decimal> {
+        apfloat_decimals::exact(self.plain())
+    }
+
+    /// The value rounded to `count` decimal digits, and whether that is the value itself; infinities and NaNs have
+    /// none. It does not compile in a format of farther exponents than `Quad`.
+    ///
+    /// The crate `rustc_apfloat` has no such call.
+    ///
+    /// # Panics
+    ///
+    /// Unless the count is from 1 to 36.
+    pub fn rounded_decimal(self, count: u32, round: Round) -> Option<(Decimal, bool)> {
+        let () = LawOfFormat::<S>::IS_WRITTEN;
+        assert!((1..=36).contains(&count), "a value is rounded to 1 to 36 digits, and not to {count}");
+        apfloat_decimals::rounded(self.plain(), count, round)
+    }
+
+    /// The square root, rounded once. The crate `rustc_apfloat` has none.
+    #[inline]
+    pub fn sqrt_r(self, round: Round) -> StatusAnd<Self> {
+        Self::answered(self.inner().sqrt_r(round))
+    }
+
+    /// `sqrt_r`, to nearest, ties to even.
+    #[inline]
+    pub fn sqrt(self) -> StatusAnd<Self> {
+        Self::answered(self.inner().sqrt())
+    }
+}
+
+operators!(IeeeFloat);
+
+impl<S: Semantics> PartialEq for IeeeFloat<S> {
+    #[inline]
+    fn eq(&self, other: &Self) -> bool {
+        self.inner() == other.inner()
+    }
+}
+
+impl<S: Semantics> PartialOrd for IeeeFloat<S> {
+    #[inline]
+    fn partial_cmp(&self, other: &Self) -> Option<Ordering> {
+        self.inner().partial_cmp(&other.inner())
+    }
+}
+
+impl<S: Semantics> Neg for IeeeFloat<S> {
+    type Output = Self;
+
+    #[inline]
+    fn neg(self) -> Self {
+        Self::of(-self.inner())
+    }
+}
+
+impl<S: Semantics> fmt::Display for IeeeFloat<S> {
+    /// Writes the value in decimal: to as many digits as the precision says, or as many as tell it from the others. The
+    /// width is how many zeros may stand before the digits or after them, 3 if there is none; a value with more is
+    /// written with an exponent, as `1.0E-5`, and with `#` as `1.0000000e-05`.
+    fn fmt(&self, f: &mut fmt::Formatter<'_>) -> fmt::Result {
+        let (significand, exponent) = self.parts();
+        let last = exponent - (S::PRECISION as ExpInt - 1);
+        digits::write(f, self.category(), self.is_negative(), significand, last, S::PRECISION)
+    }
+}
+
+impl<S: Semantics> fmt::Debug for IeeeFloat<S> {
+    /// The value in decimal, its category, its sign and significand, and the exponent of its integer bit, as in
+    /// `1(Normal | +[1024] * 2^0)`.
+    fn fmt(&self, f: &mut fmt::Formatter<'_>) -> fmt::Result {
+        let sign = if self.is_negative() { '-' } else { '+' };
+        let (significand, exponent) = self.parts();
+        write!(f, "{self}({:?} | {sign}[{significand}] * 2^{exponent})", self.category())
+    }
+}
+
+impl<S: Semantics> Float for IeeeFloat<S> {
+    const BITS: usize = S::BITS;
+    const PRECISION: usize = S::PRECISION;
+    const MAX_EXP: ExpInt = S::MAX_EXP;
+    const MIN_EXP: ExpInt = S::MIN_EXP;
+    const ZERO: Self = Self::made(0, 0, Category::Zero);
+    const INFINITY: Self = match S::NONFINITE_BEHAVIOR {
+        NonfiniteBehavior::IEEE754 => Self::made(0, 0, Category::Infinity),
+        NonfiniteBehavior::NanOnly | NonfiniteBehavior::NanNegativeZero => Self::NAN,
+    };
+    const NAN: Self = Self::made(S::NAN_SIGNIFICAND_BASE | S::QNAN_SIGNIFICAND, 0, Category::NaN);
+    const SMALLEST: Self =
+        Self::made(1 << (S::PRECISION - 1), S::MIN_EXP - (S::PRECISION as ExpInt - 1), Category::Normal);
+
+    by_the_library! {}
+
+    #[inline]
+    fn mul_r(self, rhs: Self, round: Round) -> StatusAnd<Self> {
+        Self::answered(self.inner().wide_mul_r(rhs.inner(), round))
+    }
+
+    #[inline]
+    fn mul_add_r(self, multiplicand: Self, addend: Self, round: Round) -> StatusAnd<Self> {
+        Self::answered(self.inner().wide_mul_add_r(multiplicand.inner(), addend.inner(), round))
+    }
+
+    #[inline]
+    fn from_bits(input: u128) -> Self {
+        S::from_bits(input)
+    }
+
+    #[inline]
+    fn to_bits(self) -> u128 {
+        S::to_bits(self)
+    }
+
+    fn from_str_r(s: &str, round: Round) -> Result<StatusAnd<Self>, ParseError> {
+        if LawOfFormat::<S>::HAS_QUAD_EXPONENTS && !S::IEEE_FLAGS {
+            let answer = apfloat_decimals::read_decimal::<PlainS<S>>(s, round)?;
+            return Ok(answered(answer).map(|value| Self::from_unpacked(value.unpacked())));
+        }
+        if let Ok(answer) = Inner::<S>::from_str_r(s, round) {
+            return Ok(Self::answered(answer));
+        }
+        // A decimal, or a text with a fault, whatever the format.
+        let _ = apfloat_decimals::read_decimal::<PlainS<QuadS>>(s, round)?;
+        Ok(Self::answered(digits::read(s, round)))
+    }
+
+    #[inline]
+    fn cmp_abs_normal(self, rhs: Self) -> Ordering {
+        assert!(self.is_finite_non_zero());
+        assert!(rhs.is_finite_non_zero());
+        self.inner().cmp_abs_normal(rhs.inner())
+    }
+}
+
+impl<S: Semantics, T: Semantics> FloatConvert<IeeeFloat<T>> for IeeeFloat<S> {
+    #[inline]
+    fn convert_r(self, round: Round, loses_info: &mut bool) -> StatusAnd<IeeeFloat<T>> {
+        IeeeFloat::answered(self.inner().convert_r(round, loses_info))
+    }
+}

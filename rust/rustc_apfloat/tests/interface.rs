@@ -1,0 +1,129 @@
+//! What is of Rust alone: sets of flags, constants, operators, and conditions that panic.
+
+use rustc_apfloat::ieee::*;
+use rustc_apfloat::ppc::{DoubleDouble, FallbackS};
+use rustc_apfloat::{Category, ExpInt, Float, IEK_INF, IEK_NAN, IEK_ZERO, Round, Status, StatusAnd, unpack};
+use std::panic::{UnwindSafe, catch_unwind};
+
+#[test]
+fn sets_of_flags() {
+    const BOTH: Status = Status::OVERFLOW.union(Status::INEXACT);
+    assert_eq!(BOTH.bits(), 0x14);
+    assert_eq!(
+        format!("{:?} {:?} {:?}", Status::OK, BOTH, Status::from_bits_retain(0x28)),
+        "Status(0x0) Status(OVERFLOW | INEXACT) Status(UNDERFLOW | 0x20)"
+    );
+    assert_eq!(Status::from_bits(0x20), None);
+    assert_eq!(Status::from_bits(0x1f), Some(Status::all()));
+    assert_eq!(Status::from_bits_truncate(0xff), Status::all());
+    assert_eq!(
+        (Status::from_name("OK"), Status::from_name("UNDERFLOW"), Status::from_name("under")),
+        (Some(Status::OK), Some(Status::UNDERFLOW), None)
+    );
+    assert!(BOTH.contains(Status::INEXACT) && !BOTH.contains(Status::all()) && BOTH.intersects(Status::all()));
+    assert!(Status::empty().is_empty() && Status::all().is_all() && !BOTH.is_all());
+    assert_eq!((BOTH | Status::UNDERFLOW) - Status::INEXACT, Status::OVERFLOW | Status::UNDERFLOW);
+    assert_eq!((BOTH ^ Status::INEXACT, BOTH & Status::INEXACT), (Status::OVERFLOW, Status::INEXACT));
+    assert_eq!(!BOTH, Status::INVALID_OP | Status::DIV_BY_ZERO | Status::UNDERFLOW);
+    let mut set = Status::OK;
+    set.insert(BOTH);
+    set.remove(Status::OVERFLOW);
+    set.toggle(Status::INVALID_OP);
+    set.set(Status::UNDERFLOW, true);
+    set.set(Status::INEXACT, false);
+    set |= Status::DIV_BY_ZERO;
+    assert_eq!(set, Status::INVALID_OP | Status::UNDERFLOW | Status::DIV_BY_ZERO);
+    assert_eq!(set.iter().collect::<Status>(), set);
+    let odd = Status::from_bits_retain(0x31);
+    assert_eq!(odd.into_iter().map(|set| set.bits()).collect::<Vec<_>>(), [0x01, 0x10, 0x20]);
+    assert_eq!(Status::OK.iter().count(), 0);
+    assert_eq!(set.iter_names().map(|(name, _)| name).collect::<Vec<_>>(), ["INVALID_OP", "DIV_BY_ZERO", "UNDERFLOW"]);
+    assert_eq!(format!("{BOTH:#b} {BOTH:x}"), "0b10100 14");
+}
+
+#[test]
+fn answers() {
+    let mut status = Status::UNDERFLOW;
+    let value = unpack!(status |=, Half::from_u128(2049));
+    assert_eq!((status, value.to_bits()), (Status::UNDERFLOW | Status::INEXACT, 0x6800));
+    let value = unpack!(status =, Half::from_u128(1).map(|x| -x));
+    assert_eq!((status, value.to_bits()), (Status::OK, 0xbc00));
+    assert_eq!(Status::INEXACT.and(7), StatusAnd { status: Status::INEXACT, value: 7 });
+    assert_eq!(Half::from_u128(3).unwrap().to_bits(), 0x4200);
+}
+
+fn constants<F: Float>() {
+    assert!(F::ZERO.is_pos_zero() && F::default().is_pos_zero());
+    assert!(F::NAN.bitwise_eq(F::qnan(None)));
+    assert!(F::SMALLEST.is_smallest() && !F::SMALLEST.is_negative());
+    assert!(F::ZERO.next_up().value.is_smallest() || F::BITS == 128);
+    assert_eq!(F::INFINITY.is_nan(), F::largest().next_up().value.is_nan());
+    assert_eq!((F::ZERO.ilogb(), F::NAN.ilogb()), (IEK_ZERO, IEK_NAN));
+    if F::INFINITY.is_infinite() {
+        assert_eq!(F::INFINITY.ilogb(), IEK_INF);
+    }
+    for constant in [F::ZERO, F::NAN, F::SMALLEST, F::INFINITY] {
+        assert!(F::from_bits(constant.to_bits()).bitwise_eq(constant));
+    }
+}
+
+#[test]
+fn constants_are_the_values_of_calls() {
+    constants::<Half>();
+    constants::<Single>();
+    constants::<Double>();
+    constants::<Quad>();
+    constants::<BFloat>();
+    constants::<Float8E5M2>();
+    constants::<Float8E4M3FN>();
+    constants::<Float8E4M3FNUZ>();
+    constants::<X87DoubleExtended>();
+    constants::<IeeeFloat<IeeeFlags<TinyBefore<DoubleS>>>>();
+    constants::<DoubleDouble>();
+    const LIMITS: (usize, usize, ExpInt, ExpInt) = (Double::BITS, Double::PRECISION, Double::MAX_EXP, Double::MIN_EXP);
+    assert_eq!(LIMITS, (64, 53, 1023, -1022));
+    assert_eq!((DoubleDouble::BITS, DoubleDouble::PRECISION, DoubleDouble::MIN_EXP), (128, 106, -969));
+}
+
+/// Whether a call panics.
+fn panics<T>(call: impl FnOnce() -> T + UnwindSafe) -> bool {
+    std::panic::set_hook(Box::new(|_| {}));
+    catch_unwind(call).is_err()
+}
+
+#[test]
+fn conditions_panic() {
+    let one = Double::from_u128(1).value;
+    assert!(panics(|| Half::from_u128(2049).unwrap()));
+    for width in [0, 129, usize::MAX] {
+        assert!(panics(move || one.to_u128(width)));
+        assert!(panics(move || one.to_i128(width)));
+        assert!(panics(move || DoubleDouble::ZERO.to_u128(width)));
+    }
+    assert!(panics(move || one.to_i128(1)));
+    assert_eq!(one.to_u128(1).value, 1);
+    assert!(panics(move || one.cmp_abs_normal(Double::ZERO)));
+    assert!(panics(move || Double::NAN.cmp_abs_normal(one)));
+    let pair = DoubleDouble::from_u128(1).value;
+    assert!(panics(move || pair.cmp_abs_normal(pair)));
+    type Wide = IeeeFloat<FallbackS<Double>>;
+    assert!(panics(|| Wide::from_bits(0)));
+    assert!(panics(|| Wide::ZERO.to_bits()));
+    assert!(panics(move || one.rounded_decimal(37, Round::TowardZero)));
+}
+
+#[test]
+fn pairs_and_their_wide_format() {
+    type Wide = IeeeFloat<FallbackS<Double>>;
+    let third = DoubleDouble::from_u128(1).value.div_r(DoubleDouble::from_u128(3).value, Round::NearestTiesToEven);
+    assert_eq!(third.status, Status::INEXACT);
+    assert!(DoubleDouble::from(Wide::from(third.value)).bitwise_eq(third.value));
+    assert_eq!(third.value.to_string(), "0.333333333333333333333333333333335");
+    // 2^53 + 1/2, squared, plus one quarter: rounded once, and then split.
+    let x = DoubleDouble::from_str_r("9007199254740992.5", Round::NearestTiesToEven).unwrap().unwrap();
+    let quarter = DoubleDouble::from_str_r("0.25", Round::NearestTiesToEven).unwrap().unwrap();
+    assert_eq!(x.mul_add(x, quarter).status, Status::INEXACT);
+    assert_eq!(x.mul_add(x, -quarter).unwrap().to_string(), "81129638414606690702988259885056");
+    assert!((-x + x).value.is_pos_zero());
+    assert_eq!(Category::Normal, x.category());
+}
