@@ -231,16 +231,20 @@ def split(row):
     return " ".join(column for column in question if column != "-"), " ".join(result)
 
 
-def edited(path, text):
-    """The text of a file with an edit made."""
-    lines = path.read_text(encoding="utf-8").split("\n")
-    olds = [line.removeprefix("old: ") for line in lines if line.startswith("old: ")]
-    news = [line.removeprefix("new:").removeprefix(" ") for line in lines if line.startswith("new:")]
-    for old, new in zip(olds, news, strict=True):
-        if text.count(old) != 1:
-            raise Fault(f"an old text stands {text.count(old)} times in its file: {old.strip()}")
-        text = text.replace(old, new)
-    return text
+def edited(edit, folder):
+    """The texts of the files below a crate's folder with an edit made, by their paths."""
+    texts, file, old = {}, None, None
+    for line in edit.read_text(encoding="utf-8").split("\n"):
+        if line.startswith("file: "):
+            file = folder / line.removeprefix("file: ").strip()
+            texts.setdefault(file, file.read_text(encoding="utf-8"))
+        elif line.startswith("old: "):
+            old = line.removeprefix("old: ")
+        elif line.startswith("new:"):
+            if texts[file].count(old) != 1:
+                raise Fault(f"an old text stands {texts[file].count(old)} times in its file: {old.strip()}")
+            texts[file] = texts[file].replace(old, line.removeprefix("new:").removeprefix(" "))
+    return texts
 
 
 def computed(copy, row):
@@ -281,17 +285,15 @@ def tried(copies, mistake, crate, suffix, row):
     begun = time.monotonic()
     copy = copies.get()
     try:
-        lines = edit.read_text(encoding="utf-8").split("\n")
-        names = {line.removeprefix("file: ").strip() for line in lines if line.startswith("file: ")}
-        if len(names) != 1:
-            raise Fault("it edits several files")
-        file = copy / "crates" / crate / names.pop()
-        text = file.read_text(encoding="utf-8")
-        file.write_text(edited(edit, text), encoding="utf-8")
+        texts = edited(edit, copy / "crates" / crate)
+        kept = {file: file.read_text(encoding="utf-8") for file in texts}
         try:
+            for file, text in texts.items():
+                file.write_text(text, encoding="utf-8")
             result = computed(copy, row)
         finally:
-            file.write_text(text, encoding="utf-8")
+            for file, text in kept.items():
+                file.write_text(text, encoding="utf-8")
     except (Fault, OSError) as fault:
         result = fault
     finally:
