@@ -1,0 +1,6 @@
+pub mod Relations
+pub mod Predicates
+pub mod Comparisons
+pub mod TotalOrder
+pub mod Classes
+pub mod StatusFlags
