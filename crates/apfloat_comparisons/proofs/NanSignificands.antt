@@ -39,8 +39,7 @@ implied NanOnly f layout x k =
 implied NanNegativeZero f layout x k =
     if_case (IsOfNan x.trailing) (x.negative && eqb x.biased_exponent 0 && eqb x.trailing 0)
     (λ e h. eqb-true x.trailing 0
-    (second_holds (eqb x.biased_exponent 0) (eqb x.trailing 0)
-    (second_holds x.negative (eqb x.biased_exponent 0 && eqb x.trailing 0) e))
+    (second_holds (x.negative && eqb x.biased_exponent 0) (eqb x.trailing 0) e)
     ∙ sym (ap (λ kind. nan_base_of kind f.precision) k))
     (λ e. implied_number_not f x)
 

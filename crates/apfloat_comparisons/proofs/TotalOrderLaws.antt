@@ -324,9 +324,10 @@ below_numbers : (x y : Datum) → is_below x y ≡ true
 below_numbers x y h =
     let less : compared x y ≡ Some Less = less_is (compared x y) h in
     let greater : compared y x ≡ Some Greater =
-        compared_laws.antisymm y x ∙ ap (option_map ordering_reverse) less in
-    (ap (λ o. is_some_and is_lt o || (is_some_and is_eq o && (is_negative x || not (is_negative y)))) less,
-    ap (λ o. is_some_and is_lt o || (is_some_and is_eq o && (is_negative y || not (is_negative x)))) greater)
+    compared_laws.antisymm y x ∙ ap (option_map ordering_reverse) less in (
+      ap (λ o. is_some_and is_lt o || (is_some_and is_eq o && (is_negative x || not (is_negative y)))) less,
+      ap (λ o. is_some_and is_lt o || (is_some_and is_eq o && (is_negative y || not (is_negative x)))) greater,
+    )
 
 below : (f : Format) (x y : Datum) → is_below x y ≡ true
     → (total_order f x y ≡ true) × (total_order f y x ≡ false)

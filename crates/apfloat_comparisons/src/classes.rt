@@ -1,8 +1,8 @@
 //! The general operations on one value that `Float` lacks (IEEE 754-2019 5.7.2).
 
-ghost use Rattle.std.specs.Prelude.{◌≡◌, true};
-ghost use Rattle.apfloat_model.specs.formats.Members.{IsMember};
-ghost use Rattle.apfloat_ieee.specs.FlaggedTypes.{format_of};
+ghost use Rattle.std.specs.Prelude.{◌≡◌, ◌<◌, ◌↔◌, true, IsTrue, if◌then◌else◌};
+ghost use Rattle.apfloat_model.specs.bits.Layout.{IsEncodedBy, datum_of};
+ghost use Rattle.apfloat_ieee.specs.FlaggedTypes.{format_of, layout_of};
 ghost use Rattle.apfloat_comparisons.specs.Classes.{class_of};
 
 use apfloat_base::{Category, Float};
@@ -39,7 +39,11 @@ pub fn class_of<S: Flagged>(x: IeeeFloat<S>) -> Class
 {
     let negative = x.is_negative();
     match x.category() {
-        Category::NaN => if x.is_signaling() { Class::SignalingNan } else { Class::QuietNan },
+        Category::NaN => if x.is_signaling() {
+            Class::SignalingNan
+        } else {
+            Class::QuietNan
+        },
         Category::Infinity => signed(negative, Class::NegativeInfinity, Class::PositiveInfinity),
         Category::Zero => signed(negative, Class::NegativeZero, Class::PositiveZero),
         Category::Normal => {
@@ -65,10 +69,22 @@ pub fn radix<S: Flagged>(_x: IeeeFloat<S>) -> u32
     2
 }
 
-/// Whether the value is canonical (5.7.2, isCanonical), which every value is: a value has one encoding here, the
-/// canonical one, whatever bits it was read from. `is_canonical_encoding` tells encodings apart.
+/// Whether the value is canonical (5.7.2, isCanonical), which every value is: `to_bits` writes the canonical encoding,
+/// whatever bits the value was read from. `is_canonical_encoding` is about bits.
 pub fn is_canonical<S: Flagged>(_x: IeeeFloat<S>) -> bool
     ensures { result ≡ true }
 {
     true
+}
+
+/// Whether the bits are the canonical encoding of the value that `from_bits` reads from them, with no bit at or above
+/// `BITS` (5.7.2, isCanonical). Only formats with an explicit integer bit have others below 2^BITS: pseudo-denormals,
+/// and numbers, infinities and NaNs whose integer bit is 0 above the least exponent.
+pub fn is_canonical_encoding<S: Flagged>(bits: u128) -> bool
+    requires { S.PRECISION < S.BITS }
+    ensures { IsTrue result
+        ↔ IsEncodedBy (format_of S.Flagged) (layout_of S.Flagged) bits
+        (datum_of (format_of S.Flagged) (layout_of S.Flagged) bits) }
+{
+    IeeeFloat::<S>::from_bits(bits).to_bits() == bits
 }

@@ -89,7 +89,10 @@ pub fn compare_signaling_greater<S: Flagged>(x: IeeeFloat<S>, y: IeeeFloat<S>) -
 /// compareSignalingGreaterEqual (table 5.2): whether the left value is greater, or the values are equal.
 /// INVALID_OP is raised exactly if either is a NaN.
 #[inline]
-pub fn compare_signaling_greater_equal<S: Flagged>(x: IeeeFloat<S>, y: IeeeFloat<S>) -> StatusAnd<bool>
+pub fn compare_signaling_greater_equal<S: Flagged>(
+    x: IeeeFloat<S>,
+    y: IeeeFloat<S>,
+) -> StatusAnd<bool>
     ensures { Gives (IsComparison (format_of S.Flagged) GreaterEqual Signaling x y) result }
 {
     compare(Predicate::GreaterEqual, OnNan::Signaling, x, y)
@@ -125,7 +128,10 @@ pub fn compare_signaling_not_equal<S: Flagged>(x: IeeeFloat<S>, y: IeeeFloat<S>)
 /// compareSignalingNotGreater (table 5.2): whether the left value is not greater.
 /// INVALID_OP is raised exactly if either is a NaN.
 #[inline]
-pub fn compare_signaling_not_greater<S: Flagged>(x: IeeeFloat<S>, y: IeeeFloat<S>) -> StatusAnd<bool>
+pub fn compare_signaling_not_greater<S: Flagged>(
+    x: IeeeFloat<S>,
+    y: IeeeFloat<S>,
+) -> StatusAnd<bool>
     ensures { Gives (IsComparison (format_of S.Flagged) NotGreater Signaling x y) result }
 {
     compare(Predicate::NotGreater, OnNan::Signaling, x, y)
@@ -134,7 +140,10 @@ pub fn compare_signaling_not_greater<S: Flagged>(x: IeeeFloat<S>, y: IeeeFloat<S
 /// compareSignalingLessUnordered (table 5.2): whether the left value is less, or a value is a NaN.
 /// INVALID_OP is raised exactly if either is a NaN.
 #[inline]
-pub fn compare_signaling_less_unordered<S: Flagged>(x: IeeeFloat<S>, y: IeeeFloat<S>) -> StatusAnd<bool>
+pub fn compare_signaling_less_unordered<S: Flagged>(
+    x: IeeeFloat<S>,
+    y: IeeeFloat<S>,
+) -> StatusAnd<bool>
     ensures { Gives (IsComparison (format_of S.Flagged) LessUnordered Signaling x y) result }
 {
     compare(Predicate::LessUnordered, OnNan::Signaling, x, y)
@@ -152,7 +161,10 @@ pub fn compare_signaling_not_less<S: Flagged>(x: IeeeFloat<S>, y: IeeeFloat<S>) 
 /// compareSignalingGreaterUnordered (table 5.2): whether the left value is greater, or a value is a NaN.
 /// INVALID_OP is raised exactly if either is a NaN.
 #[inline]
-pub fn compare_signaling_greater_unordered<S: Flagged>(x: IeeeFloat<S>, y: IeeeFloat<S>) -> StatusAnd<bool>
+pub fn compare_signaling_greater_unordered<S: Flagged>(
+    x: IeeeFloat<S>,
+    y: IeeeFloat<S>,
+) -> StatusAnd<bool>
     ensures { Gives (IsComparison (format_of S.Flagged) GreaterUnordered Signaling x y) result }
 {
     compare(Predicate::GreaterUnordered, OnNan::Signaling, x, y)
@@ -233,7 +245,10 @@ pub fn compare_quiet_not_less<S: Flagged>(x: IeeeFloat<S>, y: IeeeFloat<S>) -> S
 /// compareQuietGreaterUnordered (table 5.3): whether the left value is greater, or a value is a NaN.
 /// INVALID_OP is raised exactly if either is a signaling NaN.
 #[inline]
-pub fn compare_quiet_greater_unordered<S: Flagged>(x: IeeeFloat<S>, y: IeeeFloat<S>) -> StatusAnd<bool>
+pub fn compare_quiet_greater_unordered<S: Flagged>(
+    x: IeeeFloat<S>,
+    y: IeeeFloat<S>,
+) -> StatusAnd<bool>
     ensures { Gives (IsComparison (format_of S.Flagged) GreaterUnordered Quiet x y) result }
 {
     compare(Predicate::GreaterUnordered, OnNan::Quiet, x, y)

@@ -14,7 +14,7 @@ mod tests;
 mod theorems;
 mod total_orders;
 
-pub use classes::{Class, class_of, is_canonical, radix};
+pub use classes::{Class, class_of, is_canonical, is_canonical_encoding, radix};
 pub use comparisons::{
     compare, compare_quiet_equal, compare_quiet_greater, compare_quiet_greater_equal,
     compare_quiet_greater_unordered, compare_quiet_less, compare_quiet_less_equal,

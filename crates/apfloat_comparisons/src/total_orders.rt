@@ -2,6 +2,7 @@
 
 ghost use Rattle.std.specs.Prelude.{◌≡◌, ◌<◌, true};
 ghost use Rattle.apfloat_model.specs.order.Classes.{is_nan, is_negative};
+ghost use Rattle.apfloat_model.specs.bits.Layout.{trailing_bits};
 ghost use Rattle.apfloat_ieee.specs.FlaggedTypes.{format_of};
 ghost use Rattle.apfloat_comparisons.specs.TotalOrder.{total_order, total_order_mag, total_cmp};
 ghost use Rattle.apfloat_comparisons.specs.TotalOrder.{numbers_in_order, nans_in_order, positive_nans_in_order};
@@ -9,6 +10,7 @@ ghost use Rattle.apfloat_comparisons.specs.TotalOrder.{nan_significand};
 
 use apfloat_base::Float;
 use apfloat_ieee::{Flagged, IeeeFloat};
+use apfloat_words::power_of_two;
 use std::cmp::Ordering;
 
 /// totalOrder (5.10): whether `x` is at or below `y` in the total order of the format's values.
@@ -101,16 +103,23 @@ fn positive_nans_in_order<S: Flagged>(x: IeeeFloat<S>, y: IeeeFloat<S>) -> bool
     }
 }
 
-/// The significand of a NaN: the lowest bits of its encoding.
+/// The significand of a NaN: the trailing field of its encoding.
 fn significand_of_nan<S: Flagged>(x: IeeeFloat<S>) -> u128
     requires nan { is_nan x ≡ true }
     requires bits { S.PRECISION < S.BITS }
     ensures { result ≡ nan_significand x }
 {
-    let width = if S::EXPLICIT_INTEGER_BIT {
-        S::PRECISION
+    x.to_bits() % power_of_two(trailing_bits::<S>())
+}
+
+/// The width of the trailing field.
+fn trailing_bits<S: Flagged>() -> u32
+    ensures few { result < 128 }
+    ensures value { result ≡ trailing_bits (format_of S.Flagged) }
+{
+    if S::EXPLICIT_INTEGER_BIT {
+        S::PRECISION as u32
     } else {
-        S::PRECISION - 1
-    };
-    x.to_bits() % (1u128 << width)
+        S::PRECISION as u32 - 1
+    }
 }
