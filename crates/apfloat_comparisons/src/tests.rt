@@ -400,8 +400,8 @@ fn classes(rt: HostRuntime) {
     }
 }
 
-/// In the x87 format the smallest normal number has a second encoding, with the exponent of denormals; an infinity
-/// without its integer bit is read as a NaN, and so is written.
+/// In the x87 format: the smallest normal number, and its other encoding, with the exponent of denormals; infinity; an
+/// unnormal; a bit above the format.
 #[test]
 fn encodings(rt: HostRuntime) {
     let rows = [
