@@ -1,14 +1,14 @@
 -- The significand of a NaN is the trailing field of its encoding.
-use Rattle.std.specs.Prelude.{◌≡◌, ℕ, ◌-◌, ◌%◌, ◌^◌, Bool, true, false, ◌&&◌, ltb, leb, eqb, if◌then◌else◌}
+use Rattle.std.specs.Prelude.{◌≡◌, ℕ, ◌-◌, ◌%◌, ◌^◌, Bool, true, false, ◌&&◌, leb, eqb}
 use Rattle.std.proofs.Common.{refl, sym, ap, ◌∙◌, subst}
 use Rattle.std.proofs.lemmas.Bool.{eqb-true}
 use Rattle.apfloat_model.specs.declared.kinds.NonfiniteBehavior.{NonfiniteBehavior}
 use Rattle.apfloat_model.specs.declared.kinds.NonfiniteBehavior.TheVariants.{IEEE754, NanOnly, NanNegativeZero}
-use Rattle.apfloat_model.specs.formats.Format.{Format, smallest_normalized, nan_base, nan_base_of}
-use Rattle.apfloat_model.specs.formats.Datum.{Datum, finite, infinite, nan}
+use Rattle.apfloat_model.specs.formats.Format.{Format, smallest_normalized, nan_base_of}
+use Rattle.apfloat_model.specs.formats.Datum.{Datum}
 use Rattle.apfloat_model.specs.order.Classes.{is_nan}
 use Rattle.apfloat_model.specs.bits.Layout.{Layout, Fields, all_ones, trailing_bits, fields_of, has_all_ones}
-use Rattle.apfloat_model.specs.bits.Layout.{implied_number, implied_datum, written_number, written_datum}
+use Rattle.apfloat_model.specs.bits.Layout.{implied_number, implied_datum, written_datum}
 use Rattle.apfloat_model.specs.bits.Layout.{datum_of_fields, datum_of}
 use Rattle.apfloat_model.proofs.general.Choices.{if_case}
 use Rattle.apfloat_comparisons.specs.TotalOrder.{nan_significand}

@@ -1,5 +1,5 @@
 -- The ten classes of data (IEEE 754-2019 5.7.2, class).
-use Rattle.std.specs.Prelude.{Bool, eqb, ltb, if◌then◌else◌}
+use Rattle.std.specs.Prelude.{eqb, ltb, if◌then◌else◌}
 use Rattle.apfloat_model.specs.formats.Format.{Format, smallest_normalized}
 use Rattle.apfloat_model.specs.formats.Datum.{Datum, finite, infinite, nan}
 use Rattle.apfloat_model.specs.formats.Nan.{is_signaling}

@@ -39,8 +39,9 @@ fn is_invalid<S: Flagged>(on_nan: OnNan, x: IeeeFloat<S>, y: IeeeFloat<S>) -> bo
     }
 }
 
+/// The status of a comparison.
 #[inline]
-fn status_if(invalid: bool) -> Status
+pub(crate) fn status_if(invalid: bool) -> Status
     ensures { bits_of result ≡ invalid_if invalid }
 {
     if invalid {

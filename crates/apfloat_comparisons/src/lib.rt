@@ -13,6 +13,7 @@ mod status_flags;
 mod tests;
 mod theorems;
 mod total_orders;
+mod two_formats;
 
 pub use classes::{Class, class_of, is_canonical, is_canonical_encoding, radix};
 pub use comparisons::{
@@ -29,5 +30,9 @@ pub use predicates::{OnNan, Predicate, Relations};
 pub use status_flags::{
     lower_flags, raise_flags, restore_flags, save_all_flags, test_flags, test_saved_flags,
 };
-pub use theorems::{comparisons_have_one_answer, total_order_is_total};
+pub use theorems::{
+    comparisons_between_have_one_answer, comparisons_have_one_answer, one_format_agrees,
+    total_order_is_total,
+};
 pub use total_orders::{total_cmp, total_order, total_order_mag};
+pub use two_formats::{compare_between, relation_between};

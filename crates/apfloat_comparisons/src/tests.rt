@@ -241,6 +241,34 @@ fn table_5_3(rt: HostRuntime) {
     );
 }
 
+// ---- two formats
+
+/// A value of `half` against one of an 8-bit format.
+fn check_between<T: Semantics>(rt: &impl Abort, x: u128, y: u128, expected: Option<Ordering>)
+    requires { T.PRECISION < T.BITS }
+{
+    let left = HalfS::from_bits(x);
+    let right = IeeeFloat::<T>::from_bits(y);
+    same(rt, relation_between(left, right), expected, (x, y));
+}
+
+#[test]
+fn two_formats(rt: HostRuntime) {
+    check_between::<Float8E5M2S>(&rt, 0x3c01, 0x3c, Some(Ordering::Greater));
+    check_between::<Float8E5M2S>(&rt, 0x3c00, 0x3c, Some(Ordering::Equal));
+    check_between::<Float8E5M2S>(&rt, 0xbc01, 0xbc, Some(Ordering::Less));
+    check_between::<Float8E5M2S>(&rt, 0x7bff, 0x7c, Some(Ordering::Less));
+    check_between::<Float8E4M3FNS>(&rt, 0x7bff, 0x7e, Some(Ordering::Greater));
+    check_between::<Float8E4M3FNS>(&rt, 0x0001, 0x80, Some(Ordering::Greater));
+    check_between::<Float8E4M3FNS>(&rt, 0x8000, 0x00, Some(Ordering::Equal));
+    check_between::<Float8E4M3FNS>(&rt, 0xfc00, 0xfe, Some(Ordering::Less));
+    check_between::<Float8E4M3FNS>(&rt, 0x7c00, 0x7f, None);
+    let x = HalfS::from_bits(SIGNALING_NAN);
+    let y = IeeeFloat::<Float8E4M3FNS>::from_bits(0);
+    let answer = compare_between(Predicate::Unordered, OnNan::Quiet, x, y);
+    same(&rt, result(answer), TInvalid, "signaling");
+}
+
 // ---- all pairs of 8-bit codes
 
 /// The predicates with the relations that satisfy each: less 1, equal 2, greater 4, unordered 8.
