@@ -1,6 +1,6 @@
 //! One file: its tokens, each kept, left out or replaced.
 
-use crate::forms::{ATTRIBUTES, Attribute, DERIVED, FMT, MACROS, MODEL, PROVED, REFUSED, STD};
+use crate::forms::{ATTRIBUTES, Attribute, DERIVED, FMT, MACROS, MODEL, NUMBERS, PROVED, REFUSED, STD};
 use crate::refusal::Fault;
 use crate::tokens::{Kind, Token, tokens};
 use std::collections::HashMap;
@@ -24,6 +24,8 @@ pub(crate) struct Place<'a> {
     pub root: &'a str,
     /// The names of the crates.
     pub crates: &'a [&'a str],
+    /// The modules of this crate that are left out.
+    pub without: &'a [&'a str],
 }
 
 /// What is between the innermost brackets.
@@ -54,6 +56,7 @@ pub(crate) fn erase(text: &str, place: &Place<'_>) -> Result<Erased, Fault> {
         modules: Vec::new(),
         macros: Vec::new(),
         defined: Vec::new(),
+        takers: Vec::new(),
         exports: false,
         opening: 0,
     };
@@ -86,6 +89,8 @@ struct Walk<'a, 'p> {
     macros: Vec<String>,
     /// The macros that the file has defined.
     defined: Vec<&'a str>,
+    /// Those of them that use a macro which is named first in their arguments.
+    takers: Vec<&'a str>,
     /// Whether `#[macro_export]` stands before the item.
     exports: bool,
     /// The place after the last `#![..]`.
@@ -316,13 +321,14 @@ impl<'a> Walk<'a, '_> {
         !keyword && self.text(at + 1) == "!" && self.text(at + 2) != "="
     }
 
-    /// Whether the macro is the same in both languages, or the file or the library defines it.
+    /// Whether the macro is the same in both languages, or the file or the library defines it; and so the macro that it
+    /// takes first, if it uses one.
     fn known_macro(&self, at: usize) -> Result<(), Fault> {
         let name = self.text(at);
-        if MACROS.contains(&name) || self.defined.contains(&name) {
-            return Ok(());
+        if !MACROS.contains(&name) && !self.defined.contains(&name) {
+            return self.fault(at, format!("the macro `{name}!`"));
         }
-        self.fault(at, format!("the macro `{name}!`"))
+        if self.takers.contains(&name) { self.known_macro(at + 3) } else { Ok(()) }
     }
 
     /// The first word of an item, after a `pub`.
@@ -343,6 +349,9 @@ impl<'a> Walk<'a, '_> {
             "const" | "type" | "struct" | "enum" | "trait" => Ok(at + 1),
             "impl" => self.implementation(at),
             "use" => self.import(at),
+            "mod" if self.text(at + 2) == ";" && self.place.without.contains(&self.text(at + 1)) => {
+                self.leave_out_item(at, at + 3)
+            }
             "mod" if self.is_word(at + 1) && self.text(at + 2) == ";" => {
                 self.modules.push(self.text(at + 1).to_owned());
                 Ok(at + 2)
@@ -439,8 +448,9 @@ impl<'a> Walk<'a, '_> {
     fn invocation(&mut self, at: usize) -> Result<usize, Fault> {
         let word = self.text(at);
         if let Some((_, rust)) = PROVED.iter().find(|(proved, _)| *proved == word) {
-            // In a constant's value Rust tests it as well, when the constant is evaluated.
-            self.replace(at, *rust);
+            // `const _: () = prove!(..);` is tested whenever Rust compiles it.
+            let in_constant = at >= 6 && self.joined(at - 6, at) == "const_:()=";
+            self.replace(at, if in_constant { rust.trim_start_matches("debug_") } else { rust });
             return Ok(at + 2);
         }
         if word == "macro_rules" {
@@ -449,6 +459,9 @@ impl<'a> Walk<'a, '_> {
             }
             let name = self.text(at + 2);
             let end = self.after_bracket(at + 3)?;
+            if self.uses_a_parameter(at + 3, end)? {
+                self.takers.push(name);
+            }
             self.rules(at + 3, end)?;
             self.defined.push(name);
             if std::mem::take(&mut self.exports) {
@@ -467,6 +480,26 @@ impl<'a> Walk<'a, '_> {
         Ok(at + 2)
     }
 
+    /// Whether the rules of a macro use another one that is a parameter, `$name! ..`. There has to be a single rule, and
+    /// it has to take that name first: `($name:ident ..`.
+    fn uses_a_parameter(&self, open: usize, end: usize) -> Result<bool, Fault> {
+        let rules = (open..end).filter(|&at| self.text(at) == "=>").count();
+        let is_ident = self.joined(open + 4, open + 6) == ":ident" && matches!(self.text(open + 6), "(" | ",");
+        let mut uses = (open..end).filter(|&at| self.is_parameter(at) && self.is_invocation(at)).peekable();
+        let uses_one = uses.peek().is_some();
+        for at in uses {
+            let name = self.text(at);
+            if rules != 1 || self.joined(open, open + 4) != format!("{{(${name}") || !is_ident {
+                return self.fault(at, format!("the macro `${name}!`, which the only rule does not take first"));
+            }
+        }
+        Ok(uses_one)
+    }
+
+    fn is_parameter(&self, at: usize) -> bool {
+        self.before(at) == "$" && self.is_word(at)
+    }
+
     /// The rules or the arguments of a macro: nothing is left out, and paths are as elsewhere.
     fn rules(&mut self, from: usize, to: usize) -> Result<(), Fault> {
         let mut at = from;
@@ -479,7 +512,7 @@ impl<'a> Walk<'a, '_> {
                 continue;
             }
             self.known_word(at)?;
-            if self.is_invocation(at) {
+            if self.is_invocation(at) && !self.is_parameter(at) {
                 self.known_macro(at)?;
             }
             at = self.path(at)?;
@@ -539,6 +572,7 @@ impl<'a> Walk<'a, '_> {
                 self.replace(at + 1, format!("{}::{}", self.place.root, self.place.name));
             }
             "super" | "self" => {}
+            _ if self.place.without.contains(&first) => return self.leave_out_item(at, end + 1),
             _ if self.place.crates.contains(&first) => {
                 self.replace(at + 1, format!("{}::{first}", self.place.root));
             }
@@ -549,6 +583,18 @@ impl<'a> Walk<'a, '_> {
             return self.fault(at, "`use` of an unknown form");
         }
         Ok(end + 1)
+    }
+
+    /// Leaves out an item from its `pub` on.
+    fn leave_out_item(&mut self, at: usize, end: usize) -> Result<usize, Fault> {
+        self.item = "";
+        let first = match self.beginning(at) {
+            Some(first) if self.before(first) != "]" || first == self.opening => first,
+            _ => return self.fault(at, "an item of a module that is left out, in an unknown place"),
+        };
+        self.leave_out(first, end);
+        self.leave_out_docs(first);
+        Ok(end)
     }
 
     /// `use std::a::b;` and `use std::a::{b, c};`, without `Model`.
@@ -604,6 +650,16 @@ impl<'a> Walk<'a, '_> {
             Some((_, Attribute::Stays)) => {}
             Some((_, Attribute::Derives)) => self.derive(at, open, end)?,
             Some((_, Attribute::DerivesBelow)) => self.derive_below(at, end)?,
+            Some((_, Attribute::OfStructs)) => {
+                let mut item = end;
+                while self.text(item) == "#" {
+                    item = self.after_bracket(item + 1)?;
+                }
+                if !matches!((self.text(item), self.text(item + 1)), ("struct", _) | ("pub", "struct")) {
+                    return self.fault(at, format!("`#[{text}]` before anything but a struct"));
+                }
+            }
+            Some((_, Attribute::ExportsToC)) => return self.export_to_c(at, end),
             Some((_, Attribute::Exports)) => {
                 self.leave_out(at, end);
                 self.exports = true;
@@ -619,6 +675,73 @@ impl<'a> Walk<'a, '_> {
             None => return self.fault(at, format!("the attribute `#[{text}]`")),
         }
         Ok(end)
+    }
+
+    /// `pub extern "C" fn name(parameter: type, ..) -> type` after its attribute: a function of Rust, followed by
+    /// `export!` with its head.
+    fn export_to_c(&mut self, at: usize, end: usize) -> Result<usize, Fault> {
+        let name = end + 4;
+        if self.innermost() != Within::Items
+            || self.joined(end, name) != "pubextern\"C\"fn"
+            || !self.is_word(name)
+            || self.text(name + 1) != "("
+        {
+            return self.fault(at, "`#[unsafe(no_mangle)]` before anything but `pub extern \"C\" fn name(..)`");
+        }
+        let close = self.after_bracket(name + 1)? - 1;
+        let mut parameter = name + 2;
+        while parameter < close {
+            parameter = self.parameter_from_c(parameter, close)?;
+        }
+        let returned = close + 2;
+        if self.text(close + 1) != "->" || !NUMBERS.contains(&self.text(returned)) {
+            return self.fault(close, "a function for C that returns no number");
+        }
+        let mut open = returned + 1;
+        while self.text(open) != "{" {
+            if !matches!(self.text(open), "requires" | "ensures" | "*") && !self.is_clause_part(open) {
+                return self.fault(open, "a function for C whose head is of an unknown form");
+            }
+            open += 1;
+        }
+        let head: Vec<&str> = (end + 3..=returned).map(|at| self.text(at)).collect();
+        let export = format!(" {}::export! {{ {} }}", self.place.root, head.join(" "));
+        let body_end = self.after_bracket(open)? - 1;
+        self.leave_out(at, end);
+        self.leave_out(end + 1, end + 3);
+        self.append(body_end, &export);
+        self.item = "fn";
+        self.function(end + 3)
+    }
+
+    /// Whether a clause, or its name, stands here.
+    fn is_clause_part(&self, at: usize) -> bool {
+        self.kind(at) == Some(Kind::Clause) || self.is_word(at) && self.kind(at + 1) == Some(Kind::Clause)
+    }
+
+    fn is_name_of_type(&self, at: usize) -> bool {
+        self.is_word(at) && self.text(at).starts_with(|c: char| c.is_ascii_uppercase())
+    }
+
+    /// A parameter that C can pass: a number or a struct, a place for one of them, or bytes, which are a pointer and a
+    /// length there. Gives the place after it.
+    fn parameter_from_c(&self, at: usize, close: usize) -> Result<usize, Fault> {
+        let mut end = at;
+        while end < close && self.text(end) != "," {
+            end += 1;
+        }
+        let given = at + 2;
+        let known = match self.joined(given, end).as_str() {
+            "&[u8]" | "&mut[u8]" => true,
+            _ => {
+                let name = if self.joined(given, given + 2) == "&mut" { given + 2 } else { given };
+                name + 1 == end && (NUMBERS.contains(&self.text(name)) || self.is_name_of_type(name))
+            }
+        };
+        if !self.is_word(at) || self.text(at + 1) != ":" || !known {
+            return self.fault(at, "a parameter that no C program can pass");
+        }
+        Ok(end + 1)
     }
 
     /// `#[derive(..)]` without `Drop`.
@@ -648,20 +771,18 @@ impl<'a> Walk<'a, '_> {
         if self.text(keyword) != "struct" || !self.is_word(name) || body == name + 1 || self.text(body) != "{" {
             return self.fault(at, "`derive_where` before an unknown form");
         }
-        let mut parameters = Vec::new();
+        let (mut bounds, mut names) = (Vec::new(), Vec::new());
         let mut i = name + 2;
         while i < body - 1 {
-            if !self.is_word(i) || self.text(i + 1) != ":" || !self.is_word(i + 2) {
+            let end = if self.kind(i) == Some(Kind::Lifetime) { i + 1 } else { i + 3 };
+            let is_bound = end == i + 1 || self.is_word(i) && self.text(i + 1) == ":" && self.is_word(i + 2);
+            if !is_bound || !matches!(self.text(end), "," | ">") {
                 return self.fault(i, "a type parameter of an unknown form");
             }
-            if !matches!(self.text(i + 3), "," | ">") {
-                return self.fault(i, "a type parameter of an unknown form");
-            }
-            parameters.push((self.text(i), self.text(i + 2)));
-            i += 4;
+            bounds.push(self.joined(i, end).replace(':', ": "));
+            names.push(self.text(i));
+            i = end + 1;
         }
-        let bounds: Vec<String> = parameters.iter().map(|(name, bound)| format!("{name}: {bound}")).collect();
-        let names: Vec<&str> = parameters.iter().map(|(name, _)| *name).collect();
         let head = format!("impl<{}>", bounds.join(", "));
         let of = format!("{}<{}>", self.text(name), names.join(", "));
         let close = self.after_bracket(body)? - 1;
