@@ -1340,7 +1340,7 @@ struct hash<apfloat::value<F>> {
 template <class F, apfloat::rounding Mode>
 struct hash<apfloat::unflagged<F, Mode>> : hash<apfloat::value<F>> {};
 
-#if defined(__cpp_lib_format)
+#if defined(__cpp_lib_format) && defined(__cpp_exceptions)
 /// Formats what `to_text` returns, by a fill, an alignment and a width. A precision is refused.
 template <class F>
 struct formatter<apfloat::value<F>, char> : formatter<string_view, char> {
