@@ -5,9 +5,8 @@
 //   packaging/install PREFIX
 //   cmake -S examples/cpp -B BUILD -DCMAKE_PREFIX_PATH=PREFIX && cmake --build BUILD
 //   BUILD/fold < examples/c/lines
-#include <apfloat.h>
+#include <apfloat.hpp>
 
-#include <array>
 #include <cstdint>
 #include <iostream>
 #include <map>
@@ -15,43 +14,39 @@
 #include <sstream>
 #include <string>
 #include <utility>
-#include <variant>
 #include <vector>
 
 namespace {
 
+using apfloat::errc;
+using apfloat::expected;
+using apfloat::result;
+using apfloat::rounding;
+using apfloat::value;
+
 constexpr std::size_t most_bytes = 4000;
 
-const std::map<std::string, std::uint32_t> formats = {
-    {"half", APFLOAT_HALF},     {"single", APFLOAT_SINGLE}, {"double", APFLOAT_DOUBLE},
-    {"quad", APFLOAT_QUAD},     {"bfloat", APFLOAT_BFLOAT}, {"e5m2", APFLOAT_E5M2},
-    {"e4m3fn", APFLOAT_E4M3FN}, {"x87", APFLOAT_X87},       {"e4m3fnuz", APFLOAT_E4M3FNUZ},
-    {"dd", APFLOAT_DOUBLE_PAIR}};
+enum class operation { add, sub, mul, div, rem, mod, fma, sqrt, parse };
 
-const std::map<std::string, std::uint32_t> modes = {{"even", APFLOAT_NEAREST_EVEN},
-                                                    {"up", APFLOAT_UPWARD},
-                                                    {"down", APFLOAT_DOWNWARD},
-                                                    {"zero", APFLOAT_TOWARD_ZERO},
-                                                    {"away", APFLOAT_NEAREST_AWAY}};
+// The operations by their names, each with how many operands it takes.
+const std::map<std::string, std::pair<operation, std::size_t>> operations = {
+    {"add", {operation::add, 2}}, {"sub", {operation::sub, 2}},   {"mul", {operation::mul, 2}},
+    {"div", {operation::div, 2}}, {"rem", {operation::rem, 2}},   {"mod", {operation::mod, 2}},
+    {"fma", {operation::fma, 3}}, {"sqrt", {operation::sqrt, 1}}, {"parse", {operation::parse, 1}}};
 
-constexpr std::array<std::pair<const char *, std::uint32_t>, 5> flags = {{{"INVALID_OP", APFLOAT_INVALID_OP},
-                                                                          {"DIV_BY_ZERO", APFLOAT_DIV_BY_ZERO},
-                                                                          {"OVERFLOW", APFLOAT_OVERFLOW},
-                                                                          {"UNDERFLOW", APFLOAT_UNDERFLOW},
-                                                                          {"INEXACT", APFLOAT_INEXACT}}};
+const std::map<std::string, rounding> modes = {{"even", rounding::nearest_even},
+                                               {"up", rounding::upward},
+                                               {"down", rounding::downward},
+                                               {"zero", rounding::toward_zero},
+                                               {"away", rounding::nearest_away}};
 
-using OfTwo = std::uint32_t (*)(std::uint32_t, std::uint32_t, apfloat_halves, apfloat_halves, apfloat_answer *);
-using Remainder = std::uint32_t (*)(std::uint32_t, apfloat_halves, apfloat_halves, apfloat_answer *);
-
-const std::map<std::string, std::variant<OfTwo, Remainder>> operations_on_two = {
-    {"add", apfloat_add}, {"sub", apfloat_sub}, {"mul", apfloat_mul},
-    {"div", apfloat_div}, {"rem", apfloat_rem}, {"mod", apfloat_mod}};
-
-// The code of a name, or one that the library refuses.
-std::uint32_t code_of(const std::map<std::string, std::uint32_t> &codes, const std::string &name) {
-    const auto found = codes.find(name);
-    return found == codes.end() ? UINT32_MAX : found->second;
-}
+// The words of a line. Its operands are bits, or a text.
+struct request {
+    operation asked;
+    std::string format, mode;
+    std::vector<apfloat_halves> bits;
+    std::string text;
+};
 
 // 1 to 32 hexadecimal digits of either case, with or without 0x before them, as bits.
 std::optional<apfloat_halves> bits_of(std::string word) {
@@ -82,57 +77,96 @@ std::vector<std::string> words_of(const std::string &line) {
     return words;
 }
 
-// The library's code for a line, and the answer; nothing if the operation or an operand is malformed.
-std::optional<std::uint32_t> fold(const std::string &line, apfloat_answer &answer) {
+// What a line asks for; nothing if its operation or an operand is malformed.
+std::optional<request> request_of(const std::string &line) {
     if (line.size() > most_bytes || line.find('\0') != std::string::npos) return std::nullopt;
     const auto words = words_of(line);
     if (words.size() < 4) return std::nullopt;
-    const auto format = code_of(formats, words[0]), mode = code_of(modes, words[2]);
-    const auto &operation = words[1];
-    if (operation == "parse" && words.size() == 4)
-        return apfloat_parse(format, mode, reinterpret_cast<const std::uint8_t *>(words[3].data()), words[3].size(),
-                             &answer);
-    std::vector<apfloat_halves> operands;
+    const auto found = operations.find(words[1]);
+    if (found == operations.end() || words.size() - 3 != found->second.second) return std::nullopt;
+    request made = {found->second.first, words[0], words[2], {}, {}};
+    if (made.asked == operation::parse) {
+        made.text = words[3];
+        return made;
+    }
     for (std::size_t i = 3; i < words.size(); i++) {
         const auto bits = bits_of(words[i]);
         if (!bits) return std::nullopt;
-        operands.push_back(*bits);
+        made.bits.push_back(*bits);
     }
-    if (operation == "sqrt" && operands.size() == 1) return apfloat_sqrt(format, mode, operands[0], &answer);
-    if (operation == "fma" && operands.size() == 3)
-        return apfloat_fma(format, mode, operands[0], operands[1], operands[2], &answer);
-    const auto found = operations_on_two.find(operation);
-    if (found == operations_on_two.end() || operands.size() != 2) return std::nullopt;
-    if (const auto *rounded = std::get_if<OfTwo>(&found->second))
-        return (*rounded)(format, mode, operands[0], operands[1], &answer);
-    return std::get<Remainder>(found->second)(format, operands[0], operands[1], &answer);
+    return made;
 }
 
-std::string shown(const apfloat_answer &answer) {
-    std::ostringstream line;
-    line << "0x" << std::hex;
-    if (answer.bits.high) {
-        line << answer.bits.high;
-        line.width(16);
-        line.fill('0');
+template <class F>
+expected<result<value<F>>> computed(const request &of, rounding mode) {
+    const auto operand = [&](std::size_t i) { return value<F>::from_lowest(of.bits[i]); };
+    switch (of.asked) {
+    case operation::add: return add(operand(0), operand(1), mode);
+    case operation::sub: return sub(operand(0), operand(1), mode);
+    case operation::mul: return mul(operand(0), operand(1), mode);
+    case operation::div: return div(operand(0), operand(1), mode);
+    case operation::rem: return rem(operand(0), operand(1));
+    case operation::mod: return mod(operand(0), operand(1));
+    case operation::sqrt: return sqrt(operand(0), mode);
+    case operation::parse: return apfloat::parse_hexadecimal<F>(of.text, mode);
+    case operation::fma:
+        // Pairs of doubles have no fused sum: a call of it would not compile.
+        if constexpr (!F::is_pair) return fma(operand(0), operand(1), operand(2), mode);
     }
-    line << answer.bits.low << ' ';
-    std::string raised;
-    for (const auto &[name, flag] : flags)
-        if (answer.status & flag) raised += (raised.empty() ? "" : "|") + std::string(name);
-    line << (raised.empty() ? "OK" : raised);
-    return line.str();
+    return errc::no_such_operation;
+}
+
+std::string hexadecimal(apfloat_halves bits) {
+    std::ostringstream digits;
+    digits << "0x" << std::hex;
+    if (bits.high) {
+        digits << bits.high;
+        digits.width(16);
+        digits.fill('0');
+    }
+    digits << bits.low;
+    return digits.str();
+}
+
+// The bits and the flags of a result, as they are printed.
+template <class F>
+expected<std::string> folded(const request &of, rounding mode) {
+    const auto found = computed<F>(of, mode);
+    if (!found) return found.error();
+    return hexadecimal(found->value.halves()) + ' ' + found->status.names();
+}
+
+using fold_in_format = expected<std::string> (*)(const request &, rounding);
+
+const std::map<std::string, fold_in_format> formats = {
+    {"half", folded<apfloat::binary16>},   {"single", folded<apfloat::binary32>},
+    {"double", folded<apfloat::binary64>}, {"quad", folded<apfloat::binary128>},
+    {"bfloat", folded<apfloat::bfloat16>}, {"x87", folded<apfloat::x87>},
+    {"e5m2", folded<apfloat::e5m2>},       {"e4m3fn", folded<apfloat::e4m3fn>},
+    {"e4m3fnuz", folded<apfloat::e4m3fnuz>}, {"dd", folded<apfloat::double_pair>}};
+
+expected<std::string> fold(const request &of) {
+    const auto format = formats.find(of.format);
+    if (format == formats.end()) return errc::unknown_format;
+    const auto mode = modes.find(of.mode);
+    const bool rounds = of.asked != operation::rem && of.asked != operation::mod;
+    if (mode == modes.end() && rounds) return errc::unknown_mode;
+    return format->second(of, rounds ? mode->second : rounding::nearest_even);
 }
 
 } // namespace
 
 int main() {
     for (std::string line; std::getline(std::cin, line);) {
-        apfloat_answer answer = {};
-        const auto code = fold(line, answer);
-        if (code == APFLOAT_ANSWERED)
-            std::cout << shown(answer) << '\n';
+        const auto asked = request_of(line);
+        if (!asked) {
+            std::cout << "refused: -1\n";
+            continue;
+        }
+        const auto found = fold(*asked);
+        if (found)
+            std::cout << *found << '\n';
         else
-            std::cout << "refused: " << (code ? static_cast<int>(*code) : -1) << '\n';
+            std::cout << "refused: " << static_cast<int>(found.error()) << '\n';
     }
 }

@@ -1,0 +1,1366 @@
+// Correctly rounded software floating point for C++17 and later: types and operators over apfloat.h.
+//
+//   namespace af = apfloat;
+//   using number = af::value<af::binary64>;
+//
+//   auto [sum, status] = af::add(number(0.1), number(0.2), af::rounding::upward);   // a value and its flags
+//
+//   af::gather flags(af::rounding::upward);   // a mode, and the flags of what is computed with it
+//   number y = (flags(sum) + number(1.0)) / number(3.0);
+//   if (flags.raised().has(af::flag::inexact)) ..
+//
+//   af::unflagged<af::binary64> z = 2;        // operators to nearest even, whose flags are dropped
+//   std::cout << z * z + 1 << '\n';
+//
+// Every result is computed by the library for C, so programs link libapfloat_c.a. Nothing is global: a rounding mode is
+// an argument, a part of a type, or that of a `gather`, and flags are returned, or joined to a `gather`. What a format
+// does not have does not compile. A text or a length that the library refuses is returned as an `errc`, and of all that
+// is here only `expected::value()` throws it. A `rounding` that is no enumerator is returned as an `errc` too where an
+// error can be returned, and ends the program with a message elsewhere.
+//
+// Bits, signs, flags and constants are `constexpr`, since they need no call. docs/CALLING_FROM_CPP.md is an
+// introduction.
+#ifndef APFLOAT_HPP
+#define APFLOAT_HPP
+
+#include "apfloat.h"
+
+#include <cstddef>
+#include <cstdint>
+#include <cstdio>
+#include <cstdlib>
+#include <cstring>
+#include <functional>
+#include <limits>
+#include <optional>
+#include <ostream>
+#include <string>
+#include <string_view>
+#include <type_traits>
+#include <utility>
+#if defined(__has_include)
+#if __has_include(<version>)
+#include <version>
+#endif
+#endif
+#if defined(__cpp_exceptions)
+#include <stdexcept>
+#endif
+#if defined(__cpp_lib_bit_cast)
+#include <bit>
+#endif
+#if defined(__cpp_impl_three_way_comparison) && __cpp_impl_three_way_comparison >= 201907L
+#include <compare>
+#define APFLOAT_HAS_THREE_WAY_COMPARISON 1
+#endif
+#if defined(__cpp_lib_format)
+#include <format>
+#endif
+
+namespace apfloat {
+
+// ---- modes, flags and errors
+
+/// The rounding modes of IEEE 754-2008 4.3.
+enum class rounding : std::uint32_t {
+    nearest_even = APFLOAT_NEAREST_EVEN, ///< to the nearest value, ties to even
+    upward = APFLOAT_UPWARD,             ///< toward positive infinity
+    downward = APFLOAT_DOWNWARD,         ///< toward negative infinity
+    toward_zero = APFLOAT_TOWARD_ZERO,
+    nearest_away = APFLOAT_NEAREST_AWAY ///< to the nearest value, ties away from zero
+};
+
+/// One of the flags of IEEE 754-2008 7.
+enum class flag : std::uint32_t {
+    invalid_op = APFLOAT_INVALID_OP,
+    div_by_zero = APFLOAT_DIV_BY_ZERO,
+    overflow = APFLOAT_OVERFLOW,
+    underflow = APFLOAT_UNDERFLOW,
+    inexact = APFLOAT_INEXACT
+};
+
+/// A set of flags.
+class flags {
+public:
+    constexpr flags() = default;
+    constexpr flags(flag one) : code_(static_cast<std::uint32_t>(one)) {}
+
+    /// The flags of a sum of APFLOAT_INVALID_OP .. APFLOAT_INEXACT.
+    static constexpr flags of_code(std::uint32_t code) {
+        flags made;
+        made.code_ = code;
+        return made;
+    }
+    constexpr std::uint32_t code() const { return code_; }
+
+    constexpr bool none() const { return code_ == 0; }
+    constexpr bool any() const { return code_ != 0; }
+    constexpr bool has(flag one) const { return (code_ & static_cast<std::uint32_t>(one)) != 0; }
+
+    constexpr flags &operator|=(flags more) {
+        code_ |= more.code_;
+        return *this;
+    }
+    friend constexpr flags operator|(flags x, flags y) { return x |= y; }
+    friend constexpr flags operator&(flags x, flags y) { return of_code(x.code_ & y.code_); }
+    friend constexpr bool operator==(flags x, flags y) { return x.code_ == y.code_; }
+    friend constexpr bool operator!=(flags x, flags y) { return x.code_ != y.code_; }
+
+    /// Writes the names of the flags, as in OVERFLOW|INEXACT, or OK for none.
+    friend std::ostream &operator<<(std::ostream &out, flags raised) { return out << raised.names(); }
+
+    /// The names of the flags, as `<<` writes them.
+    std::string names() const {
+        constexpr std::pair<flag, const char *> all[] = {{flag::invalid_op, "INVALID_OP"},
+                                                         {flag::div_by_zero, "DIV_BY_ZERO"},
+                                                         {flag::overflow, "OVERFLOW"},
+                                                         {flag::underflow, "UNDERFLOW"},
+                                                         {flag::inexact, "INEXACT"}};
+        std::string joined;
+        for (const auto &[one, name] : all)
+            if (has(one)) joined.append(joined.empty() ? "" : "|").append(name);
+        return joined.empty() ? "OK" : joined;
+    }
+
+private:
+    std::uint32_t code_ = 0;
+};
+
+constexpr flags operator|(flag x, flag y) { return flags(x) | flags(y); }
+
+/// Why the library refuses a call: the codes of apfloat.h.
+enum class errc : std::uint32_t {
+    unknown_format = APFLOAT_UNKNOWN_FORMAT,
+    unknown_mode = APFLOAT_UNKNOWN_MODE,
+    no_such_operation = APFLOAT_NO_SUCH_OPERATION,
+    wrong_width = APFLOAT_WRONG_WIDTH,
+    refused_text = APFLOAT_REFUSED_TEXT,
+    wrong_length = APFLOAT_WRONG_LENGTH
+};
+
+/// An error in words.
+constexpr const char *message(errc error) {
+    switch (error) {
+    case errc::unknown_format: return "unknown format";
+    case errc::unknown_mode: return "unknown rounding mode";
+    case errc::no_such_operation: return "the format does not have the operation";
+    case errc::wrong_width: return "no integer has this width";
+    case errc::refused_text: return "the text has no meaning";
+    case errc::wrong_length: return "the lengths of the arrays do not fit together";
+    }
+    return "unknown error";
+}
+
+namespace detail {
+
+// Ends the program: the caller broke a condition, and no error can be returned.
+[[noreturn]] inline void refuse(const char *why) {
+    std::fprintf(stderr, "apfloat: %s\n", why);
+    std::abort();
+}
+[[noreturn]] inline void refuse(errc error) { refuse(message(error)); }
+
+} // namespace detail
+
+#if defined(__cpp_exceptions)
+/// What `expected::value()` throws.
+class error : public std::runtime_error {
+public:
+    explicit error(errc code) : std::runtime_error(message(code)), code_(code) {}
+    errc code() const noexcept { return code_; }
+
+private:
+    errc code_;
+};
+#endif
+
+/// A result, or the error because of which there is none: a part of the interface of C++23's std::expected.
+template <class T>
+class [[nodiscard]] expected {
+public:
+    constexpr expected(T result) : result_(std::move(result)) {}
+    constexpr expected(errc error) : error_(error), has_value_(false) {}
+
+    constexpr bool has_value() const { return has_value_; }
+    constexpr explicit operator bool() const { return has_value_; }
+
+    /// The result. Without one, the program ends with a message.
+    constexpr const T &operator*() const {
+        if (!has_value_) detail::refuse(error_);
+        return result_;
+    }
+    constexpr const T *operator->() const { return &**this; }
+
+    /// The result. Without one, `apfloat::error` is thrown.
+    constexpr const T &value() const {
+#if defined(__cpp_exceptions)
+        if (!has_value_) throw apfloat::error(error_);
+#endif
+        return **this;
+    }
+    constexpr T value_or(T other) const { return has_value_ ? result_ : other; }
+
+    /// Why there is no result. With one, the program ends with a message.
+    constexpr errc error() const {
+        if (has_value_) detail::refuse("the error of a result was asked for, which has none");
+        return error_;
+    }
+
+private:
+    T result_{};
+    errc error_{};
+    bool has_value_ = true;
+};
+
+// ---- formats
+
+/// The 80 bits of the x87: the significand, and above it the exponent and the sign.
+struct bits80 {
+    std::uint64_t low;
+    std::uint16_t high;
+};
+
+/// 128 bits, the lower half first. Pairs of doubles have the high double in `low`.
+using bits128 = apfloat_halves;
+
+namespace detail {
+
+struct no_host {};
+
+// Positive values of a format, by their bits. Infinity and signaling NaN are zeros in formats without them.
+template <class Bits>
+struct constants {
+    Bits smallest, smallest_normal, largest, infinity, quiet_nan, signaling_nan, epsilon, half;
+};
+
+// What the formats with a fixed number of digits have in common.
+template <class Plain, std::uint32_t Code, class Bits, int Width, int Precision, int MinExponent, int MaxExponent,
+          class Host = no_host>
+struct binary {
+    using plain = Plain;
+    using bits_type = Bits;
+    using host = Host;
+    static constexpr std::uint32_t code = Code;
+    static constexpr int width = Width, precision = Precision;
+    static constexpr int min_exponent = MinExponent, max_exponent = MaxExponent;
+    static constexpr bool is_pair = false, reads_decimals = true, raises_ieee_flags = false;
+    static constexpr bool tiny_before_rounding = false;
+    static constexpr bool has_infinity = true, has_signaling_nan = true, has_ieee_flags = true;
+};
+
+} // namespace detail
+
+/// A format, named by a type. `width` is the number of bits of a value, `precision` the number of binary digits, and
+/// `min_exponent` and `max_exponent` are the least and the greatest exponent of normal numbers (IEEE 754-2008 3.3).
+struct binary16 : detail::binary<binary16, APFLOAT_HALF, std::uint16_t, 16, 11, -14, 15> {
+    static constexpr detail::constants<bits_type> constants = {1,      0x0400, 0x7bff, 0x7c00,
+                                                               0x7e00, 0x7d00, 0x1400, 0x3800};
+};
+
+/// The upper half of a binary32.
+struct bfloat16 : detail::binary<bfloat16, APFLOAT_BFLOAT, std::uint16_t, 16, 8, -126, 127> {
+    static constexpr detail::constants<bits_type> constants = {1,      0x0080, 0x7f7f, 0x7f80,
+                                                               0x7fc0, 0x7fa0, 0x3c00, 0x3f00};
+};
+
+struct binary32 : detail::binary<binary32, APFLOAT_SINGLE, std::uint32_t, 32, 24, -126, 127, float> {
+    static constexpr detail::constants<bits_type> constants = {1,          0x00800000, 0x7f7fffff, 0x7f800000,
+                                                               0x7fc00000, 0x7fa00000, 0x34000000, 0x3f000000};
+};
+
+struct binary64 : detail::binary<binary64, APFLOAT_DOUBLE, std::uint64_t, 64, 53, -1022, 1023, double> {
+    static constexpr detail::constants<bits_type> constants = {
+        1,
+        UINT64_C(0x0010000000000000),
+        UINT64_C(0x7fefffffffffffff),
+        UINT64_C(0x7ff0000000000000),
+        UINT64_C(0x7ff8000000000000),
+        UINT64_C(0x7ff4000000000000),
+        UINT64_C(0x3cb0000000000000),
+        UINT64_C(0x3fe0000000000000)};
+};
+
+struct binary128 : detail::binary<binary128, APFLOAT_QUAD, bits128, 128, 113, -16382, 16383> {
+    static constexpr detail::constants<bits_type> constants = {
+        {1, 0},
+        {0, UINT64_C(0x0001000000000000)},
+        {UINT64_C(0xffffffffffffffff), UINT64_C(0x7ffeffffffffffff)},
+        {0, UINT64_C(0x7fff000000000000)},
+        {0, UINT64_C(0x7fff800000000000)},
+        {0, UINT64_C(0x7fff400000000000)},
+        {0, UINT64_C(0x3f8f000000000000)},
+        {0, UINT64_C(0x3ffe000000000000)}};
+};
+
+/// The 80 bits of the x87.
+struct x87 : detail::binary<x87, APFLOAT_X87, bits80, 80, 64, -16382, 16383> {
+    static constexpr detail::constants<bits_type> constants = {{1, 0},
+                                                               {UINT64_C(0x8000000000000000), 0x0001},
+                                                               {UINT64_C(0xffffffffffffffff), 0x7ffe},
+                                                               {UINT64_C(0x8000000000000000), 0x7fff},
+                                                               {UINT64_C(0xc000000000000000), 0x7fff},
+                                                               {UINT64_C(0xa000000000000000), 0x7fff},
+                                                               {UINT64_C(0x8000000000000000), 0x3fc0},
+                                                               {UINT64_C(0x8000000000000000), 0x3ffe}};
+};
+
+/// 8 bits with the exponents of binary16.
+struct e5m2 : detail::binary<e5m2, APFLOAT_E5M2, std::uint8_t, 8, 3, -14, 15> {
+    static constexpr detail::constants<bits_type> constants = {1, 0x04, 0x7b, 0x7c, 0x7e, 0x7d, 0x34, 0x38};
+};
+
+/// 8 bits without infinities.
+struct e4m3fn : detail::binary<e4m3fn, APFLOAT_E4M3FN, std::uint8_t, 8, 4, -6, 8> {
+    static constexpr bool has_infinity = false, has_signaling_nan = false, has_ieee_flags = false;
+    static constexpr detail::constants<bits_type> constants = {1, 0x08, 0x7e, 0, 0x7f, 0, 0x20, 0x30};
+};
+
+/// 8 bits without infinities and without -0.
+struct e4m3fnuz : detail::binary<e4m3fnuz, APFLOAT_E4M3FNUZ, std::uint8_t, 8, 4, -7, 7> {
+    static constexpr bool has_infinity = false, has_signaling_nan = false, has_ieee_flags = false;
+    static constexpr detail::constants<bits_type> constants = {1, 0x08, 0x7f, 0, 0x80, 0, 0x28, 0x38};
+};
+
+/// Pairs of doubles, IBM's extended double. They have no fused sum, no conversion to or from a format, and no shortest
+/// decimal, and std::numeric_limits is not specialized for them.
+struct double_pair : detail::binary<double_pair, APFLOAT_DOUBLE_PAIR, bits128, 128, 106, -969, 1023> {
+    static constexpr bool is_pair = true, has_ieee_flags = false;
+};
+
+/// A format whose roundings raise the flags of IEEE 754-2008 7.4 and 7.5, with tininess detected after rounding, as
+/// x86 and RISC-V do. The values and their bits are those of the format; apfloat.h has the rule of the others. These
+/// formats read no decimal texts, only hexadecimal ones.
+template <class F>
+struct ieee : F {
+    static_assert(F::has_ieee_flags && !F::raises_ieee_flags, "this format has no choice of flags");
+    static constexpr std::uint32_t code = F::code | APFLOAT_IEEE_FLAGS;
+    static constexpr bool reads_decimals = false, raises_ieee_flags = true;
+};
+
+/// The same, with tininess detected before rounding, as Arm and POWER do.
+template <class F>
+struct ieee_tiny_before : F {
+    static_assert(F::has_ieee_flags && !F::raises_ieee_flags, "this format has no choice of flags");
+    static constexpr std::uint32_t code = F::code | APFLOAT_IEEE_FLAGS | APFLOAT_TINY_BEFORE_ROUNDING;
+    static constexpr bool reads_decimals = false, raises_ieee_flags = true, tiny_before_rounding = true;
+};
+
+namespace detail {
+
+constexpr apfloat_halves halves_of(std::uint64_t bits) { return {bits, 0}; }
+constexpr apfloat_halves halves_of(bits80 bits) { return {bits.low, bits.high}; }
+constexpr apfloat_halves halves_of(bits128 bits) { return bits; }
+
+// The lowest bits of two words, as many as `Bits` has.
+template <class Bits>
+constexpr Bits bits_of(apfloat_halves halves) {
+    if constexpr (std::is_same_v<Bits, bits128>)
+        return halves;
+    else if constexpr (std::is_same_v<Bits, bits80>)
+        return {halves.low, static_cast<std::uint16_t>(halves.high)};
+    else
+        return static_cast<Bits>(halves.low);
+}
+
+constexpr bool is_equal(apfloat_halves x, apfloat_halves y) { return x.low == y.low && x.high == y.high; }
+
+template <class To, class From>
+constexpr To bit_cast(const From &from) {
+    static_assert(sizeof(To) == sizeof(From), "a float has 32 bits and a double 64");
+#if defined(__cpp_lib_bit_cast)
+    return std::bit_cast<To>(from);
+#else
+#if defined(__has_builtin)
+#if __has_builtin(__builtin_bit_cast)
+#define APFLOAT_HAS_BUILTIN_BIT_CAST 1
+#endif
+#endif
+#if defined(APFLOAT_HAS_BUILTIN_BIT_CAST)
+    return __builtin_bit_cast(To, from);
+#else
+    To to{};
+    std::memcpy(&to, &from, sizeof to);
+    return to;
+#endif
+#endif
+}
+
+inline constexpr std::uint64_t top_bit = UINT64_C(1) << 63;
+
+// The bit that is the sign of a value; of a pair, the sign of its high double.
+template <class F>
+constexpr apfloat_halves sign_of() {
+    if constexpr (F::is_pair || F::width == 64)
+        return {top_bit, 0};
+    else if constexpr (F::width < 64)
+        return {UINT64_C(1) << (F::width - 1), 0};
+    else
+        return {0, UINT64_C(1) << (F::width - 65)};
+}
+
+constexpr bool is_zero_double(std::uint64_t bits) { return (bits & ~top_bit) == 0; }
+constexpr bool is_finite_double(std::uint64_t bits) {
+    return (bits & binary64::constants.infinity) != binary64::constants.infinity;
+}
+
+// The bits that the library writes for a value that has these. They differ only for patterns that an x87 never writes:
+// the pseudo-denormals, whose exponent is that of the smallest normal number, and those without an integer bit that
+// are no denormals, which are NaNs.
+template <class F>
+constexpr apfloat_halves written(apfloat_halves bits) {
+    if constexpr (std::is_same_v<typename F::plain, x87>) {
+        const bool has_integer_bit = bits.low & top_bit, has_exponent = bits.high & 0x7fff;
+        if (has_integer_bit && !has_exponent) bits.high |= 1;
+        if (!has_integer_bit && has_exponent) bits.high |= 0x7fff;
+    }
+    return bits;
+}
+
+template <class F>
+constexpr bool is_negative(apfloat_halves bits) {
+    constexpr auto sign = sign_of<F>();
+    // e4m3fnuz has its NaN where others have -0, and it has no sign.
+    if constexpr (std::is_same_v<typename F::plain, e4m3fnuz>)
+        if (bits.low == F::constants.quiet_nan) return false;
+    return (bits.low & sign.low) != 0 || (bits.high & sign.high) != 0;
+}
+
+template <class F>
+constexpr apfloat_halves negated(apfloat_halves bits) {
+    constexpr auto sign = sign_of<F>();
+    bits = written<F>(bits);
+    if constexpr (std::is_same_v<typename F::plain, e4m3fnuz>)
+        if (bits.low == 0 || bits.low == F::constants.quiet_nan) return bits;
+    // Only a low double that is a nonzero number has a sign that counts.
+    if constexpr (F::is_pair)
+        if (!is_zero_double(bits.high) && is_finite_double(bits.high)) bits.high ^= top_bit;
+    return {bits.low ^ sign.low, bits.high ^ sign.high};
+}
+
+// Two words that are the same for values that compare equal.
+template <class F>
+constexpr apfloat_halves same_for_equals(apfloat_halves bits) {
+    if constexpr (F::is_pair)
+        return {is_zero_double(bits.low) ? 0 : bits.low, is_zero_double(bits.high) ? 0 : bits.high};
+    constexpr auto sign = sign_of<F>();
+    bits = written<F>(bits);
+    const bool is_zero = (bits.low & ~sign.low) == 0 && (bits.high & ~sign.high) == 0;
+    return is_zero ? apfloat_halves{0, 0} : bits;
+}
+
+// Makes a call of the library that is never refused, unless a mode is none of the enumerators.
+template <class... Parameters, class... Arguments>
+apfloat_answer answer_of(std::uint32_t (*call)(Parameters...), Arguments... arguments) {
+    apfloat_answer answer = {{0, 0}, 0, 0};
+    const std::uint32_t code = call(arguments..., &answer);
+    if (code != APFLOAT_ANSWERED) refuse(static_cast<errc>(code));
+    return answer;
+}
+
+constexpr std::uint32_t code_of(rounding mode) { return static_cast<std::uint32_t>(mode); }
+
+} // namespace detail
+
+// ---- values
+
+/// The order of two values: `unordered` if either is a NaN.
+enum class order : std::int32_t {
+    less = APFLOAT_LESS,
+    equal = APFLOAT_EQUAL,
+    greater = APFLOAT_GREATER,
+    unordered = APFLOAT_UNORDERED
+};
+
+/// A value of a format, stored as its bits. It has no operators that round: see `add` and the like, `gather` and
+/// `unflagged`. Without an argument it is +0.
+template <class F>
+class value {
+public:
+    using format = F;
+    using bits_type = typename F::bits_type;
+
+    constexpr value() = default;
+
+    /// The value of a float for a format of binary32, and of a double for one of binary64, with the same bits.
+    template <class Host, std::enable_if_t<std::is_same_v<Host, typename F::host>, int> = 0>
+    constexpr value(Host x) : bits_(detail::bit_cast<bits_type>(x)) {
+        static_assert(std::numeric_limits<Host>::is_iec559, "float and double are formats of IEEE 754");
+    }
+
+    /// The same value in a format that differs in the rule for flags only.
+    template <class G, std::enable_if_t<!std::is_same_v<F, G> && std::is_same_v<typename F::plain, typename G::plain>,
+                                        int> = 0>
+    constexpr explicit value(value<G> x) : bits_(x.bits()) {}
+
+    /// The value with these bits.
+    static constexpr value from_bits(bits_type bits) {
+        value made;
+        made.bits_ = bits;
+        return made;
+    }
+    constexpr bits_type bits() const { return bits_; }
+
+    /// The value whose bits are the lowest of two words; nothing if a bit above them is set.
+    static constexpr std::optional<value> from_halves(apfloat_halves halves) {
+        const auto made = from_lowest(halves);
+        if (!detail::is_equal(made.halves(), halves)) return std::nullopt;
+        return made;
+    }
+    /// The same, whatever the bits above them are, as in C.
+    static constexpr value from_lowest(apfloat_halves halves) {
+        return from_bits(detail::bits_of<bits_type>(halves));
+    }
+    constexpr apfloat_halves halves() const { return detail::halves_of(bits_); }
+
+    /// The float or double with the same bits.
+    template <class Host, std::enable_if_t<std::is_same_v<Host, typename F::host>, int> = 0>
+    constexpr explicit operator Host() const {
+        return detail::bit_cast<Host>(bits_);
+    }
+
+    /// Whether the sign is that of negative values, also of a zero or a NaN.
+    constexpr bool sign_bit() const { return detail::is_negative<F>(halves()); }
+
+    /// The value with the opposite sign, also of a zero or a NaN (IEEE 754-2008 5.5.1). The zero and the NaN of
+    /// `e4m3fnuz` have no sign.
+    constexpr value operator-() const { return from_lowest(detail::negated<F>(halves())); }
+    constexpr value operator+() const { return *this; }
+
+#if defined(APFLOAT_HAS_THREE_WAY_COMPARISON)
+    friend std::partial_ordering operator<=>(const value &x, const value &y) {
+        switch (compare(x, y)) {
+        case order::less: return std::partial_ordering::less;
+        case order::equal: return std::partial_ordering::equivalent;
+        case order::greater: return std::partial_ordering::greater;
+        case order::unordered: break;
+        }
+        return std::partial_ordering::unordered;
+    }
+#else
+    friend bool operator!=(const value &x, const value &y) { return compare(x, y) != order::equal; }
+    friend bool operator<(const value &x, const value &y) { return compare(x, y) == order::less; }
+    friend bool operator>(const value &x, const value &y) { return compare(x, y) == order::greater; }
+    friend bool operator<=(const value &x, const value &y) { return x < y || x == y; }
+    friend bool operator>=(const value &x, const value &y) { return x > y || x == y; }
+#endif
+    /// Zeros of either sign are equal, and a NaN is equal to nothing. No comparison raises a flag.
+    friend bool operator==(const value &x, const value &y) { return compare(x, y) == order::equal; }
+
+private:
+    bits_type bits_{};
+};
+
+/// The order of two values. No flag is raised, not even by a signaling NaN.
+template <class F>
+order compare(const value<F> &x, const value<F> &y) {
+    return static_cast<order>(detail::answer_of(apfloat_compare, F::code, x.halves(), y.halves()).number);
+}
+
+// ---- parts of a pair
+
+/// The pair with these doubles, as they are.
+constexpr value<double_pair> pair_of(const value<binary64> &high, const value<binary64> &low = {}) {
+    return value<double_pair>::from_bits({high.bits(), low.bits()});
+}
+constexpr value<binary64> high_of(const value<double_pair> &x) { return value<binary64>::from_bits(x.bits().low); }
+constexpr value<binary64> low_of(const value<double_pair> &x) { return value<binary64>::from_bits(x.bits().high); }
+
+// ---- signs
+
+/// The value without its sign (IEEE 754-2008 5.5.1).
+template <class F>
+constexpr value<F> abs(const value<F> &x) {
+    const auto negated = -x;
+    return x.sign_bit() ? negated : -negated;
+}
+
+/// `x` with the sign of `y` (IEEE 754-2008 5.5.1).
+template <class F>
+constexpr value<F> copy_sign(const value<F> &x, const value<F> &y) {
+    const auto negated = -x;
+    return x.sign_bit() == y.sign_bit() ? -negated : negated;
+}
+
+// ---- classes
+
+/// The classes of values (IEEE 754-2008 5.7.2).
+enum class number_class : std::int32_t {
+    signaling_nan = APFLOAT_SIGNALING_NAN,
+    quiet_nan = APFLOAT_QUIET_NAN,
+    negative_infinity = APFLOAT_NEGATIVE_INFINITY,
+    negative_normal = APFLOAT_NEGATIVE_NORMAL,
+    negative_subnormal = APFLOAT_NEGATIVE_SUBNORMAL,
+    negative_zero = APFLOAT_NEGATIVE_ZERO,
+    positive_zero = APFLOAT_POSITIVE_ZERO,
+    positive_subnormal = APFLOAT_POSITIVE_SUBNORMAL,
+    positive_normal = APFLOAT_POSITIVE_NORMAL,
+    positive_infinity = APFLOAT_POSITIVE_INFINITY
+};
+
+template <class F>
+number_class classify(const value<F> &x) {
+    return static_cast<number_class>(detail::answer_of(apfloat_classify, F::code, x.halves()).number);
+}
+
+template <class F>
+bool is_nan(const value<F> &x) {
+    const auto found = classify(x);
+    return found == number_class::signaling_nan || found == number_class::quiet_nan;
+}
+template <class F>
+bool is_signaling(const value<F> &x) {
+    return classify(x) == number_class::signaling_nan;
+}
+template <class F>
+bool is_infinite(const value<F> &x) {
+    const auto found = classify(x);
+    return found == number_class::negative_infinity || found == number_class::positive_infinity;
+}
+template <class F>
+bool is_finite(const value<F> &x) {
+    const auto found = classify(x);
+    return found >= number_class::negative_normal && found <= number_class::positive_normal;
+}
+template <class F>
+bool is_zero(const value<F> &x) {
+    const auto found = classify(x);
+    return found == number_class::negative_zero || found == number_class::positive_zero;
+}
+template <class F>
+bool is_normal(const value<F> &x) {
+    const auto found = classify(x);
+    return found == number_class::negative_normal || found == number_class::positive_normal;
+}
+template <class F>
+bool is_subnormal(const value<F> &x) {
+    const auto found = classify(x);
+    return found == number_class::negative_subnormal || found == number_class::positive_subnormal;
+}
+
+// ---- results
+
+/// A result, and the flags that the operation raised.
+template <class T>
+struct [[nodiscard]] result {
+    T value;
+    flags status;
+};
+
+/// The result of a conversion between formats; `loses_info` says whether information was lost.
+template <class T>
+struct [[nodiscard]] conversion {
+    T value;
+    flags status;
+    bool loses_info;
+};
+
+/// A value as an integer; `is_exact` says whether they are equal. It is false for -0.
+template <class T>
+struct [[nodiscard]] integer {
+    T value;
+    flags status;
+    bool is_exact;
+};
+
+/// A fraction, with magnitude from 0.5 to below 1, and its exponent.
+template <class T>
+struct [[nodiscard]] fraction {
+    T value;
+    flags status;
+    int exponent;
+};
+
+template <class F>
+class gathered;
+
+/// A rounding mode, and the flags of all that was computed with it: an object of the caller, passed by reference.
+class gather {
+public:
+    explicit gather(rounding mode = rounding::nearest_even) : mode_(mode) {}
+    // The flags of a copy would not reach the original.
+    gather(const gather &) = delete;
+    gather &operator=(const gather &) = delete;
+
+    rounding mode() const { return mode_; }
+    /// The flags raised since the beginning, or since they were cleared.
+    flags raised() const { return raised_; }
+    void clear() { raised_ = flags(); }
+    void raise(flags more) { raised_ |= more; }
+
+    /// The value of a result of any mode, whose flags are joined to these.
+    template <class R, class T = decltype(R::value), class = decltype(R::status)>
+    T operator()(const R &computed) {
+        raise(computed.status);
+        return computed.value;
+    }
+
+    /// The value as an operand whose operators round in this mode and join their flags to these.
+    template <class F>
+    gathered<F> operator()(const value<F> &x) {
+        return gathered<F>(x, *this);
+    }
+
+private:
+    rounding mode_;
+    flags raised_;
+};
+
+namespace detail {
+
+template <class F>
+result<value<F>> result_of(const apfloat_answer &answer) {
+    return {value<F>::from_lowest(answer.bits), flags::of_code(answer.status)};
+}
+
+} // namespace detail
+
+// ---- operations
+//
+// Each is rounded once, in the mode given. With a `gather` in place of a mode, the mode is the gather's, the flags are
+// joined to it, and the value alone is returned.
+
+/// x + y
+template <class F>
+result<value<F>> add(const value<F> &x, const value<F> &y, rounding mode = rounding::nearest_even) {
+    return detail::result_of<F>(
+        detail::answer_of(apfloat_add, F::code, detail::code_of(mode), x.halves(), y.halves()));
+}
+template <class F>
+value<F> add(const value<F> &x, const value<F> &y, gather &with) {
+    return with(add(x, y, with.mode()));
+}
+
+/// x - y
+template <class F>
+result<value<F>> sub(const value<F> &x, const value<F> &y, rounding mode = rounding::nearest_even) {
+    return detail::result_of<F>(
+        detail::answer_of(apfloat_sub, F::code, detail::code_of(mode), x.halves(), y.halves()));
+}
+template <class F>
+value<F> sub(const value<F> &x, const value<F> &y, gather &with) {
+    return with(sub(x, y, with.mode()));
+}
+
+/// x * y
+template <class F>
+result<value<F>> mul(const value<F> &x, const value<F> &y, rounding mode = rounding::nearest_even) {
+    return detail::result_of<F>(
+        detail::answer_of(apfloat_mul, F::code, detail::code_of(mode), x.halves(), y.halves()));
+}
+template <class F>
+value<F> mul(const value<F> &x, const value<F> &y, gather &with) {
+    return with(mul(x, y, with.mode()));
+}
+
+/// x / y
+template <class F>
+result<value<F>> div(const value<F> &x, const value<F> &y, rounding mode = rounding::nearest_even) {
+    return detail::result_of<F>(
+        detail::answer_of(apfloat_div, F::code, detail::code_of(mode), x.halves(), y.halves()));
+}
+template <class F>
+value<F> div(const value<F> &x, const value<F> &y, gather &with) {
+    return with(div(x, y, with.mode()));
+}
+
+/// x * y + z, rounded once.
+template <class F>
+result<value<F>> fma(const value<F> &x, const value<F> &y, const value<F> &z,
+                     rounding mode = rounding::nearest_even) {
+    static_assert(!F::is_pair, "pairs of doubles have no fused sum");
+    return detail::result_of<F>(
+        detail::answer_of(apfloat_fma, F::code, detail::code_of(mode), x.halves(), y.halves(), z.halves()));
+}
+template <class F>
+value<F> fma(const value<F> &x, const value<F> &y, const value<F> &z, gather &with) {
+    return with(fma(x, y, z, with.mode()));
+}
+
+/// The square root.
+template <class F>
+result<value<F>> sqrt(const value<F> &x, rounding mode = rounding::nearest_even) {
+    return detail::result_of<F>(detail::answer_of(apfloat_sqrt, F::code, detail::code_of(mode), x.halves()));
+}
+template <class F>
+value<F> sqrt(const value<F> &x, gather &with) {
+    return with(sqrt(x, with.mode()));
+}
+
+/// The remainder of x by y, with the quotient rounded to the nearest integer, like std::remainder. It is exact.
+template <class F>
+result<value<F>> rem(const value<F> &x, const value<F> &y) {
+    return detail::result_of<F>(detail::answer_of(apfloat_rem, F::code, x.halves(), y.halves()));
+}
+template <class F>
+value<F> rem(const value<F> &x, const value<F> &y, gather &with) {
+    return with(rem(x, y));
+}
+
+/// The remainder of x by y, with the quotient truncated toward zero, like std::fmod. It is exact.
+template <class F>
+result<value<F>> mod(const value<F> &x, const value<F> &y) {
+    return detail::result_of<F>(detail::answer_of(apfloat_mod, F::code, x.halves(), y.halves()));
+}
+template <class F>
+value<F> mod(const value<F> &x, const value<F> &y, gather &with) {
+    return with(mod(x, y));
+}
+
+/// The value rounded to an integral value.
+template <class F>
+result<value<F>> round_to_integral(const value<F> &x, rounding mode) {
+    return detail::result_of<F>(
+        detail::answer_of(apfloat_round_to_integral, F::code, detail::code_of(mode), x.halves()));
+}
+template <class F>
+value<F> round_to_integral(const value<F> &x, gather &with) {
+    return with(round_to_integral(x, with.mode()));
+}
+
+/// x times 2 to the power of `power`, rounded once. The library reports no flags of it.
+template <class F>
+result<value<F>> scalbn(const value<F> &x, std::int32_t power, rounding mode = rounding::nearest_even) {
+    return detail::result_of<F>(
+        detail::answer_of(apfloat_scalbn, F::code, detail::code_of(mode), x.halves(), power));
+}
+template <class F>
+value<F> scalbn(const value<F> &x, std::int32_t power, gather &with) {
+    return with(scalbn(x, power, with.mode()));
+}
+
+/// The exponent of the highest binary digit; INT32_MAX for an infinity, INT32_MIN for a NaN and -INT32_MAX for a zero.
+template <class F>
+std::int32_t ilogb(const value<F> &x) {
+    return detail::answer_of(apfloat_ilogb, F::code, x.halves()).number;
+}
+
+/// The fraction and the exponent, which is 0 for a zero, INT32_MAX for an infinity and INT32_MIN for a NaN. Only pairs
+/// of doubles use the mode, for their low part.
+template <class F>
+fraction<value<F>> frexp(const value<F> &x, rounding mode = rounding::nearest_even) {
+    const auto answer = detail::answer_of(apfloat_frexp, F::code, detail::code_of(mode), x.halves());
+    const auto made = detail::result_of<F>(answer);
+    return {made.value, made.status, answer.number};
+}
+
+/// The least value above x.
+template <class F>
+result<value<F>> next_up(const value<F> &x) {
+    return detail::result_of<F>(detail::answer_of(apfloat_next_up, F::code, x.halves()));
+}
+/// The greatest value below x.
+template <class F>
+result<value<F>> next_down(const value<F> &x) {
+    return detail::result_of<F>(detail::answer_of(apfloat_next_down, F::code, x.halves()));
+}
+
+// ---- conversions
+
+/// The value in another format, rounded once: convert<binary16>(x). The rule of the format `To` decides the flags.
+template <class To, class From>
+conversion<value<To>> convert(const value<From> &x, rounding mode = rounding::nearest_even) {
+    static_assert(!To::is_pair && !From::is_pair, "there is no conversion from or to pairs of doubles");
+    const auto answer = detail::answer_of(apfloat_convert, From::code, detail::code_of(mode), To::code, x.halves());
+    const auto made = detail::result_of<To>(answer);
+    return {made.value, made.status, answer.number != 0};
+}
+template <class To, class From>
+value<To> convert(const value<From> &x, gather &with) {
+    return with(convert<To>(x, with.mode()));
+}
+
+namespace detail {
+
+#if defined(__SIZEOF_INT128__)
+__extension__ typedef __int128 signed128;
+__extension__ typedef unsigned __int128 unsigned128;
+template <class I>
+inline constexpr bool is_128 = std::is_same_v<I, signed128> || std::is_same_v<I, unsigned128>;
+#else
+template <class I>
+inline constexpr bool is_128 = false;
+#endif
+
+template <class I>
+inline constexpr bool is_integer = is_128<I> || (std::is_integral_v<I> && !std::is_same_v<I, bool>);
+
+template <class I>
+inline constexpr bool is_signed = static_cast<I>(-1) < static_cast<I>(0);
+
+template <class I>
+constexpr apfloat_halves halves_of_integer(I n) {
+    const std::uint64_t low = static_cast<std::uint64_t>(n);
+    if constexpr (is_128<I>)
+        return {low, static_cast<std::uint64_t>(n >> 64)};
+    else if constexpr (is_signed<I>)
+        return {low, n < 0 ? UINT64_MAX : 0};
+    else
+        return {low, 0};
+}
+
+template <class I>
+constexpr I integer_of(apfloat_halves halves) {
+#if defined(__SIZEOF_INT128__)
+    if constexpr (is_128<I>) return static_cast<I>(static_cast<unsigned128>(halves.high) << 64 | halves.low);
+#endif
+    return static_cast<I>(halves.low);
+}
+
+} // namespace detail
+
+/// The value of an integer, rounded once: from_integer<binary16>(70000).
+template <class F, class I, std::enable_if_t<detail::is_integer<I>, int> = 0>
+result<value<F>> from_integer(I n, rounding mode = rounding::nearest_even) {
+    const auto call = detail::is_signed<I> ? apfloat_from_i128 : apfloat_from_u128;
+    return detail::result_of<F>(
+        detail::answer_of(call, F::code, detail::code_of(mode), detail::halves_of_integer(n)));
+}
+template <class F, class I, std::enable_if_t<detail::is_integer<I>, int> = 0>
+value<F> from_integer(I n, gather &with) {
+    return with(from_integer<F>(n, with.mode()));
+}
+
+/// The value rounded to an integer: to_integer<int>(x, rounding::toward_zero). A value out of range gives the nearer
+/// end of the range, and a NaN gives 0, both with invalid_op.
+template <class I, class F, std::enable_if_t<detail::is_integer<I>, int> = 0>
+integer<I> to_integer(const value<F> &x, rounding mode) {
+    const auto call = detail::is_signed<I> ? apfloat_to_i128 : apfloat_to_u128;
+    const std::uint32_t width = 8 * sizeof(I);
+    const auto answer = detail::answer_of(call, F::code, detail::code_of(mode), x.halves(), width);
+    return {detail::integer_of<I>(answer.bits), flags::of_code(answer.status), answer.number != 0};
+}
+template <class I, class F, std::enable_if_t<detail::is_integer<I>, int> = 0>
+I to_integer(const value<F> &x, gather &with) {
+    return with(to_integer<I>(x, with.mode()));
+}
+
+// ---- texts
+
+/// The value of a text, rounded once: a decimal, such as -0.1 or 1e-7, or what `parse_hexadecimal` reads. The formats
+/// with the flags of IEEE 754-2008 read no decimals.
+template <class F>
+expected<result<value<F>>> parse(std::string_view text, rounding mode = rounding::nearest_even);
+
+/// The value of a text, rounded once: a hexadecimal number such as 0x1.8p-1, an infinity or a NaN, in the words that
+/// apfloat.h lists at apfloat_parse. Decimals are refused.
+template <class F>
+expected<result<value<F>>> parse_hexadecimal(std::string_view text, rounding mode = rounding::nearest_even);
+
+namespace detail {
+
+template <class F>
+expected<result<value<F>>> read(decltype(apfloat_parse) *call, std::string_view text, rounding mode) {
+    // The library takes no null pointer, not even for an empty text.
+    const char *bytes = text.empty() ? "" : text.data();
+    apfloat_answer answer = {{0, 0}, 0, 0};
+    const std::uint32_t code =
+        call(F::code, code_of(mode), reinterpret_cast<const std::uint8_t *>(bytes), text.size(), &answer);
+    if (code != APFLOAT_ANSWERED) return static_cast<errc>(code);
+    return result_of<F>(answer);
+}
+
+} // namespace detail
+
+template <class F>
+expected<result<value<F>>> parse(std::string_view text, rounding mode) {
+    return detail::read<F>(F::reads_decimals ? apfloat_parse_decimal : apfloat_parse, text, mode);
+}
+
+template <class F>
+expected<result<value<F>>> parse_hexadecimal(std::string_view text, rounding mode) {
+    return detail::read<F>(apfloat_parse, text, mode);
+}
+
+/// A text of less than 64 bytes, without an allocation.
+class text {
+public:
+    constexpr explicit text(const apfloat_text &of) : text_(of) {}
+
+    constexpr std::size_t size() const { return text_.length; }
+    constexpr const char *c_str() const { return text_.bytes; }
+    constexpr std::string_view view() const { return {text_.bytes, text_.length}; }
+    constexpr operator std::string_view() const { return view(); }
+    friend std::ostream &operator<<(std::ostream &out, const text &written) { return out << written.view(); }
+
+private:
+    apfloat_text text_;
+};
+
+/// The shortest decimal that gives x when it is rounded to nearest, ties to even, written as apfloat.h says at
+/// apfloat_shortest. Of a pair of doubles, that of the high double and, if the low one is not zero, that of the low one
+/// too, as in 0.3333333333333333 + 1.8503717077085944e-17, which `parse` does not read.
+template <class F>
+text to_text(const value<F> &x) {
+    apfloat_text written = {{0}, 0};
+    if constexpr (F::is_pair) {
+        std::string joined(to_text(high_of(x)).view());
+        if (!is_zero(low_of(x))) joined.append(" + ").append(to_text(low_of(x)).view());
+        joined.copy(written.bytes, sizeof written.bytes - 1);
+        written.length = static_cast<std::uint32_t>(joined.size());
+    } else {
+        const std::uint32_t code = apfloat_shortest(F::code, x.halves(), &written);
+        if (code != APFLOAT_ANSWERED) detail::refuse(static_cast<errc>(code));
+    }
+    return text(written);
+}
+
+template <class F>
+std::string to_string(const value<F> &x) {
+    return std::string(to_text(x).view());
+}
+
+/// Writes what `to_text` returns, with the width, the fill and the alignment of the stream.
+template <class F>
+std::ostream &operator<<(std::ostream &out, const value<F> &x) {
+    return out << to_text(x);
+}
+
+// ---- operators
+
+/// A value whose operators round in the mode of a `gather` and join their flags to it: flags(x) + y. If both operands
+/// have one, the left operand's counts. It is used while the gather exists.
+template <class F>
+class gathered : public value<F> {
+public:
+    gathered(const value<F> &x, gather &with) : value<F>(x), with_(&with) {}
+
+    friend gathered operator+(const gathered &x, const gathered &y) { return x.computed(add(x, y, *x.with_)); }
+    friend gathered operator+(const gathered &x, const value<F> &y) { return x.computed(add(x, y, *x.with_)); }
+    friend gathered operator+(const value<F> &x, const gathered &y) { return y.computed(add(x, y, *y.with_)); }
+
+    friend gathered operator-(const gathered &x, const gathered &y) { return x.computed(sub(x, y, *x.with_)); }
+    friend gathered operator-(const gathered &x, const value<F> &y) { return x.computed(sub(x, y, *x.with_)); }
+    friend gathered operator-(const value<F> &x, const gathered &y) { return y.computed(sub(x, y, *y.with_)); }
+
+    friend gathered operator*(const gathered &x, const gathered &y) { return x.computed(mul(x, y, *x.with_)); }
+    friend gathered operator*(const gathered &x, const value<F> &y) { return x.computed(mul(x, y, *x.with_)); }
+    friend gathered operator*(const value<F> &x, const gathered &y) { return y.computed(mul(x, y, *y.with_)); }
+
+    friend gathered operator/(const gathered &x, const gathered &y) { return x.computed(div(x, y, *x.with_)); }
+    friend gathered operator/(const gathered &x, const value<F> &y) { return x.computed(div(x, y, *x.with_)); }
+    friend gathered operator/(const value<F> &x, const gathered &y) { return y.computed(div(x, y, *y.with_)); }
+
+    gathered &operator+=(const value<F> &y) { return *this = *this + y; }
+    gathered &operator-=(const value<F> &y) { return *this = *this - y; }
+    gathered &operator*=(const value<F> &y) { return *this = *this * y; }
+    gathered &operator/=(const value<F> &y) { return *this = *this / y; }
+
+    gathered operator-() const { return computed(value<F>::operator-()); }
+    gathered operator+() const { return *this; }
+
+private:
+    gathered computed(const value<F> &x) const { return gathered(x, *with_); }
+
+    gather *with_;
+};
+
+/// A value whose operators round in one mode and drop all flags. Integers become values in the same way.
+template <class F, rounding Mode = rounding::nearest_even>
+class unflagged : public value<F> {
+public:
+    constexpr unflagged() = default;
+    constexpr unflagged(const value<F> &x) : value<F>(x) {}
+    template <class Host, std::enable_if_t<std::is_same_v<Host, typename F::host>, int> = 0>
+    constexpr unflagged(Host x) : value<F>(x) {}
+    template <class I, std::enable_if_t<detail::is_integer<I>, int> = 0>
+    unflagged(I n) : value<F>(from_integer<F>(n, Mode).value) {}
+
+    friend unflagged operator+(const unflagged &x, const unflagged &y) { return add(x, y, Mode).value; }
+    friend unflagged operator-(const unflagged &x, const unflagged &y) { return sub(x, y, Mode).value; }
+    friend unflagged operator*(const unflagged &x, const unflagged &y) { return mul(x, y, Mode).value; }
+    friend unflagged operator/(const unflagged &x, const unflagged &y) { return div(x, y, Mode).value; }
+
+    unflagged &operator+=(const unflagged &y) { return *this = *this + y; }
+    unflagged &operator-=(const unflagged &y) { return *this = *this - y; }
+    unflagged &operator*=(const unflagged &y) { return *this = *this * y; }
+    unflagged &operator/=(const unflagged &y) { return *this = *this / y; }
+
+    constexpr unflagged operator-() const { return value<F>::operator-(); }
+    constexpr unflagged operator+() const { return *this; }
+
+    friend unflagged sqrt(const unflagged &x) { return apfloat::sqrt<F>(x, Mode).value; }
+    friend unflagged fma(const unflagged &x, const unflagged &y, const unflagged &z) {
+        return apfloat::fma<F>(x, y, z, Mode).value;
+    }
+};
+
+// ---- arrays
+
+/// Of a call on arrays: how many values there were, how many of them raised each flag, and how many results are NaNs.
+struct [[nodiscard]] array_counts {
+    std::uint64_t values, inexact, underflow, overflow, div_by_zero, invalid_op, nans;
+    flags status; ///< the flags that any value raised
+};
+
+/// What becomes of numbers past the largest value of the target: as a conversion has it, or the largest value of their
+/// sign, with the same flags.
+enum class overflowing : std::uint32_t { rounds = 0, saturates = APFLOAT_SATURATE };
+
+/// The operations on arrays.
+enum class array_operation : std::uint32_t {
+    add = APFLOAT_ADD,
+    sub = APFLOAT_SUB,
+    mul = APFLOAT_MUL,
+    div = APFLOAT_DIV,
+    rem = APFLOAT_REM,
+    mod = APFLOAT_MOD,
+    fma = APFLOAT_FMA,
+    sqrt = APFLOAT_SQRT
+};
+
+namespace detail {
+
+// Values as the bytes of an array, which are not null, not even if there are none.
+template <class F>
+const std::uint8_t *bytes_of(const value<F> *values) {
+    static_assert(8 * sizeof(value<F>) == F::width, "values of this format have padding; apfloat.h has calls on bytes");
+    static constexpr std::uint8_t none = 0;
+    return values == nullptr ? &none : reinterpret_cast<const std::uint8_t *>(values);
+}
+
+template <class F>
+std::uint8_t *bytes_of(value<F> *values) {
+    // Nothing is written to an array that is empty.
+    return const_cast<std::uint8_t *>(bytes_of(static_cast<const value<F> *>(values)));
+}
+
+// The bytes of an array are those of a value's bits, the lowest first.
+inline bool has_lowest_byte_first() {
+    const std::uint16_t one = 1;
+    return *reinterpret_cast<const std::uint8_t *>(&one) == 1;
+}
+
+inline expected<array_counts> counts_of(std::uint32_t code, const apfloat_array_answer &answer) {
+    if (code != APFLOAT_ANSWERED) return static_cast<errc>(code);
+    return array_counts{answer.values,      answer.inexact,    answer.underflow, answer.overflow,
+                        answer.div_by_zero, answer.invalid_op, answer.nans,      flags::of_code(answer.status)};
+}
+
+template <class T>
+struct not_deduced {
+    using type = T;
+};
+
+} // namespace detail
+
+/// Converts `count` values, each rounded once. The arrays do not overlap. `x87` has no such arrays, and on a processor
+/// that stores the highest byte first the error is no_such_operation.
+template <class To, class From>
+expected<array_counts> convert_array(const value<From> *values, std::size_t count, value<To> *results,
+                                     rounding mode = rounding::nearest_even,
+                                     overflowing large = overflowing::rounds) {
+    static_assert(!To::is_pair && !From::is_pair, "there is no conversion from or to pairs of doubles");
+    if (!detail::has_lowest_byte_first()) return errc::no_such_operation;
+    apfloat_array_answer answer = {0, 0, 0, 0, 0, 0, 0, 0, 0};
+    const std::uint32_t code = apfloat_convert_array(
+        From::code, detail::code_of(mode) | static_cast<std::uint32_t>(large), To::code, detail::bytes_of(values),
+        count * sizeof(value<From>), detail::bytes_of(results), count * sizeof(value<To>), &answer);
+    return detail::counts_of(code, answer);
+}
+
+/// Makes an operation on each element of xs, or on the elements of xs and ys, or of xs, ys and zs: as many arrays of
+/// `count` values as the operation has operands, else wrong_length. `results` overlaps none of them.
+template <class F>
+expected<array_counts> map_array(array_operation operation, std::size_t count, value<F> *results, rounding mode,
+                                 const typename detail::not_deduced<value<F>>::type *xs,
+                                 const typename detail::not_deduced<value<F>>::type *ys = nullptr,
+                                 const typename detail::not_deduced<value<F>>::type *zs = nullptr) {
+    if (!detail::has_lowest_byte_first()) return errc::no_such_operation;
+    const auto length = [&](const value<F> *operand) { return operand == nullptr ? 0 : count * sizeof(value<F>); };
+    apfloat_array_answer answer = {0, 0, 0, 0, 0, 0, 0, 0, 0};
+    const std::uint32_t code = apfloat_map_array(
+        F::code, detail::code_of(mode), static_cast<std::uint32_t>(operation), detail::bytes_of(xs), length(xs),
+        detail::bytes_of(ys), length(ys), detail::bytes_of(zs), length(zs), detail::bytes_of(results),
+        count * sizeof(value<F>), &answer);
+    return detail::counts_of(code, answer);
+}
+
+// ---- literals
+
+namespace detail {
+
+constexpr bool is_digit(char letter, bool hexadecimal) {
+    return (letter >= '0' && letter <= '9') ||
+           (hexadecimal && ((letter >= 'a' && letter <= 'f') || (letter >= 'A' && letter <= 'F')));
+}
+
+// Whether the library reads a literal as the number that it is in C++: a decimal, or a hexadecimal number with an
+// exponent. Binary, octal and hexadecimal integers are none.
+constexpr bool is_readable(const char *literal, std::size_t length) {
+    const bool hexadecimal = length > 1 && literal[0] == '0' && (literal[1] == 'x' || literal[1] == 'X');
+    std::size_t at = hexadecimal ? 2 : 0, digits = 0;
+    bool has_dot = false;
+    for (; at < length && (literal[at] == '.' || is_digit(literal[at], hexadecimal)); at++) {
+        if (literal[at] == '.') has_dot = true;
+        else digits++;
+    }
+    if (digits == 0) return false;
+    if (at == length) return !hexadecimal && (has_dot || digits == 1 || literal[0] != '0');
+    const char letter = literal[at];
+    if (hexadecimal ? letter != 'p' && letter != 'P' : letter != 'e' && letter != 'E') return false;
+    at++;
+    if (at < length && (literal[at] == '+' || literal[at] == '-')) at++;
+    if (at == length) return false;
+    for (; at < length; at++)
+        if (!is_digit(literal[at], false)) return false;
+    return true;
+}
+
+// A literal without the marks between its digits.
+template <char... Letters>
+struct unmarked {
+    char letters[sizeof...(Letters)] = {};
+    std::size_t length = 0;
+    constexpr unmarked() {
+        for (const char letter : {Letters...})
+            if (letter != '\'') letters[length++] = letter;
+    }
+};
+
+template <class F, char... Letters>
+value<F> literal() {
+    static constexpr unmarked<Letters...> written;
+    static_assert(is_readable(written.letters, written.length),
+                  "a literal is a decimal such as 0.1 or 1e-7, or hexadecimal with an exponent, such as 0x1.8p-1");
+    static const value<F> read = parse<F>(std::string_view(written.letters, written.length))->value;
+    return read;
+}
+
+} // namespace detail
+
+/// Literals: 0.1_binary64, 0x1.8p-1_x87. Each is read once, and rounded to nearest, ties to even, as compilers round
+/// those of double; `parse` reads a text in any mode, and returns its flags.
+namespace literals {
+
+template <char... Letters>
+value<binary16> operator""_binary16() {
+    return detail::literal<binary16, Letters...>();
+}
+template <char... Letters>
+value<bfloat16> operator""_bfloat16() {
+    return detail::literal<bfloat16, Letters...>();
+}
+template <char... Letters>
+value<binary32> operator""_binary32() {
+    return detail::literal<binary32, Letters...>();
+}
+template <char... Letters>
+value<binary64> operator""_binary64() {
+    return detail::literal<binary64, Letters...>();
+}
+template <char... Letters>
+value<binary128> operator""_binary128() {
+    return detail::literal<binary128, Letters...>();
+}
+template <char... Letters>
+value<x87> operator""_x87() {
+    return detail::literal<x87, Letters...>();
+}
+template <char... Letters>
+value<e5m2> operator""_e5m2() {
+    return detail::literal<e5m2, Letters...>();
+}
+template <char... Letters>
+value<e4m3fn> operator""_e4m3fn() {
+    return detail::literal<e4m3fn, Letters...>();
+}
+template <char... Letters>
+value<e4m3fnuz> operator""_e4m3fnuz() {
+    return detail::literal<e4m3fnuz, Letters...>();
+}
+template <char... Letters>
+value<double_pair> operator""_double_pair() {
+    return detail::literal<double_pair, Letters...>();
+}
+
+} // namespace literals
+
+namespace detail {
+
+// What std::numeric_limits says of a value.
+template <class F>
+struct limits {
+    static constexpr bool is_specialized = true, is_signed = true, is_integer = false, is_exact = false;
+    static constexpr bool is_bounded = true, is_modulo = false, traps = false;
+    static constexpr bool has_infinity = F::has_infinity, has_quiet_NaN = true;
+    static constexpr bool has_signaling_NaN = F::has_signaling_nan;
+    static constexpr bool is_iec559 = F::has_infinity && F::has_signaling_nan;
+    static constexpr std::float_round_style round_style = std::round_to_nearest;
+    static constexpr bool tinyness_before = F::tiny_before_rounding;
+#if __cplusplus <= 202002L
+    // Deprecated since C++23.
+    static constexpr std::float_denorm_style has_denorm = std::denorm_present;
+    static constexpr bool has_denorm_loss = false;
+#endif
+    static constexpr int radix = 2, digits = F::precision;
+    // 30103 / 100000 is just above the decimal logarithm of 2, and near enough for each of these.
+    static constexpr int digits10 = (F::precision - 1) * 30103 / 100000;
+    static constexpr int max_digits10 = 2 + F::precision * 30103 / 100000;
+    static constexpr int min_exponent = F::min_exponent + 1, max_exponent = F::max_exponent + 1;
+    static constexpr int min_exponent10 = F::min_exponent * 30103 / 100000;
+    static constexpr int max_exponent10 = max_exponent * 30103 / 100000;
+
+    static constexpr value<F> min() noexcept { return value<F>::from_bits(F::constants.smallest_normal); }
+    static constexpr value<F> max() noexcept { return value<F>::from_bits(F::constants.largest); }
+    static constexpr value<F> lowest() noexcept { return -max(); }
+    static constexpr value<F> epsilon() noexcept { return value<F>::from_bits(F::constants.epsilon); }
+    static constexpr value<F> round_error() noexcept { return value<F>::from_bits(F::constants.half); }
+    static constexpr value<F> infinity() noexcept { return value<F>::from_bits(F::constants.infinity); }
+    static constexpr value<F> quiet_NaN() noexcept { return value<F>::from_bits(F::constants.quiet_nan); }
+    static constexpr value<F> signaling_NaN() noexcept { return value<F>::from_bits(F::constants.signaling_nan); }
+    static constexpr value<F> denorm_min() noexcept { return value<F>::from_bits(F::constants.smallest); }
+};
+
+template <>
+struct limits<double_pair> {
+    static constexpr bool is_specialized = false;
+};
+
+} // namespace detail
+
+} // namespace apfloat
+
+namespace std {
+
+template <class F>
+struct numeric_limits<apfloat::value<F>> : apfloat::detail::limits<F> {};
+
+template <class F, apfloat::rounding Mode>
+struct numeric_limits<apfloat::unflagged<F, Mode>> : apfloat::detail::limits<F> {};
+
+/// Values that compare equal have equal hashes.
+template <class F>
+struct hash<apfloat::value<F>> {
+    size_t operator()(const apfloat::value<F> &x) const noexcept {
+        const auto words = apfloat::detail::same_for_equals<F>(x.halves());
+        return hash<uint64_t>()(words.low ^ words.high * UINT64_C(0x9e3779b97f4a7c15));
+    }
+};
+
+template <class F, apfloat::rounding Mode>
+struct hash<apfloat::unflagged<F, Mode>> : hash<apfloat::value<F>> {};
+
+#if defined(__cpp_lib_format) && defined(__cpp_exceptions)
+/// Formats what `to_text` returns, by a fill, an alignment and a width. A precision is refused.
+template <class F>
+struct formatter<apfloat::value<F>, char> : formatter<string_view, char> {
+    constexpr auto parse(format_parse_context &context) {
+        for (const char letter : context) {
+            if (letter == '}') break;
+            if (letter == '.') throw format_error("apfloat: a value is formatted without a precision");
+        }
+        return formatter<string_view, char>::parse(context);
+    }
+    template <class Context>
+    auto format(const apfloat::value<F> &x, Context &context) const {
+        return formatter<string_view, char>::format(apfloat::to_text(x).view(), context);
+    }
+};
+
+template <class F, apfloat::rounding Mode>
+struct formatter<apfloat::unflagged<F, Mode>, char> : formatter<apfloat::value<F>, char> {};
+#endif
+
+} // namespace std
+
+#endif

@@ -1,0 +1,265 @@
+// What the header does that no row shows: constants, flags, gathered flags, errors, exceptions, literals, streams,
+// hashes, arrays. Prints what fails, and then how many checks there were.
+#include "apfloat.hpp"
+
+#include <iomanip>
+#include <iostream>
+#include <sstream>
+#include <unordered_map>
+#include <vector>
+
+namespace {
+
+using namespace apfloat;
+using namespace apfloat::literals;
+
+unsigned checks = 0, failures = 0;
+
+void check(bool holds, const char *claim, int line) {
+    checks++;
+    if (holds) return;
+    failures++;
+    std::cout << "line " << line << ": " << claim << '\n';
+}
+#define CHECK(...) check(__VA_ARGS__, #__VA_ARGS__, __LINE__)
+
+using half = value<binary16>;
+using single = value<binary32>;
+using number = value<binary64>;
+using quad = value<binary128>;
+using extended = value<x87>;
+using pair = value<double_pair>;
+
+// ---- what is known when the program is compiled
+
+static_assert(number(1.5).bits() == UINT64_C(0x3ff8000000000000));
+static_assert(single(-0.0f).bits() == 0x80000000 && single(-0.0f).sign_bit());
+static_assert(static_cast<double>(-number(1.5)) == -1.5);
+static_assert(static_cast<float>(abs(single(-2.0f))) == 2.0f);
+static_assert(copy_sign(number(1.0), number(-0.0)).bits() == UINT64_C(0xbff0000000000000));
+static_assert(!half::from_halves({0x10000, 0}) && !half::from_halves({0, 1}) && half::from_halves({0xffff, 0}));
+static_assert(!extended::from_halves({0, 0x10000}) && extended::from_halves({0, 0xffff}));
+static_assert(sizeof(value<e5m2>) == 1 && sizeof(half) == 2 && sizeof(single) == 4 && sizeof(number) == 8);
+static_assert(sizeof(quad) == 16 && sizeof(value<ieee<binary16>>) == 2);
+static_assert(std::is_trivially_copyable_v<quad> && std::is_standard_layout_v<quad>);
+static_assert(!std::is_convertible_v<float, number> && !std::is_convertible_v<int, number>);
+static_assert(!std::is_convertible_v<number, double> && !std::is_convertible_v<half, number>);
+static_assert((flag::inexact | flag::overflow).has(flag::overflow) && flags().none());
+static_assert(value<ieee<binary64>>(number(1.5)).bits() == number(1.5).bits());
+
+template <class F>
+constexpr bool agrees_with_host() {
+    using host = std::numeric_limits<typename F::host>;
+    using ours = std::numeric_limits<value<F>>;
+    constexpr auto is_same = [](value<F> x, typename F::host y) { return static_cast<typename F::host>(x) == y; };
+    return ours::digits == host::digits && ours::digits10 == host::digits10 &&
+           ours::max_digits10 == host::max_digits10 && ours::min_exponent == host::min_exponent &&
+           ours::max_exponent == host::max_exponent && ours::min_exponent10 == host::min_exponent10 &&
+           ours::max_exponent10 == host::max_exponent10 && ours::has_infinity && ours::is_iec559 &&
+           is_same(ours::min(), host::min()) && is_same(ours::max(), host::max()) &&
+           is_same(ours::lowest(), host::lowest()) && is_same(ours::epsilon(), host::epsilon()) &&
+           is_same(ours::round_error(), host::round_error()) && is_same(ours::infinity(), host::infinity()) &&
+           is_same(ours::denorm_min(), host::denorm_min());
+}
+static_assert(agrees_with_host<binary32>() && agrees_with_host<binary64>());
+static_assert(std::numeric_limits<extended>::digits10 == 18 && std::numeric_limits<extended>::max_digits10 == 21);
+static_assert(std::numeric_limits<quad>::digits10 == 33 && std::numeric_limits<quad>::max_digits10 == 36);
+static_assert(std::numeric_limits<quad>::min_exponent10 == -4931 && std::numeric_limits<quad>::max_exponent10 == 4932);
+static_assert(!std::numeric_limits<value<e4m3fn>>::has_infinity && !std::numeric_limits<pair>::is_specialized);
+
+// ---- what is not
+
+template <class F>
+void check_constants() {
+    using limits = std::numeric_limits<value<F>>;
+    const auto one = from_integer<F>(1).value, two = from_integer<F>(2).value;
+    CHECK(sub(next_up(one).value, one).value == limits::epsilon());
+    CHECK(div(one, two).value == limits::round_error());
+    CHECK(classify(limits::quiet_NaN()) == number_class::quiet_nan);
+    CHECK(!limits::has_infinity || classify(limits::infinity()) == number_class::positive_infinity);
+    CHECK(!limits::has_signaling_NaN || is_signaling(limits::signaling_NaN()));
+    CHECK(is_normal(limits::min()) && is_subnormal(next_down(limits::min()).value));
+    CHECK(is_zero(next_down(limits::denorm_min()).value) && !is_zero(limits::denorm_min()));
+    CHECK(is_finite(limits::max()) && !is_finite(next_up(limits::max()).value));
+    CHECK(ilogb(limits::min()) == F::min_exponent && ilogb(limits::max()) == F::max_exponent);
+    CHECK(ilogb(limits::denorm_min()) == F::min_exponent - F::precision + 1);
+    CHECK(ilogb(limits::epsilon()) == 1 - F::precision);
+}
+
+void check_flags() {
+    std::ostringstream written;
+    written << flags() << ' ' << (flag::inexact | flag::invalid_op) << ' ' << flags::of_code(0x1f);
+    CHECK(written.str() == "OK INVALID_OP|INEXACT INVALID_OP|DIV_BY_ZERO|OVERFLOW|UNDERFLOW|INEXACT");
+    const auto [third, status] = div(number(1.0), number(3.0));
+    CHECK(static_cast<double>(third) == 1.0 / 3.0 && status == flag::inexact);
+    // The largest value of binary16, doubled: the rule of its format, and that of IEEE 754-2008 7.4.
+    const auto largest = std::numeric_limits<half>::max();
+    const value<ieee<binary16>> with_ieee_flags(largest);
+    CHECK(add(largest, largest, rounding::toward_zero).status == flag::inexact);
+    CHECK(add(with_ieee_flags, with_ieee_flags, rounding::toward_zero).status == (flag::overflow | flag::inexact));
+    // (1 + 2^-10) * 2^-14 * (1 - 2^-10) is below 2^-14, and is 2^-14 once it is rounded to 11 digits.
+    const auto x = half::from_bits(0x0401), y = half::from_bits(0x3bfe);
+    CHECK(mul(x, y).value.bits() == 0x0400);
+    CHECK(!mul(value<ieee<binary16>>(x), value<ieee<binary16>>(y)).status.has(flag::underflow));
+    CHECK(mul(value<ieee_tiny_before<binary16>>(x), value<ieee_tiny_before<binary16>>(y)).status.has(flag::underflow));
+}
+
+void check_gathered() {
+    gather upward(rounding::upward);
+    const number one(1.0), three(3.0), zero;
+    const number third = upward(one) / three;
+    CHECK(static_cast<double>(third) == 0.33333333333333337 && upward.raised() == flag::inexact);
+    upward.clear();
+    CHECK(upward.raised().none() && upward.mode() == rounding::upward);
+    const number infinite = (upward(one) + one) / zero;
+    CHECK(is_infinite(infinite) && upward.raised() == flag::div_by_zero);
+    CHECK(upward(parse<binary64>("0.1").value()) == number(0.1) && upward.raised().has(flag::inexact));
+    // Each gather has the flags of what was computed with it.
+    gather other;
+    const number difference = other(infinite) - infinite;
+    CHECK(is_nan(difference) && other.raised() == flag::invalid_op && !upward.raised().has(flag::invalid_op));
+    // If both operands have one, the left one's counts.
+    gather left(rounding::downward), right(rounding::upward);
+    CHECK(static_cast<double>(left(one) / right(three)) == 0.3333333333333333);
+    CHECK(left.raised() == flag::inexact && right.raised().none());
+    CHECK(next_up(left(one)).value == next_up(one).value && left(to_integer<int>(three, rounding::upward)) == 3);
+}
+
+void check_unflagged() {
+    unflagged<binary64> x = 2;
+    x = (x * x + 1) / 3 - 0.5;
+    CHECK(static_cast<double>(x) == 5.0 / 3.0 - 0.5);
+    const unflagged<binary64, rounding::downward> one = 1;
+    CHECK(static_cast<double>(one / 10) == 0.09999999999999999 && one / 10 < 0.1_binary64);
+    const unflagged<binary16> large = 70000;
+    CHECK(is_infinite(large) && large > half::from_bits(0x7bff));
+    std::vector<unflagged<e5m2>> zeros(3);
+    CHECK(zeros[2].bits() == 0);
+}
+
+void check_errors() {
+    const auto refused = parse<binary64>("one");
+    CHECK(!refused && !refused.has_value() && refused.error() == errc::refused_text);
+    CHECK(refused.value_or({number(2.0), {}}).value == number(2.0));
+    CHECK(std::string(message(errc::refused_text)) == "the text has no meaning");
+    CHECK(parse<binary64>("").error() == errc::refused_text && parse<binary64>({}).error() == errc::refused_text);
+    CHECK(parse<binary64>("1", static_cast<rounding>(5)).error() == errc::unknown_mode);
+    CHECK(parse_hexadecimal<binary64>("0.5").error() == errc::refused_text);
+    // Formats with the flags of IEEE 754-2008 read no decimals.
+    CHECK(parse<ieee<binary64>>("0.5").error() == errc::refused_text);
+    CHECK(parse<ieee<binary64>>("0x1p-1")->value.bits() == number(0.5).bits());
+    const auto read = parse<binary16>("65519.99", rounding::nearest_even);
+    CHECK(read && read->value.bits() == 0x7bff && read->status == flag::inexact && (*read).value == read.value().value);
+#if defined(__cpp_exceptions)
+    try {
+        (void)refused.value();
+        CHECK(false);
+    } catch (const error &thrown) {
+        CHECK(thrown.code() == errc::refused_text && std::string(thrown.what()) == message(errc::refused_text));
+    }
+#endif
+}
+
+void check_literals() {
+    CHECK(0.1_binary64 == number(0.1) && 0.1_binary32 == single(0.1f) && 1'000'000_binary64 == number(1e6));
+    CHECK(0x1.8p-1_binary64 == number(0.75) && 0X1P3_binary32 == single(8.0f) && 1e400_binary64 > number(1e308));
+    CHECK(0_binary64 == number(0.0) && 00.5_binary64 == number(0.5) && 5._binary64 == number(5.0));
+    CHECK(.5_binary64 == number(0.5) && 017.5e0_binary64 == number(17.5) && 1E+2_binary64 == number(100.0));
+    CHECK((0.1_binary16).bits() == 0x2e66 && (0.1_bfloat16).bits() == 0x3dcd && (0.1_e5m2).bits() == 0x2e);
+    CHECK((0.1_e4m3fn).bits() == 0x1d && (0.1_e4m3fnuz).bits() == 0x25);
+    CHECK((0.1_x87).bits().low == UINT64_C(0xcccccccccccccccd) && (0.1_x87).bits().high == 0x3ffb);
+    CHECK((0.1_binary128).bits().high == UINT64_C(0x3ffb999999999999));
+    CHECK((0.1_double_pair).bits().low == number(0.1).bits());
+    CHECK(-0.0_binary64 == number(0.0) && (-0.0_binary64).sign_bit());
+}
+
+void check_texts() {
+    std::ostringstream written;
+    written << std::setw(6) << std::setfill('*') << std::left << 0.1_binary16 << '|' << std::right << std::setw(5)
+            << std::numeric_limits<half>::infinity() << '|' << div(pair(), pair()).value;
+    CHECK(written.str() == "0.1***|**inf|nan");
+    CHECK(high_of(pair_of(number(1.0))) == number(1.0) && is_zero(low_of(pair_of(number(1.0)))));
+    const auto third = div(from_integer<double_pair>(1).value, from_integer<double_pair>(3).value).value;
+    CHECK(to_string(third) == "0.3333333333333333 + 1.8503717077085944e-17");
+    CHECK(to_string(from_integer<double_pair>(3).value) == "3.0");
+    CHECK(to_string(pair_of(number(1.0), number(-1e-20))) == "1.0 + -1e-20");
+    CHECK(to_text(number(1e21)).view() == "1e21" && to_text(number(1e21)).size() == 4);
+#if defined(__cpp_lib_format)
+    CHECK(std::format("{:*>6}|{}", 0.1_binary16, number(1.5)) == "***0.1|1.5");
+#endif
+}
+
+void check_hashes() {
+    std::unordered_map<half, int> counts;
+    counts[half::from_bits(0)]++;
+    counts[half::from_bits(0x8000)]++;
+    counts[half::from_bits(1)]++;
+    CHECK(counts.size() == 2 && counts[half()] == 2);
+    // A pseudo-denormal of the x87, and the normal number that it is.
+    const auto pseudo = extended::from_bits({UINT64_C(1) << 63, 0});
+    const auto normal = extended::from_bits({UINT64_C(1) << 63, 1});
+    CHECK(pseudo == normal && std::hash<extended>()(pseudo) == std::hash<extended>()(normal));
+    const auto x = pair_of(number(1.0), number(0.0)), y = pair_of(number(1.0), number(-0.0));
+    CHECK(x == y && std::hash<pair>()(x) == std::hash<pair>()(y));
+    CHECK(std::hash<unflagged<binary64>>()(unflagged<binary64>(2)) == std::hash<number>()(number(2.0)));
+}
+
+void check_arrays() {
+    const std::vector<single> values = {single(1.0f), single(1000.0f), single(-1000.0f),
+                                        std::numeric_limits<single>::infinity(), single(0.1f)};
+    std::vector<value<e4m3fn>> results(values.size());
+    const auto plain = convert_array(values.data(), values.size(), results.data());
+    CHECK(plain && plain->values == 5 && plain->nans == 3 && plain->overflow == 2 && plain->inexact == 4);
+    CHECK(plain->status == (flag::overflow | flag::inexact) && plain->invalid_op == 0 && plain->underflow == 0);
+    for (std::size_t i = 0; i < values.size(); i++)
+        CHECK(results[i].bits() == convert<e4m3fn>(values[i]).value.bits());
+    const auto saturated =
+        convert_array(values.data(), values.size(), results.data(), rounding::nearest_even, overflowing::saturates);
+    CHECK(saturated && saturated->overflow == 2 && saturated->nans == 1);
+    CHECK(results[1] == std::numeric_limits<value<e4m3fn>>::max() && results[2] == -results[1]);
+    CHECK(convert_array<e4m3fn, binary32>(nullptr, 0, nullptr)->values == 0);
+    CHECK(convert_array(values.data(), 1, results.data(), static_cast<rounding>(7)).error() == errc::unknown_mode);
+
+    const std::vector<number> xs = {1.0, 2.0, 0.0}, ys = {3.0, 0.5, 0.0};
+    std::vector<number> quotients(xs.size());
+    const auto divided =
+        map_array(array_operation::div, xs.size(), quotients.data(), rounding::upward, xs.data(), ys.data());
+    CHECK(divided && divided->values == 3 && divided->inexact == 1 && divided->invalid_op == 1 && divided->nans == 1);
+    for (std::size_t i = 0; i < xs.size(); i++)
+        CHECK(quotients[i].bits() == div(xs[i], ys[i], rounding::upward).value.bits());
+    const auto of_one = map_array(array_operation::div, xs.size(), quotients.data(), rounding::upward, xs.data());
+    CHECK(!of_one && of_one.error() == errc::wrong_length);
+    const std::vector<pair> pairs(1);
+    std::vector<pair> sums(1);
+    const auto fused = map_array(array_operation::fma, 1, sums.data(), rounding::upward, pairs.data());
+    CHECK(!fused && fused.error() == errc::no_such_operation);
+    CHECK(map_array<binary64>(array_operation::sqrt, 0, nullptr, rounding::upward, nullptr)->values == 0);
+}
+
+} // namespace
+
+// With an argument, a call with a mode that is none of the enumerators.
+int main(int count, char **) {
+    if (count > 1) (void)add(number(1.0), number(1.0), static_cast<rounding>(5));
+    check_constants<binary16>();
+    check_constants<bfloat16>();
+    check_constants<binary32>();
+    check_constants<binary64>();
+    check_constants<binary128>();
+    check_constants<x87>();
+    check_constants<e5m2>();
+    check_constants<e4m3fn>();
+    check_constants<e4m3fnuz>();
+    check_constants<ieee<binary64>>();
+    check_constants<ieee_tiny_before<x87>>();
+    check_flags();
+    check_gathered();
+    check_unflagged();
+    check_errors();
+    check_literals();
+    check_texts();
+    check_hashes();
+    check_arrays();
+    std::cout << checks - failures << " checks hold, " << failures << " fail\n";
+    return failures == 0 ? 0 : 1;
+}

@@ -1,0 +1,48 @@
+// Each CASE above 0 is a use that does not compile; tests/cpp/run tries them.
+#include "apfloat.hpp"
+
+using namespace apfloat;
+using namespace apfloat::literals;
+using number = value<binary64>;
+using pair = value<double_pair>;
+
+void use(number x, number y, pair p, value<binary16> h) {
+    (void)x, (void)y, (void)p, (void)h;
+#if CASE == 1
+    (void)(x + y); // which mode, and where to with the flags
+#elif CASE == 2
+    (void)fma(p, p, p);
+#elif CASE == 3
+    (void)convert<binary64>(p);
+#elif CASE == 4
+    (void)value<ieee<e4m3fn>>();
+#elif CASE == 5
+    (void)0b1_binary64;
+#elif CASE == 6
+    (void)0x1f_binary64;
+#elif CASE == 7
+    (void)017_binary64;
+#elif CASE == 8
+    x = 1.5f; // not the bits of a binary64
+#elif CASE == 9
+    x = 1; // from_integer rounds
+#elif CASE == 10
+    x = h; // convert rounds
+#elif CASE == 11
+    (void)add(x, h);
+#elif CASE == 12
+    gather flags;
+    gather copy = flags; // whose flags would be lost
+#elif CASE == 13
+    unflagged<binary64> up(x);
+    unflagged<binary64, rounding::upward> down(y);
+    (void)(up + down); // in which mode
+#elif CASE == 14
+    value<x87> results[1];
+    (void)convert_array(&x, 1, results); // whose values have padding
+#elif CASE == 15
+    float narrow = static_cast<float>(x);
+#elif CASE == 16
+    (void)(x == h);
+#endif
+}
