@@ -501,7 +501,8 @@ class Format:
             with Context(context().mode) as made:
                 value = self(item)
                 if saturate and made.overflow:
-                    value = -self.largest if f'{item}'.strip().startswith('-') else self.largest
+                    is_negative = item.strip().startswith('-') if isinstance(item, str) else item < 0
+                    value = -self.largest if is_negative else self.largest
             context().flags |= made.flags
             _count(counts, made.flags)
             counts['nans'] += value.is_nan
@@ -532,12 +533,10 @@ def _nested(of: Any) -> tuple[tuple[int, ...], list[Any]]:
 
 # The numpy elements that values of a format are, by its code: numbers, or their bits.
 _ELEMENTS = {1: 'f2', 2: 'f4', 3: 'f8', 5: 'u2', 6: 'u1', 7: 'u1', 8: 'u1'}
-# The types of the package ml_dtypes, by the code of the format.
-_ML_TYPES = {5: 'bfloat16', 6: 'float8_e5m2', 7: 'float8_e4m3fn', 8: 'float8_e4m3fnuz'}
 
 
 def _format_of(dtype: Any) -> Format | None:
-    """The format of the numbers of a numpy type, if there is one here."""
+    """The format of the numbers of a type of numpy or ml_dtypes, if there is one here."""
     return {
         'float16': half, 'float32': single, 'float64': double, 'bfloat16': bfloat, 'float8_e5m2': e5m2,
         'float8_e4m3fn': e4m3fn, 'float8_e4m3fnuz': e4m3fnuz,
@@ -745,13 +744,10 @@ class Value(_Arithmetic[Number]):
         return self._made(name, *mode, *[_halves(operand.bits) for operand in operands])
 
     def _floored(self, divisor: Value) -> Value:
-        return self.fmod(divisor)._turned(divisor)
-
-    def _turned(self, divisor: Value) -> Value:
-        """A remainder by this divisor, with the sign of the divisor."""
-        if self.is_nan or self.is_negative == divisor.is_negative:
-            return self
-        return -self if self.is_zero else self + divisor
+        rest = self.fmod(divisor)
+        if rest.is_nan or rest.is_negative == divisor.is_negative:
+            return rest
+        return -rest if rest.is_zero else rest + divisor
 
     def _asked(self, name: str, *arguments: Any) -> _Answer:
         return _call(name, self.format.code, *arguments)
@@ -991,10 +987,12 @@ class Value(_Arithmetic[Number]):
 # The codes of operations on arrays.
 _OPERATIONS = {'add': 1, 'sub': 2, 'mul': 3, 'div': 4, 'rem': 5, 'mod': 6, 'fma': 7, 'sqrt': 8}
 _SATURATE = 0x100
+# The codes of struct for integers of as many bytes.
+_WORDS = {1: 'B', 2: 'H', 4: 'I', 8: 'Q'}
 
 
 class _Elements:
-    """Elements of some bytes each, one after another, the last axis of their shape first."""
+    """Elements of some bytes each, one after another: along the last axis first, then along the one before it."""
 
     __slots__ = ('_data', 'shape')
 
@@ -1051,7 +1049,7 @@ class _Elements:
         return self.shape[0]
 
     def __iter__(self) -> Iterator[Any]:
-        return (self[at] for at in range(len(self)))
+        return map(self._element, self._items()) if self.ndim == 1 else (self[at] for at in range(len(self)))
 
     def __getitem__(self, index: Any) -> Any:
         """An element or a part, by an integer or a slice for each axis, or by a mask of the same shape.
@@ -1130,7 +1128,7 @@ class Mask(_Elements):
         return made
 
     def _element(self, data: bytes) -> bool:
-        return data != b'\0'
+        return data != b'\x00'
 
     def any(self) -> bool:
         """Whether it holds for any element."""
@@ -1236,11 +1234,10 @@ class Array(_Elements, _Arithmetic[Any]):
     def _element(self, data: bytes) -> Value:
         return Value(self.format, int.from_bytes(data, 'little'))
 
-    def _whole_numbers(self) -> list[int]:
+    def _patterns(self) -> list[int]:
         """The bits of each value."""
-        code = {1: 'B', 2: 'H', 4: 'I', 8: 'Q'}.get(self._width)
-        if code:
-            return list(struct.unpack(f'<{self.size}{code}', self._data))
+        if self._width in _WORDS:
+            return list(struct.unpack(f'<{self.size}{_WORDS[self._width]}', self._data))
         return [int.from_bytes(item, 'little') for item in self._items()]
 
     @property
@@ -1258,9 +1255,9 @@ class Array(_Elements, _Arithmetic[Any]):
         try:
             import numpy
         except ImportError:
-            return self._listed(self._whole_numbers())
+            return self._listed(self._patterns())
         if self._width > 8:
-            return self._listed(self._whole_numbers())
+            return self._listed(self._patterns())
         return numpy.frombuffer(self._data, f'<u{self._width}').reshape(self.shape)
 
     def __bytes__(self) -> bytes:
@@ -1316,7 +1313,7 @@ class Array(_Elements, _Arithmetic[Any]):
         texts = [element._spelled() for element in map(self._element, self._items())]
         made, listed = 'array', self._listed(texts)
         if None in texts:
-            made, listed = 'from_bits', self._listed(self._whole_numbers())
+            made, listed = 'from_bits', self._listed(self._patterns())
         # Nested lists don't say the lengths that come after a 0.
         shape = f'.reshape{self.shape}' if 0 in self.shape[:-1] else ''
         return f'{self.format}.{made}({listed!r}){shape}'
@@ -1338,14 +1335,20 @@ class Array(_Elements, _Arithmetic[Any]):
                            shape=shape)
 
     def _floored(self, divisor: Array) -> Array:
-        rest = self._computed('mod', self, divisor)
-        format, counts, results = self.format, rest.counts, rest._whole_numbers()
-        for at, (left, right) in enumerate(zip(results, divisor._stretched(rest.shape)._whole_numbers())):
+        format, rest = self.format, self._computed('mod', self, divisor)
+        results, divisors = rest._patterns(), divisor._stretched(rest.shape)._patterns()
+        added = []
+        for at, (left, right) in enumerate(zip(results, divisors)):
             if (left ^ right) & format._sign_bit:
-                with Context(context().mode) as turned:
-                    results[at] = Value(format, left)._turned(Value(format, right)).bits
-                context().flags |= turned.flags
-                _count(counts, turned.flags)
+                value = Value(format, left)
+                if value.is_zero:
+                    results[at] = (-value).bits
+                elif not value.is_nan:
+                    added.append(at)
+        sums = format.from_bits([results[at] for at in added]) + format.from_bits([divisors[at] for at in added])
+        for at, bits in zip(added, sums._patterns()):
+            results[at] = bits
+        counts = {name: count + sums.counts[name] for name, count in rest.counts.items()} | {'values': rest.size}
         return Array(format, format._joined(results), counts, rest.shape)
 
     def __neg__(self) -> Array:
@@ -1369,7 +1372,7 @@ class Array(_Elements, _Arithmetic[Any]):
 
     def _mapped(self, operation: Callable[[Value], Value]) -> Array:
         """What an operation that raises no flags makes of each value."""
-        values = (operation(Value(self.format, bits)).bits for bits in self._whole_numbers())
+        values = (operation(Value(self.format, bits)).bits for bits in self._patterns())
         return self._like(self.format._joined(values), self.shape)
 
     def _compared(self, orders: tuple[int, ...], other: Any) -> Any:
@@ -1385,12 +1388,14 @@ class Array(_Elements, _Arithmetic[Any]):
         return Mask([])._like(bytes(order in orders for order in found), shape)
 
     def _constant(self, number: Any) -> Any:
-        """An array of this format and shape, with the number in each element; the number if the format has it not."""
-        if not isinstance(number, (Value, int, float)) or self.format is double_pair and isinstance(number, Value):
-            return number
-        with Context() as exact:
-            value = self.format(number)
-        if exact.flags or value != number:
+        """An array of this shape that has the number in each element; the number itself if the format lacks it."""
+        value = number
+        if isinstance(number, (int, float)):
+            with Context() as exact:
+                value = self.format(number)
+            if exact.flags or value != number:
+                return number
+        if not isinstance(value, Value) or value.format is not self.format:
             return number
         return self._like(self.format._joined([value.bits]) * self.size, self.shape)
 
@@ -1400,16 +1405,16 @@ class Array(_Elements, _Arithmetic[Any]):
     def __ne__(self, other: Any) -> Any:
         return self._compared(_LESS + _GREATER + (_UNORDERED,), other)
 
-    def __lt__(self, other: Any) -> Any:
+    def __lt__(self, other: Any) -> Mask:
         return self._compared(_LESS, other)
 
-    def __le__(self, other: Any) -> Any:
+    def __le__(self, other: Any) -> Mask:
         return self._compared(_LESS + _EQUAL, other)
 
-    def __gt__(self, other: Any) -> Any:
+    def __gt__(self, other: Any) -> Mask:
         return self._compared(_GREATER, other)
 
-    def __ge__(self, other: Any) -> Any:
+    def __ge__(self, other: Any) -> Mask:
         return self._compared(_GREATER + _EQUAL, other)
 
     def to(self, format: Format, saturate: bool = False) -> Array:
@@ -1515,8 +1520,11 @@ def _gathered(data: bytes, width: int, offset: int, axes: list[tuple[int, int]])
     (length, stride), *inner = axes
     if stride == 0:
         return _gathered(data, width, offset, inner) * length
+    end = offset + length * stride
+    if not inner and width in _WORDS:
+        return memoryview(data).cast(_WORDS[width])[offset:end if end >= 0 else None:stride].tobytes()
     if not inner:
-        return b''.join(data[at * width:(at + 1) * width] for at in range(offset, offset + length * stride, stride))
+        return b''.join(data[at * width:(at + 1) * width] for at in range(offset, end, stride))
     return b''.join(_gathered(data, width, offset + at * stride, inner) for at in range(length))
 
 
@@ -1536,18 +1544,26 @@ _LESS, _EQUAL, _GREATER, _UNORDERED = (-1,), (0,), (1,), 2
 
 
 def _orders(left: Array, right: Any) -> Iterable[int | None]:
-    """The orders of the values of an array and those of another one of its shape, or a number."""
+    """The orders of the values of an array and those of another one of its shape, or a number, as `Value._order`."""
     if isinstance(right, Array) and left.format is right.format:
-        return _orders_of_bits(left.format, left._whole_numbers(), right._whole_numbers())
+        return _orders_of_bits(left.format, left._patterns(), right._patterns())
     numbers = map(right._element, right._items()) if isinstance(right, Array) else itertools.repeat(right)
     return (first._order(second) for first, second in zip(map(left._element, left._items()), numbers))
 
 
 def _orders_of_bits(format: Format, lefts: Iterable[int], rights: Iterable[int]) -> Iterator[int]:
+    """The orders of values of one format, given by their bits."""
     answer, compare = _Answer(), _functions.apfloat_compare
-    for left, right in zip(lefts, rights):
+
+    def order(left: int, right: int) -> int:
         compare(format.code, _halves(left), _halves(right), ctypes.byref(answer))
-        yield answer.number
+        return answer.number
+
+    found: Callable[[int, int], int] = order
+    if format.width == 8:
+        # There are few pairs.
+        found = functools.cache(order)
+    return map(found, lefts, rights)
 
 
 _HEXADECIMAL = re.compile('(-?)0x([01])(?:[.]([0-9a-f]+))?p([+-][0-9]+)')
@@ -1572,11 +1588,13 @@ def _rounded_to_odd(text: str) -> str:
         return f'{sign}0x0p0'
     # No text has so many digits that they bring an exponent of more than 20 digits back into range.
     power = int(exponent_sign + (exponent.lstrip('0')[:21] or '0')) - len(fraction)
-    if abs(len(digits) + power) > _GREATEST_POWER:
-        return f'{sign}0x1p{99999 if power > 0 else -99999}'
+    above = len(digits) + power
+    if abs(above) > _GREATEST_POWER:
+        return f'{sign}0x1p{99999 if above > 0 else -99999}'
     cut = digits[_MOST_DIGITS:]
-    if cut.strip('0'):
-        digits, power = digits[:_MOST_DIGITS] + '1', power + len(cut) - 1
+    if cut:
+        # One digit stands for those that are cut off: no midpoint lies between the two numbers.
+        digits, power = digits[:_MOST_DIGITS] + ('1' if cut.strip('0') else '0'), power + len(cut) - 1
     numerator = int(decimal.Decimal(digits)) * 10**max(power, 0)
     denominator = 10**max(-power, 0)
     shift = 120 - numerator.bit_length() + denominator.bit_length()

@@ -3,11 +3,13 @@
 Those with numpy are skipped where it is missing. python/test runs them all.
 """
 
-import bisect
+import base64
+import collections
 import copy
 import decimal
 import fractions
 import functools
+import hashlib
 import itertools
 import math
 import operator
@@ -20,6 +22,7 @@ import subprocess
 import sys
 import tempfile
 import unittest
+import zipfile
 
 import apfloat
 from apfloat import Array, Context, Flags, Mask, Rounding
@@ -33,6 +36,7 @@ try:
 except ImportError:
     ml_dtypes = None
 
+HERE = os.path.dirname(os.path.abspath(__file__))
 Fraction = fractions.Fraction
 MODES = list(Rounding)
 SMALL = [apfloat.e5m2, apfloat.e4m3fn, apfloat.e4m3fnuz]
@@ -267,7 +271,8 @@ class TextTests(unittest.TestCase):
     def test_decimals_with_the_flags_of_ieee(self):
         draw = random.Random(5)
         # So far out, all numbers have the same result.
-        far = {'1e99999999999999999999999': '1e6000', '-1e-99999999999999999999999': '-1e-6000'}
+        far = {'1e99999999999999999999999': '1e6000', '-1e-99999999999999999999999': '-1e-6000',
+               '9' * 6000 + '.5': '1e6000', '-0.' + '0' * 6000 + '1': '-1e-6000'}
         for plain in [format for format in FORMATS if format.code not in (7, 8)]:
             digits, least, greatest = LIMITS[plain.name]
             edges = [Fraction(2)**least, Fraction(2)**(least + 1 - digits), largest_of(plain),
@@ -414,6 +419,26 @@ class ArrayTests(unittest.TestCase):
             self.assertEqual(bytes(copy.deepcopy(xs)), bytes(xs))
             self.assertEqual(bytes(format.from_bits(xs.bits)), bytes(xs))
 
+    def test_elements_are_those_of_values(self):
+        draw = random.Random(10)
+        for format in FORMATS + [apfloat.double_pair, apfloat.single.ieee.before]:
+            top = 1 << format.width - 1
+            special = [0, top, top - 1, 2 * top - 1] + [format(text).bits for text in ('1', '-1', 'nan')]
+            pairs = [[draw.choice([draw.getrandbits(format.width), draw.choice(special)]) for _ in range(2)]
+                     for _ in range(200)]
+            xs, ys = [format.from_bits(list(column)) for column in zip(*pairs)]
+            for mode, operation in itertools.product(MODES[:3], [operator.add, operator.truediv, operator.mod]):
+                counts = collections.Counter(values=len(pairs))
+                with Context(mode) as context:
+                    found = operation(xs, ys)
+                for x, y, result in zip(xs, ys, found):
+                    with Context(mode) as one:
+                        self.assertEqual(operation(x, y).bits, result.bits, (mode, x, y))
+                    counts.update(flag.name.lower() for flag in one.flags)
+                    counts['nans'] += result.is_nan
+                    self.assertIn(one.flags, context.flags)
+                self.assertEqual(found.counts, {name: counts[name] for name in found.counts})
+
     def test_stretching(self):
         row, column = apfloat.half.array([1, 2, 3]), apfloat.half.array([[10], [20]])
         self.assertEqual(integers(row + column), [[11, 12, 13], [21, 22, 23]])
@@ -461,6 +486,8 @@ class ArrayTests(unittest.TestCase):
         xs = apfloat.half.array([0.1, 0.5, 2])
         self.assertEqual((xs == apfloat.double.array([0.1, 0.5, 2])).tolist(), [False, True, True])
         self.assertEqual((xs == apfloat.half.ieee.array([0.1, 0.5, 2])).tolist(), [True, True, True])
+        self.assertEqual((xs >= apfloat.double_pair(0.5)).tolist(), [False, True, True])
+        self.assertEqual((apfloat.double_pair.array([1, 2]) < apfloat.half(2)).tolist(), [True, False])
         self.assertIs(xs == 'text', False)
         self.assertIs(xs != None, True)  # noqa: E711
         with self.assertRaises(TypeError):
@@ -558,6 +585,49 @@ class LibraryTests(unittest.TestCase):
 
     def test_named_library(self):
         self.assertEqual(self.imported(APFLOAT_LIBRARY=apfloat._functions._name), (0, ''))
+
+
+class WheelTests(unittest.TestCase):
+    """What pip calls to build the wheel."""
+
+    def run_backend(self, call, **variables):
+        """The exit status of a call, and what it says."""
+        program = f'import sys; sys.path[:0] = [{HERE!r}]; import backend; {call}'
+        return subprocess.run([sys.executable, '-B', '-c', program], env={'PATH': '/nowhere'} | variables,
+                              capture_output=True, text=True, check=False)
+
+    def test_wheel(self):
+        library = apfloat._functions._name
+        with tempfile.TemporaryDirectory() as first, tempfile.TemporaryDirectory() as second:
+            for folder in first, second:
+                done = self.run_backend(f'print(backend.build_wheel({folder!r}))', APFLOAT_LIBRARY=library)
+                self.assertEqual(done.returncode, 0, done.stderr)
+            name = done.stdout.strip()
+            with open(os.path.join(first, name), 'rb') as one, open(os.path.join(second, name), 'rb') as other:
+                self.assertEqual(one.read(), other.read())
+            with zipfile.ZipFile(os.path.join(first, name)) as wheel:
+                files = {name: wheel.read(name) for name in wheel.namelist()}
+        record, = [name for name in files if name.endswith('.dist-info/RECORD')]
+        listed = [line.split(',') for line in files[record].decode().splitlines()]
+        self.assertEqual([name for name, _, _ in listed], list(files))
+        for name, digest, size in listed[:-1]:
+            found = base64.urlsafe_b64encode(hashlib.sha256(files[name]).digest()).decode().rstrip('=')
+            self.assertEqual((digest, size), (f'sha256={found}', str(len(files[name]))))
+        with open(library, 'rb') as file:
+            self.assertIn(file.read(), files.values())
+        self.assertEqual(files['apfloat/py.typed'], b'')
+
+    def test_refusals(self):
+        for call, variables, said in [
+                ('backend.library()', {'APFLOAT_LIBRARY': '/nowhere/lib.so'}, '/nowhere/lib.so, which is no file'),
+                ('import pathlib; backend.CRATE = pathlib.Path("/"); backend.library()', {}, 'in a checkout'),
+                ('import pathlib; backend.CRATE = pathlib.Path(backend.__file__); backend.library()', {},
+                 'there is no cargo'),
+                ('backend.build_sdist(".")', {}, 'only wheels')]:
+            done = self.run_backend(call, **variables)
+            self.assertEqual(done.returncode, 1)
+            self.assertIn(said, done.stderr)
+            self.assertNotIn('Traceback', done.stderr)
 
 
 @unittest.skipUnless(numpy, 'there is no numpy')
