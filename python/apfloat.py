@@ -1190,7 +1190,8 @@ class Array(_Elements, _Arithmetic[Any]):
 
     Each element is rounded once, in the mode of the context, and its flags are added to those of the context. `counts`
     says how many values raised each flag, and how many results are NaNs. An operand may be a numpy array of the format,
-    or a value or a number, which is used for each element; axes of length 1 are stretched, as numpy does it.
+    nested lists, or a value or a number, which is used for each element; axes of length 1 are stretched, as numpy does
+    it.
 
     >>> xs = single.array([1, 2, 3])
     >>> thirds = xs / 3
@@ -1324,8 +1325,11 @@ class Array(_Elements, _Arithmetic[Any]):
             if made.format is not self.format:
                 raise TypeError(f'elements of {other.dtype} are no values of {self.format}')
             return made
-        value = Value(self.format, 0)._operand(other)
-        return value if value is NotImplemented else self._like(self.format._joined([value.bits]), ())
+        shape, items = _nested(other) if isinstance(other, (list, tuple)) else ((), [other])
+        values = [Value(self.format, 0)._operand(item) for item in items]
+        if any(value is NotImplemented for value in values):
+            return NotImplemented
+        return self._like(self.format._joined([value.bits for value in values]), shape)
 
     def _computed(self, name: str, *operands: Array) -> Array:
         shape = _common_shape(*[operand.shape for operand in operands])
@@ -1378,6 +1382,8 @@ class Array(_Elements, _Arithmetic[Any]):
     def _compared(self, orders: tuple[int, ...], other: Any) -> Any:
         if hasattr(other, '__array_interface__') and other.shape != ():
             other = _of_numpy(other, self.format)
+        elif isinstance(other, (list, tuple)):
+            other = _quads(other)
         if isinstance(other, Array):
             shape = _common_shape(self.shape, other.shape)
             found = _orders(self._stretched(shape), other._stretched(shape))
@@ -1443,6 +1449,18 @@ class Array(_Elements, _Arithmetic[Any]):
             return self.to(of, saturate)
         import numpy
         return numpy.asarray(self.to(_named(numpy.dtype(of)), saturate), of)
+
+
+def _quads(of: Any) -> Any:
+    """Nested lists of numbers as values of `quad`, which has all floats and values of most formats."""
+    shape, items = _nested(of)
+    if any(_exact_number(_plain_number(item)) is None for item in items):
+        return NotImplemented
+    with Context() as exact:
+        made = quad.array(items).reshape(shape)
+    if exact.inexact:
+        raise ValueError(f'not all of {of} are values of {quad}')
+    return made
 
 
 def _named(dtype: Any) -> Format:

@@ -444,14 +444,19 @@ class ArrayTests(unittest.TestCase):
         self.assertEqual(integers(row + column), [[11, 12, 13], [21, 22, 23]])
         self.assertEqual(integers(column.fma(row, 1)), [[11, 21, 31], [21, 41, 61]])
         self.assertEqual(integers(row + apfloat.half.array(5)), [6, 7, 8])
+        self.assertEqual(integers([[1], [2]] + row * [0, apfloat.half(1), -1.0]), [[1, 3, -2], [2, 4, -1]])
         self.assertEqual((row + apfloat.half.array([])[:, None]).shape, (0, 3))
         with self.assertRaises(apfloat.Refused) as refused:
             row + apfloat.half.array([1, 2])
         self.assertEqual(refused.exception.code, 6)
         with self.assertRaises(TypeError):
             row + apfloat.single.array([1, 2, 3])
-        with self.assertRaises(ValueError):
-            row + 0.1
+        for wrong in 0.1, [1, 0.1, 2]:
+            with self.assertRaises(ValueError):
+                row + wrong
+        for wrong in '1', ['1', '2', '3'], None:
+            with self.assertRaises(TypeError):
+                row + wrong
 
     def test_signs(self):
         for format in SMALL + [apfloat.half]:
@@ -488,7 +493,13 @@ class ArrayTests(unittest.TestCase):
         self.assertEqual((xs == apfloat.half.ieee.array([0.1, 0.5, 2])).tolist(), [True, True, True])
         self.assertEqual((xs >= apfloat.double_pair(0.5)).tolist(), [False, True, True])
         self.assertEqual((apfloat.double_pair.array([1, 2]) < apfloat.half(2)).tolist(), [True, False])
+        self.assertEqual((xs == [0.1, 0.5, 2]).tolist(), [False, True, True])
+        self.assertEqual((xs == [apfloat.half(0.1), apfloat.double(0.5), math.nan]).tolist(), [True, True, False])
+        with self.assertRaises(ValueError):
+            xs == [10**40 + 1, 1, 2]  # noqa: B015
+        self.assertEqual((xs < [[1], [0.25]]).tolist(), [[True, True, False], [True, False, False]])
         self.assertIs(xs == 'text', False)
+        self.assertIs(xs == ['a', 'b', 'c'], False)
         self.assertIs(xs != None, True)  # noqa: E711
         with self.assertRaises(TypeError):
             xs < 'text'
