@@ -496,7 +496,7 @@ class ArrayTests(unittest.TestCase):
         self.assertEqual((xs == [0.1, 0.5, 2]).tolist(), [False, True, True])
         self.assertEqual((xs == [apfloat.half(0.1), apfloat.double(0.5), math.nan]).tolist(), [True, True, False])
         with self.assertRaises(ValueError):
-            xs == [10**40 + 1, 1, 2]  # noqa: B015
+            xs == [10**40 + 1, 1, 2]
         self.assertEqual((xs < [[1], [0.25]]).tolist(), [[True, True, False], [True, False, False]])
         self.assertIs(xs == 'text', False)
         self.assertIs(xs == ['a', 'b', 'c'], False)
