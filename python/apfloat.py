@@ -1,10 +1,11 @@
 """Software floating point in any of ten formats, correctly rounded, with exact flags.
 
-The arithmetic is that of the library for C, whose functions are proved. The shared library is libapfloat.so in the
-folder of this file, or the file that the environment variable APFLOAT_LIBRARY names; packaging/install builds it.
+The arithmetic is that of the shared library libapfloat.so, in the folder of this file, or of the file that the
+environment variable APFLOAT_LIBRARY names. `pip install ./python` builds and installs it with this module;
+packaging/install makes one of the library for C, whose functions are proved.
 
-A format makes values from texts, integers, Python's floats and values of other formats. A value is shown as the
-shortest decimal that its format reads as it:
+A format makes values from texts, integers, Python's floats and values of other formats. A whole number below 10^16 is
+shown in full, and any other number as the shortest decimal that its format reads as it:
 
 >>> x = half('1.5')
 >>> x
@@ -31,13 +32,13 @@ half('inf')
 <Flags.DIV_BY_ZERO: 2>
 
 A format raises the flags of IEEE 754-2008 in every mode if it is written half.ieee, with tininess detected before
-rounding if it is written half.ieee.before; e4m3fn, e4m3fnuz and double_pair have no such choice. Formats with these
-flags read no decimals, only hexadecimal texts.
+rounding if it is written half.ieee.before; e4m3fn, e4m3fnuz and double_pair have no such choice.
 
-An array has values of one format, and can be made of a numpy array and turned into one:
+An array has values of one format and any number of axes. It is made of nested lists or of a numpy array, whose numbers
+it rounds once each, and turned into a numpy array of the same numbers:
 
->>> single.array([0.5, 3]).to(half) + 1
-half.array(['1.5', '4.0'])
+>>> single.array([[0.5, 3], [1e6, -7]]).to(half) + 1
+half.array([['1.5', '4.0'], ['inf', '-6.0']])
 
 Both operands of an operation have the same format; integers and floats are converted to it if that is exact:
 
@@ -56,21 +57,27 @@ Comparisons are exact, with numbers of any kind, and equal numbers have equal ha
 (True, False, True, 'a half')
 """
 
+from __future__ import annotations
+
 import contextvars
 import ctypes
 import decimal
 import enum
 import fractions
 import functools
+import itertools
 import math
+import operator
 import os
 import re
 import struct
+import sys
+from typing import Any, Callable, Generic, Iterable, Iterator, Self, Sequence, TypeVar, Union, overload
 
 __all__ = [
-    'Array', 'Context', 'DOWNWARD', 'Flags', 'Format', 'NEAREST_AWAY', 'NEAREST_EVEN', 'Refused', 'Rounding',
-    'TOWARD_ZERO', 'UPWARD', 'Value', 'bfloat', 'context', 'double', 'double_pair', 'e4m3fn', 'e4m3fnuz', 'e5m2',
-    'half', 'quad', 'single', 'x87',
+    'Array', 'Context', 'DOWNWARD', 'Flags', 'Format', 'Mask', 'NEAREST_AWAY', 'NEAREST_EVEN', 'Refused', 'Rounding',
+    'TOWARD_ZERO', 'UPWARD', 'Value', 'bfloat', 'bfloat16', 'context', 'double', 'double_pair', 'e4m3fn', 'e4m3fnuz',
+    'e5m2', 'float8_e4m3fn', 'float8_e4m3fnuz', 'float8_e5m2', 'half', 'quad', 'single', 'x87',
 ]
 
 
@@ -84,7 +91,11 @@ class Rounding(enum.IntEnum):
     NEAREST_AWAY = 4
 
 
-NEAREST_EVEN, UPWARD, DOWNWARD, TOWARD_ZERO, NEAREST_AWAY = Rounding
+NEAREST_EVEN = Rounding.NEAREST_EVEN
+UPWARD = Rounding.UPWARD
+DOWNWARD = Rounding.DOWNWARD
+TOWARD_ZERO = Rounding.TOWARD_ZERO
+NEAREST_AWAY = Rounding.NEAREST_AWAY
 
 
 class Flags(enum.IntFlag):
@@ -98,7 +109,7 @@ class Flags(enum.IntFlag):
     INEXACT = 16
 
 
-def _raised(flag):
+def _raised(flag: Flags) -> property:
     """Whether a flag was raised, as a property."""
     return property(lambda context: flag in context.flags, doc=f'Whether {flag.name} was raised.')
 
@@ -108,7 +119,7 @@ class Context:
 
     >>> with Context(mode=TOWARD_ZERO) as context:
     ...     half(65504) + half(65504)
-    half('65500.0')
+    half('65504.0')
     >>> context.inexact, context.overflow
     (True, False)
     >>> context.clear_flags()
@@ -116,23 +127,26 @@ class Context:
     Context(mode=TOWARD_ZERO, flags=OK)
     """
 
-    def __init__(self, mode=NEAREST_EVEN):
+    mode: int
+    flags: Flags
+
+    def __init__(self, mode: int = NEAREST_EVEN) -> None:
         self.mode = Rounding(mode)
         self.flags = Flags.OK
-        self._tokens = []
+        self._tokens: list[contextvars.Token[Context]] = []
 
-    def __enter__(self):
+    def __enter__(self) -> Self:
         self._tokens.append(_context.set(self))
         return self
 
-    def __exit__(self, *_):
+    def __exit__(self, *_: object) -> None:
         _context.reset(self._tokens.pop())
 
-    def __repr__(self):
-        flags = '|'.join(flag.name for flag in Flags if flag and flag in self.flags)
+    def __repr__(self) -> str:
+        flags = '|'.join(str(flag.name) for flag in Flags if flag and flag in self.flags)
         return f'Context(mode={Rounding(self.mode).name}, flags={flags or "OK"})'
 
-    def clear_flags(self):
+    def clear_flags(self) -> None:
         """Lowers all flags."""
         self.flags = Flags.OK
 
@@ -146,10 +160,12 @@ class Context:
 _context = contextvars.ContextVar('apfloat', default=Context())
 
 
-def context():
+def context() -> Context:
     """The context in force: that of the innermost `with` block, or the program's own."""
     return _context.get()
 
+
+# ---- the shared library
 
 class _Halves(ctypes.Structure):
     _fields_ = [('low', ctypes.c_uint64), ('high', ctypes.c_uint64)]
@@ -172,7 +188,49 @@ class _ArrayAnswer(ctypes.Structure):
         ('status', ctypes.c_uint32), ('reserved', ctypes.c_uint32)]
 
 
+def _parameters() -> dict[str, list[Any]]:
+    """The types of the arguments of each function that is used, as apfloat.h declares them."""
+    code, power, length, answer = ctypes.c_uint32, ctypes.c_int32, ctypes.c_size_t, ctypes.POINTER(_Answer)
+    text = array = [ctypes.c_char_p, length]
+    return {
+        **dict.fromkeys(('add', 'sub', 'mul', 'div'), [code, code, _Halves, _Halves, answer]),
+        'fma': [code, code, _Halves, _Halves, _Halves, answer],
+        **dict.fromkeys(('sqrt', 'from_i128', 'round_to_integral', 'frexp'), [code, code, _Halves, answer]),
+        **dict.fromkeys(('rem', 'mod', 'compare'), [code, _Halves, _Halves, answer]),
+        **dict.fromkeys(('ilogb', 'next_up', 'next_down', 'classify'), [code, _Halves, answer]),
+        'convert': [code, code, code, _Halves, answer],
+        'to_i128': [code, code, _Halves, code, answer],
+        'scalbn': [code, code, _Halves, power, answer],
+        **dict.fromkeys(('parse', 'parse_decimal'), [code, code, *text, answer]),
+        'shortest': [code, _Halves, ctypes.POINTER(_Text)],
+        'convert_array': [code, code, code, *array, *array, ctypes.POINTER(_ArrayAnswer)],
+        'map_array': [code, code, code, *array * 4, ctypes.POINTER(_ArrayAnswer)],
+    }
+
+
+def _library() -> ctypes.CDLL:
+    """The shared library, each function with the types of its arguments."""
+    name = {'darwin': 'libapfloat.dylib', 'win32': 'apfloat.dll'}.get(sys.platform, 'libapfloat.so')
+    beside = os.path.join(os.path.dirname(os.path.abspath(__file__)), name)
+    path = os.environ.get('APFLOAT_LIBRARY') or beside
+    remedy = ('`pip install ./python`, in a checkout, builds the library and installs it with this module. Or set '
+              'APFLOAT_LIBRARY to the file of a library that is built: packaging/install makes one.')
+    try:
+        library = ctypes.CDLL(path)
+        for function, types in _parameters().items():
+            getattr(library, 'apfloat_' + function).argtypes = types
+            getattr(library, 'apfloat_' + function).restype = ctypes.c_uint32
+    except (OSError, AttributeError) as error:
+        raise ImportError(f'the shared library of apfloat is missing, or of another version: {error}\n{remedy}',
+                          name='apfloat', path=path) from None
+    return library
+
+
+_functions = _library()
+
 _REFUSALS = {
+    1: 'no format has this code',
+    2: 'no rounding mode has this code',
     3: 'the format does not have the operation',
     4: 'no integer has this width',
     5: 'the text has no meaning',
@@ -189,36 +247,36 @@ class Refused(ValueError):
     apfloat.Refused: the text has no meaning
     """
 
-    def __init__(self, code):
-        super().__init__(_REFUSALS.get(code, f'code {code}'))
+    def __init__(self, code: int, text: str | None = None) -> None:
+        super().__init__(text or _REFUSALS.get(code, f'code {code}'))
         self.code = code
 
 
-def _library():
-    default = os.path.join(os.path.dirname(os.path.abspath(__file__)), 'libapfloat.so')
-    return ctypes.CDLL(os.environ.get('APFLOAT_LIBRARY', default))
-
-
-_functions = _library()
-
-
-def _halves(bits):
+def _halves(bits: int) -> _Halves:
     return _Halves(bits & (1 << 64) - 1, bits >> 64 & (1 << 64) - 1)
 
 
-def _call(name, *arguments):
-    """The answer of a function of the library; its flags are added to those of the context."""
+def _whole(halves: _Halves) -> int:
+    return halves.high << 64 | halves.low
+
+
+def _answered(name: str, *arguments: Any) -> _Answer:
+    """The answer of a function of the library."""
     answer = _Answer()
     code = getattr(_functions, 'apfloat_' + name)(*arguments, ctypes.byref(answer))
     if code:
         raise Refused(code)
+    return answer
+
+
+def _call(name: str, *arguments: Any) -> _Answer:
+    """The answer of a function of the library; its flags are added to those of the context."""
+    answer = _answered(name, *arguments)
     context().flags |= Flags(answer.status)
     return answer
 
 
-def _whole(halves):
-    return halves.high << 64 | halves.low
-
+# ---- formats
 
 # The bits of a code that name the format; those above choose its flags.
 _FORMAT_BITS, _IEEE_FLAGS, _TINY_BEFORE_ROUNDING = 0xff, 0x100, 0x200
@@ -235,38 +293,46 @@ class Format:
     half('1.001')
     """
 
-    def __init__(self, name, code, width, precision, exponent_bits):
+    def __init__(self, name: str, code: int, width: int, precision: int, exponent_bits: int,
+                 plain: Format | None = None) -> None:
         self.name, self.code, self.width = name, code, width
         self._precision, self._exponent_bits = precision, exponent_bits
         self._has_integer_bit = code & _FORMAT_BITS == 9
+        is_pair = code == 10
+        # The bit of a value's sign, and all bits that change with the sign of a number.
+        self._sign_bit = 1 << (63 if is_pair else width - 1)
+        self._sign_bits = self._sign_bit | (1 << 127 if is_pair else 0)
+        # The format itself, without a choice of flags.
+        self._plain = plain or self
 
-    def __repr__(self):
+    def __repr__(self) -> str:
         return self.name
 
-    def __reduce__(self):
+    def __reduce__(self) -> str:
         # The object's name in this module, for pickle and copy.
         return self.name
 
     @functools.lru_cache(maxsize=None)
-    def _with_flags(self, name, bits):
-        return Format(f'{self.name}.{name}', self.code | bits, self.width, self._precision, self._exponent_bits)
+    def _with_flags(self, name: str, bits: int) -> Format:
+        return Format(f'{self.name}.{name}', self.code | bits, self.width, self._precision, self._exponent_bits,
+                      self._plain)
 
     @property
-    def ieee(self):
+    def ieee(self) -> Format:
         """The format with the flags of IEEE 754-2008 (7.4, 7.5), tininess detected after rounding.
 
         >>> with Context(mode=TOWARD_ZERO) as context:
-        ...     half.ieee(65504) + 65504
-        half.ieee('0x1.ffcp+15')
-        >>> context.overflow, context.inexact
-        (True, True)
+        ...     half.ieee(65504) + 65504, half.ieee('1e-7')
+        (half.ieee('65504.0'), half.ieee('6e-8'))
+        >>> context
+        Context(mode=TOWARD_ZERO, flags=OVERFLOW|UNDERFLOW|INEXACT)
         """
         if self.code not in _WITH_IEEE_FLAGS:
             raise ValueError(f'{self.name} has no choice of flags')
         return self._with_flags('ieee', _IEEE_FLAGS)
 
     @property
-    def before(self):
+    def before(self) -> Format:
         """Of a format with the flags of IEEE 754-2008: with tininess detected before rounding.
 
         >>> below_one = half(1).next_down().next_down()
@@ -274,23 +340,41 @@ class Format:
         ...     with Context() as context:
         ...         format('0x1.004p-14') * format(below_one)
         ...     context.underflow
-        half.ieee('0x1p-14')
+        half.ieee('0.00006104')
         False
-        half.ieee.before('0x1p-14')
+        half.ieee.before('0.00006104')
         True
         """
         if not self.code & _IEEE_FLAGS:
             raise ValueError(f'{self.name}: ieee has to come first')
         return self._with_flags('before', _TINY_BEFORE_ROUNDING)
 
-    def from_bits(self, bits):
-        """The value with these bits."""
-        if not 0 <= bits < 1 << self.width:
+    @overload
+    def from_bits(self, bits: int) -> Value: ...
+
+    @overload
+    def from_bits(self, bits: Any) -> Any: ...
+
+    def from_bits(self, bits: Any) -> Any:
+        """The value with these bits; of nested lists or a numpy array of integers, the array with these bits.
+
+        >>> half.from_bits([[0x3c00, 0x3c01], [0, 0x7c00]])
+        half.array([['1.0', '1.001'], ['0.0', 'inf']])
+        """
+        if hasattr(bits, '__array_interface__'):
+            if bits.dtype.kind == 'u' and bits.dtype.itemsize == self._bytes and bits.shape:
+                return Array(self, bits.astype(f'<u{self._bytes}').tobytes(), shape=bits.shape)
+            bits = bits.tolist()
+        shape, items = _nested(bits)
+        items = [operator.index(item) for item in items]
+        if any(not 0 <= item < 1 << self.width for item in items):
             raise ValueError(f'{self.name} has {self.width} bits')
-        return Value(self, bits)
+        if not shape:
+            return Value(self, items[0])
+        return Array(self, self._joined(items), shape=shape)
 
     @property
-    def largest(self):
+    def largest(self) -> Value:
         """The largest number.
 
         >>> half.largest == 65504, e4m3fn.largest == 448, double_pair.largest.next_up()
@@ -305,21 +389,21 @@ class Format:
             return self.fromhex('0x1p99999')
 
     @property
-    def smallest(self):
+    def smallest(self) -> Value:
         """The smallest number above zero."""
         return self(0).next_up()
 
     @property
-    def smallest_normal(self):
+    def smallest_normal(self) -> Value:
         """The smallest normal number."""
         return self.smallest.ldexp(self._precision - 1)
 
     @property
-    def epsilon(self):
+    def epsilon(self) -> Value:
         """The distance from 1 to the next number of so many digits, 2 to the power of 1 less their count."""
         return self(1).ldexp(1 - self._precision)
 
-    def fromhex(self, text):
+    def fromhex(self, text: str) -> Value:
         """The value of a hexadecimal text, an infinity or a NaN, rounded once, like float.fromhex.
 
         >>> single.fromhex('0x1.8p-1'), single.fromhex('-inf')
@@ -327,98 +411,199 @@ class Format:
         """
         return self._read('parse', text)
 
-    def _read(self, name, text):
-        text = text.strip().encode()
-        answer = _call(name, ctypes.c_uint32(self.code), ctypes.c_uint32(context().mode), text,
-                       ctypes.c_size_t(len(text)))
-        return Value(self, _whole(answer.bits))
+    def _read(self, name: str, text: str) -> Value:
+        encoded = text.strip().encode()
+        return Value(self, _whole(_call(name, self.code, context().mode, encoded, len(encoded)).bits))
 
-    def __call__(self, of):
+    def _fromdecimal(self, text: str) -> Value:
+        """The value of a decimal or of any text that `fromhex` reads, rounded once."""
+        if not self.code & _IEEE_FLAGS:
+            return self._read('parse_decimal', text)
+        # The library reads decimals with the plain flags alone. It decides here whether the text has a meaning.
+        with Context(context().mode):
+            self._plain._read('parse_decimal', text)
+        return self.fromhex(_rounded_to_odd(text.strip()))
+
+    def __call__(self, of: Any) -> Value:
         """The value of a text, an integer, a float or a value, rounded once in the mode of the context."""
         mode = context().mode
         if isinstance(of, Value):
             if of.format is self:
                 return of
-            answer = _call('convert', ctypes.c_uint32(of.format.code), ctypes.c_uint32(mode),
-                           ctypes.c_uint32(self.code), _halves(of.bits))
+            answer = _call('convert', of.format.code, mode, self.code, _halves(of.bits))
         elif isinstance(of, str):
             if self is double_pair and ' + ' in of:
                 high, low = of.split(' + ')
                 return self.from_bits(double(high).bits | double(low).bits << 64)
-            return self._read('parse' if self.code & _IEEE_FLAGS else 'parse_decimal', of)
+            return self._fromdecimal(of)
         elif isinstance(of, int):
             if -1 << 127 <= of < 1 << 127:
-                answer = _call('from_i128', ctypes.c_uint32(self.code), ctypes.c_uint32(mode), _halves(of))
+                answer = _call('from_i128', self.code, mode, _halves(of))
             else:
                 return self.fromhex(hex(of) + 'p0')
         elif isinstance(of, float):
-            of = double.from_bits(struct.unpack('<Q', struct.pack('<d', of))[0])
-            return self(of) if self is not double_pair else self.from_bits(of.bits)
+            bits = struct.unpack('<Q', struct.pack('<d', of))[0]
+            return self(double.from_bits(bits)) if self is not double_pair else self.from_bits(bits)
         else:
-            raise TypeError(f'{self} makes no value of {of!r}')
+            number = _plain_number(of)
+            if number is of:
+                raise TypeError(f'{self} makes no value of {of!r}')
+            return self(number)
         return Value(self, _whole(answer.bits))
 
     @property
-    def _bytes(self):
+    def _bytes(self) -> int:
         return -(-self.width // 8)
 
-    def array(self, of):
-        """An array of what the format makes of each item; or of a buffer, the bytes of its values, one after another.
+    def _joined(self, values: Iterable[int]) -> bytes:
+        """The bytes of values, given by their bits."""
+        return b''.join(bits.to_bytes(self._bytes, 'little') for bits in values)
 
-        >>> half.array([1, 0.5, '0.1']), half.array(bytes([0x00, 0x3c]))
-        (half.array(['1.0', '0.5', '0.1']), half.array(['1.0']))
+    def array(self, of: Any, saturate: bool = False) -> Array:
+        """An array of what the format makes of each item of nested lists, or of a numpy array, in the same shape.
 
-        A numpy array is taken as it is if its elements are of the format: float16, float32 and float64 are `half`,
-        `single` and `double`; types of ml_dtypes, or integers without a sign that are the bits, are the other formats
-        of 8 or 16 bits.
+        >>> half.array([1, 0.5, '0.1']), half.array([[1, 2], [3, 4]]).shape
+        (half.array(['1.0', '0.5', '0.1']), (2, 2))
+
+        Each number is rounded once, in the mode of the context. The flags are added to those of the context, and the
+        `counts` of the array say how many values raised each. With `saturate`, a number that overflows gives the
+        largest one of its sign.
+
+        >>> thirds = e4m3fn.array([1 / 3, 1000, -0.5], saturate=True)
+        >>> thirds, thirds.counts['inexact'], thirds.counts['overflow']
+        (e4m3fn.array(['0.34', '448.0', '-0.5']), 2, 1)
+
+        The elements of a numpy array are float16, float32, float64, a type of ml_dtypes or integers with a sign. Those
+        that are of the format are taken as they are, without counts. Integers without a sign, uint16 for `bfloat` and
+        uint8 for the formats of 8 bits, are the bits of its values. Of other buffers, the bytes are those of the
+        values:
+
+        >>> half.array(bytes([0x00, 0x3c]))
+        half.array(['1.0'])
         """
         if hasattr(of, '__array_interface__'):
-            code = self.code & _FORMAT_BITS
-            if of.dtype.name == _ML_TYPES.get(code):
-                return Array(self, of.tobytes())
-            expected = _ELEMENTS.get(code)
-            if expected is None or of.dtype.newbyteorder('<').str[1:] != expected:
-                raise TypeError(f'elements of {of.dtype} are no values of {self}')
-            return Array(self, of.astype('<' + expected, copy=False).tobytes())
+            of = _of_numpy(of, self)
+        if isinstance(of, Array):
+            return Array(self, of._data, shape=of.shape) if of.format is self else of.to(self, saturate)
         if isinstance(of, (bytes, bytearray, memoryview)):
             return Array(self, bytes(of))
-        return Array(self, b''.join(self(each).bits.to_bytes(self._bytes, 'little') for each in of))
+        shape, items = _nested(of)
+        if items and self is not double_pair and all(type(item) is float for item in items):
+            floats = Array(double, struct.pack(f'<{len(items)}d', *items), shape=shape)
+            return floats if self is double else floats.to(self, saturate)
+        return self._counted(shape, items, saturate)
 
+    def _counted(self, shape: tuple[int, ...], items: list[Any], saturate: bool) -> Array:
+        """The array of what the format makes of each item, with counts."""
+        counts = dict.fromkeys(_COUNTED, 0) | {'values': len(items)}
+        values = []
+        for item in items:
+            with Context(context().mode) as made:
+                value = self(item)
+                if saturate and made.overflow:
+                    is_negative = item.strip().startswith('-') if isinstance(item, str) else item < 0
+                    value = -self.largest if is_negative else self.largest
+            context().flags |= made.flags
+            _count(counts, made.flags)
+            counts['nans'] += value.is_nan
+            values.append(value.bits)
+        return Array(self, self._joined(values), counts, shape)
+
+
+def _count(counts: dict[str, int], flags: Flags) -> None:
+    """Counts each of the flags."""
+    for flag in Flags:
+        if flag and flag in flags:
+            counts[str(flag.name).lower()] += 1
+
+
+def _nested(of: Any) -> tuple[tuple[int, ...], list[Any]]:
+    """The shape of nested sequences, and their items in order."""
+    if isinstance(of, (str, Value)) or not hasattr(of, '__iter__') or getattr(of, 'shape', None) == ():
+        return (), [of]
+    parts = [_nested(each) for each in of]
+    shapes = {shape for shape, _ in parts}
+    if len(shapes) > 1:
+        raise ValueError('the rows have different lengths')
+    inner = shapes.pop() if shapes else ()
+    return (len(parts), *inner), [item for _, items in parts for item in items]
+
+
+# ---- numpy
 
 # The numpy elements that values of a format are, by its code: numbers, or their bits.
 _ELEMENTS = {1: 'f2', 2: 'f4', 3: 'f8', 5: 'u2', 6: 'u1', 7: 'u1', 8: 'u1'}
-# The types of the package ml_dtypes, by the code of the format.
-_ML_TYPES = {5: 'bfloat16', 6: 'float8_e5m2', 7: 'float8_e4m3fn', 8: 'float8_e4m3fnuz'}
 
 
-def _operators(name):
-    """An operator, and its reflected form, for a left operand that is neither a value nor an array."""
-
-    def operator(left, right):
-        other = left._operand(right)
-        return other if other is NotImplemented else left._computed(name, left, other)
-
-    def reflected(right, left):
-        other = right._operand(left)
-        return other if other is NotImplemented else right._computed(name, other, right)
-
-    return operator, reflected
+def _format_of(dtype: Any) -> Format | None:
+    """The format of the numbers of a type of numpy or ml_dtypes, if there is one here."""
+    return {
+        'float16': half, 'float32': single, 'float64': double, 'bfloat16': bfloat, 'float8_e5m2': e5m2,
+        'float8_e4m3fn': e4m3fn, 'float8_e4m3fnuz': e4m3fnuz,
+    }.get(dtype.name)
 
 
-class _Arithmetic:
+def _of_numpy(of: Any, format: Format) -> Array:
+    """The values of a numpy array: in the format, if they or their bits are of it, or else in that of its type.
+
+    Integers with a sign are values of `quad`, which has all of 64 bits.
+    """
+    if of.dtype.kind == 'i':
+        return Array(quad, quad.array(of.tolist())._data, shape=of.shape)
+    source = _format_of(of.dtype)
+    elements = _ELEMENTS.get((source or format).code & _FORMAT_BITS, '')
+    if source is None and (elements[:1] != 'u' or of.dtype.newbyteorder('<').str[1:] != elements):
+        raise TypeError(f'elements of {of.dtype} are no values of {format}')
+    is_number = elements[:1] == 'f' or source is None
+    data = (of.astype('<' + elements, copy=False) if is_number else of).tobytes()
+    return Array(format if source is None or source is format._plain else source, data, shape=of.shape)
+
+
+def _plain_number(of: Any) -> Any:
+    """A scalar of numpy as a value of its format or an integer, and anything else as it is."""
+    if not hasattr(of, '__array_interface__') or of.shape != () or isinstance(of, float):
+        return of
+    if of.dtype.kind in 'iu':
+        return int(of)
+    format = _format_of(of.dtype)
+    return of if format is None else _of_numpy(of, format)[()]
+
+
+# ---- values
+
+# What operations take besides values and arrays of the same format.
+Number = Union['Value', int, float]
+_Operand = TypeVar('_Operand')
+
+
+class _Arithmetic(Generic[_Operand]):
     """What values and arrays of values have: each result is rounded once, in the mode of the context."""
 
     __slots__ = ()
 
-    def _operand(self, other):
-        """Another operand in this one's format and, for an array, of its length."""
+    format: Format
+
+    def _converted(self, other: Any) -> Any:
+        """Another operand that is no value or array of the format, as one that is."""
+        raise NotImplementedError
+
+    def _computed(self, name: str, *operands: Any) -> Any:
+        """The result of an operation on operands of this kind."""
+        raise NotImplementedError
+
+    def _floored(self, divisor: Any) -> Any:
+        """What `%` gives for a divisor of this kind."""
+        raise NotImplementedError
+
+    def _operand(self, other: Any) -> Any:
+        """Another operand in this one's format, as a value or an array like this one."""
         if isinstance(other, type(self)):
             if other.format is not self.format:
                 raise TypeError(f'{self.format} and {other.format}: convert one of them')
             return other
         return self._converted(other)
 
-    def _with(self, name, *others):
+    def _with(self, name: str, *others: Any) -> Any:
         """The result of an operation of this and of others."""
         operands = [self._operand(other) for other in others]
         for other, operand in zip(others, operands):
@@ -426,12 +611,56 @@ class _Arithmetic:
                 raise TypeError(f'{other!r} is no operand of {self.format}')
         return self._computed(name, self, *operands)
 
-    __add__, __radd__ = _operators('add')
-    __sub__, __rsub__ = _operators('sub')
-    __mul__, __rmul__ = _operators('mul')
-    __truediv__, __rtruediv__ = _operators('div')
+    def _left(self, name: str, other: Any) -> Any:
+        """The result of an operator that has this on its left."""
+        right = self._operand(other)
+        return NotImplemented if right is NotImplemented else self._computed(name, self, right)
 
-    def fma(self, factor, addend):
+    def _right(self, name: str, other: Any) -> Any:
+        """The result of an operator that has this on its right, and neither a value nor an array on its left."""
+        left = self._operand(other)
+        return NotImplemented if left is NotImplemented else self._computed(name, left, self)
+
+    def __add__(self, other: _Operand) -> Self:
+        return self._left('add', other)
+
+    def __radd__(self, other: _Operand) -> Self:
+        return self._right('add', other)
+
+    def __sub__(self, other: _Operand) -> Self:
+        return self._left('sub', other)
+
+    def __rsub__(self, other: _Operand) -> Self:
+        return self._right('sub', other)
+
+    def __mul__(self, other: _Operand) -> Self:
+        return self._left('mul', other)
+
+    def __rmul__(self, other: _Operand) -> Self:
+        return self._right('mul', other)
+
+    def __truediv__(self, other: _Operand) -> Self:
+        return self._left('div', other)
+
+    def __rtruediv__(self, other: _Operand) -> Self:
+        return self._right('div', other)
+
+    def __mod__(self, other: _Operand) -> Self:
+        """self less the divisor times the quotient rounded down, rounded once, with the sign of the divisor.
+
+        This is the `%` of Python's floats and of numpy; `fmod` is the one with the sign of self.
+
+        >>> double(-7) % 3, double(-7).fmod(3), half(7) % -3, half('-6e-8') % 1
+        (double('2.0'), double('-1.0'), half('-2.0'), half('1.0'))
+        """
+        divisor = self._operand(other)
+        return NotImplemented if divisor is NotImplemented else self._floored(divisor)
+
+    def __rmod__(self, other: _Operand) -> Self:
+        left = self._operand(other)
+        return NotImplemented if left is NotImplemented else left._floored(self)
+
+    def fma(self, factor: _Operand, addend: _Operand) -> Self:
         """self * factor + addend, rounded once. Pairs of doubles do not have it.
 
         >>> half.from_bits(0x3c01).fma(half.from_bits(0x3c01), half.from_bits(0xbc02))
@@ -442,7 +671,7 @@ class _Arithmetic:
         """
         return self._with('fma', factor, addend)
 
-    def sqrt(self):
+    def sqrt(self) -> Self:
         """The square root, rounded once (IEEE 754-2008 5.4.1); of a value below zero a NaN.
 
         >>> double(2).sqrt(), quad(4).sqrt(), half('-0x0p0').sqrt()
@@ -455,7 +684,7 @@ class _Arithmetic:
         """
         return self._with('sqrt')
 
-    def remainder(self, divisor):
+    def remainder(self, divisor: _Operand) -> Self:
         """self less the divisor times the integer nearest to the quotient, a tie going to the even one: exact.
 
         >>> double(5).remainder(3), double(5).fmod(3)
@@ -463,7 +692,7 @@ class _Arithmetic:
         """
         return self._with('rem', divisor)
 
-    def fmod(self, divisor):
+    def fmod(self, divisor: _Operand) -> Self:
         """self less the divisor times the quotient truncated toward zero: exact, like math.fmod."""
         return self._with('mod', divisor)
 
@@ -472,7 +701,7 @@ class _Arithmetic:
 _WITHOUT_MODE = ('rem', 'mod')
 
 
-class Value(_Arithmetic):
+class Value(_Arithmetic[Number]):
     """A value of a format: its bits. Operations round once, in the mode of the context.
 
     >>> x = double('5e-324')
@@ -487,36 +716,46 @@ class Value(_Arithmetic):
 
     __slots__ = ('format', 'bits')
 
-    def __init__(self, format, bits):
+    format: Format
+    bits: int
+
+    def __init__(self, format: Format, bits: int) -> None:
         object.__setattr__(self, 'format', format)
         object.__setattr__(self, 'bits', bits)
 
-    def __setattr__(self, name, value):
+    def __setattr__(self, name: str, value: Any) -> None:
         raise AttributeError('values do not change')
 
-    def __reduce__(self):
+    def __reduce__(self) -> tuple[Any, ...]:
         return Value, (self.format, self.bits)
 
-    def _converted(self, other):
-        if not isinstance(other, (int, float)):
+    def _converted(self, other: Any) -> Any:
+        number = _plain_number(other)
+        if number is other and not isinstance(other, (int, float)):
             return NotImplemented
         with Context() as exact:
-            value = self.format(other)
+            value = self.format(number)
         if exact.inexact:
             raise ValueError(f'{other} is not a value of {self.format}')
         return value
 
-    def _computed(self, name, *operands):
-        mode = () if name in _WITHOUT_MODE else (ctypes.c_uint32(context().mode),)
+    def _computed(self, name: str, *operands: Value) -> Value:
+        mode = () if name in _WITHOUT_MODE else (context().mode,)
         return self._made(name, *mode, *[_halves(operand.bits) for operand in operands])
 
-    def _asked(self, name, *arguments):
-        return _call(name, ctypes.c_uint32(self.format.code), *arguments)
+    def _floored(self, divisor: Value) -> Value:
+        rest = self.fmod(divisor)
+        if rest.is_nan or rest.is_negative == divisor.is_negative:
+            return rest
+        return -rest if rest.is_zero else rest + divisor
 
-    def _made(self, name, *arguments):
+    def _asked(self, name: str, *arguments: Any) -> _Answer:
+        return _call(name, self.format.code, *arguments)
+
+    def _made(self, name: str, *arguments: Any) -> Value:
         return Value(self.format, _whole(self._asked(name, *arguments).bits))
 
-    def next_up(self):
+    def next_up(self) -> Value:
         """The least value above self.
 
         >>> half(1).next_up(), half(1).next_down()
@@ -524,11 +763,11 @@ class Value(_Arithmetic):
         """
         return self._made('next_up', _halves(self.bits))
 
-    def next_down(self):
+    def next_down(self) -> Value:
         """The greatest value below self."""
         return self._made('next_down', _halves(self.bits))
 
-    def round_to_integral(self):
+    def round_to_integral(self) -> Value:
         """The integral value that the mode picks.
 
         >>> half('0x1.4p1').round_to_integral()
@@ -536,67 +775,69 @@ class Value(_Arithmetic):
         """
         return self._computed('round_to_integral', self)
 
-    def ldexp(self, power):
+    def ldexp(self, power: int) -> Value:
         """self times 2 to the power of `power`, rounded once; it raises no flag.
 
         >>> half(3).ldexp(-1), half(3).frexp()
         (half('1.5'), (half('0.75'), 2))
         """
-        return self._made('scalbn', ctypes.c_uint32(context().mode), _halves(self.bits),
-                          ctypes.c_int32(max(-1 << 31, min(power, (1 << 31) - 1))))
+        clamped = max(-1 << 31, min(power, (1 << 31) - 1))
+        return self._made('scalbn', context().mode, _halves(self.bits), clamped)
 
-    def frexp(self):
+    def frexp(self) -> tuple[Value, int]:
         """A fraction of magnitude from 0.5 to below 1, and the power of two to multiply it by, like math.frexp."""
-        answer = self._asked('frexp', ctypes.c_uint32(context().mode), _halves(self.bits))
+        answer = self._asked('frexp', context().mode, _halves(self.bits))
         return Value(self.format, _whole(answer.bits)), answer.number if self.is_finite else 0
 
-    def _class(self):
+    def _class(self) -> int:
         return self._asked('classify', _halves(self.bits)).number
 
     @property
-    def is_nan(self):
+    def is_nan(self) -> bool:
         """Whether it is a NaN."""
         return self._class() in (0, 1)
 
     @property
-    def is_infinite(self):
+    def is_infinite(self) -> bool:
         """Whether it is an infinity."""
         return self._class() in (2, 9)
 
     @property
-    def is_finite(self):
+    def is_finite(self) -> bool:
         """Whether it is a number."""
         return self._class() not in (0, 1, 2, 9)
 
     @property
-    def is_zero(self):
+    def is_zero(self) -> bool:
         """Whether it is +0 or -0."""
         return self._class() in (5, 6)
 
     @property
-    def is_negative(self):
+    def is_negative(self) -> bool:
         """Whether it is a negative number, -0 or -infinity; no NaN is."""
         return self._class() in (2, 3, 4, 5)
 
-    def __neg__(self):
-        flipped = Value(self.format, self.bits ^ 1 << (63 if self.format is double_pair else self.format.width - 1))
-        if self.format is double_pair:
-            return Value(self.format, flipped.bits ^ 1 << 127)
+    def __neg__(self) -> Value:
         if self.format is e4m3fnuz and (self.is_zero or self.is_nan):
             return self
-        return flipped
+        return Value(self.format, self.bits ^ self.format._sign_bits)
 
-    def __pos__(self):
+    def __pos__(self) -> Value:
         return self
 
-    def __abs__(self):
-        return -self if self.is_negative else self
+    def __abs__(self) -> Value:
+        """The value without its sign, a NaN's too (IEEE 754-2008 5.5.1).
 
-    def __bool__(self):
+        >>> abs(half('-1.5')), abs(half('-0.0')), abs(half('-nan'))
+        (half('1.5'), half('0.0'), half('nan'))
+        """
+        return -self if self.bits & self.format._sign_bit else self
+
+    def __bool__(self) -> bool:
         return not self.is_zero
 
-    def _compared(self, other):
-        """The order of two values; None if one of them is not a number."""
+    def _order(self, other: Any) -> int | None:
+        """-1, 0 or 1 as self is less, equal or greater, 2 if one of them is a NaN; None if one is not a number."""
         if isinstance(other, Value) and other.format is self.format:
             return self._asked('compare', _halves(self.bits), _halves(other.bits)).number
         left, right = _exact_number(self), _exact_number(other)
@@ -604,30 +845,29 @@ class Value(_Arithmetic):
             return None
         return _UNORDERED if left != left or right != right else (left > right) - (left < right)
 
-    def __eq__(self, other):
-        order = self._compared(other)
-        return NotImplemented if order is None else order == 0
+    def _is(self, orders: tuple[int, ...], other: Any) -> Any:
+        order = self._order(other)
+        return NotImplemented if order is None else order in orders
 
-    def __lt__(self, other):
-        order = self._compared(other)
-        return NotImplemented if order is None else order == -1
+    def __eq__(self, other: object) -> bool:
+        return self._is(_EQUAL, other)
 
-    def __le__(self, other):
-        order = self._compared(other)
-        return NotImplemented if order is None else order in (-1, 0)
+    def __lt__(self, other: Number) -> bool:
+        return self._is(_LESS, other)
 
-    def __gt__(self, other):
-        order = self._compared(other)
-        return NotImplemented if order is None else order == 1
+    def __le__(self, other: Number) -> bool:
+        return self._is(_LESS + _EQUAL, other)
 
-    def __ge__(self, other):
-        order = self._compared(other)
-        return NotImplemented if order is None else order in (0, 1)
+    def __gt__(self, other: Number) -> bool:
+        return self._is(_GREATER, other)
 
-    def __hash__(self):
+    def __ge__(self, other: Number) -> bool:
+        return self._is(_GREATER + _EQUAL, other)
+
+    def __hash__(self) -> int:
         return object.__hash__(self) if self.is_nan else hash(_exact_number(self))
 
-    def __int__(self):
+    def __int__(self) -> int:
         """The integer of a number, truncated toward zero, like that of a float.
 
         >>> int(half('-2.5')), round(half('2.5')), math.floor(half('-2.5')), math.ceil(half('-2.5'))
@@ -637,19 +877,19 @@ class Value(_Arithmetic):
 
     __trunc__ = __int__
 
-    def __floor__(self):
+    def __floor__(self) -> int:
         return math.floor(self._fraction())
 
-    def __ceil__(self):
+    def __ceil__(self) -> int:
         return math.ceil(self._fraction())
 
-    def __round__(self):
+    def __round__(self) -> int:
         return round(self._fraction())
 
-    def _fraction(self):
+    def _fraction(self) -> fractions.Fraction:
         return fractions.Fraction(*self.as_integer_ratio())
 
-    def __float__(self):
+    def __float__(self) -> float:
         """The value as a Python float, rounded once in the mode of the context.
 
         >>> float(quad(1) / 3)
@@ -658,18 +898,22 @@ class Value(_Arithmetic):
         high = self if self.format is double_pair else double(self)
         return struct.unpack('<d', struct.pack('<Q', high.bits & (1 << 64) - 1))[0]
 
-    def hex(self):
+    def _parts(self) -> list[Value]:
+        """The high double of a pair, and the low one unless it is +0; any other value alone."""
+        if self.format is not double_pair:
+            return [self]
+        high, low = double.from_bits(self.bits & (1 << 64) - 1), double.from_bits(self.bits >> 64)
+        return [high, low] if low.bits else [high]
+
+    def hex(self) -> str:
         """The value as a hexadecimal text that its format reads exactly.
 
         >>> single(1).hex(), half('-inf').hex(), half.from_bits(0x7e01).hex()
         ('0x1p+0', '-inf', 'nan(0x1)')
         """
-        if self.format is double_pair:
-            low = double.from_bits(self.bits >> 64)
-            return double.from_bits(self.bits & (1 << 64) - 1).hex() + (' + ' + low.hex() if low else '')
-        return _hexadecimal(self)
+        return ' + '.join(_hexadecimal(part) for part in self._parts())
 
-    def as_integer_ratio(self):
+    def as_integer_ratio(self) -> tuple[int, int]:
         """A number as a quotient of two integers in lowest terms.
 
         >>> half('0.1').as_integer_ratio()
@@ -679,35 +923,50 @@ class Value(_Arithmetic):
             raise ValueError('a NaN is no number')
         if self.is_infinite:
             raise OverflowError('an infinity is no number')
-        return sum(_fraction_of(part) for part in self.hex().split(' + ')).as_integer_ratio()
+        number = sum((_fraction_of(part) for part in self.hex().split(' + ')), fractions.Fraction())
+        return number.as_integer_ratio()
 
-    def __str__(self):
-        """The shortest decimal that the format reads as the value; of a pair of doubles, those of its parts.
-
-        >>> str(half('1e-7')), str(half('-inf')), str(half.from_bits(0x7e01))
-        ('1e-7', '-inf', 'nan')
-        >>> print(double_pair(1) / 3)
-        0.3333333333333333 + 1.8503717077085944e-17
-        """
-        if self.format is double_pair:
-            low = double.from_bits(self.bits >> 64)
-            return str(double.from_bits(self.bits & (1 << 64) - 1)) + (f' + {low}' if low else '')
+    def _decimal(self) -> str:
+        """The decimal of a value that is no pair."""
+        whole = _answered('to_i128', self.format.code, TOWARD_ZERO, _halves(self.bits), 64)
+        if whole.number and abs(_signed(whole.bits)) < 10**16:
+            return f'{_signed(whole.bits)}.0'
         text = _Text()
-        code = _functions.apfloat_shortest(ctypes.c_uint32(self.format.code), _halves(self.bits), ctypes.byref(text))
+        code = _functions.apfloat_shortest(self.format.code, _halves(self.bits), ctypes.byref(text))
         if code:
             raise Refused(code)
         return text.bytes.decode()
 
-    def __repr__(self):
+    def __str__(self) -> str:
+        """A whole number below 10^16 in full, and otherwise the shortest decimal that the format reads as the value.
+
+        Of a pair of doubles, it is those of its parts.
+
+        >>> str(half('1e-7')), str(half('-inf')), str(half.from_bits(0x7e01)), str(e4m3fn(448)), str(single(2**60))
+        ('1e-7', '-inf', 'nan', '448.0', '1152921500000000000.0')
+        >>> print(double_pair(1) / 3)
+        0.3333333333333333 + 1.8503717077085944e-17
+        """
+        return ' + '.join(part._decimal() for part in self._parts())
+
+    def _spelled(self) -> str | None:
+        """A text that the format reads as exactly these bits, to nearest; None if there is none."""
+        text = ' + '.join(_hexadecimal(part) if part.is_nan else part._decimal() for part in self._parts())
+        with Context():
+            return text if self.format(text).bits == self.bits else None
+
+    def __repr__(self) -> str:
         """The format and a text that it reads as the value to nearest; a NaN has its sign and its payload.
 
-        >>> half.from_bits(0x7e01), single('1e10'), double('-0'), half.ieee(1.5)
-        (half('nan(0x1)'), single('10000000000.0'), double('-0.0'), half.ieee('0x1.8p+0'))
-        """
-        is_decimal = not self.is_nan and not self.format.code & _IEEE_FLAGS
-        return f'{self.format}({(str(self) if is_decimal else self.hex())!r})'
+        Bits that no text gives are shown as such.
 
-    def __format__(self, spec):
+        >>> half.from_bits(0x7e01), single('1e10'), double('-0'), half.ieee(1.5), x87.from_bits(1 << 63)
+        (half('nan(0x1)'), single('10000000000.0'), double('-0.0'), half.ieee('1.5'), x87.from_bits(0x8000000000000000))
+        """
+        text = self._spelled()
+        return f'{self.format}.from_bits({self.bits:#x})' if text is None else f'{self.format}({text!r})'
+
+    def __format__(self, spec: str) -> str:
         """The value as Python's decimal.Decimal formats it exactly, or as str does without a specification.
 
         >>> f'{half("0.1"):.3e} {half("0.1"):.20f} {half("1.5")}'
@@ -723,16 +982,216 @@ class Value(_Arithmetic):
         return format(decimal.Decimal(f'{sign}{abs(numerator) * 5**places}e-{places}'), spec)
 
 
+# ---- arrays
+
 # The codes of operations on arrays.
 _OPERATIONS = {'add': 1, 'sub': 2, 'mul': 3, 'div': 4, 'rem': 5, 'mod': 6, 'fma': 7, 'sqrt': 8}
+_SATURATE = 0x100
+# The codes of struct for integers of as many bytes.
+_WORDS = {1: 'B', 2: 'H', 4: 'I', 8: 'Q'}
 
 
-class Array(_Arithmetic):
-    """Values of one format, in consecutive bytes. An operation makes a new array, of the results of its elements.
+class _Elements:
+    """Elements of some bytes each, one after another: along the last axis first, then along the one before it."""
+
+    __slots__ = ('_data', 'shape')
+
+    _data: bytes
+    shape: tuple[int, ...]
+
+    @property
+    def _width(self) -> int:
+        """How many bytes an element takes."""
+        raise NotImplementedError
+
+    def _like(self, data: bytes, shape: tuple[int, ...]) -> Self:
+        """The same kind of array with other elements."""
+        raise NotImplementedError
+
+    def _element(self, data: bytes) -> Any:
+        """The element of these bytes."""
+        raise NotImplementedError
+
+    def _reshaped(self, data: bytes, shape: tuple[int, ...] | None) -> None:
+        """Sets the elements, along one axis if no shape is given."""
+        count = len(data) // self._width
+        if shape is not None and math.prod(shape) != count:
+            raise ValueError(f'{count} elements have no shape {shape}')
+        self._data, self.shape = data, (count,) if shape is None else tuple(shape)
+
+    @property
+    def ndim(self) -> int:
+        """The number of axes."""
+        return len(self.shape)
+
+    @property
+    def size(self) -> int:
+        """The number of elements."""
+        return math.prod(self.shape)
+
+    def reshape(self, *shape: Any) -> Self:
+        """The same elements in another shape; a length of -1 is the one that is left.
+
+        >>> half.array(range(6)).reshape(2, -1)
+        half.array([['0.0', '1.0', '2.0'], ['3.0', '4.0', '5.0']])
+        """
+        lengths = list(shape[0] if len(shape) == 1 and isinstance(shape[0], (tuple, list)) else shape)
+        if -1 in lengths:
+            others = math.prod(length for length in lengths if length != -1)
+            lengths[lengths.index(-1)] = self.size // others if others else 0
+        if any(length < 0 for length in lengths) or math.prod(lengths) != self.size:
+            raise ValueError(f'{self.size} elements have no shape {tuple(shape)}')
+        return self._like(self._data, tuple(lengths))
+
+    def __len__(self) -> int:
+        if not self.shape:
+            raise TypeError('an array without axes has no length')
+        return self.shape[0]
+
+    def __iter__(self) -> Iterator[Any]:
+        return map(self._element, self._items()) if self.ndim == 1 else (self[at] for at in range(len(self)))
+
+    def __getitem__(self, index: Any) -> Any:
+        """An element or a part, by an integer or a slice for each axis, or by a mask of the same shape.
+
+        As in numpy, `...` stands for all axes that are not named, and None for a new one of length 1.
+
+        >>> xs = half.array([[1, 2, 3], [4, 5, 6]])
+        >>> xs[1, 0], xs[0], xs[:, ::2]
+        (half('4.0'), half.array(['1.0', '2.0', '3.0']), half.array([['1.0', '3.0'], ['4.0', '6.0']]))
+        >>> xs[xs > 2]
+        half.array(['3.0', '4.0', '5.0', '6.0'])
+        """
+        if hasattr(index, '__array_interface__') and index.dtype == bool:
+            index = Mask(index)
+        if isinstance(index, Mask):
+            return self._chosen(index)
+        index = index if isinstance(index, tuple) else (index,)
+        offset, axes = _selected(index, self.shape)
+        data = _gathered(self._data, self._width, offset, axes)
+        if not axes and not any(each is Ellipsis for each in index):
+            return self._element(data)
+        return self._like(data, tuple(length for length, _ in axes))
+
+    def _chosen(self, mask: Mask) -> Self:
+        if mask.shape != self.shape:
+            raise IndexError(f'a mask of shape {mask.shape} does not fit an array of shape {self.shape}')
+        items = [item for item, chosen in zip(self._items(), mask._data) if chosen]
+        return self._like(b''.join(items), (len(items),))
+
+    def _items(self) -> Iterator[bytes]:
+        """The bytes of each element."""
+        return (self._data[at:at + self._width] for at in range(0, len(self._data), self._width))
+
+    def _stretched(self, shape: tuple[int, ...]) -> Self:
+        """The array in a shape that its own is stretched to, as numpy does it: axes of length 1 are repeated."""
+        if shape == self.shape:
+            return self
+        own = (1,) * (len(shape) - self.ndim) + self.shape
+        axes = [(length, stride if held == length else 0) for length, held, stride in zip(shape, own, _strides(own))]
+        return self._like(_gathered(self._data, self._width, 0, axes), shape)
+
+    def _listed(self, elements: Iterable[Any]) -> Any:
+        """One thing for each element, as nested lists of the shape."""
+        return _listed(iter(elements), self.shape)
+
+    def tolist(self) -> Any:
+        """The elements as nested lists of the shape; of an array without axes, the element."""
+        return self._listed(map(self._element, self._items()))
+
+
+class Mask(_Elements):
+    """Whether something holds for each element of an array: what a comparison of arrays gives.
+
+    >>> xs = half.array([1, 2, 3])
+    >>> xs > 1, (xs > 1).any(), (xs > 1).all(), ~(xs > 1) | (xs == 3)
+    (Mask([False, True, True]), True, False, Mask([True, False, True]))
+    """
+
+    __slots__ = ()
+
+    # As masks are compared element by element, they are no keys.
+    __hash__ = None  # type: ignore[assignment]
+
+    def __init__(self, of: Any) -> None:
+        """A mask of nested lists, or of an array, of truth values."""
+        shape, items = _nested(of.tolist() if hasattr(of, 'tolist') else of)
+        self._reshaped(bytes(map(bool, items)), getattr(of, 'shape', shape))
+
+    @property
+    def _width(self) -> int:
+        return 1
+
+    def _like(self, data: bytes, shape: tuple[int, ...]) -> Self:
+        made = object.__new__(type(self))
+        made._reshaped(data, shape)
+        return made
+
+    def _element(self, data: bytes) -> bool:
+        return data != b'\x00'
+
+    def any(self) -> bool:
+        """Whether it holds for any element."""
+        return 1 in self._data
+
+    def all(self) -> bool:
+        """Whether it holds for all elements."""
+        return 0 not in self._data
+
+    def sum(self) -> int:
+        """For how many elements it holds."""
+        return sum(self._data)
+
+    def __bool__(self) -> bool:
+        if self.size != 1:
+            raise ValueError(f'a mask of {self.size} elements is neither true nor false: use any() or all()')
+        return self.any()
+
+    def _combined(self, other: Any, operation: Callable[[int, int], int]) -> Any:
+        """What an operation makes of the elements of two masks."""
+        if isinstance(other, bool) or hasattr(other, '__array_interface__'):
+            other = Mask(other)
+        if not isinstance(other, Mask):
+            return NotImplemented
+        shape = _common_shape(self.shape, other.shape)
+        return self._like(bytes(map(operation, self._stretched(shape)._data, other._stretched(shape)._data)), shape)
+
+    def __and__(self, other: Any) -> Mask:
+        return self._combined(other, operator.and_)
+
+    def __or__(self, other: Any) -> Mask:
+        return self._combined(other, operator.or_)
+
+    def __xor__(self, other: Any) -> Mask:
+        return self._combined(other, operator.xor)
+
+    __rand__, __ror__, __rxor__ = __and__, __or__, __xor__
+
+    def __eq__(self, other: Any) -> Any:
+        return self._combined(other, operator.eq)
+
+    def __ne__(self, other: Any) -> Any:
+        return self._combined(other, operator.ne)
+
+    def __invert__(self) -> Mask:
+        return self ^ True
+
+    def __array__(self, dtype: Any = None, copy: bool | None = None) -> Any:
+        import numpy
+        made = numpy.frombuffer(self._data, bool).reshape(self.shape)
+        return made.astype(made.dtype if dtype is None else dtype, copy=bool(copy))
+
+    def __repr__(self) -> str:
+        return f'Mask({self.tolist()})'
+
+
+class Array(_Elements, _Arithmetic[Any]):
+    """Values of one format in any number of axes. An operation makes a new array, of the results of its elements.
 
     Each element is rounded once, in the mode of the context, and its flags are added to those of the context. `counts`
     says how many values raised each flag, and how many results are NaNs. An operand may be a numpy array of the format,
-    or a value or a number, which is used for each element.
+    nested lists, or a value or a number, which is used for each element; axes of length 1 are stretched, as numpy does
+    it.
 
     >>> xs = single.array([1, 2, 3])
     >>> thirds = xs / 3
@@ -740,106 +1199,443 @@ class Array(_Arithmetic):
     (single.array(['0.33333334', '0.6666667', '1.0']), 2, True)
     >>> xs.fma(xs, -1).sqrt()
     single.array(['0.0', '1.7320508', '2.828427'])
+    >>> -xs % 2, abs(-xs), xs == 2
+    (single.array(['1.0', '0.0', '1.0']), single.array(['1.0', '2.0', '3.0']), Mask([False, True, False]))
+    >>> xs + xs.reshape(3, 1)[:2]
+    single.array([['2.0', '3.0', '4.0'], ['3.0', '4.0', '5.0']])
     """
 
-    __slots__ = ('format', '_data', 'counts')
+    __slots__ = ('format', 'counts')
+
+    format: Format
+    counts: Any
 
     # Operators of numpy leave these arrays to this class.
     __array_ufunc__ = None
+    # As arrays are compared element by element, they are no keys.
+    __hash__ = None  # type: ignore[assignment]
 
-    def __init__(self, format, data, counts=None):
+    def __init__(self, format: Format, data: bytes, counts: dict[str, int] | None = None,
+                 shape: tuple[int, ...] | None = None) -> None:
         if len(data) % format._bytes:
             raise ValueError(f'{len(data)} bytes are no array of {format}, whose values take {format._bytes}')
-        self.format, self._data, self.counts = format, data, counts
+        self.format, self.counts = format, counts
+        self._reshaped(data, shape)
 
-    def __len__(self):
-        return len(self._data) // self.format._bytes
+    def __reduce__(self) -> tuple[Any, ...]:
+        return Array, (self.format, self._data, self.counts, self.shape)
 
-    def __getitem__(self, index):
-        if isinstance(index, slice):
-            return Array(self.format, b''.join(self._item(at) for at in range(*index.indices(len(self)))))
-        return Value(self.format, int.from_bytes(self._item(range(len(self))[index]), 'little'))
+    @property
+    def _width(self) -> int:
+        return self.format._bytes
 
-    def _item(self, at):
-        width = self.format._bytes
-        return self._data[at * width:(at + 1) * width]
+    def _like(self, data: bytes, shape: tuple[int, ...]) -> Array:
+        return Array(self.format, data, shape=shape)
 
-    def __bytes__(self):
+    def _element(self, data: bytes) -> Value:
+        return Value(self.format, int.from_bytes(data, 'little'))
+
+    def _patterns(self) -> list[int]:
+        """The bits of each value."""
+        if self._width in _WORDS:
+            return list(struct.unpack(f'<{self.size}{_WORDS[self._width]}', self._data))
+        return [int.from_bytes(item, 'little') for item in self._items()]
+
+    @property
+    def bits(self) -> Any:
+        """The bits of the values, as a numpy array of integers without a sign.
+
+        Without numpy, and in formats of more than 64 bits, they are nested lists. `from_bits` makes the array again.
+
+        >>> xs = half.array([[1, 2], [3, 4]])
+        >>> xs.bits.tolist() if hasattr(xs.bits, 'tolist') else xs.bits
+        [[15360, 16384], [16896, 17408]]
+        >>> (half.from_bits(xs.bits) == xs).all()
+        True
+        """
+        try:
+            import numpy
+        except ImportError:
+            return self._listed(self._patterns())
+        if self._width > 8:
+            return self._listed(self._patterns())
+        return numpy.frombuffer(self._data, f'<u{self._width}').reshape(self.shape)
+
+    def __bytes__(self) -> bytes:
         """The bytes of the values, the lowest byte of each first."""
         return self._data
 
-    def __array__(self, dtype=None, copy=None):
-        """The elements for numpy: numbers in `half`, `single` and `double`, otherwise bits, or bytes of a value.
+    def __array__(self, dtype: Any = None, copy: bool | None = None) -> Any:
+        """The values for numpy, in the shape of the array.
 
-        With ml_dtypes, numpy.asarray(xs).view(ml_dtypes.bfloat16) has the numbers of an array of `bfloat`.
+        With a type of numbers, such as numpy.float32, they are the numbers: a ValueError says how many of them the
+        type does not have, if there are such, and `astype` rounds them. The types of ml_dtypes are such types too, and
+        with `object` the elements are values.
+
+        Without a type they are numbers in `half`, `single` and `double`. In all other formats they are `bits`, and in
+        those of more than 64 bits the bytes of each value, since numpy has no such numbers.
         """
         import numpy
-        elements = _ELEMENTS.get(self.format.code & _FORMAT_BITS, f'V{self.format._bytes}')
-        made = numpy.frombuffer(self._data, '<' + elements if elements[0] != 'V' else elements)
-        return made.copy() if dtype is None and copy else made if dtype is None else made.astype(dtype)
+        if dtype is None:
+            elements = _ELEMENTS.get(self.format.code & _FORMAT_BITS, f'V{self._width}')
+            held = numpy.frombuffer(self._data, '<' + elements if elements[0] != 'V' else elements)
+            return held.reshape(self.shape).copy() if copy else held.reshape(self.shape)
+        wanted = numpy.dtype(dtype)
+        if wanted == object:
+            made = numpy.empty(self.size, object)
+            made[:] = list(map(self._element, self._items()))
+            return made.reshape(self.shape)
+        exact = self._exactly(_named(wanted))
+        if copy is False and exact is not self:
+            raise ValueError(f'values of {self.format} become {wanted} by a copy')
+        elements = _ELEMENTS[exact.format.code & _FORMAT_BITS]
+        held = numpy.frombuffer(exact._data if copy is False else bytearray(exact._data), '<' + elements)
+        held = held.reshape(self.shape)
+        return held.astype(wanted, copy=False) if elements[0] == 'f' else held.view(wanted)
 
-    def __repr__(self):
-        return f'{self.format}.array({[str(value) for value in self]})'
+    def _exactly(self, format: Format) -> Array:
+        """The same values in another format, which has to have all of them."""
+        if format is self.format._plain:
+            return self
+        source = self
+        if self.format is double_pair:
+            parts = Array(double, self._data).reshape(self.size, 2)
+            if (parts[:, 1] != 0).any():
+                raise ValueError(f'{(parts[:, 1] != 0).sum()} of {self.size} values are no values of {format}')
+            source = parts[:, 0].reshape(self.shape)
+        with Context() as exact:
+            made = source if source.format is format else source.to(format)
+        if exact.inexact:
+            raise ValueError(f"{made.counts['inexact']} of {self.size} values are no values of {format}")
+        return made
 
-    def _converted(self, other):
-        if hasattr(other, '__array_interface__'):
-            return self.format.array(other)
-        value = Value(self.format, 0)._operand(other)
-        if value is NotImplemented:
-            return value
-        return Array(self.format, value.bits.to_bytes(self.format._bytes, 'little') * len(self))
+    def __repr__(self) -> str:
+        """The format and texts, or else bits, that it reads as these values to nearest."""
+        texts = [element._spelled() for element in map(self._element, self._items())]
+        made, listed = 'array', self._listed(texts)
+        if None in texts:
+            made, listed = 'from_bits', self._listed(self._patterns())
+        # Nested lists don't say the lengths that come after a 0.
+        shape = f'.reshape{self.shape}' if 0 in self.shape[:-1] else ''
+        return f'{self.format}.{made}({listed!r}){shape}'
 
-    def _computed(self, name, *operands):
-        operands = [operand._data for operand in operands] + [b''] * (3 - len(operands))
-        words = [word for data in operands for word in (data, ctypes.c_size_t(len(data)))]
-        return _array_call('map_array', self.format, ctypes.c_uint32(context().mode),
-                           ctypes.c_uint32(_OPERATIONS[name]), *words, of=self.format, count=len(self))
+    def _converted(self, other: Any) -> Any:
+        if hasattr(other, '__array_interface__') and other.shape != ():
+            made = _of_numpy(other, self.format)
+            if made.format is not self.format:
+                raise TypeError(f'elements of {other.dtype} are no values of {self.format}')
+            return made
+        shape, items = _nested(other) if isinstance(other, (list, tuple)) else ((), [other])
+        values = [Value(self.format, 0)._operand(item) for item in items]
+        if any(value is NotImplemented for value in values):
+            return NotImplemented
+        return self._like(self.format._joined([value.bits for value in values]), shape)
 
-    def to(self, format, saturate=False):
+    def _computed(self, name: str, *operands: Array) -> Array:
+        shape = _common_shape(*[operand.shape for operand in operands])
+        data = [operand._stretched(shape)._data for operand in operands] + [b''] * (3 - len(operands))
+        words = [word for each in data for word in (each, len(each))]
+        return _array_call('map_array', self.format.code, context().mode, _OPERATIONS[name], *words, of=self.format,
+                           shape=shape)
+
+    def _floored(self, divisor: Array) -> Array:
+        format, rest = self.format, self._computed('mod', self, divisor)
+        results, divisors = rest._patterns(), divisor._stretched(rest.shape)._patterns()
+        added = []
+        for at, (left, right) in enumerate(zip(results, divisors)):
+            if (left ^ right) & format._sign_bit:
+                value = Value(format, left)
+                if value.is_zero:
+                    results[at] = (-value).bits
+                elif not value.is_nan:
+                    added.append(at)
+        sums = format.from_bits([results[at] for at in added]) + format.from_bits([divisors[at] for at in added])
+        for at, bits in zip(added, sums._patterns()):
+            results[at] = bits
+        counts = {name: count + sums.counts[name] for name, count in rest.counts.items()} | {'values': rest.size}
+        return Array(format, format._joined(results), counts, rest.shape)
+
+    def __neg__(self) -> Array:
+        if self.format is e4m3fnuz:
+            return self._mapped(operator.neg)
+        number = int.from_bytes(self._data, 'little') ^ self._repeated(self.format._sign_bits)
+        return self._like(number.to_bytes(len(self._data), 'little'), self.shape)
+
+    def __pos__(self) -> Array:
+        return self
+
+    def __abs__(self) -> Array:
+        if self.format in (e4m3fnuz, double_pair):
+            return self._mapped(abs)
+        number = int.from_bytes(self._data, 'little') & self._repeated(self.format._sign_bit - 1)
+        return self._like(number.to_bytes(len(self._data), 'little'), self.shape)
+
+    def _repeated(self, bits: int) -> int:
+        """These bits in each value."""
+        return int.from_bytes(self.format._joined([bits]) * self.size, 'little')
+
+    def _mapped(self, operation: Callable[[Value], Value]) -> Array:
+        """What an operation that raises no flags makes of each value."""
+        values = (operation(Value(self.format, bits)).bits for bits in self._patterns())
+        return self._like(self.format._joined(values), self.shape)
+
+    def _compared(self, orders: tuple[int, ...], other: Any) -> Any:
+        if hasattr(other, '__array_interface__') and other.shape != ():
+            other = _of_numpy(other, self.format)
+        elif isinstance(other, (list, tuple)):
+            other = _quads(other)
+        if isinstance(other, Array):
+            shape = _common_shape(self.shape, other.shape)
+            found = _orders(self._stretched(shape), other._stretched(shape))
+        elif _exact_number(_plain_number(other)) is not None:
+            shape, found = self.shape, _orders(self, self._constant(_plain_number(other)))
+        else:
+            return NotImplemented
+        return Mask([])._like(bytes(order in orders for order in found), shape)
+
+    def _constant(self, number: Any) -> Any:
+        """An array of this shape that has the number in each element; the number itself if the format lacks it."""
+        value = number
+        if isinstance(number, (int, float)):
+            with Context() as exact:
+                value = self.format(number)
+            if exact.flags or value != number:
+                return number
+        if not isinstance(value, Value) or value.format is not self.format:
+            return number
+        return self._like(self.format._joined([value.bits]) * self.size, self.shape)
+
+    def __eq__(self, other: Any) -> Any:
+        return self._compared(_EQUAL, other)
+
+    def __ne__(self, other: Any) -> Any:
+        return self._compared(_LESS + _GREATER + (_UNORDERED,), other)
+
+    def __lt__(self, other: Any) -> Mask:
+        return self._compared(_LESS, other)
+
+    def __le__(self, other: Any) -> Mask:
+        return self._compared(_LESS + _EQUAL, other)
+
+    def __gt__(self, other: Any) -> Mask:
+        return self._compared(_GREATER, other)
+
+    def __ge__(self, other: Any) -> Mask:
+        return self._compared(_GREATER + _EQUAL, other)
+
+    def to(self, format: Format, saturate: bool = False) -> Array:
         """The values in another format. With `saturate`, a number that overflows gives the largest one of its sign.
-
-        The largest number of e4m3fn is 448, and 450 is its shortest decimal.
 
         >>> xs = single.array([1, 1000, -1000])
         >>> xs.to(e4m3fn), xs.to(e4m3fn, saturate=True)
-        (e4m3fn.array(['1.0', 'nan', 'nan']), e4m3fn.array(['1.0', '450.0', '-450.0']))
+        (e4m3fn.array(['1.0', 'nan', '-nan']), e4m3fn.array(['1.0', '448.0', '-448.0']))
         >>> xs.to(e4m3fn, saturate=True).counts['overflow']
         2
         """
+        if not isinstance(format, Format):
+            raise TypeError(f'{format!r} is no format')
         mode = context().mode | (_SATURATE if saturate else 0)
-        return _array_call('convert_array', self.format, ctypes.c_uint32(mode), ctypes.c_uint32(format.code),
-                           self._data, ctypes.c_size_t(len(self._data)), of=format, count=len(self))
+        return _array_call('convert_array', self.format.code, mode, format.code, self._data, len(self._data),
+                           of=format, shape=self.shape)
+
+    def astype(self, of: Any, saturate: bool = False) -> Any:
+        """The values in another format, as `to` makes them; for a type of numpy, as a numpy array of that type.
+
+        >>> xs = double.array([0.1, 448])
+        >>> xs.astype(e4m3fn), xs.astype(e4m3fn).counts['inexact']
+        (e4m3fn.array(['0.1', '448.0']), 1)
+        """
+        if isinstance(of, Format):
+            return self.to(of, saturate)
+        import numpy
+        return numpy.asarray(self.to(_named(numpy.dtype(of)), saturate), of)
 
 
-_SATURATE = 0x100
+def _quads(of: Any) -> Any:
+    """Nested lists of numbers as values of `quad`, which has all floats and values of most formats."""
+    shape, items = _nested(of)
+    if any(_exact_number(_plain_number(item)) is None for item in items):
+        return NotImplemented
+    with Context() as exact:
+        made = quad.array(items).reshape(shape)
+    if exact.inexact:
+        raise ValueError(f'not all of {of} are values of {quad}')
+    return made
 
 
-def _array_call(name, format, *arguments, of, count):
-    answer = _ArrayAnswer()
-    room = ctypes.create_string_buffer(max(count * of._bytes, 1))
-    code = getattr(_functions, 'apfloat_' + name)(ctypes.c_uint32(format.code), *arguments, room,
-                                                  ctypes.c_size_t(count * of._bytes), ctypes.byref(answer))
+def _named(dtype: Any) -> Format:
+    """The format of the numbers of a numpy type."""
+    format = _format_of(dtype)
+    if format is None:
+        raise TypeError(f'{dtype} is the type of no format: float16, float32, float64 and those of ml_dtypes are, and '
+                        'the bits of an array are its `bits`')
+    return format
+
+
+def _array_call(name: str, *arguments: Any, of: Format, shape: tuple[int, ...]) -> Array:
+    length = math.prod(shape) * of._bytes
+    room, answer = ctypes.create_string_buffer(max(length, 1)), _ArrayAnswer()
+    code = getattr(_functions, 'apfloat_' + name)(*arguments, room, length, ctypes.byref(answer))
     if code:
         raise Refused(code)
     context().flags |= Flags(answer.status)
-    return Array(of, room.raw[:count * of._bytes], {name: getattr(answer, name) for name in _COUNTED})
+    return Array(of, room.raw[:length], {name: getattr(answer, name) for name in _COUNTED}, shape)
+
+
+# ---- shapes
+
+def _strides(shape: Sequence[int]) -> list[int]:
+    """For each axis, how many elements its next index is away."""
+    return [math.prod(shape[axis + 1:]) for axis in range(len(shape))]
+
+
+def _common_shape(*shapes: tuple[int, ...]) -> tuple[int, ...]:
+    """The shape that all of these are stretched to."""
+    result = []
+    for lengths in itertools.zip_longest(*[shape[::-1] for shape in shapes], fillvalue=1):
+        others = set(lengths) - {1}
+        if len(others) > 1:
+            raise Refused(6, f'the arrays have different lengths: shapes {" and ".join(map(str, shapes))}')
+        result.append(others.pop() if others else 1)
+    return tuple(reversed(result))
+
+
+def _selected(index: tuple[Any, ...], shape: tuple[int, ...]) -> tuple[int, list[tuple[int, int]]]:
+    """Where the part of an array that an index names begins, and the length and the stride of each of its axes."""
+    parts: list[Any] = list(index)
+    if not any(part is Ellipsis for part in parts):
+        parts.append(Ellipsis)
+    named = sum(part is not None and part is not Ellipsis for part in parts)
+    if named > len(shape):
+        raise IndexError(f'{named} indices for {len(shape)} axes')
+    rest = next(at for at, part in enumerate(parts) if part is Ellipsis)
+    parts[rest:rest + 1] = [slice(None)] * (len(shape) - named)
+    offset, axes = 0, []
+    held = iter(zip(shape, _strides(shape)))
+    for part in parts:
+        if part is None:
+            axes.append((1, 0))
+            continue
+        length, stride = next(held)
+        chosen = range(length)[part]
+        if isinstance(chosen, range):
+            offset += chosen.start * stride if chosen else 0
+            axes.append((len(chosen), chosen.step * stride))
+        else:
+            offset += chosen * stride
+    return offset, axes
+
+
+def _gathered(data: bytes, width: int, offset: int, axes: list[tuple[int, int]]) -> bytes:
+    """The bytes of the elements of axes of these lengths and strides, the last axis first, from an offset on."""
+    count = 1
+    for length, stride in reversed(axes):
+        if length != 1 and stride != count:
+            break
+        count *= length
+    else:
+        return data[offset * width:(offset + count) * width]
+    (length, stride), *inner = axes
+    if stride == 0:
+        return _gathered(data, width, offset, inner) * length
+    end = offset + length * stride
+    if not inner and width in _WORDS:
+        return memoryview(data).cast(_WORDS[width])[offset:end if end >= 0 else None:stride].tobytes()
+    if not inner:
+        return b''.join(data[at * width:(at + 1) * width] for at in range(offset, end, stride))
+    return b''.join(_gathered(data, width, offset + at * stride, inner) for at in range(length))
+
+
+def _listed(elements: Iterator[Any], shape: tuple[int, ...]) -> Any:
+    """Elements as nested lists of a shape."""
+    if not shape:
+        return next(elements)
+    if len(shape) == 1:
+        return list(itertools.islice(elements, shape[0]))
+    return [_listed(elements, shape[1:]) for _ in range(shape[0])]
+
+
+# ---- orders and texts
+
+# What a comparison finds: less, equal, greater; the last is the order of a NaN and anything else.
+_LESS, _EQUAL, _GREATER, _UNORDERED = (-1,), (0,), (1,), 2
+
+
+def _orders(left: Array, right: Any) -> Iterable[int | None]:
+    """The orders of the values of an array and those of another one of its shape, or a number, as `Value._order`."""
+    if isinstance(right, Array) and left.format is right.format:
+        return _orders_of_bits(left.format, left._patterns(), right._patterns())
+    numbers = map(right._element, right._items()) if isinstance(right, Array) else itertools.repeat(right)
+    return (first._order(second) for first, second in zip(map(left._element, left._items()), numbers))
+
+
+def _orders_of_bits(format: Format, lefts: Iterable[int], rights: Iterable[int]) -> Iterator[int]:
+    """The orders of values of one format, given by their bits."""
+    answer, compare = _Answer(), _functions.apfloat_compare
+
+    def order(left: int, right: int) -> int:
+        compare(format.code, _halves(left), _halves(right), ctypes.byref(answer))
+        return answer.number
+
+    found: Callable[[int, int], int] = order
+    if format.width == 8:
+        # There are few pairs.
+        found = functools.cache(order)
+    return map(found, lefts, rights)
 
 
 _HEXADECIMAL = re.compile('(-?)0x([01])(?:[.]([0-9a-f]+))?p([+-][0-9]+)')
+_DECIMAL = re.compile('([+-]?)([0-9]*)[.]?([0-9]*)(?:[eE]([+-]?)([0-9]+))?')
+# The midpoints between values of `quad` have at most 11,564 decimal digits, and all its values are in this range.
+_MOST_DIGITS, _GREATEST_POWER = 12_000, 5_000
 
-# The order of a NaN and anything else.
-_UNORDERED = 2
+
+def _rounded_to_odd(text: str) -> str:
+    """A decimal text as a hexadecimal one of 120 binary digits or more, rounded to odd; other texts as they are.
+
+    The last digit is 1 if the decimal is not exactly the number. So rounding it to fewer digits, at most 118, gives
+    what rounding the decimal gives, with the same flags.
+    """
+    matched = _DECIMAL.fullmatch(text)
+    if not matched:
+        return text
+    sign, whole, fraction, exponent_sign, exponent = matched.groups(default='')
+    sign = sign.replace('+', '')
+    digits = (whole + fraction).lstrip('0')
+    if not digits:
+        return f'{sign}0x0p0'
+    # No text has so many digits that they bring an exponent of more than 20 digits back into range.
+    power = int(exponent_sign + (exponent.lstrip('0')[:21] or '0')) - len(fraction)
+    above = len(digits) + power
+    if abs(above) > _GREATEST_POWER:
+        return f'{sign}0x1p{99999 if above > 0 else -99999}'
+    cut = digits[_MOST_DIGITS:]
+    if cut:
+        # One digit stands for those that are cut off: no midpoint lies between the two numbers.
+        digits, power = digits[:_MOST_DIGITS] + ('1' if cut.strip('0') else '0'), power + len(cut) - 1
+    numerator = int(decimal.Decimal(digits)) * 10**max(power, 0)
+    denominator = 10**max(-power, 0)
+    shift = 120 - numerator.bit_length() + denominator.bit_length()
+    odd, rest = divmod(numerator << max(shift, 0), denominator << max(-shift, 0))
+    return f'{sign}{odd | (rest != 0):#x}p{-shift}'
 
 
-def _fraction_of(text):
+def _signed(halves: _Halves) -> int:
+    """The integer of 128 bits in two's complement."""
+    return _whole(halves) - (halves.high >> 63 << 128)
+
+
+def _fraction_of(text: str) -> fractions.Fraction:
     """The number of a hexadecimal text."""
-    sign, whole, fraction, exponent = _HEXADECIMAL.fullmatch(text).groups()
-    digits = int(sign + whole + (fraction or ''), 16)
-    exponent = int(exponent) - 4 * len(fraction or '')
-    return fractions.Fraction(digits << exponent) if exponent > 0 else fractions.Fraction(digits, 1 << -exponent)
+    matched = _HEXADECIMAL.fullmatch(text)
+    if not matched:
+        return fractions.Fraction()
+    sign, whole, fraction, exponent = matched.groups(default='')
+    digits, power = int(sign + whole + fraction, 16), int(exponent) - 4 * len(fraction)
+    return fractions.Fraction(digits << power) if power > 0 else fractions.Fraction(digits, 1 << -power)
 
 
-def _exact_number(of):
+def _exact_number(of: Any) -> Any:
     """What compares exactly with Python's numbers: a fraction, or a float that is an infinity or a NaN."""
     if isinstance(of, Value):
         return of._fraction() if of.is_finite else float(str(of))
@@ -848,7 +1644,8 @@ def _exact_number(of):
     return of if isinstance(of, (int, fractions.Fraction)) else None
 
 
-def _hexadecimal(value):
+def _hexadecimal(value: Value) -> str:
+    """The hexadecimal text of a value that is no pair."""
     format = value.format
     sign = '-' if value.bits >> (format.width - 1) and not (format is e4m3fnuz and value.is_nan) else ''
     kind = value._class()
@@ -881,3 +1678,6 @@ e4m3fn = Format('e4m3fn', 7, 8, 4, 4)
 e4m3fnuz = Format('e4m3fnuz', 8, 8, 4, 4)
 x87 = Format('x87', 9, 80, 64, 15)
 double_pair = Format('double_pair', 10, 128, 106, 11)
+
+# The names that ml_dtypes has for these formats.
+bfloat16, float8_e5m2, float8_e4m3fn, float8_e4m3fnuz = bfloat, e5m2, e4m3fn, e4m3fnuz

@@ -1,0 +1,775 @@
+"""Tests of the module apfloat. Expected values come from Python's fractions, struct, math and floats.
+
+Those with numpy are skipped where it is missing. python/test runs them all.
+"""
+
+import base64
+import collections
+import copy
+import decimal
+import fractions
+import functools
+import hashlib
+import itertools
+import math
+import operator
+import os
+import pickle
+import random
+import shutil
+import struct
+import subprocess
+import sys
+import tempfile
+import unittest
+import zipfile
+
+import apfloat
+from apfloat import Array, Context, Flags, Mask, Rounding
+
+try:
+    import numpy
+except ImportError:
+    numpy = None
+try:
+    import ml_dtypes
+except ImportError:
+    ml_dtypes = None
+
+HERE = os.path.dirname(os.path.abspath(__file__))
+Fraction = fractions.Fraction
+MODES = list(Rounding)
+SMALL = [apfloat.e5m2, apfloat.e4m3fn, apfloat.e4m3fnuz]
+# Precision, least and greatest exponent of the integer bit.
+LIMITS = {
+    'half': (11, -14, 15), 'single': (24, -126, 127), 'double': (53, -1022, 1023), 'quad': (113, -16382, 16383),
+    'bfloat': (8, -126, 127), 'e5m2': (3, -14, 15), 'e4m3fn': (4, -6, 8), 'e4m3fnuz': (4, -7, 7),
+    'x87': (64, -16382, 16383),
+}
+FORMATS = [getattr(apfloat, name) for name in LIMITS]
+
+
+# ---- a model on fractions
+
+def name_of(format):
+    return format.name.split('.')[0]
+
+
+def largest_of(format):
+    """The largest number."""
+    digits, _, greatest = LIMITS[name_of(format)]
+    top = 2 * Fraction(2)**greatest - Fraction(2)**(greatest + 1 - digits)
+    return top - Fraction(2)**(greatest + 1 - digits) if name_of(format) == 'e4m3fn' else top
+
+
+def picked(amount, mode, negative):
+    """The integer that a mode picks for a magnitude."""
+    below = math.floor(amount)
+    rest = amount - below
+    up = {
+        Rounding.NEAREST_EVEN: rest > Fraction(1, 2) or rest == Fraction(1, 2) and below % 2 == 1,
+        Rounding.NEAREST_AWAY: rest >= Fraction(1, 2),
+        Rounding.UPWARD: rest > 0 and not negative,
+        Rounding.DOWNWARD: rest > 0 and negative,
+        Rounding.TOWARD_ZERO: False,
+    }[mode]
+    return below + up
+
+
+def exponent_of(number):
+    """The exponent of the highest binary digit of a positive fraction."""
+    guess = number.numerator.bit_length() - number.denominator.bit_length()
+    return guess if number >= Fraction(2)**guess else guess - 1
+
+
+def rounded(format, number, mode):
+    """What rounding a fraction once gives: a fraction or None for what overflows, and the flags."""
+    digits, least, _ = LIMITS[name_of(format)]
+    size, negative = abs(number), number < 0
+    if not size:
+        return Fraction(0), Flags.OK
+    exponent = exponent_of(size)
+    # The format's spacing there, and the one that an unbounded exponent would have.
+    quantum, free = Fraction(2)**(max(exponent, least) + 1 - digits), Fraction(2)**(exponent + 1 - digits)
+    result = picked(size / quantum, mode, negative) * quantum
+    unbounded = picked(size / free, mode, negative) * free
+    flags = Flags.INEXACT if result != size else Flags.OK
+    limit, smallest_normal = largest_of(format), Fraction(2)**least
+    overflows = result > limit
+    if overflows:
+        # Toward zero, what is past the largest number gives that one; all else is an infinity or a NaN.
+        towards = {Rounding.TOWARD_ZERO: True, Rounding.UPWARD: negative, Rounding.DOWNWARD: not negative}
+        stays = towards.get(mode, False)
+        result = limit if stays else None
+        flags = Flags.INEXACT if stays else Flags.INEXACT | Flags.OVERFLOW
+    if format.code & 0x100:
+        if unbounded > limit:
+            flags |= Flags.OVERFLOW
+        tiny = (size if format.code & 0x200 else unbounded) < smallest_normal
+    else:
+        tiny = result is not None and result < smallest_normal
+    if flags and tiny:
+        flags |= Flags.UNDERFLOW
+    return (result if result is None or not negative else -result), flags
+
+
+def number_of(value):
+    """The number of a value by its bits: a fraction, or None if it is an infinity or a NaN."""
+    return number_of_bits(value.format, value.bits)
+
+
+@functools.lru_cache(maxsize=None)
+def number_of_bits(format, bits):
+    name = name_of(format)
+    digits, least, greatest = LIMITS[name]
+    stored = digits if name == 'x87' else digits - 1
+    sign = -1 if bits >> format.width - 1 else 1
+    field, significand = bits >> stored & (1 << format.width - 1 - stored) - 1, bits & (1 << stored) - 1
+    if name == 'e4m3fnuz' and bits == 0x80 or name == 'e4m3fn' and bits & 0x7f == 0x7f:
+        return None
+    if name not in ('e4m3fn', 'e4m3fnuz') and field == (1 << format.width - 1 - stored) - 1:
+        return None
+    if field and name != 'x87':
+        significand |= 1 << stored
+    return sign * significand * Fraction(2)**(max(field, 1) - 1 + least + 1 - digits)
+
+
+def drawn(format, random, count):
+    """Bits at random, half of them of exponents near those of 1."""
+    stored = LIMITS[name_of(format)][0] - 1
+    for _ in range(count):
+        if random.random() < 0.5:
+            yield random.getrandbits(format.width)
+        else:
+            near = format(1).bits + (random.randint(-4, 4) << stored) + random.getrandbits(stored)
+            yield near | random.getrandbits(1) << format.width - 1
+
+
+def as_double(number):
+    """The bits of a Python float."""
+    return struct.unpack('<Q', struct.pack('<d', number))[0]
+
+
+class RoundingTests(unittest.TestCase):
+    """Values and flags of arrays, against the model."""
+
+    def check(self, format, results, expected):
+        """Compares an array, with its counts, with numbers and their flags."""
+        counts = dict.fromkeys(results.counts, 0) | {'values': len(expected)}
+        for value, (wanted, flags) in zip(results, expected):
+            for flag in flags:
+                counts[flag.name.lower()] += 1
+            counts['nans'] += wanted is None and format in (apfloat.e4m3fn, apfloat.e4m3fnuz)
+            self.assertEqual(number_of(value), wanted)
+        self.assertEqual(results.counts, counts)
+
+    def test_conversions(self):
+        draw = random.Random(1)
+        for format in SMALL + [apfloat.half, apfloat.bfloat]:
+            # All values of 8 bits, and of those of 16 bits runs of 8.
+            chosen = [bits for bits in range(1 << format.width - 1) if format.width == 8 or bits >> 3 & 255 == 0]
+            positive = [number_of_bits(format, bits) for bits in chosen]
+            positive = sorted(number for number in positive if number is not None)
+            # Values, midpoints, and singles next to them.
+            numbers = {float(number) for number in positive}
+            numbers |= {float((low + high) / 2) for low, high in itertools.pairwise(positive)}
+            bits = {struct.unpack('<I', struct.pack('<f', number))[0] for number in numbers}
+            bits |= {near for each in bits for near in (each - 1, each + 1) if near > 0}
+            bits |= {draw.getrandbits(31) for _ in range(200)}
+            bits = sorted(each for each in bits if each < 0x7f800000)
+            # -0 becomes +0 in a format without it, which fractions do not show.
+            bits += [each | 1 << 31 for each in bits if each]
+            source = apfloat.single.from_bits(bits)
+            numbers = [number_of_bits(apfloat.single, each) for each in bits]
+            for mode in MODES:
+                expected = [rounded(format, number, mode) for number in numbers]
+                with Context(mode) as context:
+                    self.check(format, source.to(format), expected)
+                self.assertEqual(context.flags, functools.reduce(operator.or_, [flags for _, flags in expected]))
+                for at, (wanted, flags) in enumerate(expected):
+                    if wanted is None:
+                        expected[at] = (1 if numbers[at] > 0 else -1) * largest_of(format), flags
+                with Context(mode):
+                    self.check(format, source.to(format, saturate=True), expected)
+
+    def test_operations(self):
+        draw = random.Random(2)
+        operations = [operator.add, operator.sub, operator.mul, operator.truediv]
+        for format in FORMATS:
+            triples = []
+            while len(triples) < 40:
+                numbers = [number_of_bits(format, bits) for bits in drawn(format, draw, 3)]
+                if None not in numbers and 0 not in numbers:
+                    triples.append(numbers)
+            if format is apfloat.x87:
+                # Bits at random are seldom numbers that a processor writes.
+                triples = [[number_of(apfloat.x87.from_bits(draw.randint(16300, 16500) << 64 | 1 << 63
+                                                            | draw.getrandbits(63))) for _ in range(3)]
+                           for _ in range(40)]
+            xs, ys, zs = [format.array([f'{each.numerator:#x}p{1 - each.denominator.bit_length()}' for each in column])
+                          for column in zip(*triples)]
+            self.assertEqual([number_of(x) for x in xs], [triple[0] for triple in triples])
+            for mode in MODES:
+                with Context(mode):
+                    for operation in operations:
+                        exact = [operation(x, y) for x, y, _ in triples]
+                        self.check(format, operation(xs, ys), [rounded(format, each, mode) for each in exact])
+                    exact = [x * y + z for x, y, z in triples]
+                    self.check(format, xs.fma(ys, zs), [rounded(format, each, mode) for each in exact])
+                    self.check_floored(format, xs % ys, triples, mode)
+
+    def check_floored(self, format, results, triples, mode):
+        for value, (x, y, _) in zip(results, triples):
+            exact = x - y * math.floor(x / y)
+            self.assertEqual(number_of(value), rounded(format, exact, mode)[0], (x, y, mode))
+            self.assertEqual(value.is_negative, y < 0 and name_of(format) != 'e4m3fnuz' or exact < 0)
+        exact = [x - y * math.floor(x / y) for x, y, _ in triples]
+        self.assertEqual(results.counts['inexact'], sum(bool(rounded(format, each, mode)[1]) for each in exact))
+        self.assertEqual(results.counts['values'], len(triples))
+
+    def test_roots(self):
+        draw = random.Random(3)
+        for format in FORMATS:
+            numbers = [number for number in map(functools.partial(number_of_bits, format), drawn(format, draw, 80))
+                       if number and number > 0]
+            if format is apfloat.x87:
+                numbers = [Fraction(draw.getrandbits(64) | 1 << 63, 1 << draw.randint(0, 120)) for _ in range(40)]
+            digits = LIMITS[name_of(format)][0]
+            texts = [f'{each.numerator:#x}p{1 - each.denominator.bit_length()}' for each in numbers]
+            for mode in MODES:
+                with Context(mode):
+                    roots = format.array(texts).sqrt()
+                for root, number in zip(roots, numbers):
+                    # A root has enough digits if its square differs from the number by less than it has to.
+                    shift = 2 * (digits + 3) + number.denominator.bit_length()
+                    shift += shift % 2
+                    scaled = (number.numerator << shift) // number.denominator
+                    found = math.isqrt(scaled)
+                    exact = Fraction(found * found * number.denominator, 1) == number.numerator << shift
+                    near = Fraction(2 * found + (not exact), 1 << 1 + shift // 2)
+                    self.assertEqual(number_of(root), rounded(format, near, mode)[0])
+
+    def test_doubles_are_those_of_python(self):
+        draw = random.Random(4)
+        pairs = [[struct.unpack('<d', struct.pack('<Q', bits))[0] for bits in drawn(apfloat.double, draw, 2)]
+                 for _ in range(1000)]
+        pairs = [pair for pair in pairs if all(map(math.isfinite, pair)) and pair[1]]
+        pairs += [[0.0, -3.0], [-0.0, 3.0], [3.0, -3.0], [-5.0, math.inf], [5.0, -math.inf], [5.0, math.inf]]
+        xs, ys = [apfloat.double.array(list(column)) for column in zip(*pairs)]
+        for operation in operator.add, operator.sub, operator.mul, operator.truediv, operator.mod:
+            expected = [as_double(operation(x, y)) for x, y in pairs]
+            self.assertEqual([value.bits for value in operation(xs, ys)], expected)
+            self.assertEqual([operation(x, y).bits for x, y in zip(xs, ys)], expected)
+        positive = [abs(x) for x, _ in pairs]
+        self.assertEqual([value.bits for value in abs(xs).sqrt()], [as_double(math.sqrt(x)) for x in positive])
+        self.assertEqual([value.bits for value in xs.fmod(ys)], [as_double(math.fmod(x, y)) for x, y in pairs])
+
+
+class TextTests(unittest.TestCase):
+    """Texts in and out."""
+
+    def test_decimals_with_the_flags_of_ieee(self):
+        draw = random.Random(5)
+        # So far out, all numbers have the same result.
+        far = {'1e99999999999999999999999': '1e6000', '-1e-99999999999999999999999': '-1e-6000',
+               '9' * 6000 + '.5': '1e6000', '-0.' + '0' * 6000 + '1': '-1e-6000'}
+        for plain in [format for format in FORMATS if format.code not in (7, 8)]:
+            digits, least, greatest = LIMITS[plain.name]
+            edges = [Fraction(2)**least, Fraction(2)**(least + 1 - digits), largest_of(plain),
+                     Fraction(2)**(greatest + 1)]
+            texts = ['0', '-0.0', '1', '0.1', '-2.5', '1e5000', '-1e-5000', '.5', '5.', '+7e-1', '-1E+3', *far]
+            for edge in edges:
+                with decimal.localcontext(decimal.Context(prec=60)):
+                    near = decimal.Decimal(edge.numerator) / decimal.Decimal(edge.denominator)
+                    quantum = near * decimal.Decimal(2)**-digits
+                    texts += [str(near + quantum * draw.randint(-12, 12) / 8) for _ in range(5)]
+            texts += [f'{draw.choice("+- ").strip()}{draw.random()!r}' for _ in range(5)]
+            for format in plain.ieee, plain.ieee.before:
+                for text, mode in itertools.product(texts, MODES):
+                    with Context(mode) as context:
+                        value = format(text)
+                    wanted, flags = rounded(format, Fraction(far.get(text, text)), mode)
+                    self.assertEqual((number_of(value), context.flags), (wanted, flags), (format, text, mode))
+                    with Context(mode):
+                        self.assertEqual(value.bits, plain(text).bits)
+
+    def test_long_decimals_with_the_flags_of_ieee(self):
+        # Halfway between 1 and the next quad, and a digit above it and below it, after the 12,000th.
+        with decimal.localcontext(decimal.Context(prec=200)):
+            half_way = decimal.Decimal(1) + decimal.Decimal(2)**-113
+        text = str(half_way) + '0' * 13_000
+        next_up = apfloat.quad(1).next_up().bits
+        for suffix, bits in ('', apfloat.quad(1).bits), ('0', apfloat.quad(1).bits), ('1', next_up):
+            with Context() as context:
+                value = apfloat.quad.ieee(text + suffix)
+            self.assertEqual((value.bits, context.flags), (bits, Flags.INEXACT))
+        for text in 'one', '', '1e', '1_000', '0.5.5', '--1', 'é':
+            for format in apfloat.half.ieee, apfloat.half:
+                with self.assertRaises(apfloat.Refused):
+                    format(text)
+        self.assertTrue(apfloat.half.ieee('nan').is_nan)
+        self.assertEqual(apfloat.half.ieee('-inf').bits, 0xfc00)
+        self.assertEqual(apfloat.half.ieee('0x1.8p0').bits, 0x3e00)
+
+    def test_whole_numbers_are_shown_in_full(self):
+        draw = random.Random(6)
+        for format in FORMATS:
+            top = largest_of(format)
+            for _ in range(100):
+                number = rounded(format, Fraction(draw.randint(0, min(int(top), 2 * 10**16)) >> draw.randint(0, 50)),
+                                 Rounding.NEAREST_EVEN)[0]
+                value = format(int(number))
+                self.assertEqual(number_of(value), number)
+                if number < 10**16:
+                    self.assertEqual(str(value), f'{number}.0')
+                    if number:
+                        self.assertEqual(str(-value), f'-{number}.0')
+                self.assertEqual(format(str(value)).bits, value.bits)
+        self.assertEqual(str(apfloat.e4m3fn(448)), '448.0')
+        self.assertEqual(repr(apfloat.half(65504)), "half('65504.0')")
+        self.assertEqual(str(apfloat.single(10**16)), '10000000000000000.0')
+        self.assertEqual(str(apfloat.half('-0')), '-0.0')
+
+    def test_doubles_are_shown_as_by_python(self):
+        draw = random.Random(7)
+        for bits in drawn(apfloat.double, draw, 1000):
+            number = struct.unpack('<d', struct.pack('<Q', bits))[0]
+            if math.isfinite(number):
+                value = apfloat.double.from_bits(bits)
+                self.assertEqual(decimal.Decimal(str(value)), decimal.Decimal(repr(number)))
+                self.assertEqual(float(value), number)
+
+    def read_back(self, shown):
+        return eval(shown, {name: getattr(apfloat, name) for name in apfloat.__all__})
+
+    def test_repr_reads_back(self):
+        draw = random.Random(8)
+        for format in FORMATS + [apfloat.double_pair, apfloat.half.ieee, apfloat.double.ieee.before]:
+            if format.width == 8:
+                patterns = list(range(256))
+            else:
+                patterns = [draw.getrandbits(format.width) for _ in range(300)]
+                top = (1 << format.width - 1) - (1 << format.width - 6)
+                patterns += [top | draw.getrandbits(format.width - 6) for _ in range(50)]
+                patterns += [0, 1 << format.width - 1, 1 << 63 & (1 << format.width) - 1]
+            if format is apfloat.double_pair:
+                patterns += [apfloat.double_pair(n).bits | low << 64 for n in (1, -1) for low in (0, 1 << 63, 1)]
+            for bits in patterns:
+                value = format.from_bits(bits)
+                again = self.read_back(repr(value))
+                self.assertEqual((again.format, again.bits), (format, bits))
+            values = format.from_bits([patterns[:20], patterns[20:40]])
+            again = self.read_back(repr(values))
+            self.assertEqual((bytes(again), again.shape), (bytes(values), (2, 20)))
+
+    def test_repr_of_arrays(self):
+        for shape in (), (0,), (3,), (0, 3), (3, 0), (2, 0, 3), (2, 3, 1), (1, 1, 1, 6):
+            xs = apfloat.half.array([0.5 * n for n in range(math.prod(shape))]).reshape(shape)
+            again = self.read_back(repr(xs))
+            self.assertEqual((bytes(again), again.shape), (bytes(xs), shape), repr(xs))
+        self.assertEqual(repr(apfloat.e4m3fn.array([[448, -1], [0.5, 2]])),
+                         "e4m3fn.array([['448.0', '-1.0'], ['0.5', '2.0']])")
+
+
+class ArrayTests(unittest.TestCase):
+    """Shapes, signs, orders."""
+
+    def test_parts(self):
+        nested = [[[n * 12 + m * 4 + k for k in range(4)] for m in range(3)] for n in range(2)]
+        xs = apfloat.single.array(nested)
+        self.assertEqual((xs.shape, xs.ndim, xs.size, len(xs)), ((2, 3, 4), 3, 24, 2))
+        self.assertEqual([[[int(k) for k in m] for m in n] for n in xs], nested)
+        self.assertEqual(int(xs[1, 2, 3]), 23)
+        self.assertEqual(int(xs[-1][-1][-1]), 23)
+        for part, wanted in [
+                (xs[1], nested[1]),
+                (xs[:, 1], [n[1] for n in nested]),
+                (xs[..., 2], [[m[2] for m in n] for n in nested]),
+                (xs[0, ::-1], nested[0][::-1]),
+                (xs[:, 1:, ::2], [[m[::2] for m in n[1:]] for n in nested]),
+                (xs[1:0], []),
+                (xs[0, None, 2, ...], [nested[0][2]]),
+                (xs[-1:, ..., 3:0:-2], [[m[3:0:-2] for m in nested[-1]]])]:
+            self.assertEqual(integers(part), wanted)
+        self.assertEqual(xs[1:0].shape, (0, 3, 4))
+        self.assertEqual(xs[..., None].shape, (2, 3, 4, 1))
+        for index in 2, -3, (0, 0, 0, 0), (0, 3), 'a', 1.5:
+            with self.assertRaises((IndexError, TypeError)):
+                xs[index]
+        self.assertEqual(integers(xs.reshape(4, -1)[3]), list(range(18, 24)))
+        self.assertEqual(integers(xs.reshape((24,))), list(range(24)))
+        for shape in (5, -1), (23,), (-1, -1), (-24, -1):
+            with self.assertRaises(ValueError):
+                xs.reshape(shape)
+        with self.assertRaises(ValueError):
+            apfloat.half.array([[1, 2], [3]])
+
+    def test_any_width(self):
+        for format in FORMATS + [apfloat.double_pair]:
+            xs = format.array([[1, 2, 3], [4, 5, 6]])
+            self.assertEqual(integers(xs[:, ::-1]), [[3, 2, 1], [6, 5, 4]])
+            self.assertEqual(integers(xs[1] - xs[0]), [3, 3, 3])
+            self.assertEqual(integers(xs[:, :1] + xs[0]), [[2, 3, 4], [5, 6, 7]])
+            self.assertEqual(integers(-xs), [[-1, -2, -3], [-4, -5, -6]])
+            self.assertEqual(integers(abs(-xs)), integers(xs))
+            self.assertEqual(integers(xs % -4), [[-3, -2, -1], [0, -3, -2]])
+            self.assertEqual((xs > 3).tolist(), [[False] * 3, [True] * 3])
+            again = pickle.loads(pickle.dumps(xs))
+            self.assertEqual((bytes(again), again.format, again.shape), (bytes(xs), format, (2, 3)))
+            self.assertEqual(bytes(copy.deepcopy(xs)), bytes(xs))
+            self.assertEqual(bytes(format.from_bits(xs.bits)), bytes(xs))
+
+    def test_elements_are_those_of_values(self):
+        draw = random.Random(10)
+        for format in FORMATS + [apfloat.double_pair, apfloat.single.ieee.before]:
+            top = 1 << format.width - 1
+            special = [0, top, top - 1, 2 * top - 1] + [format(text).bits for text in ('1', '-1', 'nan')]
+            pairs = [[draw.choice([draw.getrandbits(format.width), draw.choice(special)]) for _ in range(2)]
+                     for _ in range(200)]
+            xs, ys = [format.from_bits(list(column)) for column in zip(*pairs)]
+            for mode, operation in itertools.product(MODES[:3], [operator.add, operator.truediv, operator.mod]):
+                counts = collections.Counter(values=len(pairs))
+                with Context(mode) as context:
+                    found = operation(xs, ys)
+                for x, y, result in zip(xs, ys, found):
+                    with Context(mode) as one:
+                        self.assertEqual(operation(x, y).bits, result.bits, (mode, x, y))
+                    counts.update(flag.name.lower() for flag in one.flags)
+                    counts['nans'] += result.is_nan
+                    self.assertIn(one.flags, context.flags)
+                self.assertEqual(found.counts, {name: counts[name] for name in found.counts})
+
+    def test_stretching(self):
+        row, column = apfloat.half.array([1, 2, 3]), apfloat.half.array([[10], [20]])
+        self.assertEqual(integers(row + column), [[11, 12, 13], [21, 22, 23]])
+        self.assertEqual(integers(column.fma(row, 1)), [[11, 21, 31], [21, 41, 61]])
+        self.assertEqual(integers(row + apfloat.half.array(5)), [6, 7, 8])
+        self.assertEqual(integers([[1], [2]] + row * [0, apfloat.half(1), -1.0]), [[1, 3, -2], [2, 4, -1]])
+        self.assertEqual((row + apfloat.half.array([])[:, None]).shape, (0, 3))
+        with self.assertRaises(apfloat.Refused) as refused:
+            row + apfloat.half.array([1, 2])
+        self.assertEqual(refused.exception.code, 6)
+        with self.assertRaises(TypeError):
+            row + apfloat.single.array([1, 2, 3])
+        for wrong in 0.1, [1, 0.1, 2]:
+            with self.assertRaises(ValueError):
+                row + wrong
+        for wrong in '1', ['1', '2', '3'], None:
+            with self.assertRaises(TypeError):
+                row + wrong
+
+    def test_signs(self):
+        for format in SMALL + [apfloat.half]:
+            top = 1 << format.width - 1
+            patterns = range(0, 2 * top, 1 if format.width == 8 else 51)
+            every = format.from_bits(patterns)
+            kept = {0, 0x80} if format is apfloat.e4m3fnuz else set()
+            negated = [bits if bits in kept else bits ^ top for bits in patterns]
+            without = [bits if bits in kept else bits & top - 1 for bits in patterns]
+            self.assertEqual([value.bits for value in -every], negated)
+            self.assertEqual([value.bits for value in abs(every)], without)
+            self.assertEqual([(-value).bits for value in every], negated)
+            self.assertEqual([abs(value).bits for value in every], without)
+
+    def test_orders(self):
+        comparisons = [operator.eq, operator.ne, operator.lt, operator.le, operator.gt, operator.ge]
+        for format in SMALL:
+            # Zeros, numbers, infinities and NaNs of each sign.
+            patterns = [*range(0, 256, 13), 0x7c, 0x7e, 0x7f, 0x80, 0xfc, 0xff]
+            every = format.from_bits(patterns)
+            infinite = {0x7c: math.inf, 0xfc: -math.inf} if format is apfloat.e5m2 else {}
+            numbers = [number_of(value) for value in every]
+            numbers = [infinite.get(bits, math.nan) if each is None else each for bits, each in zip(patterns, numbers)]
+            for compare in comparisons:
+                found = compare(every[:, None], every)
+                self.assertEqual(found.shape, (len(patterns), len(patterns)))
+                self.assertEqual(found.tolist(), [[compare(x, y) for y in numbers] for x in numbers])
+                for other in 1, 0.1, Fraction(1, 3), -math.inf, math.nan, 10**40, apfloat.double(0.5), apfloat.quad(1):
+                    exact = number_of(other) if isinstance(other, apfloat.Value) else other
+                    self.assertEqual(compare(every, other).tolist(), [compare(x, exact) for x in numbers])
+                    self.assertEqual(compare(other, every).tolist(), [compare(exact, x) for x in numbers])
+        xs = apfloat.half.array([0.1, 0.5, 2])
+        self.assertEqual((xs == apfloat.double.array([0.1, 0.5, 2])).tolist(), [False, True, True])
+        self.assertEqual((xs == apfloat.half.ieee.array([0.1, 0.5, 2])).tolist(), [True, True, True])
+        self.assertEqual((xs >= apfloat.double_pair(0.5)).tolist(), [False, True, True])
+        self.assertEqual((apfloat.double_pair.array([1, 2]) < apfloat.half(2)).tolist(), [True, False])
+        self.assertEqual((xs == [0.1, 0.5, 2]).tolist(), [False, True, True])
+        self.assertEqual((xs == [apfloat.half(0.1), apfloat.double(0.5), math.nan]).tolist(), [True, True, False])
+        with self.assertRaises(ValueError):
+            xs == [10**40 + 1, 1, 2]
+        self.assertEqual((xs < [[1], [0.25]]).tolist(), [[True, True, False], [True, False, False]])
+        self.assertIs(xs == 'text', False)
+        self.assertIs(xs == ['a', 'b', 'c'], False)
+        self.assertIs(xs != None, True)  # noqa: E711
+        with self.assertRaises(TypeError):
+            xs < 'text'
+        with self.assertRaises(TypeError):
+            hash(xs)
+
+    def test_masks(self):
+        xs = apfloat.half.array([[1, 2], [3, 4]])
+        mask = xs > 2
+        self.assertEqual((mask.any(), mask.all(), mask.sum(), mask.shape), (True, False, 2, (2, 2)))
+        self.assertEqual((mask & (xs < 4)).tolist(), [[False, False], [True, False]])
+        self.assertEqual((mask | True).all(), True)
+        self.assertEqual((~mask == (xs <= 2)).all(), True)
+        self.assertEqual((mask ^ mask).any(), False)
+        self.assertEqual(integers(xs[mask]), [3, 4])
+        self.assertEqual(xs[xs > 9].shape, (0,))
+        self.assertEqual((mask[0].tolist(), mask[1, 1]), ([False, False], True))
+        self.assertTrue(bool((xs == xs[0, 0])[0, :1]))
+        self.assertEqual(eval(repr(mask), {'Mask': Mask}).tolist(), mask.tolist())
+        with self.assertRaises(ValueError):
+            bool(mask)
+        with self.assertRaises(IndexError):
+            xs[0][mask]
+
+    def test_counts_of_lists(self):
+        with Context() as context:
+            xs = apfloat.e4m3fn.array([1 / 3, '1e9', -10**9, 2, 'nan', apfloat.double(-500)], saturate=True)
+        self.assertEqual([number_of(x) for x in xs[1:4]], [448, -448, 2])
+        self.assertEqual(number_of(xs[5]), -448)
+        self.assertEqual(xs.counts, {'values': 6, 'inexact': 4, 'underflow': 0, 'overflow': 3, 'div_by_zero': 0,
+                                     'invalid_op': 0, 'nans': 1})
+        self.assertEqual(context.flags, Flags.INEXACT | Flags.OVERFLOW)
+        floats = apfloat.e4m3fn.array([1 / 3, 1e9, -1e9, 2.0])
+        self.assertEqual((floats.counts['overflow'], floats.counts['nans'], floats.counts['inexact']), (2, 2, 3))
+
+    def test_refusals(self):
+        for wrong in -1, 1 << 16, [1, 1 << 16]:
+            with self.assertRaises(ValueError):
+                apfloat.half.from_bits(wrong)
+        with self.assertRaises(TypeError):
+            apfloat.half.from_bits(1.5)
+        with self.assertRaises(ValueError):
+            apfloat.half.array(b'abc')
+        with self.assertRaises(TypeError):
+            apfloat.half.array([None])
+        with self.assertRaises(TypeError):
+            apfloat.half.array([1]).to('single')
+        with self.assertRaises(ValueError):
+            Context(mode=7)
+        with self.assertRaises(apfloat.Refused):
+            apfloat.double_pair.array([1]).to(apfloat.half)
+        with self.assertRaises(AttributeError):
+            apfloat.float8_e3m4
+
+    def test_names_of_ml_dtypes(self):
+        self.assertIs(apfloat.bfloat16, apfloat.bfloat)
+        self.assertIs(apfloat.float8_e5m2, apfloat.e5m2)
+        self.assertIs(apfloat.float8_e4m3fn, apfloat.e4m3fn)
+        self.assertIs(apfloat.float8_e4m3fnuz, apfloat.e4m3fnuz)
+
+
+def integers(xs):
+    """An array's values as nested lists of integers."""
+    if isinstance(xs, list):
+        return [integers(each) for each in xs]
+    return integers(xs.tolist()) if isinstance(xs, Array) else int(xs)
+
+
+class LibraryTests(unittest.TestCase):
+    """How the shared library is found."""
+
+    def imported(self, **variables):
+        """What an import of a copy of the module without a library beside it says."""
+        with tempfile.TemporaryDirectory() as folder:
+            shutil.copy(apfloat.__file__, os.path.join(folder, 'apfloat.py'))
+            kept = {name: text for name, text in os.environ.items() if name != 'APFLOAT_LIBRARY'}
+            done = subprocess.run([sys.executable, '-B', '-c', 'import apfloat'], cwd=folder, text=True, check=False,
+                                  env=kept | {'PYTHONPATH': folder} | variables, stderr=subprocess.PIPE)
+        return done.returncode, done.stderr
+
+    def test_missing_library(self):
+        code, said = self.imported()
+        self.assertEqual(code, 1)
+        self.assertIn('ImportError: the shared library of apfloat is missing', said)
+        self.assertIn('pip install ./python', said)
+        code, said = self.imported(APFLOAT_LIBRARY='/nowhere/libapfloat.so')
+        self.assertIn('/nowhere/libapfloat.so', said)
+        self.assertIn('APFLOAT_LIBRARY', said)
+
+    def test_other_library(self):
+        code, said = self.imported(APFLOAT_LIBRARY='libc.so.6')
+        self.assertEqual(code, 1)
+        self.assertIn('of another version', said)
+
+    def test_named_library(self):
+        self.assertEqual(self.imported(APFLOAT_LIBRARY=apfloat._functions._name), (0, ''))
+
+
+class WheelTests(unittest.TestCase):
+    """What pip calls to build the wheel."""
+
+    def run_backend(self, call, **variables):
+        """The exit status of a call, and what it says."""
+        program = f'import sys; sys.path[:0] = [{HERE!r}]; import backend; {call}'
+        return subprocess.run([sys.executable, '-B', '-c', program], env={'PATH': '/nowhere'} | variables,
+                              capture_output=True, text=True, check=False)
+
+    def test_wheel(self):
+        library = apfloat._functions._name
+        with tempfile.TemporaryDirectory() as first, tempfile.TemporaryDirectory() as second:
+            for folder in first, second:
+                done = self.run_backend(f'print(backend.build_wheel({folder!r}))', APFLOAT_LIBRARY=library)
+                self.assertEqual(done.returncode, 0, done.stderr)
+            name = done.stdout.strip()
+            with open(os.path.join(first, name), 'rb') as one, open(os.path.join(second, name), 'rb') as other:
+                self.assertEqual(one.read(), other.read())
+            with zipfile.ZipFile(os.path.join(first, name)) as wheel:
+                files = {name: wheel.read(name) for name in wheel.namelist()}
+        record, = [name for name in files if name.endswith('.dist-info/RECORD')]
+        listed = [line.split(',') for line in files[record].decode().splitlines()]
+        self.assertEqual([name for name, _, _ in listed], list(files))
+        for name, digest, size in listed[:-1]:
+            found = base64.urlsafe_b64encode(hashlib.sha256(files[name]).digest()).decode().rstrip('=')
+            self.assertEqual((digest, size), (f'sha256={found}', str(len(files[name]))))
+        with open(library, 'rb') as file:
+            self.assertIn(file.read(), files.values())
+        self.assertEqual(files['apfloat/py.typed'], b'')
+
+    def test_refusals(self):
+        for call, variables, said in [
+                ('backend.library()', {'APFLOAT_LIBRARY': '/nowhere/lib.so'}, '/nowhere/lib.so, which is no file'),
+                ('import pathlib; backend.CRATE = pathlib.Path("/"); backend.library()', {}, 'in a checkout'),
+                ('import pathlib; backend.CRATE = pathlib.Path(backend.__file__); backend.library()', {},
+                 'there is no cargo'),
+                ('backend.build_sdist(".")', {}, 'only wheels')]:
+            done = self.run_backend(call, **variables)
+            self.assertEqual(done.returncode, 1)
+            self.assertIn(said, done.stderr)
+            self.assertNotIn('Traceback', done.stderr)
+
+
+@unittest.skipUnless(numpy, 'there is no numpy')
+class NumpyTests(unittest.TestCase):
+    """Arrays of numpy."""
+
+    def test_singles(self):
+        tensor = numpy.array([[0.1, 1, 300, -0.0], [-1000, 1e-4, 448, 3]], numpy.float32)
+        for made in tensor, tensor.astype('>f4'), numpy.asfortranarray(tensor), numpy.repeat(tensor, 2, 1)[:, ::2]:
+            with Context() as context:
+                codes = apfloat.float8_e4m3fn.array(made, saturate=True)
+            self.assertEqual(codes.shape, (2, 4))
+            wanted = [[rounded(apfloat.e4m3fn, Fraction(number), Rounding.NEAREST_EVEN)[0] or
+                       (math.copysign(448, number) if number else 0) for number in row] for row in tensor.tolist()]
+            wanted[1][1] = 0
+            numbers = numpy.asarray(codes, dtype=numpy.float32)
+            self.assertEqual(numbers.dtype, numpy.float32)
+            self.assertEqual(numbers.tolist(), wanted)
+            self.assertEqual(math.copysign(1, numbers[0, 3]), -1)
+            self.assertEqual(codes.counts, {'values': 8, 'inexact': 4, 'underflow': 1, 'overflow': 1,
+                                            'div_by_zero': 0, 'invalid_op': 0, 'nans': 0})
+            self.assertEqual(context.flags, Flags.INEXACT | Flags.UNDERFLOW | Flags.OVERFLOW)
+            self.assertEqual(codes.bits.dtype, numpy.uint8)
+            self.assertEqual(codes.bits.shape, (2, 4))
+            self.assertEqual(numpy.asarray(codes).tolist(), codes.bits.tolist())
+            self.assertEqual(bytes(apfloat.e4m3fn.array(codes.bits)), bytes(codes))
+            self.assertEqual(bytes(apfloat.e4m3fn.from_bits(codes.bits)), bytes(codes))
+
+    def test_numbers(self):
+        for format, dtype in (apfloat.half, 'f2'), (apfloat.single, 'f4'), (apfloat.double, 'f8'):
+            made = numpy.arange(-6, 6, dtype=dtype).reshape(3, 4) / 4
+            xs = format.array(made)
+            self.assertIsNone(xs.counts)
+            self.assertEqual(numpy.asarray(xs).dtype, made.dtype)
+            for other in dtype, 'f8', '>f8':
+                numbers = numpy.asarray(xs, other)
+                self.assertEqual((numbers.dtype, numbers.tolist()), (numpy.dtype(other), made.tolist()))
+                numbers[0, 0] = 1
+            self.assertEqual(xs.bits.tolist(), made.view(f'u{made.itemsize}').tolist())
+            self.assertEqual(xs.astype(numpy.float16).dtype, numpy.float16)
+            self.assertEqual(numpy.asarray(xs, object)[1, 1], xs[1, 1])
+            if numpy.lib.NumpyVersion(numpy.__version__) >= '2.0.0':
+                with self.assertRaises(ValueError):
+                    numpy.asarray(apfloat.half.array([1]), numpy.float32, copy=False)
+        every = apfloat.e5m2.from_bits(numpy.arange(256, dtype=numpy.uint8))
+        self.assertEqual(numpy.asarray(every, numpy.float16).view('u2')[:0x7d].tolist(),
+                         [bits << 8 for bits in range(0x7d)])
+
+    def test_only_exact_numbers(self):
+        for xs in (apfloat.single.array([1, 2**-30]), apfloat.quad.array([1, '0.1']), apfloat.single.array([1, 65536]),
+                   apfloat.double_pair.array(['1', '0.1'])):
+            with self.assertRaisesRegex(ValueError, '1 of 2 values are no values of half'):
+                numpy.asarray(xs, numpy.float16)
+        xs = apfloat.double_pair.array([[0.1], [-3]])
+        self.assertEqual(numpy.asarray(xs, float).tolist(), [[0.1], [-3]])
+        for wanted in int, numpy.uint8, bool, complex, 'S3':
+            with self.assertRaisesRegex(TypeError, 'bits'):
+                numpy.asarray(apfloat.half.array([1]), wanted)
+        rounded_to_half = apfloat.double.array([0.1, 3]).astype(numpy.float16)
+        self.assertEqual(rounded_to_half.tolist(), numpy.array([0.1, 3]).astype(numpy.float16).tolist())
+
+    def test_elements_of_other_types(self):
+        xs = apfloat.half.array(numpy.arange(6).reshape(2, 3))
+        self.assertEqual(integers(xs), [[0, 1, 2], [3, 4, 5]])
+        self.assertEqual(number_of(apfloat.half.array(numpy.array([2049]))[0]), 2048)
+        for wrong in numpy.array([1], numpy.uint16), numpy.array(['a']), numpy.array([1j]), numpy.array([True]):
+            with self.assertRaises(TypeError):
+                apfloat.half.array(wrong)
+        with self.assertRaises(TypeError):
+            apfloat.e4m3fn.array(numpy.array([1], numpy.uint16))
+
+    def test_scalars_and_operands(self):
+        self.assertEqual(apfloat.half(numpy.float32(0.1)).bits, apfloat.half(numpy.float16(0.1)).bits)
+        self.assertEqual(int(apfloat.half(numpy.int64(7))), 7)
+        self.assertEqual(int(apfloat.half(1) + numpy.float16(2)), 3)
+        xs = apfloat.half.array([1, 2, 3])
+        self.assertEqual(integers(xs + numpy.float64(1)), [2, 3, 4])
+        self.assertEqual(integers(numpy.float32(1) - xs), [0, -1, -2])
+        self.assertEqual(integers(numpy.array([3, 2, 1], numpy.float16) % xs), [0, 0, 1])
+        self.assertEqual(integers(xs * numpy.array([[1], [2]], numpy.float16)), [[1, 2, 3], [2, 4, 6]])
+        for wrong in numpy.array([1, 2, 3], numpy.float32), numpy.array([1, 2, 3]):
+            with self.assertRaises(TypeError):
+                xs + wrong
+        with self.assertRaises(ValueError):
+            xs + numpy.float32(0.1)
+
+    def test_orders(self):
+        xs = apfloat.e4m3fn.array([[1, 2], [3, 4]])
+        numbers = numpy.array([[1, 3], [3, 4.1]], numpy.float32)
+        self.assertEqual(numpy.asarray(xs == numbers).tolist(), [[True, False], [True, False]])
+        self.assertEqual((numbers > xs).tolist(), [[False, True], [False, True]])
+        self.assertEqual((xs == numpy.array([1, 4])).tolist(), [[True, False], [False, True]])
+        self.assertEqual(numpy.asarray(xs > 2).dtype, bool)
+        self.assertEqual(integers(xs[numpy.asarray(xs > 2)]), [3, 4])
+        self.assertEqual(numbers[xs > 3].tolist(), [numbers[1, 1]])
+        self.assertEqual(numpy.where(xs > 2, 1, 0).tolist(), [[0, 0], [1, 1]])
+
+    def test_parts(self):
+        draw = random.Random(9)
+        made = numpy.arange(120, dtype=numpy.float32).reshape(2, 3, 4, 5)
+        for format in apfloat.single, apfloat.x87:
+            xs = format.array([float(number) for number in made.ravel()]).reshape(made.shape)
+            for _ in range(300):
+                index = []
+                for length in made.shape:
+                    start, stop = [draw.choice([None, draw.randint(-6, 6)]) for _ in range(2)]
+                    index.append(draw.choice([draw.randrange(-length, length),
+                                              slice(start, stop, draw.choice([None, 1, 2, -1, -2]))]))
+                first, last = sorted(draw.choices(range(5), k=2))
+                if draw.random() < 0.8:
+                    index[first:last] = [Ellipsis]
+                if draw.random() < 0.3:
+                    index.insert(draw.randint(0, len(index)), None)
+                wanted, part = made[tuple(index)], xs[tuple(index)]
+                if isinstance(part, apfloat.Value):
+                    self.assertEqual(int(part), wanted)
+                else:
+                    self.assertEqual(part.shape, wanted.shape)
+                    self.assertEqual(integers(part), wanted.astype(int).tolist())
+
+    @unittest.skipUnless(ml_dtypes, 'there is no ml_dtypes')
+    def test_ml_dtypes(self):
+        for format in SMALL + [apfloat.bfloat]:
+            dtype = numpy.dtype(getattr(ml_dtypes, {'e5m2': 'float8_e5m2', 'e4m3fn': 'float8_e4m3fn', 'bfloat':
+                                                    'bfloat16', 'e4m3fnuz': 'float8_e4m3fnuz'}[format.name]))
+            made = numpy.arange(8).reshape(2, 4).astype(dtype)
+            xs = format.array(made)
+            self.assertEqual(integers(xs), made.astype(int).tolist())
+            self.assertEqual(numpy.asarray(xs, dtype).astype(int).tolist(), made.astype(int).tolist())
+            self.assertEqual(integers(apfloat.single.array(made)), made.astype(int).tolist())
+
+
+if __name__ == '__main__':
+    unittest.main()
