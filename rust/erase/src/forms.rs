@@ -10,6 +10,9 @@ pub(crate) enum Attribute {
     Derives,
     /// `derive_where(Clone, Copy)`: both are written out below the type.
     DerivesBelow,
+    /// `unsafe(no_mangle)` on `pub extern "C" fn`: the function stays a function of Rust, and after it stands the macro
+    /// `export!` with its head, by which whoever builds the erased text makes it one that C calls.
+    ExportsToC,
     /// `macro_export`: the macro is made known to the other crates by a `use`, since all become modules of one crate.
     Exports,
     /// `cfg(test)` on `mod name;`: both are left out, since such a file is of the proved language's tests.
@@ -17,15 +20,17 @@ pub(crate) enum Attribute {
 }
 
 /// The attributes, without spaces; of those with arguments that vary, the part before them.
-pub(crate) const ATTRIBUTES: [(&str, Attribute); 10] = [
+pub(crate) const ATTRIBUTES: [(&str, Attribute); 12] = [
     ("inline", Attribute::Stays),
     ("inline(always)", Attribute::Stays),
     ("inline(never)", Attribute::Stays),
     ("cold", Attribute::Stays),
     ("must_use", Attribute::Stays),
+    ("repr(C)", Attribute::Stays),
     ("tactic(", Attribute::Goes),
     ("derive(", Attribute::Derives),
     ("derive_where(Clone,Copy)", Attribute::DerivesBelow),
+    ("unsafe(no_mangle)", Attribute::ExportsToC),
     ("macro_export", Attribute::Exports),
     ("cfg(test)", Attribute::Tests),
 ];

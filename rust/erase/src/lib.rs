@@ -32,6 +32,13 @@ pub const LIBRARY: [&str; 13] = [
     "pair_decimals",
 ];
 
+/// The crates that the library for C has above those.
+pub const FOR_C: [&str; 4] = ["rustc_apfloat", "formats_at_run_time", "array_conversions", "apfloat_c"];
+
+/// Modules that are left out, since no call of the erased crates uses them: streams are converted in buffers that a
+/// program has allocated.
+const WITHOUT: [(&str, &[&str]); 1] = [("array_conversions", &["block_call", "conversion"])];
+
 /// The crates that are not of the repository: whoever builds the erased ones writes a module in place of each.
 const GIVEN: [&str; 1] = ["bitflags"];
 
@@ -40,12 +47,12 @@ const ROOT: &str = "crate::erased";
 
 /// Erases the crates of these names in the folder `crates`, and writes them to `out`: a folder for each, and the file
 /// `erased.rs`, which declares a module for each. It is to be included in a module `erased` of a crate, beside a module
-/// `bitflags`.
+/// `bitflags` and, if there are functions for C, a macro `export` that takes the head of each.
 pub fn erase(crates: &Path, names: &[&str], out: &Path) -> Result<(), Refusal> {
     let known: Vec<&str> = names.iter().chain(&GIVEN).copied().collect();
     let mut modules = String::new();
     for &name in names {
-        let place = Place { name, root: ROOT, crates: &known };
+        let place = Place { name, root: ROOT, crates: &known, without: without(name) };
         let (source, target) = (crates.join(name).join("src"), out.join(name));
         let macros = write_module(&place, &source, &target, &[])?;
         let uses: String = macros
@@ -56,16 +63,20 @@ pub fn erase(crates: &Path, names: &[&str], out: &Path) -> Result<(), Refusal> {
         let root = target.join("lib.rs");
         let text = fs::read_to_string(&root).map_err(|error| failed(&root, &error))?;
         write(&root, &format!("{text}{uses}"))?;
-        modules += &format!("#[path = \"{name}/lib.rs\"]\npub(crate) mod {name};\n");
+        modules += &format!("#[path = \"{name}/lib.rs\"]\npub mod {name};\n");
     }
     write(&out.join("erased.rs"), &modules)
 }
 
 /// Erases one text, as a file of the crate `name`.
 pub fn erase_text(text: &str, name: &str) -> Result<String, Refusal> {
-    let known: Vec<&str> = LIBRARY.iter().chain(&GIVEN).copied().collect();
-    let place = Place { name, root: ROOT, crates: &known };
+    let known: Vec<&str> = LIBRARY.iter().chain(&FOR_C).chain(&GIVEN).copied().collect();
+    let place = Place { name, root: ROOT, crates: &known, without: without(name) };
     erased(text, &place, Path::new(name)).map(|erased| erased.text)
+}
+
+fn without(name: &str) -> &'static [&'static str] {
+    WITHOUT.iter().find(|(of, _)| *of == name).map_or(&[], |(_, modules)| modules)
 }
 
 fn erased(text: &str, place: &Place<'_>, file: &Path) -> Result<Erased, Refusal> {

@@ -24,6 +24,8 @@ pub(crate) struct Place<'a> {
     pub root: &'a str,
     /// The names of the crates.
     pub crates: &'a [&'a str],
+    /// The modules of this crate that are left out.
+    pub without: &'a [&'a str],
 }
 
 /// What is between the innermost brackets.
@@ -54,6 +56,7 @@ pub(crate) fn erase(text: &str, place: &Place<'_>) -> Result<Erased, Fault> {
         modules: Vec::new(),
         macros: Vec::new(),
         defined: Vec::new(),
+        takers: Vec::new(),
         exports: false,
         opening: 0,
     };
@@ -86,6 +89,8 @@ struct Walk<'a, 'p> {
     macros: Vec<String>,
     /// The macros that the file has defined.
     defined: Vec<&'a str>,
+    /// Those of them that use a macro which is named first in their arguments.
+    takers: Vec<&'a str>,
     /// Whether `#[macro_export]` stands before the item.
     exports: bool,
     /// The place after the last `#![..]`.
@@ -343,6 +348,9 @@ impl<'a> Walk<'a, '_> {
             "const" | "type" | "struct" | "enum" | "trait" => Ok(at + 1),
             "impl" => self.implementation(at),
             "use" => self.import(at),
+            "mod" if self.text(at + 2) == ";" && self.place.without.contains(&self.text(at + 1)) => {
+                self.leave_out_item(at, at + 3)
+            }
             "mod" if self.is_word(at + 1) && self.text(at + 2) == ";" => {
                 self.modules.push(self.text(at + 1).to_owned());
                 Ok(at + 2)
@@ -439,8 +447,9 @@ impl<'a> Walk<'a, '_> {
     fn invocation(&mut self, at: usize) -> Result<usize, Fault> {
         let word = self.text(at);
         if let Some((_, rust)) = PROVED.iter().find(|(proved, _)| *proved == word) {
-            // In a constant's value Rust tests it as well, when the constant is evaluated.
-            self.replace(at, *rust);
+            // `const _: () = prove!(..);` is tested whenever Rust compiles it.
+            let in_constant = at >= 6 && self.joined(at - 6, at) == "const_:()=";
+            self.replace(at, if in_constant { rust.trim_start_matches("debug_") } else { rust });
             return Ok(at + 2);
         }
         if word == "macro_rules" {
@@ -449,6 +458,9 @@ impl<'a> Walk<'a, '_> {
             }
             let name = self.text(at + 2);
             let end = self.after_bracket(at + 3)?;
+            if self.uses_a_parameter(at + 3, end)? {
+                self.takers.push(name);
+            }
             self.rules(at + 3, end)?;
             self.defined.push(name);
             if std::mem::take(&mut self.exports) {
@@ -458,6 +470,9 @@ impl<'a> Walk<'a, '_> {
             return Ok(end);
         }
         self.known_macro(at)?;
+        if self.takers.contains(&word) {
+            self.known_macro(at + 3)?;
+        }
         let end = self.after_bracket(at + 2)?;
         if self.innermost() == Within::Items {
             // Items by a macro: its rules are of the crate that exports it.
@@ -465,6 +480,25 @@ impl<'a> Walk<'a, '_> {
             return Ok(end);
         }
         Ok(at + 2)
+    }
+
+    /// Whether the rules of a macro use one that is a parameter, `$name! ..`. Each rule has to take its name first,
+    /// `($name:ident ..`.
+    fn uses_a_parameter(&self, open: usize, end: usize) -> Result<bool, Fault> {
+        let Some(uses) = (open..end).find(|&at| self.is_parameter(at) && self.is_invocation(at)) else {
+            return Ok(false);
+        };
+        let name = self.text(uses);
+        let rules = (open..end).filter(|&at| self.text(at) == "=>").count();
+        let head = self.joined(open, open + 6);
+        if rules != 1 || head != format!("{{(${name}:ident") || !matches!(self.text(open + 6), "(" | ",") {
+            return self.fault(uses, format!("the macro `${name}!`, whose name is not what the only rule begins with"));
+        }
+        Ok(true)
+    }
+
+    fn is_parameter(&self, at: usize) -> bool {
+        self.before(at) == "$" && self.is_word(at)
     }
 
     /// The rules or the arguments of a macro: nothing is left out, and paths are as elsewhere.
@@ -479,7 +513,7 @@ impl<'a> Walk<'a, '_> {
                 continue;
             }
             self.known_word(at)?;
-            if self.is_invocation(at) {
+            if self.is_invocation(at) && !self.is_parameter(at) {
                 self.known_macro(at)?;
             }
             at = self.path(at)?;
@@ -539,6 +573,7 @@ impl<'a> Walk<'a, '_> {
                 self.replace(at + 1, format!("{}::{}", self.place.root, self.place.name));
             }
             "super" | "self" => {}
+            _ if self.place.without.contains(&first) => return self.leave_out_item(at, end + 1),
             _ if self.place.crates.contains(&first) => {
                 self.replace(at + 1, format!("{}::{first}", self.place.root));
             }
@@ -549,6 +584,17 @@ impl<'a> Walk<'a, '_> {
             return self.fault(at, "`use` of an unknown form");
         }
         Ok(end + 1)
+    }
+
+    /// Leaves out an item from its `pub` on.
+    fn leave_out_item(&mut self, at: usize, end: usize) -> Result<usize, Fault> {
+        self.item = "";
+        let Some(first) = self.beginning(at) else {
+            return self.fault(at, "an item of a module that is left out, in an unknown place");
+        };
+        self.leave_out(first, end);
+        self.leave_out_docs(first);
+        Ok(end)
     }
 
     /// `use std::a::b;` and `use std::a::{b, c};`, without `Model`.
@@ -604,6 +650,7 @@ impl<'a> Walk<'a, '_> {
             Some((_, Attribute::Stays)) => {}
             Some((_, Attribute::Derives)) => self.derive(at, open, end)?,
             Some((_, Attribute::DerivesBelow)) => self.derive_below(at, end)?,
+            Some((_, Attribute::ExportsToC)) => return self.export_to_c(at, end),
             Some((_, Attribute::Exports)) => {
                 self.leave_out(at, end);
                 self.exports = true;
@@ -619,6 +666,69 @@ impl<'a> Walk<'a, '_> {
             None => return self.fault(at, format!("the attribute `#[{text}]`")),
         }
         Ok(end)
+    }
+
+    /// `pub extern "C" fn name(parameter: type, ..) -> type` after its attribute: a function of Rust, followed by
+    /// `export!` with its head.
+    fn export_to_c(&mut self, at: usize, end: usize) -> Result<usize, Fault> {
+        let name = end + 4;
+        if self.innermost() != Within::Items
+            || self.joined(end, name) != "pubextern\"C\"fn"
+            || !self.is_word(name)
+            || self.text(name + 1) != "("
+        {
+            return self.fault(at, "`#[unsafe(no_mangle)]` before anything but `pub extern \"C\" fn name(..)`");
+        }
+        let close = self.after_bracket(name + 1)? - 1;
+        let mut parameter = name + 2;
+        while parameter < close {
+            parameter = self.parameter_from_c(parameter, close)?;
+        }
+        let returned = close + 2;
+        if self.text(close + 1) != "->" || !self.is_word(returned) {
+            return self.fault(close, "a function for C that returns nothing, or no plain type");
+        }
+        let mut open = returned + 1;
+        while self.text(open) != "{" {
+            if !matches!(self.text(open), "requires" | "ensures" | "*") && !self.is_clause_part(open) {
+                return self.fault(open, "a function for C whose head is of an unknown form");
+            }
+            open += 1;
+        }
+        let head: Vec<&str> = (end + 3..=returned).map(|at| self.text(at)).collect();
+        let export = format!(" {}::export! {{ {} }}", self.place.root, head.join(" "));
+        let body_end = self.after_bracket(open)? - 1;
+        self.leave_out(at, end);
+        self.leave_out(end + 1, end + 3);
+        self.append(body_end, &export);
+        self.item = "fn";
+        self.function(end + 3)
+    }
+
+    /// Whether a clause, or its name, stands here.
+    fn is_clause_part(&self, at: usize) -> bool {
+        self.kind(at) == Some(Kind::Clause) || self.is_word(at) && self.kind(at + 1) == Some(Kind::Clause)
+    }
+
+    /// A parameter that C can pass: an integer or a struct by value, a place for a result, or bytes, which are a pointer
+    /// and a length there. Gives the place after it.
+    fn parameter_from_c(&self, at: usize, close: usize) -> Result<usize, Fault> {
+        let mut end = at;
+        while end < close && self.text(end) != "," {
+            end += 1;
+        }
+        let given = at + 2;
+        let known = match self.joined(given, end).as_str() {
+            "&[u8]" | "&mut[u8]" => true,
+            _ => {
+                let name = if self.joined(given, given + 2) == "&mut" { given + 2 } else { given };
+                self.is_word(name) && name + 1 == end
+            }
+        };
+        if !self.is_word(at) || self.text(at + 1) != ":" || !known {
+            return self.fault(at, "a parameter that no C program can pass");
+        }
+        Ok(end + 1)
     }
 
     /// `#[derive(..)]` without `Drop`.
@@ -648,20 +758,18 @@ impl<'a> Walk<'a, '_> {
         if self.text(keyword) != "struct" || !self.is_word(name) || body == name + 1 || self.text(body) != "{" {
             return self.fault(at, "`derive_where` before an unknown form");
         }
-        let mut parameters = Vec::new();
+        let (mut bounds, mut names) = (Vec::new(), Vec::new());
         let mut i = name + 2;
         while i < body - 1 {
-            if !self.is_word(i) || self.text(i + 1) != ":" || !self.is_word(i + 2) {
+            let end = if self.kind(i) == Some(Kind::Lifetime) { i + 1 } else { i + 3 };
+            let is_bound = end == i + 1 || self.is_word(i) && self.text(i + 1) == ":" && self.is_word(i + 2);
+            if !is_bound || !matches!(self.text(end), "," | ">") {
                 return self.fault(i, "a type parameter of an unknown form");
             }
-            if !matches!(self.text(i + 3), "," | ">") {
-                return self.fault(i, "a type parameter of an unknown form");
-            }
-            parameters.push((self.text(i), self.text(i + 2)));
-            i += 4;
+            bounds.push(self.joined(i, end).replace(':', ": "));
+            names.push(self.text(i));
+            i = end + 1;
         }
-        let bounds: Vec<String> = parameters.iter().map(|(name, bound)| format!("{name}: {bound}")).collect();
-        let names: Vec<&str> = parameters.iter().map(|(name, _)| *name).collect();
         let head = format!("impl<{}>", bounds.join(", "));
         let of = format!("{}<{}>", self.text(name), names.join(", "));
         let close = self.after_bracket(body)? - 1;

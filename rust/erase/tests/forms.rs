@@ -153,6 +153,83 @@ pub struct P<S: Bound> {
 }
 
 #[test]
+fn derives_below_keep_lifetimes() {
+    becomes(
+        "#[derive_where(Clone, Copy)]
+struct P<'a, S: Bound> {
+    s: &'a S,
+}
+",
+        "
+struct P<'a, S: Bound> {
+    s: &'a S,
+} impl<'a, S: Bound> Copy for P<'a, S> {} impl<'a, S: Bound> Clone for P<'a, S> { fn clone(&self) -> Self { *self } }
+",
+    );
+}
+
+#[test]
+fn functions_for_c_are_followed_by_their_heads() {
+    stays("#[repr(C)]\n#[derive(Clone, Copy)]\npub struct P {\n    pub x: u64,\n}\n");
+    becomes(
+        "/// A sum.
+#[unsafe(no_mangle)]
+pub extern \"C\" fn sum(x: u32, y: P, bytes: &[u8], room: &mut [u8], answer: &mut P) -> u32
+    requires { x < 2 }
+    ensures* name { result ≡ x }
+{
+    if x == 0 { 0 } else { 1 }
+}
+fn f() {}
+",
+        "/// A sum.
+
+pub  fn sum(x: u32, y: P, bytes: &[u8], room: &mut [u8], answer: &mut P) -> u32
+    
+    
+{
+    if x == 0 { 0 } else { 1 }
+} crate::erased::export! { fn sum ( x : u32 , y : P , bytes : & [ u8 ] , room : & mut [ u8 ] , answer : & mut P ) -> u32 }
+fn f() {}
+",
+    );
+    becomes(
+        "#[unsafe(no_mangle)]\npub extern \"C\" fn f(\n    x: u8,\n) -> u32 {\n    g(x)\n}\n",
+        "
+pub  fn f(
+    x: u8,
+) -> u32 {
+    g(x)
+} crate::erased::export! { fn f ( x : u8 , ) -> u32 }
+",
+    );
+}
+
+#[test]
+fn functions_for_c_of_unknown_forms_are_refused() {
+    is_refused("#[unsafe(no_mangle)]\npub fn f() -> u32 { 1 }\n", 1, "before anything but `pub extern");
+    is_refused("#[unsafe(no_mangle)]\nextern \"C\" fn f() -> u32 { 1 }\n", 1, "before anything but `pub extern");
+    is_refused("#[unsafe(no_mangle)]\npub extern \"system\" fn f() -> u32 { 1 }\n", 1, "before anything but");
+    is_refused("#[unsafe(no_mangle)]\npub extern \"C\" fn f<T>(x: T) -> u32 { 1 }\n", 1, "before anything but");
+    is_refused("#[unsafe(no_mangle)]\npub extern \"C\" fn f(x: &u32) -> u32 { 1 }\n", 2, "no C program can pass");
+    is_refused("#[unsafe(no_mangle)]\npub extern \"C\" fn f(x: &mut [P]) -> u32 { 1 }\n", 2, "no C program can pass");
+    is_refused("#[unsafe(no_mangle)]\npub extern \"C\" fn f(x: [u8; 2]) -> u32 { 1 }\n", 2, "no C program can pass");
+    is_refused("#[unsafe(no_mangle)]\npub extern \"C\" fn f(\n    (x, y): P\n) -> u32 { 1 }\n", 3, "can pass");
+    is_refused("#[unsafe(no_mangle)]\npub extern \"C\" fn f() {}\n", 2, "returns nothing");
+    is_refused("#[unsafe(no_mangle)]\npub extern \"C\" fn f() -> &[u8] { g() }\n", 2, "no plain type");
+    is_refused("#[unsafe(no_mangle)]\npub extern \"C\" fn f() -> u32 where T: U { 1 }\n", 2, "of an unknown form");
+    is_refused("pub extern \"C\" fn f() -> u32 { 1 }\n", 1, "`extern`");
+}
+
+#[test]
+fn modules_of_streams_are_left_out() {
+    let text = "mod array;\nmod conversion;\n\npub use array::A;\npub use conversion::{B, C};\nuse array::D;\n";
+    let erased = erase_text(text, "array_conversions").unwrap();
+    assert_eq!(erased, "mod array;\n\n\npub use array::A;\n\nuse array::D;\n");
+    stays(text);
+}
+
+#[test]
 fn paths_are_of_one_crate() {
     becomes("use crate::a::{b, c};\n", "use crate::erased::apfloat_base::a::{b, c};\n");
     becomes("use apfloat_model::Round;\n", "use crate::erased::apfloat_model::Round;\n");
@@ -184,7 +261,7 @@ fn functions_are_rewritten() {
 ",
     );
     becomes("fn f(x: u8) { prove!(x > 0); }\n", "fn f(x: u8) { debug_assert!(x > 0); }\n");
-    becomes("const _: () = prove_eq!(A, B);\n", "const _: () = debug_assert_eq!(A, B);\n");
+    becomes("const _: () = prove_eq!(A, B);\n", "const _: () = assert_eq!(A, B);\n");
 }
 
 #[test]
@@ -200,6 +277,16 @@ macro_rules! unpack {
     stays("fn f(b: u8) -> bool { matches!(b, b'0'..=b'9') }\n");
     stays("macro_rules! one {\n    () => { 1 };\n}\nfn f() -> u8 { one!() }\n");
     stays("fn f() -> u8 { unreachable!() }\n");
+    stays(
+        "macro_rules! each {
+    ($taker:ident($($given:tt)*)) => { $taker! { ($($given)*) A B } };
+}
+macro_rules! first {
+    (($of:expr) $($name:ident)*) => { $of };
+}
+fn f(x: u8) -> u8 { each!(first(x)) }
+",
+    );
     stays("bitflag_items! {\n    impl S: u8 {\n        /// None.\n        const OK = 0x00;\n    }\n}\n");
 }
 
@@ -234,13 +321,14 @@ fn ghost_of_unknown_forms_is_refused() {
 
 #[test]
 fn attributes_that_are_unknown_are_refused() {
-    is_refused("#[repr(C)]\nstruct P;\n", 1, "the attribute `#[repr(C)]`");
+    is_refused("#[repr(packed)]\nstruct P;\n", 1, "the attribute `#[repr(packed)]`");
     is_refused("#![no_std]\n", 1, "the attribute");
     is_refused("#![inline]\n", 1, "the attribute `#![inline]`");
     is_refused("#[derive(Hash)]\nstruct P;\n", 1, "`derive(Hash)`");
     is_refused("#[cfg(test)]\nfn f() {}\n", 1, "`#[cfg(test)]` before anything but");
     is_refused("#[derive_where(Clone, Copy)]\nstruct P;\n", 1, "`derive_where` before an unknown form");
-    is_refused("#[derive_where(Clone, Copy)]\nstruct P<'a, S: B> { s: &'a S }\n", 2, "a type parameter");
+    is_refused("#[derive_where(Clone, Copy)]\nstruct P<'a, 'b: 'a, S: B> { s: &'a S }\n", 2, "a type parameter");
+    is_refused("#[derive_where(Clone, Copy)]\nstruct P<S> { s: S }\n", 2, "a type parameter");
 }
 
 #[test]
@@ -276,6 +364,9 @@ fn macros_that_are_unknown_are_refused() {
     is_refused("macro_rules! m ( () => {} );\n", 1, "`macro_rules!` of an unknown form");
     is_refused("macro_rules! m { () => { x.clone() } }\n", 1, "`clone`");
     is_refused("macro_rules! m { () => { println!() } }\n", 1, "the macro `println!`");
+    is_refused("macro_rules! m { ($x:ident $t:ident) => { $t! {} } }\n", 1, "the macro `$t!`, whose name");
+    is_refused("macro_rules! m { ($t:ident()) => { $t! {} }; () => { 1 } }\n", 1, "the macro `$t!`, whose name");
+    is_refused("macro_rules! m { ($t:ident()) => { $t!() } }\nfn f() { m!(println()) }\n", 2, "the macro `println!`");
     is_refused("macro_rules! m { () => { fn f() ensures { a } {} } }\n", 1, "a clause in a macro");
 }
 

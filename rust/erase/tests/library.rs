@@ -20,7 +20,16 @@ fn compare(source: &Path, erased: &Path) -> usize {
         for (number, (line, from)) in text.lines().zip(original.lines()).enumerate() {
             // What is left of a line is what it had, but for paths and the few forms that are rewritten.
             let same = line.trim() == from.trim().trim_start_matches("final ") || matches!(line.trim(), "" | ";");
-            let rewritten = ["crate::erased::", "core::", " Copy for ", "fn fmt(&self", "pub(crate) use "];
+            let same = same || line.trim().replace("pub  fn", "pub extern \"C\" fn") == from.trim();
+            let rewritten = [
+                "export! { fn ",
+                "crate::erased::",
+                "core::",
+                " Copy for ",
+                "fn fmt(&self",
+                "pub(crate) use ",
+                "= assert!(",
+            ];
             let known = same || rewritten.iter().any(|form| line.contains(form)) || from.contains("derive(");
             assert!(known, "{}:{}: {line}", path.display(), number + 1);
             assert!(line.contains("//") || !["ghost ", "requires ", "ensures "].iter().any(|word| line.contains(word)));
@@ -35,13 +44,14 @@ fn the_library_is_erased_line_by_line() {
     let crates = Path::new(concat!(env!("CARGO_MANIFEST_DIR"), "/../../crates"));
     let out = Path::new(env!("CARGO_TARGET_TMPDIR")).join("library");
     let _ = fs::remove_dir_all(&out);
-    if let Err(refusal) = erase::erase(crates, &erase::LIBRARY, &out) {
+    let names: Vec<&str> = erase::LIBRARY.into_iter().chain(erase::FOR_C).collect();
+    if let Err(refusal) = erase::erase(crates, &names, &out) {
         panic!("{refusal}");
     }
-    let count: usize = erase::LIBRARY.iter().map(|name| compare(&crates.join(name).join("src"), &out.join(name))).sum();
+    let count: usize = names.iter().map(|name| compare(&crates.join(name).join("src"), &out.join(name))).sum();
     assert!(count > 100, "{count} files");
     let modules = fs::read_to_string(out.join("erased.rs")).unwrap();
-    assert_eq!(modules.matches("mod ").count(), erase::LIBRARY.len());
+    assert_eq!(modules.matches("mod ").count(), names.len());
 }
 
 /// The crates that a crate needs, itself included, lowest first.
@@ -67,6 +77,16 @@ fn the_library_is_what_crates_txt_says() {
     all.sort();
     listed.sort();
     assert_eq!(all, listed);
+
+    let mut for_c = Vec::new();
+    needed(&lines, "apfloat_c staticlib", &mut for_c);
+    for_c.retain(|name| !all.contains(name));
+    for_c.pop();
+    for_c.push("apfloat_c".to_owned());
+    let mut listed: Vec<&str> = erase::FOR_C.to_vec();
+    for_c.sort();
+    listed.sort();
+    assert_eq!(for_c, listed);
 }
 
 #[test]
