@@ -29,6 +29,13 @@
 #include <stddef.h>
 #include <stdint.h>
 
+/* The version of this header, by which the shared library is named as well: a program that was compiled with it needs a
+ * library of the same major version. */
+#define APFLOAT_VERSION "0.1.0"
+#define APFLOAT_VERSION_MAJOR 0
+#define APFLOAT_VERSION_MINOR 1
+#define APFLOAT_VERSION_PATCH 0
+
 #ifdef __cplusplus
 extern "C" {
 #endif

@@ -10,6 +10,8 @@ pub(crate) enum Attribute {
     Derives,
     /// `derive_where(Clone, Copy)`: both are written out below the type.
     DerivesBelow,
+    /// `repr(C)` on a struct: it stays.
+    OfStructs,
     /// `unsafe(no_mangle)` on `pub extern "C" fn`: the function stays a function of Rust, and after it stands the macro
     /// `export!` with its head, by which whoever builds the erased text makes it one that C calls.
     ExportsToC,
@@ -26,7 +28,7 @@ pub(crate) const ATTRIBUTES: [(&str, Attribute); 12] = [
     ("inline(never)", Attribute::Stays),
     ("cold", Attribute::Stays),
     ("must_use", Attribute::Stays),
-    ("repr(C)", Attribute::Stays),
+    ("repr(C)", Attribute::OfStructs),
     ("tactic(", Attribute::Goes),
     ("derive(", Attribute::Derives),
     ("derive_where(Clone,Copy)", Attribute::DerivesBelow),
@@ -63,6 +65,9 @@ pub(crate) const STD: [&str; 18] = [
 /// The trait by which contracts see a type. Its import is left out, and so is `impl Model for ..`, which has ghost
 /// members alone.
 pub(crate) const MODEL: &str = "std::marker::Model";
+
+/// The types of numbers that C can pass, and be given: each of their bit patterns is a value.
+pub(crate) const NUMBERS: [&str; 10] = ["i8", "i16", "i32", "i64", "isize", "u8", "u16", "u32", "u64", "usize"];
 
 /// The macros that are the same in both languages, and those that the library's crates export.
 pub(crate) const MACROS: [&str; 5] = ["bitflag_items", "matches", "unpack", "unreachable", "write"];

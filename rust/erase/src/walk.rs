@@ -1,6 +1,6 @@
 //! One file: its tokens, each kept, left out or replaced.
 
-use crate::forms::{ATTRIBUTES, Attribute, DERIVED, FMT, MACROS, MODEL, PROVED, REFUSED, STD};
+use crate::forms::{ATTRIBUTES, Attribute, DERIVED, FMT, MACROS, MODEL, NUMBERS, PROVED, REFUSED, STD};
 use crate::refusal::Fault;
 use crate::tokens::{Kind, Token, tokens};
 use std::collections::HashMap;
@@ -321,13 +321,14 @@ impl<'a> Walk<'a, '_> {
         !keyword && self.text(at + 1) == "!" && self.text(at + 2) != "="
     }
 
-    /// Whether the macro is the same in both languages, or the file or the library defines it.
+    /// Whether the macro is the same in both languages, or the file or the library defines it; and so the macro that it
+    /// takes first, if it uses one.
     fn known_macro(&self, at: usize) -> Result<(), Fault> {
         let name = self.text(at);
-        if MACROS.contains(&name) || self.defined.contains(&name) {
-            return Ok(());
+        if !MACROS.contains(&name) && !self.defined.contains(&name) {
+            return self.fault(at, format!("the macro `{name}!`"));
         }
-        self.fault(at, format!("the macro `{name}!`"))
+        if self.takers.contains(&name) { self.known_macro(at + 3) } else { Ok(()) }
     }
 
     /// The first word of an item, after a `pub`.
@@ -470,9 +471,6 @@ impl<'a> Walk<'a, '_> {
             return Ok(end);
         }
         self.known_macro(at)?;
-        if self.takers.contains(&word) {
-            self.known_macro(at + 3)?;
-        }
         let end = self.after_bracket(at + 2)?;
         if self.innermost() == Within::Items {
             // Items by a macro: its rules are of the crate that exports it.
@@ -482,19 +480,20 @@ impl<'a> Walk<'a, '_> {
         Ok(at + 2)
     }
 
-    /// Whether the rules of a macro use one that is a parameter, `$name! ..`. Each rule has to take its name first,
-    /// `($name:ident ..`.
+    /// Whether the rules of a macro use another one that is a parameter, `$name! ..`. There has to be a single rule, and
+    /// it has to take that name first: `($name:ident ..`.
     fn uses_a_parameter(&self, open: usize, end: usize) -> Result<bool, Fault> {
-        let Some(uses) = (open..end).find(|&at| self.is_parameter(at) && self.is_invocation(at)) else {
-            return Ok(false);
-        };
-        let name = self.text(uses);
         let rules = (open..end).filter(|&at| self.text(at) == "=>").count();
-        let head = self.joined(open, open + 6);
-        if rules != 1 || head != format!("{{(${name}:ident") || !matches!(self.text(open + 6), "(" | ",") {
-            return self.fault(uses, format!("the macro `${name}!`, whose name is not what the only rule begins with"));
+        let is_ident = self.joined(open + 4, open + 6) == ":ident" && matches!(self.text(open + 6), "(" | ",");
+        let mut uses = (open..end).filter(|&at| self.is_parameter(at) && self.is_invocation(at)).peekable();
+        let uses_one = uses.peek().is_some();
+        for at in uses {
+            let name = self.text(at);
+            if rules != 1 || self.joined(open, open + 4) != format!("{{(${name}") || !is_ident {
+                return self.fault(at, format!("the macro `${name}!`, which the only rule does not take first"));
+            }
         }
-        Ok(true)
+        Ok(uses_one)
     }
 
     fn is_parameter(&self, at: usize) -> bool {
@@ -589,8 +588,9 @@ impl<'a> Walk<'a, '_> {
     /// Leaves out an item from its `pub` on.
     fn leave_out_item(&mut self, at: usize, end: usize) -> Result<usize, Fault> {
         self.item = "";
-        let Some(first) = self.beginning(at) else {
-            return self.fault(at, "an item of a module that is left out, in an unknown place");
+        let first = match self.beginning(at) {
+            Some(first) if self.before(first) != "]" || first == self.opening => first,
+            _ => return self.fault(at, "an item of a module that is left out, in an unknown place"),
         };
         self.leave_out(first, end);
         self.leave_out_docs(first);
@@ -650,6 +650,15 @@ impl<'a> Walk<'a, '_> {
             Some((_, Attribute::Stays)) => {}
             Some((_, Attribute::Derives)) => self.derive(at, open, end)?,
             Some((_, Attribute::DerivesBelow)) => self.derive_below(at, end)?,
+            Some((_, Attribute::OfStructs)) => {
+                let mut item = end;
+                while self.text(item) == "#" {
+                    item = self.after_bracket(item + 1)?;
+                }
+                if !matches!((self.text(item), self.text(item + 1)), ("struct", _) | ("pub", "struct")) {
+                    return self.fault(at, format!("`#[{text}]` before anything but a struct"));
+                }
+            }
             Some((_, Attribute::ExportsToC)) => return self.export_to_c(at, end),
             Some((_, Attribute::Exports)) => {
                 self.leave_out(at, end);
@@ -685,8 +694,8 @@ impl<'a> Walk<'a, '_> {
             parameter = self.parameter_from_c(parameter, close)?;
         }
         let returned = close + 2;
-        if self.text(close + 1) != "->" || !self.is_word(returned) {
-            return self.fault(close, "a function for C that returns nothing, or no plain type");
+        if self.text(close + 1) != "->" || !NUMBERS.contains(&self.text(returned)) {
+            return self.fault(close, "a function for C that returns no number");
         }
         let mut open = returned + 1;
         while self.text(open) != "{" {
@@ -710,8 +719,12 @@ impl<'a> Walk<'a, '_> {
         self.kind(at) == Some(Kind::Clause) || self.is_word(at) && self.kind(at + 1) == Some(Kind::Clause)
     }
 
-    /// A parameter that C can pass: an integer or a struct by value, a place for a result, or bytes, which are a pointer
-    /// and a length there. Gives the place after it.
+    fn is_name_of_type(&self, at: usize) -> bool {
+        self.is_word(at) && self.text(at).starts_with(|c: char| c.is_ascii_uppercase())
+    }
+
+    /// A parameter that C can pass: a number or a struct, a place for one of them, or bytes, which are a pointer and a
+    /// length there. Gives the place after it.
     fn parameter_from_c(&self, at: usize, close: usize) -> Result<usize, Fault> {
         let mut end = at;
         while end < close && self.text(end) != "," {
@@ -722,7 +735,7 @@ impl<'a> Walk<'a, '_> {
             "&[u8]" | "&mut[u8]" => true,
             _ => {
                 let name = if self.joined(given, given + 2) == "&mut" { given + 2 } else { given };
-                self.is_word(name) && name + 1 == end
+                name + 1 == end && (NUMBERS.contains(&self.text(name)) || self.is_name_of_type(name))
             }
         };
         if !self.is_word(at) || self.text(at + 1) != ":" || !known {

@@ -174,7 +174,7 @@ fn functions_for_c_are_followed_by_their_heads() {
     becomes(
         "/// A sum.
 #[unsafe(no_mangle)]
-pub extern \"C\" fn sum(x: u32, y: P, bytes: &[u8], room: &mut [u8], answer: &mut P) -> u32
+pub extern \"C\" fn f(x: u32, y: P, b: &[u8], r: &mut [u8], a: &mut P) -> u32
     requires { x < 2 }
     ensures* name { result ≡ x }
 {
@@ -184,12 +184,12 @@ fn f() {}
 ",
         "/// A sum.
 
-pub  fn sum(x: u32, y: P, bytes: &[u8], room: &mut [u8], answer: &mut P) -> u32
+pub  fn f(x: u32, y: P, b: &[u8], r: &mut [u8], a: &mut P) -> u32
     
     
 {
     if x == 0 { 0 } else { 1 }
-} crate::erased::export! { fn sum ( x : u32 , y : P , bytes : & [ u8 ] , room : & mut [ u8 ] , answer : & mut P ) -> u32 }
+} crate::erased::export! { fn f ( x : u32 , y : P , b : & [ u8 ] , r : & mut [ u8 ] , a : & mut P ) -> u32 }
 fn f() {}
 ",
     );
@@ -215,8 +215,11 @@ fn functions_for_c_of_unknown_forms_are_refused() {
     is_refused("#[unsafe(no_mangle)]\npub extern \"C\" fn f(x: &mut [P]) -> u32 { 1 }\n", 2, "no C program can pass");
     is_refused("#[unsafe(no_mangle)]\npub extern \"C\" fn f(x: [u8; 2]) -> u32 { 1 }\n", 2, "no C program can pass");
     is_refused("#[unsafe(no_mangle)]\npub extern \"C\" fn f(\n    (x, y): P\n) -> u32 { 1 }\n", 3, "can pass");
-    is_refused("#[unsafe(no_mangle)]\npub extern \"C\" fn f() {}\n", 2, "returns nothing");
-    is_refused("#[unsafe(no_mangle)]\npub extern \"C\" fn f() -> &[u8] { g() }\n", 2, "no plain type");
+    is_refused("#[unsafe(no_mangle)]\npub extern \"C\" fn f() {}\n", 2, "returns no number");
+    is_refused("#[unsafe(no_mangle)]\npub extern \"C\" fn f(x: bool) -> u32 { 1 }\n", 2, "no C program can pass");
+    is_refused("#[unsafe(no_mangle)]\npub extern \"C\" fn f(x: u128) -> u32 { 1 }\n", 2, "no C program can pass");
+    is_refused("#[repr(C)]\n#[derive(Clone)]\npub enum E { A }\n", 1, "before anything but a struct");
+    is_refused("#[unsafe(no_mangle)]\npub extern \"C\" fn f() -> &[u8] { g() }\n", 2, "returns no number");
     is_refused("#[unsafe(no_mangle)]\npub extern \"C\" fn f() -> u32 where T: U { 1 }\n", 2, "of an unknown form");
     is_refused("pub extern \"C\" fn f() -> u32 { 1 }\n", 1, "`extern`");
 }
@@ -227,6 +230,8 @@ fn modules_of_streams_are_left_out() {
     let erased = erase_text(text, "array_conversions").unwrap();
     assert_eq!(erased, "mod array;\n\n\npub use array::A;\n\nuse array::D;\n");
     stays(text);
+    let refusal = erase_text("#[inline]\nmod conversion;\nfn f() {}\n", "array_conversions").unwrap_err();
+    assert!(refusal.why.contains("a module that is left out, in an unknown place"), "{refusal}");
 }
 
 #[test]
@@ -364,8 +369,14 @@ fn macros_that_are_unknown_are_refused() {
     is_refused("macro_rules! m ( () => {} );\n", 1, "`macro_rules!` of an unknown form");
     is_refused("macro_rules! m { () => { x.clone() } }\n", 1, "`clone`");
     is_refused("macro_rules! m { () => { println!() } }\n", 1, "the macro `println!`");
-    is_refused("macro_rules! m { ($x:ident $t:ident) => { $t! {} } }\n", 1, "the macro `$t!`, whose name");
-    is_refused("macro_rules! m { ($t:ident()) => { $t! {} }; () => { 1 } }\n", 1, "the macro `$t!`, whose name");
+    is_refused("macro_rules! m { ($x:ident $t:ident) => { $t! {} } }\n", 1, "the macro `$t!`, which the only");
+    is_refused("macro_rules! m { ($t:ident()) => { $t! {} }; () => { 1 } }\n", 1, "the macro `$t!`, which the only");
+    is_refused("macro_rules! m { ($t:ident, $u:ident) => { $t! {} $u! {} } }\n", 1, "the macro `$u!`, which the only");
+    is_refused(
+        "macro_rules! m { ($t:ident()) => { $t!() } }\nmacro_rules! n { ($t:ident) => { m!($t()) } }\n",
+        2,
+        "the macro `$!`",
+    );
     is_refused("macro_rules! m { ($t:ident()) => { $t!() } }\nfn f() { m!(println()) }\n", 2, "the macro `println!`");
     is_refused("macro_rules! m { () => { fn f() ensures { a } {} } }\n", 1, "a clause in a macro");
 }

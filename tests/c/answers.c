@@ -1,0 +1,239 @@
+/* answers SEED COUNT: makes COUNT calls of each function, of operands that are drawn from the seed, and prints a
+ * checksum of all that the function returned and wrote. Two libraries whose lines are equal gave the same answers, bit
+ * for bit; tests/c/run compares those of the libraries that it is given.
+ *
+ * A third of the operands have random bits, the others a special pattern: zeros, ones, the least and the greatest
+ * exponents, powers of two, and what differs from the operand before in the last bits. One format or mode in sixteen is
+ * unknown. An answer that a call leaves as it was shows what was in it before. */
+#include "apfloat.h"
+
+#include <stdio.h>
+#include <stdlib.h>
+#include <string.h>
+
+/* ---- random numbers: splitmix64 */
+
+static uint64_t state;
+
+static uint64_t draw(void) {
+    uint64_t z = state += UINT64_C(0x9e3779b97f4a7c15);
+    z = (z ^ z >> 30) * UINT64_C(0xbf58476d1ce4e5b9);
+    z = (z ^ z >> 27) * UINT64_C(0x94d049bb133111eb);
+    return z ^ z >> 31;
+}
+
+static uint32_t below(uint32_t limit) {
+    return (uint32_t)(draw() % limit);
+}
+
+/* ---- the checksum: FNV-1a */
+
+static uint64_t checksum;
+
+static void add_bytes(const void *bytes, size_t length) {
+    for (size_t i = 0; i < length; i++) checksum = (checksum ^ ((const uint8_t *)bytes)[i]) * UINT64_C(0x100000001b3);
+}
+
+/* ---- operands */
+
+static const uint32_t bits_of[] = {0, 16, 32, 64, 128, 16, 8, 8, 8, 80, 128};
+static const uint32_t exponent_bits_of[] = {0, 5, 8, 11, 15, 8, 5, 4, 4, 15, 11};
+
+static uint32_t draw_format(void) {
+    static const uint32_t flags[] = {0, 0, APFLOAT_IEEE_FLAGS, APFLOAT_IEEE_FLAGS | APFLOAT_TINY_BEFORE_ROUNDING};
+    if (below(16) == 0) return (uint32_t)draw() >> below(32);
+    uint32_t format = 1 + below(10);
+    return format == APFLOAT_E4M3FN || format == APFLOAT_E4M3FNUZ || format == APFLOAT_DOUBLE_PAIR
+               ? format
+               : format | flags[below(4)];
+}
+
+static uint32_t draw_mode(void) {
+    return below(16) == 0 ? (uint32_t)draw() >> below(32) : below(5);
+}
+
+static apfloat_halves shifted(uint64_t number, uint32_t places) {
+    apfloat_halves bits = {0, 0};
+    if (places < 64) bits.low = number << places;
+    if (places >= 64) bits.high = number << (places - 64);
+    if (places > 0 && places < 64) bits.high = number >> (64 - places);
+    return bits;
+}
+
+static apfloat_halves either(apfloat_halves a, apfloat_halves b) {
+    a.low |= b.low;
+    a.high |= b.high;
+    return a;
+}
+
+static apfloat_halves draw_value(uint32_t format, apfloat_halves before) {
+    uint32_t known = format & 0xff, kind = below(12);
+    apfloat_halves bits = {draw(), draw()};
+    if (known == 0 || known > 10 || kind < 4) return bits;
+    uint32_t width = bits_of[known], exponent_bits = exponent_bits_of[known];
+    uint32_t digits = known == APFLOAT_DOUBLE_PAIR ? 52 : width - 1 - exponent_bits;
+    uint32_t fraction = digits < 64 ? digits : 63;
+    uint64_t greatest = (UINT64_C(1) << exponent_bits) - 1, middle = greatest / 2;
+    apfloat_halves sign = shifted(below(2), known == APFLOAT_DOUBLE_PAIR ? 63 : width - 1);
+    apfloat_halves integer = shifted(known == APFLOAT_X87, 63);
+    switch (kind) {
+    case 4: /* zeros, subnormal numbers of few digits */
+        return either(sign, shifted(below(4), below(digits)));
+    case 5: /* infinities, NaNs, the greatest numbers */
+        return either(either(sign, integer), shifted(greatest - below(3), digits));
+    case 6: /* ones in all digits */
+        bits.low = bits.high = UINT64_MAX;
+        bits.low ^= UINT64_C(1) << below(64);
+        return bits;
+    case 7: /* powers of two, and sums of two */
+        return either(either(either(sign, integer), shifted(middle + below(8) - 4, digits)),
+                      shifted(below(2), below(digits)));
+    case 8: /* any exponent, one or two digits */
+        return either(either(either(sign, integer), shifted(draw() & greatest, digits)), shifted(1, below(digits)));
+    case 9: /* near the operand before */
+        before.low += below(5) - UINT64_C(2);
+        return before;
+    case 10: /* near it, of the other sign, and at a distance */
+        before.low ^= below(16);
+        return either(before, sign);
+    default: /* near 1 */
+        return either(either(integer, shifted(middle, digits)), shifted(draw() >> (64 - fraction), 0));
+    }
+}
+
+static size_t draw_text(char *text) {
+    static const char *const pieces[] = {"0",  "1",  "9",   "5",   ".",   "e",     "E-", "p",  "P-1", "0x", "0x1.",
+                                         "-",  "+",  "inf", "nan", "NaN", "snan1", "f",  "00", "25",  "\n", "999",
+                                         "e3", "p4", "a.b", "-0x", "0.1", "1e-7",  "",   " "};
+    size_t length = 0;
+    for (uint32_t count = below(7); count > 0; count--) {
+        const char *piece = pieces[below(sizeof pieces / sizeof pieces[0])];
+        memcpy(text + length, piece, strlen(piece));
+        length += strlen(piece);
+    }
+    if (below(64) == 0) text[length++] = (char)draw();
+    return length;
+}
+
+/* ---- calls */
+
+static apfloat_answer *fresh(void) {
+    static apfloat_answer answer;
+    memset(&answer, 0xa5, sizeof answer);
+    return &answer;
+}
+
+static void note(uint32_t code, const apfloat_answer *answer) {
+    add_bytes(&code, sizeof code);
+    add_bytes(answer, sizeof *answer);
+}
+
+#define CALL(NAME, ...) \
+    do { \
+        apfloat_answer *answer = fresh(); \
+        note(NAME(__VA_ARGS__, answer), answer); \
+    } while (0)
+
+static const char *const names[] = {
+    "add",       "sub",   "mul",     "div",       "rem",     "mod",      "fma",   "sqrt",          "convert",
+    "from_u128", "from_i128", "to_u128", "to_i128", "integral", "scalbn", "ilogb", "frexp",         "next_up",
+    "next_down", "compare", "classify", "parse",  "parse_decimal", "shortest", "convert_array", "map_array"};
+#define KINDS (sizeof names / sizeof names[0])
+
+static void call_on_arrays(uint32_t kind) {
+    uint8_t operands[3][64], results[1100];
+    size_t lengths[3];
+    apfloat_array_answer answer;
+    uint32_t format = draw_format(), mode = draw_mode(), to = draw_format(), operation = below(10);
+    uint32_t width = (format & 0xff) <= 10 && (format & 0xff) > 0 ? bits_of[format & 0xff] / 8 : 1;
+    uint32_t most = below(64 / width + 1);
+    apfloat_halves before = {0, 0};
+    for (size_t i = 0; i < 3; i++) {
+        for (size_t place = 0; place + width <= sizeof operands[i]; place += width) {
+            before = draw_value(format, before);
+            uint64_t words[2] = {before.low, before.high};
+            for (uint32_t byte = 0; byte < width; byte++)
+                operands[i][place + byte] = (uint8_t)(words[byte / 8] >> byte % 8 * 8);
+        }
+        lengths[i] = most * width;
+    }
+    memset(results, 0x5a, sizeof results);
+    memset(&answer, 0xa5, sizeof answer);
+    if (operation < 7) lengths[2] = 0;
+    if (operation == APFLOAT_SQRT) lengths[1] = lengths[2] = 0;
+    if (below(16) == 0) lengths[below(3)] = below(64);
+    size_t room = below(16) == 0 ? below(sizeof results) : sizeof results;
+    if (below(4) == 0) mode |= APFLOAT_SATURATE;
+    uint32_t code = kind == 0
+                        ? apfloat_convert_array(format, mode, to, operands[0], lengths[0], results, room, &answer)
+                        : apfloat_map_array(format, mode & ~APFLOAT_SATURATE, operation, operands[0], lengths[0],
+                                            operands[1], lengths[1], operands[2], lengths[2], results, room, &answer);
+    add_bytes(&code, sizeof code);
+    add_bytes(&answer, sizeof answer);
+    add_bytes(results, sizeof results);
+}
+
+static void call(size_t kind) {
+    uint32_t format = draw_format(), mode = draw_mode(), to = draw_format(), width = below(140);
+    uint32_t magnitude = (uint32_t)draw() >> below(32);
+    int32_t power = below(2) ? (int32_t)(magnitude / 2) : -(int32_t)(magnitude / 2);
+    apfloat_halves zero = {0, 0}, x = draw_value(format, zero), y = draw_value(format, x), z = draw_value(format, y);
+    apfloat_halves number = shifted(draw() >> below(64), below(65));
+    apfloat_text written;
+    char text[64];
+    size_t length;
+    switch (kind) {
+    case 0: CALL(apfloat_add, format, mode, x, y); break;
+    case 1: CALL(apfloat_sub, format, mode, x, y); break;
+    case 2: CALL(apfloat_mul, format, mode, x, y); break;
+    case 3: CALL(apfloat_div, format, mode, x, y); break;
+    case 4: CALL(apfloat_rem, format, x, y); break;
+    case 5: CALL(apfloat_mod, format, x, y); break;
+    case 6: CALL(apfloat_fma, format, mode, x, y, z); break;
+    case 7: CALL(apfloat_sqrt, format, mode, x); break;
+    case 8: CALL(apfloat_convert, format, mode, to, x); break;
+    case 9: CALL(apfloat_from_u128, format, mode, number); break;
+    case 10: CALL(apfloat_from_i128, format, mode, number); break;
+    case 11: CALL(apfloat_to_u128, format, mode, x, width); break;
+    case 12: CALL(apfloat_to_i128, format, mode, x, width); break;
+    case 13: CALL(apfloat_round_to_integral, format, mode, x); break;
+    case 14: CALL(apfloat_scalbn, format, mode, x, power); break;
+    case 15: CALL(apfloat_ilogb, format, x); break;
+    case 16: CALL(apfloat_frexp, format, mode, x); break;
+    case 17: CALL(apfloat_next_up, format, x); break;
+    case 18: CALL(apfloat_next_down, format, x); break;
+    case 19: CALL(apfloat_compare, format, x, y); break;
+    case 20: CALL(apfloat_classify, format, x); break;
+    case 21:
+        length = draw_text(text);
+        CALL(apfloat_parse, format, mode, (const uint8_t *)text, length);
+        break;
+    case 22:
+        length = draw_text(text);
+        CALL(apfloat_parse_decimal, format, mode, (const uint8_t *)text, length);
+        break;
+    case 23: {
+        memset(&written, 0xa5, sizeof written);
+        uint32_t code = apfloat_shortest(format, x, &written);
+        add_bytes(&code, sizeof code);
+        add_bytes(&written, sizeof written);
+        break;
+    }
+    default: call_on_arrays((uint32_t)kind - 24); break;
+    }
+}
+
+int main(int argc, char **argv) {
+    if (argc != 3) {
+        fprintf(stderr, "usage: answers SEED COUNT\n");
+        return 2;
+    }
+    uint64_t seed = strtoull(argv[1], NULL, 0), count = strtoull(argv[2], NULL, 0);
+    for (size_t kind = 0; kind < KINDS; kind++) {
+        state = seed + kind;
+        checksum = UINT64_C(0xcbf29ce484222325);
+        for (uint64_t i = 0; i < count; i++) call(kind);
+        printf("%s: %016llx\n", names[kind], (unsigned long long)checksum);
+    }
+    return 0;
+}
