@@ -1,6 +1,6 @@
 /* answers SEED COUNT: makes COUNT calls of each function, of operands that are drawn from the seed, and prints a
  * checksum of all that the function returned and wrote. Two libraries whose lines are equal gave the same answers, bit
- * for bit; tests/c/run compares those of the libraries that it is given.
+ * for bit; tests/c/run compares those of the libraries that it is given. (Another compiler may draw in another order.)
  *
  * A third of the operands have random bits, the others a special pattern: zeros, ones, the least and the greatest
  * exponents, powers of two, and what differs from the operand before in the last bits. One format or mode in sixteen is
@@ -101,17 +101,40 @@ static apfloat_halves draw_value(uint32_t format, apfloat_halves before) {
     }
 }
 
-static size_t draw_text(char *text) {
-    static const char *const pieces[] = {"0",  "1",  "9",   "5",   ".",   "e",     "E-", "p",  "P-1", "0x", "0x1.",
-                                         "-",  "+",  "inf", "nan", "NaN", "snan1", "f",  "00", "25",  "\n", "999",
-                                         "e3", "p4", "a.b", "-0x", "0.1", "1e-7",  "",   " "};
+static size_t put(char *text, const char *part) {
+    size_t length = strlen(part);
+    memcpy(text, part, length);
+    return length;
+}
+
+static size_t draw_digits(char *text, uint32_t base, uint32_t most) {
+    uint32_t length = below(most + 1);
+    for (uint32_t i = 0; i < length; i++) text[i] = "0123456789abcdef"[below(4) == 0 ? 0 : below(base)];
+    return length;
+}
+
+/* A number in this base, or, once in eight times, parts of texts in any order. */
+static size_t draw_text(char *text, uint32_t base) {
+    static const char *const parts[] = {"0",  "1", ".", "e",   "E-",  "p",     "P-1",
+                                        "0x", "-", "+", "inf", "nan", "snan1", " "};
     size_t length = 0;
-    for (uint32_t count = below(7); count > 0; count--) {
-        const char *piece = pieces[below(sizeof pieces / sizeof pieces[0])];
-        memcpy(text + length, piece, strlen(piece));
-        length += strlen(piece);
+    if (below(8) == 0) {
+        for (uint32_t count = below(7); count > 0; count--) {
+            length += put(text + length, parts[below(sizeof parts / sizeof parts[0])]);
+        }
+        if (below(4) == 0) text[length++] = (char)draw();
+        return length;
     }
-    if (below(64) == 0) text[length++] = (char)draw();
+    if (below(2)) text[length++] = '-';
+    if (base == 16) length += put(text + length, "0x");
+    length += draw_digits(text + length, base, 20);
+    if (below(4)) text[length++] = '.';
+    length += draw_digits(text + length, base, 20);
+    if (base == 16 || below(2)) {
+        text[length++] = base == 16 ? 'p' : 'e';
+        if (below(2)) text[length++] = '-';
+        length += draw_digits(text + length, 10, below(4) + 1);
+    }
     return length;
 }
 
@@ -205,11 +228,11 @@ static void call(size_t kind) {
     case 19: CALL(apfloat_compare, format, x, y); break;
     case 20: CALL(apfloat_classify, format, x); break;
     case 21:
-        length = draw_text(text);
+        length = draw_text(text, 16);
         CALL(apfloat_parse, format, mode, (const uint8_t *)text, length);
         break;
     case 22:
-        length = draw_text(text);
+        length = draw_text(text, below(4) ? 10 : 16);
         CALL(apfloat_parse_decimal, format, mode, (const uint8_t *)text, length);
         break;
     case 23: {
