@@ -2,6 +2,7 @@
 // What only other crates of the repository use is unused here, and so is a parameter that only contracts name.
 #![allow(dead_code, unused_imports, unused_macros, unused_variables, clippy::all)]
 
+// The package for Rust has the same one.
 #[path = "../../rustc_apfloat/src/erased/bitflags.rs"]
 pub(crate) mod bitflags;
 
