@@ -3,8 +3,8 @@
     python3 evidence/format_of.py | diff - crates/layer_tests/src/format_of_rows.rt
 
 Each exact result is a fraction, which is rounded once to the format of the result. The operands
-are drawn from a seed; half of them make the rounding to the operands' own format end halfway
-between two numbers of the other one, where rounding twice would go wrong.
+are drawn from a seed: most are numbers and midpoints of the format of the result, or next to them
+by a unit of the operands' format; others are special, or any bits.
 """
 
 from fractions import Fraction
@@ -82,7 +82,7 @@ def sum_of(target, mode, x, y, left, right):
 
 
 def root_of(target, mode, exact):
-    """The root of a positive fraction: halfway between two sixteenths of a quantum if it is none."""
+    """The root of a positive fraction; if it is none, halfway between two sixteenths of a quantum."""
     square = exact * (1 << 2 * target.scale + 8)
     root = isqrt(square.numerator // square.denominator)
     if root * root == square:
@@ -113,7 +113,9 @@ def computed(source, target, operation, mode, data):
             return number(target, signs[0], 0), OK
         if signs[0]:
             return invalid(target)
-        return infinite(target, False) if data[0] == Infinite(False) else root_of(target, mode, numbers[0])
+        if data[0] == Infinite(False):
+            return infinite(target, False)
+        return root_of(target, mode, numbers[0])
     negative = signs[0] != signs[1]
     infinities = [isinstance(x, Infinite) for x in data[:2]]
     if operation == "Quotient":
@@ -134,7 +136,9 @@ def computed(source, target, operation, mode, data):
         product = numbers[0] * numbers[1]
     if operation == "FusedSum":
         return sum_of(target, mode, product, numbers[2], negative, signs[2])
-    return infinite(target, negative) if any(infinities) else rounded(target, mode, product, negative)
+    if any(infinities):
+        return infinite(target, negative)
+    return rounded(target, mode, product, negative)
 
 
 def operand(choices, source, target):
@@ -143,8 +147,8 @@ def operand(choices, source, target):
     if kind == 0:
         return choices.getrandbits(source.bits)
     if kind == 1:
-        special = (Infinite(False), Infinite(True), number(source, True, 0), number(source, False, 0))
-        x = choices.choice(special)
+        zeros = (number(source, True, 0), number(source, False, 0))
+        x = choices.choice((Infinite(False), Infinite(True), *zeros))
         if isinstance(x, Infinite) and not source.has_infinity:
             x = number(source, x.negative, source.largest)
         return encoded(source, x)
@@ -153,12 +157,14 @@ def operand(choices, source, target):
     exponent = choices.randint(least, greatest) + source.scale
     digits = min(source.precision, target.precision + 1) if kind < 6 else source.precision
     lead = choices.getrandbits(digits) | 1 << digits - 1
-    quanta = lead << exponent - digits + 1 if exponent >= digits - 1 else max(1, lead >> digits - 1 - exponent)
+    place = exponent - digits + 1
+    quanta = max(1, lead << place if place >= 0 else lead >> -place)
     nudge = choices.choice((0, 0, 1, -1)) << max(0, quanta.bit_length() - source.precision)
-    x = decoded(source, encoded(source, number(source, choices.random() < 0.5, min(source.largest, max(1, quanta)))))
+    negative = choices.random() < 0.5
+    x = number(source, negative, min(source.largest, quanta))
     near = min(source.largest, max(1, x.quanta + nudge))
-    if near.bit_length() <= source.precision or near % (1 << near.bit_length() - source.precision) == 0:
-        x = number(source, x.negative, near)
+    if near % (1 << max(0, near.bit_length() - source.precision)) == 0:
+        x = number(source, negative, near)
     return encoded(source, x)
 
 
@@ -185,7 +191,8 @@ def line(source, target, operation, mode, bits):
 
 def main():
     choices = Random(2019)
-    print("//! Rows of operations whose result is of another format, computed by `evidence/format_of.py`.")
+    print("//! Rows of operations whose result is of another format, computed by", end=" ")
+    print("`evidence/format_of.py`.")
     print()
     print("use crate::format_of::{Operation, Row};")
     print("use apfloat_model::Round;")
@@ -198,7 +205,8 @@ def main():
                 bits = [operand(choices, source, target) for _ in range(count)]
                 rows.append(line(source, target, operation, mode, bits))
         print()
-        print(f"pub(crate) static {source_name.upper()}_TO_{target_name.upper()}: [Row; {len(rows)}] = [")
+        name = f"{source_name}_TO_{target_name}".upper()
+        print(f"pub(crate) static {name}: [Row; {len(rows)}] = [")
         print("\n".join(rows))
         print("];")
 
