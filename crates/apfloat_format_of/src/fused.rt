@@ -1,6 +1,6 @@
 //! Fused sums: the product of two operands plus a third, rounded once.
 
-ghost use Rattle.std.specs.Prelude.{◌≡◌, ℕ};
+ghost use Rattle.std.specs.Prelude.{ℕ};
 ghost use Rattle.apfloat_model.specs.declared.kinds.Round.{Round};
 ghost use Rattle.apfloat_rounding.specs.Shapes.{format_at};
 ghost use Rattle.apfloat_rounding.specs.Stored.{IsStored, GivesAt};

@@ -1,6 +1,6 @@
 //! Quotients.
 
-ghost use Rattle.std.specs.Prelude.{◌≡◌, ℕ, ◌<◌, ◌+◌, ◌*◌, ◌^◌};
+ghost use Rattle.std.specs.Prelude.{ℕ, ◌<◌, ◌+◌, ◌*◌, ◌^◌};
 ghost use Rattle.apfloat_model.specs.arithmetic.Exact.{product_sign};
 ghost use Rattle.apfloat_model.specs.arithmetic.Quotients.{div_by_zero_bit};
 ghost use Rattle.apfloat_model.specs.formats.Constants.{infinity_of};

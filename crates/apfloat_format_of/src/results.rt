@@ -1,8 +1,7 @@
 //! Results in the format of the target.
 
-ghost use Rattle.std.specs.Prelude.{◌≡◌, ℕ, ℤ, ◌<◌};
+ghost use Rattle.std.specs.Prelude.{ℕ, ℤ};
 ghost use Rattle.apfloat_model.specs.rounding.Bounds.{IsWithin, exponent_bound};
-ghost use Rattle.apfloat_model.specs.formats.Nan.{invalid_if};
 ghost use Rattle.apfloat_model.specs.arithmetic.Sums.{zero_sum_sign};
 ghost use Rattle.apfloat_rounding.specs.Shapes.{format_at};
 ghost use Rattle.apfloat_rounding.specs.Stored.{IsStored, datum_at, GivesAt};

@@ -1,6 +1,6 @@
 //! Sums and differences.
 
-ghost use Rattle.std.specs.Prelude.{◌≡◌, ◌+◌, ◌*◌, ◌^◌, ℕ};
+ghost use Rattle.std.specs.Prelude.{ℕ};
 ghost use Rattle.apfloat_rounding.specs.Shapes.{format_at};
 ghost use Rattle.apfloat_rounding.specs.Stored.{IsStored, GivesAt};
 ghost use Rattle.apfloat_format_of.specs.Extended.{Extended, number, infinity, opposite};

@@ -7,7 +7,6 @@
 //! A NaN is quieted and then converted, as `convert_r` does, with INVALID_OP if an operand is signaling; an infinity is
 //! converted too, so that it raises INEXACT in a target without infinities.
 
-ghost use Rattle.std.specs.Prelude.{◌≡◌};
 ghost use Rattle.apfloat_model.specs.rounding.Flags.{Gives};
 ghost use Rattle.apfloat_format_of.specs.Extended.{seen};
 ghost use Rattle.apfloat_format_of.specs.FormatOf.{IsSumTo, IsDifferenceTo, IsProductTo, IsQuotientTo, IsFusedSumTo};
