@@ -9,11 +9,11 @@ mod NumberClasses
 mod PowerFactors
 mod ExactInverses
 mod WideTerms
-mod WideProducts
+pub mod WideProducts
 mod FusedCases
 mod SpecialRemainders
 mod SpecialProducts
-mod Additions
+pub mod Additions
 mod SumCases
 mod StepBounds
 pub mod WordQuotients

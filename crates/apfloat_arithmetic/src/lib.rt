@@ -6,7 +6,7 @@
 #![tactic(auto)]
 
 pub mod classes;
-mod exact;
+pub mod exact;
 pub mod fused;
 pub mod inverses;
 pub mod order;

@@ -16,9 +16,11 @@ use apfloat_words::root_of;
 
 /// Half of an exponent, rounded down, and 1 if it is odd.
 #[derive(Clone, Copy, Debug)]
-struct Halves {
-    half: ExpInt,
-    odd: u32,
+pub struct Halves {
+    /// Half of it, rounded down.
+    pub half: ExpInt,
+    /// 1 if it is odd.
+    pub odd: u32,
 }
 
 /// Half of the even number that is added to an exponent so that it is not negative: exponents of numbers are at most
@@ -27,7 +29,7 @@ const HALF_RAISE: ExpInt = 2097152;
 
 /// Half of an exponent. An even number is added first, so that the exponent is not negative.
 #[inline(always)]
-fn halves_of(exponent: ExpInt) -> Halves
+pub fn halves_of(exponent: ExpInt) -> Halves
     requires { IsWithin number_bound exponent }
     ensures odd { result.odd ≤ 1 }
     ensures halves { exponent ≡ (result.half +ℤ result.half) +ℤ pos result.odd }

@@ -42,7 +42,7 @@ fn term_of(shape: Shape, x: Unpacked) -> Term
 
 /// The sign of an exact zero as the sum of numbers with these signs (IEEE 754-2008 6.3).
 #[inline(always)]
-pub(crate) fn sign_of_zero(round: Round, left: bool, right: bool) -> bool
+pub fn sign_of_zero(round: Round, left: bool, right: bool) -> bool
     ensures { result ≡ zero_sum_sign round left right }
 {
     if left == right {
@@ -59,7 +59,7 @@ pub(crate) fn sign_of_zero(round: Round, left: bool, right: bool) -> bool
 
 /// The sign of a total that was rounded to odd; `of_zero` if it is zero, in which case it is exact.
 #[inline(always)]
-fn sign_of_odd_total(significand: u128, negative: bool, of_zero: bool) -> bool
+pub fn sign_of_odd_total(significand: u128, negative: bool, of_zero: bool) -> bool
     ensures zero { significand ≡ 0 → result ≡ of_zero }
     ensures other { (significand ≡ 0 → ⊥) → result ≡ negative }
 {

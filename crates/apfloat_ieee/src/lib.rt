@@ -1,13 +1,14 @@
 //! Arithmetic on the values of one binary floating-point format, generic over the format.
 //!
 //! A format is a type that implements `Semantics`; `IeeeFloat<S>` is a value of the format `S`. The work is done by the
-//! functions of `apfloat_rounding`, `apfloat_arithmetic`, `apfloat_conversions` and `apfloat_hex_texts`, which take a
-//! `Shape`, the constants of a format that rounding reads; the generic functions only supply the constants of a type.
+//! functions of `apfloat_rounding`, `apfloat_arithmetic` and the crates beside it, which take a `Shape`, the constants of
+//! a format that rounding reads; the generic functions only supply the constants of a type.
 #![tactic(auto)]
 
 mod convert;
 mod debug;
 pub mod flagged;
+pub mod format_of;
 pub mod fused;
 pub mod ieee_float;
 pub mod impls;

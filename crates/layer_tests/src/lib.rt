@@ -12,6 +12,10 @@ mod decimal_values;
 #[cfg(test)]
 mod decimals;
 #[cfg(test)]
+mod format_of;
+#[cfg(test)]
+mod format_of_rows;
+#[cfg(test)]
 mod modes;
 #[cfg(test)]
 mod quotients;

@@ -16,7 +16,7 @@ use std::path::{Path, PathBuf};
 use walk::{Erased, Place};
 
 /// The crates of the library, lowest first.
-pub const LIBRARY: [&str; 13] = [
+pub const LIBRARY: [&str; 14] = [
     "apfloat_model",
     "apfloat_words",
     "apfloat_base",
@@ -24,6 +24,7 @@ pub const LIBRARY: [&str; 13] = [
     "apfloat_rounding",
     "apfloat_arithmetic",
     "apfloat_conversions",
+    "apfloat_format_of",
     "apfloat_hex_texts",
     "apfloat_ieee",
     "apfloat_formats",

@@ -1,0 +1,6 @@
+mod Exponents
+mod OddTotals
+mod Cases
+mod Once
+mod RootDeliveries
+mod RootExponents

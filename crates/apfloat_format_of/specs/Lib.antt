@@ -1,0 +1,5 @@
+pub mod Extended
+pub mod Operands
+pub mod FormatOf
+pub mod RootsOf
+pub mod Theorems

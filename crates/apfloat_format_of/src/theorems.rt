@@ -1,0 +1,14 @@
+//! Theorems about the definitions that the calls cite, as contracts of functions with empty bodies.
+
+ghost use Rattle.apfloat_format_of.specs.Theorems.{HasOneSum, HasOneDifference, HasOneProduct, HasOneQuotient};
+ghost use Rattle.apfloat_format_of.specs.Theorems.{HasOneFusedSum, HasOneRoot};
+
+/// Each operation has at most one value and one status, for all formats, modes and operands.
+pub fn operations_have_one_answer()
+    ensures sum { HasOneSum }
+    ensures difference { HasOneDifference }
+    ensures product { HasOneProduct }
+    ensures quotient { HasOneQuotient }
+    ensures fused_sum { HasOneFusedSum }
+    ensures root { HasOneRoot }
+{}
