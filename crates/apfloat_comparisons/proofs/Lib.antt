@@ -4,3 +4,6 @@ pub mod NanSignificands
 pub mod Truncated
 pub mod ZerosOrdered
 pub mod OneFormat
+pub mod QuietNans
+pub mod Logarithms
+pub mod IntegralOnce

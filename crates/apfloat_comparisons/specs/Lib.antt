@@ -5,3 +5,6 @@ pub mod TwoFormats
 pub mod TotalOrder
 pub mod Classes
 pub mod StatusFlags
+pub mod Extrema
+pub mod Exponents
+pub mod WholeNumbers

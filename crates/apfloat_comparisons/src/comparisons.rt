@@ -31,7 +31,7 @@ pub fn compare<S: Flagged>(
 
 /// Whether the comparison of two values is an invalid operation (7.2).
 #[inline]
-fn is_invalid<S: Flagged>(on_nan: OnNan, x: IeeeFloat<S>, y: IeeeFloat<S>) -> bool
+pub(crate) fn is_invalid<S: Flagged>(on_nan: OnNan, x: IeeeFloat<S>, y: IeeeFloat<S>) -> bool
     ensures { result ≡ is_invalid (format_of S.Flagged) on_nan x y }
 {
     match on_nan {

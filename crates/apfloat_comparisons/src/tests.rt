@@ -1,9 +1,10 @@
-//! Rows by hand in `Half`, and sweeps of all pairs of 8-bit codes, whose expected results are computed from the codes.
+//! Rows by hand in `Half` and 8-bit formats, and sweeps of all pairs of 8-bit codes, whose expected results are
+//! computed from the codes.
 
 ghost use Rattle.std.specs.Prelude.{◌<◌};
 
 use crate::*;
-use apfloat_base::{Flags, Float, Status, StatusAnd};
+use apfloat_base::{Flags, Float, IEK_INF, IEK_NAN, IEK_ZERO, Round, Status, StatusAnd};
 use apfloat_formats::{Float8E4M3FNS, Float8E5M2S, Half, HalfS, X87DoubleExtendedS};
 use apfloat_ieee::{IeeeFloat, Semantics};
 use std::cmp::Ordering;
@@ -471,4 +472,242 @@ fn flags(rt: HostRuntime) {
         restored,
         "restored",
     );
+}
+
+// ---- minima and maxima
+
+/// Two operands; their minimum, maximum, minimumMagnitude and maximumMagnitude, and these four with `Number`; and the
+/// status, all by 9.6.
+const EXTREMA: [(u128, u128, [u128; 8], Status); 11] = [
+    (
+        0x3c00,
+        0xc000,
+        [
+            0xc000, 0x3c00, 0x3c00, 0xc000, 0xc000, 0x3c00, 0x3c00, 0xc000,
+        ],
+        Status::OK,
+    ),
+    (
+        0xc000,
+        0x3c00,
+        [
+            0xc000, 0x3c00, 0x3c00, 0xc000, 0xc000, 0x3c00, 0x3c00, 0xc000,
+        ],
+        Status::OK,
+    ),
+    (
+        0x3c00,
+        0xbc00,
+        [
+            0xbc00, 0x3c00, 0xbc00, 0x3c00, 0xbc00, 0x3c00, 0xbc00, 0x3c00,
+        ],
+        Status::OK,
+    ),
+    (
+        0x0000,
+        0x8000,
+        [
+            0x8000, 0x0000, 0x8000, 0x0000, 0x8000, 0x0000, 0x8000, 0x0000,
+        ],
+        Status::OK,
+    ),
+    (
+        0x8000,
+        0x0000,
+        [
+            0x8000, 0x0000, 0x8000, 0x0000, 0x8000, 0x0000, 0x8000, 0x0000,
+        ],
+        Status::OK,
+    ),
+    (
+        0x7c00,
+        0xfc00,
+        [
+            0xfc00, 0x7c00, 0xfc00, 0x7c00, 0xfc00, 0x7c00, 0xfc00, 0x7c00,
+        ],
+        Status::OK,
+    ),
+    (
+        0x3c00,
+        0x7e05,
+        [
+            0x7e05, 0x7e05, 0x7e05, 0x7e05, 0x3c00, 0x3c00, 0x3c00, 0x3c00,
+        ],
+        Status::OK,
+    ),
+    (
+        0x7e05,
+        0x3c00,
+        [
+            0x7e05, 0x7e05, 0x7e05, 0x7e05, 0x3c00, 0x3c00, 0x3c00, 0x3c00,
+        ],
+        Status::OK,
+    ),
+    (
+        0x7c01,
+        0x3c00,
+        [
+            0x7e01, 0x7e01, 0x7e01, 0x7e01, 0x3c00, 0x3c00, 0x3c00, 0x3c00,
+        ],
+        INVALID,
+    ),
+    (
+        0x3c00,
+        0xfc01,
+        [
+            0xfe01, 0xfe01, 0xfe01, 0xfe01, 0x3c00, 0x3c00, 0x3c00, 0x3c00,
+        ],
+        INVALID,
+    ),
+    (
+        0x7e05,
+        0xfc01,
+        [
+            0x7e05, 0x7e05, 0x7e05, 0x7e05, 0x7e05, 0x7e05, 0x7e05, 0x7e05,
+        ],
+        INVALID,
+    ),
+];
+
+const INVALID: Status = Status::INVALID_OP;
+
+#[test]
+fn extrema(rt: HostRuntime) {
+    for (a, b, bits, status) in EXTREMA {
+        let x = HalfS::from_bits(a);
+        let y = HalfS::from_bits(b);
+        let answers = [
+            minimum_of(x, y),
+            maximum_of(x, y),
+            minimum_magnitude_of(x, y),
+            maximum_magnitude_of(x, y),
+            minimum_number_of(x, y),
+            maximum_number_of(x, y),
+            minimum_magnitude_number_of(x, y),
+            maximum_magnitude_number_of(x, y),
+        ];
+        for i in 0..8 {
+            same(&rt, bits_of(answers[i]), status.and(bits[i]), (a, b, i));
+        }
+    }
+}
+
+/// A value of `half` as its bits.
+fn bits_of(answer: StatusAnd<Half>) -> StatusAnd<u128> {
+    answer.status.and(answer.value.to_bits())
+}
+
+// ---- integers and exponents
+
+const MODES: [Round; 5] = [
+    Round::NearestTiesToEven,
+    Round::TowardPositive,
+    Round::TowardNegative,
+    Round::TowardZero,
+    Round::NearestTiesToAway,
+];
+
+/// 1.5, 2.5, -0.5 and -1.5 as integers of 8 bits in each mode.
+#[test]
+fn integers(rt: HostRuntime) {
+    let rows = [
+        (0x3e00, [2, 2, 1, 1, 2]),
+        (0x4100, [2, 3, 2, 2, 3]),
+        (0xb800, [0, 0, -1, 0, -1]),
+        (0xbe00, [-2, -1, -2, -1, -2]),
+    ];
+    for (bits, integers) in rows {
+        for i in 0..5 {
+            check_integer(&rt, bits, MODES[i], integers[i]);
+        }
+    }
+}
+
+/// The integer that a value rounds to; a negative one is out of range if it is to be unsigned.
+fn check_integer(rt: &impl Abort, bits: u128, mode: Round, integer: i128) {
+    let x = HalfS::from_bits(bits);
+    let signed = convert_to_signed(x, 8, mode);
+    let exactly = convert_to_signed_exact(x, 8, mode);
+    same(rt, signed, Status::OK.and(integer), (bits, mode));
+    same(rt, exactly, Status::INEXACT.and(integer), (bits, mode));
+    let in_range = integer >= 0;
+    let magnitude = if in_range { integer as u128 } else { 0 };
+    let unsigned = convert_to_unsigned(x, 8, mode);
+    let exactly = convert_to_unsigned_exact(x, 8, mode);
+    let ok = if in_range { Status::OK } else { INVALID };
+    let inexact = if in_range { Status::INEXACT } else { INVALID };
+    same(rt, unsigned, ok.and(magnitude), (bits, mode));
+    same(rt, exactly, inexact.and(magnitude), (bits, mode));
+}
+
+/// Values rounded to integral values toward zero.
+#[test]
+fn integral_values(rt: HostRuntime) {
+    let rows = [
+        (0x3e00, 0x3c00, Status::OK),
+        (0xb800, 0x8000, Status::OK),
+        (0x7c00, 0x7c00, Status::OK),
+        (0xfd00, 0xff00, INVALID),
+    ];
+    for (bits, expected, status) in rows {
+        let answer = round_to_integral_in(HalfS::from_bits(bits), Round::TowardZero);
+        same(&rt, bits_of(answer), status.and(expected), bits);
+    }
+}
+
+/// logB of 1, of the smallest and the largest value, of a zero, an infinity and a signaling NaN. In `e5m2`, which has
+/// no 9, of 2^9; in `e4m3fn`, which has no infinity, of 0.
+#[test]
+fn logarithms(rt: HostRuntime) {
+    let rows = [
+        (0x3c00, 0x0000, Status::OK, 0),
+        (0x0001, 0xce00, Status::OK, -24),
+        (0xfbff, 0x4b80, Status::OK, 15),
+        (0x8000, 0xfc00, Status::DIV_BY_ZERO, IEK_ZERO),
+        (0xfc00, 0x7c00, Status::OK, IEK_INF),
+        (0xfd00, 0xff00, INVALID, IEK_NAN),
+    ];
+    for (bits, expected, status, integer) in rows {
+        let x = HalfS::from_bits(bits);
+        let answer = log_b(x, Round::NearestTiesToEven);
+        same(&rt, bits_of(answer), status.and(expected), bits);
+        let flags = if x.is_finite_non_zero() {
+            Status::OK
+        } else {
+            INVALID
+        };
+        same(&rt, integer_log_b(x), flags.and(integer), bits);
+    }
+    let answer = log_b(Float8E5M2S::from_bits(0x60), Round::NearestTiesToEven);
+    same(
+        &rt,
+        (answer.value.to_bits(), answer.status),
+        (0x48, Status::INEXACT),
+        0x60,
+    );
+    let answer = log_b(Float8E4M3FNS::from_bits(0), Round::NearestTiesToEven);
+    same(
+        &rt,
+        (answer.value.to_bits(), answer.status),
+        (0xff, Status::DIV_BY_ZERO),
+        0,
+    );
+}
+
+/// Values times powers of two, to nearest.
+#[test]
+fn scaled(rt: HostRuntime) {
+    let underflow = Status::UNDERFLOW.union(Status::INEXACT);
+    let rows = [
+        (0x3c00, -25, 0x0000, underflow),
+        (0x3c01, -15, 0x0200, underflow),
+        (0x3c00, 16, 0x7c00, Status::OVERFLOW.union(Status::INEXACT)),
+        (0x0001, 30, 0x5400, Status::OK),
+        (0x8000, 5, 0x8000, Status::OK),
+        (0xfd00, 0, 0xff00, INVALID),
+    ];
+    for (bits, places, expected, status) in rows {
+        let answer = HalfS::from_bits(bits).scale_b(places, Round::NearestTiesToEven);
+        same(&rt, bits_of(answer), status.and(expected), (bits, places));
+    }
 }

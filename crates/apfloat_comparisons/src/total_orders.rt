@@ -62,7 +62,7 @@ pub fn total_cmp<S: Flagged>(x: IeeeFloat<S>, y: IeeeFloat<S>) -> Ordering
 }
 
 /// Whether `x < y`, or the values are equal and not +0 and -0, in this order.
-fn numbers_in_order<S: Flagged>(x: IeeeFloat<S>, y: IeeeFloat<S>) -> bool
+pub(crate) fn numbers_in_order<S: Flagged>(x: IeeeFloat<S>, y: IeeeFloat<S>) -> bool
     ensures { result ≡ numbers_in_order x y }
 {
     x < y || (x == y && (x.is_negative() || !y.is_negative()))
