@@ -8,12 +8,13 @@ use Rattle.apfloat_model.specs.declared.loss.Loss.TheVariants.{ExactlyZero}
 use Rattle.apfloat_model.specs.formats.Format.{Format, largest, greatest_significand}
 use Rattle.apfloat_model.specs.formats.Datum.{Datum, finite}
 use Rattle.apfloat_model.specs.rounding.Bounds.{scaling_bound, span_bound}
-use Rattle.apfloat_model.specs.rounding.Rounding.{IsDelivered, zero_sign}
+use Rattle.apfloat_model.specs.rounding.Rounding.{ok_bits, IsDelivered, zero_sign}
 use Rattle.apfloat_model.specs.arithmetic.Scaling.{IsScaling}
 use Rattle.apfloat_model.specs.rounding.Standing.{StandsFor, up, down}
 use Rattle.apfloat_model.proofs.general.Powers.{two_pos}
 use Rattle.apfloat_model.proofs.formats.Greatest.{greatest_full}
 use Rattle.apfloat_model.proofs.arithmetic.Tables.{scaling_zero}
+use Rattle.apfloat_model.proofs.texts.ZeroTexts.{zero_text}
 use Rattle.apfloat_model.proofs.arithmetic.SingleScalings.{IsClamped, up_le, quanta_below, scaled_is, scaled_stands, clamp_kept}
 use Rattle.apfloat_rounding.specs.declared.shape.Shape.{Shape}
 use Rattle.apfloat_rounding.specs.Shapes.{format_at}
@@ -21,6 +22,7 @@ use Rattle.apfloat_rounding.specs.Stored.{IsOperandAt, IsQuantaAt, IsNormalAt, q
 use Rattle.apfloat_rounding.proofs.StoredBack.{quanta_some}
 use Rattle.apfloat_rounding.proofs.ShapeExponents.{exponent_word, scale_is, span_is}
 use Rattle.apfloat_rounding.proofs.StoredNumbers.{quanta_is, whole_is}
+use Rattle.apfloat_conversions.specs.Scalings.{IsScaled}
 use Rattle.apfloat_conversions.proofs.Wholes.{up_of, places_up, places_down}
 
 -- ---- the number as a fraction, by the exponent of its last digit
@@ -139,3 +141,11 @@ pub zero_scaled : (format : Format) (mode : Round) (negative : Bool) (j : ℤ)
 zero_scaled format mode negative j z =
     subst (λ (b : Bool). IsScaling format mode (finite negative 0) j (finite b 0)) (sym z)
     (scaling_zero format mode negative j)
+
+-- the same with its status
+pub zero_scaled_ok : (format : Format) (mode : Round) (negative : Bool) (j : ℤ)
+    → negative ≡ zero_sign format.nonfinite negative
+    → IsScaled format mode (finite negative 0) j (finite negative 0) ok_bits
+zero_scaled_ok format mode negative j z =
+    subst (λ (b : Bool). IsScaled format mode (finite negative 0) j (finite b 0) ok_bits) (sym z)
+    (zero_text format mode negative j)

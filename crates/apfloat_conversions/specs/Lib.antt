@@ -1,3 +1,4 @@
 pub mod Wholes
 pub mod Held
 pub mod Results
+pub mod Scalings

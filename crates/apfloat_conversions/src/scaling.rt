@@ -8,8 +8,9 @@ ghost use Rattle.apfloat_model.specs.rounding.Rounding.{IsDelivered};
 ghost use Rattle.apfloat_model.specs.arithmetic.Scaling.{IsScaling};
 ghost use Rattle.apfloat_rounding.specs.Shapes.{format_at};
 ghost use Rattle.apfloat_rounding.specs.Stored.{IsStored, IsNormal, quanta_of, datum_at, GivesAt};
+ghost use Rattle.apfloat_conversions.specs.Scalings.{IsScaled};
 
-use apfloat_model::{Category, ExpInt, IEK_INF, IEK_NAN, IEK_ZERO, Loss, Round, StatusAnd};
+use apfloat_model::{Category, ExpInt, IEK_INF, IEK_NAN, IEK_ZERO, Loss, Round, Status, StatusAnd};
 use apfloat_rounding::exponents::{last_exponent, one_higher};
 use apfloat_rounding::nans::propagated;
 use apfloat_rounding::rounding::deliver;
@@ -80,6 +81,27 @@ pub fn scaled(shape: Shape, x: Unpacked, places: ExpInt, round: Round) -> Unpack
         Category::NaN => propagated(shape, x).value,
         Category::Zero => x,
         _ => x,
+    }
+}
+
+/// A value times 2 to the power of `places`, rounded once, with its status (IEEE 754-2008 5.3.3, scaleB).
+#[inline(always)]
+pub fn scaled_with_status(
+    shape: Shape,
+    x: Unpacked,
+    places: ExpInt,
+    round: Round,
+) -> StatusAnd<Unpacked>
+    requires { IsStored shape x }
+    ensures stored { IsStored shape result.value }
+    ensures scaled { GivesAt shape (IsScaled (format_at shape) round (datum_at shape x) places)
+        result }
+{
+    match x.category {
+        Category::Normal => scale_number(shape, x, places, round),
+        Category::NaN => propagated(shape, x),
+        Category::Zero => Status::OK.and(x),
+        _ => Status::OK.and(x),
     }
 }
 

@@ -17,6 +17,7 @@ pub mod products;
 pub mod reading;
 pub mod remainders;
 pub mod roots;
+pub mod scaling;
 pub mod semantics;
 pub mod sums;
 pub mod wide;

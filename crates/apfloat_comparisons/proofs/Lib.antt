@@ -1,0 +1,9 @@
+pub mod OneAnswer
+pub mod TotalOrderLaws
+pub mod NanSignificands
+pub mod Truncated
+pub mod ZerosOrdered
+pub mod OneFormat
+pub mod QuietNans
+pub mod Logarithms
+pub mod IntegralOnce

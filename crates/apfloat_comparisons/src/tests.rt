@@ -1,0 +1,713 @@
+//! Rows by hand in `Half` and 8-bit formats, and sweeps of all pairs of 8-bit codes, whose expected results are
+//! computed from the codes.
+
+ghost use Rattle.std.specs.Prelude.{◌<◌};
+
+use crate::*;
+use apfloat_base::{Flags, Float, IEK_INF, IEK_NAN, IEK_ZERO, Round, Status, StatusAnd};
+use apfloat_formats::{Float8E4M3FNS, Float8E5M2S, Half, HalfS, X87DoubleExtendedS};
+use apfloat_ieee::{IeeeFloat, Semantics};
+use std::cmp::Ordering;
+use std::fmt::Debug;
+use std::process::Abort;
+
+fn same<T: PartialEq + Debug + Drop, C: Debug + Drop>(
+    rt: &impl Abort,
+    got: T,
+    expected: T,
+    case: C,
+) {
+    assert_eq!(rt; got, expected, "{case:?}");
+}
+
+// ---- rows by hand
+
+const ONE: u128 = 0x3c00;
+
+const TWO: u128 = 0x4000;
+
+const MINUS_ZERO: u128 = 0x8000;
+
+const QUIET_NAN: u128 = 0x7e00;
+
+const SIGNALING_NAN: u128 = 0x7c01;
+
+/// A result: false, true, and the same with INVALID_OP.
+#[derive(Clone, Copy, PartialEq, Eq, Debug)]
+enum Is {
+    F,
+    T,
+    FInvalid,
+    TInvalid,
+}
+
+use Is::{F, FInvalid, T, TInvalid};
+
+fn result(answer: StatusAnd<bool>) -> Is {
+    if answer.status == Status::OK {
+        if answer.value { T } else { F }
+    } else if answer.value {
+        TInvalid
+    } else {
+        FInvalid
+    }
+}
+
+/// The results for a lesser, an equal and a greater left value, and for a quiet and a signaling NaN on either side.
+fn check_row<C: Fn(Half, Half) -> StatusAnd<bool>>(
+    rt: &impl Abort,
+    call: C,
+    expected: [Is; 5],
+    name: &str,
+)
+    requires { C.IsAlwaysCallable call }
+{
+    let pairs = [
+        (ONE, TWO),
+        (MINUS_ZERO, 0),
+        (TWO, ONE),
+        (QUIET_NAN, ONE),
+        (ONE, SIGNALING_NAN),
+    ];
+    for i in 0..5 {
+        let (x, y) = pairs[i];
+        let answer = call(HalfS::from_bits(x), HalfS::from_bits(y));
+        same(rt, result(answer), expected[i], name);
+    }
+}
+
+#[test]
+fn table_5_1(rt: HostRuntime) {
+    let row = [F, T, F, F, FInvalid];
+    check_row(
+        &rt,
+        |x, y| compare_quiet_equal(x, y),
+        row,
+        "compareQuietEqual",
+    );
+    let row = [T, F, T, T, TInvalid];
+    check_row(
+        &rt,
+        |x, y| compare_quiet_not_equal(x, y),
+        row,
+        "compareQuietNotEqual",
+    );
+    let row = [F, T, F, FInvalid, FInvalid];
+    check_row(
+        &rt,
+        |x, y| compare_signaling_equal(x, y),
+        row,
+        "compareSignalingEqual",
+    );
+    let row = [T, F, T, TInvalid, TInvalid];
+    check_row(
+        &rt,
+        |x, y| compare_signaling_not_equal(x, y),
+        row,
+        "compareSignalingNotEqual",
+    );
+}
+
+#[test]
+fn table_5_2(rt: HostRuntime) {
+    let row = [F, F, T, FInvalid, FInvalid];
+    check_row(
+        &rt,
+        |x, y| compare_signaling_greater(x, y),
+        row,
+        "compareSignalingGreater",
+    );
+    let row = [T, T, F, TInvalid, TInvalid];
+    check_row(
+        &rt,
+        |x, y| compare_signaling_not_greater(x, y),
+        row,
+        "compareSignalingNotGreater",
+    );
+    let row = [F, T, T, FInvalid, FInvalid];
+    check_row(
+        &rt,
+        |x, y| compare_signaling_greater_equal(x, y),
+        row,
+        "compareSignalingGreaterEqual",
+    );
+    let row = [T, F, F, TInvalid, TInvalid];
+    check_row(
+        &rt,
+        |x, y| compare_signaling_less_unordered(x, y),
+        row,
+        "compareSignalingLessUnordered",
+    );
+    let row = [T, F, F, FInvalid, FInvalid];
+    check_row(
+        &rt,
+        |x, y| compare_signaling_less(x, y),
+        row,
+        "compareSignalingLess",
+    );
+    let row = [F, T, T, TInvalid, TInvalid];
+    check_row(
+        &rt,
+        |x, y| compare_signaling_not_less(x, y),
+        row,
+        "compareSignalingNotLess",
+    );
+    let row = [T, T, F, FInvalid, FInvalid];
+    check_row(
+        &rt,
+        |x, y| compare_signaling_less_equal(x, y),
+        row,
+        "compareSignalingLessEqual",
+    );
+    let row = [F, F, T, TInvalid, TInvalid];
+    check_row(
+        &rt,
+        |x, y| compare_signaling_greater_unordered(x, y),
+        row,
+        "compareSignalingGreaterUnordered",
+    );
+}
+
+#[test]
+fn table_5_3(rt: HostRuntime) {
+    let row = [F, F, T, F, FInvalid];
+    check_row(
+        &rt,
+        |x, y| compare_quiet_greater(x, y),
+        row,
+        "compareQuietGreater",
+    );
+    let row = [T, T, F, T, TInvalid];
+    check_row(
+        &rt,
+        |x, y| compare_quiet_not_greater(x, y),
+        row,
+        "compareQuietNotGreater",
+    );
+    let row = [F, T, T, F, FInvalid];
+    check_row(
+        &rt,
+        |x, y| compare_quiet_greater_equal(x, y),
+        row,
+        "compareQuietGreaterEqual",
+    );
+    let row = [T, F, F, T, TInvalid];
+    check_row(
+        &rt,
+        |x, y| compare_quiet_less_unordered(x, y),
+        row,
+        "compareQuietLessUnordered",
+    );
+    let row = [T, F, F, F, FInvalid];
+    check_row(
+        &rt,
+        |x, y| compare_quiet_less(x, y),
+        row,
+        "compareQuietLess",
+    );
+    let row = [F, T, T, T, TInvalid];
+    check_row(
+        &rt,
+        |x, y| compare_quiet_not_less(x, y),
+        row,
+        "compareQuietNotLess",
+    );
+    let row = [T, T, F, F, FInvalid];
+    check_row(
+        &rt,
+        |x, y| compare_quiet_less_equal(x, y),
+        row,
+        "compareQuietLessEqual",
+    );
+    let row = [F, F, T, T, TInvalid];
+    check_row(
+        &rt,
+        |x, y| compare_quiet_greater_unordered(x, y),
+        row,
+        "compareQuietGreaterUnordered",
+    );
+    let row = [F, F, F, T, TInvalid];
+    check_row(
+        &rt,
+        |x, y| compare_quiet_unordered(x, y),
+        row,
+        "compareQuietUnordered",
+    );
+    let row = [T, T, T, F, FInvalid];
+    check_row(
+        &rt,
+        |x, y| compare_quiet_ordered(x, y),
+        row,
+        "compareQuietOrdered",
+    );
+}
+
+// ---- two formats
+
+/// A value of `half` against one of an 8-bit format.
+fn check_between<T: Semantics>(rt: &impl Abort, x: u128, y: u128, expected: Option<Ordering>)
+    requires { T.PRECISION < T.BITS }
+{
+    let left = HalfS::from_bits(x);
+    let right = IeeeFloat::<T>::from_bits(y);
+    same(rt, relation_between(left, right), expected, (x, y));
+}
+
+#[test]
+fn two_formats(rt: HostRuntime) {
+    check_between::<Float8E5M2S>(&rt, 0x3c01, 0x3c, Some(Ordering::Greater));
+    check_between::<Float8E5M2S>(&rt, 0x3c00, 0x3c, Some(Ordering::Equal));
+    check_between::<Float8E5M2S>(&rt, 0xbc01, 0xbc, Some(Ordering::Less));
+    check_between::<Float8E5M2S>(&rt, 0x7bff, 0x7c, Some(Ordering::Less));
+    check_between::<Float8E4M3FNS>(&rt, 0x7bff, 0x7e, Some(Ordering::Greater));
+    check_between::<Float8E4M3FNS>(&rt, 0x0001, 0x80, Some(Ordering::Greater));
+    check_between::<Float8E4M3FNS>(&rt, 0x8000, 0x00, Some(Ordering::Equal));
+    check_between::<Float8E4M3FNS>(&rt, 0xfc00, 0xfe, Some(Ordering::Less));
+    check_between::<Float8E4M3FNS>(&rt, 0x7c00, 0x7f, None);
+    let x = HalfS::from_bits(SIGNALING_NAN);
+    let y = IeeeFloat::<Float8E4M3FNS>::from_bits(0);
+    let answer = compare_between(Predicate::Unordered, OnNan::Quiet, x, y);
+    same(&rt, result(answer), TInvalid, "signaling");
+}
+
+// ---- all pairs of 8-bit codes
+
+/// The predicates with the relations that satisfy each: less 1, equal 2, greater 4, unordered 8.
+const PREDICATES: [(Predicate, u8); 12] = [
+    (Predicate::Equal, 2),
+    (Predicate::NotEqual, 1 + 4 + 8),
+    (Predicate::Greater, 4),
+    (Predicate::GreaterEqual, 2 + 4),
+    (Predicate::Less, 1),
+    (Predicate::LessEqual, 1 + 2),
+    (Predicate::NotGreater, 1 + 2 + 8),
+    (Predicate::LessUnordered, 1 + 8),
+    (Predicate::NotLess, 2 + 4 + 8),
+    (Predicate::GreaterUnordered, 4 + 8),
+    (Predicate::Unordered, 8),
+    (Predicate::Ordered, 1 + 2 + 4),
+];
+
+/// A small format, by its codes: without the sign, those from `nan` up are NaNs, and those from `quiet` up quiet ones.
+#[derive(Clone, Copy)]
+struct Codes {
+    nan: u8,
+    quiet: u8,
+}
+
+const E5M2: Codes = Codes {
+    nan: 0x7d,
+    quiet: 0x7e,
+};
+
+const E4M3FN: Codes = Codes {
+    nan: 0x7f,
+    quiet: 0x7f,
+};
+
+fn magnitude(code: u8) -> u8 {
+    code % 128
+}
+
+/// The code as a number in the order of the values; both zeros are 0.
+fn place(code: u8) -> i16 {
+    if code < 128 {
+        code as i16
+    } else {
+        128 - code as i16
+    }
+}
+
+/// The relation of two codes: 1, 2, 4 or 8, as above.
+fn relation(codes: Codes, x: u8, y: u8) -> u8 {
+    if magnitude(x) >= codes.nan || magnitude(y) >= codes.nan {
+        8
+    } else {
+        match place(x).cmp(&place(y)) {
+            Ordering::Less => 1,
+            Ordering::Equal => 2,
+            Ordering::Greater => 4,
+        }
+    }
+}
+
+fn is_signaling(codes: Codes, code: u8) -> bool {
+    magnitude(code) >= codes.nan && magnitude(code) < codes.quiet
+}
+
+/// The expected result of a comparison.
+fn expected(codes: Codes, relations: u8, on_nan: OnNan, x: u8, y: u8) -> Is {
+    let relation = relation(codes, x, y);
+    let holds = relations & relation != 0;
+    let invalid = match on_nan {
+        OnNan::Quiet => is_signaling(codes, x) || is_signaling(codes, y),
+        OnNan::Signaling => relation == 8,
+    };
+    if invalid {
+        if holds { TInvalid } else { FInvalid }
+    } else if holds {
+        T
+    } else {
+        F
+    }
+}
+
+/// The code as a number in the total order: the magnitudes, and below them the negative codes in reverse.
+fn total_place(code: u8) -> i16 {
+    if code < 128 {
+        code as i16
+    } else {
+        127 - code as i16
+    }
+}
+
+fn check_pair<S: Semantics>(rt: &impl Abort, codes: Codes, a: u8, b: u8)
+    requires { S.PRECISION < S.BITS }
+{
+    let x = IeeeFloat::<S>::from_bits(a as u128);
+    let y = IeeeFloat::<S>::from_bits(b as u128);
+    for (predicate, relations) in PREDICATES {
+        for on_nan in [OnNan::Quiet, OnNan::Signaling] {
+            let answer = compare(predicate, on_nan, x, y);
+            same(
+                rt,
+                result(answer),
+                expected(codes, relations, on_nan, a, b),
+                (a, b),
+            );
+        }
+    }
+    let order = total_place(a).cmp(&total_place(b));
+    same(rt, total_cmp(x, y), order, (a, b));
+    same(rt, total_order(x, y), order != Ordering::Greater, (a, b));
+    same(
+        rt,
+        total_order_mag(x, y),
+        magnitude(a) <= magnitude(b),
+        (a, b),
+    );
+}
+
+#[test]
+fn all_pairs_of_e5m2(rt: HostRuntime) {
+    for a in 0..=255u8 {
+        for b in 0..=255u8 {
+            check_pair::<Float8E5M2S>(&rt, E5M2, a, b);
+        }
+    }
+}
+
+#[test]
+fn all_pairs_of_e4m3fn(rt: HostRuntime) {
+    for a in 0..=255u8 {
+        for b in 0..=255u8 {
+            check_pair::<Float8E4M3FNS>(&rt, E4M3FN, a, b);
+        }
+    }
+}
+
+// ---- classes and flags
+
+#[test]
+fn classes(rt: HostRuntime) {
+    let rows = [
+        (0x7c01, Class::SignalingNan),
+        (0xfe00, Class::QuietNan),
+        (0xfc00, Class::NegativeInfinity),
+        (0x8400, Class::NegativeNormal),
+        (0x83ff, Class::NegativeSubnormal),
+        (0x8000, Class::NegativeZero),
+        (0x0000, Class::PositiveZero),
+        (0x0001, Class::PositiveSubnormal),
+        (0x7bff, Class::PositiveNormal),
+        (0x7c00, Class::PositiveInfinity),
+    ];
+    for (bits, class) in rows {
+        let x = HalfS::from_bits(bits);
+        same(&rt, class_of(x), class, bits);
+        same(&rt, (radix(x), is_canonical(x)), (2, true), bits);
+    }
+}
+
+/// In the x87 format: the smallest normal number, and its other encoding, with the exponent of denormals; infinity; an
+/// unnormal; a bit above the format.
+#[test]
+fn encodings(rt: HostRuntime) {
+    let rows = [
+        (0x0001_8000_0000_0000_0000, true),
+        (0x0000_8000_0000_0000_0000, false),
+        (0x7fff_8000_0000_0000_0000, true),
+        (0x0001_0000_0000_0000_0001, false),
+        (0x1_0001_8000_0000_0000_0000, false),
+    ];
+    for (bits, canonical) in rows {
+        same(
+            &rt,
+            is_canonical_encoding::<X87DoubleExtendedS>(bits),
+            canonical,
+            bits,
+        );
+    }
+}
+
+#[test]
+fn flags(rt: HostRuntime) {
+    let flags = Status::OVERFLOW.union(Status::INEXACT);
+    let group = Status::INVALID_OP.union(Status::INEXACT);
+    same(&rt, lower_flags(flags, group), Status::OVERFLOW, "lowered");
+    let raised = Status::INVALID_OP.union(flags);
+    same(&rt, raise_flags(flags, group), raised, "raised");
+    same(&rt, test_flags(flags, group), true, "tested");
+    same(
+        &rt,
+        test_saved_flags(flags, Status::UNDERFLOW),
+        false,
+        "tested, saved",
+    );
+    let saved = save_all_flags(Status::INVALID_OP);
+    let restored = Status::OVERFLOW.union(Status::INVALID_OP);
+    same(
+        &rt,
+        restore_flags(flags, saved, group),
+        restored,
+        "restored",
+    );
+}
+
+// ---- minima and maxima
+
+/// Two operands; their minimum, maximum, minimumMagnitude and maximumMagnitude, and these four with `Number`; and the
+/// status, all by 9.6.
+const EXTREMA: [(u128, u128, [u128; 8], Status); 11] = [
+    (
+        0x3c00,
+        0xc000,
+        [
+            0xc000, 0x3c00, 0x3c00, 0xc000, 0xc000, 0x3c00, 0x3c00, 0xc000,
+        ],
+        Status::OK,
+    ),
+    (
+        0xc000,
+        0x3c00,
+        [
+            0xc000, 0x3c00, 0x3c00, 0xc000, 0xc000, 0x3c00, 0x3c00, 0xc000,
+        ],
+        Status::OK,
+    ),
+    (
+        0x3c00,
+        0xbc00,
+        [
+            0xbc00, 0x3c00, 0xbc00, 0x3c00, 0xbc00, 0x3c00, 0xbc00, 0x3c00,
+        ],
+        Status::OK,
+    ),
+    (
+        0x0000,
+        0x8000,
+        [
+            0x8000, 0x0000, 0x8000, 0x0000, 0x8000, 0x0000, 0x8000, 0x0000,
+        ],
+        Status::OK,
+    ),
+    (
+        0x8000,
+        0x0000,
+        [
+            0x8000, 0x0000, 0x8000, 0x0000, 0x8000, 0x0000, 0x8000, 0x0000,
+        ],
+        Status::OK,
+    ),
+    (
+        0x7c00,
+        0xfc00,
+        [
+            0xfc00, 0x7c00, 0xfc00, 0x7c00, 0xfc00, 0x7c00, 0xfc00, 0x7c00,
+        ],
+        Status::OK,
+    ),
+    (
+        0x3c00,
+        0x7e05,
+        [
+            0x7e05, 0x7e05, 0x7e05, 0x7e05, 0x3c00, 0x3c00, 0x3c00, 0x3c00,
+        ],
+        Status::OK,
+    ),
+    (
+        0x7e05,
+        0x3c00,
+        [
+            0x7e05, 0x7e05, 0x7e05, 0x7e05, 0x3c00, 0x3c00, 0x3c00, 0x3c00,
+        ],
+        Status::OK,
+    ),
+    (
+        0x7c01,
+        0x3c00,
+        [
+            0x7e01, 0x7e01, 0x7e01, 0x7e01, 0x3c00, 0x3c00, 0x3c00, 0x3c00,
+        ],
+        INVALID,
+    ),
+    (
+        0x3c00,
+        0xfc01,
+        [
+            0xfe01, 0xfe01, 0xfe01, 0xfe01, 0x3c00, 0x3c00, 0x3c00, 0x3c00,
+        ],
+        INVALID,
+    ),
+    (
+        0x7e05,
+        0xfc01,
+        [
+            0x7e05, 0x7e05, 0x7e05, 0x7e05, 0x7e05, 0x7e05, 0x7e05, 0x7e05,
+        ],
+        INVALID,
+    ),
+];
+
+const INVALID: Status = Status::INVALID_OP;
+
+#[test]
+fn extrema(rt: HostRuntime) {
+    for (a, b, bits, status) in EXTREMA {
+        let x = HalfS::from_bits(a);
+        let y = HalfS::from_bits(b);
+        let answers = [
+            minimum_of(x, y),
+            maximum_of(x, y),
+            minimum_magnitude_of(x, y),
+            maximum_magnitude_of(x, y),
+            minimum_number_of(x, y),
+            maximum_number_of(x, y),
+            minimum_magnitude_number_of(x, y),
+            maximum_magnitude_number_of(x, y),
+        ];
+        for i in 0..8 {
+            same(&rt, bits_of(answers[i]), status.and(bits[i]), (a, b, i));
+        }
+    }
+}
+
+/// A value of `half` as its bits.
+fn bits_of(answer: StatusAnd<Half>) -> StatusAnd<u128> {
+    answer.status.and(answer.value.to_bits())
+}
+
+// ---- integers and exponents
+
+const MODES: [Round; 5] = [
+    Round::NearestTiesToEven,
+    Round::TowardPositive,
+    Round::TowardNegative,
+    Round::TowardZero,
+    Round::NearestTiesToAway,
+];
+
+/// 1.5, 2.5, -0.5 and -1.5 as integers of 8 bits in each mode.
+#[test]
+fn integers(rt: HostRuntime) {
+    let rows = [
+        (0x3e00, [2, 2, 1, 1, 2]),
+        (0x4100, [2, 3, 2, 2, 3]),
+        (0xb800, [0, 0, -1, 0, -1]),
+        (0xbe00, [-2, -1, -2, -1, -2]),
+    ];
+    for (bits, integers) in rows {
+        for i in 0..5 {
+            check_integer(&rt, bits, MODES[i], integers[i]);
+        }
+    }
+}
+
+/// The integer that a value rounds to; a negative one is out of range if it is to be unsigned.
+fn check_integer(rt: &impl Abort, bits: u128, mode: Round, integer: i128) {
+    let x = HalfS::from_bits(bits);
+    let signed = convert_to_signed(x, 8, mode);
+    let exactly = convert_to_signed_exact(x, 8, mode);
+    same(rt, signed, Status::OK.and(integer), (bits, mode));
+    same(rt, exactly, Status::INEXACT.and(integer), (bits, mode));
+    let in_range = integer >= 0;
+    let magnitude = if in_range { integer as u128 } else { 0 };
+    let unsigned = convert_to_unsigned(x, 8, mode);
+    let exactly = convert_to_unsigned_exact(x, 8, mode);
+    let ok = if in_range { Status::OK } else { INVALID };
+    let inexact = if in_range { Status::INEXACT } else { INVALID };
+    same(rt, unsigned, ok.and(magnitude), (bits, mode));
+    same(rt, exactly, inexact.and(magnitude), (bits, mode));
+}
+
+/// Values rounded to integral values toward zero.
+#[test]
+fn integral_values(rt: HostRuntime) {
+    let rows = [
+        (0x3e00, 0x3c00, Status::OK),
+        (0xb800, 0x8000, Status::OK),
+        (0x7c00, 0x7c00, Status::OK),
+        (0xfd00, 0xff00, INVALID),
+    ];
+    for (bits, expected, status) in rows {
+        let answer = round_to_integral_in(HalfS::from_bits(bits), Round::TowardZero);
+        same(&rt, bits_of(answer), status.and(expected), bits);
+    }
+}
+
+/// logB of 1, of the smallest and the largest value, of a zero, an infinity and a signaling NaN. In `e5m2`, which has
+/// no 9, of 2^9; in `e4m3fn`, which has no infinity, of 0.
+#[test]
+fn logarithms(rt: HostRuntime) {
+    let rows = [
+        (0x3c00, 0x0000, Status::OK, 0),
+        (0x0001, 0xce00, Status::OK, -24),
+        (0xfbff, 0x4b80, Status::OK, 15),
+        (0x8000, 0xfc00, Status::DIV_BY_ZERO, IEK_ZERO),
+        (0xfc00, 0x7c00, Status::OK, IEK_INF),
+        (0xfd00, 0xff00, INVALID, IEK_NAN),
+    ];
+    for (bits, expected, status, integer) in rows {
+        let x = HalfS::from_bits(bits);
+        let answer = log_b(x, Round::NearestTiesToEven);
+        same(&rt, bits_of(answer), status.and(expected), bits);
+        let flags = if x.is_finite_non_zero() {
+            Status::OK
+        } else {
+            INVALID
+        };
+        same(&rt, integer_log_b(x), flags.and(integer), bits);
+    }
+    let answer = log_b(Float8E5M2S::from_bits(0x60), Round::NearestTiesToEven);
+    same(
+        &rt,
+        (answer.value.to_bits(), answer.status),
+        (0x48, Status::INEXACT),
+        0x60,
+    );
+    let answer = log_b(Float8E4M3FNS::from_bits(0), Round::NearestTiesToEven);
+    same(
+        &rt,
+        (answer.value.to_bits(), answer.status),
+        (0xff, Status::DIV_BY_ZERO),
+        0,
+    );
+}
+
+/// Values times powers of two, to nearest.
+#[test]
+fn scaled(rt: HostRuntime) {
+    let underflow = Status::UNDERFLOW.union(Status::INEXACT);
+    let rows = [
+        (0x3c00, -25, 0x0000, underflow),
+        (0x3c01, -15, 0x0200, underflow),
+        (0x3c00, 16, 0x7c00, Status::OVERFLOW.union(Status::INEXACT)),
+        (0x0001, 30, 0x5400, Status::OK),
+        (0x8000, 5, 0x8000, Status::OK),
+        (0xfd00, 0, 0xff00, INVALID),
+    ];
+    for (bits, places, expected, status) in rows {
+        let answer = HalfS::from_bits(bits).scale_b(places, Round::NearestTiesToEven);
+        same(&rt, bits_of(answer), status.and(expected), (bits, places));
+    }
+}
