@@ -17,9 +17,9 @@
 mod bounded_cut;
 mod decimal;
 mod exact_decimal;
-mod exponents;
+pub mod exponents;
 pub mod formatting;
-mod large;
+pub mod large;
 mod leading_digits;
 mod long_division;
 mod parsing;
@@ -33,9 +33,10 @@ mod shortest_guess;
 mod texts;
 
 pub use decimal::{Decimal, built_in_formats, from_decimal};
-pub use exact_decimal::{exact, exact_once};
+pub use exact_decimal::{exact, exact_once, first_exponent, last_place, significand};
+pub use long_division::loss_of;
 pub use parsing::{DecimalError, decimal_text_once, one_reading, written_text};
 pub use round_trips::shortest_reads_back;
 pub use rounded_decimal::{rounded, rounded_once};
-pub use shortest_decimal::{shortest, shortest_once};
+pub use shortest_decimal::{first_place, shortest, shortest_once};
 pub use texts::{read_decimal, read_decimal_ascii};
