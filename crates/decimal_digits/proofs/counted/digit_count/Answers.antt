@@ -1,6 +1,6 @@
 use Rattle.std.proofs.Common.{◌≡◌, ℕ, subst}
 use Rattle.apfloat_model.specs.declared.kinds.Category.TheVariants.{Normal}
-use Rattle.apfloat_model.specs.order.Classes.{category_of, quanta_of}
+use Rattle.apfloat_model.specs.order.Classes.{category_of}
 use Rattle.apfloat_ieee.specs.Types.{format_of}
 use Rattle.decimal_digits.specs.DigitCounts.{IsDigitCount}
 use Rattle.decimal_digits.proofs.RoundedTexts.{quanta_same}
