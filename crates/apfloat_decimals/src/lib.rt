@@ -11,15 +11,18 @@
 //! and `exact` gives the decimal that equals a value (`exact_decimal`). `formatting` produces the text of a `Decimal`,
 //! which `Display` writes. `round_trips` states what holds for values that are read back.
 //!
+//! `decimal_digits`, which writes any number of digits, uses the large integers, the exponents, and the places of the
+//! first and the last digit of a value.
+//!
 //! The exponents of the formats are within those of `Quad`.
 #![tactic(auto)]
 
 mod bounded_cut;
 mod decimal;
 mod exact_decimal;
-mod exponents;
+pub mod exponents;
 pub mod formatting;
-mod large;
+pub mod large;
 mod leading_digits;
 mod long_division;
 mod parsing;
@@ -33,9 +36,10 @@ mod shortest_guess;
 mod texts;
 
 pub use decimal::{Decimal, built_in_formats, from_decimal};
-pub use exact_decimal::{exact, exact_once};
+pub use exact_decimal::{exact, exact_once, first_exponent, last_place, significand};
+pub use long_division::loss_of;
 pub use parsing::{DecimalError, decimal_text_once, one_reading, written_text};
 pub use round_trips::shortest_reads_back;
 pub use rounded_decimal::{rounded, rounded_once};
-pub use shortest_decimal::{shortest, shortest_once};
+pub use shortest_decimal::{first_place, shortest, shortest_once};
 pub use texts::{read_decimal, read_decimal_ascii};

@@ -31,3 +31,5 @@ mod sums;
 mod texts;
 #[cfg(test)]
 mod unpacked;
+#[cfg(test)]
+mod written_digits;

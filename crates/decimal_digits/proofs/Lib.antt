@@ -1,0 +1,5 @@
+pub mod CountedDigits
+pub mod DigitPlaces
+pub mod LongQuotients
+pub mod RoundedTexts
+pub mod ScaledValues

@@ -1,0 +1,3 @@
+pub mod DigitCounts
+pub mod DigitSteps
+pub mod WrittenDigits

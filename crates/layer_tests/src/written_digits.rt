@@ -1,0 +1,195 @@
+//! Digits of values, rounded to any number of them. The digits were computed with fractions in Python.
+
+use crate::asserts::same;
+use apfloat_formats::{DoubleS, QuadS, Semantics};
+use apfloat_model::{Category, ExpInt, Round, Status};
+use decimal_digits::{Written, write_digits};
+
+/// The bits of a double, a rounding mode, the digits, the exponent of the first one and the status.
+static DOUBLES: [(u128, Round, &str, ExpInt, Status); 17] = [
+    (
+        0x3fb9_9999_9999_999a,
+        Round::NearestTiesToEven,
+        "10000000000000001",
+        -1,
+        Status::INEXACT,
+    ),
+    (
+        0x3fb9_9999_9999_999a,
+        Round::TowardPositive,
+        "10000000000000001",
+        -1,
+        Status::INEXACT,
+    ),
+    (
+        0x3fb9_9999_9999_999a,
+        Round::TowardNegative,
+        "10000000000000000",
+        -1,
+        Status::INEXACT,
+    ),
+    (
+        0xbfb9_9999_9999_999a,
+        Round::TowardPositive,
+        "10000000000000000",
+        -1,
+        Status::INEXACT,
+    ),
+    (
+        0xbfb9_9999_9999_999a,
+        Round::TowardNegative,
+        "10000000000000001",
+        -1,
+        Status::INEXACT,
+    ),
+    (
+        0xbfb9_9999_9999_999a,
+        Round::TowardZero,
+        "10000000000000000",
+        -1,
+        Status::INEXACT,
+    ),
+    (
+        0x4004_0000_0000_0000,
+        Round::NearestTiesToEven,
+        "2",
+        0,
+        Status::INEXACT,
+    ),
+    (
+        0x4004_0000_0000_0000,
+        Round::NearestTiesToAway,
+        "3",
+        0,
+        Status::INEXACT,
+    ),
+    (
+        0x400c_0000_0000_0000,
+        Round::NearestTiesToEven,
+        "4",
+        0,
+        Status::INEXACT,
+    ),
+    (
+        0x400c_0000_0000_0000,
+        Round::TowardZero,
+        "3",
+        0,
+        Status::INEXACT,
+    ),
+    (
+        0x3fef_ffff_ffff_ffff,
+        Round::NearestTiesToEven,
+        "10000",
+        0,
+        Status::INEXACT,
+    ),
+    (
+        0x3fef_ffff_ffff_ffff,
+        Round::TowardNegative,
+        "99999",
+        -1,
+        Status::INEXACT,
+    ),
+    (
+        0x3fef_ffff_ffff_ffff,
+        Round::NearestTiesToEven,
+        "99999999999999988897769753748434595763683319091796875",
+        -1,
+        Status::OK,
+    ),
+    (
+        0x3fef_ffff_ffff_ffff,
+        Round::TowardPositive,
+        "999999999999999888977697537484345957636833190917968750000000",
+        -1,
+        Status::OK,
+    ),
+    (
+        0x7fef_ffff_ffff_ffff,
+        Round::TowardPositive,
+        "17976931348623158",
+        308,
+        Status::INEXACT,
+    ),
+    (
+        0x1,
+        Round::NearestTiesToAway,
+        "49406564584124654418",
+        -324,
+        Status::INEXACT,
+    ),
+    (
+        0x4340_0000_0000_0000,
+        Round::NearestTiesToEven,
+        "9007199254740992",
+        15,
+        Status::OK,
+    ),
+];
+
+#[test]
+fn doubles(rt: HostRuntime) {
+    for (bits, round, digits, exponent, status) in &DOUBLES {
+        let mut buffer = [0; 64];
+        let got = write_digits(
+            DoubleS::from_bits(*bits),
+            *round,
+            &mut buffer[..digits.len().min(64)],
+        );
+        same(&rt, got, Written::Digits(status.and(*exponent)), *digits);
+        assert!(rt; buffer.starts_with(digits.as_bytes()));
+    }
+}
+
+/// The double with the most digits: they fit exactly, and one less is rounded.
+#[test]
+fn all_digits(rt: HostRuntime) {
+    let x = DoubleS::from_bits(0x001f_ffff_ffff_ffff);
+    let mut digits = [0; 767];
+    let got = write_digits(x, Round::TowardPositive, &mut digits);
+    same(&rt, got, Written::Digits(Status::OK.and(-308)), "767");
+    assert!(rt; digits.starts_with(b"44501477170144022721"));
+    assert!(rt; digits.ends_with(b"80281734466552734375"));
+    let got = write_digits(x, Round::TowardPositive, &mut digits[..766]);
+    same(&rt, got, Written::Digits(Status::INEXACT.and(-308)), "766");
+    assert!(rt; digits[..766].ends_with(b"58028173446655273438"));
+}
+
+/// The quad with the most digits, and one of many binary digits before its dot.
+#[test]
+fn quads(rt: HostRuntime) {
+    let x = QuadS::from_bits(0x0001_ffff_ffff_ffff_ffff_ffff_ffff_ffff);
+    let mut digits = [0; 11_563];
+    let got = write_digits(x, Round::NearestTiesToEven, &mut digits);
+    same(&rt, got, Written::Digits(Status::OK.and(-4932)), "least");
+    assert!(rt; digits.starts_with(b"67242062862241870125"));
+    assert!(rt; digits.ends_with(b"58698177337646484375"));
+    let x = QuadS::from_bits(0x7ffe_ffff_ffff_ffff_ffff_ffff_ffff_ffff);
+    let got = write_digits(x, Round::NearestTiesToEven, &mut digits[..39]);
+    same(
+        &rt,
+        got,
+        Written::Digits(Status::INEXACT.and(4932)),
+        "largest",
+    );
+    assert!(rt; digits.starts_with(b"118973149535723176508575932662800701620"));
+}
+
+#[test]
+fn without_digits(rt: HostRuntime) {
+    let mut digits = *b"unchanged";
+    let infinity = DoubleS::from_bits(0xfff0_0000_0000_0000);
+    let got = write_digits(infinity, Round::TowardZero, &mut digits);
+    same(
+        &rt,
+        got,
+        Written::WithoutDigits(Category::Infinity),
+        "infinity",
+    );
+    let got = write_digits(DoubleS::from_bits(1 << 63), Round::TowardZero, &mut digits);
+    same(&rt, got, Written::WithoutDigits(Category::Zero), "-0");
+    assert!(rt; digits == *b"unchanged");
+    let got = write_digits(DoubleS::from_bits(1), Round::TowardZero, &mut []);
+    same(&rt, got, Written::NoRoom, "no room");
+}
