@@ -385,6 +385,7 @@ fn counted_number(shape: Shape, x: Unpacked, y: Unpacked) -> Remainder
 }
 
 /// The remainder of numbers by the integer nearest to the quotient, which is exact.
+#[inline(always)]
 fn nearest_number(shape: Shape, x: Unpacked, y: Unpacked) -> StatusAnd<Unpacked>
     requires x { IsNormal shape x }
     requires y { IsNormal shape y }
@@ -442,6 +443,7 @@ pub fn counted_remainder(shape: Shape, x: Unpacked, y: Unpacked) -> Remainder
 }
 
 /// The remainder by the integer nearest to the quotient, ties to even (IEEE 754-2008 5.3.1).
+#[inline(always)]
 pub fn nearest_remainder(shape: Shape, x: Unpacked, y: Unpacked) -> StatusAnd<Unpacked>
     requires x { IsStored shape x }
     requires y { IsStored shape y }
