@@ -1,6 +1,5 @@
 -- The rounding to an integral datum without INEXACT has one answer.
 use Rattle.std.proofs.Common.{sym, ap, ◌∙◌}
-use Rattle.apfloat_model.specs.rounding.Flags.{bits_of}
 use Rattle.apfloat_model.specs.rounding.Rounding.{inexact_bit}
 use Rattle.apfloat_model.proofs.Once.{round_to_integral_once}
 use Rattle.apfloat_model.proofs.Determined.{same_answer}

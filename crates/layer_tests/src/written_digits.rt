@@ -146,34 +146,31 @@ fn doubles(rt: HostRuntime) {
 #[test]
 fn all_digits(rt: HostRuntime) {
     let x = DoubleS::from_bits(0x001f_ffff_ffff_ffff);
-    let mut digits = [0; 767];
-    let got = write_digits(x, Round::TowardPositive, &mut digits);
+    let mut all = [0; 767];
+    let got = write_digits(x, Round::TowardPositive, &mut all);
     same(&rt, got, Written::Digits(Status::OK.and(-308)), "767");
-    assert!(rt; digits.starts_with(b"44501477170144022721"));
-    assert!(rt; digits.ends_with(b"80281734466552734375"));
-    let got = write_digits(x, Round::TowardPositive, &mut digits[..766]);
+    assert!(rt; all.starts_with(b"44501477170144022721"));
+    assert!(rt; all.ends_with(b"80281734466552734375"));
+    let mut fewer = [0; 766];
+    let got = write_digits(x, Round::TowardPositive, &mut fewer);
     same(&rt, got, Written::Digits(Status::INEXACT.and(-308)), "766");
-    assert!(rt; digits[..766].ends_with(b"58028173446655273438"));
+    assert!(rt; fewer.ends_with(b"58028173446655273438"));
 }
 
-/// The quad with the most digits, and one of many binary digits before its dot.
+/// The quad with the most digits, and the largest one.
 #[test]
 fn quads(rt: HostRuntime) {
-    let x = QuadS::from_bits(0x0001_ffff_ffff_ffff_ffff_ffff_ffff_ffff);
-    let mut digits = [0; 11_563];
-    let got = write_digits(x, Round::NearestTiesToEven, &mut digits);
-    same(&rt, got, Written::Digits(Status::OK.and(-4932)), "least");
-    assert!(rt; digits.starts_with(b"67242062862241870125"));
-    assert!(rt; digits.ends_with(b"58698177337646484375"));
-    let x = QuadS::from_bits(0x7ffe_ffff_ffff_ffff_ffff_ffff_ffff_ffff);
-    let got = write_digits(x, Round::NearestTiesToEven, &mut digits[..39]);
-    same(
-        &rt,
-        got,
-        Written::Digits(Status::INEXACT.and(4932)),
-        "largest",
-    );
-    assert!(rt; digits.starts_with(b"118973149535723176508575932662800701620"));
+    let least = QuadS::from_bits(0x0001_ffff_ffff_ffff_ffff_ffff_ffff_ffff);
+    let mut all = [0; 11_563];
+    let got = write_digits(least, Round::NearestTiesToEven, &mut all);
+    same(&rt, got, Written::Digits(Status::OK.and(-4932)), "11563");
+    assert!(rt; all.starts_with(b"67242062862241870125"));
+    assert!(rt; all.ends_with(b"58698177337646484375"));
+    let largest = QuadS::from_bits(0x7ffe_ffff_ffff_ffff_ffff_ffff_ffff_ffff);
+    let mut few = [0; 39];
+    let got = write_digits(largest, Round::NearestTiesToEven, &mut few);
+    same(&rt, got, Written::Digits(Status::INEXACT.and(4932)), "39");
+    assert!(rt; few == *b"118973149535723176508575932662800701620");
 }
 
 #[test]
