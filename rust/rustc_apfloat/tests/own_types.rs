@@ -384,3 +384,18 @@ fn constants_of_pairs_of_it() {
         assert!(error.is_some() && error == DoubleDouble::from_str_r(text, Round::TowardZero).err(), "{text}");
     }
 }
+
+#[test]
+fn magnitudes_of_pairs_of_it() {
+    const HIGH: u128 = 0x3ff0_0000_0000_0000;
+    // 2^-60 and 2^-61, of either sign.
+    let lows = [0x3c30_0000_0000_0000, 0x3c20_0000_0000_0000, 0xbc30_0000_0000_0000, 0xbc20_0000_0000_0000];
+    let pairs = lows.map(|low: u128| HIGH | low << 64);
+    let order = |x: usize, y: usize| OwnPair::from_bits(pairs[x]).cmp_abs_normal(OwnPair::from_bits(pairs[y]));
+    for (x, y) in (0..16).map(|i| (i / 4, i % 4)) {
+        let doubles = DoubleDouble::from_bits(pairs[x]).cmp_abs_normal(DoubleDouble::from_bits(pairs[y]));
+        assert_eq!(order(x, y), doubles, "{x} {y}");
+    }
+    assert_eq!([order(0, 1), order(1, 2), order(3, 2)], [Ordering::Greater; 3]);
+    assert_eq!([order(2, 3), order(2, 1), order(1, 0)], [Ordering::Less; 3]);
+}

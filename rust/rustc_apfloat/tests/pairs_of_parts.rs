@@ -93,9 +93,16 @@ fn pairs_of_any_type_that_fits() {
         const EXP_BITS: usize = 11;
     }
     assert_eq!(third::<IeeeFloat<SameS>>().map(Float::to_bits), third::<Double>().map(Float::to_bits));
-    // With the flags of IEEE 754 its parts are others, and the values the same.
+    // With the flags of IEEE 754 the values are the same, and the sums of the parts raise those flags.
     type Flagged = IeeeFloat<IeeeFlags<DoubleS>>;
     assert_eq!(third::<Flagged>().map(Float::to_bits), third::<Double>().map(Float::to_bits));
+    fn twice_the_largest<F: Float>() -> (Status, u128) {
+        let sum = F::largest().add_r(F::largest(), TowardZero);
+        (sum.status, sum.value.to_bits())
+    }
+    let (status, bits) = twice_the_largest::<DoubleFloat<Double>>();
+    assert_eq!(status, Status::INEXACT);
+    assert_eq!(twice_the_largest::<DoubleFloat<Flagged>>(), (Status::OVERFLOW | Status::INEXACT, bits));
 }
 
 #[rustfmt::skip]
