@@ -15,8 +15,8 @@ use core::ops::Neg;
 /// A number as the exact sum of two values.
 ///
 /// Pairs of doubles are the library's. Pairs of another type are composed of that type's calls, in the same way, and of
-/// calls of their wide format, [`FallbackS`], whose flags are those of the built-in formats. Where the wide format breaks
-/// the law of formats, as it does for `Half`, `X87DoubleExtended` and `Quad`, such a pair does not compile.
+/// calls of their wide format, [`FallbackS`], whose flags are those of the built-in formats. Where the wide format is
+/// outside the law of formats, as it is for `Half`, `X87DoubleExtended` and `Quad`, such a pair does not compile.
 ///
 /// ```
 /// use rustc_apfloat::{Float, ieee::Single, ppc::DoubleFloat};

@@ -1,4 +1,4 @@
-//! That the items of the crate `rustc_apfloat` 0.2.3 are here, with its types and traits: what compiles there, compiles.
+//! The items of the crate `rustc_apfloat` 0.2.3 are here, with its types and traits: what compiles there, compiles.
 
 use rustc_apfloat::ieee::*;
 use rustc_apfloat::ppc::{DoubleDouble, DoubleFloat, FallbackExtendedS, FallbackS};
