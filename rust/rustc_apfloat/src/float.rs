@@ -1,12 +1,15 @@
 //! The traits of floating-point types, and their implementation by the library's.
 
-use crate::{Category, ExpInt, ParseError, Round, StatusAnd};
+use crate::doubles::AsDouble;
+use crate::{Category, ExpInt, ParseError, Round, Status, StatusAnd};
 use core::cmp::Ordering;
 use core::fmt;
 use core::ops::{Add, AddAssign, Div, DivAssign, Mul, MulAssign, Neg, Rem, RemAssign, Sub, SubAssign};
 use core::str::FromStr;
 
 /// A floating-point type. The operators round to nearest, ties to even; those that assign drop the status.
+///
+/// The methods with bodies are composed of the others; the types of this crate have their own.
 pub trait Float:
     Copy
     + Default
@@ -42,6 +45,10 @@ pub trait Float:
     /// The smallest positive value.
     const SMALLEST: Self;
 
+    /// How the values are doubles, if they are. No other crate can set it.
+    #[doc(hidden)]
+    const AS_DOUBLE: Option<AsDouble<Self>> = None;
+
     /// The positive quiet NaN with a payload, cut to what the format has room for.
     fn qnan(payload: Option<u128>) -> Self;
     /// The positive signaling NaN with a payload, cut to what the format has room for.
@@ -54,7 +61,9 @@ pub trait Float:
     /// The sum.
     fn add_r(self, rhs: Self, round: Round) -> StatusAnd<Self>;
     /// The difference.
-    fn sub_r(self, rhs: Self, round: Round) -> StatusAnd<Self>;
+    fn sub_r(self, rhs: Self, round: Round) -> StatusAnd<Self> {
+        self.add_r(-rhs, round)
+    }
     /// The product.
     fn mul_r(self, rhs: Self, round: Round) -> StatusAnd<Self>;
     /// The product with `multiplicand` plus `addend`, rounded once.
@@ -74,11 +83,17 @@ pub trait Float:
     /// The least value that compares greater.
     fn next_up(self) -> StatusAnd<Self>;
     /// The greatest value that compares less.
-    fn next_down(self) -> StatusAnd<Self>;
+    fn next_down(self) -> StatusAnd<Self> {
+        (-self).next_up().map(|above| -above)
+    }
     /// The value without its sign.
-    fn abs(self) -> Self;
+    fn abs(self) -> Self {
+        if self.is_negative() { -self } else { self }
+    }
     /// The value with the sign of `rhs`.
-    fn copy_sign(self, rhs: Self) -> Self;
+    fn copy_sign(self, rhs: Self) -> Self {
+        if self.is_negative() == rhs.is_negative() { self } else { -self }
+    }
 
     /// The value whose encoding is `input`.
     ///
@@ -87,13 +102,24 @@ pub trait Float:
     /// In a format without bits.
     fn from_bits(input: u128) -> Self;
     /// A signed whole number.
-    fn from_i128_r(input: i128, round: Round) -> StatusAnd<Self>;
+    fn from_i128_r(input: i128, round: Round) -> StatusAnd<Self> {
+        let magnitude = input.unsigned_abs();
+        if input < 0 {
+            Self::from_u128_r(magnitude, -round).map(|value| -value)
+        } else {
+            Self::from_u128_r(magnitude, round)
+        }
+    }
     /// `from_i128_r`, to nearest, ties to even.
-    fn from_i128(input: i128) -> StatusAnd<Self>;
+    fn from_i128(input: i128) -> StatusAnd<Self> {
+        Self::from_i128_r(input, Round::NearestTiesToEven)
+    }
     /// A whole number.
     fn from_u128_r(input: u128, round: Round) -> StatusAnd<Self>;
     /// `from_u128_r`, to nearest, ties to even.
-    fn from_u128(input: u128) -> StatusAnd<Self>;
+    fn from_u128(input: u128) -> StatusAnd<Self> {
+        Self::from_u128_r(input, Round::NearestTiesToEven)
+    }
     /// The value of a text: a decimal or a hexadecimal number, an infinity or a NaN.
     fn from_str_r(s: &str, round: Round) -> Result<StatusAnd<Self>, ParseError>;
     /// The bits of the value's encoding.
@@ -109,7 +135,19 @@ pub trait Float:
     /// # Panics
     ///
     /// Unless the width is from 2 to 128.
-    fn to_i128_r(self, width: usize, round: Round, is_exact: &mut bool) -> StatusAnd<i128>;
+    fn to_i128_r(self, width: usize, round: Round, is_exact: &mut bool) -> StatusAnd<i128> {
+        assert!((2..=128).contains(&width), "no signed integer has a width of {width}");
+        if !self.is_negative() {
+            return self.to_u128_r(width - 1, round, is_exact).map(|magnitude| magnitude as i128);
+        }
+        let magnitude = (-self).to_u128_r(width, -round, is_exact);
+        if magnitude.value > 1 << (width - 1) {
+            *is_exact = false;
+            return Status::INVALID_OP.and(-1 << (width - 1));
+        }
+        *is_exact &= !self.is_zero();
+        magnitude.map(|magnitude| magnitude.wrapping_neg() as i128)
+    }
     /// `to_i128_r`, toward zero.
     ///
     /// # Panics
@@ -142,52 +180,94 @@ pub trait Float:
     /// Whether both are the same value: a NaN is the same as itself, and -0 is not the same as +0.
     fn bitwise_eq(self, rhs: Self) -> bool;
     /// The lesser value (IEEE 754-2008, minNum): of a number and a NaN the number.
-    fn min(self, other: Self) -> Self;
+    fn min(self, other: Self) -> Self {
+        if self.is_nan() || other < self { other } else { self }
+    }
     /// The greater value (IEEE 754-2008, maxNum): of a number and a NaN the number.
-    fn max(self, other: Self) -> Self;
+    fn max(self, other: Self) -> Self {
+        if self.is_nan() || self < other { other } else { self }
+    }
     /// The lesser value (IEEE 754-2019, minimum): a NaN if one operand is, and -0 is below +0.
-    fn minimum(self, other: Self) -> Self;
+    fn minimum(self, other: Self) -> Self {
+        let are_zeros_apart = self.is_zero() && other.is_zero() && self.is_negative() != other.is_negative();
+        let is_other = if are_zeros_apart { other.is_negative() } else { other.is_nan() || other < self };
+        if is_other && !self.is_nan() { other } else { self }
+    }
     /// The greater value (IEEE 754-2019, maximum): a NaN if one operand is, and -0 is below +0.
-    fn maximum(self, other: Self) -> Self;
+    fn maximum(self, other: Self) -> Self {
+        let are_zeros_apart = self.is_zero() && other.is_zero() && self.is_negative() != other.is_negative();
+        let is_other = if are_zeros_apart { self.is_negative() } else { other.is_nan() || self < other };
+        if is_other && !self.is_nan() { other } else { self }
+    }
 
     /// Whether the sign is minus, for zeros and NaNs too.
     fn is_negative(self) -> bool;
     /// Whether the value is a nonzero number that is not denormal.
-    fn is_normal(self) -> bool;
+    fn is_normal(self) -> bool {
+        self.is_finite_non_zero() && !self.is_denormal()
+    }
     /// Whether the value is a number.
-    fn is_finite(self) -> bool;
+    fn is_finite(self) -> bool {
+        !self.is_nan() && !self.is_infinite()
+    }
     /// Whether the value is +0 or -0.
-    fn is_zero(self) -> bool;
+    fn is_zero(self) -> bool {
+        self.category() == Category::Zero
+    }
     /// Whether the value is denormal.
     fn is_denormal(self) -> bool;
     /// Whether the value is an infinity.
-    fn is_infinite(self) -> bool;
+    fn is_infinite(self) -> bool {
+        self.category() == Category::Infinity
+    }
     /// Whether the value is a NaN.
-    fn is_nan(self) -> bool;
+    fn is_nan(self) -> bool {
+        self.category() == Category::NaN
+    }
     /// Whether the value is a signaling NaN.
     fn is_signaling(self) -> bool;
     /// The category of the value.
     fn category(self) -> Category;
     /// Whether the value is neither +0 nor -0.
-    fn is_non_zero(self) -> bool;
+    fn is_non_zero(self) -> bool {
+        !self.is_zero()
+    }
     /// Whether the value is a nonzero number.
-    fn is_finite_non_zero(self) -> bool;
+    fn is_finite_non_zero(self) -> bool {
+        self.is_finite() && !self.is_zero()
+    }
     /// Whether the value is +0.
-    fn is_pos_zero(self) -> bool;
+    fn is_pos_zero(self) -> bool {
+        self.is_zero() && !self.is_negative()
+    }
     /// Whether the value is -0.
-    fn is_neg_zero(self) -> bool;
+    fn is_neg_zero(self) -> bool {
+        self.is_zero() && self.is_negative()
+    }
     /// Whether the value is positive infinity.
-    fn is_pos_infinity(self) -> bool;
+    fn is_pos_infinity(self) -> bool {
+        self.is_infinite() && !self.is_negative()
+    }
     /// Whether the value is negative infinity.
-    fn is_neg_infinity(self) -> bool;
+    fn is_neg_infinity(self) -> bool {
+        self.is_infinite() && self.is_negative()
+    }
     /// Whether the value has the smallest nonzero magnitude.
-    fn is_smallest(self) -> bool;
+    fn is_smallest(self) -> bool {
+        Self::SMALLEST.copy_sign(self).bitwise_eq(self)
+    }
     /// Whether the value has the smallest magnitude that is not denormal.
-    fn is_smallest_normalized(self) -> bool;
+    fn is_smallest_normalized(self) -> bool {
+        Self::smallest_normalized().copy_sign(self).bitwise_eq(self)
+    }
     /// Whether the value has the greatest finite magnitude.
-    fn is_largest(self) -> bool;
+    fn is_largest(self) -> bool {
+        Self::largest().copy_sign(self).bitwise_eq(self)
+    }
     /// Whether the value is a whole number.
-    fn is_integer(self) -> bool;
+    fn is_integer(self) -> bool {
+        self.is_finite() && self.round_to_integral(Round::TowardZero).value.bitwise_eq(self)
+    }
     /// The inverse of a power of two, if the type has it and neither is denormal.
     fn get_exact_inverse(self) -> Option<Self>;
     /// The exponent of the highest digit; `IEK_ZERO`, `IEK_INF` or `IEK_NAN` for other values.
@@ -195,11 +275,15 @@ pub trait Float:
     /// The value times 2 to the power of `exp`.
     fn scalbn_r(self, exp: ExpInt, round: Round) -> Self;
     /// `scalbn_r`, to nearest, ties to even.
-    fn scalbn(self, exp: ExpInt) -> Self;
+    fn scalbn(self, exp: ExpInt) -> Self {
+        self.scalbn_r(exp, Round::NearestTiesToEven)
+    }
     /// The fraction of the value, from 0.5 to below 1 in magnitude, and its exponent in `exp`.
     fn frexp_r(self, exp: &mut ExpInt, round: Round) -> Self;
     /// `frexp_r`, to nearest, ties to even.
-    fn frexp(self, exp: &mut ExpInt) -> Self;
+    fn frexp(self, exp: &mut ExpInt) -> Self {
+        self.frexp_r(exp, Round::NearestTiesToEven)
+    }
 }
 
 /// A type whose values convert to `T`.

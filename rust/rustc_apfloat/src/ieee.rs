@@ -1,6 +1,7 @@
 //! Formats of one significand.
 
 use crate::digits;
+use crate::doubles::AsDouble;
 use crate::erased::apfloat_base::{self, Float as _, FloatConvert as _};
 use crate::erased::apfloat_rounding::unpacked::Unpacked;
 use crate::erased::{apfloat_decimals, apfloat_ieee};
@@ -443,6 +444,11 @@ impl<S: Semantics> Float for IeeeFloat<S> {
     const NAN: Self = Self::made(S::NAN_SIGNIFICAND_BASE | S::QNAN_SIGNIFICAND, 0, Category::NaN);
     const SMALLEST: Self =
         Self::made(1 << (S::PRECISION - 1), S::MIN_EXP - (S::PRECISION as ExpInt - 1), Category::Normal);
+    const AS_DOUBLE: Option<AsDouble<Self>> = if Constants::of::<S>().are_those_of_double() {
+        Some(AsDouble { to: |x| Double::from_unpacked(x.value), of: |x| Self::from_unpacked(x.value) })
+    } else {
+        None
+    };
 
     by_the_library! {}
 

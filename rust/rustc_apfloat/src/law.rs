@@ -16,6 +16,8 @@ pub(crate) struct Constants {
     pub nan_payload_mask: u128,
     pub qnan_significand: u128,
     pub explicit_integer_bit: bool,
+    pub tiny_before_rounding: bool,
+    pub ieee_flags: bool,
 }
 
 /// The farthest that a format's exponents are from 0.
@@ -36,7 +38,20 @@ impl Constants {
             nan_payload_mask: S::NAN_PAYLOAD_MASK,
             qnan_significand: S::QNAN_SIGNIFICAND,
             explicit_integer_bit: S::EXPLICIT_INTEGER_BIT,
+            tiny_before_rounding: S::TINY_BEFORE_ROUNDING,
+            ieee_flags: S::IEEE_FLAGS,
         }
+    }
+
+    /// Whether the format, which is lawful, is that of `Double`. The law makes the other constants of these.
+    pub const fn are_those_of_double(&self) -> bool {
+        self.bits == 64
+            && self.precision == 53
+            && self.min_exp == -1022
+            && matches!(self.nonfinite, NonfiniteBehavior::IEEE754)
+            && !self.explicit_integer_bit
+            && !self.tiny_before_rounding
+            && !self.ieee_flags
     }
 
     /// The first clause of the law that the constants break.

@@ -21,9 +21,11 @@
 extern crate alloc;
 
 mod digits;
+mod doubles;
 mod erased;
 #[macro_use]
 mod float;
+mod composed;
 pub mod ieee;
 mod law;
 pub mod ppc;

@@ -1,16 +1,36 @@
 //! Pairs of doubles: a number as the exact sum of two.
 
-use crate::erased::apfloat_base::{self, Float as _};
+use crate::composed::{self, Composed};
+use crate::doubles::{AsDouble, Inner};
+use crate::erased::apfloat_base::Float as _;
 use crate::erased::{apfloat_ieee, apfloat_pairs, pair_decimals};
 use crate::ieee::{Double, IeeeFloat, Semantics};
 use crate::status::answered;
-use crate::{Category, ExpInt, Float, ParseError, Round, StatusAnd};
+use crate::{Category, ExpInt, Float, FloatConvert, ParseError, Round, StatusAnd};
 use core::cmp::Ordering;
 use core::fmt;
 use core::marker::PhantomData;
 use core::ops::Neg;
 
 /// A number as the exact sum of two values.
+///
+/// Pairs of doubles are the library's. Pairs of another type are composed of that type's calls, in the same way, and of
+/// calls of their wide format, [`FallbackS`], whose flags are those of the built-in formats. Where the wide format is
+/// outside the law of formats, as it is for `Half`, `X87DoubleExtended` and `Quad`, such a pair does not compile.
+///
+/// ```
+/// use rustc_apfloat::{Float, ieee::Single, ppc::DoubleFloat};
+///
+/// let third = DoubleFloat::<Single>::from_u128(1).value / DoubleFloat::from_u128(3).value;
+/// assert_eq!(third.value.to_string(), "0.3333333333333339");
+/// ```
+///
+/// ```compile_fail
+/// use rustc_apfloat::{Float, ieee::Half, ppc::DoubleFloat};
+///
+/// let third = DoubleFloat::<Half>::from_u128(1).value / DoubleFloat::from_u128(3).value;
+/// assert!(third.value.is_normal());
+/// ```
 #[must_use]
 #[derive(Copy, Clone, PartialEq, PartialOrd, Debug)]
 pub struct DoubleFloat<F>(F, F);
@@ -42,8 +62,7 @@ impl<F: Float> Semantics for FallbackExtendedS<F> {
 
 type Fallback<F> = IeeeFloat<FallbackS<F>>;
 
-/// The library's pair.
-type Inner = apfloat_pairs::DoubleDouble;
+type FallbackExtended<F> = IeeeFloat<FallbackExtendedS<F>>;
 
 /// The library's value of the wide format.
 type Wide = apfloat_ieee::IeeeFloat<apfloat_pairs::FallbackS>;
@@ -60,76 +79,158 @@ impl<F: Float> Neg for DoubleFloat<F> {
     }
 }
 
+impl<F> DoubleFloat<F> {
+    #[inline]
+    pub(crate) fn of(high: F, low: F) -> Self {
+        DoubleFloat(high, low)
+    }
+
+    #[inline]
+    pub(crate) fn parts(self) -> (F, F) {
+        (self.0, self.1)
+    }
+}
+
 impl DoubleDouble {
-    #[inline]
-    fn inner(self) -> Inner {
-        Inner::from_bits(self.to_bits())
-    }
-
-    #[inline]
-    fn of(inner: Inner) -> Self {
-        Self::from_bits(inner.to_bits())
-    }
-
-    #[inline]
-    fn answered(answer: apfloat_base::StatusAnd<Inner>) -> StatusAnd<Self> {
-        answered(answer).map(Self::of)
-    }
-
     /// The square root of the exact sum of the parts, rounded once to 106 digits, and split. The crate `rustc_apfloat`
     /// has none.
     #[inline]
     pub fn sqrt_r(self, round: Round) -> StatusAnd<Self> {
-        Self::answered(self.inner().sqrt_r(round))
+        AsDouble::ITSELF.answer(AsDouble::ITSELF.inner(self).sqrt_r(round))
     }
 
     /// `sqrt_r`, to nearest, ties to even.
     #[inline]
     pub fn sqrt(self) -> StatusAnd<Self> {
-        Self::answered(self.inner().sqrt())
+        self.sqrt_r(Round::NearestTiesToEven)
     }
 }
 
-impl From<Fallback<Double>> for DoubleDouble {
-    /// The double nearest to the value, with the rest as the low part. A value past the largest double is the infinity,
-    /// and a signaling NaN is quieted.
+impl<F: Float> From<Fallback<F>> for DoubleFloat<F>
+where
+    F: FloatConvert<FallbackExtended<F>>,
+    FallbackExtended<F>: FloatConvert<F>,
+{
+    /// The part nearest to the value, with the rest as the low part. A value past the largest part is the infinity, and
+    /// a signaling NaN is quieted.
     #[inline]
-    fn from(x: Fallback<Double>) -> Self {
-        Self::of(Inner::from(Wide::packed(x.unpacked())))
+    fn from(x: Fallback<F>) -> Self {
+        match F::AS_DOUBLE {
+            Some(double) => double.pair(Inner::from(Wide::packed(x.unpacked()))),
+            None => composed::split(x),
+        }
     }
 }
 
-impl From<DoubleDouble> for Fallback<Double> {
+impl<F: FloatConvert<Fallback<F>>> From<DoubleFloat<F>> for Fallback<F> {
     /// The exact sum of the parts, rounded once. A high part that is zero, infinite or a NaN is taken alone, and a
     /// signaling NaN is quieted.
     #[inline]
-    fn from(x: DoubleDouble) -> Self {
-        Self::from_unpacked(Wide::from(x.inner()).unpacked())
+    fn from(x: DoubleFloat<F>) -> Self {
+        match F::AS_DOUBLE {
+            Some(double) => Self::from_unpacked(Wide::from(double.inner(x)).unpacked()),
+            None => composed::joined(x),
+        }
     }
 }
 
-impl fmt::Display for DoubleDouble {
+impl<F: FloatConvert<Fallback<F>>> fmt::Display for DoubleFloat<F> {
     /// The sum of the parts, as a value of the wide format.
     fn fmt(&self, f: &mut fmt::Formatter<'_>) -> fmt::Result {
         Fallback::from(*self).fmt(f)
     }
 }
 
-impl Float for DoubleDouble {
-    const BITS: usize = Double::BITS * 2;
-    const PRECISION: usize = Fallback::<Double>::PRECISION;
-    const MAX_EXP: ExpInt = Fallback::<Double>::MAX_EXP;
-    const MIN_EXP: ExpInt = Fallback::<Double>::MIN_EXP;
-    const ZERO: Self = DoubleFloat(Double::ZERO, Double::ZERO);
-    const INFINITY: Self = DoubleFloat(Double::INFINITY, Double::ZERO);
-    const NAN: Self = DoubleFloat(Double::NAN, Double::ZERO);
-    const SMALLEST: Self = DoubleFloat(Double::SMALLEST, Double::ZERO);
+/// What the composed pair gives, as `AsDouble` has these of the library's.
+fn pair<F: Float>(value: Composed<F>) -> DoubleFloat<F> {
+    value.pair()
+}
 
-    by_the_library! {}
+fn answer<F: Float>(answer: StatusAnd<Composed<F>>) -> StatusAnd<DoubleFloat<F>> {
+    answer.map(Composed::pair)
+}
 
-    #[inline]
-    fn mul_r(self, rhs: Self, round: Round) -> StatusAnd<Self> {
-        Self::answered(self.inner().mul_r(rhs.inner(), round))
+fn option<F: Float>(value: Option<Composed<F>>) -> Option<DoubleFloat<F>> {
+    value.map(Composed::pair)
+}
+
+fn plain<T>(value: T) -> T {
+    value
+}
+
+/// Methods by the library's pair where the parts are doubles, and otherwise by the composed one: what is returned, how
+/// it is turned into that, and the method with its pairs, a semicolon, and its other parameters.
+macro_rules! by_doubles_or_composed {
+    ($($returned:ty: $shape:ident $name:ident($($pair:ident $(: $of:ty)?),*; $($other:ident: $type:ty),*);)*) => {$(
+        #[inline]
+        fn $name($($pair $(: $of)?,)* $($other: $type),*) -> $returned {
+            match F::AS_DOUBLE {
+                Some(double) => double.$shape(Inner::$name($(double.inner($pair),)* $($other),*)),
+                None => $shape(Composed::<F>::$name($(Composed::new($pair),)* $($other),*)),
+            }
+        }
+    )*};
+}
+
+impl<F: FloatConvert<Fallback<F>>> Float for DoubleFloat<F>
+where
+    Self: From<Fallback<F>>,
+{
+    const BITS: usize = F::BITS * 2;
+    const PRECISION: usize = Fallback::<F>::PRECISION;
+    const MAX_EXP: ExpInt = Fallback::<F>::MAX_EXP;
+    const MIN_EXP: ExpInt = Fallback::<F>::MIN_EXP;
+    const ZERO: Self = DoubleFloat(F::ZERO, F::ZERO);
+    const INFINITY: Self = DoubleFloat(F::INFINITY, F::ZERO);
+    const NAN: Self = DoubleFloat(F::NAN, F::ZERO);
+    const SMALLEST: Self = DoubleFloat(F::SMALLEST, F::ZERO);
+
+    by_doubles_or_composed! {
+        Self: pair largest(;);
+        Self: pair smallest_normalized(;);
+        Self: pair qnan(; payload: Option<u128>);
+        Self: pair snan(; payload: Option<u128>);
+        StatusAnd<Self>: answer add_r(self, rhs: Self; round: Round);
+        StatusAnd<Self>: answer sub_r(self, rhs: Self; round: Round);
+        StatusAnd<Self>: answer mul_r(self, rhs: Self; round: Round);
+        StatusAnd<Self>: answer div_r(self, rhs: Self; round: Round);
+        StatusAnd<Self>: answer ieee_rem(self, rhs: Self;);
+        StatusAnd<Self>: answer c_fmod(self, rhs: Self;);
+        StatusAnd<Self>: answer round_to_integral(self; round: Round);
+        StatusAnd<Self>: answer next_up(self;);
+        StatusAnd<Self>: answer next_down(self;);
+        Self: pair abs(self;);
+        Self: pair copy_sign(self, rhs: Self;);
+        StatusAnd<Self>: answer from_i128_r(; input: i128, round: Round);
+        StatusAnd<Self>: answer from_u128_r(; input: u128, round: Round);
+        Self: pair min(self, other: Self;);
+        Self: pair max(self, other: Self;);
+        Self: pair minimum(self, other: Self;);
+        Self: pair maximum(self, other: Self;);
+        bool: plain bitwise_eq(self, rhs: Self;);
+        bool: plain is_negative(self;);
+        bool: plain is_normal(self;);
+        bool: plain is_finite(self;);
+        bool: plain is_zero(self;);
+        bool: plain is_denormal(self;);
+        bool: plain is_infinite(self;);
+        bool: plain is_nan(self;);
+        bool: plain is_signaling(self;);
+        Category: plain category(self;);
+        bool: plain is_non_zero(self;);
+        bool: plain is_finite_non_zero(self;);
+        bool: plain is_pos_zero(self;);
+        bool: plain is_neg_zero(self;);
+        bool: plain is_pos_infinity(self;);
+        bool: plain is_neg_infinity(self;);
+        bool: plain is_smallest(self;);
+        bool: plain is_smallest_normalized(self;);
+        bool: plain is_largest(self;);
+        bool: plain is_integer(self;);
+        Option<Self>: option get_exact_inverse(self;);
+        ExpInt: plain ilogb(self;);
+        Self: pair scalbn_r(self; exp: ExpInt, round: Round);
+        Self: pair frexp_r(self; exp: &mut ExpInt, round: Round);
     }
 
     /// The fused sum of the values of the wide format, split.
@@ -140,16 +241,37 @@ impl Float for DoubleDouble {
 
     #[inline]
     fn from_bits(input: u128) -> Self {
-        DoubleFloat(Double::from_bits(input), Double::from_bits(input >> 64))
+        Composed::from_bits(input).pair()
     }
 
     #[inline]
     fn to_bits(self) -> u128 {
-        self.0.to_bits() | self.1.to_bits() << 64
+        Composed::new(self).to_bits()
     }
 
     fn from_str_r(s: &str, round: Round) -> Result<StatusAnd<Self>, ParseError> {
-        pair_decimals::read_decimal_pair(s, round).map(Self::answered)
+        match F::AS_DOUBLE {
+            Some(double) => pair_decimals::read_decimal_pair(s, round).map(|pair| double.answer(pair)),
+            None => Composed::from_str_r(s, round).map(answer),
+        }
+    }
+
+    #[inline]
+    fn to_i128_r(self, width: usize, round: Round, is_exact: &mut bool) -> StatusAnd<i128> {
+        assert!((2..=128).contains(&width), "no signed integer has a width of {width}");
+        match F::AS_DOUBLE {
+            Some(double) => answered(double.inner(self).to_i128_r(width, round, is_exact)),
+            None => Composed::new(self).to_i128_r(width, round, is_exact),
+        }
+    }
+
+    #[inline]
+    fn to_u128_r(self, width: usize, round: Round, is_exact: &mut bool) -> StatusAnd<u128> {
+        assert!((1..=128).contains(&width), "no integer has a width of {width}");
+        match F::AS_DOUBLE {
+            Some(double) => answered(double.inner(self).to_u128_r(width, round, is_exact)),
+            None => Composed::new(self).to_u128_r(width, round, is_exact),
+        }
     }
 
     #[inline]
@@ -158,6 +280,9 @@ impl Float for DoubleDouble {
             assert!(self.1.is_finite_non_zero());
             assert!(rhs.1.is_finite_non_zero());
         }
-        self.inner().cmp_abs_normal(rhs.inner())
+        match F::AS_DOUBLE {
+            Some(double) => double.inner(self).cmp_abs_normal(double.inner(rhs)),
+            None => Composed::new(self).cmp_abs_normal(Composed::new(rhs)),
+        }
     }
 }

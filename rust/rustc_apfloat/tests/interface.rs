@@ -127,3 +127,20 @@ fn pairs_and_their_wide_format() {
     assert!((-x + x).value.is_pos_zero());
     assert_eq!(Category::Normal, x.category());
 }
+
+/// What `docs/RUST.md` shows of what the crate `rustc_apfloat` does not have.
+#[test]
+fn beyond_the_crate() {
+    let tenth = Double::from_str_r("0.1", Round::NearestTiesToEven).unwrap().value;
+    assert_eq!(tenth.shortest().unwrap().to_string(), "0.1");
+    assert_eq!(tenth.rounded_decimal(20, Round::TowardZero).unwrap().0.to_string(), "0.10000000000000000555");
+    assert_eq!(tenth.exact_decimal(), None);
+    let two = Double::from_u128(2).value;
+    assert_eq!(two.sqrt().value.to_string(), "1.4142135623730951");
+    assert_eq!(DoubleDouble::from_u128(1 << 106).value.sqrt().map(Float::to_bits), Status::OK.and(0x4340 << 48));
+
+    // Past the largest value, toward zero: that value, with the flags of a processor.
+    type Machine = IeeeFloat<IeeeFlags<SingleS>>;
+    let past = Machine::largest().add_r(Machine::largest(), Round::TowardZero);
+    assert_eq!((past.value.is_largest(), past.status), (true, Status::OVERFLOW | Status::INEXACT));
+}
