@@ -103,6 +103,7 @@ typedef struct apfloat_answer {
 #define APFLOAT_WRONG_WIDTH UINT32_C(4)       /* of an integer */
 #define APFLOAT_REFUSED_TEXT UINT32_C(5)      /* the text has no meaning */
 #define APFLOAT_WRONG_LENGTH UINT32_C(6)      /* of an array */
+#define APFLOAT_UNKNOWN_ERROR UINT32_C(7)     /* no function returns this number */
 
 /* Operations on two values, rounded once: x + y, x - y, x * y, x / y. */
 uint32_t apfloat_add(uint32_t format, uint32_t mode, apfloat_halves x, apfloat_halves y, apfloat_answer *answer);
@@ -175,6 +176,38 @@ uint32_t apfloat_compare(uint32_t format, apfloat_halves x, apfloat_halves y, ap
 #define APFLOAT_POSITIVE_INFINITY 9
 uint32_t apfloat_classify(uint32_t format, apfloat_halves x, apfloat_answer *answer);
 
+/* ---- signs, minima and maxima, NaNs
+ *
+ * These functions round nothing and raise no flag, not even for a signaling NaN, which stays signaling. They have no
+ * mode, and joined to a format's code APFLOAT_IEEE_FLAGS makes no difference. */
+
+/* `number` is 1 if x has a minus sign, else 0 (IEEE 754-2008 5.7.2, isSignMinus): also for a NaN, whose class does not
+ * show its sign. */
+uint32_t apfloat_is_negative(uint32_t format, apfloat_halves x, apfloat_answer *answer);
+
+/* x with the opposite sign, without a sign, and with the sign of y (IEEE 754-2008 5.5.1). Any of them may be a NaN. In
+ * APFLOAT_E4M3FNUZ zero and the NaN have no sign. A pair of doubles has the sign of its high part. */
+uint32_t apfloat_neg(uint32_t format, apfloat_halves x, apfloat_answer *answer);
+uint32_t apfloat_abs(uint32_t format, apfloat_halves x, apfloat_answer *answer);
+uint32_t apfloat_copy_sign(uint32_t format, apfloat_halves x, apfloat_halves y, apfloat_answer *answer);
+
+/* The lesser and the greater of two values (IEEE 754-2008 5.3.1, minNum and maxNum), like fmin() and fmax() in C: y if
+ * x is a NaN, x if y is one, and x if the two are equal, as zeros of opposite signs are. */
+uint32_t apfloat_min(uint32_t format, apfloat_halves x, apfloat_halves y, apfloat_answer *answer);
+uint32_t apfloat_max(uint32_t format, apfloat_halves x, apfloat_halves y, apfloat_answer *answer);
+
+/* The same, but a NaN if x or y is one, the first of them unchanged, and -0 is below +0 (IEEE 754-2019 9.6, minimum and
+ * maximum). */
+uint32_t apfloat_minimum(uint32_t format, apfloat_halves x, apfloat_halves y, apfloat_answer *answer);
+uint32_t apfloat_maximum(uint32_t format, apfloat_halves x, apfloat_halves y, apfloat_answer *answer);
+
+/* The quiet NaN and the signaling NaN with this payload, of which the bits that the format has room for are taken
+ * (IEEE 754-2008 6.2.1); negative if `negative` is not 0. A signaling NaN whose payload would be 0 has the highest bit
+ * of a payload set. APFLOAT_E4M3FN has only a quiet NaN of each sign, and APFLOAT_E4M3FNUZ only one NaN. In a pair of
+ * doubles the high part is the NaN, and the low part 0. */
+uint32_t apfloat_qnan(uint32_t format, uint32_t negative, apfloat_halves payload, apfloat_answer *answer);
+uint32_t apfloat_snan(uint32_t format, uint32_t negative, apfloat_halves payload, apfloat_answer *answer);
+
 /* The value of a text of `length` bytes, rounded once: a hexadecimal number such as -0x1.8p-1, an infinity or a NaN.
  * An infinity is one of inf, INFINITY, +Inf, -inf, -INFINITY and -Inf (not Infinity). A NaN is nan or NaN, after s or S
  * if it is signaling, and after - if it is negative; a payload may follow, with or without parentheses, as in nan(0x7).
@@ -201,6 +234,13 @@ typedef struct apfloat_text {
  * the dot. A zero is 0.0 or -0.0, an infinity inf or -inf, and every NaN nan. APFLOAT_DOUBLE_PAIR does not have it. On
  * an error, *text is unchanged; the rules for `answer` hold for `text` too. */
 uint32_t apfloat_shortest(uint32_t format, apfloat_halves x, apfloat_text *text);
+
+/* A text for what a function returned, such as "unknown format"; APFLOAT_ANSWERED has one too. For a number that is no
+ * code, APFLOAT_UNKNOWN_ERROR is returned, and *text is unchanged. */
+uint32_t apfloat_error_text(uint32_t error, apfloat_text *text);
+
+/* The version of the library: 1,000,000 times its major number, plus 1,000 times the minor one, plus the patch. */
+uint32_t apfloat_version(void);
 
 /* ---- arrays
  *

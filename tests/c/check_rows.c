@@ -32,7 +32,7 @@ static const struct code questions[] = {
     {"is_normal", CLASS(APFLOAT_NEGATIVE_NORMAL) | CLASS(APFLOAT_POSITIVE_NORMAL)},
     {"is_pos_zero", CLASS(APFLOAT_POSITIVE_ZERO)},
     {"is_pos_infinity", CLASS(APFLOAT_POSITIVE_INFINITY)},
-    /* Nothing is asked of a NaN's sign, which its class does not show. */
+    /* The class of a NaN does not show its sign, which apfloat_is_negative tells. */
     {"is_negative", CLASS(APFLOAT_NEGATIVE_INFINITY) | CLASS(APFLOAT_NEGATIVE_NORMAL) |
                         CLASS(APFLOAT_NEGATIVE_SUBNORMAL) | CLASS(APFLOAT_NEGATIVE_ZERO)}};
 
@@ -73,11 +73,21 @@ MAKES(next_up, a->format, a->x)
 MAKES(next_down, a->format, a->x)
 MAKES(compare, a->format, a->x, a->y)
 MAKES(classify, a->format, a->x)
+MAKES(is_negative, a->format, a->x)
+MAKES(neg, a->format, a->x)
+MAKES(abs, a->format, a->x)
+MAKES(copy_sign, a->format, a->x, a->y)
+MAKES(min, a->format, a->x, a->y)
+MAKES(max, a->format, a->x, a->y)
+MAKES(minimum, a->format, a->x, a->y)
+MAKES(maximum, a->format, a->x, a->y)
+MAKES(qnan, a->format, 0, a->x)
+MAKES(snan, a->format, 0, a->x)
 MAKES(parse, a->format, a->mode, (const uint8_t *)a->text, strlen(a->text))
 
-/* The operands of a call, by letters: x, y and z are bits, n is an integer, w a width, p a power, and t a text. Its
- * value: b for bits, n for an integer in the bits, e for an exponent, o for an order, q for a question's answer. And
- * the name of its extra result, if it has one. */
+/* The operands of a call, by letters: x, y and z are bits, l is a payload or None, n is an integer, w a width, p a power,
+ * and t a text. Its value: b for bits, n for an integer in the bits, e for an exponent, o for an order, q for a
+ * question's answer. And the name of its extra result, if it has one. */
 static const struct call {
     const char *name, *operands;
     char value;
@@ -114,6 +124,15 @@ static const struct call {
              {"is_pos_zero", "x", 'q', make_classify, NULL},
              {"is_pos_infinity", "x", 'q', make_classify, NULL},
              {"is_negative", "x", 'q', make_classify, NULL},
+             {"neg", "x", 'b', make_neg, NULL},
+             {"abs", "x", 'b', make_abs, NULL},
+             {"copy_sign", "xy", 'b', make_copy_sign, NULL},
+             {"min", "xy", 'b', make_min, NULL},
+             {"max", "xy", 'b', make_max, NULL},
+             {"minimum", "xy", 'b', make_minimum, NULL},
+             {"maximum", "xy", 'b', make_maximum, NULL},
+             {"qnan", "l", 'b', make_qnan, NULL},
+             {"snan", "l", 'b', make_snan, NULL},
              {"from_str_r", "t", 'b', make_parse, NULL}};
 
 static unsigned agreeing[COUNT(calls)];
@@ -126,10 +145,11 @@ static bool read_operands(char *words, const char *letters, struct arguments *a)
         return true;
     }
     for (char *word = strtok(words, " "); word; word = strtok(NULL, " "), letters++) {
-        apfloat_halves number;
-        bool is_bits = *letters == 'x' || *letters == 'y' || *letters == 'z';
-        if (*letters == '\0' || !read_integer(word, is_bits ? 16 : 10, &number)) return false;
-        if (*letters == 'x' || *letters == 'n') a->x = number;
+        apfloat_halves number = {0, 0};
+        if (*letters == '\0') return false;
+        bool is_bits = strchr("xyzl", *letters) != NULL, is_none = *letters == 'l' && strcmp(word, "None") == 0;
+        if (!is_none && !read_integer(word, is_bits ? 16 : 10, &number)) return false;
+        if (*letters == 'x' || *letters == 'l' || *letters == 'n') a->x = number;
         if (*letters == 'y') a->y = number;
         if (*letters == 'z') a->z = number;
         if (*letters == 'w') a->width = (uint32_t)number.low;
@@ -166,7 +186,9 @@ static bool read_expected(char *columns[], const struct call *call, struct expec
     if (value == 'o') e->answer.number = (int32_t)code_of(orders, COUNT(orders), columns[VALUE]);
     if (value == 'q') {
         uint32_t yes = code_of(questions, COUNT(questions), columns[CALL]);
-        e->classes = strcmp(columns[VALUE], "true") == 0 ? yes : ~yes;
+        bool is_true = strcmp(columns[VALUE], "true") == 0;
+        e->classes = is_true ? yes : ~yes;
+        e->answer.number = is_true;
     }
     if ((value == 'b' || value == 'n') &&
         !read_integer(columns[VALUE], value == 'b' ? 16 : 10, &e->answer.bits)) return false;
@@ -182,11 +204,20 @@ static bool is_as_expected(const struct expected *e, uint32_t code, const apfloa
            answer->status == e->answer.status && is_number;
 }
 
+/* Whether apfloat_is_negative agrees, and the class too, unless it is that of a NaN, which does not show the sign. */
+static bool sign_agrees(const struct arguments *a, const struct expected *e) {
+    struct expected number = *e;
+    number.classes = 0;
+    apfloat_answer answer = before, class = before;
+    uint32_t code = make_is_negative(a, &answer), class_code = make_classify(a, &class);
+    bool is_nan = class_code == APFLOAT_ANSWERED && class.number <= APFLOAT_QUIET_NAN;
+    return is_as_expected(&number, code, &answer) && (is_nan || is_as_expected(e, class_code, &class));
+}
+
 static bool agrees(const struct call *call, const struct arguments *a, const struct expected *e) {
+    if (strcmp(call->name, "is_negative") == 0) return sign_agrees(a, e);
     apfloat_answer answer = before;
     uint32_t code = call->make(a, &answer);
-    /* A NaN's class does not show its sign. */
-    if (strcmp(call->name, "is_negative") == 0 && answer.number <= APFLOAT_QUIET_NAN && code == e->code) return true;
     return is_as_expected(e, code, &answer);
 }
 
@@ -389,10 +420,79 @@ static unsigned refusals(void) {
         {apfloat_convert(APFLOAT_HALF, APFLOAT_UPWARD, APFLOAT_DOUBLE_PAIR, one, &answer), APFLOAT_NO_SUCH_OPERATION},
         {apfloat_convert(APFLOAT_HALF, APFLOAT_UPWARD, 0, one, &answer), APFLOAT_UNKNOWN_FORMAT},
         {apfloat_to_u128(APFLOAT_HALF, APFLOAT_UPWARD, one, 129, &answer), APFLOAT_WRONG_WIDTH},
-        {apfloat_to_i128(APFLOAT_HALF, APFLOAT_UPWARD, one, 1, &answer), APFLOAT_WRONG_WIDTH}};
+        {apfloat_to_i128(APFLOAT_HALF, APFLOAT_UPWARD, one, 1, &answer), APFLOAT_WRONG_WIDTH},
+        {apfloat_neg(0, one, &answer), APFLOAT_UNKNOWN_FORMAT},
+        {apfloat_minimum(11, one, one, &answer), APFLOAT_UNKNOWN_FORMAT},
+        {apfloat_qnan(APFLOAT_E4M3FN | APFLOAT_IEEE_FLAGS, 0, one, &answer), APFLOAT_UNKNOWN_FORMAT},
+        {apfloat_is_negative(APFLOAT_DOUBLE | APFLOAT_TINY_BEFORE_ROUNDING, one, &answer), APFLOAT_UNKNOWN_FORMAT}};
     unsigned count = 0;
     for (size_t i = 0; i < COUNT(codes); i++)
         if (codes[i][0] == codes[i][1] && memcmp(&answer, &before, sizeof answer) == 0) count++;
+    return count;
+}
+
+/* Negative NaNs, as evidence/exact/data.py makes them: the quiet and the signaling one with the payload 5. */
+static const struct {
+    uint32_t format;
+    apfloat_halves quiet, signaling;
+} nans[] = {{APFLOAT_HALF, {0xfe05, 0}, {0xfc05, 0}},
+            {APFLOAT_SINGLE, {0xffc00005, 0}, {0xff800005, 0}},
+            {APFLOAT_DOUBLE, {UINT64_C(0xfff8000000000005), 0}, {UINT64_C(0xfff0000000000005), 0}},
+            {APFLOAT_QUAD, {5, UINT64_C(0xffff800000000000)}, {5, UINT64_C(0xffff000000000000)}},
+            {APFLOAT_BFLOAT, {0xffc5, 0}, {0xff85, 0}},
+            {APFLOAT_E5M2, {0xff, 0}, {0xfd, 0}},
+            {APFLOAT_E4M3FN, {0xff, 0}, {0xff, 0}},
+            {APFLOAT_E4M3FNUZ, {0x80, 0}, {0x80, 0}},
+            {APFLOAT_X87, {UINT64_C(0xc000000000000005), 0xffff}, {UINT64_C(0x8000000000000005), 0xffff}},
+            {APFLOAT_DOUBLE_PAIR, {UINT64_C(0xfff8000000000005), 0}, {UINT64_C(0xfff0000000000005), 0}}};
+
+static bool has_bits(uint32_t code, const apfloat_answer *answer, apfloat_halves bits) {
+    return code == APFLOAT_ANSWERED && answer->bits.low == bits.low && answer->bits.high == bits.high &&
+           answer->status == 0 && answer->number == 0;
+}
+
+/* How many of them agree, in a format with the flags of IEEE 754-2008 too, whose values are the same. */
+static unsigned negative_nans(void) {
+    const apfloat_halves payload = {5, 0};
+    unsigned count = 0;
+    for (size_t i = 0; i < COUNT(nans); i++) {
+        uint32_t format = nans[i].format;
+        apfloat_answer quiet = before, signaling = before, ieee = before;
+        uint32_t of_quiet = apfloat_qnan(format, 1, payload, &quiet);
+        uint32_t of_signaling = apfloat_snan(format, UINT32_MAX, payload, &signaling);
+        if (!has_bits(of_quiet, &quiet, nans[i].quiet) || !has_bits(of_signaling, &signaling, nans[i].signaling))
+            continue;
+        uint32_t of_ieee = apfloat_qnan(format | APFLOAT_IEEE_FLAGS, 1, payload, &ieee);
+        if (of_ieee == APFLOAT_UNKNOWN_FORMAT || has_bits(of_ieee, &ieee, nans[i].quiet)) count++;
+    }
+    return count;
+}
+
+/* How many codes have their text, and whether a number that is no code has none. */
+static unsigned error_texts(void) {
+    static const char *const texts[] = {"no error",
+                                        "unknown format",
+                                        "unknown rounding mode",
+                                        "the format does not have the operation",
+                                        "an integer cannot have this width",
+                                        "the text was refused",
+                                        "wrong length of an array",
+                                        "unknown error code"};
+    unsigned count = 0;
+    for (uint32_t error = 0; error <= COUNT(texts); error++) {
+        apfloat_text text, wanted;
+        memset(&text, 0xa5, sizeof text);
+        wanted = text;
+        bool is_known = error < COUNT(texts);
+        if (is_known) {
+            memset(wanted.bytes, 0, sizeof wanted.bytes);
+            strcpy(wanted.bytes, texts[error]);
+            wanted.length = (uint32_t)strlen(texts[error]);
+        }
+        uint32_t code = apfloat_error_text(error, &text);
+        if (code == (is_known ? APFLOAT_ANSWERED : APFLOAT_UNKNOWN_ERROR) && memcmp(&text, &wanted, sizeof text) == 0)
+            count++;
+    }
     return count;
 }
 
@@ -418,6 +518,8 @@ int main(void) {
         if (agreeing[i]) printf("%s: %u rows agree\n", calls[i].name, agreeing[i]);
     printf("%u errors agree\n", refusals());
     printf("1 + 1 %s\n", adds_ones() ? "agrees" : "differs");
+    printf("%u formats' negative NaNs agree\n", negative_nans());
+    printf("%u texts of errors agree, and version %u\n", error_texts(), apfloat_version());
     printf("%u errors of arrays agree\n", array_refusals());
     printf("%u conversions that saturate agree\n", saturated());
     return 0;

@@ -1,5 +1,5 @@
 -- A call on arrays leaves one code, and determines the bytes and the counts.
-use Rattle.std.proofs.Common.{◌≡◌, ℕ, ◌*◌, ◌≤◌, Bool, List, ◌++◌, length, take, drop, Result, Ok, Err, sym, ap, ◌∙◌}
+use Rattle.std.proofs.Common.{◌≡◌, ℕ, ◌*◌, ◌≤◌, Bool, List, ◌++◌, length, take, drop, Ok, Err, sym, ap, ◌∙◌}
 use Rattle.std.proofs.Common.{arith}
 use Rattle.std.specs.Prelude.{◌/◌, min}
 use Rattle.std.proofs.lemmas.List.{take-take, take-append-drop, length-take}
@@ -8,7 +8,7 @@ use Rattle.formats_at_run_time.specs.FlaggedKinds.{flagged_constants, flagged_ki
 use Rattle.array_conversions.specs.declared.ArrayConversion.{ArrayConversion}
 use Rattle.array_conversions.specs.declared.Counts.{Counts}
 use Rattle.array_conversions.specs.Blocks.{value_at}
-use Rattle.array_conversions.specs.Bytes.{AreBytes, number_of}
+use Rattle.array_conversions.specs.Bytes.{number_of}
 use Rattle.array_conversions.specs.Widths.{array_widths}
 use Rattle.array_conversions.proofs.OneBlock.{block_places_once}
 use Rattle.array_conversions.proofs.PlacesOnce.{FixesPlaces, bytes_take, places_once}

@@ -83,7 +83,7 @@ number_once Holds once a b x y = record {
 }
 
 -- a result that is a given number is unique
-given_once : (given : ℤ) → OnceAnswer (IsNumber (λ (n : ℤ). n ≡ given))
+pub given_once : (given : ℤ) → OnceAnswer (IsNumber (λ (n : ℤ). n ≡ given))
 given_once given = number_once (λ (n : ℤ). n ≡ given) (λ m n h k. h ∙ sym k)
 
 -- ---- values of a type

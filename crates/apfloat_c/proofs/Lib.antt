@@ -7,3 +7,4 @@ pub mod ArrayCalls
 pub mod ElementCalls
 pub mod ArraysOnce
 pub mod ParsedOnce
+pub mod FlaglessOnce

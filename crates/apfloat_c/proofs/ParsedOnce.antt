@@ -68,7 +68,7 @@ read_into_once kind has mode text old a b code other (inr x) (inl y) =
 read_into_once kind has mode text old a b code other (inr x) (inr y) =
     (x.0 ∙ sym y.0, unchanged old a b x.1 y.1)
 
-built_in_kind_law : (kind : BuiltInKind) → KindHasLaw (kind_of kind)
+pub built_in_kind_law : (kind : BuiltInKind) → KindHasLaw (kind_of kind)
 built_in_kind_law (OfBuiltIn format) = built_in_law format
 built_in_kind_law PairsOfDoubles = tt
 

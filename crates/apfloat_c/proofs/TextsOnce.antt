@@ -1,6 +1,7 @@
 -- The text of a value is determined by its bits: one code, and one text.
-use Rattle.std.proofs.Common.{◌≡◌, ℕ, zero, suc, ◌-◌, ◌<◌, Bool, List, ◌++◌, length, replicate, Err, Ok, Result, refl}
-use Rattle.std.proofs.Common.{sym, ap, ◌∙◌, arith}
+use Rattle.std.proofs.Common.{◌≡◌, ℕ, zero, suc, ◌-◌, ◌<◌, Bool, true, false, List, ◌++◌, length, replicate, Err, Ok}
+use Rattle.std.proofs.Common.{Result, refl, sym, ap, ◌∙◌, arith}
+use Rattle.std.specs.Prelude.{nat_le}
 use Rattle.rustc_apfloat.specs.Datum.{Datum, finite, infinite, nan}
 use Rattle.rustc_apfloat.specs.Format.{Format}
 use Rattle.rustc_apfloat.specs.Lawful.{format_with}
@@ -12,7 +13,9 @@ use Rattle.formats_at_run_time.specs.declared.BuiltInFormat.{BuiltInFormat}
 use Rattle.formats_at_run_time.specs.BuiltIns.{constants_in, known_format}
 use Rattle.formats_at_run_time.specs.ValueKinds.{value_of}
 use Rattle.apfloat_c.specs.declared.decimals.DecimalText.{DecimalText}
+use Rattle.apfloat_c.specs.About.{IsTold, error_text, unknown_error}
 use Rattle.apfloat_c.specs.Decimals.{IsShortestWritten, IsText, IsValueText}
+use Rattle.apfloat_c.specs.OneAnswer.{IsErrorTextOnce}
 
 -- decimals with the same parts are equal
 decimal_of_parts : (first second : Decimal) → first.negative ≡ second.negative → first.digits ≡ second.digits
@@ -71,3 +74,14 @@ text_once (Ok format) bits old a b code other x y =
           (one_text f (value_of (constants_in format) bits) x.1.written y.1.written (some_precision format)
           x.1.is_text_of y.1.is_text_of) x.1.is_written y.1.is_written,
     )
+
+told_once : (known : Bool) (written : List ℕ) (old first second : DecimalText) (code other : ℕ)
+    → IsTold known written old first code → IsTold known written old second other
+    → (code ≡ other) × (first ≡ second)
+told_once true written old a b code other x y = (x.0 ∙ sym y.0, one_struct written written a b refl x.1 y.1)
+told_once false written old a b code other x y = (x.0 ∙ sym y.0, x.1 ∙ sym y.1)
+
+-- two texts for a code are equal
+pub error_text_once : IsErrorTextOnce
+error_text_once error old a b code other x y =
+    told_once (nat_le error unknown_error) (error_text error) old a b code other x y

@@ -10,9 +10,12 @@ use Rattle.apfloat_c.specs.declared.array_data.ArrayAnswer.{ArrayAnswer}
 use Rattle.apfloat_c.specs.declared.data.Answer.{Answer}
 use Rattle.apfloat_c.specs.declared.decimals.DecimalText.{DecimalText}
 use Rattle.apfloat_c.specs.declared.exported_call.ExportedCall.{ExportedCall}
+use Rattle.apfloat_c.specs.declared.flagless_call.FlaglessCall.{FlaglessCall}
+use Rattle.apfloat_c.specs.About.{IsErrorText}
 use Rattle.apfloat_c.specs.Answers.{IsReturned, whole}
 use Rattle.apfloat_c.specs.Arrays.{IsConvertedArray, IsMappedArray}
 use Rattle.apfloat_c.specs.Decimals.{KnownReading, IsParsed, IsShortestWritten}
+use Rattle.apfloat_c.specs.FlaglessCalls.{IsFlaglessReply}
 use Rattle.apfloat_c.specs.KnownCalls.{known_call}
 
 -- two results with the same number of 128 bits, the same flags, and the same extra number
@@ -42,6 +45,20 @@ abbrev pub IsTextOnce : Type 0
 IsTextOnce =
     (format : Result BuiltInFormat ℕ) (bits : ℕ) (old first second : DecimalText) (code other : ℕ)
     → IsShortestWritten format bits old first code → IsShortestWritten format bits old second other
+    → (code ≡ other) × (first ≡ second)
+
+-- a call that raises no flag
+abbrev pub IsFlaglessReplyOnce : Type 0
+IsFlaglessReplyOnce =
+    (format : Option FlaggedKind) (call : FlaglessCall) (old first second : Answer) (code other : ℕ)
+    → IsFlaglessReply format call old first code → IsFlaglessReply format call old second other
+    → (code ≡ other) × SameAnswer first second
+
+-- the text for a code
+abbrev pub IsErrorTextOnce : Type 0
+IsErrorTextOnce =
+    (error : ℕ) (old first second : DecimalText) (code other : ℕ)
+    → IsErrorText error old first code → IsErrorText error old second other
     → (code ≡ other) × (first ≡ second)
 
 -- what a call leaves in bytes that were lent, as in every `&mut [u8]`: the same number of them, each of them a byte

@@ -27,6 +27,9 @@ pub const REFUSED_TEXT: u32 = 5;
 /// The error for arrays whose lengths do not match.
 pub const WRONG_LENGTH: u32 = 6;
 
+/// The error for a number that no export returns, and the greatest code.
+pub const UNKNOWN_ERROR: u32 = 7;
+
 /// The mode of calls that take no mode.
 pub const NEAREST_EVEN: u32 = 0;
 

@@ -4,6 +4,7 @@
 //! success, and an error code otherwise. Each is total: it requires nothing of the contents of its arguments.
 #![tactic(auto)]
 
+mod about;
 mod answers;
 mod array_calls;
 mod array_data;
@@ -15,6 +16,8 @@ mod decimals;
 mod elements;
 mod exported_call;
 mod exports;
+mod flagless;
+mod flagless_call;
 mod maps;
 mod one_answer;
 mod operations;

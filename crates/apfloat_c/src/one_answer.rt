@@ -1,13 +1,15 @@
 //! The result of an export is determined by its arguments.
 
 ghost use Rattle.apfloat_c.specs.OneAnswer.{IsConvertedArrayOnce, IsMappedArrayOnce, IsParsedOnce, IsReplyOnce};
-ghost use Rattle.apfloat_c.specs.OneAnswer.{IsTextOnce};
+ghost use Rattle.apfloat_c.specs.OneAnswer.{IsErrorTextOnce, IsFlaglessReplyOnce, IsTextOnce};
 
 /// The contract of each export allows one code and one result, text or array.
 pub fn one_answer()
     ensures reply { IsReplyOnce }
     ensures parsed { IsParsedOnce }
     ensures text { IsTextOnce }
+    ensures flagless { IsFlaglessReplyOnce }
+    ensures error { IsErrorTextOnce }
     ensures converted { IsConvertedArrayOnce }
     ensures mapped { IsMappedArrayOnce }
 {}

@@ -283,11 +283,12 @@ impl<S: Flagged> Float for IeeeFloat<S> {
         encode::<S>(self)
     }
 
-    #[inline]
+    #[inline(always)]
     fn to_u128_r(self, width: usize, round: Round, is_exact: &mut bool) -> StatusAnd<u128> {
         let whole = to_unsigned(shape_of::<S>(), self.unpacked(), width as u32, round);
         *is_exact = whole.is_exact;
-        whole.answer
+        // Rebuilt from its fields: a struct that is returned as a whole is copied together with its padding.
+        whole.answer.status.and(whole.answer.value)
     }
 
     #[inline]

@@ -1,0 +1,34 @@
+-- What the library says of itself: a text for each code that an export returns, and its version.
+use Rattle.std.specs.Prelude.{◌≡◌, ℕ, ◌==◌, nat_le, Bool, true, false, if◌then◌else◌, List, codes}
+use Rattle.apfloat_c.specs.declared.decimals.DecimalText.{DecimalText}
+use Rattle.apfloat_c.specs.ArrayCalls.{wrong_length}
+use Rattle.apfloat_c.specs.Decimals.{IsText}
+use Rattle.apfloat_c.specs.KnownCalls.{answered, no_such_operation, refused_text, unknown_format, unknown_mode}
+use Rattle.apfloat_c.specs.KnownCalls.{wrong_width}
+
+-- the error for a number that no export returns; it is the greatest code
+abbrev pub unknown_error : ℕ
+unknown_error = 7
+
+abbrev pub error_text : ℕ → List ℕ
+error_text error =
+    if error == answered then codes "no error"
+    else if error == unknown_format then codes "unknown format"
+    else if error == unknown_mode then codes "unknown rounding mode"
+    else if error == no_such_operation then codes "the format does not have the operation"
+    else if error == wrong_width then codes "an integer cannot have this width"
+    else if error == refused_text then codes "the text was refused"
+    else if error == wrong_length then codes "wrong length of an array"
+    else codes "unknown error code"
+
+-- the code 0 and the text of a code, or the error and the previous contents
+abbrev pub IsTold : Bool → List ℕ → DecimalText → DecimalText → ℕ → Type 0
+IsTold true written old new code = (code ≡ answered) × IsText written new
+IsTold false written old new code = (code ≡ unknown_error) × (new ≡ old)
+
+abbrev pub IsErrorText : ℕ → DecimalText → DecimalText → ℕ → Type 0
+IsErrorText error old new code = IsTold (nat_le error unknown_error) (error_text error) old new code
+
+-- 0.1.0
+abbrev pub version : ℕ
+version = 1000

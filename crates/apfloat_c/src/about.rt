@@ -1,0 +1,62 @@
+//! What the library says of itself: a text for each code that an export returns, and its version.
+
+ghost use Rattle.std.specs.Prelude.{◌≡◌, ◌<◌, length};
+ghost use Rattle.apfloat_c.specs.About.{IsErrorText, error_text, version};
+ghost use Rattle.apfloat_c.specs.Decimals.{IsText};
+
+use crate::codes::{ANSWERED, UNKNOWN_ERROR};
+use crate::decimals::DecimalText;
+use apfloat_decimals::formatting::CAPACITY;
+
+/// The version of the library, as `apfloat_version` returns it.
+const VERSION: u32 = 1_000;
+
+/// A text for a code that an export returned.
+#[unsafe(no_mangle)]
+pub extern "C" fn apfloat_error_text(error: u32, text: &mut DecimalText) -> u32
+    ensures { IsErrorText error text.old text.new result }
+{
+    if error > UNKNOWN_ERROR {
+        return UNKNOWN_ERROR;
+    }
+    *text = text_of(error_text(error));
+    ANSWERED
+}
+
+/// The version of the library: 1,000,000 times the major number, plus 1,000 times the minor one, plus the patch.
+#[unsafe(no_mangle)]
+pub extern "C" fn apfloat_version() -> u32
+    ensures { result ≡ version }
+{
+    VERSION
+}
+
+/// The text for a code; any number that is no code has the text for `UNKNOWN_ERROR`.
+fn error_text(error: u32) -> &'static str
+    ensures text { result.now ≡ error_text error }
+    ensures room { length result.now < 64 }
+{
+    match error {
+        0 => "no error",
+        1 => "unknown format",
+        2 => "unknown rounding mode",
+        3 => "the format does not have the operation",
+        4 => "an integer cannot have this width",
+        5 => "the text was refused",
+        6 => "wrong length of an array",
+        _ => "unknown error code",
+    }
+}
+
+/// A text as it is passed to C.
+fn text_of(text: &str) -> DecimalText
+    requires { length text.now < 64 }
+    ensures { IsText text.now result }
+{
+    let mut bytes = [0; CAPACITY];
+    bytes[..text.len()].copy_from_slice(text.as_bytes());
+    DecimalText {
+        bytes,
+        length: text.len() as u32,
+    }
+}
