@@ -581,6 +581,55 @@ constexpr value<F> copy_sign(const value<F> &x, const value<F> &y) {
     return x.sign_bit() == y.sign_bit() ? -negated : negated;
 }
 
+// ---- minima, maxima and NaNs
+//
+// These round nothing and raise no flag, not even for a signaling NaN, which stays signaling.
+
+namespace detail {
+
+template <class F>
+value<F> value_of(const apfloat_answer &answer) {
+    return value<F>::from_lowest(answer.bits);
+}
+
+} // namespace detail
+
+/// The lesser of two values (IEEE 754-2008 5.3.1, minNum), like std::fmin: y if x is a NaN, x if y is one, and x if the
+/// two are equal, as zeros of opposite signs are.
+template <class F>
+value<F> min(const value<F> &x, const value<F> &y) {
+    return detail::value_of<F>(detail::answer_of(apfloat_min, F::code, x.halves(), y.halves()));
+}
+/// The greater of two values (maxNum), in the same way.
+template <class F>
+value<F> max(const value<F> &x, const value<F> &y) {
+    return detail::value_of<F>(detail::answer_of(apfloat_max, F::code, x.halves(), y.halves()));
+}
+/// The lesser of two values (IEEE 754-2019 9.6, minimum): the first NaN if there is one, and -0 is below +0.
+template <class F>
+value<F> minimum(const value<F> &x, const value<F> &y) {
+    return detail::value_of<F>(detail::answer_of(apfloat_minimum, F::code, x.halves(), y.halves()));
+}
+/// The greater of two values (maximum), in the same way.
+template <class F>
+value<F> maximum(const value<F> &x, const value<F> &y) {
+    return detail::value_of<F>(detail::answer_of(apfloat_maximum, F::code, x.halves(), y.halves()));
+}
+
+/// The quiet NaN with this payload, of which the bits that the format has room for are taken (IEEE 754-2008 6.2.1).
+template <class F>
+value<F> quiet_nan(apfloat_halves payload = {0, 0}, bool negative = false) {
+    const std::uint32_t sign = negative;
+    return detail::value_of<F>(detail::answer_of(apfloat_qnan, F::code, sign, payload));
+}
+/// The signaling NaN with this payload; with the highest bit of a payload if it would be 0. Formats with one NaN have a
+/// quiet one.
+template <class F>
+value<F> signaling_nan(apfloat_halves payload = {0, 0}, bool negative = false) {
+    const std::uint32_t sign = negative;
+    return detail::value_of<F>(detail::answer_of(apfloat_snan, F::code, sign, payload));
+}
+
 // ---- classes
 
 /// The classes of values (IEEE 754-2008 5.7.2).

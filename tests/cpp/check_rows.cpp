@@ -348,6 +348,28 @@ verdict check_copied_sign(const row &r) {
 }
 
 template <class F>
+verdict check_minimum(const row &r) {
+    const auto x = operand<F>(r, 0), y = operand<F>(r, 1);
+    return of(is_value(r.call == "min" ? min(x, y) : minimum(x, y), r));
+}
+
+template <class F>
+verdict check_maximum(const row &r) {
+    const auto x = operand<F>(r, 0), y = operand<F>(r, 1);
+    return of(is_value(r.call == "max" ? max(x, y) : maximum(x, y), r));
+}
+
+// A NaN with a payload, or with none; with the other sign it is the negated one.
+template <class F>
+verdict check_nan(const row &r) {
+    const auto payload = rows::integer_of(r.operands == "None" ? "0" : r.operands, 16).value();
+    const bool quiet = r.call == "qnan";
+    const auto made = quiet ? quiet_nan<F>(payload) : signaling_nan<F>(payload);
+    const auto negative = quiet ? quiet_nan<F>(payload, true) : signaling_nan<F>(payload, true);
+    return of(is_value(made, r) && is_value(-negative, r));
+}
+
+template <class F>
 verdict check_question(const row &r) {
     const auto x = operand<F>(r, 0);
     const auto found = classify(x);
@@ -452,6 +474,12 @@ check check_of(std::string_view call) {
         {"neg", check_negation<F>},
         {"abs", check_magnitude<F>},
         {"copy_sign", check_copied_sign<F>},
+        {"min", check_minimum<F>},
+        {"max", check_maximum<F>},
+        {"minimum", check_minimum<F>},
+        {"maximum", check_maximum<F>},
+        {"qnan", check_nan<F>},
+        {"snan", check_nan<F>},
         {"is_signaling", check_question<F>},
         {"is_nan", check_question<F>},
         {"is_infinite", check_question<F>},
