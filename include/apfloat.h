@@ -1,8 +1,8 @@
 /* Correctly rounded software floating point: the library libapfloat_c.a, C99.
  *
- * Every function takes values as their bits, with a code for the format and one for the rounding mode, and writes its
- * result through a pointer. It returns APFLOAT_ANSWERED, or the code of the first error, in the order in which these
- * codes are listed; on an error, *answer is unchanged.
+ * A function on values takes them as their bits, with a code for the format and, if it rounds, one for the rounding
+ * mode, and writes its result through a pointer. It returns APFLOAT_ANSWERED, or the code of the first error, in the
+ * order in which these codes are listed; on an error, *answer is unchanged.
  *
  * The library never allocates, keeps no state between calls, and calls no functions outside itself other than the
  * compiler's own division of 128-bit integers, and memcpy and memset, which compilers call everywhere. So its functions
@@ -103,7 +103,7 @@ typedef struct apfloat_answer {
 #define APFLOAT_WRONG_WIDTH UINT32_C(4)       /* of an integer */
 #define APFLOAT_REFUSED_TEXT UINT32_C(5)      /* the text has no meaning */
 #define APFLOAT_WRONG_LENGTH UINT32_C(6)      /* of an array */
-#define APFLOAT_UNKNOWN_ERROR UINT32_C(7)     /* no function returns this number */
+#define APFLOAT_UNKNOWN_ERROR UINT32_C(7)     /* of a code: apfloat_error_text alone returns it */
 
 /* Operations on two values, rounded once: x + y, x - y, x * y, x / y. */
 uint32_t apfloat_add(uint32_t format, uint32_t mode, apfloat_halves x, apfloat_halves y, apfloat_answer *answer);
@@ -236,7 +236,7 @@ typedef struct apfloat_text {
 uint32_t apfloat_shortest(uint32_t format, apfloat_halves x, apfloat_text *text);
 
 /* A text for what a function returned, such as "unknown format"; APFLOAT_ANSWERED has one too. For a number that is no
- * code, APFLOAT_UNKNOWN_ERROR is returned, and *text is unchanged. */
+ * code, APFLOAT_UNKNOWN_ERROR is returned, and *text is unchanged. The rules for `answer` hold for `text`. */
 uint32_t apfloat_error_text(uint32_t error, apfloat_text *text);
 
 /* The version of the library: 1,000,000 times its major number, plus 1,000 times the minor one, plus the patch. */

@@ -1067,7 +1067,7 @@ std::ostream &operator<<(std::ostream &out, const value<F> &x) {
 // ---- operators
 
 /// A value whose operators round in the mode of a `gather` and join their flags to it: flags(x) + y. If both operands
-/// have one, the left operand's counts. It is used while the gather exists.
+/// have one, the left operand's counts. The gather has to outlive it.
 template <class F>
 class gathered : public value<F> {
 public:
@@ -1394,9 +1394,15 @@ struct hash<apfloat::unflagged<F, Mode>> : hash<apfloat::value<F>> {};
 template <class F>
 struct formatter<apfloat::value<F>, char> : formatter<string_view, char> {
     constexpr auto parse(format_parse_context &context) {
-        for (const char letter : context) {
-            if (letter == '}') break;
-            if (letter == '.') throw format_error("apfloat: a value is formatted without a precision");
+        auto at = context.begin();
+        const auto end = context.end();
+        // What stands before an alignment is a fill, even if it is a dot.
+        if (end - at > 1 && (at[1] == '<' || at[1] == '>' || at[1] == '^')) at += 2;
+        // A width may be the number of an argument, in braces of its own.
+        for (int depth = 0; at != end && (depth > 0 || *at != '}'); ++at) {
+            if (*at == '.') throw format_error("apfloat: a value is formatted without a precision");
+            if (*at == '{') ++depth;
+            if (*at == '}') --depth;
         }
         return formatter<string_view, char>::parse(context);
     }

@@ -51,7 +51,8 @@ Traceback (most recent call last):
 ...
 ValueError: 0.1 is not a value of half
 
-Comparisons are exact, with numbers of any kind, and equal numbers have equal hashes:
+Comparisons are exact, with values of any format and with integers, floats and fractions, and equal ones have equal
+hashes:
 
 >>> half(1) == 1 == single(1), half('0.1') == 0.1, half('0.1') < 0.1, {0.5: 'a half'}[half(0.5)]
 (True, False, True, 'a half')
@@ -251,6 +252,9 @@ class Refused(ValueError):
         super().__init__(text or _REFUSALS.get(code, f'code {code}'))
         self.code = code
 
+    def __reduce__(self) -> tuple[Any, ...]:
+        return Refused, (self.code, str(self))
+
 
 def _halves(bits: int) -> _Halves:
     return _Halves(bits & (1 << 64) - 1, bits >> 64 & (1 << 64) - 1)
@@ -298,10 +302,8 @@ class Format:
         self.name, self.code, self.width = name, code, width
         self._precision, self._exponent_bits = precision, exponent_bits
         self._has_integer_bit = code & _FORMAT_BITS == 9
-        is_pair = code == 10
-        # The bit of a value's sign, and all bits that change with the sign of a number.
-        self._sign_bit = 1 << (63 if is_pair else width - 1)
-        self._sign_bits = self._sign_bit | (1 << 127 if is_pair else 0)
+        # The bit of a value's sign; of a pair, that of its high double.
+        self._sign_bit = 1 << (63 if code == 10 else width - 1)
         # The format itself, without a choice of flags.
         self._plain = plain or self
 
@@ -818,9 +820,20 @@ class Value(_Arithmetic[Number]):
         return self._class() in (2, 3, 4, 5)
 
     def __neg__(self) -> Value:
+        """The value with the opposite sign, a NaN's too (IEEE 754-2008 5.5.1).
+
+        >>> -half(1), -half('nan'), -double_pair(1), -(double_pair(1) / 3)
+        (half('-1.0'), half('-nan'), double_pair('-1.0'), double_pair('-0.3333333333333333 + -1.8503717077085944e-17'))
+        """
         if self.format is e4m3fnuz and (self.is_zero or self.is_nan):
             return self
-        return Value(self.format, self.bits ^ self.format._sign_bits)
+        bits = self.bits ^ self.format._sign_bit
+        if self.format is double_pair:
+            # Only a low double that is a nonzero number has a sign that counts.
+            low = double.from_bits(self.bits >> 64)
+            if low.is_finite and not low.is_zero:
+                bits ^= 1 << 127
+        return Value(self.format, bits)
 
     def __pos__(self) -> Value:
         return self
@@ -969,8 +982,8 @@ class Value(_Arithmetic[Number]):
     def __format__(self, spec: str) -> str:
         """The value as Python's decimal.Decimal formats it exactly, or as str does without a specification.
 
-        >>> f'{half("0.1"):.3e} {half("0.1"):.20f} {half("1.5")}'
-        '9.998e-2 0.09997558593750000000 1.5'
+        >>> f'{half("0.1"):.3e} {half("0.1"):.20f} {half("1.5")}, {quad.smallest:.3e} {-quad.largest:.3e}'
+        '9.998e-2 0.09997558593750000000 1.5, 6.475e-4966 -1.190e+4932'
         """
         if not spec:
             return str(self)
@@ -978,8 +991,9 @@ class Value(_Arithmetic[Number]):
             return format(decimal.Decimal(str(self)), spec)
         numerator, denominator = self.as_integer_ratio()
         places = denominator.bit_length() - 1
-        sign = '-' if self.is_negative else ''
-        return format(decimal.Decimal(f'{sign}{abs(numerator) * 5**places}e-{places}'), spec)
+        # Python makes no text of an integer with so many digits as those of `quad`.
+        size = decimal.Decimal(abs(numerator) * 5**places).scaleb(-places, decimal.Context(_MOST_DIGITS))
+        return format(size.copy_negate() if self.is_negative else size, spec)
 
 
 # ---- arrays
@@ -1356,9 +1370,9 @@ class Array(_Elements, _Arithmetic[Any]):
         return Array(format, format._joined(results), counts, rest.shape)
 
     def __neg__(self) -> Array:
-        if self.format is e4m3fnuz:
+        if self.format in (e4m3fnuz, double_pair):
             return self._mapped(operator.neg)
-        number = int.from_bytes(self._data, 'little') ^ self._repeated(self.format._sign_bits)
+        number = int.from_bytes(self._data, 'little') ^ self._repeated(self.format._sign_bit)
         return self._like(number.to_bytes(len(self._data), 'little'), self.shape)
 
     def __pos__(self) -> Array:

@@ -471,6 +471,21 @@ class ArrayTests(unittest.TestCase):
             self.assertEqual([(-value).bits for value in every], negated)
             self.assertEqual([abs(value).bits for value in every], without)
 
+    def test_signs_of_pairs(self):
+        # A low double that is no number but zero keeps its bits.
+        lows = [0.0, -0.0, 5e-324, -1e-20, math.inf, -math.inf, math.nan]
+        for high, low in itertools.product((1.5, -1.5, 0.0, -0.0, math.inf, math.nan), lows):
+            first, second = [apfloat.double(part).bits for part in (high, low)]
+            value = apfloat.double_pair.from_bits(first | second << 64)
+            if low and math.isfinite(low):
+                second ^= 1 << 63
+            negated = apfloat.double_pair.from_bits(first ^ 1 << 63 | second << 64)
+            without = negated if first >> 63 else value
+            self.assertEqual((-value).bits, negated.bits)
+            self.assertEqual(abs(value).bits, without.bits)
+            array = apfloat.double_pair.from_bits([value.bits])
+            self.assertEqual([(-array)[0].bits, abs(array)[0].bits], [negated.bits, without.bits])
+
     def test_orders(self):
         comparisons = [operator.eq, operator.ne, operator.lt, operator.le, operator.gt, operator.ge]
         for format in SMALL:

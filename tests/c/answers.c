@@ -151,6 +151,11 @@ static void note(uint32_t code, const apfloat_answer *answer) {
     add_bytes(answer, sizeof *answer);
 }
 
+static void note_text(uint32_t code, const apfloat_text *text) {
+    add_bytes(&code, sizeof code);
+    add_bytes(text, sizeof *text);
+}
+
 #define CALL(NAME, ...) \
     do { \
         apfloat_answer *answer = fresh(); \
@@ -160,7 +165,9 @@ static void note(uint32_t code, const apfloat_answer *answer) {
 static const char *const names[] = {
     "add",       "sub",   "mul",     "div",       "rem",     "mod",      "fma",   "sqrt",          "convert",
     "from_u128", "from_i128", "to_u128", "to_i128", "integral", "scalbn", "ilogb", "frexp",         "next_up",
-    "next_down", "compare", "classify", "parse",  "parse_decimal", "shortest", "convert_array", "map_array"};
+    "next_down", "compare", "classify", "parse",  "parse_decimal", "shortest", "is_negative",   "neg",
+    "abs",       "copy_sign", "min",  "max",      "minimum", "maximum", "qnan",  "snan",          "error_text",
+    "version",   "convert_array", "map_array"};
 #define KINDS (sizeof names / sizeof names[0])
 
 static void call_on_arrays(uint32_t kind) {
@@ -235,14 +242,30 @@ static void call(size_t kind) {
         length = draw_text(text, below(4) ? 10 : 16);
         CALL(apfloat_parse_decimal, format, mode, (const uint8_t *)text, length);
         break;
-    case 23: {
+    case 23:
         memset(&written, 0xa5, sizeof written);
-        uint32_t code = apfloat_shortest(format, x, &written);
-        add_bytes(&code, sizeof code);
-        add_bytes(&written, sizeof written);
+        note_text(apfloat_shortest(format, x, &written), &written);
+        break;
+    case 24: CALL(apfloat_is_negative, format, x); break;
+    case 25: CALL(apfloat_neg, format, x); break;
+    case 26: CALL(apfloat_abs, format, x); break;
+    case 27: CALL(apfloat_copy_sign, format, x, y); break;
+    case 28: CALL(apfloat_min, format, x, y); break;
+    case 29: CALL(apfloat_max, format, x, y); break;
+    case 30: CALL(apfloat_minimum, format, x, y); break;
+    case 31: CALL(apfloat_maximum, format, x, y); break;
+    case 32: CALL(apfloat_qnan, format, magnitude & 3, number); break;
+    case 33: CALL(apfloat_snan, format, magnitude & 3, number); break;
+    case 34:
+        memset(&written, 0xa5, sizeof written);
+        note_text(apfloat_error_text(magnitude, &written), &written);
+        break;
+    case 35: {
+        uint32_t version = apfloat_version();
+        add_bytes(&version, sizeof version);
         break;
     }
-    default: call_on_arrays((uint32_t)kind - 24); break;
+    default: call_on_arrays((uint32_t)kind - 36); break;
     }
 }
 

@@ -186,6 +186,7 @@ void check_texts() {
     CHECK(to_text(number(1e21)).view() == "1e21" && to_text(number(1e21)).size() == 4);
 #if defined(__cpp_lib_format)
     CHECK(std::format("{:*>6}|{}", 0.1_binary16, number(1.5)) == "***0.1|1.5");
+    CHECK(std::format("{:.<6}|{:>{}}", 0.1_binary16, number(1.5), 4) == "0.1...| 1.5");
 #endif
 }
 

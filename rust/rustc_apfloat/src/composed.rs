@@ -1,8 +1,8 @@
 //! Pairs of any type: what the library does with pairs of doubles, composed of the calls of their parts.
 //!
 //! Sums and products are computed in steps on the parts, each in the mode, and the flags of all steps are joined: first
-//! of the high parts, then what that lost, then both closed to a pair. All else joins the pairs in the wide format,
-//! makes one call there, and splits its answer.
+//! of the high parts, then what that lost, then both closed to a pair. Signs, classes, orders, exponents and scaling are
+//! those of the parts. All else joins the pairs in the wide format, makes one call there, and splits its answer.
 
 use crate::ieee::IeeeFloat;
 use crate::ppc::{DoubleFloat, FallbackExtendedS, FallbackS};

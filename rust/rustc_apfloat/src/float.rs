@@ -60,7 +60,7 @@ pub trait Float:
 
     /// The sum.
     fn add_r(self, rhs: Self, round: Round) -> StatusAnd<Self>;
-    /// The difference.
+    /// The difference. The body here adds the negation, so it negates a NaN `rhs`.
     fn sub_r(self, rhs: Self, round: Round) -> StatusAnd<Self> {
         self.add_r(-rhs, round)
     }
