@@ -191,13 +191,14 @@ uint32_t apfloat_neg(uint32_t format, apfloat_halves x, apfloat_answer *answer);
 uint32_t apfloat_abs(uint32_t format, apfloat_halves x, apfloat_answer *answer);
 uint32_t apfloat_copy_sign(uint32_t format, apfloat_halves x, apfloat_halves y, apfloat_answer *answer);
 
-/* The lesser and the greater of two values (IEEE 754-2008 5.3.1, minNum and maxNum), like fmin() and fmax() in C: y if
- * x is a NaN, x if y is one, and x if the two are equal, as zeros of opposite signs are. */
+/* The lesser and the greater of two values (IEEE 754-2008 5.3.1, minNum and maxNum, but with a signaling NaN taken as a
+ * quiet one), like fmin() and fmax() in C: y if x is a NaN, x if y is one, and x if the two are equal, as zeros of
+ * opposite signs are. */
 uint32_t apfloat_min(uint32_t format, apfloat_halves x, apfloat_halves y, apfloat_answer *answer);
 uint32_t apfloat_max(uint32_t format, apfloat_halves x, apfloat_halves y, apfloat_answer *answer);
 
-/* The same, but a NaN if x or y is one, the first of them unchanged, and -0 is below +0 (IEEE 754-2019 9.6, minimum and
- * maximum). */
+/* The same, but a NaN if x or y is one, and -0 is below +0 (IEEE 754-2019 9.6, minimum and maximum, but the first NaN
+ * is unchanged, and a signaling one raises no flag). */
 uint32_t apfloat_minimum(uint32_t format, apfloat_halves x, apfloat_halves y, apfloat_answer *answer);
 uint32_t apfloat_maximum(uint32_t format, apfloat_halves x, apfloat_halves y, apfloat_answer *answer);
 

@@ -594,8 +594,8 @@ value<F> value_of(const apfloat_answer &answer) {
 
 } // namespace detail
 
-/// The lesser of two values (IEEE 754-2008 5.3.1, minNum), like std::fmin: y if x is a NaN, x if y is one, and x if the
-/// two are equal, as zeros of opposite signs are.
+/// The lesser of two values (IEEE 754-2008 5.3.1, minNum, but with a signaling NaN taken as a quiet one), like std::fmin:
+/// y if x is a NaN, x if y is one, and x if the two are equal, as zeros of opposite signs are.
 template <class F>
 value<F> min(const value<F> &x, const value<F> &y) {
     return detail::value_of<F>(detail::answer_of(apfloat_min, F::code, x.halves(), y.halves()));
@@ -605,7 +605,8 @@ template <class F>
 value<F> max(const value<F> &x, const value<F> &y) {
     return detail::value_of<F>(detail::answer_of(apfloat_max, F::code, x.halves(), y.halves()));
 }
-/// The lesser of two values (IEEE 754-2019 9.6, minimum): the first NaN if there is one, and -0 is below +0.
+/// The lesser of two values (IEEE 754-2019 9.6, minimum, but without a flag): the first NaN, unchanged, if there is one;
+/// -0 is below +0.
 template <class F>
 value<F> minimum(const value<F> &x, const value<F> &y) {
     return detail::value_of<F>(detail::answer_of(apfloat_minimum, F::code, x.halves(), y.halves()));
