@@ -1060,6 +1060,7 @@ template <class F>
 expected<result<value<F>>> parse(std::string_view text, rounding mode) {
     return detail::read<F>(F::reads_decimals ? apfloat_parse_decimal : apfloat_parse, text, mode);
 }
+/// The value alone; its flags are joined to those of the gather. An error joins none.
 template <class F>
 expected<value<F>> parse(std::string_view text, gather &with) {
     return detail::joined(parse<F>(text, with.mode()), with);
@@ -1069,6 +1070,7 @@ template <class F>
 expected<result<value<F>>> parse_hexadecimal(std::string_view text, rounding mode) {
     return detail::read<F>(apfloat_parse, text, mode);
 }
+/// The value alone; its flags are joined to those of the gather. An error joins none.
 template <class F>
 expected<value<F>> parse_hexadecimal(std::string_view text, gather &with) {
     return detail::joined(parse_hexadecimal<F>(text, with.mode()), with);

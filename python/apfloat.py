@@ -816,7 +816,7 @@ class Value(_Arithmetic[Number]):
         try:
             power = operator.index(power)
         except TypeError:
-            raise TypeError(f'{power!r} is no integer to which a power of two is raised') from None
+            raise TypeError(f'ldexp takes an integer, and not {power!r}') from None
         clamped = max(-1 << 31, min(power, (1 << 31) - 1))
         return self._made('scalbn', context().mode, _halves(self.bits), clamped)
 

@@ -513,11 +513,41 @@ class SignTests(unittest.TestCase):
         with self.assertRaises(TypeError):
             apfloat.half.nan(0.5)
 
+    def test_rows(self):
+        # The stored rows of these calls (docs/VECTORS.md), in the formats that have bits.
+        methods = {'copy_sign': 'copy_sign', 'min': 'fmin', 'max': 'fmax', 'minimum': 'minimum', 'maximum': 'maximum'}
+        compared = collections.Counter()
+        with open(os.path.join(HERE, '..', 'crates', 'check_vectors', 'stdin'), encoding='utf-8') as file:
+            rows = [line.rstrip('\n').split('\t') for line in file if '\t-\t' in line]
+        for call, word, _, operands, wanted, *_ in (row for row in rows if len(row) == 7):
+            name, *rules = word.split('+')
+            format = getattr(apfloat, {'dd': 'double_pair'}.get(name, name), None)
+            if not isinstance(format, apfloat.Format):
+                continue
+            for rule in rules:
+                format = getattr(format, rule)
+            with Context() as context:
+                if call in methods:
+                    left, right = [format.from_bits(int(bits, 16)) for bits in operands.split()]
+                    found = getattr(left, methods[call])(right).bits
+                    wanted = int(wanted, 16)
+                elif call in ('qnan', 'snan'):
+                    payload = 0 if operands == 'None' else int(operands, 16)
+                    found, wanted = format.nan(payload, signaling=call == 'snan').bits, int(wanted, 16)
+                elif call == 'is_negative':
+                    found, wanted = format.from_bits(int(operands, 16)).is_negative, wanted == 'true'
+                else:
+                    continue
+            self.assertEqual((found, context.flags), (wanted, Flags.OK), (call, word, operands))
+            compared[call] += 1
+        self.assertEqual(set(compared), {*methods, 'qnan', 'snan', 'is_negative'})
+        self.assertTrue(all(count > 50 for count in compared.values()), compared)
+
     def test_powers(self):
         self.assertEqual(apfloat.half(3).ldexp(True), 6)
         self.assertEqual(apfloat.half(3).ldexp(-10**30).bits, 0)
         for wrong in 1.5, '1', None, apfloat.half(1), Fraction(1):
-            with self.assertRaisesRegex(TypeError, 'no integer'):
+            with self.assertRaisesRegex(TypeError, 'ldexp takes an integer'):
                 apfloat.half(3).ldexp(wrong)
 
 
