@@ -1462,18 +1462,6 @@ class Array(_Elements, _Arithmetic[Any]):
     def __pos__(self) -> Array:
         return self
 
-    def _with_signs(self, values: Array, signs: Array) -> Array:
-        """The values with the signs of another array of their shape."""
-        format = self.format
-        if format._plain in (e4m3fnuz, x87, double_pair):
-            # Some of their values have no sign, or are written with other bits.
-            each = (Value(format, value).copy_sign(Value(format, sign)).bits
-                    for value, sign in zip(values._patterns(), signs._patterns()))
-            return values._like(format._joined(each), values.shape)
-        kept, copied = [int.from_bytes(array._data, 'little') & values._repeated(bits)
-                        for array, bits in ((values, format._sign_bit - 1), (signs, format._sign_bit))]
-        return values._like((kept | copied).to_bytes(len(values._data), 'little'), values.shape)
-
     def __abs__(self) -> Array:
         if self.format in (e4m3fnuz, double_pair):
             return self._mapped(abs)
@@ -1488,6 +1476,18 @@ class Array(_Elements, _Arithmetic[Any]):
         """What an operation that raises no flags makes of each value."""
         values = (operation(Value(self.format, bits)).bits for bits in self._patterns())
         return self._like(self.format._joined(values), self.shape)
+
+    def _with_signs(self, values: Array, signs: Array) -> Array:
+        """The values with the signs of another array of their shape."""
+        format = self.format
+        if format._plain in (e4m3fnuz, x87, double_pair):
+            # Some of their values have no sign, or are written with other bits.
+            each = (Value(format, value).copy_sign(Value(format, sign)).bits
+                    for value, sign in zip(values._patterns(), signs._patterns()))
+            return values._like(format._joined(each), values.shape)
+        kept, copied = [int.from_bytes(array._data, 'little') & values._repeated(bits)
+                        for array, bits in ((values, format._sign_bit - 1), (signs, format._sign_bit))]
+        return values._like((kept | copied).to_bytes(len(values._data), 'little'), values.shape)
 
     def _compared(self, orders: tuple[int, ...], other: Any) -> Any:
         if hasattr(other, '__array_interface__') and other.shape != ():
