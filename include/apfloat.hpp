@@ -138,17 +138,17 @@ enum class errc : std::uint32_t {
     wrong_length = APFLOAT_WRONG_LENGTH
 };
 
-/// An error in words.
+/// An error in words: those of apfloat_error_text.
 constexpr const char *message(errc error) {
     switch (error) {
     case errc::unknown_format: return "unknown format";
     case errc::unknown_mode: return "unknown rounding mode";
     case errc::no_such_operation: return "the format does not have the operation";
-    case errc::wrong_width: return "no integer has this width";
-    case errc::refused_text: return "the text has no meaning";
-    case errc::wrong_length: return "the lengths of the arrays do not fit together";
+    case errc::wrong_width: return "an integer cannot have this width";
+    case errc::refused_text: return "the text was refused";
+    case errc::wrong_length: return "wrong length of an array";
     }
-    return "unknown error";
+    return "unknown error code";
 }
 
 namespace detail {
@@ -322,9 +322,18 @@ struct e4m3fnuz : detail::binary<e4m3fnuz, APFLOAT_E4M3FNUZ, std::uint8_t, 8, 4,
 };
 
 /// Pairs of doubles, IBM's extended double. They have no fused sum, no conversion to or from a format, and no shortest
-/// decimal, and std::numeric_limits is not specialized for them.
+/// decimal, and what std::numeric_limits says of them is not all that it says of the other formats.
 struct double_pair : detail::binary<double_pair, APFLOAT_DOUBLE_PAIR, bits128, 128, 106, -969, 1023> {
     static constexpr bool is_pair = true, has_ieee_flags = false;
+    static constexpr detail::constants<bits_type> constants = {
+        {1, 0},
+        {UINT64_C(0x0360000000000000), 0},
+        {UINT64_C(0x7fefffffffffffff), UINT64_C(0x7c8ffffffffffffe)},
+        {UINT64_C(0x7ff0000000000000), 0},
+        {UINT64_C(0x7ff8000000000000), 0},
+        {UINT64_C(0x7ff4000000000000), 0},
+        {UINT64_C(0x3960000000000000), 0},
+        {UINT64_C(0x3fe0000000000000), 0}};
 };
 
 /// A format whose roundings raise the flags of IEEE 754-2008 7.4 and 7.5, with tininess detected after rounding, as
@@ -594,8 +603,8 @@ value<F> value_of(const apfloat_answer &answer) {
 
 } // namespace detail
 
-/// The lesser of two values (IEEE 754-2008 5.3.1, minNum, but with a signaling NaN taken as a quiet one), like std::fmin:
-/// y if x is a NaN, x if y is one, and x if the two are equal, as zeros of opposite signs are.
+/// The lesser of two values (IEEE 754-2008 5.3.1, minNum, but with a signaling NaN taken as a quiet one), like
+/// std::fmin: y if x is a NaN, x if y is one, and x if the two are equal, as zeros of opposite signs are.
 template <class F>
 value<F> min(const value<F> &x, const value<F> &y) {
     return detail::value_of<F>(detail::answer_of(apfloat_min, F::code, x.halves(), y.halves()));
@@ -605,8 +614,8 @@ template <class F>
 value<F> max(const value<F> &x, const value<F> &y) {
     return detail::value_of<F>(detail::answer_of(apfloat_max, F::code, x.halves(), y.halves()));
 }
-/// The lesser of two values (IEEE 754-2019 9.6, minimum, but without a flag): the first NaN, unchanged, if there is one;
-/// -0 is below +0.
+/// The lesser of two values (IEEE 754-2019 9.6, minimum, but without a flag): the first NaN, unchanged, if there is
+/// one; -0 is below +0.
 template <class F>
 value<F> minimum(const value<F> &x, const value<F> &y) {
     return detail::value_of<F>(detail::answer_of(apfloat_minimum, F::code, x.halves(), y.halves()));
@@ -722,6 +731,8 @@ struct [[nodiscard]] fraction {
 
 template <class F>
 class gathered;
+template <class F, rounding Mode = rounding::nearest_even>
+class unflagged;
 
 /// A rounding mode, and the flags of all that was computed with it: an object of the caller, passed by reference.
 class gather {
@@ -738,11 +749,19 @@ public:
     void raise(flags more) { raised_ |= more; }
 
     /// The value of a result of any mode, whose flags are joined to these.
-    template <class R, class T = decltype(R::value), class = decltype(R::status)>
-    T operator()(const R &computed) {
+    template <class T>
+    T operator()(const result<T> &computed) {
         raise(computed.status);
         return computed.value;
     }
+    // The exponent, `is_exact` or `loses_info` would be lost. `raise` joins the flags of such results, and `convert`,
+    // `to_integer` and `frexp` take a gather.
+    template <class T>
+    void operator()(const fraction<T> &) = delete;
+    template <class T>
+    void operator()(const integer<T> &) = delete;
+    template <class T>
+    void operator()(const conversion<T> &) = delete;
 
     /// The value as an operand whose operators round in this mode and join their flags to these.
     template <class F>
@@ -892,16 +911,31 @@ fraction<value<F>> frexp(const value<F> &x, rounding mode = rounding::nearest_ev
     const auto made = detail::result_of<F>(answer);
     return {made.value, made.status, answer.number};
 }
+/// The fraction and the exponent alone: const auto [fraction, exponent] = frexp(x, flags);
+template <class F>
+[[nodiscard]] std::pair<value<F>, int> frexp(const value<F> &x, gather &with) {
+    const auto made = frexp(x, with.mode());
+    with.raise(made.status);
+    return {made.value, made.exponent};
+}
 
 /// The least value above x.
 template <class F>
 result<value<F>> next_up(const value<F> &x) {
     return detail::result_of<F>(detail::answer_of(apfloat_next_up, F::code, x.halves()));
 }
+template <class F>
+value<F> next_up(const value<F> &x, gather &with) {
+    return with(next_up(x));
+}
 /// The greatest value below x.
 template <class F>
 result<value<F>> next_down(const value<F> &x) {
     return detail::result_of<F>(detail::answer_of(apfloat_next_down, F::code, x.halves()));
+}
+template <class F>
+value<F> next_down(const value<F> &x, gather &with) {
+    return with(next_down(x));
 }
 
 // ---- conversions
@@ -916,7 +950,9 @@ conversion<value<To>> convert(const value<From> &x, rounding mode = rounding::ne
 }
 template <class To, class From>
 value<To> convert(const value<From> &x, gather &with) {
-    return with(convert<To>(x, with.mode()));
+    const auto made = convert<To>(x, with.mode());
+    with.raise(made.status);
+    return made.value;
 }
 
 namespace detail {
@@ -981,7 +1017,9 @@ integer<I> to_integer(const value<F> &x, rounding mode) {
 }
 template <class I, class F, std::enable_if_t<detail::is_integer<I>, int> = 0>
 I to_integer(const value<F> &x, gather &with) {
-    return with(to_integer<I>(x, with.mode()));
+    const auto made = to_integer<I>(x, with.mode());
+    with.raise(made.status);
+    return made.value;
 }
 
 // ---- texts
@@ -1009,16 +1047,33 @@ expected<result<value<F>>> read(decltype(apfloat_parse) *call, std::string_view 
     return result_of<F>(answer);
 }
 
+// The value of what was read, whose flags are joined to those of a gather. An error has none.
+template <class F>
+expected<value<F>> joined(const expected<result<value<F>>> &read, gather &with) {
+    if (!read) return read.error();
+    return with(*read);
+}
+
 } // namespace detail
 
 template <class F>
 expected<result<value<F>>> parse(std::string_view text, rounding mode) {
     return detail::read<F>(F::reads_decimals ? apfloat_parse_decimal : apfloat_parse, text, mode);
 }
+/// The value alone; its flags are joined to those of the gather. An error joins none.
+template <class F>
+expected<value<F>> parse(std::string_view text, gather &with) {
+    return detail::joined(parse<F>(text, with.mode()), with);
+}
 
 template <class F>
 expected<result<value<F>>> parse_hexadecimal(std::string_view text, rounding mode) {
     return detail::read<F>(apfloat_parse, text, mode);
+}
+/// The value alone; its flags are joined to those of the gather. An error joins none.
+template <class F>
+expected<value<F>> parse_hexadecimal(std::string_view text, gather &with) {
+    return detail::joined(parse_hexadecimal<F>(text, with.mode()), with);
 }
 
 /// A text of less than 64 bytes, without an allocation.
@@ -1095,6 +1150,15 @@ public:
     gathered &operator*=(const value<F> &y) { return *this = *this * y; }
     gathered &operator/=(const value<F> &y) { return *this = *this / y; }
 
+    template <rounding Mode>
+    gathered &operator+=(const unflagged<F, Mode> &y) = delete;
+    template <rounding Mode>
+    gathered &operator-=(const unflagged<F, Mode> &y) = delete;
+    template <rounding Mode>
+    gathered &operator*=(const unflagged<F, Mode> &y) = delete;
+    template <rounding Mode>
+    gathered &operator/=(const unflagged<F, Mode> &y) = delete;
+
     gathered operator-() const { return computed(value<F>::operator-()); }
     gathered operator+() const { return *this; }
 
@@ -1104,8 +1168,9 @@ private:
     gather *with_;
 };
 
-/// A value whose operators round in one mode and drop all flags. Integers become values in the same way.
-template <class F, rounding Mode = rounding::nearest_even>
+/// A value whose operators round in one mode and drop all flags. Integers become values in the same way, and so do
+/// those that it is compared with.
+template <class F, rounding Mode>
 class unflagged : public value<F> {
 public:
     constexpr unflagged() = default;
@@ -1125,14 +1190,99 @@ public:
     unflagged &operator*=(const unflagged &y) { return *this = *this * y; }
     unflagged &operator/=(const unflagged &y) { return *this = *this / y; }
 
+    unflagged &operator+=(const gathered<F> &y) = delete;
+    unflagged &operator-=(const gathered<F> &y) = delete;
+    unflagged &operator*=(const gathered<F> &y) = delete;
+    unflagged &operator/=(const gathered<F> &y) = delete;
+
     constexpr unflagged operator-() const { return value<F>::operator-(); }
     constexpr unflagged operator+() const { return *this; }
+
+    template <class I, std::enable_if_t<detail::is_integer<I>, int> = 0>
+    friend bool operator==(const unflagged &x, I n) {
+        return x.compared(n) == order::equal;
+    }
+#if defined(APFLOAT_HAS_THREE_WAY_COMPARISON)
+    template <class I, std::enable_if_t<detail::is_integer<I>, int> = 0>
+    friend std::partial_ordering operator<=>(const unflagged &x, I n) {
+        return static_cast<const value<F> &>(x) <=> static_cast<const value<F> &>(unflagged(n));
+    }
+#else
+    template <class I, std::enable_if_t<detail::is_integer<I>, int> = 0>
+    friend bool operator!=(const unflagged &x, I n) {
+        return x.compared(n) != order::equal;
+    }
+    template <class I, std::enable_if_t<detail::is_integer<I>, int> = 0>
+    friend bool operator<(const unflagged &x, I n) {
+        return x.compared(n) == order::less;
+    }
+    template <class I, std::enable_if_t<detail::is_integer<I>, int> = 0>
+    friend bool operator>(const unflagged &x, I n) {
+        return x.compared(n) == order::greater;
+    }
+    template <class I, std::enable_if_t<detail::is_integer<I>, int> = 0>
+    friend bool operator<=(const unflagged &x, I n) {
+        return x < n || x == n;
+    }
+    template <class I, std::enable_if_t<detail::is_integer<I>, int> = 0>
+    friend bool operator>=(const unflagged &x, I n) {
+        return x > n || x == n;
+    }
+    template <class I, std::enable_if_t<detail::is_integer<I>, int> = 0>
+    friend bool operator==(I n, const unflagged &x) {
+        return x == n;
+    }
+    template <class I, std::enable_if_t<detail::is_integer<I>, int> = 0>
+    friend bool operator!=(I n, const unflagged &x) {
+        return x != n;
+    }
+    template <class I, std::enable_if_t<detail::is_integer<I>, int> = 0>
+    friend bool operator<(I n, const unflagged &x) {
+        return x > n;
+    }
+    template <class I, std::enable_if_t<detail::is_integer<I>, int> = 0>
+    friend bool operator>(I n, const unflagged &x) {
+        return x < n;
+    }
+    template <class I, std::enable_if_t<detail::is_integer<I>, int> = 0>
+    friend bool operator<=(I n, const unflagged &x) {
+        return x >= n;
+    }
+    template <class I, std::enable_if_t<detail::is_integer<I>, int> = 0>
+    friend bool operator>=(I n, const unflagged &x) {
+        return x <= n;
+    }
+#endif
 
     friend unflagged sqrt(const unflagged &x) { return apfloat::sqrt<F>(x, Mode).value; }
     friend unflagged fma(const unflagged &x, const unflagged &y, const unflagged &z) {
         return apfloat::fma<F>(x, y, z, Mode).value;
     }
+
+private:
+    template <class I>
+    order compared(I n) const {
+        return compare<F>(*this, unflagged(n));
+    }
 };
+
+// With one operand of a gather and one that drops its flags, it is open which of them counts.
+template <class F, rounding Mode>
+gathered<F> operator+(const gathered<F> &x, const unflagged<F, Mode> &y) = delete;
+template <class F, rounding Mode>
+gathered<F> operator+(const unflagged<F, Mode> &x, const gathered<F> &y) = delete;
+template <class F, rounding Mode>
+gathered<F> operator-(const gathered<F> &x, const unflagged<F, Mode> &y) = delete;
+template <class F, rounding Mode>
+gathered<F> operator-(const unflagged<F, Mode> &x, const gathered<F> &y) = delete;
+template <class F, rounding Mode>
+gathered<F> operator*(const gathered<F> &x, const unflagged<F, Mode> &y) = delete;
+template <class F, rounding Mode>
+gathered<F> operator*(const unflagged<F, Mode> &x, const gathered<F> &y) = delete;
+template <class F, rounding Mode>
+gathered<F> operator/(const gathered<F> &x, const unflagged<F, Mode> &y) = delete;
+template <class F, rounding Mode>
+gathered<F> operator/(const unflagged<F, Mode> &x, const gathered<F> &y) = delete;
 
 // ---- arrays
 
@@ -1193,35 +1343,43 @@ struct not_deduced {
 
 } // namespace detail
 
-/// Converts `count` values, each rounded once. The arrays do not overlap. `x87` has no such arrays, and on a processor
-/// that stores the highest byte first the error is no_such_operation.
+/// Converts `count` values, each rounded once. The arrays do not overlap; if one is null and `count` is not 0, the
+/// error is wrong_length. `x87` has no such arrays, and on a processor that stores the highest byte first the error is
+/// no_such_operation.
 template <class To, class From>
 expected<array_counts> convert_array(const value<From> *values, std::size_t count, value<To> *results,
                                      rounding mode = rounding::nearest_even,
                                      overflowing large = overflowing::rounds) {
     static_assert(!To::is_pair && !From::is_pair, "there is no conversion from or to pairs of doubles");
     if (!detail::has_lowest_byte_first()) return errc::no_such_operation;
+    const bool is_missing = count != 0 && (values == nullptr || results == nullptr);
+    const std::size_t present = is_missing ? 0 : count;
     apfloat_array_answer answer = {0, 0, 0, 0, 0, 0, 0, 0, 0};
     const std::uint32_t code = apfloat_convert_array(
         From::code, detail::code_of(mode) | static_cast<std::uint32_t>(large), To::code, detail::bytes_of(values),
-        count * sizeof(value<From>), detail::bytes_of(results), count * sizeof(value<To>), &answer);
+        present * sizeof(value<From>), detail::bytes_of(results), present * sizeof(value<To>), &answer);
+    if (code == APFLOAT_ANSWERED && is_missing) return errc::wrong_length;
     return detail::counts_of(code, answer);
 }
 
 /// Makes an operation on each element of xs, or on the elements of xs and ys, or of xs, ys and zs: as many arrays of
-/// `count` values as the operation has operands, else wrong_length. `results` overlaps none of them.
+/// `count` values as the operation has operands, else wrong_length, as for results that are null. `results` overlaps
+/// none of the operands.
 template <class F>
 expected<array_counts> map_array(array_operation operation, std::size_t count, value<F> *results, rounding mode,
                                  const typename detail::not_deduced<value<F>>::type *xs,
                                  const typename detail::not_deduced<value<F>>::type *ys = nullptr,
                                  const typename detail::not_deduced<value<F>>::type *zs = nullptr) {
     if (!detail::has_lowest_byte_first()) return errc::no_such_operation;
-    const auto length = [&](const value<F> *operand) { return operand == nullptr ? 0 : count * sizeof(value<F>); };
+    const bool is_missing = count != 0 && (xs == nullptr || results == nullptr);
+    const std::size_t present = is_missing ? 0 : count * sizeof(value<F>);
+    const auto length = [&](const value<F> *operand) { return operand == nullptr ? 0 : present; };
     apfloat_array_answer answer = {0, 0, 0, 0, 0, 0, 0, 0, 0};
     const std::uint32_t code = apfloat_map_array(
         F::code, detail::code_of(mode), static_cast<std::uint32_t>(operation), detail::bytes_of(xs), length(xs),
-        detail::bytes_of(ys), length(ys), detail::bytes_of(zs), length(zs), detail::bytes_of(results),
-        count * sizeof(value<F>), &answer);
+        detail::bytes_of(ys), length(ys), detail::bytes_of(zs), length(zs), detail::bytes_of(results), present,
+        &answer);
+    if (code == APFLOAT_ANSWERED && is_missing) return errc::wrong_length;
     return detail::counts_of(code, answer);
 }
 
@@ -1327,14 +1485,14 @@ value<double_pair> operator""_double_pair() {
 
 namespace detail {
 
-// What std::numeric_limits says of a value.
-template <class F>
-struct limits {
-    static constexpr bool is_specialized = true, is_signed = true, is_integer = false, is_exact = false;
+// What std::numeric_limits says of numbers of any format, whose type is `Number`.
+template <class F, class Number>
+struct limits_of_all {
+    static constexpr bool is_specialized = !F::is_pair, is_signed = true, is_integer = false, is_exact = false;
     static constexpr bool is_bounded = true, is_modulo = false, traps = false;
     static constexpr bool has_infinity = F::has_infinity, has_quiet_NaN = true;
     static constexpr bool has_signaling_NaN = F::has_signaling_nan;
-    static constexpr bool is_iec559 = F::has_infinity && F::has_signaling_nan;
+    static constexpr bool is_iec559 = F::has_infinity && F::has_signaling_nan && !F::is_pair;
     static constexpr std::float_round_style round_style = std::round_to_nearest;
     static constexpr bool tinyness_before = F::tiny_before_rounding;
 #if __cplusplus <= 202002L
@@ -1345,26 +1503,30 @@ struct limits {
     static constexpr int radix = 2, digits = F::precision;
     // 30103 / 100000 is just above the decimal logarithm of 2, and near enough for each of these.
     static constexpr int digits10 = (F::precision - 1) * 30103 / 100000;
-    static constexpr int max_digits10 = 2 + F::precision * 30103 / 100000;
     static constexpr int min_exponent = F::min_exponent + 1, max_exponent = F::max_exponent + 1;
     static constexpr int min_exponent10 = F::min_exponent * 30103 / 100000;
     static constexpr int max_exponent10 = max_exponent * 30103 / 100000;
 
-    static constexpr value<F> min() noexcept { return value<F>::from_bits(F::constants.smallest_normal); }
-    static constexpr value<F> max() noexcept { return value<F>::from_bits(F::constants.largest); }
-    static constexpr value<F> lowest() noexcept { return -max(); }
-    static constexpr value<F> epsilon() noexcept { return value<F>::from_bits(F::constants.epsilon); }
-    static constexpr value<F> round_error() noexcept { return value<F>::from_bits(F::constants.half); }
-    static constexpr value<F> infinity() noexcept { return value<F>::from_bits(F::constants.infinity); }
-    static constexpr value<F> quiet_NaN() noexcept { return value<F>::from_bits(F::constants.quiet_nan); }
-    static constexpr value<F> signaling_NaN() noexcept { return value<F>::from_bits(F::constants.signaling_nan); }
-    static constexpr value<F> denorm_min() noexcept { return value<F>::from_bits(F::constants.smallest); }
+    static constexpr Number min() noexcept { return value<F>::from_bits(F::constants.smallest_normal); }
+    static constexpr Number max() noexcept { return value<F>::from_bits(F::constants.largest); }
+    static constexpr Number lowest() noexcept { return -max(); }
+    static constexpr Number infinity() noexcept { return value<F>::from_bits(F::constants.infinity); }
+    static constexpr Number quiet_NaN() noexcept { return value<F>::from_bits(F::constants.quiet_nan); }
+    static constexpr Number signaling_NaN() noexcept { return value<F>::from_bits(F::constants.signaling_nan); }
+    static constexpr Number denorm_min() noexcept { return value<F>::from_bits(F::constants.smallest); }
 };
 
-template <>
-struct limits<double_pair> {
-    static constexpr bool is_specialized = false;
+template <class F, class Number>
+struct limits : limits_of_all<F, Number> {
+    static constexpr int max_digits10 = 2 + F::precision * 30103 / 100000;
+
+    static constexpr Number epsilon() noexcept { return value<F>::from_bits(F::constants.epsilon); }
+    static constexpr Number round_error() noexcept { return value<F>::from_bits(F::constants.half); }
 };
+
+// The doubles of a pair may be any distance apart, so pairs have no greatest number of digits, and what rests on it.
+template <class Number>
+struct limits<double_pair, Number> : limits_of_all<double_pair, Number> {};
 
 } // namespace detail
 
@@ -1373,10 +1535,10 @@ struct limits<double_pair> {
 namespace std {
 
 template <class F>
-struct numeric_limits<apfloat::value<F>> : apfloat::detail::limits<F> {};
+struct numeric_limits<apfloat::value<F>> : apfloat::detail::limits<F, apfloat::value<F>> {};
 
 template <class F, apfloat::rounding Mode>
-struct numeric_limits<apfloat::unflagged<F, Mode>> : apfloat::detail::limits<F> {};
+struct numeric_limits<apfloat::unflagged<F, Mode>> : apfloat::detail::limits<F, apfloat::unflagged<F, Mode>> {};
 
 /// Values that compare equal have equal hashes.
 template <class F>

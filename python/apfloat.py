@@ -197,13 +197,16 @@ def _parameters() -> dict[str, list[Any]]:
         **dict.fromkeys(('add', 'sub', 'mul', 'div'), [code, code, _Halves, _Halves, answer]),
         'fma': [code, code, _Halves, _Halves, _Halves, answer],
         **dict.fromkeys(('sqrt', 'from_i128', 'round_to_integral', 'frexp'), [code, code, _Halves, answer]),
-        **dict.fromkeys(('rem', 'mod', 'compare'), [code, _Halves, _Halves, answer]),
-        **dict.fromkeys(('ilogb', 'next_up', 'next_down', 'classify'), [code, _Halves, answer]),
+        **dict.fromkeys(('rem', 'mod', 'compare', 'copy_sign', 'min', 'max', 'minimum', 'maximum'),
+                        [code, _Halves, _Halves, answer]),
+        **dict.fromkeys(('ilogb', 'next_up', 'next_down', 'classify', 'is_negative'), [code, _Halves, answer]),
+        **dict.fromkeys(('qnan', 'snan'), [code, code, _Halves, answer]),
         'convert': [code, code, code, _Halves, answer],
         'to_i128': [code, code, _Halves, code, answer],
         'scalbn': [code, code, _Halves, power, answer],
         **dict.fromkeys(('parse', 'parse_decimal'), [code, code, *text, answer]),
         'shortest': [code, _Halves, ctypes.POINTER(_Text)],
+        'error_text': [code, ctypes.POINTER(_Text)],
         'convert_array': [code, code, code, *array, *array, ctypes.POINTER(_ArrayAnswer)],
         'map_array': [code, code, code, *array * 4, ctypes.POINTER(_ArrayAnswer)],
     }
@@ -229,14 +232,13 @@ def _library() -> ctypes.CDLL:
 
 _functions = _library()
 
-_REFUSALS = {
-    1: 'no format has this code',
-    2: 'no rounding mode has this code',
-    3: 'the format does not have the operation',
-    4: 'no integer has this width',
-    5: 'the text has no meaning',
-    6: 'the arrays have different lengths',
-}
+
+def _error_text(code: int) -> str:
+    """The library's text for one of its error codes."""
+    text = _Text()
+    if _functions.apfloat_error_text(code, ctypes.byref(text)):
+        return f'code {code}'
+    return text.bytes.decode()
 
 
 class Refused(ValueError):
@@ -245,11 +247,11 @@ class Refused(ValueError):
     >>> half('one')
     Traceback (most recent call last):
     ...
-    apfloat.Refused: the text has no meaning
+    apfloat.Refused: the text was refused
     """
 
     def __init__(self, code: int, text: str | None = None) -> None:
-        super().__init__(text or _REFUSALS.get(code, f'code {code}'))
+        super().__init__(text or _error_text(code))
         self.code = code
 
     def __reduce__(self) -> tuple[Any, ...]:
@@ -405,8 +407,25 @@ class Format:
         """The distance from 1 to the next number of so many digits, 2 to the power of 1 less their count."""
         return self(1).ldexp(1 - self._precision)
 
+    def nan(self, payload: int = 0, negative: bool = False, signaling: bool = False) -> Value:
+        """A NaN with a sign and a payload, of which the bits that the format has room for are taken.
+
+        A signaling NaN whose payload would be 0 has the highest bit of a payload set. `e4m3fn` has only a quiet NaN of
+        each sign, and `e4m3fnuz` only one NaN.
+
+        >>> half.nan(), half.nan(0x12, negative=True), half.nan(signaling=True), half.nan(signaling=True).is_nan
+        (half('nan'), half('-nan(0x12)'), half('snan(0x100)'), True)
+        """
+        payload = operator.index(payload)
+        if payload < 0:
+            raise ValueError(f'{payload} is no payload of a NaN')
+        answer = _call('snan' if signaling else 'qnan', self.code, bool(negative), _halves(payload))
+        return Value(self, _whole(answer.bits))
+
     def fromhex(self, text: str) -> Value:
         """The value of a hexadecimal text, an infinity or a NaN, rounded once, like float.fromhex.
+
+        An infinity is written inf, INFINITY or Inf, and not Infinity, as apfloat.h says at apfloat_parse.
 
         >>> single.fromhex('0x1.8p-1'), single.fromhex('-inf')
         (single('0.75'), single('-inf'))
@@ -427,7 +446,10 @@ class Format:
         return self.fromhex(_rounded_to_odd(text.strip()))
 
     def __call__(self, of: Any) -> Value:
-        """The value of a text, an integer, a float or a value, rounded once in the mode of the context."""
+        """The value of a text, an integer, a float or a value, rounded once in the mode of the context.
+
+        A text is a decimal, or what `fromhex` reads.
+        """
         mode = context().mode
         if isinstance(of, Value):
             if of.format is self:
@@ -698,9 +720,17 @@ class _Arithmetic(Generic[_Operand]):
         """self less the divisor times the quotient truncated toward zero: exact, like math.fmod."""
         return self._with('mod', divisor)
 
+    def copy_sign(self, sign: _Operand) -> Self:
+        """self with the sign of another value, also of a zero or a NaN, like math.copysign (IEEE 754-2008 5.5.1).
+
+        >>> half(1.5).copy_sign(-2), half('nan').copy_sign(half('-0.0')), half.array([1, -2]).copy_sign([-3, 3])
+        (half('-1.5'), half('-nan'), half.array(['-1.0', '2.0']))
+        """
+        return self._with('copy_sign', sign)
+
 
 # The operations whose functions take no mode, since their results are exact.
-_WITHOUT_MODE = ('rem', 'mod')
+_WITHOUT_MODE = ('rem', 'mod', 'copy_sign', 'min', 'max', 'minimum', 'maximum')
 
 
 class Value(_Arithmetic[Number]):
@@ -783,6 +813,10 @@ class Value(_Arithmetic[Number]):
         >>> half(3).ldexp(-1), half(3).frexp()
         (half('1.5'), (half('0.75'), 2))
         """
+        try:
+            power = operator.index(power)
+        except TypeError:
+            raise TypeError(f'ldexp takes an integer, and not {power!r}') from None
         clamped = max(-1 << 31, min(power, (1 << 31) - 1))
         return self._made('scalbn', context().mode, _halves(self.bits), clamped)
 
@@ -816,8 +850,35 @@ class Value(_Arithmetic[Number]):
 
     @property
     def is_negative(self) -> bool:
-        """Whether it is a negative number, -0 or -infinity; no NaN is."""
-        return self._class() in (2, 3, 4, 5)
+        """Whether it has a minus sign, also if it is a zero or a NaN (IEEE 754-2008 5.7.2, isSignMinus).
+
+        >>> half('-0.0').is_negative, half('-nan').is_negative, half('nan').is_negative, e4m3fnuz('-nan').is_negative
+        (True, True, False, False)
+        """
+        return self._asked('is_negative', _halves(self.bits)).number == 1
+
+    def fmin(self, other: Number) -> Value:
+        """The lesser of two values, a number rather than a NaN, like fmin() in C (IEEE 754-2008 5.3.1, minNum).
+
+        It is self if the two are equal, as zeros of opposite signs are. Like `fmax`, `minimum` and `maximum`, it raises
+        no flag, not even for a signaling NaN, which stays signaling.
+
+        >>> half(1).fmin(2), half('nan').fmin(2), half('nan').minimum(2), half('0.0').minimum(half('-0.0'))
+        (half('1.0'), half('2.0'), half('nan'), half('-0.0'))
+        """
+        return self._with('min', other)
+
+    def fmax(self, other: Number) -> Value:
+        """The greater of two values, a number rather than a NaN, like fmax() in C (maxNum)."""
+        return self._with('max', other)
+
+    def minimum(self, other: Number) -> Value:
+        """The lesser of two values, or else the first NaN; -0 is below +0 (IEEE 754-2019 9.6, but without a flag)."""
+        return self._with('minimum', other)
+
+    def maximum(self, other: Number) -> Value:
+        """The greater of two values, or else the first NaN; -0 is below +0 (IEEE 754-2019 9.6, but without a flag)."""
+        return self._with('maximum', other)
 
     def __neg__(self) -> Value:
         """The value with the opposite sign, a NaN's too (IEEE 754-2008 5.5.1).
@@ -980,13 +1041,19 @@ class Value(_Arithmetic[Number]):
         return f'{self.format}.from_bits({self.bits:#x})' if text is None else f'{self.format}({text!r})'
 
     def __format__(self, spec: str) -> str:
-        """The value as Python's decimal.Decimal formats it exactly, or as str does without a specification.
+        """The text of str in the width that is asked for, or the value as Python's decimal.Decimal formats it exactly.
 
+        It is the text of str without a precision and a type, and then a sign, a fill, an alignment and a width may be
+        given.
+
+        >>> f'{half("0.1")}|{half("0.1"):>8}|{half("-0.1"):*<8}|{half("1e-7"):+}|{half("-0.1"):08}'
+        '0.1|     0.1|-0.1****|+1e-7|-00000.1'
         >>> f'{half("0.1"):.3e} {half("0.1"):.20f} {half("1.5")}, {quad.smallest:.3e} {-quad.largest:.3e}'
         '9.998e-2 0.09997558593750000000 1.5, 6.475e-4966 -1.190e+4932'
         """
-        if not spec:
-            return str(self)
+        matched = _WIDTH.fullmatch(spec)
+        if matched:
+            return _aligned(str(self), *matched.groups(default=''))
         if self.is_nan or self.is_infinite:
             return format(decimal.Decimal(str(self)), spec)
         numerator, denominator = self.as_integer_ratio()
@@ -994,6 +1061,21 @@ class Value(_Arithmetic[Number]):
         # Python makes no text of an integer with so many digits as those of `quad`.
         size = decimal.Decimal(abs(numerator) * 5**places).scaleb(-places, decimal.Context(_MOST_DIGITS))
         return format(size.copy_negate() if self.is_negative else size, spec)
+
+
+# A fill and an alignment, a sign, and a width after a 0 if zeros are to fill it.
+_WIDTH = re.compile('(?:(.)?([<>=^]))?([-+ ]?)(0?)([0-9]*)', re.DOTALL)
+
+
+def _aligned(text: str, fill: str, alignment: str, plus: str, zero: str, width: str) -> str:
+    """The text of a number in a width, as Python's floats are aligned: to the right, if nothing else is asked for."""
+    sign = '-' if text.startswith('-') else plus.replace('-', '')
+    digits = text.removeprefix('-')
+    if zero:
+        fill, alignment = fill or '0', alignment or '='
+    if alignment == '=':
+        return sign + digits.rjust(int(width or 0) - len(sign), fill or ' ')
+    return format(sign + digits, f'{fill}{alignment or ">"}{width}')
 
 
 # ---- arrays
@@ -1347,6 +1429,8 @@ class Array(_Elements, _Arithmetic[Any]):
 
     def _computed(self, name: str, *operands: Array) -> Array:
         shape = _common_shape(*[operand.shape for operand in operands])
+        if name == 'copy_sign':
+            return self._with_signs(*[operand._stretched(shape) for operand in operands])
         data = [operand._stretched(shape)._data for operand in operands] + [b''] * (3 - len(operands))
         words = [word for each in data for word in (each, len(each))]
         return _array_call('map_array', self.format.code, context().mode, _OPERATIONS[name], *words, of=self.format,
@@ -1392,6 +1476,18 @@ class Array(_Elements, _Arithmetic[Any]):
         """What an operation that raises no flags makes of each value."""
         values = (operation(Value(self.format, bits)).bits for bits in self._patterns())
         return self._like(self.format._joined(values), self.shape)
+
+    def _with_signs(self, values: Array, signs: Array) -> Array:
+        """The values with the signs of another array of their shape."""
+        format = self.format
+        if format._plain in (e4m3fnuz, x87, double_pair):
+            # Some of their values have no sign, or are written with other bits.
+            each = (Value(format, value).copy_sign(Value(format, sign)).bits
+                    for value, sign in zip(values._patterns(), signs._patterns()))
+            return values._like(format._joined(each), values.shape)
+        kept, copied = [int.from_bytes(array._data, 'little') & values._repeated(bits)
+                        for array, bits in ((values, format._sign_bit - 1), (signs, format._sign_bit))]
+        return values._like((kept | copied).to_bytes(len(values._data), 'little'), values.shape)
 
     def _compared(self, orders: tuple[int, ...], other: Any) -> Any:
         if hasattr(other, '__array_interface__') and other.shape != ():
@@ -1509,7 +1605,7 @@ def _common_shape(*shapes: tuple[int, ...]) -> tuple[int, ...]:
     for lengths in itertools.zip_longest(*[shape[::-1] for shape in shapes], fillvalue=1):
         others = set(lengths) - {1}
         if len(others) > 1:
-            raise Refused(6, f'the arrays have different lengths: shapes {" and ".join(map(str, shapes))}')
+            raise Refused(6, f'{_error_text(6)}: shapes {" and ".join(map(str, shapes))}')
         result.append(others.pop() if others else 1)
     return tuple(reversed(result))
 

@@ -371,6 +371,186 @@ class TextTests(unittest.TestCase):
                          "e4m3fn.array([['448.0', '-1.0'], ['0.5', '2.0']])")
 
 
+    def test_widths(self):
+        for text, bits in ('0.1', 0x2e66), ('-0.1', 0xae66), ('1e-7', 0x0002), ('inf', 0x7c00), ('448.0', 0x5f00):
+            value = apfloat.half.from_bits(bits)
+            self.assertEqual(str(value), text)
+            for width in '', '1', '8', '12':
+                for alignment in '', '<', '>', '^', '*<', '=>', '0^', '{<':
+                    # A number that is aligned as nothing else is asked for is on the right, as Python's floats are.
+                    wanted = format(text, (alignment or '>') + width)
+                    self.assertEqual(format(value, alignment + width), wanted, (text, alignment, width))
+            if 'e' not in text:
+                # The texts of these numbers are those of Python's floats.
+                for spec in '+', ' ', '-', '+8', ' >8', '08', '+08', '=8', '*=+8', '<08', '*<08', '-08', '0', '=':
+                    self.assertEqual(format(value, spec), format(float(text), spec), (text, spec))
+        self.assertEqual(f'{apfloat.half("1e-7"):+}|{apfloat.half("1e-7"):06}', '+1e-7|001e-7')
+        self.assertEqual(f'{apfloat.half(0.1):>8}', '     0.1')
+        self.assertEqual(f'{apfloat.half(0.1):8}', '     0.1')
+        self.assertEqual(f'{apfloat.double_pair(1) / 3:>45}', '  0.3333333333333333 + 1.8503717077085944e-17')
+        # With a precision or a type, the digits are those of the value.
+        self.assertEqual(f'{apfloat.half(0.1):10.4f}|{apfloat.half(0.1):f}', '    0.1000|0.0999755859375')
+        for wrong in '>8s', '8x', '>>>8':
+            with self.assertRaises(ValueError):
+                format(apfloat.half(1), wrong)
+
+    def test_infinities(self):
+        for text in 'inf', 'INFINITY', '+Inf', '-inf', '-INFINITY', '-Inf':
+            self.assertEqual(apfloat.half(text).bits, 0xfc00 if text[0] == '-' else 0x7c00)
+        for text in 'Infinity', 'infinity', '-Infinity':
+            with self.assertRaises(apfloat.Refused):
+                apfloat.half(text)
+
+
+class SignTests(unittest.TestCase):
+    """Signs of all values, minima, maxima, and NaNs with a payload, which raise no flag."""
+
+    def patterns(self, format):
+        """Bits of zeros, numbers, infinities and quiet and signaling NaNs of each sign."""
+        if format.width == 8:
+            return list(range(0, 256, 3)) + [0x7c, 0x7d, 0x7f, 0x80, 0xfc, 0xfd, 0xff]
+        draw = random.Random(format.code)
+        with Context():
+            texts = '0', '1', '1.5', 'inf', 'nan', 'nan(0x5)', 'snan(0x3)', '1e-40'
+            positive = [format(text).bits for text in texts] + [format.from_bits(1).bits]
+        drawn_ones = list(drawn(format, draw, 20)) if format is not apfloat.x87 else []
+        return positive + [bits | 1 << format.width - 1 for bits in positive] + drawn_ones
+
+    def is_minus(self, format, bits):
+        return bool(bits >> format.width - 1) and not (format is apfloat.e4m3fnuz and bits == 0x80)
+
+    def test_signs_of_values(self):
+        for format in FORMATS + [apfloat.half.ieee, apfloat.double.ieee.before]:
+            patterns, top = self.patterns(format), 1 << format.width - 1
+            with Context() as context:
+                for bits in patterns:
+                    value = format.from_bits(bits)
+                    self.assertIs(value.is_negative, self.is_minus(format, bits), value)
+                    for sign in patterns[::5]:
+                        wanted = bits & ~top | sign & top
+                        if format is apfloat.e4m3fnuz:
+                            # Zero and the NaN have no sign.
+                            minus = self.is_minus(format, sign)
+                            wanted = bits if bits in (0, 0x80) else bits & 0x7f | minus << 7
+                        self.assertEqual(value.copy_sign(format.from_bits(sign)).bits, wanted, (value, sign))
+                array, signs = format.from_bits(patterns), format.from_bits(patterns[::-1])
+                self.assertEqual([value.bits for value in array.copy_sign(signs)],
+                                 [x.copy_sign(y).bits for x, y in zip(array, signs)])
+                self.assertEqual([value.bits for value in array.copy_sign(-1)],
+                                 [x.copy_sign(-1.0).bits for x in array])
+            self.assertEqual(context.flags, Flags.OK)
+        stretched = apfloat.half.array([[1], [-2]]).copy_sign([1, -1, 0])
+        self.assertEqual(integers(stretched), [[1, -1, 1], [2, -2, 2]])
+        pair = apfloat.double_pair(1) / 3
+        self.assertEqual(pair.copy_sign(-1).bits, (-pair).bits)
+        self.assertEqual(apfloat.double_pair.array([pair, -pair]).copy_sign(1).tolist(), [pair, pair])
+        self.assertTrue(apfloat.double_pair('-nan').is_negative)
+        for wrong in apfloat.single(1), '1', None, apfloat.half.array([1]):
+            with self.assertRaises(TypeError):
+                apfloat.half(1).copy_sign(wrong)
+
+    def test_minima_and_maxima(self):
+        for format in FORMATS + [apfloat.single.ieee]:
+            patterns = self.patterns(format)
+            infinite = {format(text).bits: float(text) for text in ('inf', '-inf') if format(text).is_infinite}
+            numbers = [infinite.get(bits, number_of_bits(format, bits)) for bits in patterns]
+            with Context() as context:
+                for (x, left), (y, right) in itertools.product(zip(patterns, numbers), repeat=2):
+                    first, second = format.from_bits(x), format.from_bits(y)
+                    if left is None or right is None:
+                        number = y if left is None else x
+                        lesser, greater, nan = number, number, x if left is None else y
+                        lowest = highest = nan
+                    elif left == right:
+                        # Zeros of opposite signs are equal: minimum and maximum have an order for them.
+                        lesser = greater = x
+                        lowest, highest = (max(x, y), min(x, y)) if left == 0 else (x, x)
+                    else:
+                        lesser, greater = (x, y) if left < right else (y, x)
+                        lowest, highest = lesser, greater
+                    found = first.fmin(second), first.fmax(second), first.minimum(second), first.maximum(second)
+                    self.assertEqual([value.bits for value in found], [lesser, greater, lowest, highest], (x, y))
+            self.assertEqual(context.flags, Flags.OK)
+        self.assertEqual(apfloat.half(1).fmin(0.5), 0.5)
+        pair = apfloat.double_pair
+        above = pair('1.0 + 1e-20')
+        for greater in pair(1).maximum(above), pair(1).fmax(above), above.maximum(1), above.fmax(1):
+            self.assertEqual(greater.bits, above.bits)
+        for lesser in pair(1).minimum(above), pair(1).fmin(above), above.minimum(1), above.fmin(1):
+            self.assertEqual(lesser, 1)
+        with self.assertRaises(ValueError):
+            apfloat.half(1).maximum(0.1)
+        with self.assertRaises(TypeError):
+            apfloat.half(1).minimum(apfloat.single(1))
+
+    def test_payloads(self):
+        for format in FORMATS + [apfloat.half.ieee, apfloat.quad.ieee.before]:
+            name, (digits, _, _) = name_of(format), LIMITS[name_of(format)]
+            for payload, negative, signaling in itertools.product((0, 1, 0x12, 1 << 40, -1 % (1 << 128)), (False, True),
+                                                                  (False, True)):
+                with Context() as context:
+                    value = format.nan(payload, negative=negative, signaling=signaling)
+                self.assertEqual(context.flags, Flags.OK)
+                if name == 'e4m3fnuz':
+                    wanted = 0x80
+                elif name == 'e4m3fn':
+                    wanted = 0x7f | negative << 7
+                else:
+                    # Below the quiet bit there is room for so many bits.
+                    room = digits - 2
+                    fitting = payload & (1 << room) - 1
+                    if signaling and not fitting:
+                        fitting = 1 << room - 1
+                    quiet = 0 if signaling else 1 << room
+                    top = (1 << format.width - 1) - (1 << (digits if name == 'x87' else digits - 1))
+                    integer_bit = 1 << 63 if name == 'x87' else 0
+                    wanted = negative << format.width - 1 | top | integer_bit | quiet | fitting
+                self.assertEqual(value.bits, wanted, (format, payload, negative, signaling))
+        self.assertEqual(apfloat.double_pair.nan(5, negative=True).bits, 0xfff8000000000005)
+        self.assertEqual(apfloat.half.nan().bits, apfloat.half('nan').bits)
+        with self.assertRaises(ValueError):
+            apfloat.half.nan(-1)
+        with self.assertRaises(TypeError):
+            apfloat.half.nan(0.5)
+
+    def test_rows(self):
+        # The stored rows of these calls (docs/VECTORS.md), in the formats that have bits.
+        methods = {'copy_sign': 'copy_sign', 'min': 'fmin', 'max': 'fmax', 'minimum': 'minimum', 'maximum': 'maximum'}
+        compared = collections.Counter()
+        with open(os.path.join(HERE, '..', 'crates', 'check_vectors', 'stdin'), encoding='utf-8') as file:
+            rows = [line.rstrip('\n').split('\t') for line in file if '\t-\t' in line]
+        for call, word, _, operands, wanted, *_ in (row for row in rows if len(row) == 7):
+            name, *rules = word.split('+')
+            format = getattr(apfloat, {'dd': 'double_pair'}.get(name, name), None)
+            if not isinstance(format, apfloat.Format):
+                continue
+            for rule in rules:
+                format = getattr(format, rule)
+            with Context() as context:
+                if call in methods:
+                    left, right = [format.from_bits(int(bits, 16)) for bits in operands.split()]
+                    found = getattr(left, methods[call])(right).bits
+                    wanted = int(wanted, 16)
+                elif call in ('qnan', 'snan'):
+                    payload = 0 if operands == 'None' else int(operands, 16)
+                    found, wanted = format.nan(payload, signaling=call == 'snan').bits, int(wanted, 16)
+                elif call == 'is_negative':
+                    found, wanted = format.from_bits(int(operands, 16)).is_negative, wanted == 'true'
+                else:
+                    continue
+            self.assertEqual((found, context.flags), (wanted, Flags.OK), (call, word, operands))
+            compared[call] += 1
+        self.assertEqual(set(compared), {*methods, 'qnan', 'snan', 'is_negative'})
+        self.assertTrue(all(count > 50 for count in compared.values()), compared)
+
+    def test_powers(self):
+        self.assertEqual(apfloat.half(3).ldexp(True), 6)
+        self.assertEqual(apfloat.half(3).ldexp(-10**30).bits, 0)
+        for wrong in 1.5, '1', None, apfloat.half(1), Fraction(1):
+            with self.assertRaisesRegex(TypeError, 'ldexp takes an integer'):
+                apfloat.half(3).ldexp(wrong)
+
+
 class ArrayTests(unittest.TestCase):
     """Shapes, signs, orders."""
 
@@ -449,6 +629,7 @@ class ArrayTests(unittest.TestCase):
         with self.assertRaises(apfloat.Refused) as refused:
             row + apfloat.half.array([1, 2])
         self.assertEqual(refused.exception.code, 6)
+        self.assertEqual(str(refused.exception), 'wrong length of an array: shapes (3,) and (2,)')
         with self.assertRaises(TypeError):
             row + apfloat.single.array([1, 2, 3])
         for wrong in 0.1, [1, 0.1, 2]:
@@ -568,6 +749,13 @@ class ArrayTests(unittest.TestCase):
             apfloat.double_pair.array([1]).to(apfloat.half)
         with self.assertRaises(AttributeError):
             apfloat.float8_e3m4
+        # The texts that include/apfloat.h has for the codes.
+        texts = ['unknown format', 'unknown rounding mode', 'the format does not have the operation',
+                 'an integer cannot have this width', 'the text was refused', 'wrong length of an array',
+                 'unknown error code', 'code 8']
+        self.assertEqual([str(apfloat.Refused(code)) for code in range(1, 9)], texts)
+        again = pickle.loads(pickle.dumps(apfloat.Refused(5)))
+        self.assertEqual((str(again), again.code), ('the text was refused', 5))
 
     def test_names_of_ml_dtypes(self):
         self.assertIs(apfloat.bfloat16, apfloat.bfloat)

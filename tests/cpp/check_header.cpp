@@ -67,6 +67,34 @@ static_assert(std::numeric_limits<quad>::digits10 == 33 && std::numeric_limits<q
 static_assert(std::numeric_limits<quad>::min_exponent10 == -4931 && std::numeric_limits<quad>::max_exponent10 == 4932);
 static_assert(!std::numeric_limits<value<e4m3fn>>::has_infinity && !std::numeric_limits<pair>::is_specialized);
 
+// Of pairs, what does not rest on a greatest number of digits.
+using pair_limits = std::numeric_limits<pair>;
+static_assert(pair_limits::digits == 106 && pair_limits::digits10 == 31 && pair_limits::radix == 2);
+static_assert(pair_limits::min_exponent == -968 && pair_limits::max_exponent == 1024);
+static_assert(pair_limits::min_exponent10 == -291 && pair_limits::max_exponent10 == 308);
+static_assert(pair_limits::is_signed && pair_limits::has_infinity && pair_limits::has_quiet_NaN);
+static_assert(!pair_limits::is_iec559 && !pair_limits::is_integer && !pair_limits::is_exact);
+static_assert(high_of(-pair_limits::max()).bits() == high_of(pair_limits::lowest()).bits());
+static_assert(low_of(-pair_limits::max()).bits() == low_of(pair_limits::lowest()).bits());
+
+// What the constants of a type are.
+template <class Number>
+constexpr bool answers_its_own_type() {
+    using limits = std::numeric_limits<Number>;
+    return std::is_same_v<decltype(limits::min()), Number> && std::is_same_v<decltype(limits::max()), Number> &&
+           std::is_same_v<decltype(limits::lowest()), Number> && std::is_same_v<decltype(limits::epsilon()), Number> &&
+           std::is_same_v<decltype(limits::round_error()), Number> &&
+           std::is_same_v<decltype(limits::infinity()), Number> &&
+           std::is_same_v<decltype(limits::quiet_NaN()), Number> &&
+           std::is_same_v<decltype(limits::signaling_NaN()), Number> &&
+           std::is_same_v<decltype(limits::denorm_min()), Number>;
+}
+static_assert(answers_its_own_type<number>() && answers_its_own_type<unflagged<binary16>>());
+static_assert(answers_its_own_type<unflagged<ieee<x87>, rounding::upward>>());
+static_assert(std::numeric_limits<unflagged<binary16>>::max().bits() == 0x7bff);
+static_assert(std::numeric_limits<unflagged<binary16>>::lowest().bits() == 0xfbff);
+static_assert(std::is_same_v<decltype(std::numeric_limits<unflagged<double_pair>>::max()), unflagged<double_pair>>);
+
 // ---- what is not
 
 template <class F>
@@ -84,6 +112,17 @@ void check_constants() {
     CHECK(ilogb(limits::min()) == F::min_exponent && ilogb(limits::max()) == F::max_exponent);
     CHECK(ilogb(limits::denorm_min()) == F::min_exponent - F::precision + 1);
     CHECK(ilogb(limits::epsilon()) == 1 - F::precision);
+}
+
+// The same of pairs, whose neighbours are nearer to each other than 106 digits are.
+void check_constants_of_pairs() {
+    CHECK(classify(pair_limits::quiet_NaN()) == number_class::quiet_nan && is_signaling(pair_limits::signaling_NaN()));
+    CHECK(classify(pair_limits::infinity()) == number_class::positive_infinity);
+    CHECK(is_normal(pair_limits::min()) && is_subnormal(pair_limits::denorm_min()));
+    CHECK(is_zero(next_down(pair_limits::denorm_min()).value) && !is_zero(pair_limits::denorm_min()));
+    CHECK(is_finite(pair_limits::max()) && is_infinite(next_up(pair_limits::max()).value));
+    CHECK(quiet_nan<double_pair>().bits().low == pair_limits::quiet_NaN().bits().low);
+    CHECK(scalbn(from_integer<double_pair>(1).value, double_pair::min_exponent).value == pair_limits::min());
 }
 
 void check_flags() {
@@ -122,7 +161,38 @@ void check_gathered() {
     gather left(rounding::downward), right(rounding::upward);
     CHECK(static_cast<double>(left(one) / right(three)) == 0.3333333333333333);
     CHECK(left.raised() == flag::inexact && right.raised().none());
-    CHECK(next_up(left(one)).value == next_up(one).value && left(to_integer<int>(three, rounding::upward)) == 3);
+    CHECK(next_up(left(one)).value == next_up(one).value && to_integer<int>(three, left) == 3);
+}
+
+// The functions that return more than a value and flags, and those without a mode.
+void check_gathered_results() {
+    gather flags(rounding::upward);
+    const auto [half_of_three, exponent] = frexp(number(3.0), flags);
+    CHECK(static_cast<double>(half_of_three) == 0.75 && exponent == 2 && flags.raised().none());
+    const auto signaling = std::numeric_limits<number>::signaling_NaN();
+    CHECK(is_nan(frexp(signaling, flags).first) && flags.raised() == frexp(signaling).status);
+    flags.clear();
+    CHECK(next_up(number(1.0), flags).bits() == UINT64_C(0x3ff0000000000001) && flags.raised().none());
+    CHECK(next_down(number(1.0), flags).bits() == UINT64_C(0x3fefffffffffffff) && flags.raised().none());
+    CHECK(is_nan(next_up(signaling, flags)) && flags.raised() == next_up(signaling).status);
+    CHECK(flags.raised() == flag::invalid_op);
+    flags.clear();
+    CHECK(is_nan(next_down(signaling, flags)) && flags.raised() == flag::invalid_op);
+    flags.clear();
+    // 0.1 is no double, and rounded upward it is the double that the compiler has for it.
+    const expected<number> tenth = parse<binary64>("0.1", flags);
+    CHECK(tenth && *tenth == number(0.1) && flags.raised() == flag::inexact);
+    flags.clear();
+    const expected<number> small = parse_hexadecimal<binary64>("0x1p-1080", flags);
+    CHECK(small && *small == std::numeric_limits<number>::denorm_min());
+    CHECK(flags.raised() == (flag::underflow | flag::inexact));
+    flags.clear();
+    CHECK(parse<binary64>("one", flags).error() == errc::refused_text && flags.raised().none());
+    CHECK(parse_hexadecimal<binary64>("0.5", flags).error() == errc::refused_text && flags.raised().none());
+    // Of a conversion, what the gather does not hold is in the result that the function returns without it.
+    const auto narrow = convert<binary16>(number(0.1), rounding::downward);
+    flags.raise(narrow.status);
+    CHECK(narrow.loses_info && narrow.value.bits() == 0x2e66 && flags.raised() == flag::inexact);
 }
 
 void check_unflagged() {
@@ -137,11 +207,46 @@ void check_unflagged() {
     CHECK(zeros[2].bits() == 0);
 }
 
+// Comparisons of each kind with an integer on each side.
+template <class Number, class I>
+void check_order(const Number &x, I n, bool is_less, bool is_equal, bool is_greater) {
+    CHECK((x < n) == is_less && (n > x) == is_less && (x > n) == is_greater && (n < x) == is_greater);
+    CHECK((x == n) == is_equal && (n == x) == is_equal && (x != n) == !is_equal && (n != x) == !is_equal);
+    CHECK((x <= n) == (is_less || is_equal) && (n >= x) == (is_less || is_equal));
+    CHECK((x >= n) == (is_greater || is_equal) && (n <= x) == (is_greater || is_equal));
+#if defined(APFLOAT_HAS_THREE_WAY_COMPARISON)
+    CHECK(((x <=> n) < 0) == is_less && ((x <=> n) == 0) == is_equal && ((n <=> x) < 0) == is_greater);
+#endif
+}
+
+void check_order_with_integers() {
+    const unflagged<binary64> two = 2, zero = -0.0_binary64;
+    check_order(two, 3, true, false, false);
+    check_order(two, 2L, false, true, false);
+    check_order(two, 1u, false, false, true);
+    check_order(two, -1, false, false, true);
+    check_order(two, UINT64_MAX, true, false, false);
+    check_order(zero, 0, false, true, false);
+    check_order(unflagged<binary64>(std::numeric_limits<number>::quiet_NaN()), 0, false, false, false);
+    // 2049 lies between two numbers of 11 digits: it is rounded before it is compared, as it is before it is added.
+    check_order(unflagged<binary16>(2048), 2049, false, true, false);
+    check_order(unflagged<binary16, rounding::upward>(2048), 2049, true, false, false);
+    check_order(unflagged<double_pair>(7), std::int8_t{7}, false, true, false);
+    CHECK(two > 1.5_binary64 && two == unflagged<binary64, rounding::upward>(2) && two < number(2.5));
+    CHECK(two >= 0 && two + 1 > 0 && two - 2 == 0);
+}
+
 void check_errors() {
     const auto refused = parse<binary64>("one");
     CHECK(!refused && !refused.has_value() && refused.error() == errc::refused_text);
     CHECK(refused.value_or({number(2.0), {}}).value == number(2.0));
-    CHECK(std::string(message(errc::refused_text)) == "the text has no meaning");
+    CHECK(std::string(message(errc::refused_text)) == "the text was refused");
+    // One more than the codes of errors is that of a number which is no code.
+    for (std::uint32_t code = APFLOAT_UNKNOWN_FORMAT; code <= APFLOAT_UNKNOWN_ERROR; code++) {
+        apfloat_text text = {{0}, 0};
+        CHECK(apfloat_error_text(code, &text) == APFLOAT_ANSWERED);
+        CHECK(std::string(message(static_cast<errc>(code))) == text.bytes);
+    }
     CHECK(parse<binary64>("").error() == errc::refused_text && parse<binary64>({}).error() == errc::refused_text);
     CHECK(parse<binary64>("1", static_cast<rounding>(5)).error() == errc::unknown_mode);
     CHECK(parse_hexadecimal<binary64>("0.5").error() == errc::refused_text);
@@ -237,6 +342,37 @@ void check_arrays() {
     CHECK(map_array<binary64>(array_operation::sqrt, 0, nullptr, rounding::upward, nullptr)->values == 0);
 }
 
+void check_missing_arrays() {
+    const std::vector<single> values(3);
+    const auto unchanged = value<e4m3fn>::from_bits(0x55);
+    std::vector<value<e4m3fn>> codes(3, unchanged);
+    const single *none = nullptr;
+    CHECK(convert_array(none, 3, codes.data()).error() == errc::wrong_length);
+    CHECK(convert_array<e4m3fn>(values.data(), 3, nullptr).error() == errc::wrong_length);
+    CHECK(convert_array<e4m3fn>(none, 1, nullptr).error() == errc::wrong_length);
+    // The errors that come before it in the list do so here too.
+    CHECK(convert_array(none, 3, codes.data(), static_cast<rounding>(7)).error() == errc::unknown_mode);
+    for (const auto &code : codes) CHECK(code.bits() == unchanged.bits());
+
+    std::vector<single> results(3, single(1.5f));
+    const auto add_all = [&](single *sums, const single *xs, const single *ys) {
+        return map_array(array_operation::add, 3, sums, rounding::nearest_even, xs, ys);
+    };
+    CHECK(add_all(results.data(), values.data(), values.data())->values == 3);
+    results.assign(3, single(1.5f));
+    CHECK(add_all(results.data(), none, none).error() == errc::wrong_length);
+    CHECK(add_all(results.data(), none, values.data()).error() == errc::wrong_length);
+    CHECK(add_all(results.data(), values.data(), none).error() == errc::wrong_length);
+    CHECK(add_all(nullptr, values.data(), values.data()).error() == errc::wrong_length);
+    CHECK(map_array(array_operation::sqrt, 3, results.data(), rounding::upward, none).error() == errc::wrong_length);
+    CHECK(map_array(array_operation::sqrt, 3, results.data(), rounding::upward, none, values.data()).error() ==
+          errc::wrong_length);
+    for (const auto &result : results) CHECK(result == single(1.5f));
+    const value<double_pair> *no_pairs = nullptr;
+    CHECK(map_array<double_pair>(array_operation::fma, 1, nullptr, rounding::upward, no_pairs).error() ==
+          errc::no_such_operation);
+}
+
 } // namespace
 
 // With an argument, a call with a mode that is none of the enumerators.
@@ -253,14 +389,18 @@ int main(int count, char **) {
     check_constants<e4m3fnuz>();
     check_constants<ieee<binary64>>();
     check_constants<ieee_tiny_before<x87>>();
+    check_constants_of_pairs();
     check_flags();
     check_gathered();
+    check_gathered_results();
     check_unflagged();
+    check_order_with_integers();
     check_errors();
     check_literals();
     check_texts();
     check_hashes();
     check_arrays();
+    check_missing_arrays();
     std::cout << checks - failures << " checks hold, " << failures << " fail\n";
     return failures == 0 ? 0 : 1;
 }

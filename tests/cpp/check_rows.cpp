@@ -211,19 +211,25 @@ verdict check_exponent(const row &r) {
 
 template <class F>
 verdict check_fraction(const row &r) {
-    const auto found = frexp(operand<F>(r, 0), r.mode);
+    const auto x = operand<F>(r, 0);
+    const auto found = frexp(x, r.mode);
+    gather flags(r.mode);
+    const auto [joined, exponent] = frexp(x, flags);
     return of(is_value(found.value, r) && is_status(found.status, r) &&
-              "exponent=" + std::to_string(found.exponent) == r.more);
+              "exponent=" + std::to_string(found.exponent) == r.more && is_value(joined, r) &&
+              exponent == found.exponent && flags.raised() == found.status);
 }
 
 template <class F>
 verdict check_next_up(const row &r) {
-    return of(is_result(next_up(operand<F>(r, 0)), r));
+    const auto x = operand<F>(r, 0);
+    return of(both_agree<F>(r, [&] { return next_up(x); }, [&](gather &with) { return next_up(x, with); }));
 }
 
 template <class F>
 verdict check_next_down(const row &r) {
-    return of(is_result(next_down(operand<F>(r, 0)), r));
+    const auto x = operand<F>(r, 0);
+    return of(both_agree<F>(r, [&] { return next_down(x); }, [&](gather &with) { return next_down(x, with); }));
 }
 
 // ---- conversions
@@ -397,16 +403,14 @@ verdict check_question(const row &r) {
 
 template <class F>
 verdict check_constant(const row &r) {
-    if constexpr (F::is_pair) {
-        return verdict::skipped;
-    } else {
-        using limits = std::numeric_limits<value<F>>;
-        const auto magnitude = abs(operand<F>(r, 0));
-        const auto constant = r.call == "is_largest"    ? limits::max()
-                              : r.call == "is_smallest" ? limits::denorm_min()
-                                                        : limits::min();
-        return of(is_truth(magnitude == constant, r));
-    }
+    using limits = std::numeric_limits<value<F>>;
+    const auto magnitude = abs(operand<F>(r, 0));
+    const auto constant = r.call == "is_largest"    ? limits::max()
+                          : r.call == "is_smallest" ? limits::denorm_min()
+                                                    : limits::min();
+    // A pair that has -0 as its low double is equal to a constant, and is not the constant.
+    const bool is_same = F::is_pair ? detail::is_equal(magnitude.halves(), constant.halves()) : magnitude == constant;
+    return of(is_truth(is_same, r));
 }
 
 // ---- texts
@@ -417,16 +421,29 @@ bool is_read(const expected<result<value<F>>> &found, const row &r) {
     return found && is_result(*found, r);
 }
 
+// What is read with a gather: the same value or error, and the flags, which an error does not raise.
+template <class F>
+bool is_joined(const expected<result<value<F>>> &found, const expected<value<F>> &joined, flags raised) {
+    if (!found) return !joined && joined.error() == found.error() && raised.none();
+    return joined && detail::is_equal(joined->halves(), found->value.halves()) && raised == found->status;
+}
+
 template <class F>
 verdict check_hexadecimal(const row &r) {
-    return of(is_read(parse_hexadecimal<F>(r.operands, r.mode), r));
+    const auto found = parse_hexadecimal<F>(r.operands, r.mode);
+    gather flags(r.mode);
+    const auto joined = parse_hexadecimal<F>(r.operands, flags);
+    return of(is_read(found, r) && is_joined(found, joined, flags.raised()));
 }
 
 // Long texts have a short form, in braces.
 template <class F>
 verdict check_decimal(const row &r) {
     if (r.operands.find('{') != std::string::npos) return verdict::skipped;
-    return of(is_read(parse<F>(r.operands, r.mode), r));
+    const auto found = parse<F>(r.operands, r.mode);
+    gather flags(r.mode);
+    const auto joined = parse<F>(r.operands, flags);
+    return of(is_read(found, r) && is_joined(found, joined, flags.raised()));
 }
 
 // A row has no text of an infinity or a NaN.

@@ -44,5 +44,32 @@ void use(number x, number y, pair p, value<binary16> h) {
     float narrow = static_cast<float>(x);
 #elif CASE == 16
     (void)(x == h);
+#elif CASE == 17
+    gather flags;
+    (void)(flags(x) + unflagged<binary64>(y)); // whether the flags are joined or dropped
+#elif CASE == 18
+    gather flags;
+    (void)(unflagged<binary64, rounding::upward>(x) / flags(y)); // and in which mode
+#elif CASE == 19
+    gather flags;
+    auto joins = flags(x);
+    joins *= unflagged<binary64>(y);
+#elif CASE == 20
+    gather flags;
+    unflagged<binary64> drops(x);
+    drops -= flags(y);
+#elif CASE == 21
+    gather flags;
+    (void)flags(frexp(x)); // where to with the exponent
+#elif CASE == 22
+    gather flags;
+    (void)flags(to_integer<int>(x, rounding::upward)); // is it exact
+#elif CASE == 23
+    gather flags;
+    (void)flags(convert<binary16>(x)); // does it lose information
+#elif CASE == 24
+    (void)std::numeric_limits<pair>::epsilon();
+#elif CASE == 25
+    (void)(unflagged<binary64>(x) > true);
 #endif
 }
