@@ -127,18 +127,22 @@ module _ (square parts amount units : ℕ) (halves : AgreesWithRoot square 2 amo
   below_same n =
       by_order (ltb amount (n * (units * parts)) ≡ ltb square (square_of n parts)) (square_of n parts) square
       (λ q. let k = point_less n q in
-      le-ltb amount (n * (units * parts)) (omega (arith, k)) ∙ sym (le-ltb square (square_of n parts) (omega (arith, q))))
+      le-ltb amount (n * (units * parts)) (omega (arith, k)) ∙
+      sym (le-ltb square (square_of n parts) (omega (arith, q))))
       (λ q. let k = point_same n q in
-      le-ltb amount (n * (units * parts)) (omega (arith, k)) ∙ sym (le-ltb square (square_of n parts) (omega (arith, q))))
+      le-ltb amount (n * (units * parts)) (omega (arith, k)) ∙
+      sym (le-ltb square (square_of n parts) (omega (arith, q))))
       (λ q. lt-ltb amount (n * (units * parts)) (point_more n q) ∙ sym (lt-ltb square (square_of n parts) q))
 
   not_above_same : (n : ℕ) → leb amount (n * (units * parts)) ≡ leb square (square_of n parts)
   not_above_same n =
       by_order (leb amount (n * (units * parts)) ≡ leb square (square_of n parts)) (square_of n parts) square
       (λ q. let k = point_less n q in
-      lt-leb amount (n * (units * parts)) (omega (arith, k)) ∙ sym (lt-leb square (square_of n parts) (omega (arith, q))))
+      lt-leb amount (n * (units * parts)) (omega (arith, k)) ∙
+      sym (lt-leb square (square_of n parts) (omega (arith, q))))
       (λ q. let k = point_same n q in
-      le-leb amount (n * (units * parts)) (omega (arith, k)) ∙ sym (le-leb square (square_of n parts) (omega (arith, q))))
+      le-leb amount (n * (units * parts)) (omega (arith, k)) ∙
+      sym (le-leb square (square_of n parts) (omega (arith, q))))
       (λ q. let k = point_more n q in
       le-leb amount (n * (units * parts)) (omega (arith, k)) ∙
       sym (le-leb square (square_of n parts) (omega (arith, q))))
@@ -181,7 +185,8 @@ module _ (square parts amount units : ℕ) (agrees : AgreesWithRoot square 4 amo
       (λ x y.
       let a : last * (units * parts) < 2 * amount = leb-false (2 * amount) (last * (units * parts)) x in
       let b : 2 * amount < next * (units * parts) = ltb-true (2 * amount) (next * (units * parts)) y in
-      takes_same (4 * square) parts (2 * amount) units twice mode last next true (omega (arith, a)) (omega (arith, b))) ∙
+      takes_same (4 * square) parts (2 * amount) units twice mode last next true (omega (arith, a))
+      (omega (arith, b))) ∙
       ap (λ (x : Bool). x || (ltb (2 * amount) (next * (units * parts)) && not u))
       (not_above_same (4 * square) parts (2 * amount) units twice last) ∙
       ap (λ (y : Bool). leb (4 * square) (square_of last parts) || (y && not u))

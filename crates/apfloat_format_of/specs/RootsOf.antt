@@ -1,7 +1,8 @@
 -- Square roots in another format (IEEE 754-2019 5.4.1).
 --
--- The root of a number of one format need not be a root of quanta of another, so it is the root of an integer, `square`,
--- divided by `parts`. As in one format, no root is computed: a number is compared with the root by their squares.
+-- The root of a number of one format need not be a root of quanta of another, so it is the root of an integer,
+-- `square`, divided by `parts`. As in one format, no root is computed: a number is compared with the root by their
+-- squares.
 use Rattle.std.specs.Prelude.{◌≡◌, ℕ, ◌+◌, ◌-◌, ◌*◌, ◌/◌, ◌%◌, ◌^◌, ◌≤◌, Bool, true, false, not, ◌&&◌, ◌||◌, ltb, leb, eqb, if◌then◌else◌}
 use Rattle.std.specs.Bool.{MatchBool}
 use Rattle.apfloat_model.specs.declared.kinds.Round.{Round}

@@ -1,8 +1,8 @@
 //! Arithmetic on the values of one binary floating-point format, generic over the format.
 //!
 //! A format is a type that implements `Semantics`; `IeeeFloat<S>` is a value of the format `S`. The work is done by the
-//! functions of `apfloat_rounding`, `apfloat_arithmetic` and the crates beside it, which take a `Shape`, the constants of
-//! a format that rounding reads; the generic functions only supply the constants of a type.
+//! functions of `apfloat_rounding`, `apfloat_arithmetic` and the crates beside it, which take a `Shape`, the constants
+//! of a format that rounding reads; the generic functions only supply the constants of a type.
 #![tactic(auto)]
 
 mod convert;

@@ -29,7 +29,8 @@ returns-in-Number-y-2-clause-sum c = λ left right addend hx hy hz.
     let sum = rw c.product_sign-in-Number-y-2.ensures at c.multiply_add_infinity-in-Number-y-2.ensures.sum in
     of_infinity (λ (e : Extended). IsFusedSumOf (format_at s) c.args.round e right addend v i) s
     c.in-Infinity.negative left (subst (λ (o : Operand). StandsFor s left o) c.in-Infinity.is hx)
-    (of_number (λ (e : Extended). IsFusedSumOf (format_at s) c.args.round (infinity c.in-Infinity.negative) e addend v i)
+    (of_number (λ (e : Extended). IsFusedSumOf (format_at s) c.args.round (infinity c.in-Infinity.negative) e
+    addend v i)
     s c.in-Number-y-2.right right (subst (λ (o : Operand). StandsFor s right o) c.in-Number-y-2.is hy)
     (λ m k h. sum m k c.args.round addend h hz))
 
