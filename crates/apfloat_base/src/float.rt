@@ -399,8 +399,8 @@ pub trait Float: Copy
     fn bitwise_eq(self, rhs: Self) -> bool
         ensures { result ≡ same self rhs };
 
-    /// The lesser value (IEEE 754-2008 5.3.1, minNum). If one operand is a NaN, returns the other; if neither is less,
-    /// returns `self`.
+    /// The lesser value (minNum of IEEE 754-2008 5.3.1, but a signaling NaN counts as a quiet one). If one operand is a
+    /// NaN, returns the other; if neither is less, returns `self`.
     fn min(self, other: Self) -> Self
         ensures { result ≡ min_by category_of Self.partial_cmp self other }
     {
@@ -415,8 +415,8 @@ pub trait Float: Copy
         }
     }
 
-    /// The greater value (IEEE 754-2008 5.3.1, maxNum). If one operand is a NaN, returns the other; if neither is
-    /// greater, returns `self`.
+    /// The greater value (maxNum of IEEE 754-2008 5.3.1, but a signaling NaN counts as a quiet one). If one operand is
+    /// a NaN, returns the other; if neither is greater, returns `self`.
     fn max(self, other: Self) -> Self
         ensures { result ≡ max_by category_of Self.partial_cmp self other }
     {
@@ -431,8 +431,8 @@ pub trait Float: Copy
         }
     }
 
-    /// The lesser value (IEEE 754-2019 9.6, minimum). If an operand is a NaN, returns the first one unchanged; -0 is
-    /// below +0.
+    /// The lesser value; -0 is below +0. This is minimum of IEEE 754-2019 9.6, except that the first NaN is returned
+    /// unchanged, even a signaling one.
     fn minimum(self, other: Self) -> Self
         ensures { result ≡ minimum_by category_of sign_of Self.partial_cmp self other }
     {
@@ -447,8 +447,8 @@ pub trait Float: Copy
         }
     }
 
-    /// The greater value (IEEE 754-2019 9.6, maximum). If an operand is a NaN, returns the first one unchanged; -0 is
-    /// below +0.
+    /// The greater value; -0 is below +0. This is maximum of IEEE 754-2019 9.6, except that the first NaN is returned
+    /// unchanged, even a signaling one.
     fn maximum(self, other: Self) -> Self
         ensures { result ≡ maximum_by category_of sign_of Self.partial_cmp self other }
     {

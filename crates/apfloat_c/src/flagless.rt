@@ -138,7 +138,8 @@ pub extern "C" fn apfloat_copy_sign(format: u32, x: Halves, y: Halves, answer: &
     )
 }
 
-/// The lesser value, or the number beside a NaN (IEEE 754-2008 5.3.1, minNum).
+/// The lesser value, or the number beside a NaN (minNum of IEEE 754-2008 5.3.1, but a signaling NaN counts as a quiet
+/// one).
 #[unsafe(no_mangle)]
 pub extern "C" fn apfloat_min(format: u32, x: Halves, y: Halves, answer: &mut Answer) -> u32
     ensures { IsFlaglessReply (flagged_kind_coded format) (LesserNumber (whole x) (whole y))
@@ -151,7 +152,8 @@ pub extern "C" fn apfloat_min(format: u32, x: Halves, y: Halves, answer: &mut An
     )
 }
 
-/// The greater value, or the number beside a NaN (IEEE 754-2008 5.3.1, maxNum).
+/// The greater value, or the number beside a NaN (maxNum of IEEE 754-2008 5.3.1, but a signaling NaN counts as a quiet
+/// one).
 #[unsafe(no_mangle)]
 pub extern "C" fn apfloat_max(format: u32, x: Halves, y: Halves, answer: &mut Answer) -> u32
     ensures { IsFlaglessReply (flagged_kind_coded format) (GreaterNumber (whole x) (whole y))
@@ -164,7 +166,7 @@ pub extern "C" fn apfloat_max(format: u32, x: Halves, y: Halves, answer: &mut An
     )
 }
 
-/// The lesser value, or the first NaN; -0 is below +0 (IEEE 754-2019 9.6, minimum).
+/// The lesser value, or the first NaN unchanged; -0 is below +0 (otherwise minimum of IEEE 754-2019 9.6).
 #[unsafe(no_mangle)]
 pub extern "C" fn apfloat_minimum(format: u32, x: Halves, y: Halves, answer: &mut Answer) -> u32
     ensures { IsFlaglessReply (flagged_kind_coded format) (Minimum (whole x) (whole y))
@@ -177,7 +179,7 @@ pub extern "C" fn apfloat_minimum(format: u32, x: Halves, y: Halves, answer: &mu
     )
 }
 
-/// The greater value, or the first NaN; -0 is below +0 (IEEE 754-2019 9.6, maximum).
+/// The greater value, or the first NaN unchanged; -0 is below +0 (otherwise maximum of IEEE 754-2019 9.6).
 #[unsafe(no_mangle)]
 pub extern "C" fn apfloat_maximum(format: u32, x: Halves, y: Halves, answer: &mut Answer) -> u32
     ensures { IsFlaglessReply (flagged_kind_coded format) (Maximum (whole x) (whole y))

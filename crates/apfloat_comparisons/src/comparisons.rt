@@ -52,7 +52,7 @@ pub(crate) fn status_if(invalid: bool) -> Status
     }
 }
 
-/// compareQuietEqual (table 5.1): whether the values are equal.
+/// compareQuietEqual (5.6.1): whether the values are equal.
 /// INVALID_OP is raised exactly if either is a signaling NaN.
 #[inline]
 pub fn compare_quiet_equal<S: Flagged>(x: IeeeFloat<S>, y: IeeeFloat<S>) -> StatusAnd<bool>
@@ -61,7 +61,7 @@ pub fn compare_quiet_equal<S: Flagged>(x: IeeeFloat<S>, y: IeeeFloat<S>) -> Stat
     compare(Predicate::Equal, OnNan::Quiet, x, y)
 }
 
-/// compareQuietNotEqual (table 5.1): whether the values are not equal; a NaN equals nothing.
+/// compareQuietNotEqual (5.6.1): whether the values are not equal; a NaN equals nothing.
 /// INVALID_OP is raised exactly if either is a signaling NaN.
 #[inline]
 pub fn compare_quiet_not_equal<S: Flagged>(x: IeeeFloat<S>, y: IeeeFloat<S>) -> StatusAnd<bool>
@@ -70,7 +70,7 @@ pub fn compare_quiet_not_equal<S: Flagged>(x: IeeeFloat<S>, y: IeeeFloat<S>) -> 
     compare(Predicate::NotEqual, OnNan::Quiet, x, y)
 }
 
-/// compareSignalingEqual (table 5.1): whether the values are equal.
+/// compareSignalingEqual (5.6.1): whether the values are equal.
 /// INVALID_OP is raised exactly if either is a NaN.
 #[inline]
 pub fn compare_signaling_equal<S: Flagged>(x: IeeeFloat<S>, y: IeeeFloat<S>) -> StatusAnd<bool>
@@ -79,7 +79,7 @@ pub fn compare_signaling_equal<S: Flagged>(x: IeeeFloat<S>, y: IeeeFloat<S>) -> 
     compare(Predicate::Equal, OnNan::Signaling, x, y)
 }
 
-/// compareSignalingGreater (table 5.2): whether the left value is greater.
+/// compareSignalingGreater (5.6.1): whether the left value is greater.
 /// INVALID_OP is raised exactly if either is a NaN.
 #[inline]
 pub fn compare_signaling_greater<S: Flagged>(x: IeeeFloat<S>, y: IeeeFloat<S>) -> StatusAnd<bool>
@@ -88,7 +88,7 @@ pub fn compare_signaling_greater<S: Flagged>(x: IeeeFloat<S>, y: IeeeFloat<S>) -
     compare(Predicate::Greater, OnNan::Signaling, x, y)
 }
 
-/// compareSignalingGreaterEqual (table 5.2): whether the left value is greater, or the values are equal.
+/// compareSignalingGreaterEqual (5.6.1): whether the left value is greater, or the values are equal.
 /// INVALID_OP is raised exactly if either is a NaN.
 #[inline]
 pub fn compare_signaling_greater_equal<S: Flagged>(
@@ -100,7 +100,7 @@ pub fn compare_signaling_greater_equal<S: Flagged>(
     compare(Predicate::GreaterEqual, OnNan::Signaling, x, y)
 }
 
-/// compareSignalingLess (table 5.2): whether the left value is less.
+/// compareSignalingLess (5.6.1): whether the left value is less.
 /// INVALID_OP is raised exactly if either is a NaN.
 #[inline]
 pub fn compare_signaling_less<S: Flagged>(x: IeeeFloat<S>, y: IeeeFloat<S>) -> StatusAnd<bool>
@@ -109,7 +109,7 @@ pub fn compare_signaling_less<S: Flagged>(x: IeeeFloat<S>, y: IeeeFloat<S>) -> S
     compare(Predicate::Less, OnNan::Signaling, x, y)
 }
 
-/// compareSignalingLessEqual (table 5.2): whether the left value is less, or the values are equal.
+/// compareSignalingLessEqual (5.6.1): whether the left value is less, or the values are equal.
 /// INVALID_OP is raised exactly if either is a NaN.
 #[inline]
 pub fn compare_signaling_less_equal<S: Flagged>(x: IeeeFloat<S>, y: IeeeFloat<S>) -> StatusAnd<bool>
@@ -118,7 +118,7 @@ pub fn compare_signaling_less_equal<S: Flagged>(x: IeeeFloat<S>, y: IeeeFloat<S>
     compare(Predicate::LessEqual, OnNan::Signaling, x, y)
 }
 
-/// compareSignalingNotEqual (table 5.1): whether the values are not equal; a NaN equals nothing.
+/// compareSignalingNotEqual (5.6.1): whether the values are not equal; a NaN equals nothing.
 /// INVALID_OP is raised exactly if either is a NaN.
 #[inline]
 pub fn compare_signaling_not_equal<S: Flagged>(x: IeeeFloat<S>, y: IeeeFloat<S>) -> StatusAnd<bool>
@@ -127,7 +127,7 @@ pub fn compare_signaling_not_equal<S: Flagged>(x: IeeeFloat<S>, y: IeeeFloat<S>)
     compare(Predicate::NotEqual, OnNan::Signaling, x, y)
 }
 
-/// compareSignalingNotGreater (table 5.2): whether the left value is not greater.
+/// compareSignalingNotGreater (5.6.1): whether the left value is not greater.
 /// INVALID_OP is raised exactly if either is a NaN.
 #[inline]
 pub fn compare_signaling_not_greater<S: Flagged>(
@@ -139,7 +139,7 @@ pub fn compare_signaling_not_greater<S: Flagged>(
     compare(Predicate::NotGreater, OnNan::Signaling, x, y)
 }
 
-/// compareSignalingLessUnordered (table 5.2): whether the left value is less, or a value is a NaN.
+/// compareSignalingLessUnordered (5.6.1): whether the left value is less, or a value is a NaN.
 /// INVALID_OP is raised exactly if either is a NaN.
 #[inline]
 pub fn compare_signaling_less_unordered<S: Flagged>(
@@ -151,7 +151,7 @@ pub fn compare_signaling_less_unordered<S: Flagged>(
     compare(Predicate::LessUnordered, OnNan::Signaling, x, y)
 }
 
-/// compareSignalingNotLess (table 5.2): whether the left value is not less.
+/// compareSignalingNotLess (5.6.1): whether the left value is not less.
 /// INVALID_OP is raised exactly if either is a NaN.
 #[inline]
 pub fn compare_signaling_not_less<S: Flagged>(x: IeeeFloat<S>, y: IeeeFloat<S>) -> StatusAnd<bool>
@@ -160,7 +160,7 @@ pub fn compare_signaling_not_less<S: Flagged>(x: IeeeFloat<S>, y: IeeeFloat<S>) 
     compare(Predicate::NotLess, OnNan::Signaling, x, y)
 }
 
-/// compareSignalingGreaterUnordered (table 5.2): whether the left value is greater, or a value is a NaN.
+/// compareSignalingGreaterUnordered (5.6.1): whether the left value is greater, or a value is a NaN.
 /// INVALID_OP is raised exactly if either is a NaN.
 #[inline]
 pub fn compare_signaling_greater_unordered<S: Flagged>(
@@ -172,7 +172,7 @@ pub fn compare_signaling_greater_unordered<S: Flagged>(
     compare(Predicate::GreaterUnordered, OnNan::Signaling, x, y)
 }
 
-/// compareQuietGreater (table 5.3): whether the left value is greater.
+/// compareQuietGreater (5.6.1): whether the left value is greater.
 /// INVALID_OP is raised exactly if either is a signaling NaN.
 #[inline]
 pub fn compare_quiet_greater<S: Flagged>(x: IeeeFloat<S>, y: IeeeFloat<S>) -> StatusAnd<bool>
@@ -181,7 +181,7 @@ pub fn compare_quiet_greater<S: Flagged>(x: IeeeFloat<S>, y: IeeeFloat<S>) -> St
     compare(Predicate::Greater, OnNan::Quiet, x, y)
 }
 
-/// compareQuietGreaterEqual (table 5.3): whether the left value is greater, or the values are equal.
+/// compareQuietGreaterEqual (5.6.1): whether the left value is greater, or the values are equal.
 /// INVALID_OP is raised exactly if either is a signaling NaN.
 #[inline]
 pub fn compare_quiet_greater_equal<S: Flagged>(x: IeeeFloat<S>, y: IeeeFloat<S>) -> StatusAnd<bool>
@@ -190,7 +190,7 @@ pub fn compare_quiet_greater_equal<S: Flagged>(x: IeeeFloat<S>, y: IeeeFloat<S>)
     compare(Predicate::GreaterEqual, OnNan::Quiet, x, y)
 }
 
-/// compareQuietLess (table 5.3): whether the left value is less.
+/// compareQuietLess (5.6.1): whether the left value is less.
 /// INVALID_OP is raised exactly if either is a signaling NaN.
 #[inline]
 pub fn compare_quiet_less<S: Flagged>(x: IeeeFloat<S>, y: IeeeFloat<S>) -> StatusAnd<bool>
@@ -199,7 +199,7 @@ pub fn compare_quiet_less<S: Flagged>(x: IeeeFloat<S>, y: IeeeFloat<S>) -> Statu
     compare(Predicate::Less, OnNan::Quiet, x, y)
 }
 
-/// compareQuietLessEqual (table 5.3): whether the left value is less, or the values are equal.
+/// compareQuietLessEqual (5.6.1): whether the left value is less, or the values are equal.
 /// INVALID_OP is raised exactly if either is a signaling NaN.
 #[inline]
 pub fn compare_quiet_less_equal<S: Flagged>(x: IeeeFloat<S>, y: IeeeFloat<S>) -> StatusAnd<bool>
@@ -208,7 +208,7 @@ pub fn compare_quiet_less_equal<S: Flagged>(x: IeeeFloat<S>, y: IeeeFloat<S>) ->
     compare(Predicate::LessEqual, OnNan::Quiet, x, y)
 }
 
-/// compareQuietUnordered (table 5.3): whether a value is a NaN.
+/// compareQuietUnordered (5.6.1): whether a value is a NaN.
 /// INVALID_OP is raised exactly if either is a signaling NaN.
 #[inline]
 pub fn compare_quiet_unordered<S: Flagged>(x: IeeeFloat<S>, y: IeeeFloat<S>) -> StatusAnd<bool>
@@ -217,7 +217,7 @@ pub fn compare_quiet_unordered<S: Flagged>(x: IeeeFloat<S>, y: IeeeFloat<S>) -> 
     compare(Predicate::Unordered, OnNan::Quiet, x, y)
 }
 
-/// compareQuietNotGreater (table 5.3): whether the left value is not greater.
+/// compareQuietNotGreater (5.6.1): whether the left value is not greater.
 /// INVALID_OP is raised exactly if either is a signaling NaN.
 #[inline]
 pub fn compare_quiet_not_greater<S: Flagged>(x: IeeeFloat<S>, y: IeeeFloat<S>) -> StatusAnd<bool>
@@ -226,7 +226,7 @@ pub fn compare_quiet_not_greater<S: Flagged>(x: IeeeFloat<S>, y: IeeeFloat<S>) -
     compare(Predicate::NotGreater, OnNan::Quiet, x, y)
 }
 
-/// compareQuietLessUnordered (table 5.3): whether the left value is less, or a value is a NaN.
+/// compareQuietLessUnordered (5.6.1): whether the left value is less, or a value is a NaN.
 /// INVALID_OP is raised exactly if either is a signaling NaN.
 #[inline]
 pub fn compare_quiet_less_unordered<S: Flagged>(x: IeeeFloat<S>, y: IeeeFloat<S>) -> StatusAnd<bool>
@@ -235,7 +235,7 @@ pub fn compare_quiet_less_unordered<S: Flagged>(x: IeeeFloat<S>, y: IeeeFloat<S>
     compare(Predicate::LessUnordered, OnNan::Quiet, x, y)
 }
 
-/// compareQuietNotLess (table 5.3): whether the left value is not less.
+/// compareQuietNotLess (5.6.1): whether the left value is not less.
 /// INVALID_OP is raised exactly if either is a signaling NaN.
 #[inline]
 pub fn compare_quiet_not_less<S: Flagged>(x: IeeeFloat<S>, y: IeeeFloat<S>) -> StatusAnd<bool>
@@ -244,7 +244,7 @@ pub fn compare_quiet_not_less<S: Flagged>(x: IeeeFloat<S>, y: IeeeFloat<S>) -> S
     compare(Predicate::NotLess, OnNan::Quiet, x, y)
 }
 
-/// compareQuietGreaterUnordered (table 5.3): whether the left value is greater, or a value is a NaN.
+/// compareQuietGreaterUnordered (5.6.1): whether the left value is greater, or a value is a NaN.
 /// INVALID_OP is raised exactly if either is a signaling NaN.
 #[inline]
 pub fn compare_quiet_greater_unordered<S: Flagged>(
@@ -256,7 +256,7 @@ pub fn compare_quiet_greater_unordered<S: Flagged>(
     compare(Predicate::GreaterUnordered, OnNan::Quiet, x, y)
 }
 
-/// compareQuietOrdered (table 5.3): whether neither value is a NaN.
+/// compareQuietOrdered (5.6.1): whether neither value is a NaN.
 /// INVALID_OP is raised exactly if either is a signaling NaN.
 #[inline]
 pub fn compare_quiet_ordered<S: Flagged>(x: IeeeFloat<S>, y: IeeeFloat<S>) -> StatusAnd<bool>

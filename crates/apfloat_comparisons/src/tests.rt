@@ -429,14 +429,16 @@ fn classes(rt: HostRuntime) {
     }
 }
 
-/// In the x87 format: the smallest normal number, and its other encoding, with the exponent of denormals; infinity; an
-/// unnormal; a bit above the format.
+/// In the x87 format: the smallest normal number, and its other encoding, with the exponent of denormals; infinity; the
+/// same and a NaN with integer bit 0, which are NaNs of their own; an unnormal; a bit above the format.
 #[test]
 fn encodings(rt: HostRuntime) {
     let rows = [
         (0x0001_8000_0000_0000_0000, true),
         (0x0000_8000_0000_0000_0000, false),
         (0x7fff_8000_0000_0000_0000, true),
+        (0x7fff_0000_0000_0000_0000, true),
+        (0x7fff_4000_0000_0000_0000, true),
         (0x0001_0000_0000_0000_0001, false),
         (0x1_0001_8000_0000_0000_0000, false),
     ];
