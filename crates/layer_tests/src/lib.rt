@@ -1,4 +1,4 @@
-//! Tests of the layers below the public calls, and of decimals.
+//! Tests of the layers below the public calls, of decimals, and of what pairs have beyond `Float`.
 //!
 //! They are in a separate crate, since testing a crate proves the whole crate again.
 #![tactic(auto)]
@@ -17,6 +17,10 @@ mod format_of;
 mod format_of_rows;
 #[cfg(test)]
 mod modes;
+#[cfg(test)]
+mod pair_rows;
+#[cfg(test)]
+mod pairs;
 #[cfg(test)]
 mod quotients;
 #[cfg(test)]

@@ -1,1 +1,2 @@
 pub mod OneReading
+pub mod PairShortest

@@ -1,2 +1,3 @@
 pub mod OneReading
 pub mod PairReadings
+pub mod PairShortest

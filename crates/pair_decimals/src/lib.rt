@@ -1,16 +1,30 @@
-//! Decimal texts as pairs of doubles.
+//! Decimal texts as pairs of doubles, and pairs as their shortest decimals.
 //!
 //! A separate crate, so that the decimals do not depend on pairs, nor the pairs on decimals.
 #![tactic(auto)]
 
-ghost use Rattle.apfloat_pair_theory.specs.Pairs.{IsSplit};
+ghost use Rattle.std.specs.Prelude.{◌≡◌, ℕ, ℤ, List, Some, Result, IsOkAnd};
+ghost use Rattle.apfloat_model.specs.Determined.{Determines};
+ghost use Rattle.apfloat_model.specs.declared.kinds.Round.TheVariants.{NearestTiesToEven};
+ghost use Rattle.apfloat_model.specs.declared.parse_error.ParseError.{ParseError};
+ghost use Rattle.apfloat_model.specs.declared.status.StatusAnd.{StatusAnd};
+ghost use Rattle.apfloat_pair_theory.specs.Pairs.{IsJoined, IsSplit, Pair};
+ghost use Rattle.apfloat_decimals.specs.declared.decimal.Decimal.{Decimal};
+ghost use Rattle.apfloat_decimals.specs.Parsing.{Spells};
+ghost use Rattle.apfloat_decimals.specs.ReadBack.{IsStoredDecimal};
+ghost use Rattle.apfloat_decimals.specs.Shortest.{IsSameNumber};
+ghost use Rattle.apfloat_decimals.specs.Texts.{decimal_text};
 ghost use Rattle.pair_decimals.specs.OneReading.{IsPairReadOnce};
 ghost use Rattle.pair_decimals.specs.PairReadings.{IsPairDecimalRead};
+ghost use Rattle.pair_decimals.specs.PairShortest.{GivesPairShortest};
 
-use apfloat_base::{ParseError, Round, StatusAnd};
-use apfloat_decimals::read_decimal_ascii;
+use apfloat_base::{Float, ParseError, Round, StatusAnd};
+use apfloat_decimals::{Decimal, read_decimal_ascii, shortest};
 use apfloat_ieee::IeeeFloat;
 use apfloat_pairs::{DoubleDouble, FallbackS};
+
+/// A value of the wide format.
+type Wide = IeeeFloat<FallbackS>;
 
 /// The pair of a text: the value that `apfloat_decimals::read_decimal` reads in the wide format of 106 binary digits,
 /// rounded once and split into the nearest double and the rest, with the flags of that reading; or its error.
@@ -42,9 +56,48 @@ pub fn one_pair_reading()
     ensures { IsPairReadOnce }
 {}
 
+/// The shortest decimal that `read_decimal_pair` reads as the pair, to nearest, ties to even: the one with the fewest
+/// digits, and of those the nearest to the exact sum of the parts.
+///
+/// None if there is no such decimal: for an infinity, a NaN, and a pair that is not the split of a value of the wide
+/// format, as `1 + 2^-200`, whose parts are too far apart, or one that is not normalized. A zero has the digits 0, the
+/// exponent 0 and its sign.
+pub fn shortest_of_pair(x: DoubleDouble) -> Option<Decimal>
+    ensures { GivesPairShortest x result }
+{
+    let joined = wide_of_pair(x);
+    if pair_of_wide(joined).bitwise_eq(x) {
+        shortest(joined)
+    } else {
+        None
+    }
+}
+
+/// At most one decimal is the shortest of a pair, and the pair is read back from each text of its number and sign, among
+/// them the one that `Display` writes.
+pub fn pair_shortest_reads_back()
+    ensures once { (x : Pair) → Determines (GivesPairShortest x) }
+    ensures text { (x : Pair) (decimal : Decimal) (text : List ℕ) (digits : ℕ) (exponent : ℤ)
+        (answer : Result (StatusAnd Pair) ParseError) → GivesPairShortest x (Some decimal)
+        → Spells text decimal.negative digits exponent
+        → IsSameNumber digits exponent decimal.digits decimal.exponent
+        → IsPairDecimalRead NearestTiesToEven text answer → IsOkAnd answer (λ a. a.value ≡ x) }
+    ensures written { (x : Pair) (decimal : Decimal) (answer : Result (StatusAnd Pair) ParseError)
+        → IsStoredDecimal decimal → GivesPairShortest x (Some decimal)
+        → IsPairDecimalRead NearestTiesToEven (decimal_text decimal) answer
+        → IsOkAnd answer (λ a. a.value ≡ x) }
+{}
+
 /// A value of the wide format as a pair.
-fn pair_of_wide(x: IeeeFloat<FallbackS>) -> DoubleDouble
+fn pair_of_wide(x: Wide) -> DoubleDouble
     ensures { IsSplit x result }
 {
     DoubleDouble::from(x)
+}
+
+/// The exact sum of the parts of a pair, rounded once to the wide format.
+fn wide_of_pair(x: DoubleDouble) -> Wide
+    ensures { IsJoined x result }
+{
+    Wide::from(x)
 }

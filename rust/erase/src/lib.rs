@@ -16,7 +16,7 @@ use std::path::{Path, PathBuf};
 use walk::{Erased, Place};
 
 /// The crates of the library, lowest first.
-pub const LIBRARY: [&str; 14] = [
+pub const LIBRARY: [&str; 15] = [
     "apfloat_model",
     "apfloat_words",
     "apfloat_base",
@@ -31,6 +31,7 @@ pub const LIBRARY: [&str; 14] = [
     "apfloat_pairs",
     "apfloat_decimals",
     "pair_decimals",
+    "pair_operations",
 ];
 
 /// The crates that the library for C has above those.

@@ -73,6 +73,7 @@ fn the_library_is_what_crates_txt_says() {
     // Its text is re-exports alone, which the interface in Rust has in place of it.
     all.pop();
     needed(&lines, "pair_decimals", &mut all);
+    needed(&lines, "pair_operations", &mut all);
     let mut listed: Vec<&str> = erase::LIBRARY.to_vec();
     all.sort();
     listed.sort();

@@ -1,10 +1,10 @@
 //! Formats of one significand.
 
 use crate::digits;
-use crate::doubles::AsDouble;
+use crate::doubles::{self, AsDouble};
 use crate::erased::apfloat_base::{self, Float as _, FloatConvert as _};
 use crate::erased::apfloat_rounding::unpacked::Unpacked;
-use crate::erased::{apfloat_decimals, apfloat_ieee};
+use crate::erased::{apfloat_decimals, apfloat_ieee, pair_operations};
 use crate::law::Constants;
 use crate::status::answered;
 use crate::{Category, Decimal, ExpInt, Float, FloatConvert, ParseError, Round, StatusAnd};
@@ -313,6 +313,18 @@ impl<S: Semantics> IeeeFloat<S> {
     #[inline]
     fn answered(answer: apfloat_base::StatusAnd<Inner<S>>) -> StatusAnd<Self> {
         answered(answer).map(Self::of)
+    }
+
+    /// The sum of the parts of the library's pair, rounded once.
+    #[inline]
+    pub(crate) fn of_pair(pair: doubles::Inner, round: Round) -> StatusAnd<Self> {
+        Self::answered(pair_operations::pair_to_format(pair, round))
+    }
+
+    /// The library's pair of the value.
+    #[inline]
+    pub(crate) fn to_pair(self, round: Round) -> apfloat_base::StatusAnd<doubles::Inner> {
+        pair_operations::pair_from_format(self.inner(), round)
     }
 
     /// The significand and the exponent of its integer bit, as the crate `rustc_apfloat` holds them.

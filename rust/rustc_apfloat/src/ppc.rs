@@ -3,10 +3,10 @@
 use crate::composed::{self, Composed};
 use crate::doubles::{AsDouble, Inner};
 use crate::erased::apfloat_base::Float as _;
-use crate::erased::{apfloat_ieee, apfloat_pairs, pair_decimals};
+use crate::erased::{apfloat_ieee, apfloat_pairs, pair_decimals, pair_operations};
 use crate::ieee::{Double, IeeeFloat, Semantics};
 use crate::status::answered;
-use crate::{Category, ExpInt, Float, FloatConvert, ParseError, Round, StatusAnd};
+use crate::{Category, Decimal, ExpInt, Float, FloatConvert, ParseError, Round, StatusAnd};
 use core::cmp::Ordering;
 use core::fmt;
 use core::marker::PhantomData;
@@ -103,6 +103,25 @@ impl DoubleDouble {
     #[inline]
     pub fn sqrt(self) -> StatusAnd<Self> {
         self.sqrt_r(Round::NearestTiesToEven)
+    }
+
+    /// The exact sum of the parts in the format `S`, rounded once. A high part that is zero, infinite or a NaN is
+    /// converted alone. The crate `rustc_apfloat` has no such call.
+    #[inline]
+    pub fn to_format<S: Semantics>(self, round: Round) -> StatusAnd<IeeeFloat<S>> {
+        IeeeFloat::of_pair(AsDouble::ITSELF.inner(self), round)
+    }
+
+    /// A value of the format `S`, rounded once to 106 digits, and split. The crate `rustc_apfloat` has no such call.
+    #[inline]
+    pub fn from_format<S: Semantics>(x: IeeeFloat<S>, round: Round) -> StatusAnd<Self> {
+        AsDouble::ITSELF.answer(x.to_pair(round))
+    }
+
+    /// The shortest decimal that `from_str` reads as the pair. None for an infinity, a NaN, and a pair that no decimal
+    /// is read as, since it is not the split of a value of 106 digits. The crate `rustc_apfloat` has no such call.
+    pub fn shortest(self) -> Option<Decimal> {
+        pair_decimals::shortest_of_pair(AsDouble::ITSELF.inner(self))
     }
 }
 
@@ -236,7 +255,13 @@ where
     /// The fused sum of the values of the wide format, split.
     #[inline]
     fn mul_add_r(self, multiplicand: Self, addend: Self, round: Round) -> StatusAnd<Self> {
-        Fallback::from(self).mul_add_r(multiplicand.into(), addend.into(), round).map(Self::from)
+        match F::AS_DOUBLE {
+            Some(double) => {
+                let [x, y, z] = [self, multiplicand, addend].map(|pair| double.inner(pair));
+                double.answer(pair_operations::pair_mul_add_r(x, y, z, round))
+            }
+            None => Fallback::from(self).mul_add_r(multiplicand.into(), addend.into(), round).map(Self::from),
+        }
     }
 
     #[inline]

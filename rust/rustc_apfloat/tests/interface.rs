@@ -128,6 +128,25 @@ fn pairs_and_their_wide_format() {
     assert_eq!(Category::Normal, x.category());
 }
 
+/// Rows of `evidence/pair_operations.py`.
+#[test]
+fn pairs_to_and_from_formats() {
+    // Just above halfway from 1 to the next quad. It is not a value of 106 digits, so no decimal is read as it.
+    let above = DoubleDouble::from_bits(0x38e0_0000_0000_0001_3ff0_0000_0000_0000);
+    let next = above.to_format::<QuadS>(Round::NearestTiesToEven);
+    assert_eq!(next.map(Float::to_bits), Status::INEXACT.and(0x3fff << 112 | 1));
+    assert_eq!(above.shortest(), None);
+    let pair = DoubleDouble::from_format(next.value, Round::TowardPositive);
+    assert_eq!(pair.map(Float::to_bits), Status::INEXACT.and(0x3960_0000_0000_0000_3ff0_0000_0000_0000));
+    assert_eq!(pair.value.shortest().unwrap().to_string(), "1.00000000000000000000000000000002");
+    // What a product loses when it is rounded, exactly.
+    let x = DoubleDouble::from_bits(0x4170_ce60_fb71_195b);
+    let y = DoubleDouble::from_bits(0x3bbf_3ea6_ee8e_037c_bf25_c357_afde_485a);
+    let product = DoubleDouble::from_bits(0x3d38_2f88_3fb9_59f8_40a6_dc0e_a2e6_fb22);
+    let lost = x.mul_add_r(y, product, Round::TowardNegative);
+    assert_eq!(lost.map(Float::to_bits), Status::OK.and(0x39fd_333c_c88e_5914));
+}
+
 /// What `docs/RUST.md` shows of what the crate `rustc_apfloat` does not have.
 #[test]
 fn beyond_the_crate() {

@@ -1,0 +1,2 @@
+pub mod PairConversions
+pub mod PairFusedSums
