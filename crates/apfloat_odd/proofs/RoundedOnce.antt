@@ -20,12 +20,12 @@ use Rattle.apfloat_model.proofs.general.Choices.{not_zero}
 use Rattle.apfloat_model.proofs.general.Powers.{two_pos, twice_half}
 use Rattle.apfloat_model.proofs.formats.Greatest.{greatest_some}
 use Rattle.apfloat_model.proofs.rounding.Deliveries.{signed_some}
-use Rattle.apfloat_model.proofs.rounding.FarMagnitudes.{IsFarAbove, picks_past, largest_below, power_on_grid}
+use Rattle.apfloat_model.proofs.rounding.FarMagnitudes.{IsFarAbove, picks_past}
 use Rattle.apfloat_model.proofs.rounding.Laws.{zero_on_grid, delivered_exists, below_le_above}
 use Rattle.apfloat_model.proofs.rounding.Neighbours.{none_between}
 use Rattle.apfloat_odd.specs.Odd.{IsToOdd, is_odd_below, odd_between}
 use Rattle.apfloat_odd.specs.Again.{joined, IsRoundedAgain, HasRoomFor, IsRoundedOnce}
-use Rattle.apfloat_odd.proofs.OddPoints.{AgreesAtEven, odd_agrees, odd_on_grid, wider_grid, moved_on_grid, twice_on_grid}
+use Rattle.apfloat_odd.proofs.OddPoints.{AgreesAtEven, power_on_grid, odd_agrees, odd_on_grid, wider_grid, moved_on_grid, twice_on_grid}
 use Rattle.apfloat_odd.proofs.Sides.{SameSides, same_sides}
 use Rattle.apfloat_odd.proofs.SameDeliveries.{same_delivered, pick_on_grid}
 use Rattle.apfloat_odd.proofs.PastLargest.{IsPickedAtEnd, picked_at_end, end_not_tiny}
@@ -175,9 +175,9 @@ flags_once f g mode negative amount parts below pick again first room some x l o
     ∙ joined_exact (ltb (largest g) pick) (raises_overflow g mode negative) (eqb (pick * b) a)
     (is_tiny g mode negative a b pick))
     (λ (q : below * parts ≡ amount → ⊥).
-    let some : first ≡ (if is_tiny f TowardZero negative amount parts below then 24 else 16) =
+    let lost : first ≡ (if is_tiny f TowardZero negative amount parts below then 24 else 16) =
     kept ∙ rw (ne_eqb (below * parts) amount q) refl in
-    ap (λ (z : ℕ). joined (delivered_status g mode negative a b pick) z) some
+    ap (λ (z : ℕ). joined (delivered_status g mode negative a b pick) z) lost
     ∙ joined_inexact (ltb (largest g) pick) (raises_overflow g mode negative) (eqb (pick * b) a)
     (is_tiny g mode negative a b pick) (is_tiny f TowardZero negative amount parts below)
     (inexact_too f g below amount parts pick room some x q o))

@@ -10,9 +10,8 @@ use Rattle.apfloat_model.specs.rounding.Grid.{IsOnGrid, IsBelow, IsAbove}
 use Rattle.apfloat_model.specs.rounding.Standing.{reads_halves}
 use Rattle.apfloat_model.specs.rounding.Rounding.{takes_above, IsPick, IsDelivered, is_tiny, rounds_below_normal, delivered_status, raises_overflow, ok_bits, overflow_bit, underflow_bit, inexact_bit}
 use Rattle.apfloat_model.proofs.general.Powers.{twice_power}
-use Rattle.apfloat_model.proofs.rounding.FarMagnitudes.{power_on_grid}
 use Rattle.apfloat_model.proofs.rounding.Picks.{takes_less, takes_half, takes_more}
-use Rattle.apfloat_odd.proofs.OddPoints.{twice_on_grid, wider_grid, sum_on_grid}
+use Rattle.apfloat_odd.proofs.OddPoints.{power_on_grid, twice_on_grid, wider_grid, sum_on_grid}
 use Rattle.apfloat_odd.proofs.Sides.{SameSides}
 
 -- what holds in each of the three orders of two numbers holds
