@@ -55,6 +55,13 @@ ranges_of constants law =
       span = omega (arith, ints, span, p.min_exp_low, p.max_exp_high);
     }
 
+-- the scale, from the least exponent
+pub scale_is : (constants : Constants) → IsLawful constants
+    → pos (format_with constants).scale ≡ pos (constants.precision - 1) -ℤ constants.min_exp
+scale_is constants law =
+    let p = law.parameters in
+    omega (arith, ints, p.precision_low, p.min_exp_high)
+
 -- ---- the exponent
 
 pub logarithm_of : (f : Format) (x : Datum) (e : ℤ) → IsPositive f x → IsIlogb f x e
@@ -159,7 +166,7 @@ same_place precision m c place q precise fits full is some high low =
     omega (arith, a, b)
 
 -- half of a number of units is a whole number of them if the number is even
-half_is_whole : (m w : ℕ) → 0 < w → not (eqb (m * w % (2 * w)) 0) ≡ eqb (m % 2) 1
+pub half_is_whole : (m w : ℕ) → 0 < w → not (eqb (m * w % (2 * w)) 0) ≡ eqb (m % 2) 1
 half_is_whole m w p =
     ⊎_elim
     (λ (z : m % 2 < 1).

@@ -5,5 +5,6 @@ pub mod PastLargest
 pub mod RoundedOnce
 pub mod MadeOdd
 pub mod LastDigits
+pub mod Moved
 pub mod Wholes
 pub mod OddOnce

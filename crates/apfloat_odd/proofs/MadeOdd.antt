@@ -46,7 +46,7 @@ next_is precision below above next amount parts p h x y z =
     omega (arith, k, n)
 
 -- signed quanta are a finite datum
-quanta_are : (kind : NonfiniteBehavior) (negative : Bool) (p : ℕ)
+pub quanta_are : (kind : NonfiniteBehavior) (negative : Bool) (p : ℕ)
     → signed_quanta kind negative p ≡ finite (if eqb p 0 then zero_sign kind negative else negative) p
 quanta_are kind negative zero = refl
 quanta_are kind negative (suc p) = rw (not_zero (suc p) (omega arith)) refl

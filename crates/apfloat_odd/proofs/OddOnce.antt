@@ -27,7 +27,7 @@ rounded_again_once f g mode first answer other x y =
     let e = conversion_once f g mode first.value answer.value other.value x.again y.again x.loses_info y.loses_info
     x.is_conversion y.is_conversion in
     same_answer answer other e.0
-    (x.status_is ∙ ap (λ (z : ℕ). joined z (bits_of first.status)) e.1.0 ∙ sym y.status_is)
+    (x.status_is ∙ ap (λ (z : ℕ). joined z (bits_of first.status)) e.1 ∙ sym y.status_is)
 
 integral_once : (f : Format) (x : Datum) → Once (IsRoundToOddIntegral f x)
 integral_once f (nan b s) = answer_once _ _

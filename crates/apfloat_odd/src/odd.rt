@@ -1,13 +1,17 @@
 //! An answer toward zero as the answer rounded to odd.
 
-ghost use Rattle.std.specs.Prelude.{◌≡◌, ◌<◌, ℕ};
+ghost use Rattle.std.specs.Prelude.{◌≡◌, ◌+◌, ◌<◌, ◌||◌, ℕ, eqb};
 ghost use Rattle.apfloat_model.specs.declared.kinds.Category.TheVariants.{Normal};
 ghost use Rattle.apfloat_model.specs.declared.kinds.Round.TheVariants.{TowardZero};
-ghost use Rattle.apfloat_model.specs.order.Classes.{category_of};
+ghost use Rattle.apfloat_model.specs.formats.Format.{largest};
+ghost use Rattle.apfloat_model.specs.formats.Members.{IsMember};
+ghost use Rattle.apfloat_model.specs.order.Classes.{category_of, quanta_of};
 ghost use Rattle.apfloat_model.specs.rounding.Flags.{Gives};
+ghost use Rattle.apfloat_model.specs.rounding.Grid.{IsAbove};
 ghost use Rattle.apfloat_model.specs.rounding.Rounding.{IsDelivered};
 ghost use Rattle.apfloat_ieee.specs.FlaggedTypes.{format_of};
-ghost use Rattle.apfloat_odd.specs.Odd.{IsToOdd, IsMadeOdd, IsAnswerMadeOdd};
+ghost use Rattle.apfloat_odd.specs.Odd.{IsToOdd, IsMadeOdd, IsAnswerMadeOdd, is_odd_below};
+ghost use Rattle.apfloat_odd.specs.Numbers.{IsPositive};
 
 use crate::numbers::{is_odd, with_sign};
 use apfloat_base::{Category, Flags, Float, Status, StatusAnd};
@@ -51,13 +55,24 @@ fn made_odd<S: Flagged>(x: IeeeFloat<S>, negative: bool) -> IeeeFloat<S>
 
 /// The same for a nonzero number.
 fn made_odd_number<S: Flagged>(x: IeeeFloat<S>, negative: bool) -> IeeeFloat<S>
-    requires { category_of x ≡ Normal }
+    requires number { category_of x ≡ Normal }
+    requires member { IsMember (format_of S.Flagged) x }
     ensures { IsMadeOdd (format_of S.Flagged) negative x result }
 {
     let magnitude = x.abs();
-    if is_odd(magnitude) || magnitude.is_largest() {
+    if stays(magnitude) {
         x
     } else {
         with_sign(magnitude.next_up().value, negative)
     }
+}
+
+/// Whether a positive value is not moved: if its last digit is odd, or it is the largest value.
+fn stays<S: Flagged>(x: IeeeFloat<S>) -> bool
+    requires { IsPositive (format_of S.Flagged) x }
+    ensures { let f = format_of S.Flagged in (above : ℕ)
+        → IsAbove f.precision above (quanta_of x + 1) 1
+        → result ≡ (is_odd_below (quanta_of x) above || eqb (quanta_of x) (largest f)) }
+{
+    is_odd(x) || x.is_largest()
 }
