@@ -27,7 +27,7 @@ number_only : (test : Bool) → (if test then Zero else Normal) ≡ Normal → t
 number_only true e = cc
 number_only false e = refl
 
-zero_only : (test : Bool) → (if test then Zero else Normal) ≡ Zero → test ≡ true
+pub zero_only : (test : Bool) → (if test then Zero else Normal) ≡ Zero → test ≡ true
 zero_only true e = refl
 zero_only false e = cc
 
@@ -83,9 +83,6 @@ next_point f n precise =
 abbrev pub StaysIf : Format → ℕ → Bool → Type 0
 StaysIf f n test =
     (above : ℕ) → IsAbove f.precision above (n + 1) 1 → test ≡ (is_odd_below n above || eqb n (largest f))
-
-same_quanta : (f : Format) (x y : Datum) → y ≡ finite false (quanta_of x) → quanta_of y ≡ quanta_of x
-same_quanta f x y e = ap quanta_of e
 
 -- a number that stays
 pub stays_made : (f : Format) (negative : Bool) (x y : Datum) (test : Bool) → 3 ≤ f.precision

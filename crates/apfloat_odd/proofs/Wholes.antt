@@ -8,23 +8,25 @@ use Rattle.std.proofs.lemmas.Int.{ints}
 use Rattle.std.proofs.lemmas.Nat.{pow-add, pow_pos}
 use Rattle.apfloat_model.specs.declared.kinds.Round.{Round}
 use Rattle.apfloat_model.specs.declared.kinds.Round.TheVariants.{NearestTiesToEven, TowardZero, TowardPositive, TowardNegative}
+use Rattle.apfloat_model.specs.declared.kinds.Category.TheVariants.{Zero}
 use Rattle.apfloat_model.specs.formats.Datum.{Datum, finite, infinite, nan}
 use Rattle.apfloat_model.specs.formats.Format.{Format, largest}
 use Rattle.apfloat_model.specs.formats.Members.{IsMember, IsFiniteOf}
 use Rattle.apfloat_model.specs.arithmetic.Exact.{signed, up, down}
 use Rattle.apfloat_model.specs.arithmetic.Scaling.{IsScaling}
-use Rattle.apfloat_model.specs.order.Classes.{is_negative, is_integer}
+use Rattle.apfloat_model.specs.order.Classes.{is_negative, is_integer, category_of}
 use Rattle.apfloat_model.specs.rounding.Grid.{IsOnGrid}
 use Rattle.apfloat_model.specs.rounding.Rounding.{IsDelivered, ok_bits, signed_quanta, zero_sign}
 use Rattle.apfloat_model.specs.whole_numbers.WholeNumbers.{whole_pick, whole_quanta, inexact_unless, IsRoundToIntegral}
-use Rattle.apfloat_model.specs.whole_numbers.WholeNumbersOut.{Whole, whole_within, ranged, exact_or_not, invalid_whole}
+use Rattle.apfloat_model.specs.whole_numbers.WholeNumbersOut.{Whole, whole_within, ranged, exact_or_not, IsToUnsigned, IsToSigned}
 use Rattle.apfloat_model.proofs.general.Choices.{cond_same}
 use Rattle.apfloat_model.proofs.general.Powers.{twice_power}
 use Rattle.apfloat_model.proofs.rounding.Laws.{delivered_once, exact_delivered}
 use Rattle.apfloat_model.proofs.whole_numbers.SignedTests.{less_so, less_not}
-use Rattle.apfloat_odd.specs.Wholes.{odd_whole, odd_whole_quanta, odd_within, IsRoundToOddIntegral}
+use Rattle.apfloat_odd.specs.Wholes.{odd_whole, odd_within, to_odd_unsigned, to_odd_signed, IsOddWhole, IsRoundToOddIntegral}
 use Rattle.apfloat_odd.proofs.LastDigits.{HasRanges, half_is_whole}
 use Rattle.apfloat_odd.proofs.MadeOdd.{quanta_are}
+use Rattle.apfloat_odd.proofs.Moved.{zero_only}
 
 -- the mode that rounds away from zero on the side of that sign
 abbrev pub outward_mode : Bool → Round
@@ -49,11 +51,6 @@ pub odd_is_outward : (negative : Bool) (n parts : ℕ) → eqb (n / parts % 2) 1
 odd_is_outward negative n parts e = rw e refl ∙ sym (outward_is negative n parts)
 
 -- ---- rounding to an integral datum
-
-abbrev IsIntegralBy : Format → Bool → ℕ → ℕ → Datum → ℕ → Type 0
-IsIntegralBy f negative n whole value status =
-    (value ≡ signed_quanta f.nonfinite negative (whole * 2 ^ f.scale))
-    × (status ≡ inexact_unless (eqb (whole * 2 ^ f.scale) n))
 
 -- the truncated value is an odd integer, or the value is a NaN or an infinity
 pub integral_toward : (f : Format) (x value : Datum) (status : ℕ) → IsRoundToIntegral f TowardZero x value status
@@ -142,6 +139,15 @@ half_is_integer f x half sign t ranges member scaled e =
     let half_is : half ≡ finite _ (t * 2 ^ s) = once.0 ∙ quanta_are f.nonfinite sign (t * 2 ^ s) in
     sym (ap (λ (v : Datum). not (is_integer f v)) half_is ∙ ap (λ (z : ℕ). not (eqb (t * 2 ^ s % z) 0)) unit
     ∙ half_is_whole t (2 ^ s) (pow_pos s))
+
+-- a zero is even
+pub zero_even : (f : Format) (x : Datum) → category_of x ≡ Zero → (sign : Bool) (t : ℕ)
+    → x ≡ finite sign (t * 2 ^ f.scale) → eqb (t % 2) 1 ≡ false
+zero_even f x e sign t is =
+    let k : category_of (finite sign (t * 2 ^ f.scale)) ≡ Zero = ap category_of (sym is) ∙ e in
+    let z : t * 2 ^ f.scale ≡ 0 = eqb-true (t * 2 ^ f.scale) 0 (zero_only (eqb (t * 2 ^ f.scale) 0) k) in
+    let none : t ≡ 0 = eq_of_mul-eq-mul_right (2 ^ f.scale) (pow_pos f.scale) t 0 (omega (arith, z)) in
+    ap (λ (n : ℕ). eqb (n % 2) 1) none
 
 -- ---- integers out
 
@@ -257,3 +263,57 @@ whole_outward f low high (finite b n) l h even =
     let e = ap (λ (z : ℕ). converted low high b n (2 ^ f.scale) z) (toward_is b n (2 ^ f.scale)) in
     sym (odd_out_outward low high b n (2 ^ f.scale) l h
     (λ k. even (ap (λ (w : Whole). unsigned_abs w.number % 2) e ∙ k)))
+
+-- ---- the integers of a width
+
+end_some : (n : ℕ) → pos 0 ≤ℤ pos n
+end_some n = omega (arith, ints)
+
+end_none : (n : ℕ) → neg_ℤ (pos n) ≤ℤ pos 0
+end_none n = omega (arith, ints)
+
+pub unsigned_toward : (f : Format) (width : ℕ) (x : Datum) (value status : ℕ) (exact : Bool)
+    → IsToUnsigned f TowardZero width x value status exact → value % 2 ≡ 1
+    → IsOddWhole (to_odd_unsigned f width x) (pos value) status
+unsigned_toward f width x value status exact h odd =
+    let e = whole_toward f (pos 0) (pos (2 ^ width - 1)) x (omega (arith, ints)) (end_some (2 ^ width - 1))
+    (ap (λ (z : ℤ). unsigned_abs z % 2) (sym h.number_is) ∙ odd) in
+    record {
+      number_is = h.number_is ∙ ap (λ (w : Whole). w.number) e;
+      status_is = h.status_is ∙ ap (λ (w : Whole). w.status) e;
+    }
+
+pub unsigned_outward : (f : Format) (width : ℕ) (x : Datum) (first value first_status status : ℕ) (exact other : Bool)
+    → IsToUnsigned f TowardZero width x first first_status exact
+    → IsToUnsigned f (outward_mode (is_negative x)) width x value status other → (first % 2 ≡ 1 → ⊥)
+    → IsOddWhole (to_odd_unsigned f width x) (pos value) status
+unsigned_outward f width x first value first_status status exact other g h even =
+    let e = whole_outward f (pos 0) (pos (2 ^ width - 1)) x (omega (arith, ints)) (end_some (2 ^ width - 1))
+    (λ k. even (ap (λ (z : ℤ). unsigned_abs z % 2) g.number_is ∙ k)) in
+    record {
+      number_is = h.number_is ∙ ap (λ (w : Whole). w.number) e;
+      status_is = h.status_is ∙ ap (λ (w : Whole). w.status) e;
+    }
+
+pub signed_toward : (f : Format) (width : ℕ) (x : Datum) (value : ℤ) (status : ℕ) (exact : Bool)
+    → IsToSigned f TowardZero width x value status exact → unsigned_abs value % 2 ≡ 1
+    → IsOddWhole (to_odd_signed f width x) value status
+signed_toward f width x value status exact h odd =
+    let e = whole_toward f (neg_ℤ (pos (2 ^ (width - 1)))) (pos (2 ^ (width - 1) - 1)) x (end_none (2 ^ (width - 1)))
+    (end_some (2 ^ (width - 1) - 1)) (ap (λ (z : ℤ). unsigned_abs z % 2) (sym h.number_is) ∙ odd) in
+    record {
+      number_is = h.number_is ∙ ap (λ (w : Whole). w.number) e;
+      status_is = h.status_is ∙ ap (λ (w : Whole). w.status) e;
+    }
+
+pub signed_outward : (f : Format) (width : ℕ) (x : Datum) (first value : ℤ) (first_status status : ℕ)
+    (exact other : Bool) → IsToSigned f TowardZero width x first first_status exact
+    → IsToSigned f (outward_mode (is_negative x)) width x value status other → (unsigned_abs first % 2 ≡ 1 → ⊥)
+    → IsOddWhole (to_odd_signed f width x) value status
+signed_outward f width x first value first_status status exact other g h even =
+    let e = whole_outward f (neg_ℤ (pos (2 ^ (width - 1)))) (pos (2 ^ (width - 1) - 1)) x (end_none (2 ^ (width - 1)))
+    (end_some (2 ^ (width - 1) - 1)) (λ k. even (ap (λ (z : ℤ). unsigned_abs z % 2) g.number_is ∙ k)) in
+    record {
+      number_is = h.number_is ∙ ap (λ (w : Whole). w.number) e;
+      status_is = h.status_is ∙ ap (λ (w : Whole). w.status) e;
+    }
