@@ -1,5 +1,5 @@
 -- Whether the last digit of a value is odd, from half of its significand.
-use Rattle.std.proofs.Common.{◌≡◌, ℕ, zero, suc, ◌+◌, ◌-◌, ◌*◌, ◌/◌, ◌%◌, ◌^◌, ◌<◌, ◌≤◌, ◌⊎◌, Bool, true, false, not, ◌&&◌, eqb, sym, refl, ap, ◌∙◌, subst, inl, inr, ⊎_elim, arith}
+use Rattle.std.proofs.Common.{◌≡◌, ℕ, zero, suc, ◌+◌, ◌-◌, ◌*◌, ◌/◌, ◌%◌, ◌^◌, ◌<◌, ◌≤◌, ◌⊎◌, false, not, eqb, sym, refl, ap, ◌∙◌, subst, inl, inr, ⊎_elim, arith}
 use Rattle.std.proofs.Common.{ℤ, pos, neg_ℤ, ◌-ℤ◌, ◌≤ℤ◌}
 use Rattle.std.specs.Prelude.{unsigned_abs}
 use Rattle.std.specs.Bool.{MatchBool}
@@ -186,49 +186,31 @@ half_is_whole m w p =
     rw (ne_eqb (m * w % (2 * w)) 0 some, eq-eqb (m % 2) 1 one) refl)
     (cases_lt (m % 2) 1)
 
--- the last digit is odd exactly if half of the significand is not an integer
-pub odd_is : (f : Format) (x half : Datum) (places : ℤ) (above : ℕ) → HasRanges f → IsPositive f x
-    → IsHalfPlaces f (quanta_of x) places → IsScaling f NearestTiesToEven x places half
-    → IsAbove f.precision above (quanta_of x + 1) 1 → not (is_integer f half) ≡ is_odd_below (quanta_of x) above
-odd_is f x half places above ranges positive at scaled next =
-    let q : ℕ = quanta_of x in
-    let p : ℕ = f.precision in
-    let precise = ranges.precision_low in
-    let grid : IsOnGrid p q = positive.member.on_grid in
-    let self : q ≡ q * 1 = omega arith in
-    let i = neighbours p q q q 1 (omega (arith, precise)) (omega arith) (exact_below p q q 1 (omega arith) grid self)
-    (exact_above p q q 1 (omega arith) grid self) in
-    let m : ℕ = i.m in
-    let c : ℕ = i.c in
-    let is : q ≡ m * 2 ^ c = i.below_is in
-    let same : c ≡ at.place =
-    same_place p m c at.place q precise i.enclosed.fits i.enclosed.full is positive.some at.fits at.full in
-    let above_is : above ≡ (m + 1) * 2 ^ c =
-    above_unique p above ((m + 1) * 2 ^ c) (q + 1) 1 next (next_above p (2 ^ (p - 1)) m c q i.enclosed is) in
-    let odd : is_odd_below q above ≡ eqb (m % 2) 1 =
-    ap (λ (z : ℕ). is_odd_below q z) above_is ∙ ap (λ (z : ℕ). is_odd_below z ((m + 1) * 2 ^ c)) is
-    ∙ odd_below_is m c in
+-- the significand m at its place, and half of it
+half_significand : (f : Format) (q m c : ℕ) (half : Datum) (places : ℤ) (status : ℕ) → HasRanges f → 0 < q
+    → m < 2 ^ f.precision → q ≡ m * 2 ^ c → places ≡ pos f.scale -ℤ pos (c + 1)
+    → IsDelivered f NearestTiesToEven false (q * 2 ^ up places) (2 ^ down places) half status
+    → not (is_integer f half) ≡ eqb (m % 2) 1
+half_significand f q m c half places status ranges some fits is at delivered =
     let s : ℕ = f.scale - 1 in
     let u : ℕ = up places in
     let d : ℕ = down places in
     let scale_some = ranges.scale_some in
-    let sum : c + u ≡ s + d = omega (arith, ints, at.is, same, scale_some) in
+    let sum : c + u ≡ s + d = omega (arith, ints, at, scale_some) in
     let pow : 2 ^ c * 2 ^ u ≡ 2 ^ s * 2 ^ d = sym (pow-add 2 c u) ∙ ap (λ (n : ℕ). 2 ^ n) sum ∙ pow-add 2 s d in
     let value : q * 2 ^ u ≡ m * 2 ^ s * 2 ^ d =
     ap (λ (n : ℕ). n * 2 ^ u) is ∙ regroup m (2 ^ c) (2 ^ u) (2 ^ s) (2 ^ d) pow in
-    let real : IsScaling f NearestTiesToEven (finite false q) places half =
-    subst (λ (v : Datum). IsScaling f NearestTiesToEven v places half) positive.is scaled in
     let room : s < f.span = let k = ranges.scale in omega (arith, k) in
     let wanted = exact_delivered f NearestTiesToEven false (m * 2 ^ s) (q * 2 ^ u) (2 ^ d) (pow_pos d)
-    (multiple_on_grid p m s i.enclosed.fits) (below_top f m s precise i.enclosed.fits room) value in
-    let once = delivered_once f NearestTiesToEven false (q * 2 ^ u) (2 ^ d) half _ real.0 ok_bits real.1 wanted in
-    let some : 0 < m = positive_factor m (2 ^ c) q positive.some is in
+    (multiple_on_grid f.precision m s fits) (below_top f m s ranges.precision_low fits room) value in
+    let once = delivered_once f NearestTiesToEven false (q * 2 ^ u) (2 ^ d) half _ status ok_bits delivered wanted in
+    let some' : 0 < m = positive_factor m (2 ^ c) q some is in
     let half_is : half ≡ finite false (m * 2 ^ s) =
-    once.0 ∙ signed_some f.nonfinite false (m * 2 ^ s) (mul-pos some (pow_pos s)) in
+    once.0 ∙ signed_some f.nonfinite false (m * 2 ^ s) (mul-pos some' (pow_pos s)) in
     let unit_scale : f.scale ≡ s + 1 = omega (arith, scale_some) in
     let unit : 2 ^ f.scale ≡ 2 * 2 ^ s = ap (λ (n : ℕ). 2 ^ n) unit_scale ∙ twice_power s in
     ap (λ (v : Datum). not (is_integer f v)) half_is
-    ∙ ap (λ (n : ℕ). not (eqb (m * 2 ^ s % n) 0)) unit ∙ half_is_whole m (2 ^ s) (pow_pos s) ∙ sym odd
+    ∙ ap (λ (n : ℕ). not (eqb (m * 2 ^ s % n) 0)) unit ∙ half_is_whole m (2 ^ s) (pow_pos s)
   where
     regroup : (m a b c d : ℕ) → a * b ≡ c * d → m * a * b ≡ m * c * d
     regroup m a b c d e = let k : m * (a * b) ≡ m * (c * d) = ap (λ (x : ℕ). m * x) e in omega (arith, k)
@@ -236,3 +218,37 @@ odd_is f x half places above ranges positive at scaled next =
     positive_factor : (m t q : ℕ) → 0 < q → q ≡ m * t → 0 < m
     positive_factor zero t q p e = absurd (omega (arith, p, e))
     positive_factor (suc m) t q p e = omega arith
+
+-- the last digit of a point is that of its significand
+last_digit : (precision q m c above : ℕ) → IsEnclosed precision (2 ^ (precision - 1)) m c q 1 → q ≡ m * 2 ^ c
+    → IsAbove precision above (q + 1) 1 → is_odd_below q above ≡ eqb (m % 2) 1
+last_digit precision q m c above i is next =
+    let above_is : above ≡ (m + 1) * 2 ^ c =
+    above_unique precision above ((m + 1) * 2 ^ c) (q + 1) 1 next
+    (next_above precision (2 ^ (precision - 1)) m c q i is) in
+    ap (λ (z : ℕ). is_odd_below q z) above_is ∙ ap (λ (z : ℕ). is_odd_below z ((m + 1) * 2 ^ c)) is
+    ∙ odd_below_is m c
+
+-- the last digit is odd exactly if half of the significand is not an integer
+pub odd_is : (f : Format) (x half : Datum) (places : ℤ) (above : ℕ) → HasRanges f → IsPositive f x
+    → IsHalfPlaces f (quanta_of x) places → IsScaling f NearestTiesToEven x places half
+    → IsAbove f.precision above (quanta_of x + 1) 1 → not (is_integer f half) ≡ is_odd_below (quanta_of x) above
+odd_is f x half places above ranges positive at scaled next =
+    let real : IsScaling f NearestTiesToEven (finite false (quanta_of x)) places half =
+    subst (λ (v : Datum). IsScaling f NearestTiesToEven v places half) positive.is scaled in
+    by (quanta_of x) positive.some positive.member.on_grid at real.0 real.1 next
+  where
+    by : (q : ℕ) → 0 < q → IsOnGrid f.precision q → IsHalfPlaces f q places → (status : ℕ)
+        → IsDelivered f NearestTiesToEven false (q * 2 ^ up places) (2 ^ down places) half status
+        → IsAbove f.precision above (q + 1) 1 → not (is_integer f half) ≡ is_odd_below q above
+    by q some grid at status delivered next =
+        let p : ℕ = f.precision in
+        let precise = ranges.precision_low in
+        let self : q ≡ q * 1 = omega arith in
+        let i = neighbours p q q q 1 (omega (arith, precise)) (omega arith)
+        (exact_below p q q 1 (omega arith) grid self) (exact_above p q q 1 (omega arith) grid self) in
+        let same : i.c ≡ at.place =
+        same_place p i.m i.c at.place q precise i.enclosed.fits i.enclosed.full i.below_is some at.fits at.full in
+        half_significand f q i.m i.c half places status ranges some i.enclosed.fits i.below_is
+        (subst (λ (n : ℕ). places ≡ pos f.scale -ℤ pos (n + 1)) (sym same) at.is) delivered
+        ∙ sym (last_digit p q i.m i.c above i.enclosed i.below_is next)

@@ -1,7 +1,7 @@
 -- The answer toward zero, made odd, is the exact result rounded to odd.
-use Rattle.std.proofs.Common.{◌≡◌, ℕ, ◌+◌, ◌-◌, ◌*◌, ◌/◌, ◌%◌, ◌^◌, ◌<◌, ◌≤◌, ◌⊎◌, Bool, true, false, not, ◌&&◌, ◌||◌, eqb, ltb, cond, if◌then◌else◌, sym, refl, ap, ◌∙◌, subst, inl, inr, ⊎_elim, zero, suc, arith}
+use Rattle.std.proofs.Common.{◌≡◌, ℕ, ◌+◌, ◌*◌, ◌<◌, ◌≤◌, Bool, true, false, ◌||◌, eqb, ltb, cond, if◌then◌else◌, sym, refl, ap, ◌∙◌, subst, ⊎_elim, zero, suc, arith}
 use Rattle.std.specs.Bool.{MatchBool}
-use Rattle.std.proofs.Math.Nat.{mul-le-mul_right, mul-lt-mul_of_pos_right, mul-pos, lt_of_mul-lt-mul_right}
+use Rattle.std.proofs.Math.Nat.{mul-pos, lt_of_mul-lt-mul_right}
 use Rattle.std.proofs.lemmas.Bool.{cases_lt, cases_eq, cases_Bool, lt-ltb, le-ltb, ne_eqb, eq-eqb, or_right, MatchBool-at_true, MatchBool-at_false}
 use Rattle.std.proofs.lemmas.Nat.{pow_pos}
 use Rattle.apfloat_model.specs.declared.kinds.NonfiniteBehavior.{NonfiniteBehavior}
@@ -9,15 +9,15 @@ use Rattle.apfloat_model.specs.declared.kinds.Round.TheVariants.{TowardZero}
 use Rattle.apfloat_model.specs.declared.status.StatusAnd.{StatusAnd}
 use Rattle.apfloat_model.specs.formats.Format.{Format, largest, greatest_significand}
 use Rattle.apfloat_model.specs.formats.Datum.{Datum, finite}
-use Rattle.apfloat_model.specs.rounding.Flags.{Gives, bits_of}
+use Rattle.apfloat_model.specs.rounding.Flags.{bits_of}
 use Rattle.apfloat_model.specs.rounding.Grid.{IsOnGrid, IsBelow, IsAbove}
-use Rattle.apfloat_model.specs.rounding.Rounding.{IsDelivered, is_tiny, delivered_value, delivered_status, raises_overflow, signed_quanta, zero_sign, inexact_bit}
+use Rattle.apfloat_model.specs.rounding.Rounding.{is_tiny, delivered_value, delivered_status, raises_overflow, signed_quanta, zero_sign, inexact_bit}
 use Rattle.apfloat_model.proofs.formats.Greatest.{greatest_some, greatest_fits}
 use Rattle.apfloat_model.proofs.general.Choices.{not_zero, eqb_self, cond_same}
 use Rattle.apfloat_model.proofs.rounding.Deliveries.{signed_some}
 use Rattle.apfloat_model.proofs.rounding.Laws.{exact_above, below_le_above}
 use Rattle.apfloat_model.proofs.rounding.Neighbours.{above_unique, multiple_on_grid}
-use Rattle.apfloat_odd.specs.Odd.{is_odd_below, odd_between, has_flag, IsToOdd, IsMadeOdd, IsMadeOddNumber, IsAnswerMadeOdd, IsOddOfTruncated}
+use Rattle.apfloat_odd.specs.Odd.{is_odd_below, odd_between, has_flag, IsMadeOdd, IsMadeOddNumber, IsOddOfTruncated}
 
 pub largest_on_grid : (f : Format) → IsOnGrid f.precision (largest f)
 largest_on_grid f =

@@ -1,6 +1,5 @@
 -- A result rounded to odd, and rounded again to a format for which there is room, is rounded once.
-use Rattle.std.proofs.Common.{◌≡◌, ℕ, zero, suc, ◌+◌, ◌-◌, ◌*◌, ◌/◌, ◌%◌, ◌^◌, ◌<◌, ◌≤◌, ◌⊎◌, Bool, true, false, not, ◌&&◌, ◌||◌, eqb, ltb, leb, cond, if◌then◌else◌, sym, refl, ap, ◌∙◌, subst, inl, inr, ⊎_elim, arith}
-use Rattle.std.specs.Bool.{MatchBool}
+use Rattle.std.proofs.Common.{◌≡◌, ℕ, ◌+◌, ◌-◌, ◌*◌, ◌^◌, ◌<◌, ◌≤◌, Bool, true, false, ◌||◌, eqb, ltb, cond, if◌then◌else◌, sym, refl, ap, ◌∙◌, subst, inl, inr, ⊎_elim, arith}
 use Rattle.std.proofs.Math.Nat.{mul-le-mul_right, mul-pos, eq_of_mul-eq-mul_right, pow-le-pow_right}
 use Rattle.std.proofs.lemmas.Bool.{cases_lt, cases_eq, lt-ltb, le-ltb, ne_eqb, eq-eqb, MatchBool-at_false}
 use Rattle.std.proofs.lemmas.Nat.{pow-add, pow_pos}
@@ -14,7 +13,7 @@ use Rattle.apfloat_model.specs.formats.Datum.{Datum, finite}
 use Rattle.apfloat_model.specs.rounding.Flags.{Gives, bits_of}
 use Rattle.apfloat_model.specs.rounding.Grid.{IsOnGrid, IsBelow, IsAbove}
 use Rattle.apfloat_model.specs.rounding.Standing.{reads_halves}
-use Rattle.apfloat_model.specs.rounding.Rounding.{IsPick, IsDelivered, is_tiny, delivered_value, delivered_status, leads_out, raises_overflow, past_largest, signed_quanta}
+use Rattle.apfloat_model.specs.rounding.Rounding.{IsDelivered, is_tiny, delivered_value, delivered_status, leads_out, raises_overflow}
 use Rattle.apfloat_model.specs.arithmetic.Conversions.{IsConversion, IsConvertedNumber}
 use Rattle.apfloat_model.proofs.general.Choices.{not_zero}
 use Rattle.apfloat_model.proofs.general.Powers.{two_pos, twice_half}
@@ -26,7 +25,7 @@ use Rattle.apfloat_model.proofs.rounding.Neighbours.{none_between}
 use Rattle.apfloat_odd.specs.Odd.{IsToOdd, is_odd_below, odd_between}
 use Rattle.apfloat_odd.specs.Again.{joined, IsRoundedAgain, HasRoomFor, IsRoundedOnce}
 use Rattle.apfloat_odd.proofs.OddPoints.{AgreesAtEven, power_on_grid, odd_agrees, odd_on_grid, wider_grid, moved_on_grid, twice_on_grid}
-use Rattle.apfloat_odd.proofs.Sides.{SameSides, same_sides}
+use Rattle.apfloat_odd.proofs.Sides.{same_sides}
 use Rattle.apfloat_odd.proofs.SameDeliveries.{same_delivered, pick_on_grid}
 use Rattle.apfloat_odd.proofs.PastLargest.{IsPickedAtEnd, picked_at_end, end_not_tiny}
 

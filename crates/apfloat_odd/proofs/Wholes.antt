@@ -1,23 +1,23 @@
 -- Rounding to an odd integer, from the integers toward zero and away from zero.
-use Rattle.std.proofs.Common.{◌≡◌, ℕ, zero, suc, ◌+◌, ◌-◌, ◌*◌, ◌/◌, ◌%◌, ◌^◌, ◌<◌, ◌≤◌, ◌⊎◌, Bool, true, false, not, ◌&&◌, eqb, cond, if◌then◌else◌, sym, refl, ap, ◌∙◌, subst, inl, inr, ⊎_elim, arith}
-use Rattle.std.proofs.Common.{ℤ, pos, neg_ℤ, ◌≤ℤ◌}
+use Rattle.std.proofs.Common.{◌≡◌, ℕ, zero, suc, ◌+◌, ◌-◌, ◌*◌, ◌/◌, ◌%◌, ◌^◌, ◌<◌, ◌≤◌, Bool, true, false, not, ◌&&◌, eqb, cond, if◌then◌else◌, sym, refl, ap, ◌∙◌, subst, ⊎_elim, arith}
+use Rattle.std.proofs.Common.{ℤ, pos, negsuc, neg_ℤ, ◌≤ℤ◌}
 use Rattle.std.specs.Prelude.{unsigned_abs, int_lt, ◌<ℤ◌}
-use Rattle.std.proofs.Math.Nat.{mul-pos, eq_of_mul-eq-mul_right, mul-le-mul_left}
-use Rattle.std.proofs.lemmas.Bool.{cases_lt, cases_Bool, ne_eqb, eq-eqb, eqb-true, eqb-false}
+use Rattle.std.proofs.Math.Nat.{eq_of_mul-eq-mul_right}
+use Rattle.std.proofs.lemmas.Bool.{cases_lt, cases_Bool, eqb-true, eqb-false}
 use Rattle.std.proofs.lemmas.Int.{ints}
-use Rattle.std.proofs.lemmas.Nat.{pow-add, pow_pos}
+use Rattle.std.proofs.lemmas.Nat.{pow_pos}
 use Rattle.apfloat_model.specs.declared.kinds.Round.{Round}
 use Rattle.apfloat_model.specs.declared.kinds.Round.TheVariants.{NearestTiesToEven, TowardZero, TowardPositive, TowardNegative}
 use Rattle.apfloat_model.specs.declared.kinds.Category.TheVariants.{Zero}
 use Rattle.apfloat_model.specs.formats.Datum.{Datum, finite, infinite, nan}
-use Rattle.apfloat_model.specs.formats.Format.{Format, largest}
+use Rattle.apfloat_model.specs.formats.Format.{Format}
 use Rattle.apfloat_model.specs.formats.Members.{IsMember, IsFiniteOf}
-use Rattle.apfloat_model.specs.arithmetic.Exact.{signed, up, down}
+use Rattle.apfloat_model.specs.arithmetic.Exact.{signed, sign_of}
 use Rattle.apfloat_model.specs.arithmetic.Scaling.{IsScaling}
 use Rattle.apfloat_model.specs.order.Classes.{is_negative, is_integer, category_of}
 use Rattle.apfloat_model.specs.rounding.Grid.{IsOnGrid}
-use Rattle.apfloat_model.specs.rounding.Rounding.{IsDelivered, ok_bits, signed_quanta, zero_sign}
-use Rattle.apfloat_model.specs.whole_numbers.WholeNumbers.{whole_pick, whole_quanta, inexact_unless, IsRoundToIntegral}
+use Rattle.apfloat_model.specs.rounding.Rounding.{ok_bits, signed_quanta}
+use Rattle.apfloat_model.specs.whole_numbers.WholeNumbers.{whole_pick, inexact_unless, IsRoundToIntegral}
 use Rattle.apfloat_model.specs.whole_numbers.WholeNumbersOut.{Whole, whole_within, ranged, exact_or_not, IsToUnsigned, IsToSigned}
 use Rattle.apfloat_model.proofs.general.Choices.{cond_same}
 use Rattle.apfloat_model.proofs.general.Powers.{twice_power}
@@ -317,3 +317,11 @@ signed_outward f width x first value first_status status exact other g h even =
       number_is = h.number_is ∙ ap (λ (w : Whole). w.number) e;
       status_is = h.status_is ∙ ap (λ (w : Whole). w.status) e;
     }
+
+-- ---- integers in
+
+-- the sign of an integer is whether it is below 0
+pub negative_is : (z : ℤ) → int_lt z (pos 0) ≡ sign_of false z
+negative_is (pos zero) = less_not (pos 0) (pos 0) (omega (arith, ints))
+negative_is (pos (suc n)) = less_not (pos (suc n)) (pos 0) (omega (arith, ints))
+negative_is (negsuc n) = less_so (negsuc n) (pos 0) (omega (arith, ints))

@@ -1,4 +1,4 @@
-use Rattle.std.proofs.Common.{◌≡◌, ap, ◌∙◌, not, w32}
+use Rattle.std.proofs.Common.{ap, ◌∙◌, not, w32}
 use Rattle.std.proofs.lemmas.Int.{to_z-of_z}
 use Rattle.apfloat_ieee.specs.FlaggedTypes.{constants_of, format_of}
 use Rattle.apfloat_odd.proofs.LastDigits.{ranges_of, odd_is}

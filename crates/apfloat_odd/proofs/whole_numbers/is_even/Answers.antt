@@ -1,4 +1,4 @@
-use Rattle.std.proofs.Common.{◌≡◌, not, sym, ap, ◌∙◌}
+use Rattle.std.proofs.Common.{not, sym, ap, ◌∙◌}
 use Rattle.apfloat_ieee.specs.FlaggedTypes.{constants_of, format_of}
 use Rattle.apfloat_odd.proofs.LastDigits.{ranges_of}
 use Rattle.apfloat_odd.proofs.Wholes.{zero_even, half_is_integer}

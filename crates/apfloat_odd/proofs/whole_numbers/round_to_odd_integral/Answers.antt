@@ -1,4 +1,4 @@
-use Rattle.std.proofs.Common.{◌≡◌, not, sym, ap, ◌∙◌}
+use Rattle.std.proofs.Common.{not, ap, ◌∙◌}
 use Rattle.apfloat_model.specs.rounding.Flags.{bits_of}
 use Rattle.apfloat_ieee.specs.FlaggedTypes.{format_of}
 use Rattle.apfloat_odd.proofs.Wholes.{integral_toward, integral_outward}
