@@ -1,0 +1,10 @@
+pub mod OddPoints
+pub mod Sides
+pub mod SameDeliveries
+pub mod PastLargest
+pub mod RoundedOnce
+pub mod MadeOdd
+pub mod LastDigits
+pub mod Moved
+pub mod Wholes
+pub mod OddOnce

@@ -1,0 +1,215 @@
+//! Rows whose expected results were computed with fractions (`evidence/odd.py`), integers and ends of ranges by hand,
+//! and two pairs of formats without room.
+
+ghost use Rattle.std.specs.Prelude.{◌<◌};
+
+use crate::rows::{HALF_TO_E4M3FN, HALF_TO_E5M2, SINGLE_TO_E4M3FNUZ, SINGLE_TO_HALF};
+use crate::*;
+use apfloat_base::{Flags, Float, Round, Status, StatusAnd};
+use apfloat_formats::{
+    BFloatS, Double, DoubleS, Float8E4M3FN, Float8E4M3FNS, Float8E4M3FNUZ, Float8E4M3FNUZS,
+    Float8E5M2S, Half, HalfS, IeeeFlags, SingleS, TinyBefore,
+};
+use apfloat_ieee::{Flagged, IeeeFloat};
+use apfloat_pairs::FallbackS;
+use std::process::Abort;
+
+/// An operation that is rounded toward zero first.
+#[derive(Clone, Copy, PartialEq, Eq, Debug)]
+pub(crate) enum Operation {
+    Sum,
+    Product,
+    Quotient,
+}
+
+/// The operands; the result rounded to odd with its flags; and the results rounded once to the other format, in the
+/// order of `MODES`.
+pub(crate) type Row = (Operation, [u128; 2], (u128, u8), [(u128, u8); 5]);
+
+static MODES: [Round; 5] = [
+    Round::NearestTiesToEven,
+    Round::TowardPositive,
+    Round::TowardNegative,
+    Round::TowardZero,
+    Round::NearestTiesToAway,
+];
+
+fn truncated<S: Flagged>(
+    operation: Operation,
+    x: IeeeFloat<S>,
+    y: IeeeFloat<S>,
+) -> StatusAnd<IeeeFloat<S>> {
+    match operation {
+        Operation::Sum => x.add_r(y, Round::TowardZero),
+        Operation::Product => x.wide_mul_r(y, Round::TowardZero),
+        Operation::Quotient => x.div_r(y, Round::TowardZero),
+    }
+}
+
+fn check_rows<S: Flagged, T: Flagged>(rt: &impl Abort, rows: &[Row])
+    requires from { S.PRECISION < S.BITS }
+    requires to { T.PRECISION < T.BITS }
+{
+    for row in rows {
+        let (operation, operands, expected, again) = *row;
+        let x = IeeeFloat::<S>::from_bits(operands[0]);
+        let y = IeeeFloat::<S>::from_bits(operands[1]);
+        let answer = truncated(operation, x, y);
+        let odd = to_odd(answer, answer.value.is_negative());
+        let got = (odd.value.to_bits(), odd.status.bits());
+        assert_eq!(rt; got, expected, "{row:?}");
+        for i in 0..5 {
+            let once: StatusAnd<IeeeFloat<T>> = round_odd_to(odd, MODES[i]);
+            let got = (once.value.to_bits(), once.status.bits());
+            assert_eq!(rt; got, again[i], "{i} {row:?}");
+        }
+    }
+}
+
+#[test]
+fn rows(rt: HostRuntime) {
+    check_rows::<IeeeFlags<HalfS>, IeeeFlags<Float8E5M2S>>(&rt, &HALF_TO_E5M2);
+    check_rows::<HalfS, Float8E4M3FNS>(&rt, &HALF_TO_E4M3FN);
+    check_rows::<IeeeFlags<TinyBefore<SingleS>>, IeeeFlags<TinyBefore<HalfS>>>(
+        &rt,
+        &SINGLE_TO_HALF,
+    );
+    check_rows::<SingleS, Float8E4M3FNUZS>(&rt, &SINGLE_TO_E4M3FNUZ);
+}
+
+// ---- integers by hand, in half
+
+const OK: u8 = 0;
+
+const INVALID: u8 = 0x01;
+
+const INEXACT: u8 = 0x10;
+
+/// A value; and the unsigned and the signed integer of 8 bits.
+static WHOLES: [(u128, (u128, u8), (i128, u8)); 11] = [
+    // 2.5, 3.5, 4, 0.25
+    (0x4100, (3, INEXACT), (3, INEXACT)),
+    (0x4300, (3, INEXACT), (3, INEXACT)),
+    (0x4400, (4, OK), (4, OK)),
+    (0x3400, (1, INEXACT), (1, INEXACT)),
+    // -0.5, -128.5, 127.5, 255.5
+    (0xb800, (0, INVALID), (-1, INEXACT)),
+    (0xd804, (0, INVALID), (-128, INVALID)),
+    (0x57f8, (127, INEXACT), (127, INEXACT)),
+    (0x5bfc, (255, INEXACT), (127, INVALID)),
+    // a NaN and the infinities
+    (0x7e00, (0, INVALID), (0, INVALID)),
+    (0x7c00, (255, INVALID), (127, INVALID)),
+    (0xfc00, (0, INVALID), (-128, INVALID)),
+];
+
+#[test]
+fn integers_out(rt: HostRuntime) {
+    for row in &WHOLES {
+        let (bits, unsigned, signed) = *row;
+        let x = Half::from_bits(bits);
+        let answer = to_u128_odd(x, 8);
+        assert_eq!(rt; (answer.value, answer.status.bits()), unsigned, "{row:?}");
+        let answer = to_i128_odd(x, 8);
+        assert_eq!(rt; (answer.value, answer.status.bits()), signed, "{row:?}");
+    }
+}
+
+/// An integer and its value.
+static VALUES: [(i128, u128, u8); 5] = [
+    (464, 0x5f40, OK),
+    (2049, 0x6801, INEXACT),
+    (4098, 0x6c01, INEXACT),
+    (-2051, 0xe801, INEXACT),
+    (100_000, 0x7bff, INEXACT),
+];
+
+#[test]
+fn integers_in(rt: HostRuntime) {
+    for row in &VALUES {
+        let (integer, bits, flags) = *row;
+        let answer = from_i128_odd::<HalfS>(integer);
+        assert_eq!(rt;
+            (answer.value.to_bits(), answer.status.bits()),
+            (bits, flags),
+            "{row:?}"
+        );
+        if integer >= 0 {
+            let answer = from_u128_odd::<HalfS>(integer as u128);
+            assert_eq!(rt;
+                (answer.value.to_bits(), answer.status.bits()),
+                (bits, flags),
+                "{row:?}"
+            );
+        }
+    }
+}
+
+/// A value and the integral value.
+static INTEGRALS: [(u128, u128, u8); 8] = [
+    // 2.5, 3.5, -0.25, the smallest, -0, 1000.5
+    (0x4100, 0x4200, INEXACT),
+    (0x4300, 0x4200, INEXACT),
+    (0xb400, 0xbc00, INEXACT),
+    (0x0001, 0x3c00, INEXACT),
+    (0x8000, 0x8000, OK),
+    (0x63d1, 0x63d2, INEXACT),
+    // a signaling NaN and an infinity
+    (0x7c01, 0x7e01, INVALID),
+    (0xfc00, 0xfc00, OK),
+];
+
+#[test]
+fn integral_values(rt: HostRuntime) {
+    for row in &INTEGRALS {
+        let (bits, expected, flags) = *row;
+        let answer = round_to_odd_integral(Half::from_bits(bits));
+        let got = (answer.value.to_bits(), answer.status.bits());
+        assert_eq!(rt; got, (expected, flags), "{row:?}");
+    }
+}
+
+// ---- ends of ranges
+
+#[test]
+fn ends(rt: HostRuntime) {
+    // 448 is the largest value of e4m3fn, and even: 448 + 16 stays at it, as 448 + 448 does.
+    let largest = Float8E4M3FN::largest();
+    for other in [0x58, 0x7e] {
+        let sum = largest.add_r(Float8E4M3FN::from_bits(other), Round::TowardZero);
+        let odd = to_odd(sum, false);
+        assert_eq!(rt; (odd.value.to_bits(), odd.status), (0x7e, Status::INEXACT));
+    }
+    // A negative result below the smallest value is +0 toward zero in e4m3fnuz, which has no -0.
+    let sixteenth = Float8E4M3FNUZ::from_u128(1).value.scalbn(-4);
+    let tiny = Float8E4M3FNUZ::smallest().wide_mul_r(-sixteenth, Round::TowardZero);
+    let both = Status::UNDERFLOW.union(Status::INEXACT);
+    for (negative, bits) in [(true, 0x81), (false, 0x01)] {
+        let odd = to_odd(tiny, negative);
+        assert_eq!(rt; (odd.value.to_bits(), odd.status), (bits, both));
+    }
+}
+
+// ---- formats without room
+
+#[test]
+fn without_room(rt: HostRuntime) {
+    // 2^-30 is below the smallest half, 2^-24, and is a number of bfloat.
+    let x = Half::smallest();
+    let y = Half::from_u128(1).value.scalbn(-6);
+    let odd = to_odd(x.mul_r(y, Round::TowardZero), false);
+    let twice: StatusAnd<IeeeFloat<BFloatS>> = round_odd_to(odd, Round::NearestTiesToEven);
+    let once = x.mul_to::<BFloatS>(y, Round::NearestTiesToEven);
+    assert_eq!(rt;
+        (twice.value.to_bits(), once.value.to_bits()),
+        (0x3380, 0x3080)
+    );
+    // 5/4 quanta of double: the wide format of pairs has the same quantum, though 53 digits more.
+    let five_quarters = IeeeFloat::<FallbackS>::from_u128(5).value.scalbn(-2);
+    let quantum = IeeeFloat::<FallbackS>::smallest();
+    let odd = to_odd(quantum.wide_mul_r(five_quarters, Round::TowardZero), false);
+    let twice: StatusAnd<IeeeFloat<DoubleS>> = round_odd_to(odd, Round::TowardPositive);
+    let five_quarters = Double::from_u128(5).value.scalbn(-2);
+    let once = Double::smallest().mul_r(five_quarters, Round::TowardPositive);
+    assert_eq!(rt; (twice.value.to_bits(), once.value.to_bits()), (1, 2));
+}

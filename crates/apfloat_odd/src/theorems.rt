@@ -1,0 +1,31 @@
+//! Theorems about the definitions that the calls cite, as contracts of functions with empty bodies.
+
+ghost use Rattle.apfloat_odd.specs.Odd.{IsOddOfTruncated, IsToOddOnce};
+ghost use Rattle.apfloat_odd.specs.Again.{IsRoundedOnce, IsRoundedAgainOnce};
+ghost use Rattle.apfloat_odd.specs.Wholes.{IsOddIntegralOnce};
+
+/// What `to_odd` makes of an answer toward zero is the exact result rounded to odd.
+pub fn odd_of_truncated_is_odd()
+    ensures { IsOddOfTruncated }
+{}
+
+/// Rounding to odd has one result and one status.
+pub fn odd_roundings_have_one_answer()
+    ensures { IsToOddOnce }
+{}
+
+/// A nonzero exact result that is rounded to odd, and then to a format for which the first one has room, is rounded
+/// once, in value and flags.
+pub fn rounding_again_is_rounding_once()
+    ensures { IsRoundedOnce }
+{}
+
+/// The second rounding has one result and one status.
+pub fn second_roundings_have_one_answer()
+    ensures { IsRoundedAgainOnce }
+{}
+
+/// Rounding to an odd integral value has one result and one status.
+pub fn odd_integral_roundings_have_one_answer()
+    ensures { IsOddIntegralOnce }
+{}

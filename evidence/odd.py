@@ -1,0 +1,136 @@
+"""Computes crates/apfloat_odd/src/rows.rt: results rounded to odd, and rounded again.
+
+    python3 evidence/odd.py | diff - crates/apfloat_odd/src/rows.rt
+
+Each exact result is a fraction. It is rounded to odd here, and once in each mode to the format of the
+second rounding by the model. The operands are drawn from a seed: most are such that the result is near
+a number or a midpoint of that format, near its least numbers or past its largest.
+"""
+
+from fractions import Fraction
+from random import Random
+
+from exact.bits import decoded, encoded
+from exact.data import Finite, number
+from exact.formats import FORMATS
+from exact.rounding import Mode, delivered
+
+PAIRS = (
+    ("half+ieee", "e5m2+ieee"),
+    ("half", "e4m3fn"),
+    ("single+ieee+before", "half+ieee+before"),
+    ("single", "e4m3fnuz"),
+)
+
+OPERATIONS = ("Sum", "Product", "Quotient")
+
+ROWS_OF_EACH = 6
+
+
+def value_of(form, bits):
+    """The number as a fraction."""
+    return Fraction(decoded(form, bits).signed_quanta, 1 << form.scale)
+
+
+def rounded(form, mode, exact):
+    """A fraction rounded once."""
+    quanta = abs(exact) * (1 << form.scale)
+    return delivered(form, mode, exact < 0, quanta.numerator, quanta.denominator)
+
+
+def to_odd(form, exact):
+    """A fraction rounded to odd, with the flags of rounding toward zero."""
+    quanta = abs(exact) * (1 << form.scale)
+    step = 1
+    while quanta / step >= 1 << form.precision:
+        step *= 2
+    digits, rest = divmod(quanta, step)
+    if rest and digits % 2 == 0:
+        digits += 1
+    point = min(digits * step, form.largest)
+    _, status = rounded(form, Mode.ZERO, exact)
+    return number(form, exact < 0, int(point)), status
+
+
+def exact_result(operation, x, y):
+    """The exact result of two fractions."""
+    if operation == "Sum":
+        return x + y
+    return x * y if operation == "Product" else x / y
+
+
+def near(choices, source, target):
+    """A number near those of the target, near its least numbers, or past its largest."""
+    kind = choices.randrange(6)
+    exponent = choices.randint(target.least_exponent, target.greatest_exponent)
+    if kind == 0:
+        exponent = target.least_exponent - choices.randint(0, target.precision + 1)
+    if kind == 1:
+        exponent = target.greatest_exponent
+    digits = target.precision + 2
+    lead = choices.getrandbits(digits) | 1 << digits - 1
+    exact = lead * Fraction(2) ** (exponent - digits + 1)
+    nudge = choices.choice((0, 1, -1)) * Fraction(2) ** (exponent - source.precision - 1)
+    return (exact + nudge) * choices.choice((1, -1))
+
+
+def operands(choices, source, target, operation):
+    """Bits of two numbers whose result is inexact, or near a number of the target."""
+    wanted = near(choices, source, target)
+    while True:
+        quanta = choices.getrandbits(source.precision) | 1 << source.precision - 1
+        place = source.scale - source.precision + choices.randint(-3, 3)
+        y = number(source, choices.random() < 0.5, quanta << place)
+        other = Fraction(y.signed_quanta, 1 << source.scale)
+        if operation == "Sum":
+            other = wanted * Fraction(choices.randint(1, 9), 1 << choices.randint(2, 9))
+            y, _ = rounded(source, Mode.ZERO, other)
+            other = Fraction(y.signed_quanta, 1 << source.scale)
+        left = {"Sum": wanted - other, "Product": wanted / other if other else 0}.get(
+            operation, wanted * other
+        )
+        x, _ = rounded(source, Mode.EVEN, left)
+        if isinstance(x, Finite) and x.quanta and y.quanta:
+            return encoded(source, x), encoded(source, y)
+
+
+def line(source, target, operation, bits):
+    """A row."""
+    exact = exact_result(operation, *(value_of(source, word) for word in bits))
+    first = to_odd(source, exact)
+    again = [rounded(target, mode, exact) for mode in Mode]
+    pairs = [f"({encoded(form, value):#x}, {status:#x})" for form, (value, status) in
+             [(source, first), *((target, answer) for answer in again)]]
+    return "\n".join([
+        "    (",
+        f"        Operation::{operation},",
+        f"        [{bits[0]:#x}, {bits[1]:#x}],",
+        f"        {pairs[0]},",
+        "        [",
+        *(f"            {pair}," for pair in pairs[1:]),
+        "        ],",
+        "    ),",
+    ])
+
+
+def main():
+    choices = Random(754)
+    print("//! Results rounded to odd and rounded again, computed by `evidence/odd.py`.")
+    print()
+    print("use crate::tests::{Operation, Row};")
+    for source_name, target_name in PAIRS:
+        source, target = FORMATS[source_name], FORMATS[target_name]
+        rows = []
+        for operation in OPERATIONS:
+            for _ in range(ROWS_OF_EACH):
+                bits = operands(choices, source, target, operation)
+                rows.append(line(source, target, operation, bits))
+        name = f"{source_name.split('+')[0]}_TO_{target_name.split('+')[0]}".upper()
+        print()
+        print(f"pub(crate) static {name}: [Row; {len(rows)}] = [")
+        print("\n".join(rows))
+        print("];")
+
+
+if __name__ == "__main__":
+    main()
