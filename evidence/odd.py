@@ -99,16 +99,15 @@ def line(source, target, operation, bits):
     exact = exact_result(operation, *(value_of(source, word) for word in bits))
     first = to_odd(source, exact)
     again = [rounded(target, mode, exact) for mode in Mode]
-    pairs = [f"({encoded(form, value):#x}, {status:#x})" for form, (value, status) in
-             [(source, first), *((target, answer) for answer in again)]]
+    answers = [(source, *first), *((target, *answer) for answer in again)]
+    values = ", ".join(f"{encoded(form, value):#x}" for form, value, _ in answers)
+    flags = ", ".join(f"{status:#x}" for _, _, status in answers)
     return "\n".join([
         "    (",
         f"        Operation::{operation},",
         f"        [{bits[0]:#x}, {bits[1]:#x}],",
-        f"        {pairs[0]},",
-        "        [",
-        *(f"            {pair}," for pair in pairs[1:]),
-        "        ],",
+        f"        [{values}],",
+        f"        [{flags}],",
         "    ),",
     ])
 

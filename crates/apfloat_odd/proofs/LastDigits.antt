@@ -89,7 +89,8 @@ logarithm_within f q e ranges within log =
 
 -- the place of the last digit of a denormal number
 pub low_half_places : (f : Format) (q : ℕ) (e least places : ℤ) → 3 ≤ f.precision
-    → pos f.scale ≡ pos (f.precision - 1) -ℤ least → IsLogarithm f q e → (e ≤ℤ least) → places ≡ pos f.precision -ℤ pos 2 -ℤ least → IsHalfPlaces f q places
+    → pos f.scale ≡ pos (f.precision - 1) -ℤ least → IsLogarithm f q e → (e ≤ℤ least)
+    → places ≡ pos f.precision -ℤ pos 2 -ℤ least → IsHalfPlaces f q places
 low_half_places f q e least places precise scale log l is =
     let k : log.place + 1 ≤ f.precision + 0 = omega (arith, ints, log.is, scale, l, precise) in
     let w : 2 ^ (log.place + 1) ≤ 2 ^ (f.precision + 0) = pow-le-pow_right two_pos k in
@@ -152,7 +153,8 @@ same_place precision m c place q precise fits full is some high low =
     ⊎_elim
     (λ (z : place ≡ 0). omega (arith, z))
     (λ (z : 2 ^ (precision - 1 + place) ≤ q).
-    let k = exponent_below (precision - 1 + place) (precision + c) (omega (arith, z, under)) in omega (arith, k, precise))
+    let k = exponent_below (precision - 1 + place) (precision + c) (omega (arith, z, under)) in
+    omega (arith, k, precise))
     low in
     let b : c ≤ place =
     ⊎_elim

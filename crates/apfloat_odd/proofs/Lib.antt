@@ -8,3 +8,4 @@ pub mod LastDigits
 pub mod Moved
 pub mod Wholes
 pub mod OddOnce
+pub mod Rooms

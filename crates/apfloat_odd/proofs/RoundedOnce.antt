@@ -273,7 +273,8 @@ past_once f g mode negative amount parts first answer precise room some odd seco
     let more = room.digits in
     let p : ℕ = f.precision in
     let o : ℕ = odd_between odd.below odd.above in
-    let order : odd.below ≤ odd.above = below_le_above p odd.below odd.above amount parts some odd.is_below odd.is_above in
+    let order : odd.below ≤ odd.above =
+    below_le_above p odd.below odd.above amount parts some odd.is_below odd.is_above in
     let past : ltb (largest f) o ≡ true =
     lt-ltb (largest f) o (between odd.below odd.above (is_odd_below odd.below odd.above) h order) in
     let is : first.value ≡ finite negative (largest f) = odd.value_is ∙ rw past refl in
@@ -293,7 +294,8 @@ past_once f g mode negative amount parts first answer precise room some odd seco
     let there = (delivered_exists g mode negative (amount * 2 ^ g.scale) (parts * 2 ^ f.scale) (omega arith)
     far.some).1.1 in
     let past' : ltb (largest g) there.pick ≡ true =
-    picks_past g mode negative (amount * 2 ^ g.scale) (parts * 2 ^ f.scale) there.pick (omega arith) far there.is_pick in
+    picks_past g mode negative (amount * 2 ^ g.scale) (parts * 2 ^ f.scale) there.pick (omega arith) far
+    there.is_pick in
     let raised : bits_of first.status ≡ (if f.ieee_flags || false then 20 else 16) =
     odd.status_is ∙ rw (lt-ltb (largest f) odd.below h) refl in
     let both = end_alike g mode negative ((2 ^ p - 1) * 2 ^ f.span * 2 ^ g.scale) (2 ^ f.scale) (amount * 2 ^ g.scale)

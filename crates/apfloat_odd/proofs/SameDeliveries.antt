@@ -202,7 +202,8 @@ by_rule false true x y z w r e h = h refl
 by_rule false false x y z w r e h = refl
 
 -- two magnitudes that compare alike in a format
-module _ (f : Format) (a b c d : ℕ) (halves : SameSides (f.precision + 1) 2 a b c d) (quarters : reads_halves f ≡ true → SameSides (f.precision + 1) 4 a b c d) (some : 0 < f.precision) where
+module _ (f : Format) (a b c d : ℕ) (halves : SameSides (f.precision + 1) 2 a b c d)
+    (quarters : reads_halves f ≡ true → SameSides (f.precision + 1) 4 a b c d) (some : 0 < f.precision) where
   tiny_same : (mode : Round) (negative : Bool) (pick : ℕ)
       → is_tiny f mode negative a b pick ≡ is_tiny f mode negative c d pick
   tiny_same mode negative pick =
@@ -233,5 +234,6 @@ module _ (f : Format) (a b c d : ℕ) (halves : SameSides (f.precision + 1) 2 a 
     pick = x.pick;
     is_pick = pick_same f.precision a b c d halves mode negative x.pick some p x.is_pick;
     value_is = x.value_is;
-    status_is = x.status_is ∙ sym (status_same mode negative x.pick (pick_on_grid f.precision mode negative c d x.pick x.is_pick));
+    status_is = x.status_is ∙
+        sym (status_same mode negative x.pick (pick_on_grid f.precision mode negative c d x.pick x.is_pick));
   }

@@ -44,7 +44,8 @@ outward_is false n parts = refl
 
 pub odd_is_toward : (negative : Bool) (n parts : ℕ) → eqb (n / parts % 2) 1 ≡ true
     → odd_whole n parts ≡ whole_pick TowardZero negative n parts
-odd_is_toward negative n parts e = rw e (sym (cond_same (eqb (n % parts) 0) (n / parts))) ∙ sym (toward_is negative n parts)
+odd_is_toward negative n parts e =
+    rw e (sym (cond_same (eqb (n % parts) 0) (n / parts))) ∙ sym (toward_is negative n parts)
 
 pub odd_is_outward : (negative : Bool) (n parts : ℕ) → eqb (n / parts % 2) 1 ≡ false
     → odd_whole n parts ≡ whole_pick (outward_mode negative) negative n parts

@@ -2,6 +2,7 @@
 
 ghost use Rattle.apfloat_odd.specs.Odd.{IsOddOfTruncated, IsToOddOnce};
 ghost use Rattle.apfloat_odd.specs.Again.{IsRoundedOnce, IsRoundedAgainOnce};
+ghost use Rattle.apfloat_odd.specs.Rooms.{AreRooms, HasNoRoom};
 ghost use Rattle.apfloat_odd.specs.Wholes.{IsOddIntegralOnce};
 
 /// What `to_odd` makes of an answer toward zero is the exact result rounded to odd.
@@ -18,6 +19,16 @@ pub fn odd_roundings_have_one_answer()
 /// once, in value and flags.
 pub fn rounding_again_is_rounding_once()
     ensures { IsRoundedOnce }
+{}
+
+/// Which built-in formats have room for others, with each rule of flags.
+pub fn formats_have_room()
+    ensures { AreRooms }
+{}
+
+/// `Half` has no room for `BFloat`, whose quantum is smaller.
+pub fn half_has_no_room_for_bfloat()
+    ensures { HasNoRoom }
 {}
 
 /// The second rounding has one result and one status.

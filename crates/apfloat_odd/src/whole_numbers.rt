@@ -16,7 +16,8 @@ use apfloat_ieee::{Flagged, IeeeFloat};
 
 /// The value of an unsigned integer, rounded to odd.
 pub fn from_u128_odd<S: Flagged>(input: u128) -> StatusAnd<IeeeFloat<S>>
-    ensures { let f = format_of S.Flagged in Gives (IsToOdd f false (input * 2 ^ f.scale) 1) result }
+    ensures { let f = format_of S.Flagged in
+        Gives (IsToOdd f false (input * 2 ^ f.scale) 1) result }
 {
     to_odd(IeeeFloat::from_u128_r(input, Round::TowardZero), false)
 }

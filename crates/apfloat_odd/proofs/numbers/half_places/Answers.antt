@@ -43,7 +43,8 @@ returns-else-first-MIN_EXP g c =
     let high = within.high in
     let precise = ranges.precision_low in
     let small = ranges.precision_high in
-    let digits : c.PRECISION-else-first-MIN_EXP.result ≡ g.S.Flagged.PRECISION = c.PRECISION-else-first-MIN_EXP.ensures in
+    let digits : c.PRECISION-else-first-MIN_EXP.result ≡ g.S.Flagged.PRECISION =
+    c.PRECISION-else-first-MIN_EXP.ensures in
     high_half_places f (quanta_of c.args.x) c.ilogb-first.result g.S.Flagged.MIN_EXP _ precise scale log
     (omega (arith, ints, c.if-first-MIN_EXP.false, c.MIN_EXP.ensures))
     (omega (arith, ints, digits, small, low, high))
