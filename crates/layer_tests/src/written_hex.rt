@@ -54,12 +54,27 @@ static SINGLES: [(u128, &str); 5] = [
 
 /// The same for quads.
 static QUADS: [(u128, &str); 6] = [
-    (0x3ffb_9999_9999_9999_9999_9999_9999_9999, "0x1.9999999999999999999999999999p-4"),
+    (
+        0x3ffb_9999_9999_9999_9999_9999_9999_9999,
+        "0x1.9999999999999999999999999999p-4",
+    ),
     (0x1, "0x1p-16494"),
-    (0x7ffe_ffff_ffff_ffff_ffff_ffff_ffff_ffff, "0x1.ffffffffffffffffffffffffffffp16383"),
-    (0x8000_ffff_ffff_ffff_ffff_ffff_ffff_ffff, "-0x1.fffffffffffffffffffffffffffep-16383"),
-    (0x4000_921f_b544_42d1_8469_898c_c517_01b8, "0x1.921fb54442d18469898cc51701b8p1"),
-    (0x3fff_0000_0000_0000_0000_0000_0000_0001, "0x1.0000000000000000000000000001p0"),
+    (
+        0x7ffe_ffff_ffff_ffff_ffff_ffff_ffff_ffff,
+        "0x1.ffffffffffffffffffffffffffffp16383",
+    ),
+    (
+        0x8000_ffff_ffff_ffff_ffff_ffff_ffff_ffff,
+        "-0x1.fffffffffffffffffffffffffffep-16383",
+    ),
+    (
+        0x4000_921f_b544_42d1_8469_898c_c517_01b8,
+        "0x1.921fb54442d18469898cc51701b8p1",
+    ),
+    (
+        0x3fff_0000_0000_0000_0000_0000_0000_0001,
+        "0x1.0000000000000000000000000001p0",
+    ),
 ];
 
 /// Asserts that the texts of the values are those of the rows.
@@ -264,20 +279,8 @@ static ROUNDED: [(u128, u32, Round, &str, Status); 30] = [
         "0x1.fffp1023",
         Status::INEXACT,
     ),
-    (
-        0x1,
-        2,
-        Round::NearestTiesToEven,
-        "0x1.00p-1074",
-        Status::OK,
-    ),
-    (
-        0x7,
-        0,
-        Round::TowardZero,
-        "0x1p-1072",
-        Status::INEXACT,
-    ),
+    (0x1, 2, Round::NearestTiesToEven, "0x1.00p-1074", Status::OK),
+    (0x7, 0, Round::TowardZero, "0x1p-1072", Status::INEXACT),
     (
         0xffef_ffff_ffff_ffff,
         0,
@@ -285,13 +288,7 @@ static ROUNDED: [(u128, u32, Round, &str, Status); 30] = [
         "-0x1p1024",
         Status::INEXACT,
     ),
-    (
-        0x0,
-        3,
-        Round::TowardPositive,
-        "0x0.000p0",
-        Status::OK,
-    ),
+    (0x0, 3, Round::TowardPositive, "0x0.000p0", Status::OK),
     (
         0x8000_0000_0000_0000,
         0,
