@@ -37,3 +37,5 @@ mod texts;
 mod unpacked;
 #[cfg(test)]
 mod written_digits;
+#[cfg(test)]
+mod written_hex;

@@ -1,0 +1,6 @@
+pub mod AlignedDigits
+pub mod Characters
+pub mod Lengths
+pub mod Numbers
+pub mod ReadTexts
+pub mod Roundings

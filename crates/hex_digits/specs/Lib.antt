@@ -1,0 +1,4 @@
+pub mod HexTexts
+pub mod ReadBack
+pub mod RoundedTexts
+pub mod WrittenTexts

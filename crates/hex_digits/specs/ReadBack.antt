@@ -1,0 +1,21 @@
+-- What the text of a value is read as (IEEE 754-2019 5.12).
+use Rattle.std.specs.Prelude.{◌≡◌, Result, Ok, Err}
+use Rattle.apfloat_model.specs.declared.parse_error.ParseError.{ParseError}
+use Rattle.apfloat_model.specs.declared.status.StatusAnd.{StatusAnd}
+use Rattle.apfloat_model.specs.formats.Datum.{Datum, finite, infinite, nan}
+use Rattle.apfloat_model.specs.formats.Format.{Format}
+use Rattle.apfloat_model.specs.formats.Nan.{is_signaling}
+use Rattle.apfloat_model.specs.rounding.Flags.{bits_of}
+use Rattle.apfloat_model.specs.rounding.Rounding.{ok_bits}
+use Rattle.apfloat_model.specs.texts.Readings.{read_nan}
+
+-- the value itself; of a NaN, the one of its sign and kind that has no payload
+abbrev pub back : Format → Datum → Datum
+back f (finite negative quanta) = finite negative quanta
+back f (infinite negative) = infinite negative
+back f (nan negative significand) = read_nan f negative (is_signaling f significand) 0
+
+-- the text is read, with no flag
+abbrev pub IsReadBack : Format → Datum → Result (StatusAnd Datum) ParseError → Type 0
+IsReadBack f x (Ok answer) = (answer.value ≡ back f x) × (bits_of answer.status ≡ ok_bits)
+IsReadBack f x (Err error) = ⊥
