@@ -1,0 +1,4 @@
+pub mod Usual
+pub mod Settling
+pub mod Once
+pub mod ProductTest

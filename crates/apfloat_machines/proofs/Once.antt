@@ -1,0 +1,82 @@
+-- Each operation of a machine has one answer.
+use Rattle.std.proofs.Common.{ℕ, Bool, false, ap, sym, ◌∙◌, ◌||◌}
+use Rattle.std.specs.Bool.{MatchBool}
+use Rattle.apfloat_model.specs.declared.kinds.Round.{Round}
+use Rattle.apfloat_model.specs.formats.Format.{Format}
+use Rattle.apfloat_model.specs.formats.Datum.{Datum}
+use Rattle.apfloat_model.specs.rounding.Answer.{IsAnswer}
+use Rattle.apfloat_model.specs.order.Classes.{is_nan}
+use Rattle.apfloat_model.specs.arithmetic.Sums.{IsSum, IsDifference}
+use Rattle.apfloat_model.specs.arithmetic.Products.{IsProduct}
+use Rattle.apfloat_model.specs.arithmetic.Quotients.{IsQuotient}
+use Rattle.apfloat_model.specs.arithmetic.Remainders.{IsTruncatedRemainder, IsNearestRemainder, truncated_quotient, nearest_quotient}
+use Rattle.apfloat_model.specs.arithmetic.Roots.{IsRoot}
+use Rattle.apfloat_model.specs.arithmetic.FusedSums.{IsFusedSum}
+use Rattle.apfloat_model.specs.arithmetic.Conversions.{IsConversion}
+use Rattle.apfloat_model.proofs.Once.{Once, answer_once, sum_once, difference_once, product_once, quotient_once, remainder_once, root_once, fused_sum_once, conversion_once, round_to_integral_once}
+use Rattle.apfloat_model.proofs.Determined.{same_answer, gives_once}
+use Rattle.apfloat_model.proofs.general.Choices.{match_case}
+use Rattle.apfloat_model.specs.whole_numbers.WholeNumbers.{IsRoundToIntegral}
+use Rattle.apfloat_model.specs.rounding.Rounding.{inexact_bit}
+use Rattle.apfloat_comparisons.specs.StatusFlags.{lowered}
+use Rattle.apfloat_comparisons.specs.WholeNumbers.{IsRoundedToIntegral}
+use Rattle.apfloat_machines.specs.declared.machine.Machine.{Machine}
+use Rattle.apfloat_machines.specs.Invalid.{is_invalid_sum, is_invalid_difference, is_invalid_product, is_invalid_quotient, is_invalid_remainder, is_invalid_root, is_invalid_fused}
+use Rattle.apfloat_machines.specs.Operations.{is_nan_of_three, IsOfTwo}
+use Rattle.apfloat_machines.specs.Conversions.{is_lost_nan}
+use Rattle.apfloat_machines.specs.Theorems.{HaveOneAnswer, ConversionsHaveOneAnswer, WholeNumbersHaveOneAnswer, FusedSumsHaveOneAnswer}
+
+of_two_once : (f : Format) (machine : Machine) (x y : Datum) (invalid : Bool) (Says : Datum → ℕ → Type 0)
+    → Once Says → Once (IsOfTwo f machine x y invalid Says)
+of_two_once f machine x y invalid Says once =
+    match_case Once (is_nan x || is_nan y) (IsAnswer _ _) (λ v s. MatchBool invalid (IsAnswer _ _ v s) (Says v s))
+    (answer_once _ _) (match_case Once invalid (IsAnswer _ _) Says (answer_once _ _) once)
+
+integral_once : (f : Format) (mode : Round) (x : Datum) → Once (IsRoundedToIntegral f mode x)
+integral_once f mode x v w r s h k =
+    let e = round_to_integral_once f mode x v w h.exact_status k.exact_status h.is_rounded k.is_rounded in
+    (e.0, h.status_is ∙ ap (λ t. lowered t inexact_bit) e.1 ∙ sym k.status_is)
+
+pub operations_once : (f : Format) (machine : Machine) → HaveOneAnswer f machine
+operations_once f machine =
+    record {
+      sum = λ mode x y. gives_once _ (of_two_once f machine x y (is_invalid_sum x y) (IsSum f mode x y)
+          (sum_once f mode x y));
+      difference = λ mode x y. gives_once _ (of_two_once f machine x y (is_invalid_difference x y)
+          (IsDifference f mode x y) (difference_once f mode x y));
+      product = λ mode x y. gives_once _ (of_two_once f machine x y (is_invalid_product x y) (IsProduct f mode x y)
+          (product_once f mode x y));
+      quotient = λ mode x y. gives_once _ (of_two_once f machine x y (is_invalid_quotient x y) (IsQuotient f mode x y)
+          (quotient_once f mode x y));
+      truncated = λ x y. gives_once _ (of_two_once f machine x y (is_invalid_remainder x y)
+          (IsTruncatedRemainder f x y) (remainder_once f truncated_quotient x y));
+      nearest = λ x y. gives_once _ (of_two_once f machine x y (is_invalid_remainder x y)
+          (IsNearestRemainder f x y) (remainder_once f nearest_quotient x y));
+      root = λ mode x. gives_once _ (of_two_once f machine x x (is_invalid_root x) (IsRoot f mode x)
+          (root_once f mode x));
+      exact = λ mode x. gives_once _ (of_two_once f machine x x false (IsRoundToIntegral f mode x)
+          (round_to_integral_once f mode x));
+      integral = λ mode x. gives_once _ (of_two_once f machine x x false (IsRoundedToIntegral f mode x)
+          (integral_once f mode x));
+    }
+
+pub fused_sums_once : FusedSumsHaveOneAnswer
+fused_sums_once f machine mode x y z =
+    gives_once _ (match_case Once (is_nan_of_three x y z) (IsAnswer _ _)
+    (λ v s. MatchBool (is_invalid_fused x y z) (IsAnswer _ _ v s) (IsFusedSum f mode x y z v s))
+    (answer_once _ _) (match_case Once (is_invalid_fused x y z) (IsAnswer _ _) (IsFusedSum f mode x y z)
+    (answer_once _ _) (fused_sum_once f mode x y z)))
+
+converted_once : (f g : Format) (mode : Round) (x : Datum)
+    → Once (λ v s. (loses : Bool) × IsConversion f g mode x v s loses)
+converted_once f g mode x v w r s h k =
+    let e = conversion_once f g mode x v w r s h.0 k.0 h.1 k.1 in (e.0, e.1)
+
+pub conversions_once : ConversionsHaveOneAnswer
+conversions_once f g machine mode x =
+    gives_once _ (match_case Once (is_lost_nan f machine x) (IsAnswer _ _)
+    (λ v s. (loses : Bool) × IsConversion f g mode x v s loses) (answer_once _ _) (converted_once f g mode x))
+
+pub whole_numbers_once : WholeNumbersHaveOneAnswer
+whole_numbers_once machine x of_nan whole answer other h k =
+    same_answer answer other (h.number_is ∙ sym k.number_is) (h.status_is ∙ sym k.status_is)

@@ -1,0 +1,209 @@
+-- What a machine makes of an answer is what its definition says of the operation.
+use Rattle.std.proofs.Common.{◌≡◌, ℕ, Bool, true, false, not, ◌&&◌, ◌||◌, refl, if◌then◌else◌}
+use Rattle.std.specs.Bool.{MatchBool}
+use Rattle.apfloat_model.specs.declared.kinds.Round.{Round}
+use Rattle.apfloat_model.specs.declared.kinds.NonfiniteBehavior.TheVariants.{IEEE754}
+use Rattle.apfloat_model.specs.formats.Format.{Format}
+use Rattle.apfloat_model.specs.formats.Datum.{Datum, finite, infinite, nan}
+use Rattle.apfloat_model.specs.formats.Nan.{invalid_bit, invalid_if, is_signaling_nan}
+use Rattle.apfloat_model.specs.rounding.Answer.{IsAnswer}
+use Rattle.apfloat_model.specs.order.Classes.{is_nan}
+use Rattle.apfloat_model.specs.arithmetic.Sums.{IsSum, IsDifference}
+use Rattle.apfloat_model.specs.arithmetic.Products.{IsProduct}
+use Rattle.apfloat_model.specs.arithmetic.Quotients.{IsQuotient}
+use Rattle.apfloat_model.specs.arithmetic.Remainders.{IsTruncatedRemainder, IsNearestRemainder, truncated_quotient, nearest_quotient}
+use Rattle.apfloat_model.specs.arithmetic.Roots.{IsRoot}
+use Rattle.apfloat_model.specs.arithmetic.FusedSums.{IsFusedSum}
+use Rattle.apfloat_model.specs.arithmetic.Conversions.{IsConversion}
+use Rattle.apfloat_model.specs.whole_numbers.WholeNumbers.{IsRoundToIntegral}
+use Rattle.apfloat_model.specs.declared.status.StatusAnd.{StatusAnd}
+use Rattle.apfloat_model.specs.rounding.Flags.{bits_of, Gives}
+use Rattle.apfloat_comparisons.specs.WholeNumbers.{IsRoundedToIntegral}
+use Rattle.apfloat_comparisons.specs.Extrema.{quieted_datum}
+use Rattle.apfloat_machines.specs.declared.machine.Machine.{Machine}
+use Rattle.apfloat_machines.specs.Machines.{nan_choice, fused_order}
+use Rattle.apfloat_machines.specs.Nans.{default_nan, nan_of, settled, takes_none}
+use Rattle.apfloat_machines.specs.Invalid.{is_invalid_sum, is_invalid_difference, is_invalid_product, is_invalid_quotient, is_invalid_remainder, is_invalid_root, is_invalid_fused}
+use Rattle.apfloat_machines.specs.Operations.{is_signaling_of_two, is_nan_of_three, IsOfTwo, IsMachineSum, IsMachineDifference, IsMachineProduct, IsMachineQuotient, IsMachineTruncatedRemainder, IsMachineNearestRemainder, IsMachineRoot, IsMachineIntegralExact, IsMachineIntegral, AreSettled, AreSettledOfOne, IsMachineFusedSum, taken_in_order, fused_takes_none, is_invalid_of_nans, settled_fused, settled_fused_flags}
+use Rattle.apfloat_machines.specs.Conversions.{is_lost_nan, settled_conversion, IsMachineConversion}
+use Rattle.apfloat_machines.proofs.Usual.{IsUsual, IsUsualNumber, sum_usual, difference_usual, product_usual, quotient_usual, remainder_usual, root_usual, exact_usual, integral_usual, fused_usual}
+
+-- ---- two operands
+
+-- by whether an operand is a NaN, and whether the operation is invalid
+two_cases : (nans invalid : Bool) (chosen default value : Datum) (flags status : ℕ) (Says : Datum → ℕ → Type 0)
+    → MatchBool nans ((is_nan value ≡ true) × (status ≡ flags)) (IsUsualNumber invalid value status)
+    → Says value status
+    → MatchBool nans
+    (IsAnswer (if nans then chosen else default) flags
+    (if is_nan value then (if nans then chosen else default) else value) status)
+    (MatchBool invalid
+    (IsAnswer default invalid_bit (if is_nan value then (if nans then chosen else default) else value) status)
+    (Says (if is_nan value then (if nans then chosen else default) else value) status))
+two_cases true invalid chosen default value flags status Says u h =
+    record { value_is = rw u.0 refl; status_is = u.1 }
+two_cases false true chosen default value flags status Says u h =
+    record { value_is = rw u.0 refl; status_is = u.1 }
+two_cases false false chosen default value flags status Says u h = rw u h
+
+of_two : (f : Format) (machine : Machine) (x y : Datum) (invalid : Bool) (Says : Datum → ℕ → Type 0)
+    (value : Datum) (status : ℕ) → IsUsual f x y invalid value status → Says value status
+    → IsOfTwo f machine x y invalid Says (settled f machine x y value) status
+of_two f machine x y invalid Says value status u h =
+    two_cases (is_nan x || is_nan y) invalid (nan_of f machine x y) (default_nan f machine) value
+    (invalid_if (is_signaling_of_two f x y)) status Says u h
+
+pub sum_settled : (f : Format) (machine : Machine) (mode : Round) (x y value : Datum) (status : ℕ)
+    → f.nonfinite ≡ IEEE754 → IsSum f mode x y value status
+    → IsMachineSum f machine mode x y (settled f machine x y value) status
+sum_settled f machine mode x y value status e h =
+    of_two f machine x y (is_invalid_sum x y) (IsSum f mode x y) value status
+    (sum_usual f mode x y value status e h) h
+
+pub difference_settled : (f : Format) (machine : Machine) (mode : Round) (x y value : Datum) (status : ℕ)
+    → f.nonfinite ≡ IEEE754 → IsDifference f mode x y value status
+    → IsMachineDifference f machine mode x y (settled f machine x y value) status
+difference_settled f machine mode x y value status e h =
+    of_two f machine x y (is_invalid_difference x y) (IsDifference f mode x y) value status
+    (difference_usual f mode x y value status e h) h
+
+pub product_settled : (f : Format) (machine : Machine) (mode : Round) (x y value : Datum) (status : ℕ)
+    → f.nonfinite ≡ IEEE754 → IsProduct f mode x y value status
+    → IsMachineProduct f machine mode x y (settled f machine x y value) status
+product_settled f machine mode x y value status e h =
+    of_two f machine x y (is_invalid_product x y) (IsProduct f mode x y) value status
+    (product_usual f mode x y value status e h) h
+
+pub quotient_settled : (f : Format) (machine : Machine) (mode : Round) (x y value : Datum) (status : ℕ)
+    → f.nonfinite ≡ IEEE754 → IsQuotient f mode x y value status
+    → IsMachineQuotient f machine mode x y (settled f machine x y value) status
+quotient_settled f machine mode x y value status e h =
+    of_two f machine x y (is_invalid_quotient x y) (IsQuotient f mode x y) value status
+    (quotient_usual f mode x y value status e h) h
+
+pub truncated_settled : (f : Format) (machine : Machine) (x y value : Datum) (status : ℕ)
+    → IsTruncatedRemainder f x y value status
+    → IsMachineTruncatedRemainder f machine x y (settled f machine x y value) status
+truncated_settled f machine x y value status h =
+    of_two f machine x y (is_invalid_remainder x y) (IsTruncatedRemainder f x y) value status
+    (remainder_usual f truncated_quotient x y value status h) h
+
+pub nearest_settled : (f : Format) (machine : Machine) (x y value : Datum) (status : ℕ)
+    → IsNearestRemainder f x y value status
+    → IsMachineNearestRemainder f machine x y (settled f machine x y value) status
+nearest_settled f machine x y value status h =
+    of_two f machine x y (is_invalid_remainder x y) (IsNearestRemainder f x y) value status
+    (remainder_usual f nearest_quotient x y value status h) h
+
+pub root_settled : (f : Format) (machine : Machine) (mode : Round) (x value : Datum) (status : ℕ)
+    → f.nonfinite ≡ IEEE754 → IsRoot f mode x value status
+    → IsMachineRoot f machine mode x (settled f machine x x value) status
+root_settled f machine mode x value status e h =
+    of_two f machine x x (is_invalid_root x) (IsRoot f mode x) value status
+    (root_usual f mode x value status e h) h
+
+pub exact_settled : (f : Format) (machine : Machine) (mode : Round) (x value : Datum) (status : ℕ)
+    → IsRoundToIntegral f mode x value status
+    → IsMachineIntegralExact f machine mode x (settled f machine x x value) status
+exact_settled f machine mode x value status h =
+    of_two f machine x x false (IsRoundToIntegral f mode x) value status (exact_usual f mode x value status h) h
+
+pub integral_settled : (f : Format) (machine : Machine) (mode : Round) (x value : Datum) (status : ℕ)
+    → IsRoundedToIntegral f mode x value status
+    → IsMachineIntegral f machine mode x (settled f machine x x value) status
+integral_settled f machine mode x value status h =
+    of_two f machine x x false (IsRoundedToIntegral f mode x) value status (integral_usual f mode x value status h) h
+
+-- ---- the calls
+
+pub are_settled : (f : Format) (machine : Machine) (x y : Datum) (answer result : StatusAnd Datum)
+    → result.value ≡ settled f machine x y answer.value → result.status ≡ answer.status
+    → f.nonfinite ≡ IEEE754 → AreSettled f machine x y answer result
+are_settled f machine x y answer result v s e =
+    rw (v, s) (record {
+      sum = λ mode. sum_settled f machine mode x y answer.value (bits_of answer.status) e;
+      difference = λ mode. difference_settled f machine mode x y answer.value (bits_of answer.status) e;
+      product = λ mode. product_settled f machine mode x y answer.value (bits_of answer.status) e;
+      quotient = λ mode. quotient_settled f machine mode x y answer.value (bits_of answer.status) e;
+      truncated = truncated_settled f machine x y answer.value (bits_of answer.status);
+      nearest = nearest_settled f machine x y answer.value (bits_of answer.status);
+    })
+
+pub are_settled_of_one : (f : Format) (machine : Machine) (x : Datum) (answer result : StatusAnd Datum)
+    → result.value ≡ settled f machine x x answer.value → result.status ≡ answer.status
+    → f.nonfinite ≡ IEEE754 → AreSettledOfOne f machine x answer result
+are_settled_of_one f machine x answer result v s e =
+    rw (v, s) (record {
+      root = λ mode. root_settled f machine mode x answer.value (bits_of answer.status) e;
+      exact = λ mode. exact_settled f machine mode x answer.value (bits_of answer.status);
+      integral = λ mode. integral_settled f machine mode x answer.value (bits_of answer.status);
+    })
+
+-- ---- fused sums
+
+fused_cases : (nans keeps invalid : Bool) (chosen default value : Datum) (flags status : ℕ)
+    (Says : Datum → ℕ → Type 0)
+    → MatchBool nans (is_nan value ≡ true) (IsUsualNumber invalid value status)
+    → Says value status
+    → MatchBool nans
+    (IsAnswer (if nans && keeps then chosen else default) flags
+    (if is_nan value then (if nans && keeps then chosen else default) else value)
+    (if is_nan value && nans then flags else status))
+    (MatchBool invalid
+    (IsAnswer default invalid_bit (if is_nan value then (if nans && keeps then chosen else default) else value)
+    (if is_nan value && nans then flags else status))
+    (Says (if is_nan value then (if nans && keeps then chosen else default) else value)
+    (if is_nan value && nans then flags else status)))
+fused_cases true keeps invalid chosen default value flags status Says u h =
+    record { value_is = rw u refl; status_is = rw u refl }
+fused_cases false keeps true chosen default value flags status Says u h =
+    record { value_is = rw u.0 refl; status_is = rw u.0 u.1 }
+fused_cases false keeps false chosen default value flags status Says u h = rw u h
+
+pub fused_settled : (f : Format) (machine : Machine) (mode : Round) (x y z value : Datum) (status : ℕ)
+    → f.nonfinite ≡ IEEE754 → IsFusedSum f mode x y z value status
+    → IsMachineFusedSum f machine mode x y z (settled_fused f machine x y z value)
+    (settled_fused_flags f machine x y z value status)
+fused_settled f machine mode x y z value status e h =
+    fused_cases (is_nan_of_three x y z) (not (fused_takes_none f machine x y z)) (is_invalid_fused x y z)
+    (quieted_datum f (taken_in_order (fused_order machine) (nan_choice machine) f x y z)) (default_nan f machine) value
+    (invalid_if (is_invalid_of_nans f machine x y z)) status (IsFusedSum f mode x y z)
+    (fused_usual f mode x y z value status e h) h
+
+pub fused_is_settled : (f : Format) (machine : Machine) (x y z : Datum) (answer result : StatusAnd Datum)
+    → result.value ≡ settled_fused f machine x y z answer.value
+    → bits_of result.status ≡ settled_fused_flags f machine x y z answer.value (bits_of answer.status)
+    → f.nonfinite ≡ IEEE754 → (mode : Round) → Gives (IsFusedSum f mode x y z) answer
+    → Gives (IsMachineFusedSum f machine mode x y z) result
+fused_is_settled f machine x y z answer result v s e mode h =
+    rw (v, s) (fused_settled f machine mode x y z answer.value (bits_of answer.status) e h)
+
+-- ---- conversions
+
+conversion_status : (f g : Format) (mode : Round) (x value : Datum) (status : ℕ) (loses : Bool) → is_nan x ≡ true
+    → IsConversion f g mode x value status loses → status ≡ invalid_if (is_signaling_nan f x)
+conversion_status f g mode (nan b s) value status loses e h = h.status_is
+conversion_status f g mode (infinite b) value status loses e h = cc
+conversion_status f g mode (finite b n) value status loses e h = cc
+
+left : (p q : Bool) → (p && q) ≡ true → p ≡ true
+left true q e = refl
+left false q e = e
+
+conversion_cases : (lost : Bool) (default value : Datum) (flags status : ℕ) (Says : Datum → ℕ → Type 0)
+    → (lost ≡ true → status ≡ flags) → Says value status
+    → MatchBool lost (IsAnswer default flags (if lost then default else value) status)
+    (Says (if lost then default else value) status)
+conversion_cases true default value flags status Says e h = record { value_is = refl; status_is = e refl }
+conversion_cases false default value flags status Says e h = h
+
+pub conversion_settled : (f g : Format) (machine : Machine) (mode : Round) (x value : Datum) (status : ℕ) (loses : Bool)
+    → IsConversion f g mode x value status loses
+    → IsMachineConversion f g machine mode x (settled_conversion f g machine x value) status
+conversion_settled f g machine mode x value status loses h =
+    conversion_cases (is_lost_nan f machine x) (default_nan g machine) value
+    (invalid_if (is_signaling_nan f x)) status
+    (λ v s. (loses : Bool) × IsConversion f g mode x v s loses)
+    (λ e. conversion_status f g mode x value status loses
+    (left (is_nan x) (takes_none (nan_choice machine) f x x) e) h)
+    (loses, h)

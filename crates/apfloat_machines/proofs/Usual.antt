@@ -1,0 +1,367 @@
+-- When the value of an operation is a NaN, in a format with infinities: if an operand is one, or it is invalid.
+use Rattle.std.proofs.Common.{◌≡◌, ℕ, ◌-◌, ◌*◌, ◌^◌, Bool, true, false, not, ◌&&◌, ◌||◌, eqb, ltb, refl, ap, ◌∙◌, subst, if◌then◌else◌}
+use Rattle.std.specs.Bool.{MatchBool}
+use Rattle.apfloat_model.specs.declared.kinds.Round.{Round}
+use Rattle.apfloat_model.specs.declared.kinds.NonfiniteBehavior.{NonfiniteBehavior}
+use Rattle.apfloat_model.specs.declared.kinds.NonfiniteBehavior.TheVariants.{IEEE754, NanOnly, NanNegativeZero}
+use Rattle.apfloat_model.specs.formats.Constants.{infinity_of}
+use Rattle.apfloat_model.specs.formats.Format.{Format, largest, nan_base}
+use Rattle.apfloat_model.specs.formats.Datum.{Datum, finite, infinite, nan}
+use Rattle.apfloat_model.specs.formats.Nan.{invalid_bit, invalid_if, is_signaling, IsInvalid, qnan}
+use Rattle.apfloat_model.specs.rounding.Answer.{IsAnswer}
+use Rattle.apfloat_model.specs.rounding.Negation.{negated, negated_zero}
+use Rattle.apfloat_model.specs.rounding.Rounding.{ok_bits, past_largest, signed_quanta, zero_sign, leads_out, delivered_value, IsDelivered}
+use Rattle.apfloat_model.specs.order.Classes.{is_nan, is_infinite, is_negative, is_finite}
+use Rattle.apfloat_model.specs.arithmetic.Exact.{same_sign, product_sign}
+use Rattle.apfloat_model.specs.arithmetic.Sums.{IsSum, IsDifference}
+use Rattle.apfloat_model.specs.arithmetic.Products.{IsProduct}
+use Rattle.apfloat_model.specs.arithmetic.Quotients.{IsQuotient, div_by_zero_bit}
+use Rattle.apfloat_model.specs.arithmetic.Remainders.{IsRemainder, rest_of}
+use Rattle.apfloat_model.specs.arithmetic.Roots.{IsRoot, IsRootOfNumber, IsRootOfInfinity}
+use Rattle.apfloat_model.specs.arithmetic.FusedSums.{IsFusedSum}
+use Rattle.apfloat_model.specs.whole_numbers.WholeNumbers.{IsRoundToIntegral, whole_quanta}
+use Rattle.apfloat_model.specs.rounding.Rounding.{inexact_bit}
+use Rattle.apfloat_comparisons.specs.StatusFlags.{lowered}
+use Rattle.apfloat_comparisons.specs.WholeNumbers.{IsRoundedToIntegral}
+use Rattle.apfloat_machines.specs.Invalid.{is_invalid_sum, is_invalid_difference, is_invalid_product, is_invalid_quotient, is_invalid_remainder, is_invalid_root, is_invalid_fused}
+use Rattle.apfloat_machines.specs.Operations.{is_signaling_of_two, is_nan_of_three}
+
+-- ---- what is to be shown
+
+-- of operands that are not NaNs: a NaN with INVALID_OP, or no NaN
+abbrev pub IsUsualNumber : Bool → Datum → ℕ → Type 0
+IsUsualNumber invalid value status =
+    MatchBool invalid ((is_nan value ≡ true) × (status ≡ invalid_bit)) (is_nan value ≡ false)
+
+-- of any two operands
+abbrev pub IsUsual : Format → Datum → Datum → Bool → Datum → ℕ → Type 0
+IsUsual f x y invalid value status =
+    MatchBool (is_nan x || is_nan y)
+    ((is_nan value ≡ true) × (status ≡ invalid_if (is_signaling_of_two f x y)))
+    (IsUsualNumber invalid value status)
+
+-- of any three
+abbrev pub IsUsualFused : Datum → Datum → Datum → Datum → ℕ → Type 0
+IsUsualFused x y z value status =
+    MatchBool (is_nan_of_three x y z) (is_nan value ≡ true) (IsUsualNumber (is_invalid_fused x y z) value status)
+
+-- ---- values that are no NaNs
+
+number_if : (test : Bool) (x y : Datum) → is_nan x ≡ false → is_nan y ≡ false → is_nan (if test then x else y) ≡ false
+number_if true x y p q = p
+number_if false x y p q = q
+
+past_number : (kind : NonfiniteBehavior) (base : ℕ) (negative : Bool) → kind ≡ IEEE754
+    → is_nan (past_largest kind base negative) ≡ false
+past_number IEEE754 base negative e = refl
+past_number NanOnly base negative e = cc
+past_number NanNegativeZero base negative e = cc
+
+quanta_number : (kind : NonfiniteBehavior) (negative : Bool) (quanta : ℕ)
+    → is_nan (signed_quanta kind negative quanta) ≡ false
+quanta_number kind negative quanta =
+    number_if (eqb quanta 0) (finite (zero_sign kind negative) 0) (finite negative quanta) refl refl
+
+value_number : (f : Format) (mode : Round) (negative : Bool) (pick : ℕ) → f.nonfinite ≡ IEEE754
+    → is_nan (delivered_value f mode negative pick) ≡ false
+value_number f mode negative pick e =
+    number_if (ltb (largest f) pick)
+    (if leads_out mode negative then past_largest f.nonfinite (nan_base f) negative else finite negative (largest f))
+    (signed_quanta f.nonfinite negative pick)
+    (number_if (leads_out mode negative) (past_largest f.nonfinite (nan_base f) negative) (finite negative (largest f))
+    (past_number f.nonfinite (nan_base f) negative e) refl)
+    (quanta_number f.nonfinite negative pick)
+
+is_of : (value given : Datum) (test : Bool) → value ≡ given → is_nan given ≡ test → is_nan value ≡ test
+is_of value given test e p = ap (λ (v : Datum). is_nan v) e ∙ p
+
+delivered_number : (f : Format) (mode : Round) (negative : Bool) (amount parts : ℕ) (value : Datum) (status : ℕ)
+    → f.nonfinite ≡ IEEE754 → IsDelivered f mode negative amount parts value status → is_nan value ≡ false
+delivered_number f mode negative amount parts value status e h =
+    is_of value (delivered_value f mode negative h.pick) false h.value_is (value_number f mode negative h.pick e)
+
+rest_number : (kind : NonfiniteBehavior) (negative : Bool) (m taken : ℕ) → is_nan (rest_of kind negative m taken) ≡ false
+rest_number kind negative m taken =
+    number_if (ltb m taken) (signed_quanta kind (not negative) (taken - m)) (signed_quanta kind negative (m - taken))
+    (quanta_number kind (not negative) (taken - m)) (quanta_number kind negative (m - taken))
+
+-- ---- results given outright
+
+of_nan : (negative : Bool) (significand flags : ℕ) (value : Datum) (status : ℕ)
+    → IsAnswer (nan negative significand) flags value status → (is_nan value ≡ true) × (status ≡ flags)
+of_nan negative significand flags value status h =
+    (is_of value (nan negative significand) true h.value_is refl, h.status_is)
+
+of_number : (given : Datum) (flags : ℕ) (value : Datum) (status : ℕ) → is_nan given ≡ false
+    → IsAnswer given flags value status → is_nan value ≡ false
+of_number given flags value status e h = is_of value given false h.value_is e
+
+invalid_or : (f : Format) (test : Bool) (given : Datum) (flags : ℕ) (value : Datum) (status : ℕ) → is_nan given ≡ false
+    → MatchBool test (IsInvalid f value status) (IsAnswer given flags value status) → IsUsualNumber test value status
+invalid_or f true given flags value status e h = of_nan _ _ _ value status h
+invalid_or f false given flags value status e h = of_number given flags value status e h
+
+or_invalid : (f : Format) (test : Bool) (given : Datum) (flags : ℕ) (value : Datum) (status : ℕ) → is_nan given ≡ false
+    → MatchBool test (IsAnswer given flags value status) (IsInvalid f value status)
+    → IsUsualNumber (not test) value status
+or_invalid f true given flags value status e h = of_number given flags value status e h
+or_invalid f false given flags value status e h = of_nan _ _ _ value status h
+
+-- ---- sums and differences
+
+pub sum_usual : (f : Format) (mode : Round) (x y value : Datum) (status : ℕ) → f.nonfinite ≡ IEEE754
+    → IsSum f mode x y value status → IsUsual f x y (is_invalid_sum x y) value status
+sum_usual f mode (nan b s) y value status e h = of_nan _ _ _ value status h
+sum_usual f mode (finite b m) (nan c t) value status e h = of_nan _ _ _ value status h
+sum_usual f mode (infinite b) (nan c t) value status e h = of_nan _ _ _ value status h
+sum_usual f mode (infinite b) (infinite c) value status e h =
+    or_invalid f (same_sign b c) (infinite b) ok_bits value status refl h
+sum_usual f mode (infinite b) (finite c n) value status e h = of_number (infinite b) ok_bits value status refl h
+sum_usual f mode (finite b m) (infinite c) value status e h = of_number (infinite c) ok_bits value status refl h
+sum_usual f mode (finite b m) (finite c n) value status e h = delivered_number f mode _ _ _ value status e h
+
+-- a finite datum negated
+finite_if : (test : Bool) (x y : Datum) → is_finite x ≡ true → is_finite y ≡ true
+    → is_finite (if test then x else y) ≡ true
+finite_if true x y p q = p
+finite_if false x y p q = q
+
+zero_finite : (kind : NonfiniteBehavior) (negative : Bool) → is_finite (negated_zero kind negative) ≡ true
+zero_finite IEEE754 negative = refl
+zero_finite NanOnly negative = refl
+zero_finite NanNegativeZero negative = refl
+
+negated_finite : (kind : NonfiniteBehavior) (negative : Bool) (quanta : ℕ)
+    → is_finite (negated kind (finite negative quanta)) ≡ true
+negated_finite kind negative quanta =
+    finite_if (eqb quanta 0) (negated_zero kind negative) (finite (not negative) quanta) (zero_finite kind negative)
+    refl
+
+-- a number or an infinity plus a number
+plus_number : (f : Format) (mode : Round) (x y value : Datum) (status : ℕ) → f.nonfinite ≡ IEEE754
+    → is_nan x ≡ false → is_finite y ≡ true → IsSum f mode x y value status → is_nan value ≡ false
+plus_number f mode (nan b s) y value status e p q h = cc
+plus_number f mode (finite b m) (nan c t) value status e p q h = cc
+plus_number f mode (infinite b) (nan c t) value status e p q h = cc
+plus_number f mode (infinite b) (infinite c) value status e p q h = cc
+plus_number f mode (finite b m) (infinite c) value status e p q h = cc
+plus_number f mode (infinite b) (finite c n) value status e p q h = of_number (infinite b) ok_bits value status refl h
+plus_number f mode (finite b m) (finite c n) value status e p q h = delivered_number f mode _ _ _ value status e h
+
+pub difference_usual : (f : Format) (mode : Round) (x y value : Datum) (status : ℕ) → f.nonfinite ≡ IEEE754
+    → IsDifference f mode x y value status → IsUsual f x y (is_invalid_difference x y) value status
+difference_usual f mode (nan b s) y value status e h = of_nan _ _ _ value status h
+difference_usual f mode (finite b m) (nan c t) value status e h = of_nan _ _ _ value status h
+difference_usual f mode (infinite b) (nan c t) value status e h = of_nan _ _ _ value status h
+difference_usual f mode (infinite b) (infinite c) value status e h =
+    or_invalid f (same_sign b (not c)) (infinite b) ok_bits value status refl h
+difference_usual f mode (infinite b) (finite c n) value status e h =
+    plus_number f mode (infinite b) (negated f.nonfinite (finite c n)) value status e refl
+    (negated_finite f.nonfinite c n) h
+difference_usual f mode (finite b m) (infinite c) value status e h =
+    of_number (infinite (not c)) ok_bits value status refl h
+difference_usual f mode (finite b m) (finite c n) value status e h =
+    plus_number f mode (finite b m) (negated f.nonfinite (finite c n)) value status e refl
+    (negated_finite f.nonfinite c n) h
+
+-- ---- products, quotients, remainders and roots
+
+pub product_usual : (f : Format) (mode : Round) (x y value : Datum) (status : ℕ) → f.nonfinite ≡ IEEE754
+    → IsProduct f mode x y value status → IsUsual f x y (is_invalid_product x y) value status
+product_usual f mode (nan b s) y value status e h = of_nan _ _ _ value status h
+product_usual f mode (finite b m) (nan c t) value status e h = of_nan _ _ _ value status h
+product_usual f mode (infinite b) (nan c t) value status e h = of_nan _ _ _ value status h
+product_usual f mode (finite b m) (infinite c) value status e h =
+    invalid_or f (eqb m 0) (infinite (product_sign b c)) ok_bits value status refl h
+product_usual f mode (infinite b) (finite c n) value status e h =
+    invalid_or f (eqb n 0) (infinite (product_sign b c)) ok_bits value status refl h
+product_usual f mode (infinite b) (infinite c) value status e h =
+    of_number (infinite (product_sign b c)) ok_bits value status refl h
+product_usual f mode (finite b m) (finite c n) value status e h = delivered_number f mode _ _ _ value status e h
+
+-- two numbers, by whether each is a zero
+quotient_of_numbers : (f : Format) (mode : Round) (p q negative : Bool) (amount parts : ℕ) (value : Datum) (status : ℕ)
+    → f.nonfinite ≡ IEEE754
+    → MatchBool p (MatchBool q (IsInvalid f value status)
+    (IsAnswer (infinity_of f negative) div_by_zero_bit value status))
+    (IsDelivered f mode negative amount parts value status)
+    → IsUsualNumber (p && q) value status
+quotient_of_numbers f mode true true negative amount parts value status e h = of_nan _ _ _ value status h
+quotient_of_numbers f mode true false negative amount parts value status e h =
+    of_number (infinity_of f negative) div_by_zero_bit value status
+    (past_number f.nonfinite (nan_base f) negative e) h
+quotient_of_numbers f mode false q negative amount parts value status e h =
+    delivered_number f mode negative amount parts value status e h
+
+pub quotient_usual : (f : Format) (mode : Round) (x y value : Datum) (status : ℕ) → f.nonfinite ≡ IEEE754
+    → IsQuotient f mode x y value status → IsUsual f x y (is_invalid_quotient x y) value status
+quotient_usual f mode (nan b s) y value status e h = of_nan _ _ _ value status h
+quotient_usual f mode (finite b m) (nan c t) value status e h = of_nan _ _ _ value status h
+quotient_usual f mode (infinite b) (nan c t) value status e h = of_nan _ _ _ value status h
+quotient_usual f mode (infinite b) (infinite c) value status e h = of_nan _ _ _ value status h
+quotient_usual f mode (infinite b) (finite c n) value status e h =
+    of_number (infinite (product_sign b c)) ok_bits value status refl h
+quotient_usual f mode (finite b m) (infinite c) value status e h =
+    of_number (signed_quanta f.nonfinite (product_sign b c) 0) ok_bits value status
+    (quanta_number f.nonfinite (product_sign b c) 0) h
+quotient_usual f mode (finite b m) (finite c n) value status e h =
+    quotient_of_numbers f mode (eqb n 0) (eqb m 0) (product_sign b c) (m * 2 ^ f.scale) n value status e h
+
+pub remainder_usual : (f : Format) (quotient : ℕ → ℕ → ℕ) (x y value : Datum) (status : ℕ)
+    → IsRemainder f quotient x y value status → IsUsual f x y (is_invalid_remainder x y) value status
+remainder_usual f quotient (nan b s) y value status h = of_nan _ _ _ value status h
+remainder_usual f quotient (finite b m) (nan c t) value status h = of_nan _ _ _ value status h
+remainder_usual f quotient (infinite b) (nan c t) value status h = of_nan _ _ _ value status h
+remainder_usual f quotient (infinite b) (infinite c) value status h = of_nan _ _ _ value status h
+remainder_usual f quotient (infinite b) (finite c n) value status h = of_nan _ _ _ value status h
+remainder_usual f quotient (finite b m) (infinite c) value status h =
+    of_number (finite b m) ok_bits value status refl h
+remainder_usual f quotient (finite b m) (finite c n) value status h =
+    invalid_or f (eqb n 0) (rest_of f.nonfinite b m (n * quotient m n)) ok_bits value status
+    (rest_number f.nonfinite b m (n * quotient m n)) h
+
+-- a number, by whether it is a zero, and its sign
+root_of_number : (f : Format) (mode : Round) (test b : Bool) (n : ℕ) (value : Datum) (status : ℕ)
+    → f.nonfinite ≡ IEEE754
+    → MatchBool test (IsAnswer (finite b 0) ok_bits value status) (IsRootOfNumber f mode b n value status)
+    → IsUsualNumber (not test && b) value status
+root_of_number f mode true b n value status e h = of_number (finite b 0) ok_bits value status refl h
+root_of_number f mode false true n value status e h = of_nan _ _ _ value status h
+root_of_number f mode false false n value status e h =
+    is_of value (delivered_value f mode false h.pick) false h.value_is (value_number f mode false h.pick e)
+
+root_of_infinity : (f : Format) (b : Bool) (value : Datum) (status : ℕ)
+    → IsRootOfInfinity f b value status → IsUsualNumber b value status
+root_of_infinity f true value status h = of_nan _ _ _ value status h
+root_of_infinity f false value status h = of_number (infinite false) ok_bits value status refl h
+
+same_or : (test : Bool) → test ≡ (test || test)
+same_or true = refl
+same_or false = refl
+
+pub root_usual : (f : Format) (mode : Round) (x value : Datum) (status : ℕ) → f.nonfinite ≡ IEEE754
+    → IsRoot f mode x value status → IsUsual f x x (is_invalid_root x) value status
+root_usual f mode (nan b s) value status e h =
+    let k = of_nan _ _ _ value status h in
+    (k.0, k.1 ∙ ap (λ (test : Bool). invalid_if test) (same_or (is_signaling f s)))
+root_usual f mode (infinite b) value status e h = root_of_infinity f b value status h
+root_usual f mode (finite b n) value status e h = root_of_number f mode (eqb n 0) b n value status e h
+
+pub exact_usual : (f : Format) (mode : Round) (x value : Datum) (status : ℕ)
+    → IsRoundToIntegral f mode x value status → IsUsual f x x false value status
+exact_usual f mode (nan b s) value status h =
+    let k = of_nan _ _ _ value status h in
+    (k.0, k.1 ∙ ap (λ (test : Bool). invalid_if test) (same_or (is_signaling f s)))
+exact_usual f mode (infinite b) value status h = of_number (infinite b) ok_bits value status refl h
+exact_usual f mode (finite b n) value status h =
+    is_of value (signed_quanta f.nonfinite b (whole_quanta f mode b n)) false h.value_is
+    (quanta_number f.nonfinite b (whole_quanta f mode b n))
+
+-- the flags of a NaN have no INEXACT
+lowered_invalid : (test : Bool) → lowered (invalid_if test) inexact_bit ≡ invalid_if test
+lowered_invalid true = refl
+lowered_invalid false = refl
+
+lowered_usual : (nans invalid : Bool) (value : Datum) (status : ℕ)
+    → MatchBool nans ((is_nan value ≡ true) × (status ≡ invalid_if invalid)) (is_nan value ≡ false)
+    → MatchBool nans ((is_nan value ≡ true) × (lowered status inexact_bit ≡ invalid_if invalid)) (is_nan value ≡ false)
+lowered_usual true invalid value status h =
+    (h.0, ap (λ s. lowered s inexact_bit) h.1 ∙ lowered_invalid invalid)
+lowered_usual false invalid value status h = h
+
+pub integral_usual : (f : Format) (mode : Round) (x value : Datum) (status : ℕ)
+    → IsRoundedToIntegral f mode x value status → IsUsual f x x false value status
+integral_usual f mode x value status h =
+    rw h.status_is
+    (lowered_usual (is_nan x || is_nan x) (is_signaling_of_two f x x) value h.exact_status
+    (exact_usual f mode x value h.exact_status h.is_rounded))
+
+-- ---- fused sums
+
+-- a product that is a NaN, whatever is added
+nan_product : (f : Format) (mode : Round) (test b : Bool) (s : ℕ) (z value : Datum) (flags status : ℕ)
+    → MatchBool test (IsSum f mode (nan b s) z value status) (IsAnswer (nan b s) flags value status)
+    → is_nan value ≡ true
+nan_product f mode true b s z value flags status h = (of_nan _ _ _ value status h).0
+nan_product f mode false b s z value flags status h = (of_nan _ _ _ value status h).0
+
+nan_is : (f : Format) (mode : Round) (b : Bool) (s given : ℕ) (z value product : Datum) (flags status : ℕ)
+    → IsAnswer (nan b s) given product flags
+    → MatchBool (eqb flags ok_bits) (IsSum f mode product z value status) (IsAnswer product flags value status)
+    → is_nan value ≡ true
+nan_is f mode b s given z value product flags status p h =
+    nan_product f mode (eqb flags ok_bits) b s z value flags status
+    (subst (λ (d : Datum). MatchBool (eqb flags ok_bits) (IsSum f mode d z value status)
+    (IsAnswer d flags value status)) p.value_is h)
+
+-- an invalid product: whatever is added, the result is its NaN
+invalid_product : (f : Format) (mode : Round) (z value product : Datum) (flags status : ℕ)
+    → IsInvalid f product flags
+    → MatchBool (eqb flags ok_bits) (IsSum f mode product z value status) (IsAnswer product flags value status)
+    → (is_nan value ≡ true) × (status ≡ invalid_bit)
+invalid_product f mode z value product flags status p h =
+    let k : IsAnswer product invalid_bit value status =
+    subst (λ (t : ℕ). MatchBool (eqb t ok_bits) (IsSum f mode product z value status)
+    (IsAnswer product t value status)) p.status_is h in
+    (is_of value product true k.value_is (is_of product (qnan f 0) true p.value_is refl), k.status_is)
+
+-- an infinite product
+infinite_plus : (f : Format) (mode : Round) (b : Bool) (z value : Datum) (status : ℕ)
+    → IsSum f mode (infinite b) z value status
+    → MatchBool (is_nan z) (is_nan value ≡ true)
+    (IsUsualNumber (is_infinite z && not (same_sign b (is_negative z))) value status)
+infinite_plus f mode b (nan d t) value status h = (of_nan _ _ _ value status h).0
+infinite_plus f mode b (finite d n) value status h = of_number (infinite b) ok_bits value status refl h
+infinite_plus f mode b (infinite d) value status h =
+    or_invalid f (same_sign b d) (infinite b) ok_bits value status refl h
+
+plus_infinite : (f : Format) (mode : Round) (b : Bool) (z value product : Datum) (flags status : ℕ)
+    → IsAnswer (infinite b) ok_bits product flags
+    → MatchBool (eqb flags ok_bits) (IsSum f mode product z value status) (IsAnswer product flags value status)
+    → MatchBool (is_nan z) (is_nan value ≡ true)
+    (IsUsualNumber (is_infinite z && not (same_sign b (is_negative z))) value status)
+plus_infinite f mode b z value product flags status p h =
+    let k : MatchBool (eqb ok_bits ok_bits) (IsSum f mode product z value status)
+    (IsAnswer product ok_bits value status) =
+    subst (λ (t : ℕ). MatchBool (eqb t ok_bits) (IsSum f mode product z value status)
+    (IsAnswer product t value status)) p.status_is h in
+    infinite_plus f mode b z value status
+    (subst (λ (d : Datum). IsSum f mode d z value status) p.value_is k)
+
+both : (z value : Datum) (status : ℕ) (test : Bool) → (is_nan value ≡ true) × (status ≡ invalid_bit)
+    → MatchBool (is_nan z) (is_nan value ≡ true) (IsUsualNumber (true || test) value status)
+both (nan d t) value status test h = h.0
+both (finite d n) value status test h = h
+both (infinite d) value status test h = h
+
+-- a product with an infinite factor, which is invalid as a test says
+special_plus : (f : Format) (mode : Round) (test b : Bool) (z value product : Datum) (flags status : ℕ)
+    → MatchBool test (IsInvalid f product flags) (IsAnswer (infinite b) ok_bits product flags)
+    → MatchBool (eqb flags ok_bits) (IsSum f mode product z value status) (IsAnswer product flags value status)
+    → MatchBool (is_nan z) (is_nan value ≡ true)
+    (IsUsualNumber (test || (is_infinite z && not (same_sign b (is_negative z)))) value status)
+special_plus f mode true b z value product flags status p h =
+    both z value status (is_infinite z && not (same_sign b (is_negative z)))
+    (invalid_product f mode z value product flags status p h)
+special_plus f mode false b z value product flags status p h =
+    plus_infinite f mode b z value product flags status p h
+
+pub fused_usual : (f : Format) (mode : Round) (x y z value : Datum) (status : ℕ) → f.nonfinite ≡ IEEE754
+    → IsFusedSum f mode x y z value status → IsUsualFused x y z value status
+fused_usual f mode (finite b l) (finite c m) (finite d n) value status e h =
+    delivered_number f mode _ _ _ value status e h
+fused_usual f mode (finite b l) (finite c m) (infinite d) value status e h =
+    of_number (infinite d) ok_bits value status refl h
+fused_usual f mode (finite b l) (finite c m) (nan d t) value status e h = (of_nan _ _ _ value status h).0
+fused_usual f mode (finite b l) (infinite c) z value status e h =
+    special_plus f mode (eqb l 0) (product_sign b c) z value h.product h.flags status h.is_product h.is
+fused_usual f mode (infinite b) (finite c m) z value status e h =
+    special_plus f mode (eqb m 0) (product_sign b c) z value h.product h.flags status h.is_product h.is
+fused_usual f mode (infinite b) (infinite c) z value status e h =
+    plus_infinite f mode (product_sign b c) z value h.product h.flags status h.is_product h.is
+fused_usual f mode (finite b l) (nan c t) z value status e h =
+    nan_is f mode c _ _ z value h.product h.flags status h.is_product h.is
+fused_usual f mode (infinite b) (nan c t) z value status e h =
+    nan_is f mode c _ _ z value h.product h.flags status h.is_product h.is
+fused_usual f mode (nan b s) y z value status e h =
+    nan_is f mode b _ _ z value h.product h.flags status h.is_product h.is

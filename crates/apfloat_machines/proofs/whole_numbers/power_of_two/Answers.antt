@@ -1,0 +1,9 @@
+use Rattle.std.proofs.Common.{◌∙◌, arith}
+use Rattle.std.proofs.Math.Nat.{mod-eq_of_lt}
+use Rattle.std.proofs.Math.Pow.{pow-lt}
+use Rattle.apfloat_machines.proofs.whole_numbers.power_of_two.Goals as goal
+
+pub returns : goal.returns
+returns c =
+    let room = pow-lt c.requires in
+    mod-eq_of_lt (omega arith) ∙ omega arith

@@ -1,0 +1,9 @@
+pub mod Machines
+pub mod Nans
+pub mod Invalid
+pub mod Operations
+pub mod Conversions
+pub mod WholeNumbers
+pub mod Minima
+pub mod Flushing
+pub mod Theorems

@@ -1,0 +1,45 @@
+-- That each operation of a machine has one answer.
+use Rattle.std.specs.Prelude.{ℕ, ℤ}
+use Rattle.apfloat_model.specs.Determined.{Determines}
+use Rattle.apfloat_model.specs.declared.kinds.Round.{Round}
+use Rattle.apfloat_model.specs.declared.status.StatusAnd.{StatusAnd}
+use Rattle.apfloat_model.specs.rounding.Flags.{Gives}
+use Rattle.apfloat_model.specs.formats.Format.{Format}
+use Rattle.apfloat_model.specs.formats.Datum.{Datum}
+use Rattle.apfloat_model.specs.whole_numbers.WholeNumbersOut.{Whole}
+use Rattle.apfloat_machines.specs.declared.machine.Machine.{Machine}
+use Rattle.apfloat_machines.specs.Operations.{IsMachineSum, IsMachineDifference, IsMachineProduct, IsMachineQuotient}
+use Rattle.apfloat_machines.specs.Operations.{IsMachineTruncatedRemainder, IsMachineNearestRemainder, IsMachineRoot}
+use Rattle.apfloat_machines.specs.Operations.{IsMachineIntegralExact, IsMachineIntegral}
+use Rattle.apfloat_machines.specs.Operations.{IsMachineFusedSum}
+use Rattle.apfloat_machines.specs.Conversions.{IsMachineConversion}
+use Rattle.apfloat_machines.specs.WholeNumbers.{IsMachineWhole}
+
+-- at most one value, with its flags, satisfies the relation
+abbrev pub IsOnce : (Datum → ℕ → Type 0) → Type 0
+IsOnce Says = Determines (λ (answer : StatusAnd Datum). Gives Says answer)
+
+pub record HaveOneAnswer (f : Format) (machine : Machine) : Type 0 where
+  pub sum : (mode : Round) (x y : Datum) → IsOnce (IsMachineSum f machine mode x y)
+  pub difference : (mode : Round) (x y : Datum) → IsOnce (IsMachineDifference f machine mode x y)
+  pub product : (mode : Round) (x y : Datum) → IsOnce (IsMachineProduct f machine mode x y)
+  pub quotient : (mode : Round) (x y : Datum) → IsOnce (IsMachineQuotient f machine mode x y)
+  pub truncated : (x y : Datum) → IsOnce (IsMachineTruncatedRemainder f machine x y)
+  pub nearest : (x y : Datum) → IsOnce (IsMachineNearestRemainder f machine x y)
+  pub root : (mode : Round) (x : Datum) → IsOnce (IsMachineRoot f machine mode x)
+  pub exact : (mode : Round) (x : Datum) → IsOnce (IsMachineIntegralExact f machine mode x)
+  pub integral : (mode : Round) (x : Datum) → IsOnce (IsMachineIntegral f machine mode x)
+
+abbrev pub FusedSumsHaveOneAnswer : Type 0
+FusedSumsHaveOneAnswer =
+    (f : Format) (machine : Machine) (mode : Round) (x y z : Datum) → IsOnce (IsMachineFusedSum f machine mode x y z)
+
+abbrev pub ConversionsHaveOneAnswer : Type 0
+ConversionsHaveOneAnswer =
+    (f g : Format) (machine : Machine) (mode : Round) (x : Datum) → IsOnce (IsMachineConversion f g machine mode x)
+
+-- of conversions to integers of any width, signed and unsigned
+abbrev pub WholeNumbersHaveOneAnswer : Type 0
+WholeNumbersHaveOneAnswer =
+    (machine : Machine) (x : Datum) (of_nan : ℤ) (whole : Whole)
+    → Determines (λ (answer : StatusAnd ℤ). Gives (IsMachineWhole machine x of_nan whole) answer)

@@ -1,0 +1,30 @@
+//! What processors do where IEEE 754 leaves a choice: which NaN is delivered, which integer an invalid conversion gives,
+//! which of two operands is the minimum, and how denormal numbers are flushed to zero.
+//!
+//! An interpreter of instructions computes with `IeeeFloat`, and passes operands and answer to `settled` or one of the
+//! functions beside it: it returns what the machine gives, with its flags. `docs/MACHINES.md` has what to call for each
+//! instruction.
+#![tactic(auto)]
+
+mod conversions;
+mod flushing;
+mod fused;
+mod machine;
+mod minima;
+mod nans;
+#[cfg(test)]
+mod tests;
+mod theorems;
+mod whole_numbers;
+
+pub use conversions::settled_conversion;
+pub use flushing::{Flush, flushed, has_denormal, without_denormal};
+pub use fused::settled_fused;
+pub use machine::{FusedOrder, Machine, NanChoice, WholeOfNan};
+pub use minima::{MinimumRule, greatest, least};
+pub use nans::{default_nan, machine_nan, negated_number, settled, settled_unary};
+pub use theorems::{
+    conversions_have_one_answer, fused_sums_have_one_answer, operations_have_one_answer,
+    whole_numbers_have_one_answer,
+};
+pub use whole_numbers::{settled_signed, settled_unsigned};

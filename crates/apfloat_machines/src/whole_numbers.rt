@@ -1,0 +1,204 @@
+//! The integers that machines give for invalid conversions (IEEE 754-2019 5.8, 7.2).
+
+ghost use Rattle.std.specs.Prelude.{◌≡◌, ◌^◌, ◌-◌, ◌<◌, ◌≤◌, Bool, ℤ, pos, neg_ℤ};
+ghost use Rattle.apfloat_model.specs.declared.kinds.Round.{Round};
+ghost use Rattle.apfloat_model.specs.rounding.Flags.{Gives, bits_of};
+ghost use Rattle.apfloat_model.specs.whole_numbers.WholeNumbersOut.{IsToSigned, IsToUnsigned};
+ghost use Rattle.apfloat_ieee.specs.FlaggedTypes.{format_of};
+ghost use Rattle.apfloat_machines.specs.Machines.{has_unsigned};
+ghost use Rattle.apfloat_machines.specs.Operations.{IsOffered};
+ghost use Rattle.apfloat_machines.specs.WholeNumbers.{IsMachineSigned, IsMachineUnsigned, invalid_integer};
+ghost use Rattle.apfloat_machines.specs.WholeNumbers.{invalid_flags, signed_nan, unsigned_nan};
+ghost use Rattle.apfloat_machines.specs.WholeNumbers.{greatest_signed, least_signed};
+
+use crate::machine::{Machine, WholeOfNan};
+use apfloat_base::{Float, Status, StatusAnd};
+use apfloat_comparisons::raise_flags;
+use apfloat_ieee::{Flagged, IeeeFloat};
+
+/// The answer of the conversion of `x` to a signed integer of `width` bits, 2 to 128, as the machine gives it: if it
+/// raises INVALID_OP, the machine's integer with its flags, and otherwise unchanged.
+#[inline]
+pub fn settled_signed<S: Flagged>(
+    machine: Machine,
+    x: IeeeFloat<S>,
+    width: usize,
+    answer: StatusAnd<i128>,
+) -> StatusAnd<i128>
+    requires low { 2 ≤ width }
+    requires high { width ≤ 128 }
+    ensures { (mode : Round) → (exact : Bool)
+        → IsToSigned (format_of S.Flagged) mode width x answer.value (bits_of answer.status) exact
+        → Gives (IsMachineSigned (format_of S.Flagged) machine mode width x) result }
+{
+    if answer.status == Status::INVALID_OP {
+        invalid_signed(machine, x, width, answer.value)
+    } else {
+        answer
+    }
+}
+
+/// The answer of the conversion of `x` to an unsigned integer of `width` bits, 1 to 128, as the machine gives it, like
+/// `settled_signed`. None if the machine has no such conversions, as the x87 unit.
+#[inline]
+pub fn settled_unsigned<S: Flagged>(
+    machine: Machine,
+    x: IeeeFloat<S>,
+    width: usize,
+    answer: StatusAnd<u128>,
+) -> Option<StatusAnd<u128>>
+    requires low { 1 ≤ width }
+    requires high { width ≤ 128 }
+    ensures { IsOffered (has_unsigned machine) (λ answered. (mode : Round) → (exact : Bool)
+        → IsToUnsigned (format_of S.Flagged) mode width x answer.value (bits_of answer.status) exact
+        → Gives (IsMachineUnsigned (format_of S.Flagged) machine mode width x) answered) result }
+{
+    if !machine.has_unsigned() {
+        None
+    } else if answer.status == Status::INVALID_OP {
+        Some(invalid_unsigned(machine, x, width, answer.value))
+    } else {
+        Some(answer)
+    }
+}
+
+/// The integer of an invalid conversion, given the nearer end of the range.
+#[cold]
+#[inline(never)]
+fn invalid_signed<S: Flagged>(
+    machine: Machine,
+    x: IeeeFloat<S>,
+    width: usize,
+    nearer: i128,
+) -> StatusAnd<i128>
+    requires low { 2 ≤ width }
+    requires high { width ≤ 128 }
+    ensures value { result.value ≡ invalid_integer machine x (signed_nan machine width) nearer }
+    ensures status { bits_of result.status ≡ invalid_flags machine x }
+{
+    let status = invalid_flags(machine, x);
+    if x.is_nan() || machine.has_one_invalid_integer() {
+        status.and(signed_nan(machine, width))
+    } else {
+        status.and(nearer)
+    }
+}
+
+/// The integer of an invalid conversion, given the nearer end of the range.
+#[cold]
+#[inline(never)]
+fn invalid_unsigned<S: Flagged>(
+    machine: Machine,
+    x: IeeeFloat<S>,
+    width: usize,
+    nearer: u128,
+) -> StatusAnd<u128>
+    requires low { 1 ≤ width }
+    requires high { width ≤ 128 }
+    ensures value { pos result.value
+        ≡ invalid_integer machine x (unsigned_nan machine width) (pos nearer) }
+    ensures status { bits_of result.status ≡ invalid_flags machine x }
+{
+    let status = invalid_flags(machine, x);
+    if x.is_nan() || machine.has_one_invalid_integer() {
+        status.and(unsigned_nan(machine, width))
+    } else {
+        status.and(nearer)
+    }
+}
+
+/// The flags of an invalid conversion.
+fn invalid_flags<S: Flagged>(machine: Machine, x: IeeeFloat<S>) -> Status
+    ensures { bits_of result ≡ invalid_flags machine x }
+{
+    if machine.invalid_integer_is_inexact() && !x.is_nan() {
+        raise_flags(Status::INVALID_OP, Status::INEXACT)
+    } else {
+        Status::INVALID_OP
+    }
+}
+
+/// The signed integer that a NaN gives.
+fn signed_nan(machine: Machine, width: usize) -> i128
+    requires low { 2 ≤ width }
+    requires high { width ≤ 128 }
+    ensures { result ≡ signed_nan machine width }
+{
+    match machine.signed_of_nan() {
+        WholeOfNan::Zero => 0,
+        WholeOfNan::Least => least_signed(width),
+        WholeOfNan::Greatest => greatest_signed(width),
+    }
+}
+
+/// The unsigned integer that a NaN gives.
+fn unsigned_nan(machine: Machine, width: usize) -> u128
+    requires low { 1 ≤ width }
+    requires high { width ≤ 128 }
+    ensures { pos result ≡ unsigned_nan machine width }
+{
+    match machine.unsigned_of_nan() {
+        WholeOfNan::Zero => 0,
+        WholeOfNan::Least => 0,
+        WholeOfNan::Greatest => greatest_unsigned(width),
+    }
+}
+
+/// The least signed integer of a width.
+fn least_signed(width: usize) -> i128
+    requires low { 2 ≤ width }
+    requires high { width ≤ 128 }
+    ensures { result ≡ least_signed width }
+{
+    minus(power_of_two(width - 1))
+}
+
+/// The greatest signed integer of a width.
+fn greatest_signed(width: usize) -> i128
+    requires low { 2 ≤ width }
+    requires high { width ≤ 128 }
+    ensures { result ≡ greatest_signed width }
+{
+    signed(power_of_two(width - 1) - 1)
+}
+
+/// A power of two.
+fn power_of_two(exponent: usize) -> u128
+    requires { exponent < 128 }
+    ensures { result ≡ 2 ^ exponent }
+{
+    1 << exponent
+}
+
+/// The signed integer that equals an unsigned one.
+fn signed(magnitude: u128) -> i128
+    requires { magnitude < 2 ^ 127 }
+    ensures { result ≡ pos magnitude }
+{
+    magnitude as i128
+}
+
+/// The negation of an integer of at most 2 to the power of 127.
+fn minus(magnitude: u128) -> i128
+    requires { magnitude ≤ 2 ^ 127 }
+    ensures { result ≡ neg_ℤ (pos magnitude) }
+{
+    if magnitude == 1 << 127 {
+        i128::MIN
+    } else {
+        -(magnitude as i128)
+    }
+}
+
+/// The greatest unsigned integer of a width.
+fn greatest_unsigned(width: usize) -> u128
+    requires low { 1 ≤ width }
+    requires high { width ≤ 128 }
+    ensures { result ≡ 2 ^ width - 1 }
+{
+    if width == 128 {
+        u128::MAX
+    } else {
+        (1u128 << width) - 1
+    }
+}
