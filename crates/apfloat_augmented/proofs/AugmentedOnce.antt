@@ -1,5 +1,5 @@
 -- Augmented sums and differences have one answer, and sums are exact.
-use Rattle.std.proofs.Common.{◌≡◌, ℕ, ◌+◌, ◌-◌, ◌*◌, ◌≤◌, ◌⊎◌, Bool, true, false, eqb, ltb, if◌then◌else◌, sym, refl, ap, ◌∙◌, subst, inl, inr, arith, lit<}
+use Rattle.std.proofs.Common.{◌≡◌, ℕ, ◌+◌, ◌*◌, ◌⊎◌, Bool, true, false, eqb, ltb, if◌then◌else◌, sym, ap, ◌∙◌, subst, inl, inr, arith, lit<}
 use Rattle.std.specs.Prelude.{ℤ, ◌+ℤ◌, ◌-ℤ◌}
 use Rattle.std.specs.Bool.{MatchBool}
 use Rattle.std.proofs.lemmas.Bool.{false≢true, eq-eqb}
@@ -7,7 +7,6 @@ use Rattle.std.proofs.lemmas.Int.{ints}
 use Rattle.apfloat_model.specs.declared.kinds.Round.TheVariants.{NearestTiesToEven}
 use Rattle.apfloat_model.specs.formats.Format.{Format, largest}
 use Rattle.apfloat_model.specs.formats.Datum.{Datum, finite, infinite, nan}
-use Rattle.apfloat_model.specs.formats.Members.{IsMember}
 use Rattle.apfloat_model.specs.rounding.Grid.{IsOnGrid}
 use Rattle.apfloat_model.specs.rounding.Rounding.{signed_quanta, ok_bits, underflow_bit, inexact_bit}
 use Rattle.apfloat_model.specs.rounding.Negation.{negated}
@@ -16,7 +15,6 @@ use Rattle.apfloat_model.specs.arithmetic.Sums.{zero_sum_sign}
 use Rattle.apfloat_model.specs.order.Classes.{is_finite}
 use Rattle.apfloat_model.specs.order.Order.{number}
 use Rattle.apfloat_model.proofs.Once.{Once, sum_once, difference_once}
-use Rattle.apfloat_augmented.specs.TiesToZero.{IsTiesToZeroPick}
 use Rattle.apfloat_augmented.specs.Augmented.{left_of, IsPastLargest, IsWithTail, IsAugmented, AreBoth}
 use Rattle.apfloat_augmented.specs.Augmented.{IsAugmentedSum, IsAugmentedDifference, HasOneAugmented, AreExactly, IsExactSum}
 use Rattle.apfloat_augmented.proofs.TiesToZero.{ties_to_zero_once, ties_to_zero_exact}

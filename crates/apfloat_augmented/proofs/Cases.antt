@@ -1,5 +1,5 @@
 -- Cases of operands, and what the law of a format says of its ranges.
-use Rattle.std.proofs.Common.{◌≡◌, ℕ, ◌+◌, ◌-◌, ◌*◌, ◌^◌, ◌<◌, ◌≤◌, Bool, true, false, refl, sym, ap, ◌∙◌, subst, arith}
+use Rattle.std.proofs.Common.{◌≡◌, ℕ, ◌-◌, ◌^◌, ◌<◌, ◌≤◌, Bool, true, false, refl, sym, subst, arith}
 use Rattle.std.specs.Prelude.{ℤ, pos, ◌+ℤ◌, ◌-ℤ◌, unsigned_abs}
 use Rattle.std.proofs.lemmas.Bool.{false≢true}
 use Rattle.std.proofs.lemmas.Int.{ints}
@@ -14,7 +14,7 @@ use Rattle.apfloat_model.specs.arithmetic.Sums.{IsSum, IsDifference, zero_sum_si
 use Rattle.apfloat_model.specs.order.Classes.{category_of, is_finite, is_negative}
 use Rattle.apfloat_model.specs.order.Order.{number}
 use Rattle.apfloat_model.proofs.arithmetic.Signs.{swapped_sum}
-use Rattle.apfloat_augmented.specs.Augmented.{IsAugmented, AreBoth, IsAugmentedSum, IsAugmentedDifference}
+use Rattle.apfloat_augmented.specs.Augmented.{IsAugmented, IsAugmentedSum, IsAugmentedDifference}
 
 -- ---- classes
 

@@ -1,8 +1,8 @@
 -- The head of an augmented sum, from the sum in two modes and what these leave.
-use Rattle.std.proofs.Common.{◌≡◌, ℕ, zero, suc, ◌+◌, ◌-◌, ◌*◌, ◌^◌, ◌<◌, ◌≤◌, ◌⊎◌, Bool, true, false, not, cond, ltb, eqb, sym, refl, ap, ◌∙◌, subst, inl, inr, ⊎_elim, arith, lit<}
-use Rattle.std.specs.Prelude.{ℤ, pos, neg_ℤ, ◌+ℤ◌, ◌-ℤ◌}
+use Rattle.std.proofs.Common.{◌≡◌, ℕ, zero, suc, ◌+◌, ◌-◌, ◌*◌, ◌^◌, ◌<◌, ◌≤◌, Bool, true, false, not, cond, ltb, eqb, sym, refl, ap, ◌∙◌, subst, inr, ⊎_elim, arith, lit<}
+use Rattle.std.specs.Prelude.{ℤ, pos, neg_ℤ, ◌-ℤ◌}
 use Rattle.std.specs.Bool.{MatchBool}
-use Rattle.std.proofs.lemmas.Bool.{cases_lt, cases_eq, false≢true, le-ltb, lt-ltb, eq-eqb}
+use Rattle.std.proofs.lemmas.Bool.{cases_lt, false≢true, le-ltb, lt-ltb, eq-eqb}
 use Rattle.std.proofs.lemmas.Int.{ints}
 use Rattle.std.proofs.lemmas.Nat.{pow-add, pow_pos}
 use Rattle.std.proofs.Math.Nat.{mul-pos}
@@ -14,13 +14,13 @@ use Rattle.apfloat_model.specs.formats.Datum.{Datum, finite, infinite, nan}
 use Rattle.apfloat_model.specs.formats.Constants.{zero_datum}
 use Rattle.apfloat_model.specs.rounding.Grid.{IsOnGrid}
 use Rattle.apfloat_model.specs.rounding.Enclosure.{IsEnclosed}
-use Rattle.apfloat_model.specs.rounding.Rounding.{takes_above, IsPick, IsDelivered, past_largest, signed_quanta, zero_sign}
+use Rattle.apfloat_model.specs.rounding.Rounding.{takes_above, IsPick, past_largest, signed_quanta, zero_sign}
 use Rattle.apfloat_model.specs.rounding.Rounding.{ok_bits, overflow_bit, inexact_bit, underflow_bit}
 use Rattle.apfloat_model.specs.rounding.Negation.{negated}
 use Rattle.apfloat_model.specs.arithmetic.Exact.{magnitude, signed, sign_of, same_sign, IsRounded}
 use Rattle.apfloat_model.specs.arithmetic.Signs.{abs, copy_sign}
 use Rattle.apfloat_model.specs.arithmetic.Scaling.{IsScaling}
-use Rattle.apfloat_model.specs.order.Classes.{is_finite, is_negative, is_zero}
+use Rattle.apfloat_model.specs.order.Classes.{is_finite, is_negative}
 use Rattle.apfloat_model.specs.order.Order.{number, is_equal}
 use Rattle.apfloat_model.proofs.arithmetic.Signs.{no_sign, magnitude_signed, sign_signed, one_side}
 use Rattle.apfloat_model.proofs.formats.Greatest.{greatest_fits, greatest_full, greatest_some}
@@ -31,11 +31,11 @@ use Rattle.apfloat_model.proofs.rounding.Deliveries.{signed_some}
 use Rattle.apfloat_model.proofs.rounding.Laws.{delivered_once, exact_delivered, pick_within, below_le_above}
 use Rattle.apfloat_model.proofs.rounding.Neighbours.{multiple_on_grid, next_on_grid, none_between, below_is, above_is_next}
 use Rattle.apfloat_pair_theory.proofs.numbers.Roundings.{apart, pick_nearest, pick_on_grid, signed_exact}
-use Rattle.apfloat_augmented.specs.TiesToZero.{nearer_between, IsTiesToZeroPick}
+use Rattle.apfloat_augmented.specs.TiesToZero.{IsTiesToZeroPick}
 use Rattle.apfloat_augmented.specs.Augmented.{left_of, IsPastLargest, IsWithTail, IsAugmented}
-use Rattle.apfloat_augmented.specs.Numbers.{HasNumber, IsNumberIn, IsNearestTo, with_sign}
+use Rattle.apfloat_augmented.specs.Numbers.{HasNumber, IsNearestTo, with_sign}
 use Rattle.apfloat_augmented.proofs.TiesToZero.{takes_low, takes_high, ties_to_zero_exact, ties_to_zero_on_grid, ties_to_zero_nearest, signed_nearest, short_is_below, from_even, from_half}
-use Rattle.apfloat_augmented.proofs.Numbers.{signed_number, same_number, within_is, past_is, short_is, finite_within, past_without, quanta_in, abs_has, negated_has, equal_numbers, equal_data}
+use Rattle.apfloat_augmented.proofs.Numbers.{signed_number, within_is, short_is, finite_within, abs_has, negated_has, equal_numbers, equal_data}
 
 -- ---- the tail
 

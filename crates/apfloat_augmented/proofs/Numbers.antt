@@ -1,8 +1,8 @@
 -- Finite results by their numbers: delivered values, exact roundings, differences, comparisons.
-use Rattle.std.proofs.Common.{◌≡◌, ℕ, zero, suc, ◌+◌, ◌-◌, ◌*◌, ◌^◌, ◌<◌, ◌≤◌, ◌⊎◌, Bool, true, false, not, cond, ltb, eqb, sym, refl, ap, ◌∙◌, subst, inl, inr, ⊎_elim, arith, lit<}
+use Rattle.std.proofs.Common.{◌≡◌, ℕ, zero, suc, ◌+◌, ◌*◌, ◌<◌, ◌≤◌, Bool, true, false, not, cond, ltb, eqb, sym, refl, ap, ◌∙◌, subst, ⊎_elim, arith, lit<}
 use Rattle.std.specs.Prelude.{ℤ, pos, neg_ℤ, ◌+ℤ◌, ◌-ℤ◌, ◌≤ℤ◌}
 use Rattle.std.specs.Ordering.{int_cmp, is_eq, is_lt}
-use Rattle.std.specs.Cmp.{int_cmp_is, int_ranks}
+use Rattle.std.specs.Cmp.{int_cmp_is}
 use Rattle.std.specs.declared.cmp.Ordering.{Ordering}
 use Rattle.std.specs.declared.cmp.Ordering.TheVariants.{Less, Equal, Greater}
 use Rattle.std.proofs.lemmas.Map.Lookups.{exact_signed}
@@ -15,18 +15,17 @@ use Rattle.apfloat_model.specs.declared.kinds.NonfiniteBehavior.{NonfiniteBehavi
 use Rattle.apfloat_model.specs.declared.kinds.NonfiniteBehavior.TheVariants.{IEEE754, NanOnly, NanNegativeZero}
 use Rattle.apfloat_model.specs.formats.Format.{Format, largest, nan_base}
 use Rattle.apfloat_model.specs.formats.Datum.{Datum, finite, infinite, nan}
-use Rattle.apfloat_model.specs.formats.Constants.{zero_datum}
 use Rattle.apfloat_model.specs.formats.Members.{IsMember}
 use Rattle.apfloat_model.specs.rounding.Grid.{IsOnGrid}
-use Rattle.apfloat_model.specs.rounding.Rounding.{IsDelivered, delivered_value, delivered_status, leads_out, raises_overflow, is_tiny}
+use Rattle.apfloat_model.specs.rounding.Rounding.{delivered_value, raises_overflow, is_tiny}
 use Rattle.apfloat_model.specs.rounding.Rounding.{past_largest, signed_quanta, zero_sign, ok_bits, inexact_bit, overflow_bit, underflow_bit}
-use Rattle.apfloat_model.specs.rounding.Negation.{negated, negated_zero}
+use Rattle.apfloat_model.specs.rounding.Negation.{negated}
 use Rattle.apfloat_model.specs.arithmetic.Exact.{magnitude, signed, sign_of, IsRounded}
-use Rattle.apfloat_model.specs.arithmetic.Signs.{abs, copy_sign}
+use Rattle.apfloat_model.specs.arithmetic.Signs.{abs}
 use Rattle.apfloat_model.specs.arithmetic.Sums.{IsSum, IsDifference, zero_sum_sign}
-use Rattle.apfloat_model.specs.order.Classes.{is_finite, is_negative, is_zero}
-use Rattle.apfloat_model.specs.order.Order.{number, compared, is_equal, is_below}
-use Rattle.apfloat_model.proofs.arithmetic.Signs.{no_sign, magnitude_signed, one_side}
+use Rattle.apfloat_model.specs.order.Classes.{is_finite, is_negative}
+use Rattle.apfloat_model.specs.order.Order.{number, is_equal, is_below}
+use Rattle.apfloat_model.proofs.arithmetic.Signs.{no_sign, magnitude_signed}
 use Rattle.apfloat_model.proofs.general.Choices.{not_zero}
 use Rattle.apfloat_model.proofs.rounding.Deliveries.{signed_some}
 use Rattle.apfloat_model.proofs.rounding.Laws.{delivered_once, exact_delivered}

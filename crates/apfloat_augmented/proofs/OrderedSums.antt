@@ -1,6 +1,6 @@
 -- Augmented sums of two numbers, in each of the four cases of `ordered_sum`.
-use Rattle.std.proofs.Common.{◌≡◌, ℕ, ◌+◌, ◌-◌, ◌*◌, ◌^◌, ◌<◌, ◌≤◌, Bool, true, false, cond, sym, refl, ap, ◌∙◌, subst, ⊎_elim, arith, FitsSigned, to_z, of_z}
-use Rattle.std.specs.Prelude.{ℤ, pos, negsuc, ◌+ℤ◌, ◌-ℤ◌}
+use Rattle.std.proofs.Common.{◌≡◌, ℕ, ◌+◌, ◌-◌, ◌^◌, ◌<◌, ◌≤◌, true, false, sym, ap, ◌∙◌, subst, ⊎_elim, arith, FitsSigned, to_z, of_z}
+use Rattle.std.specs.Prelude.{ℤ, pos, ◌+ℤ◌, ◌-ℤ◌}
 use Rattle.std.specs.Int.{w32}
 use Rattle.std.proofs.Math.Nat.{mul-pos}
 use Rattle.std.proofs.lemmas.Bool.{cases_lt}
@@ -23,7 +23,7 @@ use Rattle.apfloat_augmented.specs.TiesToZero.{IsTiesToZeroPick}
 use Rattle.apfloat_augmented.specs.Augmented.{IsAugmentedSum}
 use Rattle.apfloat_augmented.specs.Numbers.{HasNumber, IsNumberIn, IsNearestTo, with_sign}
 use Rattle.apfloat_augmented.proofs.Cases.{sum_of_numbers}
-use Rattle.apfloat_augmented.proofs.Heads.{half_unit, largest_on_grid, with_tail_is, past_largest_is, picks_of, near_number, short_number, near_is_nearest, pick_is_nearest, tie_is, no_tie_is, at_half, beyond, past_pick, short_is_largest, half_left, no_half_left}
+use Rattle.apfloat_augmented.proofs.Heads.{half_unit, largest_on_grid, with_tail_is, past_largest_is, picks_of, near_is_nearest, pick_is_nearest, tie_is, no_tie_is, at_half, beyond, past_pick, short_is_largest, half_left, no_half_left}
 use Rattle.apfloat_augmented.proofs.Numbers.{signed_number, within_is, past_is, short_is, past_without, sum_rounded, quanta_in}
 use Rattle.apfloat_augmented.proofs.Rests.{as_nearest, rest_in_format}
 

@@ -1,6 +1,6 @@
 -- What a nearest sum leaves, by the two subtractions of Fast2Sum (Dekker), in every kind of format.
-use Rattle.std.proofs.Common.{◌≡◌, ℕ, ◌+◌, ◌-◌, ◌*◌, ◌^◌, ◌<◌, ◌≤◌, ◌⊎◌, Bool, true, false, sym, refl, ap, ◌∙◌, subst, inl, inr, ⊎_elim, arith}
-use Rattle.std.specs.Prelude.{ℤ, pos, negsuc, neg_ℤ, ◌+ℤ◌, ◌-ℤ◌, ◌≤ℤ◌}
+use Rattle.std.proofs.Common.{◌≡◌, ℕ, ◌^◌, ◌≤◌, true, ◌∙◌, subst, arith}
+use Rattle.std.specs.Prelude.{ℤ, pos, negsuc, ◌+ℤ◌, ◌-ℤ◌, ◌≤ℤ◌}
 use Rattle.std.proofs.Math.Nat.{pow-le-pow_right}
 use Rattle.std.proofs.lemmas.Int.{ints}
 use Rattle.apfloat_model.specs.declared.kinds.Round.TheVariants.{NearestTiesToEven}
@@ -15,11 +15,11 @@ use Rattle.apfloat_model.specs.order.Order.{number}
 use Rattle.apfloat_model.proofs.arithmetic.Signs.{one_side}
 use Rattle.apfloat_model.proofs.general.Powers.{two_pos}
 use Rattle.apfloat_model.proofs.rounding.Laws.{zero_on_grid}
-use Rattle.apfloat_pair_theory.proofs.numbers.Signed.{IsGridNumber, magnitude-sub, on_grid_as}
+use Rattle.apfloat_pair_theory.proofs.numbers.Signed.{magnitude-sub, on_grid_as}
 use Rattle.apfloat_pair_theory.proofs.numbers.Nearest.{IsNearest, nearest_above, nearest_below, error_le_second, error_on_grid}
 use Rattle.apfloat_pair_theory.proofs.numbers.TwoSums.{fast_two_sum_difference_greater}
 use Rattle.apfloat_augmented.specs.Numbers.{HasNumber, IsNumberIn, IsNearestTo}
-use Rattle.apfloat_augmented.proofs.Numbers.{IsExactly, rounded_exactly, ok_exactly, difference_rounded}
+use Rattle.apfloat_augmented.proofs.Numbers.{rounded_exactly, ok_exactly, difference_rounded}
 
 -- eight numbers at least
 pub eight : (precision : ℕ) → 3 ≤ precision → 8 ≤ 2 ^ precision

@@ -1,10 +1,10 @@
 -- The pick to nearest with ties toward zero: it is unique, it follows from the picks of two modes, and no grid number is
 -- nearer.
-use Rattle.std.proofs.Common.{◌≡◌, ℕ, ◌+◌, ◌-◌, ◌*◌, ◌^◌, ◌<◌, ◌≤◌, Bool, true, false, cond, ltb, sym, refl, ap, ◌∙◌, subst, ⊎_elim, le_trans, arith, lit<}
-use Rattle.std.specs.Prelude.{ℤ, ◌-ℤ◌}
+use Rattle.std.proofs.Common.{◌≡◌, ℕ, ◌+◌, ◌-◌, ◌*◌, ◌<◌, ◌≤◌, Bool, true, false, cond, ltb, sym, refl, ap, ◌∙◌, subst, ⊎_elim, le_trans, arith}
+use Rattle.std.specs.Prelude.{◌-ℤ◌}
 use Rattle.std.proofs.lemmas.Bool.{cases_lt, lt-ltb, le-ltb}
 use Rattle.apfloat_model.specs.declared.kinds.Round.TheVariants.{NearestTiesToEven, TowardZero}
-use Rattle.apfloat_model.specs.rounding.Grid.{IsOnGrid, IsBelow, IsAbove}
+use Rattle.apfloat_model.specs.rounding.Grid.{IsOnGrid}
 use Rattle.apfloat_model.specs.rounding.Rounding.{takes_above, IsPick}
 use Rattle.apfloat_model.specs.arithmetic.Exact.{magnitude, signed}
 use Rattle.apfloat_model.proofs.arithmetic.Signs.{magnitude_signed}

@@ -1,6 +1,3 @@
-use Rattle.std.proofs.Common.{subst}
-use Rattle.apfloat_model.specs.declared.kinds.Round.TheVariants.{NearestTiesToEven}
-use Rattle.apfloat_model.specs.arithmetic.Scaling.{IsScaling}
 use Rattle.apfloat_ieee.specs.FlaggedTypes.{format_of, constants_of}
 use Rattle.apfloat_augmented.proofs.Cases.{ranges_of}
 use Rattle.apfloat_augmented.proofs.Heads.{half_unit_is}
