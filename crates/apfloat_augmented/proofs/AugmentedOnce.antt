@@ -1,0 +1,143 @@
+-- Augmented sums and differences have one answer, and sums are exact.
+use Rattle.std.proofs.Common.{◌≡◌, ℕ, ◌+◌, ◌*◌, ◌⊎◌, Bool, true, false, eqb, ltb, if◌then◌else◌, sym, ap, ◌∙◌, subst, inl, inr, arith, lit<}
+use Rattle.std.specs.Prelude.{ℤ, ◌+ℤ◌, ◌-ℤ◌}
+use Rattle.std.specs.Bool.{MatchBool}
+use Rattle.std.proofs.lemmas.Bool.{false≢true, eq-eqb}
+use Rattle.std.proofs.lemmas.Int.{ints}
+use Rattle.apfloat_model.specs.declared.kinds.Round.TheVariants.{NearestTiesToEven}
+use Rattle.apfloat_model.specs.formats.Format.{Format, largest}
+use Rattle.apfloat_model.specs.formats.Datum.{Datum, finite, infinite, nan}
+use Rattle.apfloat_model.specs.rounding.Grid.{IsOnGrid}
+use Rattle.apfloat_model.specs.rounding.Rounding.{signed_quanta, ok_bits, underflow_bit, inexact_bit}
+use Rattle.apfloat_model.specs.rounding.Negation.{negated}
+use Rattle.apfloat_model.specs.arithmetic.Exact.{magnitude, signed, sign_of}
+use Rattle.apfloat_model.specs.arithmetic.Sums.{zero_sum_sign}
+use Rattle.apfloat_model.specs.order.Classes.{is_finite}
+use Rattle.apfloat_model.specs.order.Order.{number}
+use Rattle.apfloat_model.proofs.Once.{Once, sum_once, difference_once}
+use Rattle.apfloat_augmented.specs.Augmented.{left_of, IsPastLargest, IsWithTail, IsAugmented, AreBoth}
+use Rattle.apfloat_augmented.specs.Augmented.{IsAugmentedSum, IsAugmentedDifference, HasOneAugmented, AreExactly, IsExactSum}
+use Rattle.apfloat_augmented.proofs.TiesToZero.{ties_to_zero_once, ties_to_zero_exact}
+use Rattle.apfloat_augmented.proofs.Numbers.{signed_number, number_in}
+use Rattle.apfloat_augmented.proofs.Rests.{rest_in_format, as_nearest}
+use Rattle.apfloat_augmented.proofs.Heads.{pick_is_nearest}
+use Rattle.apfloat_pair_theory.proofs.numbers.Roundings.{signed_exact}
+
+-- three results are the same
+abbrev AreSame : Datum → Datum → Datum → Datum → ℕ → ℕ → Type 0
+AreSame h g t u i j = (h ≡ g) × (t ≡ u) × (i ≡ j)
+
+module _ (f : Format) (s : Bool) (exact : ℤ) (parts pick : ℕ) (h g t u : Datum) (i j : ℕ) where
+  by_test : (test : Bool)
+      → MatchBool test (IsPastLargest f s h t i) (IsWithTail f s exact parts pick h t i)
+      → MatchBool test (IsPastLargest f s g u j) (IsWithTail f s exact parts pick g u j) → AreSame h g t u i j
+  by_test true x y =
+      let e : h ≡ g = x.head_is ∙ sym y.head_is in
+      (e, x.tail_is ∙ e ∙ sym y.tail_is, x.status_is ∙ sym y.status_is)
+  by_test false x y =
+      let left = left_of exact parts s pick in
+      let q : x.quanta ≡ y.quanta =
+      ties_to_zero_once f.precision (magnitude left) parts x.quanta y.quanta x.is_pick y.is_pick in (
+        x.head_is ∙ sym y.head_is,
+        x.tail_is ∙ ap (λ (k : ℕ). signed_quanta f.nonfinite (sign_of s left) k) q ∙ sym y.tail_is,
+        x.status_is ∙
+            ap (λ (k : ℕ). if eqb (k * parts) (magnitude left) then ok_bits else underflow_bit + inexact_bit) q ∙
+            sym y.status_is,
+      )
+
+augmented_once : (f : Format) (of_zero : Bool) (exact : ℤ) (parts : ℕ) (h g t u : Datum) (i j : ℕ)
+    → IsAugmented f of_zero exact parts h t i → IsAugmented f of_zero exact parts g u j → AreSame h g t u i j
+augmented_once f of_zero exact parts h g t u i j x y =
+    let s = sign_of of_zero exact in
+    let e : x.pick ≡ y.pick =
+    ties_to_zero_once f.precision (magnitude exact) parts x.pick y.pick x.is_pick y.is_pick in
+    by_test f s exact parts y.pick h g t u i j (ltb (largest f) y.pick)
+    (subst (λ (p : ℕ). MatchBool (ltb (largest f) p) (IsPastLargest f s h t i) (IsWithTail f s exact parts p h t i)) e
+    x.is) y.is
+
+both_once : (Says : Datum → ℕ → Type 0) (h g t u : Datum) (i j : ℕ) → Once Says → AreBoth Says h t i
+    → AreBoth Says g u j → AreSame h g t u i j
+both_once Says h g t u i j once x y =
+    let e = once h g i j x.is y.is in
+    (e.0, x.tail_is ∙ e.0 ∙ sym y.tail_is, e.1)
+
+pub augmented_sum_once : HasOneAugmented IsAugmentedSum
+augmented_sum_once f (finite b m) (finite c n) h g t u i j =
+    augmented_once f (zero_sum_sign NearestTiesToEven b c) (signed b m +ℤ signed c n) 1 h g t u i j
+augmented_sum_once f (finite b m) (infinite c) h g t u i j =
+    both_once _ h g t u i j (sum_once f NearestTiesToEven (finite b m) (infinite c))
+augmented_sum_once f (finite b m) (nan c n) h g t u i j =
+    both_once _ h g t u i j (sum_once f NearestTiesToEven (finite b m) (nan c n))
+augmented_sum_once f (infinite b) y h g t u i j =
+    both_once _ h g t u i j (sum_once f NearestTiesToEven (infinite b) y)
+augmented_sum_once f (nan b m) y h g t u i j =
+    both_once _ h g t u i j (sum_once f NearestTiesToEven (nan b m) y)
+
+pub augmented_difference_once : HasOneAugmented IsAugmentedDifference
+augmented_difference_once f (finite b m) (finite c n) h g t u i j =
+    augmented_sum_once f (finite b m) (negated f.nonfinite (finite c n)) h g t u i j
+augmented_difference_once f (finite b m) (infinite c) h g t u i j =
+    both_once _ h g t u i j (difference_once f NearestTiesToEven (finite b m) (infinite c))
+augmented_difference_once f (finite b m) (nan c n) h g t u i j =
+    both_once _ h g t u i j (difference_once f NearestTiesToEven (finite b m) (nan c n))
+augmented_difference_once f (infinite b) y h g t u i j =
+    both_once _ h g t u i j (difference_once f NearestTiesToEven (infinite b) y)
+augmented_difference_once f (nan b m) y h g t u i j =
+    both_once _ h g t u i j (difference_once f NearestTiesToEven (nan b m) y)
+
+-- ---- sums are exact
+
+exact_of : (f : Format) (s : Bool) (v : ℤ) (p : ℕ) (head tail : Datum) (status : ℕ)
+    → IsOnGrid f.precision (magnitude (left_of v 1 s p)) → IsWithTail f s v 1 p head tail status
+    → AreExactly v head tail status
+exact_of f s v p head tail status g x =
+    let left = left_of v 1 s p in
+    let q = magnitude left in
+    let e : x.quanta ≡ q =
+    ties_to_zero_once f.precision q 1 x.quanta q x.is_pick
+    (ties_to_zero_exact f.precision q q 1 (lit< tt) g (omega arith)) in
+    let h = signed_number f.nonfinite s p in
+    let t = signed_number f.nonfinite (sign_of s left) q in
+    let tail_is : tail ≡ signed_quanta f.nonfinite (sign_of s left) q =
+    x.tail_is ∙ ap (λ (k : ℕ). signed_quanta f.nonfinite (sign_of s left) k) e in
+    let b : eqb (x.quanta * 1) q ≡ true = eq-eqb (x.quanta * 1) q (omega (arith, e)) in
+    let hn : number head ≡ signed s p = ap number x.head_is ∙ h.number_is in
+    let tn : number tail ≡ left = ap number tail_is ∙ t.number_is ∙ signed_exact s left in
+    let one : signed s (p * 1) ≡ signed s p = ap (λ (k : ℕ). signed s k) (omega arith) in
+    record {
+      head_is_finite = ap is_finite x.head_is ∙ h.is_finite;
+      tail_is_finite = ap is_finite tail_is ∙ t.is_finite;
+      sum_is = omega (arith, ints, hn, tn, one);
+      status_is = x.status_is ∙
+          ap (λ (c : Bool). if c then ok_bits else underflow_bit + inexact_bit) b;
+    }
+
+pub sums_are_exact : IsExactSum
+sums_are_exact f h (finite b m) (finite c n) head tail status mx my p q x =
+    let v = signed b m +ℤ signed c n in
+    let of_zero = zero_sum_sign NearestTiesToEven b c in
+    let s = sign_of of_zero v in
+    let a = number_in f (finite b m) p mx in
+    let k = number_in f (finite c n) q my in
+    let near = pick_is_nearest f of_zero v x.pick x.is_pick in
+    let r = rest_in_format f h (signed b m) (signed c n) (signed s x.pick) a.on_grid k.on_grid k.within
+    (as_nearest f.precision v (signed s x.pick) near) in
+    let one : x.pick ≡ x.pick * 1 = omega arith in
+    let g : IsOnGrid f.precision (magnitude (left_of v 1 s x.pick)) =
+    subst (λ (i : ℕ). IsOnGrid f.precision (magnitude (v -ℤ signed s i))) one r.on_grid in
+    by g (ltb (largest f) x.pick) x.is
+  where
+    by : IsOnGrid f.precision (magnitude (left_of (signed b m +ℤ signed c n) 1
+        (sign_of (zero_sum_sign NearestTiesToEven b c) (signed b m +ℤ signed c n)) x.pick)) → (test : Bool)
+        → MatchBool test (IsPastLargest f (sign_of (zero_sum_sign NearestTiesToEven b c)
+        (signed b m +ℤ signed c n)) head tail status)
+        (IsWithTail f (sign_of (zero_sum_sign NearestTiesToEven b c) (signed b m +ℤ signed c n))
+        (signed b m +ℤ signed c n) 1 x.pick head tail status)
+        → AreExactly (signed b m +ℤ signed c n) head tail status ⊎ ((negative : Bool)
+        × IsPastLargest f negative head tail status)
+    by g true y = inr (sign_of (zero_sum_sign NearestTiesToEven b c) (signed b m +ℤ signed c n), y)
+    by g false y = inl (exact_of f _ (signed b m +ℤ signed c n) x.pick head tail status g y)
+sums_are_exact f h (finite b m) (infinite c) head tail status mx my p q x = absurd (false≢true q)
+sums_are_exact f h (finite b m) (nan c n) head tail status mx my p q x = absurd (false≢true q)
+sums_are_exact f h (infinite b) y head tail status mx my p q x = absurd (false≢true p)
+sums_are_exact f h (nan b m) y head tail status mx my p q x = absurd (false≢true p)

@@ -1,0 +1,9 @@
+pub mod TiesToZero
+pub mod Numbers
+pub mod Rests
+pub mod Heads
+pub mod AugmentedOnce
+pub mod NanSignificands
+pub mod Cases
+pub mod PayloadValues
+pub mod OrderedSums

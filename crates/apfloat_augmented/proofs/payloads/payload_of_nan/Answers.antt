@@ -1,0 +1,12 @@
+use Rattle.apfloat_ieee.specs.FlaggedTypes.{format_of, layout_of}
+use Rattle.apfloat_augmented.specs.Payloads.{nan_significand}
+use Rattle.apfloat_augmented.proofs.NanSignificands.{nan_trailing}
+use Rattle.apfloat_augmented.proofs.PayloadValues.{payload_is}
+use Rattle.apfloat_augmented.proofs.payloads.payload_of_nan.Goals as goal
+
+pub returns : goal.returns
+returns g c =
+    let f = format_of g.S.Flagged in
+    rw (c.power_of_two.ensures, c.payload_bits.ensures.value)
+    (payload_is f c.to_bits.result (nan_significand c.args.x)
+    (nan_trailing f (layout_of g.S.Flagged) c.to_bits.result c.args.x c.to_bits.ensures.back c.requires.nan))

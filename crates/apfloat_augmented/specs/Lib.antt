@@ -1,0 +1,4 @@
+pub mod TiesToZero
+pub mod Augmented
+pub mod Numbers
+pub mod Payloads

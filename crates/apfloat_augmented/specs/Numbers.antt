@@ -1,0 +1,31 @@
+-- Finite data by their numbers.
+use Rattle.std.specs.Prelude.{◌≡◌, ℕ, ◌≤◌, true, ℤ, ◌-ℤ◌, if◌then◌else◌}
+use Rattle.apfloat_model.specs.formats.Format.{Format, largest}
+use Rattle.apfloat_model.specs.formats.Constants.{zero_datum}
+use Rattle.apfloat_model.specs.formats.Datum.{Datum}
+use Rattle.apfloat_model.specs.rounding.Grid.{IsOnGrid}
+use Rattle.apfloat_model.specs.arithmetic.Exact.{magnitude}
+use Rattle.apfloat_model.specs.arithmetic.Signs.{copy_sign}
+use Rattle.apfloat_model.specs.order.Classes.{is_finite, is_zero}
+use Rattle.apfloat_model.specs.order.Order.{number}
+
+-- a finite datum of exactly that number
+pub record HasNumber (exact : ℤ) (value : Datum) : Type 0 where
+  pub is_finite : is_finite value ≡ true
+  pub number_is : number value ≡ exact
+
+-- a finite datum of the format
+pub record IsNumberIn (f : Format) (x : Datum) : Type 0 where
+  pub is_finite : is_finite x ≡ true
+  pub on_grid : IsOnGrid f.precision (magnitude (number x))
+  pub within : magnitude (number x) ≤ largest f
+
+-- no number with a magnitude on the grid is nearer to `exact` than z
+pub record IsNearestTo (precision : ℕ) (exact z : ℤ) : Type 0 where
+  pub on_grid : IsOnGrid precision (magnitude z)
+  pub nearest : (other : ℤ) → IsOnGrid precision (magnitude other)
+      → magnitude (z -ℤ exact) ≤ magnitude (other -ℤ exact)
+
+-- what a head leaves, with the sign of the head if it is zero
+abbrev pub with_sign : Format → Datum → Datum → Datum
+with_sign f head rest = if is_zero rest then copy_sign f zero_datum head else rest

@@ -1,0 +1,17 @@
+//! Augmented sums and differences (IEEE 754-2019 9.5), whose two results are together the exact one, and payloads of
+//! NaNs (9.7), for every format.
+#![tactic(auto)]
+
+mod augmented;
+mod payloads;
+mod sums;
+#[cfg(test)]
+mod tests;
+mod theorems;
+
+pub use augmented::Augmented;
+pub use payloads::{get_payload, set_payload, set_payload_signaling};
+pub use sums::{augmented_add, augmented_subtract};
+pub use theorems::{
+    augmented_differences_have_one_answer, augmented_sums_are_exact, augmented_sums_have_one_answer,
+};

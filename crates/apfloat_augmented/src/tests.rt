@@ -1,0 +1,154 @@
+//! Rows of augmented sums and differences in five formats, special operands, and payloads.
+
+mod rows;
+
+ghost use Rattle.std.specs.Prelude.{◌<◌};
+
+use crate::*;
+use apfloat_base::{Flags, Float, Status, StatusAnd};
+use apfloat_formats::{
+    Float8E4M3FNS, Float8E4M3FNUZS, Float8E5M2S, HalfS, SingleS, X87DoubleExtendedS,
+};
+use apfloat_ieee::{IeeeFloat, Semantics};
+use rows::Row;
+use std::process::Abort;
+
+#[derive(Clone, Copy, PartialEq, Eq, Debug)]
+enum Operation {
+    Add,
+    Sub,
+}
+
+/// No flag, or OVERFLOW and INEXACT.
+#[derive(Clone, Copy, PartialEq, Eq, Debug)]
+enum Flagging {
+    Exact,
+    Overflows,
+}
+
+fn status_of(flagging: Flagging) -> Status {
+    match flagging {
+        Flagging::Exact => Status::OK,
+        Flagging::Overflows => Status::OVERFLOW.union(Status::INEXACT),
+    }
+}
+
+/// The head, the tail and the status of an augmented sum or difference.
+fn answer<S: Semantics>(operation: Operation, a: u128, b: u128) -> (u128, u128, Status)
+    requires { S.PRECISION < S.BITS }
+{
+    let x = IeeeFloat::<S>::from_bits(a);
+    let y = IeeeFloat::<S>::from_bits(b);
+    let answer = match operation {
+        Operation::Add => augmented_add(x, y),
+        Operation::Sub => augmented_subtract(x, y),
+    };
+    (
+        answer.value.head.to_bits(),
+        answer.value.tail.to_bits(),
+        answer.status,
+    )
+}
+
+fn check<S: Semantics>(rt: &impl Abort, rows: &[Row])
+    requires { S.PRECISION < S.BITS }
+{
+    for (operation, a, b, head, tail, flagging) in rows {
+        let got = answer::<S>(*operation, *a, *b);
+        let expected = (*head, *tail, status_of(*flagging));
+        assert_eq!(rt; got, expected, "{operation:?} {a:x} {b:x}");
+    }
+}
+
+#[test]
+fn sums(rt: HostRuntime) {
+    check::<HalfS>(&rt, &rows::HALF);
+    check::<Float8E5M2S>(&rt, &rows::E5M2);
+    check::<Float8E4M3FNS>(&rt, &rows::E4M3FN);
+    check::<Float8E4M3FNUZS>(&rt, &rows::E4M3FNUZ);
+    check::<SingleS>(&rt, &rows::SINGLE);
+}
+
+const INVALID: Status = Status::INVALID_OP;
+
+/// Infinities and NaNs in `half`, as the sum itself: both results are that (5.4.1, 6.1, 6.2.3).
+static SPECIALS: [(Operation, u128, u128, u128, Status); 8] = [
+    (Operation::Add, 0x7c00, 0x3c00, 0x7c00, Status::OK),
+    (Operation::Add, 0x3c00, 0xfc00, 0xfc00, Status::OK),
+    (Operation::Add, 0x7c00, 0xfc00, 0x7e00, INVALID),
+    (Operation::Sub, 0x7c00, 0x7c00, 0x7e00, INVALID),
+    (Operation::Sub, 0x3c00, 0x7c00, 0xfc00, Status::OK),
+    (Operation::Sub, 0x3c00, 0x7e05, 0x7e05, Status::OK),
+    (Operation::Add, 0xfc01, 0x7e05, 0xfe01, INVALID),
+    (Operation::Add, 0x3c00, 0x7c03, 0x7e03, INVALID),
+];
+
+#[test]
+fn special_operands(rt: HostRuntime) {
+    for (operation, a, b, bits, status) in &SPECIALS {
+        let got = answer::<HalfS>(*operation, *a, *b);
+        assert_eq!(rt; got, (*bits, *bits, *status), "{operation:?} {a:x} {b:x}");
+    }
+}
+
+/// A payload as a value, and the quiet and the signaling NaN with it; +0 where there is none. The rows for 0, -0, 1, 0.5
+/// and -1 agree with `setpayload` and `setpayloadsig` of glibc in double.
+static PAYLOADS: [(u128, u128, u128); 8] = [
+    (0x0000, 0x7e00, 0x0000),
+    (0x8000, 0x0000, 0x0000),
+    (0x3c00, 0x7e01, 0x7c01),
+    (0x3800, 0x0000, 0x0000),
+    (0xbc00, 0x0000, 0x0000),
+    (0x5ffc, 0x7fff, 0x7dff),
+    (0x6000, 0x0000, 0x0000),
+    (0x7c00, 0x0000, 0x0000),
+];
+
+/// A value of `half` and its payload.
+static PAYLOADS_OF: [(u128, u128); 6] = [
+    (0x7e00, 0x0000),
+    (0xfe01, 0x3c00),
+    (0x7dff, 0x5ffc),
+    (0x7fff, 0x5ffc),
+    (0x3c00, 0xbc00),
+    (0xfc00, 0xbc00),
+];
+
+#[test]
+fn payloads(rt: HostRuntime) {
+    for (bits, quiet, signaling) in &PAYLOADS {
+        let x = IeeeFloat::<HalfS>::from_bits(*bits);
+        let got = (set_payload(x).to_bits(), set_payload_signaling(x).to_bits());
+        assert_eq!(rt; got, (*quiet, *signaling), "{bits:x}");
+    }
+    for (bits, payload) in &PAYLOADS_OF {
+        let got = get_payload(IeeeFloat::<HalfS>::from_bits(*bits)).to_bits();
+        assert_eq!(rt; got, *payload, "{bits:x}");
+    }
+}
+
+/// In `x87` a payload has 62 bits; a NaN with integer bit 0 has the payload below its quiet bit. In `e4m3fn` the only
+/// payload is 0.
+#[test]
+fn payloads_elsewhere(rt: HostRuntime) {
+    let one = IeeeFloat::<X87DoubleExtendedS>::from_bits(0x3fff_8000_0000_0000_0000);
+    let pseudo = IeeeFloat::<X87DoubleExtendedS>::from_bits(0x7fff_4000_0000_0000_0001);
+    let zero = IeeeFloat::<Float8E4M3FNS>::from_bits(0);
+    let eighth = IeeeFloat::<Float8E4M3FNS>::from_bits(0x38);
+    let nan = IeeeFloat::<Float8E4M3FNS>::from_bits(0x7f);
+    let rows = [
+        (set_payload(one).to_bits(), 0x7fff_c000_0000_0000_0001),
+        (
+            set_payload_signaling(one).to_bits(),
+            0x7fff_8000_0000_0000_0001,
+        ),
+        (get_payload(pseudo).to_bits(), 0x3fff_8000_0000_0000_0000),
+        (set_payload(zero).to_bits(), 0x7f),
+        (set_payload(eighth).to_bits(), 0),
+        (set_payload_signaling(zero).to_bits(), 0),
+        (get_payload(nan).to_bits(), 0),
+    ];
+    for (got, expected) in rows {
+        assert_eq!(rt; got, expected);
+    }
+}

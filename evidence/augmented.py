@@ -1,0 +1,156 @@
+#!/usr/bin/env python3
+"""The rows of crates/apfloat_augmented/src/rows.rt: augmented sums and differences (IEEE 754-2019 9.5).
+
+Operands are bits. The exact result is a fraction. The head is found among all values of the format for half and the
+8-bit formats, and for single among the values next to the fraction. Nothing here is shared with the library's model
+in `exact`: `augmented.py` prints the rows, and `augmented.py --check FILE` compares them with a file.
+"""
+
+import random
+import sys
+from fractions import Fraction
+
+
+class Format:
+    def __init__(self, name, precision, least, greatest, exponent_bits, kind="ieee"):
+        self.name, self.precision, self.exponent_bits, self.kind = name, precision, exponent_bits, kind
+        self.least, self.greatest = least, greatest
+        self.trailing = precision - 1
+        self.bits = exponent_bits + precision
+        self.bias = 1 - least
+
+    def value(self, bits):
+        """("nan", sign), ("inf", sign) or ("number", sign, fraction)."""
+        sign = bits >> self.bits - 1
+        exponent = bits >> self.trailing & (1 << self.exponent_bits) - 1
+        trailing = bits & (1 << self.trailing) - 1
+        ones = (1 << self.exponent_bits) - 1
+        if self.kind == "ieee" and exponent == ones:
+            return ("nan", sign) if trailing else ("inf", sign)
+        if self.kind == "nan_only" and exponent == ones and trailing == (1 << self.trailing) - 1:
+            return ("nan", sign)
+        if self.kind == "nan_negative_zero" and bits == 1 << self.bits - 1:
+            return ("nan", 0)
+        if exponent:
+            trailing += 1 << self.trailing
+        number = Fraction(trailing) * Fraction(2) ** (max(exponent, 1) - self.bias - self.trailing)
+        return ("number", sign, -number if sign else number)
+
+    def bits_of(self, sign, magnitude):
+        """The bits of a number of the format."""
+        if magnitude == 0:
+            return 0 if self.kind == "nan_negative_zero" else sign << self.bits - 1
+        exponent = self.least
+        while magnitude >= Fraction(2) ** (exponent + 1):
+            exponent += 1
+        significand = magnitude / Fraction(2) ** (exponent - self.trailing)
+        assert significand.denominator == 1 and significand < 1 << self.precision
+        if significand < 1 << self.trailing:
+            field = int(significand)
+        else:
+            field = (exponent + self.bias << self.trailing) + int(significand) - (1 << self.trailing)
+        return sign << self.bits - 1 | field
+
+    def past(self, sign):
+        if self.kind == "ieee":
+            return sign << self.bits - 1 | ((1 << self.exponent_bits) - 1) << self.trailing
+        if self.kind == "nan_only":
+            return sign << self.bits - 1 | (1 << self.bits - 1) - 1
+        return 1 << self.bits - 1
+
+    def largest(self):
+        significand = (1 << self.precision) - (2 if self.kind == "nan_only" else 1)
+        return significand * Fraction(2) ** (self.greatest - self.trailing)
+
+    def nearest(self, magnitude):
+        """The nearest magnitude with an unbounded exponent above; of two as near, the lower."""
+        exponent = self.least
+        while magnitude >= Fraction(2) ** (exponent + 1):
+            exponent += 1
+        unit = Fraction(2) ** (exponent - self.trailing)
+        low = magnitude // unit * unit
+        return low if magnitude - low <= low + unit - magnitude else low + unit
+
+
+def augmented(f, exact, of_zero):
+    """The bits of head and tail, and the flags, of a fraction."""
+    sign = int(exact < 0) if exact else of_zero
+    head = f.nearest(abs(exact))
+    if head > f.largest():
+        return f.past(sign), f.past(sign), "Overflows"
+    rest = exact - (-head if sign else head)
+    tail = f.nearest(abs(rest))
+    tail_sign = int(rest < 0) if rest else sign
+    status = "Exact" if tail == abs(rest) else "Underflows"
+    return f.bits_of(sign, head), f.bits_of(tail_sign, tail), status
+
+
+def row(f, operation, a, b):
+    x, y = f.value(a), f.value(b)
+    if operation == "sub":
+        y = (y[0], 1 - y[1], -y[2])
+    exact = x[2] + y[2]
+    of_zero = x[1] if x[1] == y[1] else 0
+    return augmented(f, exact, of_zero)
+
+
+HALF = Format("half", 11, -14, 15, 5)
+E5M2 = Format("e5m2", 3, -14, 15, 5)
+E4M3FN = Format("e4m3fn", 4, -6, 8, 4, "nan_only")
+E4M3FNUZ = Format("e4m3fnuz", 4, -7, 7, 4, "nan_negative_zero")
+SINGLE = Format("single", 24, -126, 127, 8)
+
+# ties in both directions of evenness, ties past the largest value, zeros, denormal values, cancellation
+BY_HAND = {
+    "half": [
+        (0x3C00, 0x1000), (0x3C01, 0x1000), (0xBC01, 0x9000), (0x3C00, 0x1001), (0x3C01, 0x0FFF),
+        (0x7BFF, 0x4C00), (0xFBFF, 0xCC00), (0x7BFF, 0x4C01), (0x7BFF, 0x4BFF), (0x4C00, 0x7BFF),
+        (0x7BFF, 0x7BFF), (0x7800, 0x7801), (0x0000, 0x8000), (0x8000, 0x8000), (0x3C00, 0xBC00),
+        (0xBC00, 0x3C00), (0x0001, 0x0001), (0x03FF, 0x0001), (0x8001, 0x0002), (0x7BFF, 0x0001),
+        (0x3C00, 0x8001), (0x6400, 0x3800), (0x6401, 0x3800), (0x6401, 0xB800), (0x3555, 0x3C00),
+    ],
+    "e5m2": [(0x7B, 0x6C), (0x7B, 0x6D), (0xFB, 0xEC), (0x3C, 0x30), (0x3D, 0x30), (0x7A, 0x68)],
+    "e4m3fn": [(0x7E, 0x58), (0x7E, 0x50), (0x7E, 0x51), (0xFE, 0xD0), (0x38, 0xB8), (0x80, 0x80), (0x39, 0x18)],
+    "e4m3fnuz": [(0x7F, 0x58), (0x7F, 0x50), (0x7F, 0x51), (0xFF, 0xD0), (0x38, 0xB8), (0x00, 0xC0), (0x41, 0x20)],
+    "single": [
+        (0x3F800000, 0x33800000), (0x3F800001, 0x33800000), (0x7F7FFFFF, 0x73000000), (0x7F7FFFFF, 0x73000001),
+        (0x3F800001, 0xB3800000), (0x7F7FFFFF, 0x00000001), (0x00000001, 0x80000001),
+    ],
+}
+FORMATS = [HALF, E5M2, E4M3FN, E4M3FNUZ, SINGLE]
+
+
+def rows(f):
+    drawn = random.Random(9500 + f.bits)
+    pairs = list(BY_HAND[f.name])
+    while len(pairs) < len(BY_HAND[f.name]) + 12:
+        a, b = drawn.getrandbits(f.bits), drawn.getrandbits(f.bits)
+        if drawn.random() < 0.5:
+            close = (a >> f.trailing & (1 << f.exponent_bits) - 1) - drawn.randrange(f.precision + 2)
+            b = b & ~((1 << f.exponent_bits) - 1 << f.trailing) | max(close, 0) << f.trailing
+        if f.value(a)[0] == f.value(b)[0] == "number":
+            pairs.append((a, b))
+    for a, b in pairs:
+        for operation in ("add", "sub"):
+            yield (operation, a, b) + row(f, operation, a, b)
+
+
+def text():
+    lines = []
+    for f in FORMATS:
+        these = list(rows(f))
+        digits = f.bits // 4
+        lines += ["", f"pub static {f.name.upper()}: [Row; {len(these)}] = ["]
+        for operation, a, b, head, tail, status in these:
+            numbers = ", ".join(f"0x{n:0{digits}x}" for n in (a, b, head, tail))
+            lines.append(f"    ({operation.title()}, {numbers}, {status}),")
+        lines.append("];")
+    return "\n".join(lines[1:]) + "\n"
+
+
+if __name__ == "__main__":
+    if len(sys.argv) == 3 and sys.argv[1] == "--check":
+        ok = text() in open(sys.argv[2]).read()
+        print("the same rows" if ok else "other rows")
+        sys.exit(0 if ok else 1)
+    print(text(), end="")
