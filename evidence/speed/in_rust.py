@@ -49,16 +49,18 @@ def main():
     parser.add_argument("--crate", type=Path, required=True, help="the Rust crate, as an rlib")
     parser.add_argument("--rounds", type=int, default=3)
     parser.add_argument("--count", action="store_true", help="count instructions")
+    parser.add_argument("--call", help="leave out all other calls")
     parser.add_argument("--store", action="store_true", help="put the times into in_rust.tsv and docs/SPEED.md")
     arguments = parser.parse_args()
     program = built(arguments.crate.resolve())
     with tempfile.TemporaryDirectory() as folder:
         write_operands(Path(folder))
+        calls = [arguments.call] if arguments.call else []
         if arguments.count:
-            cells, different = counted(program, Path(folder)), []
+            cells, different = counted(program, Path(folder), calls)
         else:
-            cells, different = timed(program, folder, arguments.rounds)
-    if arguments.store and not arguments.count:
+            cells, different = timed(program, folder, calls, arguments.rounds)
+    if arguments.store and not arguments.count and not calls:
         store(cells)
     unit = "instructions" if arguments.count else "nanoseconds"
     print(table(cells))
@@ -89,34 +91,41 @@ def write_operands(folder):
                 compare.operand_file(folder, name, operation, operands)
 
 
-def timed(program, folder, rounds):
+def timed(program, folder, calls, rounds):
     """The least times of the library and of the crate, by cell, and the cells whose results differ."""
     cells, different = {}, set()
     for _ in range(rounds):
-        lines = subprocess.check_output([program, folder, "time"], text=True).splitlines()
-        for *cell, ours, theirs, same in (line.split("\t") for line in lines):
-            known = cells.setdefault(tuple(cell), (math.inf, math.inf))
-            cells[tuple(cell)] = tuple(map(min, known, (float(ours), float(theirs))))
-            if same != "same":
-                different.add(tuple(cell))
+        for cell, ours, theirs, same in lines_of([program, folder, "time", *calls]):
+            known = cells.setdefault(cell, (math.inf, math.inf))
+            cells[cell] = tuple(map(min, known, (float(ours), float(theirs))))
+            if not same:
+                different.add(cell)
     return cells, sorted(different)
 
 
-def counted(program, folder):
-    """The instructions of a call of the library and of the crate, by cell."""
+def lines_of(command):
+    """What the program prints: a cell, the times of both, and whether their results are the same."""
+    for line in subprocess.check_output(command, text=True).splitlines():
+        *cell, ours, theirs, same = line.split("\t")
+        yield tuple(cell), ours, theirs, same == "same"
+
+
+def counted(program, folder, calls):
+    """The instructions of a call of the library and of the crate, by cell, and the cells whose results differ."""
     out = folder / "out"
     out.mkdir()
-    subprocess.run(["valgrind", "-q", "--tool=callgrind", "--collect-atstart=no", "--dump-line=no",
-                    f"--callgrind-out-file={out}/calls", program, folder, "count"], check=True)
+    valgrind = ["valgrind", "-q", "--tool=callgrind", "--collect-atstart=no", "--dump-line=no",
+                f"--callgrind-out-file={out}/calls"]
+    lines = list(lines_of([*valgrind, program, folder, "count", *calls]))
     counts = {}
     for file in out.iterdir():
         text = file.read_text()
-        if "Client Request: " not in text:
-            continue
-        *cell, side, calls = text.split("Client Request: ")[1].split("\n")[0].split("\t")
-        total = int(text.split("\ntotals: ")[1].split()[0])
-        counts.setdefault(tuple(cell), {})[side] = total / int(calls)
-    return {cell: (sides["library"], sides["crate"]) for cell, sides in counts.items()}
+        if "Client Request: " in text:
+            *cell, side, made = text.split("Client Request: ")[1].split("\n")[0].split("\t")
+            total = int(text.split("\ntotals: ")[1].split()[0])
+            counts.setdefault(tuple(cell), {})[side] = total / int(made)
+    cells = {cell: (counts[cell]["library"], counts[cell]["crate"]) for cell, *_ in lines}
+    return cells, [cell for cell, *_, same in lines if not same]
 
 
 def store(cells):

@@ -1,9 +1,9 @@
 //! Measures the calls of this library's crate, `ours`, and of the Rust crate, `theirs`, in turn in one run:
-//! `in_rust FOLDER time|count`.
+//! `in_rust FOLDER time|count [CALL]`.
 //!
 //! FOLDER has the operands of each cell, as `in_rust.py` writes them. `time` prints for each cell the nanoseconds of a
-//! call of either in its fastest round, and whether all results are the same. `count` is for callgrind: it makes each
-//! call once, and asks for a dump of the instructions of each cell.
+//! call of either in its fastest round, and whether all results are the same. `count` is for callgrind: it asks for a
+//! dump of the instructions of each cell in place of the times. CALL leaves out all other calls.
 
 use std::fmt;
 use std::hint::black_box;
@@ -161,10 +161,11 @@ fn count(side: &mut Box<dyn Measured>, name: &str) {
 fn main() {
     let words: Vec<String> = std::env::args().skip(1).collect();
     let counts = words[1] == "count";
+    let wanted = words.get(2).map(String::as_str);
     for set in SETS {
         for call in CALLS {
             for format in FORMATS {
-                if call == "from_i128" && set != SETS[0] {
+                if call == "from_i128" && set != SETS[0] || wanted.is_some_and(|wanted| wanted != call) {
                     continue;
                 }
                 let text = std::fs::read_to_string(format!("{}/{}", words[0], file_of(format, call, set))).unwrap();
@@ -174,14 +175,16 @@ fn main() {
                 let [Some(library), Some(other)] = sides else { continue };
                 let mut sides = [library, other];
                 let name = format!("{set}\t{call}\t{format}");
+                let mut times = [0.0; 2];
                 if counts {
                     count(&mut sides[0], &format!("{name}\tlibrary"));
                     count(&mut sides[1], &format!("{name}\tcrate"));
-                    continue;
+                } else {
+                    times = timed(&mut sides);
                 }
-                let [ours, theirs] = timed(&mut sides);
-                let same = sides[0].results() == sides[1].results();
-                println!("{name}\t{ours:.1}\t{theirs:.1}\t{}", if same { "same" } else { "different" });
+                let [ours, theirs] = times;
+                let same = if sides[0].results() == sides[1].results() { "same" } else { "different" };
+                println!("{name}\t{ours:.1}\t{theirs:.1}\t{same}");
             }
         }
     }

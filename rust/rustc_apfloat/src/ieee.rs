@@ -8,7 +8,7 @@ use crate::erased::{apfloat_decimals, apfloat_ieee};
 use crate::far;
 use crate::law::Constants;
 use crate::status::answered;
-use crate::{Category, Decimal, ExpInt, Float, FloatConvert, ParseError, Round, StatusAnd};
+use crate::{Category, Decimal, ExpInt, Float, FloatConvert, ParseError, Round, Status, StatusAnd};
 use core::cmp::Ordering;
 use core::fmt;
 use core::marker::PhantomData;
@@ -407,7 +407,16 @@ impl<S: Semantics> PartialEq for IeeeFloat<S> {
 impl<S: Semantics> PartialOrd for IeeeFloat<S> {
     #[inline]
     fn partial_cmp(&self, other: &Self) -> Option<Ordering> {
-        self.inner().partial_cmp(&other.inner())
+        if self.value.category != Category::Normal || other.value.category != Category::Normal {
+            return self.inner().partial_cmp(&other.inner());
+        }
+        // Two numbers: the library's order of magnitudes, where the signs do not decide. This is faster than its order
+        // of all values, which has cases for each.
+        let by_sign = other.value.negative.cmp(&self.value.negative);
+        Some(by_sign.then_with(|| {
+            let magnitudes = self.inner().cmp_abs_normal(other.inner());
+            if self.value.negative { magnitudes.reverse() } else { magnitudes }
+        }))
     }
 }
 
