@@ -5,7 +5,7 @@ use std::process::exit;
 
 fn main() {
     let crates: PathBuf = Path::new(&variable("CARGO_MANIFEST_DIR")).join("../../crates");
-    let names: Vec<&str> = erase::LIBRARY.into_iter().chain(erase::FOR_C).collect();
+    let names: Vec<&str> = erase::LIBRARY.iter().chain(erase::FOR_C).copied().collect();
     for name in &names {
         println!("cargo::rerun-if-changed={}", crates.join(name).join("src").display());
     }

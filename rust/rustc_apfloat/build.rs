@@ -10,7 +10,7 @@ fn main() {
     for name in erase::LIBRARY {
         println!("cargo::rerun-if-changed={}", crates.join(name).join("src").display());
     }
-    if let Err(refusal) = erase::erase(&crates, &erase::LIBRARY, Path::new(&out)) {
+    if let Err(refusal) = erase::erase(&crates, erase::LIBRARY, Path::new(&out)) {
         println!("cargo::error={refusal}");
         exit(1);
     }

@@ -16,7 +16,7 @@ use std::path::{Path, PathBuf};
 use walk::{Erased, Place};
 
 /// The crates of the library, lowest first.
-pub const LIBRARY: [&str; 15] = [
+pub const LIBRARY: &[&str] = &[
     "apfloat_model",
     "apfloat_words",
     "apfloat_base",
@@ -30,12 +30,14 @@ pub const LIBRARY: [&str; 15] = [
     "apfloat_formats",
     "apfloat_pairs",
     "apfloat_decimals",
+    "decimal_digits",
     "pair_decimals",
+    "apfloat_comparisons",
     "pair_operations",
 ];
 
 /// The crates that the library for C has above those.
-pub const FOR_C: [&str; 4] = ["rustc_apfloat", "formats_at_run_time", "array_conversions", "apfloat_c"];
+pub const FOR_C: &[&str] = &["rustc_apfloat", "formats_at_run_time", "array_conversions", "apfloat_c"];
 
 /// Modules that are left out, since no call of the erased crates uses them: streams are converted in buffers that a
 /// program has allocated.
@@ -72,7 +74,7 @@ pub fn erase(crates: &Path, names: &[&str], out: &Path) -> Result<(), Refusal> {
 
 /// Erases one text, as a file of the crate `name`.
 pub fn erase_text(text: &str, name: &str) -> Result<String, Refusal> {
-    let known: Vec<&str> = LIBRARY.iter().chain(&FOR_C).chain(&GIVEN).copied().collect();
+    let known: Vec<&str> = LIBRARY.iter().chain(FOR_C).chain(&GIVEN).copied().collect();
     let place = Place { name, root: ROOT, crates: &known, without: without(name) };
     erased(text, &place, Path::new(name)).map(|erased| erased.text)
 }

@@ -13,7 +13,7 @@ fn main() -> ExitCode {
         eprintln!("{USAGE}");
         return ExitCode::from(2);
     };
-    let names = if names.is_empty() { erase::LIBRARY.as_slice() } else { names };
+    let names = if names.is_empty() { erase::LIBRARY } else { names };
     match erase::erase(Path::new(crates), names, Path::new(out)) {
         Ok(()) => ExitCode::SUCCESS,
         Err(refusal) => {

@@ -44,7 +44,7 @@ fn the_library_is_erased_line_by_line() {
     let crates = Path::new(concat!(env!("CARGO_MANIFEST_DIR"), "/../../crates"));
     let out = Path::new(env!("CARGO_TARGET_TMPDIR")).join("library");
     let _ = fs::remove_dir_all(&out);
-    let names: Vec<&str> = erase::LIBRARY.into_iter().chain(erase::FOR_C).collect();
+    let names: Vec<&str> = erase::LIBRARY.iter().chain(erase::FOR_C).copied().collect();
     if let Err(refusal) = erase::erase(crates, &names, &out) {
         panic!("{refusal}");
     }
@@ -54,40 +54,27 @@ fn the_library_is_erased_line_by_line() {
     assert_eq!(modules.matches("mod ").count(), names.len());
 }
 
-/// The crates that a crate needs, itself included, lowest first.
-fn needed(lines: &str, name: &str, all: &mut Vec<String>) {
-    let line = lines.lines().find_map(|line| line.strip_prefix(&format!("{name}: ")));
-    for other in line.unwrap_or("").split(' ').filter(|other| !other.is_empty() && *other != "bitflags") {
-        needed(lines, other, all);
-    }
-    if !all.iter().any(|known| known == name) {
-        all.push(name.to_owned());
-    }
+/// The crates that a crate uses.
+fn used<'a>(lines: &'a str, name: &str) -> Vec<&'a str> {
+    let words = lines.lines().map(|line| line.split_once(':').unwrap_or((line, "")));
+    let of = words.clone().find(|(head, _)| head.split(' ').next() == Some(name));
+    let (_, names) = of.unwrap_or_else(|| panic!("crates.txt has no {name}"));
+    names.split_whitespace().filter(|used| *used != "bitflags").collect()
 }
 
 #[test]
-fn the_library_is_what_crates_txt_says() {
+fn each_crate_stands_above_those_that_it_uses() {
     let lines = fs::read_to_string(concat!(env!("CARGO_MANIFEST_DIR"), "/../../crates.txt")).unwrap();
-    let mut all = Vec::new();
-    needed(&lines, "rustc_apfloat", &mut all);
-    // Its text is re-exports alone, which the interface in Rust has in place of it.
-    all.pop();
-    needed(&lines, "pair_decimals", &mut all);
+    let names: Vec<&str> = erase::LIBRARY.iter().chain(erase::FOR_C).copied().collect();
+    for (place, name) in names.iter().enumerate() {
+        for below in used(&lines, name) {
+            assert!(names[..place].contains(&below), "{name} uses {below}, which does not stand before it");
+        }
+    }
+    // None stands there for C that the library for C does not use.
+    let for_c = used(&lines, "apfloat_c");
+    assert!(erase::FOR_C.iter().all(|name| *name == "apfloat_c" || for_c.contains(name)));
     needed(&lines, "pair_operations", &mut all);
-    let mut listed: Vec<&str> = erase::LIBRARY.to_vec();
-    all.sort();
-    listed.sort();
-    assert_eq!(all, listed);
-
-    let mut for_c = Vec::new();
-    needed(&lines, "apfloat_c staticlib", &mut for_c);
-    for_c.retain(|name| !all.contains(name));
-    for_c.pop();
-    for_c.push("apfloat_c".to_owned());
-    let mut listed: Vec<&str> = erase::FOR_C.to_vec();
-    for_c.sort();
-    listed.sort();
-    assert_eq!(for_c, listed);
 }
 
 #[test]

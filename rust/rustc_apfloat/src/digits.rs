@@ -1,142 +1,163 @@
-//! What the library has no calls for: exact decimal digits of any count, which `Display` needs, and decimal texts in
-//! formats whose exponents are past those of binary128, or that raise the flags of IEEE 754.
+//! Values in decimal, as the crate `rustc_apfloat` lays them out. The digits are the library's: `rounded` has up to 36
+//! of them, and `write_digits` any number. Each value is rounded once.
+//!
+//! That crate first cuts digits off, by a count that it estimates from the binary digits, and then rounds half up to
+//! those that are wanted. So it rounds to nearest, ties away from zero, unless the estimate leaves exactly the digits
+//! that are wanted: then it rounds toward zero.
 
 use crate::Category;
-use crate::erased::apfloat_base::{ExpInt, Round, StatusAnd};
-use crate::erased::apfloat_ieee::{Flagged, IeeeFloat, deliver};
-use crate::erased::apfloat_model::Loss;
+use crate::erased::apfloat_base::{ExpInt, Float as _, Round, Status};
+use crate::erased::apfloat_decimals::large::Large;
+use crate::erased::apfloat_decimals::{first_place, rounded as rounded_decimal};
+use crate::erased::apfloat_ieee::{IeeeFloat, Semantics};
+use crate::erased::decimal_digits::{Written, digit_count, write_digits};
 use alloc::vec::Vec;
-use core::cmp::Ordering;
 use core::fmt::{self, Write};
+use core::str;
 
-/// Decimal digits are taken in groups of so many, which fit in a word.
-const GROUP: u32 = 9;
-const TEN_TO_GROUP: u32 = 10u32.pow(GROUP);
+/// As many digits as `rounded` gives at most.
+const MOST_OF_A_DECIMAL: usize = 36;
 
-/// A whole number: 32-bit words, the lowest first, without zeros at the top.
-#[derive(Clone)]
-struct Whole(Vec<u32>);
+/// A number as that crate sees it: an odd integer times a power of two.
+#[derive(Clone, Copy)]
+pub(crate) struct Number {
+    pub odd: u128,
+    pub twos: ExpInt,
+}
 
-impl Whole {
-    fn new(value: u128) -> Self {
-        let mut whole = Whole((0..4).map(|i| (value >> (32 * i)) as u32).collect());
-        whole.trim();
-        whole
+impl Number {
+    pub(crate) fn new(significand: u128, exponent: ExpInt) -> Self {
+        let zeros = significand.trailing_zeros();
+        Number { odd: significand >> zeros, twos: exponent + zeros as ExpInt }
     }
 
-    fn of_digits(digits: impl Iterator<Item = u32>) -> Self {
-        let mut whole = Whole(Vec::new());
-        let (mut group, mut scale) = (0, 1);
-        for digit in digits {
-            (group, scale) = (group * 10 + digit, scale * 10);
-            if scale == TEN_TO_GROUP {
-                whole.times_plus(scale, group);
-                (group, scale) = (0, 1);
-            }
+    /// The number itself or, if that is no integer, the least integer that is the number times a power of ten; if it is
+    /// below 2^128.
+    fn whole(self) -> Option<u128> {
+        let power = self.twos.unsigned_abs();
+        if self.twos < 0 {
+            return 5u128.checked_pow(power)?.checked_mul(self.odd);
         }
-        whole.times_plus(scale, group);
-        whole
+        (power < self.odd.leading_zeros()).then(|| self.odd << power)
     }
 
-    fn trim(&mut self) {
-        while self.0.last() == Some(&0) {
-            self.0.pop();
+    /// How many binary digits that integer has.
+    fn length_of_whole(self) -> usize {
+        let mut whole = Large::from_digits(self.odd);
+        if self.twos >= 0 {
+            return whole.digits() as usize + self.twos as usize;
         }
-    }
-
-    fn bit_length(&self) -> usize {
-        self.0.last().map_or(0, |top| self.0.len() * 32 - top.leading_zeros() as usize)
-    }
-
-    fn times_plus(&mut self, factor: u32, more: u32) {
-        let mut carry = u64::from(more);
-        for word in &mut self.0 {
-            carry += u64::from(*word) * u64::from(factor);
-            *word = carry as u32;
-            carry >>= 32;
-        }
-        if carry != 0 {
-            self.0.push(carry as u32);
-        }
-    }
-
-    fn times_five_to(&mut self, power: u32) {
-        const STEP: u32 = 13;
-        for _ in 0..power / STEP {
-            self.times_plus(5u32.pow(STEP), 0);
-        }
-        self.times_plus(5u32.pow(power % STEP), 0);
-    }
-
-    fn shift_left(&mut self, places: usize) {
-        self.times_plus(1 << (places % 32), 0);
-        if !self.0.is_empty() {
-            self.0.splice(0..0, core::iter::repeat_n(0, places / 32));
-        }
-    }
-
-    fn halve(&mut self) {
-        let mut carry = 0;
-        for word in self.0.iter_mut().rev() {
-            (*word, carry) = (*word >> 1 | carry << 31, *word & 1);
-        }
-        self.trim();
-    }
-
-    /// Divides, and gives the remainder.
-    fn divide(&mut self, divisor: u32) -> u32 {
-        let mut rest = 0;
-        for word in self.0.iter_mut().rev() {
-            rest = rest << 32 | u64::from(*word);
-            *word = (rest / u64::from(divisor)) as u32;
-            rest %= u64::from(divisor);
-        }
-        self.trim();
-        rest as u32
-    }
-
-    /// Subtracts a number that is not greater.
-    fn subtract(&mut self, other: &Whole) {
-        let mut borrow = 0;
-        for (i, word) in self.0.iter_mut().enumerate() {
-            let (less, first) = word.overflowing_sub(other.0.get(i).copied().unwrap_or(0));
-            let (less, second) = less.overflowing_sub(borrow);
-            (*word, borrow) = (less, u32::from(first || second));
-        }
-        self.trim();
-    }
-
-    fn order(&self, other: &Whole) -> Ordering {
-        let by_length = self.0.len().cmp(&other.0.len());
-        by_length.then_with(|| self.0.iter().rev().cmp(other.0.iter().rev()))
-    }
-
-    /// The decimal digits, the first one first.
-    fn digits(mut self) -> Vec<u8> {
-        let mut digits = Vec::new();
-        while !self.0.is_empty() {
-            let mut group = self.divide(TEN_TO_GROUP);
-            for _ in 0..GROUP {
-                digits.push((group % 10) as u8);
-                group /= 10;
-            }
-        }
-        while digits.last() == Some(&0) {
-            digits.pop();
-        }
-        digits.reverse();
-        digits
+        whole.times_five_to(self.twos.unsigned_abs());
+        whole.digits() as usize
     }
 }
 
-/// Writes a value as the crate `rustc_apfloat` does, from its significand and the exponent of the last digit.
+/// The mode in which that crate rounds to `wanted` digits, of an integer of so many binary and decimal digits.
+pub(crate) fn round_for(binary: usize, decimal: usize, wanted: usize) -> Round {
+    // The logarithm of 2 is a little more than 59 / 196.
+    let surplus = binary.saturating_sub((wanted * 196).div_ceil(59));
+    let cut = surplus * 59 / 196;
+    if decimal - cut > wanted { Round::NearestTiesToAway } else { Round::TowardZero }
+}
+
+/// The digits of a number, as bytes, without zeros at the end.
+pub(crate) struct Digits {
+    few: [u8; MOST_OF_A_DECIMAL],
+    many: Vec<u8>,
+    count: usize,
+    /// The exponent of ten of the first one.
+    first: ExpInt,
+    is_exact: bool,
+}
+
+impl Digits {
+    pub(crate) fn new(many: Vec<u8>, first: ExpInt, is_exact: bool) -> Self {
+        let mut digits = Digits { few: [b'0'; MOST_OF_A_DECIMAL], count: many.len(), many, first, is_exact };
+        digits.drop_zeros();
+        digits
+    }
+
+    pub(crate) fn power_of_ten(exponent: ExpInt) -> Self {
+        let mut few = [b'0'; MOST_OF_A_DECIMAL];
+        few[0] = b'1';
+        Digits { few, many: Vec::new(), count: 1, first: exponent, is_exact: false }
+    }
+
+    /// The digits of a number of at most 36, whose last one has that exponent of ten.
+    fn of_decimal(mut number: u128, count: usize, last: ExpInt, is_exact: bool) -> Self {
+        const IN_A_WORD: usize = 19;
+        let mut few = [b'0'; MOST_OF_A_DECIMAL];
+        for group in few[..count].rchunks_mut(IN_A_WORD) {
+            let mut word = (number % 10u128.pow(IN_A_WORD as u32)) as u64;
+            number /= 10u128.pow(IN_A_WORD as u32);
+            for digit in group.iter_mut().rev() {
+                *digit = b'0' + (word % 10) as u8;
+                word /= 10;
+            }
+        }
+        let mut digits = Digits { few, many: Vec::new(), count, first: last + (count as ExpInt - 1), is_exact };
+        digits.drop_zeros();
+        digits
+    }
+
+    /// The digits of a nonzero number, rounded once to `count` of them.
+    fn of<S: Semantics>(x: IeeeFloat<S>, count: usize, round: Round) -> Self {
+        if count <= MOST_OF_A_DECIMAL
+            && let Some((decimal, is_exact)) = rounded_decimal(x, count as u32, round)
+        {
+            return Self::of_decimal(decimal.digits, count, decimal.exponent, is_exact);
+        }
+        // In as many digits as the value has, it is exact in each mode.
+        let all = digit_count(x).unwrap_or(1) as usize;
+        let mut many = Vec::new();
+        many.resize(count.min(all), b'0');
+        match write_digits(x, round, &mut many) {
+            Written::Digits(answer) => Self::new(many, answer.value, answer.status == Status::OK),
+            Written::WithoutDigits(_) | Written::NoRoom => unreachable!("a number has a first digit"),
+        }
+    }
+
+    fn drop_zeros(&mut self) {
+        while self.count > 1 && self.bytes().last() == Some(&b'0') {
+            self.count -= 1;
+        }
+    }
+
+    fn bytes(&self) -> &[u8] {
+        if self.many.is_empty() { &self.few[..self.count] } else { &self.many[..self.count] }
+    }
+}
+
+/// The digits of a nonzero number, rounded to `wanted` of them as that crate rounds. If none are wanted, it writes the
+/// next power of ten.
+pub(crate) fn rounded<S: Semantics>(x: IeeeFloat<S>, number: Number, wanted: usize) -> Digits {
+    if wanted == 0 {
+        return Digits::power_of_ten(first_place(x.abs()) + 1);
+    }
+    if let Some(whole) = number.whole() {
+        let (binary, decimal) = (u128::BITS - whole.leading_zeros(), whole.ilog10() + 1);
+        return Digits::of(x, wanted, round_for(binary as usize, decimal as usize, wanted));
+    }
+    let nearest = Digits::of(x, wanted, Round::NearestTiesToAway);
+    if nearest.is_exact {
+        return nearest;
+    }
+    // A 1 alone may be what a carry made of the digit before it.
+    let first = if nearest.bytes() == b"1" { first_place(x.abs()) } else { nearest.first };
+    let decimal = first + 1 - number.twos.min(0);
+    match round_for(number.length_of_whole(), decimal as usize, wanted) {
+        Round::TowardZero => Digits::of(x, wanted, Round::TowardZero),
+        _ => nearest,
+    }
+}
+
+/// Writes a value: `digits` gives those of a nonzero number, as many as are wanted.
 pub(crate) fn write(
     f: &mut fmt::Formatter<'_>,
     category: Category,
     negative: bool,
-    significand: u128,
-    exponent: ExpInt,
     precision: usize,
+    digits: impl FnOnce(usize) -> Digits,
 ) -> fmt::Result {
     match category {
         Category::NaN => return f.write_str("NaN"),
@@ -144,18 +165,21 @@ pub(crate) fn write(
         Category::Zero | Category::Normal if negative => f.write_char('-')?,
         Category::Zero | Category::Normal => {}
     }
-    match category {
-        Category::Zero => write_zero(f),
-        _ => write_number(f, significand, exponent, precision),
+    if category == Category::Zero {
+        return write_zero(f);
     }
+    // As many digits as tell a value from the others of its format.
+    let wanted = f.precision().unwrap_or(2 + precision * 59 / 196);
+    let digits = digits(wanted);
+    write_number(f, digits.bytes(), digits.first, wanted)
 }
 
 fn write_zeros(f: &mut fmt::Formatter<'_>, count: usize) -> fmt::Result {
     (0..count).try_for_each(|_| f.write_char('0'))
 }
 
-fn write_digits(f: &mut fmt::Formatter<'_>, digits: &[u8]) -> fmt::Result {
-    digits.iter().try_for_each(|digit| f.write_char((b'0' + digit) as char))
+fn write_bytes(f: &mut fmt::Formatter<'_>, digits: &[u8]) -> fmt::Result {
+    f.write_str(str::from_utf8(digits).map_err(|_| fmt::Error)?)
 }
 
 fn write_zero(f: &mut fmt::Formatter<'_>) -> fmt::Result {
@@ -170,65 +194,10 @@ fn write_zero(f: &mut fmt::Formatter<'_>) -> fmt::Result {
     f.write_str("e+00")
 }
 
-/// The digits of `significand * 2^exponent`, at most so many, and the exponent of ten of the last.
-///
-/// Digits that are clearly more than those wanted are cut first, by a count that is estimated from the binary digits,
-/// and only then is the number rounded, half up; so it is cut where the estimate leaves exactly the digits wanted.
-fn rounded_digits(significand: u128, exponent: ExpInt, wanted: usize) -> (Vec<u8>, ExpInt) {
-    let zeros = significand.trailing_zeros();
-    let mut number = Whole::new(significand >> zeros);
-    let exponent = exponent + zeros as ExpInt;
-    let mut last = exponent.min(0);
-    if exponent > 0 {
-        number.shift_left(exponent as usize);
-    } else {
-        number.times_five_to(exponent.unsigned_abs());
-    }
-
-    // The logarithm of 2 is a little more than 59 / 196.
-    let surplus = number.bit_length().saturating_sub((wanted * 196).div_ceil(59));
-    let mut digits = number.digits();
-    let cut = surplus * 59 / 196;
-    digits.truncate(digits.len() - cut);
-    last += cut as ExpInt;
-    drop_zeros(&mut digits, &mut last);
-    if digits.len() > wanted {
-        let up = digits[wanted] >= 5;
-        last += (digits.len() - wanted) as ExpInt;
-        digits.truncate(wanted);
-        if up {
-            while digits.last() == Some(&9) {
-                digits.pop();
-                last += 1;
-            }
-            if let Some(digit) = digits.last_mut() {
-                *digit += 1;
-            }
-        } else {
-            drop_zeros(&mut digits, &mut last);
-        }
-    }
-    // A carry past the first digit; or no digits were wanted.
-    if digits.is_empty() {
-        digits.push(1);
-    }
-    (digits, last)
-}
-
-fn drop_zeros(digits: &mut Vec<u8>, last: &mut ExpInt) {
-    while digits.last() == Some(&0) {
-        digits.pop();
-        *last += 1;
-    }
-}
-
-fn write_number(f: &mut fmt::Formatter<'_>, significand: u128, exponent: ExpInt, precision: usize) -> fmt::Result {
-    // As many digits as tell a value from the others of its format.
-    let wanted = f.precision().unwrap_or(2 + precision * 59 / 196);
+fn write_number(f: &mut fmt::Formatter<'_>, digits: &[u8], first: ExpInt, wanted: usize) -> fmt::Result {
     let most_zeros = f.width().unwrap_or(3);
-    let (digits, last) = rounded_digits(significand, exponent, wanted);
     let count = digits.len();
-    let first = last + (count as ExpInt - 1);
+    let last = first - (count as ExpInt - 1);
     let scientific = most_zeros == 0
         || if last >= 0 {
             last as usize > most_zeros || count + last as usize > wanted
@@ -236,28 +205,28 @@ fn write_number(f: &mut fmt::Formatter<'_>, significand: u128, exponent: ExpInt,
             first < 0 && first.unsigned_abs() as usize > most_zeros
         };
     if scientific {
-        return write_scientific(f, &digits, first, wanted);
+        return write_scientific(f, digits, first, wanted);
     }
     if last >= 0 {
-        write_digits(f, &digits)?;
+        write_bytes(f, digits)?;
         return write_zeros(f, last as usize);
     }
     let places = last.unsigned_abs() as usize;
     if places < count {
-        write_digits(f, &digits[..count - places])?;
+        write_bytes(f, &digits[..count - places])?;
         f.write_char('.')?;
-        write_digits(f, &digits[count - places..])
+        write_bytes(f, &digits[count - places..])
     } else {
         f.write_str("0.")?;
         write_zeros(f, places - count)?;
-        write_digits(f, &digits)
+        write_bytes(f, digits)
     }
 }
 
 fn write_scientific(f: &mut fmt::Formatter<'_>, digits: &[u8], first: ExpInt, wanted: usize) -> fmt::Result {
-    write_digits(f, &digits[..1])?;
+    write_bytes(f, &digits[..1])?;
     f.write_char('.')?;
-    write_digits(f, &digits[1..])?;
+    write_bytes(f, &digits[1..])?;
     if f.alternate() {
         write_zeros(f, (wanted + 1).saturating_sub(digits.len()))?;
         return write!(f, "e{first:+03}");
@@ -266,80 +235,4 @@ fn write_scientific(f: &mut fmt::Formatter<'_>, digits: &[u8], first: ExpInt, wa
         f.write_char('0')?;
     }
     write!(f, "E{first:+}")
-}
-
-/// The number that a decimal text spells, which has no fault, rounded once.
-pub(crate) fn read<S: Flagged>(text: &str, round: Round) -> StatusAnd<IeeeFloat<S>> {
-    let negative = text.starts_with('-');
-    let (number, exponent) = text.split_once(['e', 'E']).unwrap_or((text, "0"));
-    let places = number.split_once('.').map_or(0, |(_, fraction)| fraction.len());
-    let digits = number.bytes().filter(u8::is_ascii_digit).map(|byte| u32::from(byte - b'0'));
-    let digits = digits.skip_while(|digit| *digit == 0);
-    let count = digits.clone().count();
-    if count == 0 {
-        return deliver::<S>(0, 0, Loss::ExactlyZero, round, negative);
-    }
-
-    // A number with its first digit past this place is past every value on its side.
-    const FAR: i64 = 1 << 19;
-    let first = clamped(exponent).saturating_sub_unsigned(places as u64).saturating_add_unsigned(count as u64);
-    if !(-FAR..FAR).contains(&first) {
-        let exponent = if first < 0 { -(1 << 22) } else { 1 << 22 };
-        return deliver::<S>(1, exponent, Loss::ExactlyZero, round, negative);
-    }
-
-    // No value, nor the middle of two, has as many digits; one digit says whether there are others after these.
-    let most = 2 * S::PRECISION + S::MIN_EXP.unsigned_abs().max(S::MAX_EXP.unsigned_abs()) as usize;
-    let mut number = Whole::of_digits(digits.clone().take(most));
-    let mut last = first - count.min(most) as i64;
-    if digits.skip(most).any(|digit| digit != 0) {
-        number.times_plus(10, 1);
-        last -= 1;
-    }
-
-    let mut divisor = Whole::new(1);
-    let fives = if last < 0 { &mut divisor } else { &mut number };
-    fives.times_five_to(last.unsigned_abs() as u32);
-    let (quotient, twos, loss) = quotient(number, divisor);
-    deliver::<S>(quotient, twos + last as ExpInt, loss, round, negative)
-}
-
-/// The number that an exponent spells, or one past all that matter.
-fn clamped(text: &str) -> i64 {
-    let negative = text.starts_with('-');
-    let digits = text.bytes().filter(u8::is_ascii_digit);
-    let number = digits.fold(0i64, |number, byte| number.saturating_mul(10).saturating_add(i64::from(byte - b'0')));
-    // Less than the greatest, so that the places of a text do not bring it back.
-    let number = number.min(i64::MAX / 2);
-    if negative { -number } else { number }
-}
-
-/// A quotient of 127 or 128 binary digits, the exponent of its last one, and what was cut off.
-fn quotient(mut number: Whole, mut divisor: Whole) -> (u128, ExpInt, Loss) {
-    let exponent = number.bit_length() as ExpInt - divisor.bit_length() as ExpInt - 127;
-    if exponent < 0 {
-        number.shift_left(exponent.unsigned_abs() as usize);
-    } else {
-        divisor.shift_left(exponent as usize);
-    }
-    let mut place = divisor.clone();
-    place.shift_left(127);
-    let mut quotient = 0;
-    for _ in 0..128 {
-        quotient <<= 1;
-        if number.order(&place).is_ge() {
-            number.subtract(&place);
-            quotient |= 1;
-        }
-        place.halve();
-    }
-    let exact = number.0.is_empty();
-    number.shift_left(1);
-    let loss = match number.order(&divisor) {
-        _ if exact => Loss::ExactlyZero,
-        Ordering::Less => Loss::LessThanHalf,
-        Ordering::Equal => Loss::ExactlyHalf,
-        Ordering::Greater => Loss::MoreThanHalf,
-    };
-    (quotient, exponent, loss)
 }

@@ -1,13 +1,14 @@
 //! Formats of one significand.
 
-use crate::digits;
+use crate::digits::{self, Number};
 use crate::doubles::{self, AsDouble};
 use crate::erased::apfloat_base::{self, Float as _, FloatConvert as _};
 use crate::erased::apfloat_rounding::unpacked::Unpacked;
 use crate::erased::{apfloat_decimals, apfloat_ieee, pair_operations};
+use crate::far;
 use crate::law::Constants;
 use crate::status::answered;
-use crate::{Category, Decimal, ExpInt, Float, FloatConvert, ParseError, Round, StatusAnd};
+use crate::{Category, Decimal, ExpInt, Float, FloatConvert, ParseError, Round, Status, StatusAnd};
 use core::cmp::Ordering;
 use core::fmt;
 use core::marker::PhantomData;
@@ -148,7 +149,8 @@ impl<S: Semantics> LawOfFormat<S> {
         Some(clause) => panic!("{}", clause),
     };
 
-    /// Whether the format's exponents are within those of `Quad`: in such a format the library reads decimals.
+    /// Whether the format's exponents are within those of `Quad`: in such a format the library reads and writes
+    /// decimals.
     const HAS_QUAD_EXPONENTS: bool = S::MIN_EXP >= -16382 && S::MAX_EXP <= 16383;
 
     /// That values of the format can be written by the library.
@@ -204,7 +206,7 @@ library_formats! {
 }
 
 /// The library's value.
-type Inner<S> = apfloat_ieee::IeeeFloat<FlaggedS<S>>;
+pub(crate) type Inner<S> = apfloat_ieee::IeeeFloat<FlaggedS<S>>;
 
 macro_rules! formats {
     ($($(#[$attribute:meta])* $name:ident = $format:ident($bits:literal: $exp_bits:literal) { $($more:tt)* })*) => {$(
@@ -301,12 +303,12 @@ impl<S: Semantics> IeeeFloat<S> {
     }
 
     #[inline]
-    fn inner(self) -> Inner<S> {
+    pub(crate) fn inner(self) -> Inner<S> {
         Inner::<S>::packed(self.value)
     }
 
     #[inline]
-    fn of(inner: Inner<S>) -> Self {
+    pub(crate) fn of(inner: Inner<S>) -> Self {
         Self::from_unpacked(inner.unpacked())
     }
 
@@ -395,6 +397,14 @@ impl<S: Semantics> IeeeFloat<S> {
     pub fn sqrt(self) -> StatusAnd<Self> {
         Self::answered(self.inner().sqrt())
     }
+
+    /// The value times 2 to the power of `places`, rounded once, with exactly the flags of that rounding (IEEE 754-2019
+    /// 5.3.3, scaleB); a NaN is quieted, with `INVALID_OP` if it was signaling. The value is that of `scalbn_r`, which
+    /// returns no status. The crate `rustc_apfloat` has no such call.
+    #[inline]
+    pub fn scale_b(self, places: ExpInt, round: Round) -> StatusAnd<Self> {
+        Self::answered(self.inner().scale_b(places, round))
+    }
 }
 
 operators!(IeeeFloat);
@@ -409,7 +419,16 @@ impl<S: Semantics> PartialEq for IeeeFloat<S> {
 impl<S: Semantics> PartialOrd for IeeeFloat<S> {
     #[inline]
     fn partial_cmp(&self, other: &Self) -> Option<Ordering> {
-        self.inner().partial_cmp(&other.inner())
+        if self.value.category != Category::Normal || other.value.category != Category::Normal {
+            return self.inner().partial_cmp(&other.inner());
+        }
+        // Two numbers: the library's order of magnitudes, where the signs do not decide. This is faster than its order
+        // of all values, which has cases for each.
+        let by_sign = other.value.negative.cmp(&self.value.negative);
+        Some(by_sign.then_with(|| {
+            let magnitudes = self.inner().cmp_abs_normal(other.inner());
+            if self.value.negative { magnitudes.reverse() } else { magnitudes }
+        }))
     }
 }
 
@@ -428,8 +447,14 @@ impl<S: Semantics> fmt::Display for IeeeFloat<S> {
     /// written with an exponent, as `1.0E-5`, and with `#` as `1.0000000e-05`.
     fn fmt(&self, f: &mut fmt::Formatter<'_>) -> fmt::Result {
         let (significand, exponent) = self.parts();
-        let last = exponent - (S::PRECISION as ExpInt - 1);
-        digits::write(f, self.category(), self.is_negative(), significand, last, S::PRECISION)
+        digits::write(f, self.category(), self.is_negative(), S::PRECISION, |wanted| {
+            let number = Number::new(significand, exponent - (S::PRECISION as ExpInt - 1));
+            if LawOfFormat::<S>::HAS_QUAD_EXPONENTS {
+                digits::rounded(self.plain(), number, wanted)
+            } else {
+                far::rounded(number, wanted)
+            }
+        })
     }
 }
 
@@ -494,7 +519,7 @@ impl<S: Semantics> Float for IeeeFloat<S> {
         }
         // A decimal, or a text with a fault, whatever the format.
         let _ = apfloat_decimals::read_decimal::<PlainS<QuadS>>(s, round)?;
-        Ok(Self::answered(digits::read(s, round)))
+        Ok(Self::answered(far::read(s, round)))
     }
 
     #[inline]

@@ -20,16 +20,25 @@
 
 extern crate alloc;
 
+#[macro_use]
+mod calls;
+#[macro_use]
+mod float;
+
+mod composed;
 mod digits;
 mod doubles;
 mod erased;
-#[macro_use]
-mod float;
-mod composed;
-pub mod ieee;
+mod far;
 mod law;
-pub mod ppc;
 mod status;
+
+pub mod ieee;
+pub mod ppc;
+
+// Beyond the crate `rustc_apfloat`, a module for each crate of the library.
+pub mod comparisons;
+pub mod format_of;
 
 pub use erased::apfloat_decimals::{Decimal, DecimalError};
 pub use erased::apfloat_model::{Category, ExpInt, IEK_INF, IEK_NAN, IEK_ZERO, ParseError, Round};

@@ -44,19 +44,80 @@ fn all_digits_are_those_of_the_number() {
     }
 }
 
-#[test]
-fn few_digits_are_rounded_half_up() {
-    for x in doubles().take(600) {
-        let digits = x.to_bits() as usize % 14 + 3;
-        let text = format!("{:1$.2$}", double(x), 0, digits);
-        // Where the digits are cut, and not rounded, they are those of the number rounded toward zero.
-        let exact = format!("{x:.799e}");
-        let rounded = trimmed(&format!("{:.1$e}", x, digits - 1));
-        let (head, exponent) = exact.split_once('e').unwrap();
-        let sign = usize::from(x < 0.0);
-        let cut = trimmed(&format!("{}e{exponent}", &head[..sign + digits + 1]));
-        assert!(text == rounded || text == cut, "{x:e}: {text}, not {rounded}");
+/// How many binary digits an odd integer times a power of two has, or times that of five if the power is below 0.
+fn binary_length(mut odd: u64, power: i32) -> usize {
+    if power >= 0 {
+        return (64 - odd.leading_zeros()) as usize + power as usize;
     }
+    let mut words = Vec::new();
+    while odd != 0 {
+        words.push(odd as u32);
+        odd >>= 32;
+    }
+    for _ in 0..power.unsigned_abs() {
+        let mut carry = 0;
+        for word in &mut words {
+            carry += u64::from(*word) * 5;
+            *word = carry as u32;
+            carry >>= 32;
+        }
+        if carry != 0 {
+            words.push(carry as u32);
+        }
+    }
+    32 * words.len() - words.last().unwrap().leading_zeros() as usize
+}
+
+/// The crate's estimate of how many digits of a double are clearly more than those wanted leaves just these.
+fn is_cut(x: f64, wanted: usize) -> bool {
+    let field = (x.to_bits() >> 52 & 0x7ff) as i32;
+    let significand = x.to_bits() & ((1 << 52) - 1) | u64::from(field != 0) << 52;
+    let zeros = significand.trailing_zeros();
+    let power = field.max(1) - 1075 + zeros as i32;
+    let surplus = binary_length(significand >> zeros, power).saturating_sub((wanted * 196).div_ceil(59));
+    let first: i32 = format!("{:.799e}", x).split_once('e').unwrap().1.parse().unwrap();
+    let digits = first + 1 - power.min(0);
+    digits as usize - surplus * 59 / 196 <= wanted
+}
+
+/// A double in scientific layout, cut to so many digits, or rounded half up to them.
+fn few_digits(x: f64, wanted: usize) -> String {
+    let text = format!("{:.799e}", x.abs());
+    let (digits, exponent) = text.split_once('e').unwrap();
+    let mut digits: Vec<u8> = digits.bytes().filter(u8::is_ascii_digit).collect();
+    let mut exponent: i32 = exponent.parse().unwrap();
+    let up = digits[wanted] >= b'5' && !is_cut(x, wanted);
+    digits.truncate(wanted);
+    if up {
+        let nines = digits.iter().rev().take_while(|digit| **digit == b'9').count();
+        digits.truncate(wanted - nines);
+        match digits.last_mut() {
+            Some(digit) => *digit += 1,
+            None => {
+                digits.push(b'1');
+                exponent += 1;
+            }
+        }
+    }
+    let sign = if x < 0.0 { "-" } else { "" };
+    let (first, others) = digits.split_at(1);
+    let [first, others] = [first, others].map(|digits| String::from_utf8(digits.to_vec()).unwrap());
+    trimmed(&format!("{sign}{first}.{others}e{exponent}"))
+}
+
+#[test]
+fn few_digits_are_rounded_half_up_or_cut() {
+    let mut cut = 0;
+    // Also numbers without far exponents, whose least integer has few digits.
+    let near = doubles().map(|x| f64::from_bits(x.to_bits() & (!0 >> 2 | 1 << 63) | 0x3fe << 52));
+    let short = doubles().map(|x| f64::from_bits(x.to_bits() & !0xffff_ffff & !(1 << 61) | 1 << 62));
+    for x in doubles().take(100).chain(near.take(300)).chain(short.take(300)) {
+        for digits in [x.to_bits() as usize % 16 + 1, 17, x.to_bits() as usize % 30 + 18] {
+            assert_eq!(format!("{:1$.2$}", double(x), 0, digits), few_digits(x, digits), "{x:e} {digits}");
+            cut += usize::from(is_cut(x, digits));
+        }
+    }
+    assert!(cut > 100, "{cut}");
 }
 
 #[test]
@@ -163,6 +224,22 @@ fn decimals_are_read_in_formats_of_far_exponents() {
         }
     }
     assert_eq!("1.5e1".parse::<Far>().unwrap(), Far::from_u128(15).value);
+}
+
+#[test]
+fn values_of_far_exponents_are_written() {
+    for x in doubles().filter(|x| x.is_normal()).take(40) {
+        let far: Far = double(x).convert(&mut false).value;
+        assert_eq!(far.to_string(), double(x).to_string());
+        let digits = x.to_bits() as usize % 60;
+        assert_eq!(format!("{far:#0$.1$}", 0, digits), format!("{:#1$.2$}", double(x), 0, digits), "{x:e}");
+    }
+    // 2^20000 and 2^-20000 by whole numbers of Python.
+    let (up, down) = (Far::from_u128(1).value.scalbn(20_000), Far::from_u128(1).value.scalbn(-20_000));
+    assert_eq!(up.to_string(), "3.9802768403379666E+6020");
+    assert_eq!(format!("{up:.3} {up:.1} {up:.0}"), "3.98E+6020 4.0E+6020 1.0E+6021");
+    assert_eq!((-down).to_string(), "-2.5123880576987446E-6021");
+    assert_eq!(format!("{down:.3} {down:.1} {down:.0}"), "2.51E-6021 3.0E-6021 1.0E-6020");
 }
 
 #[test]

@@ -20,6 +20,21 @@ pub trait Flags: Copy + 'static {
     fn union(self, other: Self) -> Self {
         Self::from_bits_retain(self.bits() | other.bits())
     }
+
+    #[inline]
+    fn intersection(self, other: Self) -> Self {
+        Self::from_bits_retain(self.bits() & other.bits())
+    }
+
+    #[inline]
+    fn difference(self, other: Self) -> Self {
+        Self::from_bits_retain(self.bits() & !other.bits())
+    }
+
+    #[inline]
+    fn intersects(&self, other: Self) -> bool {
+        self.bits() & other.bits() != 0
+    }
 }
 
 /// The constants of a set.

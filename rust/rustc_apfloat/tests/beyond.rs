@@ -1,0 +1,334 @@
+//! The modules beyond the interface of the crate `rustc_apfloat`: the stored rows of results in another format, and
+//! comparisons, extrema, logarithms and integers against the arithmetic of `f64`, into which codes of eight bits are
+//! decoded exactly.
+
+use rustc_apfloat::comparisons::{self, Class, Extremum, OnNan, Predicate};
+use rustc_apfloat::ieee::*;
+use rustc_apfloat::{Float, IEK_INF, IEK_NAN, IEK_ZERO, Round, Status, StatusAnd, format_of};
+use std::cmp::Ordering;
+
+const MODES: [Round; 5] = [
+    Round::NearestTiesToEven,
+    Round::TowardPositive,
+    Round::TowardNegative,
+    Round::TowardZero,
+    Round::NearestTiesToAway,
+];
+
+/// A number, in hexadecimal digits if it begins with `0x`.
+fn number(word: &str) -> u128 {
+    match word.strip_prefix("0x") {
+        Some(digits) => u128::from_str_radix(digits, 16).unwrap(),
+        None => word.parse().unwrap(),
+    }
+}
+
+/// Compares what the calls give with the rows of a table: operation, mode, operands, bits of the result, status.
+fn check_rows<S: Semantics, T: Semantics>(table: &str) -> usize {
+    let rows = table.split("Operation::").skip(1);
+    rows.map(|row| {
+        let words: Vec<&str> = row.split([',', '(', ')', '[', ']', ';']).filter(|word| !word.is_empty()).collect();
+        let [operation, round, x, y, z, bits, status, ..] = words.as_slice() else { panic!("{row}") };
+        let round = *MODES.iter().find(|mode| format!("Round::{mode:?}") == *round).unwrap();
+        let [x, y, z] = [x, y, z].map(|word| IeeeFloat::<S>::from_bits(number(word)));
+        let (method, function): (StatusAnd<IeeeFloat<T>>, StatusAnd<IeeeFloat<T>>) = match *operation {
+            "Sum" => (x.add_to(y, round), format_of::add(x, y, round)),
+            "Difference" => (x.sub_to(y, round), format_of::subtract(x, y, round)),
+            "Product" => (x.mul_to(y, round), format_of::multiply(x, y, round)),
+            "Quotient" => (x.div_to(y, round), format_of::divide(x, y, round)),
+            "Root" => (x.sqrt_to(round), format_of::square_root(x, round)),
+            "FusedSum" => (x.mul_add_to(y, z, round), format_of::multiply_add(x, y, z, round)),
+            _ => panic!("{row}"),
+        };
+        for answer in [method, function] {
+            let given = (answer.value.to_bits(), u128::from(answer.status.bits()));
+            assert_eq!(given, (number(bits), number(status)), "{row}");
+        }
+    })
+    .count()
+}
+
+#[test]
+fn results_in_another_format() {
+    let file = concat!(env!("CARGO_MANIFEST_DIR"), "/../../crates/layer_tests/src/format_of_rows.rt");
+    let text: String = std::fs::read_to_string(file).unwrap().split_whitespace().collect();
+    let mut count = 0;
+    for table in text.split("static").skip(1) {
+        count += match table.split_once(':').unwrap().0 {
+            "DOUBLE_TO_HALF" => check_rows::<DoubleS, HalfS>(table),
+            "DOUBLE_TO_BFLOAT" => check_rows::<DoubleS, BFloatS>(table),
+            "DOUBLE_TO_SINGLE" => check_rows::<DoubleS, SingleS>(table),
+            "DOUBLE_TO_QUAD" => check_rows::<DoubleS, QuadS>(table),
+            "HALF_TO_QUAD" => check_rows::<HalfS, QuadS>(table),
+            "QUAD_TO_HALF" => check_rows::<QuadS, HalfS>(table),
+            "SINGLE_TO_E4M3FN" => check_rows::<SingleS, Float8E4M3FNS>(table),
+            "E4M3FNUZ_TO_DOUBLE" => check_rows::<Float8E4M3FNUZS, DoubleS>(table),
+            "BFLOAT_TO_HALF" => check_rows::<BFloatS, HalfS>(table),
+            name => panic!("no table {name} is known here"),
+        };
+    }
+    assert_eq!(count, 324);
+}
+
+type Small = Float8E5M2;
+
+/// The value of a code of `Small`: a half whose lower eight bits are 0, whose fields are those of a double with other
+/// widths. Denormals have the quantum 2^-16.
+fn decoded(code: u8) -> f64 {
+    let (negative, field, digits) = (code >> 7, u64::from(code >> 2 & 31), u64::from(code & 3));
+    let magnitude = match field {
+        0 => digits as f64 / 65536.0,
+        31 => f64::from_bits(0x7ff << 52 | digits << 50),
+        _ => f64::from_bits((field + 1008) << 52 | digits << 50),
+    };
+    f64::from_bits(magnitude.to_bits() | u64::from(negative) << 63)
+}
+
+fn small(code: u8) -> Small {
+    Small::from_bits(code.into())
+}
+
+fn is_signaling(code: u8) -> bool {
+    decoded(code).is_nan() && code & 2 == 0
+}
+
+/// Each fifth code and the special ones, with both signs.
+fn codes() -> Vec<u8> {
+    let special = [0x00, 0x01, 0x03, 0x04, 0x3c, 0x7b, 0x7c, 0x7d, 0x7e, 0x7f];
+    let mut codes: Vec<u8> = (0..=255).step_by(5).chain(special).chain(special.map(|code| code | 0x80)).collect();
+    codes.sort();
+    codes.dedup();
+    codes
+}
+
+type Compare = fn(Small, Small) -> StatusAnd<bool>;
+
+/// Which relations satisfy a predicate: less, equal, greater, unordered (tables 5.1 to 5.3 of the standard).
+const QUIET: [(Compare, Predicate, [bool; 4]); 12] = [
+    (comparisons::compare_quiet_equal, Predicate::Equal, [false, true, false, false]),
+    (comparisons::compare_quiet_not_equal, Predicate::NotEqual, [true, false, true, true]),
+    (comparisons::compare_quiet_greater, Predicate::Greater, [false, false, true, false]),
+    (comparisons::compare_quiet_greater_equal, Predicate::GreaterEqual, [false, true, true, false]),
+    (comparisons::compare_quiet_less, Predicate::Less, [true, false, false, false]),
+    (comparisons::compare_quiet_less_equal, Predicate::LessEqual, [true, true, false, false]),
+    (comparisons::compare_quiet_unordered, Predicate::Unordered, [false, false, false, true]),
+    (comparisons::compare_quiet_ordered, Predicate::Ordered, [true, true, true, false]),
+    (comparisons::compare_quiet_not_greater, Predicate::NotGreater, [true, true, false, true]),
+    (comparisons::compare_quiet_less_unordered, Predicate::LessUnordered, [true, false, false, true]),
+    (comparisons::compare_quiet_not_less, Predicate::NotLess, [false, true, true, true]),
+    (comparisons::compare_quiet_greater_unordered, Predicate::GreaterUnordered, [false, false, true, true]),
+];
+
+const SIGNALING: [(Compare, Predicate, [bool; 4]); 10] = [
+    (comparisons::compare_signaling_equal, Predicate::Equal, [false, true, false, false]),
+    (comparisons::compare_signaling_not_equal, Predicate::NotEqual, [true, false, true, true]),
+    (comparisons::compare_signaling_greater, Predicate::Greater, [false, false, true, false]),
+    (comparisons::compare_signaling_greater_equal, Predicate::GreaterEqual, [false, true, true, false]),
+    (comparisons::compare_signaling_less, Predicate::Less, [true, false, false, false]),
+    (comparisons::compare_signaling_less_equal, Predicate::LessEqual, [true, true, false, false]),
+    (comparisons::compare_signaling_not_greater, Predicate::NotGreater, [true, true, false, true]),
+    (comparisons::compare_signaling_less_unordered, Predicate::LessUnordered, [true, false, false, true]),
+    (comparisons::compare_signaling_not_less, Predicate::NotLess, [false, true, true, true]),
+    (comparisons::compare_signaling_greater_unordered, Predicate::GreaterUnordered, [false, false, true, true]),
+];
+
+fn invalid_if(invalid: bool) -> Status {
+    if invalid { Status::INVALID_OP } else { Status::OK }
+}
+
+#[test]
+fn predicates() {
+    for x in codes() {
+        for y in codes() {
+            let order = decoded(x).partial_cmp(&decoded(y));
+            let relation = match order {
+                Some(Ordering::Less) => 0,
+                Some(Ordering::Equal) => 1,
+                Some(Ordering::Greater) => 2,
+                None => 3,
+            };
+            let quiet = invalid_if(is_signaling(x) || is_signaling(y));
+            let signaling = invalid_if(relation == 3);
+            let rules = [(OnNan::Quiet, quiet, QUIET.as_slice()), (OnNan::Signaling, signaling, SIGNALING.as_slice())];
+            let (x, y) = (small(x), small(y));
+            for (on_nan, status, table) in rules {
+                for (call, predicate, holds) in table {
+                    let expected = status.and(holds[relation]);
+                    assert_eq!(call(x, y), expected, "{x} {y} {predicate:?}");
+                    assert_eq!(comparisons::compare(*predicate, on_nan, x, y), expected);
+                    let wide: Double = x.add_to(Small::ZERO, Round::TowardZero).value;
+                    if !x.is_signaling() {
+                        assert_eq!(comparisons::compare_between(*predicate, on_nan, wide, y), expected);
+                    }
+                }
+            }
+            assert_eq!(comparisons::relation_between(x, y), order);
+        }
+    }
+}
+
+#[test]
+fn total_order() {
+    for x in codes() {
+        for y in codes() {
+            let (value, other) = (decoded(x), decoded(y));
+            let order = value.total_cmp(&other);
+            assert_eq!(comparisons::total_cmp(small(x), small(y)), order);
+            assert_eq!(comparisons::total_order(small(x), small(y)), order.is_le());
+            let magnitudes = value.abs().total_cmp(&other.abs());
+            assert_eq!(comparisons::total_order_mag(small(x), small(y)), magnitudes.is_le());
+        }
+    }
+}
+
+#[test]
+fn extrema() {
+    for x in codes() {
+        for y in codes() {
+            let (value, other) = (decoded(x), decoded(y));
+            let status = invalid_if(is_signaling(x) || is_signaling(y));
+            let lesser = if value.total_cmp(&other).is_le() { x } else { y };
+            let greater = if lesser == x { y } else { x };
+            let (low, high) = match value.abs().total_cmp(&other.abs()) {
+                Ordering::Less => (x, y),
+                Ordering::Equal => (lesser, greater),
+                Ordering::Greater => (y, x),
+            };
+            let (quiet, number) = match (value.is_nan(), other.is_nan()) {
+                (true, false) => (Some(x | 2), Some(y)),
+                (false, true) => (Some(y | 2), Some(x)),
+                (true, true) => (Some(x | 2), Some(x | 2)),
+                (false, false) => (None, None),
+            };
+            let (x, y) = (small(x), small(y));
+            let bits = |answer: StatusAnd<Small>| answer.map(|value| value.to_bits() as u8);
+            let all: [(Compared, Compared, Extremum, u8); 4] = [
+                (comparisons::minimum_of, comparisons::minimum_number_of, Extremum::Minimum, lesser),
+                (comparisons::maximum_of, comparisons::maximum_number_of, Extremum::Maximum, greater),
+                (
+                    comparisons::minimum_magnitude_of,
+                    comparisons::minimum_magnitude_number_of,
+                    Extremum::MinimumMagnitude,
+                    low,
+                ),
+                (
+                    comparisons::maximum_magnitude_of,
+                    comparisons::maximum_magnitude_number_of,
+                    Extremum::MaximumMagnitude,
+                    high,
+                ),
+            ];
+            for (of, number_of, which, expected) in all {
+                let (nan, only) = (status.and(quiet.unwrap_or(expected)), status.and(number.unwrap_or(expected)));
+                assert_eq!(bits(of(x, y)), nan, "{x} {y} {which:?}");
+                assert_eq!(bits(comparisons::extremum_of(which, x, y)), nan);
+                assert_eq!(bits(number_of(x, y)), only, "{x} {y} {which:?}");
+                assert_eq!(bits(comparisons::extremum_number_of(which, x, y)), only);
+            }
+        }
+    }
+}
+
+type Compared = fn(Small, Small) -> StatusAnd<Small>;
+
+#[test]
+fn classes_and_logarithms() {
+    for code in 0..=255 {
+        let (x, value) = (small(code), decoded(code));
+        let class = match (code >> 7, code & 0x7f) {
+            (_, 0x7d) => Class::SignalingNan,
+            (_, 0x7e | 0x7f) => Class::QuietNan,
+            (0, 0) => Class::PositiveZero,
+            (0, 1..=3) => Class::PositiveSubnormal,
+            (0, 0x7c) => Class::PositiveInfinity,
+            (0, _) => Class::PositiveNormal,
+            (_, 0) => Class::NegativeZero,
+            (_, 1..=3) => Class::NegativeSubnormal,
+            (_, 0x7c) => Class::NegativeInfinity,
+            _ => Class::NegativeNormal,
+        };
+        assert_eq!(comparisons::class_of(x), class);
+        assert_eq!((comparisons::radix(x), comparisons::is_canonical(x)), (2, true));
+        assert!(comparisons::is_canonical_encoding::<Float8E5M2S>(code.into()));
+
+        let exponent = (value.abs().to_bits() >> 52) as i32 - 1023;
+        let (status, whole) = match class {
+            Class::SignalingNan | Class::QuietNan => (Status::INVALID_OP, IEK_NAN),
+            Class::PositiveInfinity | Class::NegativeInfinity => (Status::INVALID_OP, IEK_INF),
+            Class::PositiveZero | Class::NegativeZero => (Status::INVALID_OP, IEK_ZERO),
+            _ => (Status::OK, exponent),
+        };
+        assert_eq!(comparisons::integer_log_b(x), status.and(whole));
+        let log = comparisons::log_b(x, Round::TowardZero);
+        match class {
+            Class::SignalingNan => assert_eq!((log.status, log.value.is_nan()), (Status::INVALID_OP, true)),
+            Class::QuietNan => assert_eq!((log.status, log.value.to_bits()), (Status::OK, code.into())),
+            Class::PositiveZero | Class::NegativeZero => {
+                assert_eq!((log.status, log.value.is_neg_infinity()), (Status::DIV_BY_ZERO, true));
+            }
+            Class::PositiveInfinity | Class::NegativeInfinity => assert!(log.value.is_pos_infinity()),
+            _ => {
+                // Three binary digits of the exponent, from the highest one.
+                let unit = 1 << (31 - exponent.unsigned_abs().max(4).leading_zeros() - 2);
+                let cut = exponent / unit * unit;
+                let inexact = if cut == exponent { Status::OK } else { Status::INEXACT };
+                assert_eq!((decoded(log.value.to_bits() as u8), log.status), (f64::from(cut), inexact));
+            }
+        }
+        let scaled = x.scale_b(-1, Round::TowardZero);
+        if value.is_normal() && value.abs() >= 1.0 {
+            assert_eq!((decoded(scaled.value.to_bits() as u8), scaled.status), (value / 2.0, Status::OK));
+        }
+    }
+    // The integer bit of an x87 number is 0: the encoding of another value.
+    assert!(!comparisons::is_canonical_encoding::<X87DoubleExtendedS>(1 << 64));
+}
+
+#[test]
+fn integers() {
+    let rounded: [fn(f64) -> f64; 5] = [f64::round_ties_even, f64::ceil, f64::floor, f64::trunc, f64::round];
+    for code in 0..=255 {
+        let (x, value) = (small(code), decoded(code));
+        for (mode, round) in MODES.into_iter().zip(rounded) {
+            let whole = round(value);
+            let integral = comparisons::round_to_integral_in(x, mode);
+            if value.is_nan() {
+                assert_eq!(integral.map(Small::to_bits), invalid_if(is_signaling(code)).and(u128::from(code | 2)));
+            } else {
+                let given = decoded(integral.value.to_bits() as u8);
+                assert_eq!((given.to_bits(), integral.status), (whole.to_bits(), Status::OK), "{x} {mode:?}");
+            }
+
+            let invalid = value.is_nan() || !(-16.0..=15.0).contains(&whole);
+            let near = if value.is_nan() { 0.0 } else { whole.clamp(-16.0, 15.0) } as i128;
+            let status = invalid_if(invalid);
+            assert_eq!(comparisons::convert_to_signed(x, 5, mode), status.and(near), "{x} {mode:?}");
+            let exact = if !invalid && whole != value { Status::INEXACT } else { status };
+            assert_eq!(comparisons::convert_to_signed_exact(x, 5, mode), exact.and(near));
+
+            let invalid = value.is_nan() || !(0.0..=31.0).contains(&whole);
+            let near = if value.is_nan() { 0.0 } else { whole.clamp(0.0, 31.0) } as u128;
+            let status = invalid_if(invalid);
+            assert_eq!(comparisons::convert_to_unsigned(x, 5, mode), status.and(near), "{x} {mode:?}");
+            let exact = if !invalid && whole != value { Status::INEXACT } else { status };
+            assert_eq!(comparisons::convert_to_unsigned_exact(x, 5, mode), exact.and(near));
+        }
+    }
+}
+
+#[test]
+fn operations_on_flags() {
+    let (a, b, c) = (Status::INEXACT | Status::OVERFLOW, Status::INEXACT, Status::INVALID_OP);
+    assert_eq!(comparisons::lower_flags(a, b), Status::OVERFLOW);
+    assert_eq!(comparisons::raise_flags(a, c), a | c);
+    assert!(comparisons::test_flags(a, b) && !comparisons::test_flags(a, c));
+    assert_eq!(comparisons::save_all_flags(a), a);
+    assert!(comparisons::test_saved_flags(a, b));
+    assert_eq!(comparisons::restore_flags(c, a, b | c), Status::INEXACT);
+}
+
+#[test]
+#[should_panic(expected = "no signed integer has this width")]
+fn a_width_out_of_range_panics() {
+    let _ = comparisons::convert_to_signed(Small::ZERO, 1, Round::TowardZero);
+}
