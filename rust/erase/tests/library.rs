@@ -74,7 +74,6 @@ fn each_crate_stands_above_those_that_it_uses() {
     // None stands there for C that the library for C does not use.
     let for_c = used(&lines, "apfloat_c");
     assert!(erase::FOR_C.iter().all(|name| *name == "apfloat_c" || for_c.contains(name)));
-    needed(&lines, "pair_operations", &mut all);
 }
 
 #[test]
