@@ -6,4 +6,3 @@ pub mod Counted
 pub mod RepliesOnce
 pub mod Runs
 pub mod Edits
-pub mod FirstOfWords

@@ -1,5 +1,6 @@
 -- What a program answers about itself.
-use Rattle.std.specs.Prelude.{ℕ, if◌then◌else◌, List, [], ◌∷◌, ◌++◌, codes, Option, None, option_or}
+use Rattle.std.specs.Prelude.{ℕ, if◌then◌else◌, List, [], ◌∷◌, ◌++◌, codes, Option, None}
+use Rattle.std.specs.Option.{option_or}
 use Rattle.rustc_apfloat.specs.Digits.{same}
 use Rattle.commands.specs.Commands.{found}
 use Rattle.commands.specs.declared.about.About.{About}

@@ -1,5 +1,5 @@
 -- Words that are one edit apart: a byte is put in, taken out or replaced, or two neighbours are swapped.
-use Rattle.std.specs.Prelude.{ℕ, ◌==◌, Bool, false, true, ◌&&◌, ◌||◌, if◌then◌else◌, List, [], ◌∷◌, length, Option, Some, None, ◌≢◌}
+use Rattle.std.specs.Prelude.{ℕ, ◌==◌, Bool, false, ◌&&◌, ◌||◌, if◌then◌else◌, List, [], ◌∷◌, length, Option, Some, None, ◌≢◌}
 use Rattle.rustc_apfloat.specs.Digits.{same}
 
 -- two words that are one edit apart: at their beginning, or after a byte that they share
@@ -13,9 +13,8 @@ pub data IsOneEdit : List ℕ → List ℕ → Type 0 where
 -- whether a word x ∷ xs, with its first two bytes swapped, is y ∷ ys
 abbrev pub is_swap : ℕ → List ℕ → ℕ → List ℕ → Bool
 is_swap x [] y ys = false
-is_swap x (second ∷ rest) y [] = false
-is_swap x (second ∷ rest) y (other_second ∷ other_rest) =
-    second == y && other_second == x && same rest other_rest
+is_swap x (p ∷ rest) y [] = false
+is_swap x (p ∷ rest) y (q ∷ others) = p == y && q == x && same rest others
 
 -- whether two words are one edit apart (`is_one_edit-iff` in proofs/Edits.antt)
 abbrev pub is_one_edit : List ℕ → List ℕ → Bool

@@ -37,18 +37,13 @@ impl About {
     pub fn among(words: &[String]) -> Option<About>
         ensures { result ≡ first_question (map string_bytes words.now) }
     {
-        let mut left = words;
-        while let Some((word, others)) = left.split_first() {
-            if word.as_str() == "--" {
-                return None;
-            }
-            let about = About::named(word.as_str());
-            if about.is_some() {
-                return about;
-            }
-            left = others;
+        let Some((word, others)) = words.split_first() else {
+            return None;
+        };
+        if word.as_str() == "--" {
+            return None;
         }
-        None
+        About::named(word.as_str()).or(About::among(others))
     }
 
     /// Writes the answer of a program: its help, or its name and its version.

@@ -17,7 +17,11 @@ impl Progress {
     /// The messages of a work that begins now; none if they are not shown, or without a clock.
     pub fn new<C: Clock>(is_shown: bool, clock: &C) -> Progress {
         Progress {
-            start: if is_shown { Instant::now(clock).ok() } else { None },
+            start: if is_shown {
+                Instant::now(clock).ok()
+            } else {
+                None
+            },
             due: SECONDS,
         }
     }

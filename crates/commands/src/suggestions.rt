@@ -1,6 +1,6 @@
 //! The word that was meant by a misspelt one.
 
-ghost use Rattle.std.specs.Prelude.{◌≡◌, List, ℕ, Some, None, MatchOption, map};
+ghost use Rattle.std.specs.Prelude.{◌≡◌, Some, None, MatchOption, map};
 ghost use Rattle.commands.specs.Suggestions.{first_near, is_one_edit, is_swap};
 
 /// The formats of the programs, but pairs of doubles.
@@ -14,17 +14,16 @@ pub static MODES: &[&str] = &["even", "up", "down", "zero", "away"];
 /// The first of some words that is one edit away from this one: with a byte put in, taken out or replaced, or with two
 /// neighbours swapped.
 pub fn suggested<'a>(word: &str, known: &[&'a str]) -> Option<&'a str>
-    ensures { let first = first_near word.now (map (λ w. w.now) known.now) in
-        MatchOption result (first ≡ None) (λ w. first ≡ Some w.now) }
+    ensures { let meant = first_near word.now (map (λ w. w.now) known.now) in
+        MatchOption result (meant ≡ None) (λ w. meant ≡ Some w.now) }
 {
-    let mut left = known;
-    while let Some((candidate, others)) = left.split_first() {
-        if is_one_edit(word.as_bytes(), candidate.as_bytes()) {
-            return Some(*candidate);
-        }
-        left = others;
+    let Some((first, others)) = known.split_first() else {
+        return None;
+    };
+    if is_one_edit(word.as_bytes(), first.as_bytes()) {
+        return Some(*first);
     }
-    None
+    suggested(word, others)
 }
 
 /// Whether two words are one edit apart.
