@@ -201,7 +201,11 @@ static WRONG_WORDS: &[(&str, &[u8])] = &[
     ),
     (
         "single float even",
-        b"convert_values: no such format: `float`; see `convert_values --help`\n",
+        b"convert_values: no such format: `float`; did you mean `bfloat`?\n",
+    ),
+    (
+        "single fp16 even",
+        b"convert_values: no such format: `fp16`; see `convert_values --help`\n",
     ),
     (
         "dd single even",
