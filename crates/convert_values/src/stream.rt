@@ -112,15 +112,13 @@ fn convert_through<C: Clock, I: Read, W: Write, V: Write>(
 }
 
 /// Says how many values were written, if that is due.
-fn tell_progress<C: Clock, V: Write>(
-    progress: &mut Progress,
-    values: u64,
-    clock: &C,
-    err: &mut V,
-) {
+fn tell_progress<C: Clock, V: Write>(progress: &mut Progress, values: u64, clock: &C, err: &mut V) {
     if let Some(seconds) = progress.due(clock) {
         // A failure of this write is harmless.
-        let _ = writeln!(err, "convert_values: {values} values after {seconds} seconds");
+        let _ = writeln!(
+            err,
+            "convert_values: {values} values after {seconds} seconds"
+        );
     }
 }
 

@@ -74,14 +74,7 @@ fn answer_to<R: Clock + AllocGlobal>(
     let mut rest = stream;
     let mut output = Vec::new(rt.alloc());
     let mut err = Vec::new(rt.alloc());
-    let status = run(
-        rt,
-        Ok(given),
-        false,
-        &mut rest,
-        &mut output,
-        &mut err,
-    );
+    let status = run(rt, Ok(given), false, &mut rest, &mut output, &mut err);
     Ok((output, err, status))
 }
 
@@ -157,10 +150,7 @@ fn refuses_other_words(rt: HostRuntime) -> Result<(), Fail> {
     ] {
         let (output, err, status) = answer_to(&rt, line, SINGLES)?;
         assert!(rt; output.is_empty());
-        assert!(rt;
-            err.as_slice().starts_with(b"convert_values: "),
-            "{line}"
-        );
+        assert!(rt; err.as_slice().starts_with(b"convert_values: "), "{line}");
         assert_eq!(rt; status, 2, "{line}");
     }
     for (line, told) in [
@@ -399,8 +389,7 @@ fn refuses_to_run_without_words(rt: HostRuntime) -> Result<(), Fail> {
     assert_eq!(rt; status, 3);
     let (output, err, status) = refusal_for(&rt, ErrorKind::InvalidData);
     assert!(rt; output.is_empty());
-    let wanted =
-        b"convert_values: the words are not valid text; see `convert_values --help`\n";
+    let wanted = b"convert_values: the words are not valid text; see `convert_values --help`\n";
     assert_eq!(rt; err.as_slice(), wanted.as_slice());
     assert_eq!(rt; status, 2);
     Ok(())
