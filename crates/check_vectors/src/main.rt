@@ -5,6 +5,7 @@
 #![tactic(auto)]
 
 use commands::words_of_system;
+use std::io::IsTerminal;
 use std::process::ExitCode;
 use vector_rows::run;
 
@@ -14,10 +15,13 @@ mod other_files;
 mod tests;
 
 fn main(rt: HostRuntime) -> ExitCode {
+    let mut err = rt.stderr();
+    let is_terminal = err.is_terminal();
     ExitCode::from(run(
         &rt,
         words_of_system(&rt),
+        is_terminal,
         &mut rt.stdout(),
-        &mut rt.stderr(),
+        &mut err,
     ))
 }

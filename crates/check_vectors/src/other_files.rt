@@ -242,7 +242,7 @@ fn counts_by_call_and_format(rt: HostRuntime) {
     let task = Task {
         lines: Lines::Fpgen(Fpgen::new()),
         is_summary: true,
-        first: None,
+        ..Task::rows()
     };
     let mut out = Vec::new(rt.alloc());
     let mut err = Vec::new(rt.alloc());

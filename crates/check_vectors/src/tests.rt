@@ -506,7 +506,11 @@ fn tells_how_far_it_is(rt: HostRuntime) -> Result<(), Fail> {
     };
     let mut out = Vec::new(rt.alloc());
     let mut err = Vec::new(rt.alloc());
-    let mut check = Check::new(Task::rows(), rt.alloc());
+    let task = Task {
+        shows_progress: true,
+        ..Task::rows()
+    };
+    let mut check = Check::new(task, rt.alloc());
     let ended = check.take(
         &mut input.as_bytes(),
         rt.alloc(),
@@ -515,8 +519,9 @@ fn tells_how_far_it_is(rt: HostRuntime) -> Result<(), Fail> {
         &mut err,
     );
     assert!(rt; ended.is_ok());
-    let said =
-        "check_vectors: 3072 lines after 3 seconds\ncheck_vectors: 6144 lines after 6 seconds\n";
+    let said = "check_vectors: 2048 lines after 2 seconds\n\
+        check_vectors: 4096 lines after 4 seconds\n\
+        check_vectors: 6144 lines after 6 seconds\n";
     assert_eq!(rt; err.as_slice(), said.as_bytes());
     Ok(())
 }
@@ -533,7 +538,7 @@ fn expect_run<R: Abort + std::rt::Files + Clock + Input + AllocGlobal>(
     }
     let mut out = Vec::new(rt.alloc());
     let mut err = Vec::new(rt.alloc());
-    let answered = run(rt, Ok(given), &mut out, &mut err);
+    let answered = run(rt, Ok(given), false, &mut out, &mut err);
     assert_eq!(rt; answered, status, "{on_out} {on_err}");
     assert!(rt; out.as_slice().starts_with(on_out.as_bytes()), "{on_out}");
     assert!(rt; err.as_slice().starts_with(on_err.as_bytes()), "{on_err}");
@@ -542,8 +547,15 @@ fn expect_run<R: Abort + std::rt::Files + Clock + Input + AllocGlobal>(
 
 #[test]
 fn does_what_its_words_say(rt: HostRuntime) -> Result<(), Fail> {
-    let usage = "usage: check_vectors [FILE | --help]\n";
+    let usage = "usage: check_vectors [--summary] [--first N] [FILE]\n";
     expect_run(&rt, &["--help"], (0, usage, ""))?;
+    expect_run(&rt, &["--first", "-h"], (0, usage, ""))?;
+    expect_run(&rt, &["--version"], (0, "check_vectors 0.", ""))?;
+    expect_run(
+        &rt,
+        &["--", "--help"],
+        (4, "", "check_vectors: --help: cannot open: "),
+    )?;
     expect_run(
         &rt,
         &["none/such"],
@@ -563,20 +575,44 @@ fn does_what_its_words_say(rt: HostRuntime) -> Result<(), Fail> {
     Ok(())
 }
 
-/// Arguments with a word that is wrong, and the last line that is written for each.
+/// Arguments with a word that is wrong, and the line that is written for each.
 static WRONG_WORDS: &[(&str, &[u8])] = &[
-    ("--halp", b"check_vectors: no such option: `--halp`\n"),
-    ("--halp rows", b"check_vectors: no such option: `--halp`\n"),
-    ("rows more", b"check_vectors: a word too many: `more`\n"),
+    (
+        "--halp",
+        b"check_vectors: no such option: `--halp`; did you mean `--help`?\n",
+    ),
+    (
+        "--summery rows",
+        b"check_vectors: no such option: `--summery`; did you mean `--summary`?\n",
+    ),
+    (
+        "--rows",
+        b"check_vectors: no such option: `--rows`; see `check_vectors --help`\n",
+    ),
+    (
+        "rows more",
+        b"check_vectors: a word too many: `more`; see `check_vectors --help`\n",
+    ),
     (
         "--first few rows",
-        b"check_vectors: no count of rows: `few`\n",
+        b"check_vectors: no count of rows: `few`; see `check_vectors --help`\n",
+    ),
+    (
+        "--first",
+        b"check_vectors: a word is missing after: `--first`; see `check_vectors --help`\n",
     ),
     (
         "--testfloat f64_ad",
-        b"check_vectors: no such function of TestFloat: `f64_ad`\n",
+        b"check_vectors: no such function of TestFloat: `f64_ad`; see `check_vectors --help`\n",
     ),
-    ("--fpgen -rmax", b"check_vectors: no such option: `-rmax`\n"),
+    (
+        "--testfloat f64_add -rmixMag",
+        b"check_vectors: no such option: `-rmixMag`; did you mean `-rminMag`?\n",
+    ),
+    (
+        "--fpgen -rmax",
+        b"check_vectors: no such option: `-rmax`; see `check_vectors --help`\n",
+    ),
 ];
 
 #[test]
@@ -588,8 +624,8 @@ fn names_the_wrong_word(rt: HostRuntime) -> Result<(), Fail> {
         }
         let mut out = Vec::new(rt.alloc());
         let mut err = Vec::new(rt.alloc());
-        let status = run(&rt, Ok(given), &mut out, &mut err);
-        let is_told = status == 2 && out.is_empty() && err.as_slice().ends_with(told);
+        let status = run(&rt, Ok(given), false, &mut out, &mut err);
+        let is_told = status == 2 && out.is_empty() && err.as_slice() == *told;
         assert!(rt; is_told, "{line}");
     }
     Ok(())
@@ -600,7 +636,7 @@ fn tells_of_words_without_memory(rt: HostRuntime) {
     let given = Err(io::Error::from(ErrorKind::OutOfMemory));
     let mut out = Vec::new(rt.alloc());
     let mut err = Vec::new(rt.alloc());
-    assert_eq!(rt; run(&rt, given, &mut out, &mut err), 3);
+    assert_eq!(rt; run(&rt, given, false, &mut out, &mut err), 3);
     assert!(rt; out.is_empty());
     assert_eq!(rt;
         err.as_slice(),

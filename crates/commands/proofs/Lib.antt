@@ -5,3 +5,4 @@ pub mod Named
 pub mod Counted
 pub mod RepliesOnce
 pub mod Runs
+pub mod Edits

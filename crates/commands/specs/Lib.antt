@@ -1,3 +1,5 @@
 pub mod Commands
 pub mod Operands
 pub mod Replies
+pub mod Suggestions
+pub mod About

@@ -9,19 +9,30 @@
 //! - MODE: `even`, `up`, `down`, `zero` or `away`.
 //!
 //! A value is given as its bits: 1 to 32 hexadecimal digits, optionally after `0x`.
+//!
+//! Also what the other programs have in common: the answers to `--help` and `--version`, the word that was meant by a
+//! misspelt one, the line about a word that is wrong, and when a long work tells how far it is.
 #![tactic(auto)]
 
+mod about;
 mod calculation;
 mod expected_reply;
 mod operation;
 mod output;
+mod progress;
 mod reply;
+mod suggestions;
 mod system_words;
 mod text_buffer;
 mod words;
+mod wrong_word;
 
+pub use about::About;
 pub use expected_reply::agrees;
 pub use output::{run, run_given, write_line, write_status};
+pub use progress::Progress;
 pub use reply::{Reply, command, command_of};
+pub use suggestions::{FORMATS, MODES, suggested};
 pub use system_words::words_of_system;
 pub use words::{bits_of, number_of};
+pub use wrong_word::{WrongWord, write_fault};

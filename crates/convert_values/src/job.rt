@@ -1,14 +1,16 @@
 //! The words of a command line, as a job for the program.
 
 use array_conversions::{Conversion, Extended, Overflow};
+use commands::About;
 
-/// How the program is called.
-pub const USAGE: &str = "\
+/// The help; `packaging/manual` makes the man page and the completions of it.
+pub const HELP: &str = "\
 usage: convert_values [--saturate] [--x87-bytes=10|16] FROM TO MODE
-       convert_values --help
+       convert_values --help | --version
 
-Reads little-endian values of the format FROM from standard input, and writes
-them, converted to the format TO, to standard output.
+Converts a stream of values to another format: reads little-endian values of the
+format FROM from standard input, and writes them in the format TO to standard
+output.
 
 FROM, TO  half single double quad bfloat e5m2 e4m3fn e4m3fnuz x87
 MODE      even    to the nearest value, ties to even
@@ -21,11 +23,15 @@ MODE      even    to the nearest value, ties to even
                 of its sign, with the same flags as without the option
 --x87-bytes=10  a value of the format x87 takes 10 bytes; this is the default
 --x87-bytes=16  it takes 16 bytes; the last 6 are ignored, and written as 0
+--help, -h      writes this text
+--version       writes the name and the version of the program
 
 At the end a line on standard error counts the values, those that raised each
-flag, and the NaNs among the values written. The exit status is 0; 1 if the
-stream ended inside a value, 2 for other arguments, 3 if there is not enough
-memory, and 4 if a read or a write failed.
+flag, and the NaNs among the values written. Before that, if standard error is
+a terminal, a line every two seconds says how many values were written.
+
+The exit status is 0; 1 if the stream ended inside a value, 2 for other
+arguments, 3 if there is not enough memory, and 4 if a read or a write failed.
 
     convert_values single e4m3fn even < singles > bytes
 ";
@@ -33,8 +39,8 @@ memory, and 4 if a read or a write failed.
 /// What the program is to do.
 #[derive(Clone, Copy, Debug)]
 pub enum Job {
-    /// Print how it is called.
-    Help,
+    /// Answer a question about the program.
+    About(About),
     /// Convert a stream; the second field says what a number that overflows becomes.
     Convert(Conversion, Overflow),
 }
@@ -42,8 +48,10 @@ pub enum Job {
 impl Job {
     /// The job that the words of a command line name, without the program's own name.
     pub fn named(words: &[String]) -> Option<Job> {
+        if let Some(about) = About::among(words) {
+            return Some(Job::About(about));
+        }
         match words {
-            [word] if word.as_str() == "--help" => Some(Job::Help),
             [option, words @ ..] if option.as_str() == "--saturate" => {
                 Job::converting(Overflow::Saturated, words)
             }

@@ -2,7 +2,7 @@
 //! the format FROM from standard input, and writes them in the format TO to standard output, in order. A line on
 //! standard error counts the values and the flags that their conversions raised.
 //!
-//! `USAGE` explains the arguments.
+//! `HELP` explains the arguments.
 //!
 //! The exit status is 0 if all values were converted, 1 if the stream ended inside a value, 2 for other arguments, 3 if
 //! there is not enough memory for the buffers, and 4 if a read or a write failed.
@@ -17,17 +17,21 @@ mod wrong_word;
 
 use crate::run::run;
 use commands::words_of_system;
+use std::io::IsTerminal;
 use std::process::ExitCode;
 
 /// Runs the program and returns its exit status.
 fn main(rt: HostRuntime) -> ExitCode {
     let words = words_of_system(&rt);
+    let mut err = rt.stderr();
+    let is_terminal = err.is_terminal();
     let status = run(
-        rt.alloc(),
+        &rt,
         words,
+        is_terminal,
         &mut rt.stdin(),
         &mut rt.stdout(),
-        &mut rt.stderr(),
+        &mut err,
     );
     ExitCode::from(status)
 }

@@ -3,13 +3,16 @@
 ghost use Rattle.std.specs.Prelude.{◌≡◌, IfOk};
 ghost use Rattle.convert_values.specs.Statuses.{failure_status, summary_status};
 
-use crate::job::{Job, USAGE};
+use crate::job::{HELP, Job};
 use crate::stream::{Failure, Summary, convert_stream};
-use crate::wrong_word::{WrongWord, wrong_word};
+use crate::wrong_word::{wrong_form, wrong_word};
 use array_conversions::Counts;
-use std::alloc::Global;
+use commands::{Progress, write_fault};
 use std::io;
 use std::io::{ErrorKind, Read, Write};
+use std::rt::Clock;
+
+const PROGRAM: &str = "convert_values";
 
 const ENDED_INSIDE: u8 = 1;
 
@@ -19,43 +22,47 @@ const NO_MEMORY: u8 = 3;
 
 const FAILED: u8 = 4;
 
-/// Runs the program with the arguments from the system: converts `input` to `output`, and reports the outcome on `err`.
+/// Runs the program with the arguments from the system: converts `input` to `output`, and reports the outcome on `err`,
+/// and if that is a terminal, also how far a long stream has come.
 ///
 /// Returns the exit status.
-pub fn run<R: Read, W: Write, V: Write>(
-    alloc: Global,
+pub fn run<R: Clock + AllocGlobal, I: Read, W: Write, V: Write>(
+    rt: &R,
     given: io::Result<Vec<String>>,
-    input: &mut R,
+    is_terminal: bool,
+    input: &mut I,
     output: &mut W,
     err: &mut V,
 ) -> u8 {
     match given {
-        Ok(words) => answer(alloc, words.as_slice(), input, output, err).unwrap_or(FAILED),
+        Ok(words) => {
+            answer(rt, words.as_slice(), is_terminal, input, output, err).unwrap_or(FAILED)
+        }
         Err(error) => refuse_words(error, err).unwrap_or(FAILED),
     }
 }
 
 /// The exit status, or the error of a write to `err` or of writing the help.
-fn answer<R: Read, W: Write, V: Write>(
-    alloc: Global,
+fn answer<R: Clock + AllocGlobal, I: Read, W: Write, V: Write>(
+    rt: &R,
     words: &[String],
-    input: &mut R,
+    is_terminal: bool,
+    input: &mut I,
     output: &mut W,
     err: &mut V,
 ) -> io::Result<u8> {
     match Job::named(words) {
         None => {
-            err.write_all(USAGE.as_bytes())?;
             tell_wrong_word(words, err)?;
             Ok(OTHER_WORDS)
         }
-        Some(Job::Help) => {
-            output.write_all(USAGE.as_bytes())?;
-            output.flush()?;
+        Some(Job::About(about)) => {
+            about.answer(PROGRAM, HELP, output)?;
             Ok(0)
         }
         Some(Job::Convert(conversion, overflow)) => {
-            match convert_stream(alloc, conversion, overflow, input, output) {
+            let progress = Progress::new(is_terminal, rt);
+            match convert_stream(rt, conversion, overflow, progress, input, output, err) {
                 Ok(summary) => tell(summary, err),
                 Err(failure) => tell_failure(failure, err),
             }
@@ -66,8 +73,8 @@ fn answer<R: Read, W: Write, V: Write>(
 /// Names the word that is wrong, if one is.
 fn tell_wrong_word<V: Write>(words: &[String], err: &mut V) -> io::Result<()> {
     match wrong_word(words) {
-        Some(WrongWord { fault, word }) => { writeln!(err, "convert_values: {fault}: `{word}`") }
-        None => Ok(()),
+        Some(wrong) => wrong.write(PROGRAM, err),
+        None => write_fault(PROGRAM, wrong_form(words), err),
     }
 }
 
@@ -79,7 +86,7 @@ fn refuse_words<V: Write>(error: io::Error, err: &mut V) -> io::Result<u8> {
             Ok(NO_MEMORY)
         }
         _ => {
-            err.write_all(USAGE.as_bytes())?;
+            write_fault(PROGRAM, "the words are not valid text", err)?;
             Ok(OTHER_WORDS)
         }
     }

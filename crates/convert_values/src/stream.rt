@@ -4,9 +4,11 @@ ghost use Rattle.std.specs.Prelude.{◌≡◌, ◌*◌, ◌≤◌, IfOk, length}
 ghost use Rattle.array_conversions.specs.Widths.{source_width, target_width};
 
 use array_conversions::{Conversion, Counts, Overflow};
-use std::alloc::{AllocError, Global};
+use commands::Progress;
+use std::alloc::AllocError;
 use std::io;
 use std::io::{ErrorKind, Read, Write};
+use std::rt::Clock;
 
 /// The greatest number of values in a block.
 const BLOCK: usize = 1 << 14;
@@ -39,41 +41,51 @@ impl From<AllocError> for Failure {
     }
 }
 
-/// Converts the values of a stream, to its end.
-pub fn convert_stream<R: Read, W: Write>(
-    alloc: Global,
+/// Converts the values of a stream, to its end. `err` is told how far a long stream has come, if that is shown.
+pub fn convert_stream<R: Clock + AllocGlobal, I: Read, W: Write, V: Write>(
+    rt: &R,
     conversion: Conversion,
     overflow: Overflow,
-    input: &mut R,
+    progress: Progress,
+    input: &mut I,
     output: &mut W,
+    err: &mut V,
 ) -> Result<Summary, Failure> {
+    let alloc = rt.alloc();
     let widths = conversion.widths();
     let mut read = vec![in alloc; 0u8; BLOCK * widths.source]?;
     let buffer = vec![in alloc; 0u8; BLOCK * widths.target]?;
     convert_through(
+        rt,
         conversion,
         overflow,
+        progress,
         read.as_mut_slice(),
         buffer,
         input,
         output,
+        err,
     )
 }
 
 /// The same, with the buffers allocated.
-fn convert_through<R: Read, W: Write>(
+fn convert_through<C: Clock, I: Read, W: Write, V: Write>(
+    clock: &C,
     conversion: Conversion,
     overflow: Overflow,
+    progress: Progress,
     read: &mut [u8],
     buffer: Vec<u8>,
-    input: &mut R,
+    input: &mut I,
     output: &mut W,
+    err: &mut V,
 ) -> Result<Summary, Failure>
     requires read { length read.old ≡ BLOCK * source_width conversion }
     requires buffer { length buffer.items ≡ BLOCK * target_width conversion }
 {
     let mut counts = Counts::NONE;
     let mut buffer = buffer;
+    let mut progress = progress;
     for _ in 0..u64::MAX {
         let filled = match fill(input, read) {
             Ok(filled) => filled,
@@ -93,9 +105,21 @@ fn convert_through<R: Read, W: Write>(
                 Err(error) => Err(Failure::Writing(error)),
             };
         }
+        tell_progress(&mut progress, counts.values, clock, err);
         buffer = block.buffer;
     }
     Err(Failure::TooLong)
+}
+
+/// Says how many values were written, if that is due.
+fn tell_progress<C: Clock, V: Write>(progress: &mut Progress, values: u64, clock: &C, err: &mut V) {
+    if let Some(seconds) = progress.due(clock) {
+        // A failure of this write is harmless.
+        let _ = writeln!(
+            err,
+            "convert_values: {values} values after {seconds} seconds"
+        );
+    }
 }
 
 /// Reads until the buffer is full or the stream ends, and returns how many bytes were read.

@@ -2,10 +2,12 @@
 
 use crate::run::{run, tell_failure};
 use crate::stream::Failure;
-use std::alloc::{AllocError, Global};
+use std::alloc::{Alloc, AllocError, Global};
 use std::io;
 use std::io::{ErrorKind, Read, Write};
+use std::rt::Clock;
 use std::test::Fail;
+use std::time::Duration;
 
 /// A reader that gives its bytes a few at a time, is interrupted before each read, and fails when it has no more.
 #[derive(Drop)]
@@ -63,16 +65,16 @@ fn words(alloc: Global, line: &str) -> Result<Vec<String>, AllocError> {
 }
 
 /// What the program writes for a line of arguments and a stream, with its exit status last.
-fn answer_to(
-    alloc: Global,
+fn answer_to<R: Clock + AllocGlobal>(
+    rt: &R,
     line: &str,
     stream: &[u8],
 ) -> Result<(Vec<u8>, Vec<u8>, u8), AllocError> {
-    let given = words(alloc, line)?;
+    let given = words(rt.alloc(), line)?;
     let mut rest = stream;
-    let mut output = Vec::new(alloc);
-    let mut err = Vec::new(alloc);
-    let status = run(alloc, Ok(given), &mut rest, &mut output, &mut err);
+    let mut output = Vec::new(rt.alloc());
+    let mut err = Vec::new(rt.alloc());
+    let status = run(rt, Ok(given), false, &mut rest, &mut output, &mut err);
     Ok((output, err, status))
 }
 
@@ -82,7 +84,7 @@ const SINGLES: &[u8] =
 
 #[test]
 fn converts_whole_values_before_the_end(rt: HostRuntime) -> Result<(), Fail> {
-    let (output, err, status) = answer_to(rt.alloc(), "single e4m3fn even", SINGLES)?;
+    let (output, err, status) = answer_to(&rt, "single e4m3fn even", SINGLES)?;
     assert_eq!(rt; output.as_slice(), b"\x38\x38\x7f\x7f\x00".as_slice());
     assert_eq!(rt;
         err.as_slice(),
@@ -91,7 +93,7 @@ fn converts_whole_values_before_the_end(rt: HostRuntime) -> Result<(), Fail> {
             .as_slice()
     );
     assert_eq!(rt; status, 1);
-    let (output, err, status) = answer_to(rt.alloc(), "single e4m3fn up", &SINGLES[..20])?;
+    let (output, err, status) = answer_to(&rt, "single e4m3fn up", &SINGLES[..20])?;
     assert_eq!(rt; output.as_slice(), b"\x38\x39\x7f\x7f\x01".as_slice());
     assert_eq!(rt;
         err.as_slice(),
@@ -108,7 +110,7 @@ const BEYOND: &[u8] =
 #[test]
 fn saturates_overflows_alone(rt: HostRuntime) -> Result<(), Fail> {
     let line = "--saturate single e4m3fn even";
-    let (output, err, status) = answer_to(rt.alloc(), line, BEYOND)?;
+    let (output, err, status) = answer_to(&rt, line, BEYOND)?;
     assert_eq!(rt; output.as_slice(), b"\x38\x7e\xfe\x7f\xff\x7f".as_slice());
     assert_eq!(rt;
         err.as_slice(),
@@ -121,11 +123,11 @@ fn saturates_overflows_alone(rt: HostRuntime) -> Result<(), Fail> {
 #[test]
 fn reads_no_padding_and_writes_zeros(rt: HostRuntime) -> Result<(), Fail> {
     let three = b"\x00\x00\x00\x00\x00\x00\x00\xc0\x00\x40\x01\x02\x03\x04\x05\x06";
-    let (output, _, status) = answer_to(rt.alloc(), "--x87-bytes=16 x87 x87 even", three)?;
+    let (output, _, status) = answer_to(&rt, "--x87-bytes=16 x87 x87 even", three)?;
     let wanted = b"\x00\x00\x00\x00\x00\x00\x00\xc0\x00\x40\x00\x00\x00\x00\x00\x00";
     assert_eq!(rt; output.as_slice(), wanted.as_slice());
     assert_eq!(rt; status, 0);
-    let (output, _, status) = answer_to(rt.alloc(), "--x87-bytes=10 x87 half even", &three[..10])?;
+    let (output, _, status) = answer_to(&rt, "--x87-bytes=10 x87 half even", &three[..10])?;
     assert_eq!(rt; output.as_slice(), b"\x00\x42".as_slice());
     assert_eq!(rt; status, 0);
     Ok(())
@@ -146,47 +148,99 @@ fn refuses_other_words(rt: HostRuntime) -> Result<(), Fail> {
         "--saturate single e4m3fn",
         "--x87-bytes=10 --saturate single e4m3fn even",
     ] {
-        let (output, err, status) = answer_to(rt.alloc(), line, SINGLES)?;
+        let (output, err, status) = answer_to(&rt, line, SINGLES)?;
         assert!(rt; output.is_empty());
-        assert!(rt;
-            err.as_slice().starts_with(b"usage: convert_values "),
-            "{line}"
-        );
+        assert!(rt; err.as_slice().starts_with(b"convert_values: "), "{line}");
         assert_eq!(rt; status, 2, "{line}");
     }
-    let (output, err, status) = answer_to(rt.alloc(), "--help", SINGLES)?;
-    assert!(rt; output.as_slice().starts_with(b"usage: convert_values "));
-    assert!(rt; err.is_empty());
-    assert_eq!(rt; status, 0);
+    for (line, told) in [
+        ("--help", "usage: convert_values "),
+        ("single half -h", "usage: convert_values "),
+        ("--version", "convert_values 0."),
+    ] {
+        let (output, err, status) = answer_to(&rt, line, SINGLES)?;
+        assert!(rt; output.as_slice().starts_with(told.as_bytes()), "{line}");
+        assert!(rt; err.is_empty(), "{line}");
+        assert_eq!(rt; status, 0, "{line}");
+    }
     Ok(())
 }
 
-/// Lines with a word that is wrong, and the last line that is written for each.
+/// Lines with a word that is wrong, and the line that is written for each. A word is suggested if one byte put in, taken
+/// out or replaced, or two neighbours swapped, makes it of the wrong one; of several, the first of the list.
 static WRONG_WORDS: &[(&str, &[u8])] = &[
     (
         "single halff even",
-        b"convert_values: no such format: `halff`\n",
+        b"convert_values: no such format: `halff`; did you mean `half`?\n",
     ),
-    ("dd single even", b"convert_values: no such format: `dd`\n"),
+    (
+        "singel half even",
+        b"convert_values: no such format: `singel`; did you mean `single`?\n",
+    ),
+    (
+        "single alf even",
+        b"convert_values: no such format: `alf`; did you mean `half`?\n",
+    ),
+    (
+        "single e4m2 even",
+        b"convert_values: no such format: `e4m2`; did you mean `e5m2`?\n",
+    ),
+    (
+        "single e4m3fnu even",
+        b"convert_values: no such format: `e4m3fnu`; did you mean `e4m3fn`?\n",
+    ),
+    (
+        "single float even",
+        b"convert_values: no such format: `float`; did you mean `bfloat`?\n",
+    ),
+    (
+        "single fp16 even",
+        b"convert_values: no such format: `fp16`; see `convert_values --help`\n",
+    ),
+    (
+        "dd single even",
+        b"convert_values: no such format: `dd`; see `convert_values --help`\n",
+    ),
+    (
+        "single half evne",
+        b"convert_values: no such mode: `evne`; did you mean `even`?\n",
+    ),
+    (
+        "single half u",
+        b"convert_values: no such mode: `u`; did you mean `up`?\n",
+    ),
     (
         "single half nearest",
-        b"convert_values: no such mode: `nearest`\n",
+        b"convert_values: no such mode: `nearest`; see `convert_values --help`\n",
+    ),
+    (
+        "--satruate single half even",
+        b"convert_values: no such option: `--satruate`; did you mean `--saturate`?\n",
     ),
     (
         "--clamp single half even",
-        b"convert_values: no such option: `--clamp`\n",
+        b"convert_values: no such option: `--clamp`; see `convert_values --help`\n",
     ),
     (
         "--saturate single half even more",
-        b"convert_values: a word too many: `more`\n",
+        b"convert_values: a word too many: `more`; see `convert_values --help`\n",
+    ),
+    (
+        "--saturate single half",
+        b"convert_values: too few words; see `convert_values --help`\n",
+    ),
+    (
+        "--x87-bytes=10 --saturate single half even",
+        b"convert_values: an option is given twice, or `--saturate` is not the first; \
+          see `convert_values --help`\n",
     ),
 ];
 
 #[test]
 fn names_the_wrong_word(rt: HostRuntime) -> Result<(), Fail> {
     for (line, told) in WRONG_WORDS {
-        let (_, err, status) = answer_to(rt.alloc(), line, SINGLES)?;
-        let is_told = status == 2 && err.as_slice().ends_with(told);
+        let (_, err, status) = answer_to(&rt, line, SINGLES)?;
+        let is_told = status == 2 && err.as_slice() == *told;
         assert!(rt; is_told, "{line}");
     }
     Ok(())
@@ -202,7 +256,7 @@ fn reads_a_few_bytes_at_a_time(rt: HostRuntime) -> Result<(), Fail> {
     let mut output = Vec::new(rt.alloc());
     let mut err = Vec::new(rt.alloc());
     let given = words(rt.alloc(), "single e4m3fn down")?;
-    let status = run(rt.alloc(), Ok(given), &mut input, &mut output, &mut err);
+    let status = run(&rt, Ok(given), false, &mut input, &mut output, &mut err);
     assert_eq!(rt; output.as_slice(), b"\x38\x38\x7f\x7e\x00".as_slice());
     assert_eq!(rt; status, 1);
     Ok(())
@@ -218,7 +272,7 @@ fn names_failed_reads_and_writes(rt: HostRuntime) -> Result<(), Fail> {
     let mut output = Vec::new(rt.alloc());
     let mut err = Vec::new(rt.alloc());
     let given = words(rt.alloc(), "single e4m3fn even")?;
-    let status = run(rt.alloc(), Ok(given), &mut input, &mut output, &mut err);
+    let status = run(&rt, Ok(given), false, &mut input, &mut output, &mut err);
     assert!(rt;
         err.as_slice()
             .starts_with(b"convert_values: reading failed: ")
@@ -229,8 +283,9 @@ fn names_failed_reads_and_writes(rt: HostRuntime) -> Result<(), Fail> {
         let mut err = Vec::new(rt.alloc());
         let given = words(rt.alloc(), "single e4m3fn even")?;
         let status = run(
-            rt.alloc(),
+            &rt,
             Ok(given),
+            false,
             &mut rest,
             &mut Narrow { room },
             &mut err,
@@ -245,8 +300,9 @@ fn names_failed_reads_and_writes(rt: HostRuntime) -> Result<(), Fail> {
         let given = words(rt.alloc(), "single e4m3fn even")?;
         let mut out = Vec::new(rt.alloc());
         let status = run(
-            rt.alloc(),
+            &rt,
             Ok(given),
+            false,
             &mut rest,
             &mut out,
             &mut Narrow { room },
@@ -285,7 +341,7 @@ fn counts_the_values_of_all_blocks(rt: HostRuntime) -> Result<(), Fail> {
         stream.extend_from_slice(b"\x00\x3c")?;
     }
     stream.push(0x3c)?;
-    let (output, err, status) = answer_to(rt.alloc(), "half e4m3fn even", stream.as_slice())?;
+    let (output, err, status) = answer_to(&rt, "half e4m3fn even", stream.as_slice())?;
     assert_eq!(rt; output.len(), 36398);
     assert_eq!(rt;
         err.as_slice(),
@@ -302,11 +358,11 @@ fn reads_and_writes_the_lowest_byte_first(rt: HostRuntime) -> Result<(), Fail> {
     // 1 + 2^-112 and -1.
     let quads = b"\x01\x00\x00\x00\x00\x00\x00\x00\x00\x00\x00\x00\x00\x00\xff\x3f\
         \x00\x00\x00\x00\x00\x00\x00\x00\x00\x00\x00\x00\x00\x00\xff\xbf";
-    let (output, _, status) = answer_to(rt.alloc(), "quad double up", quads)?;
+    let (output, _, status) = answer_to(&rt, "quad double up", quads)?;
     let doubles = b"\x01\x00\x00\x00\x00\x00\xf0\x3f\x00\x00\x00\x00\x00\x00\xf0\xbf";
     assert_eq!(rt; output.as_slice(), doubles.as_slice());
     assert_eq!(rt; status, 0);
-    let (output, _, status) = answer_to(rt.alloc(), "double x87 even", doubles)?;
+    let (output, _, status) = answer_to(&rt, "double x87 even", doubles)?;
     let extended = b"\x00\x08\x00\x00\x00\x00\x00\x80\xff\x3f\
         \x00\x00\x00\x00\x00\x00\x00\x80\xff\xbf";
     assert_eq!(rt; output.as_slice(), extended.as_slice());
@@ -315,25 +371,26 @@ fn reads_and_writes_the_lowest_byte_first(rt: HostRuntime) -> Result<(), Fail> {
 }
 
 /// The same, if the system gives this error instead of the words.
-fn refusal_for(alloc: Global, kind: ErrorKind) -> (Vec<u8>, Vec<u8>, u8) {
+fn refusal_for<R: Clock + AllocGlobal>(rt: &R, kind: ErrorKind) -> (Vec<u8>, Vec<u8>, u8) {
     let mut rest = SINGLES;
-    let mut output = Vec::new(alloc);
-    let mut err = Vec::new(alloc);
+    let mut output = Vec::new(rt.alloc());
+    let mut err = Vec::new(rt.alloc());
     let given = Err(io::Error::from(kind));
-    let status = run(alloc, given, &mut rest, &mut output, &mut err);
+    let status = run(rt, given, false, &mut rest, &mut output, &mut err);
     (output, err, status)
 }
 
 #[test]
 fn refuses_to_run_without_words(rt: HostRuntime) -> Result<(), Fail> {
-    let (output, err, status) = refusal_for(rt.alloc(), ErrorKind::OutOfMemory);
+    let (output, err, status) = refusal_for(&rt, ErrorKind::OutOfMemory);
     assert!(rt; output.is_empty());
     let wanted = b"convert_values: no memory for the words\n";
     assert_eq!(rt; err.as_slice(), wanted.as_slice());
     assert_eq!(rt; status, 3);
-    let (output, err, status) = refusal_for(rt.alloc(), ErrorKind::InvalidData);
+    let (output, err, status) = refusal_for(&rt, ErrorKind::InvalidData);
     assert!(rt; output.is_empty());
-    assert!(rt; err.as_slice().starts_with(b"usage: convert_values "));
+    let wanted = b"convert_values: the words are not valid text; see `convert_values --help`\n";
+    assert_eq!(rt; err.as_slice(), wanted.as_slice());
     assert_eq!(rt; status, 2);
     Ok(())
 }
@@ -355,8 +412,65 @@ fn fails_if_a_flush_fails(rt: HostRuntime) -> Result<(), Fail> {
         let given = words(rt.alloc(), line)?;
         let mut output = Narrow { room: 1 << 16 };
         let mut err = Vec::new(rt.alloc());
-        let status = run(rt.alloc(), Ok(given), &mut rest, &mut output, &mut err);
+        let status = run(&rt, Ok(given), false, &mut rest, &mut output, &mut err);
         assert_eq!(rt; status, 4, "{line}");
+    }
+    Ok(())
+}
+
+/// A runtime whose clock advances by a second each time it is asked.
+#[derive(Drop)]
+struct Ticking {
+    alloc: Global,
+    seconds: std::cell::Cell<u64>,
+}
+
+impl Alloc for Ticking {
+    type A = Global;
+
+    fn alloc(&self) -> Global {
+        self.alloc
+    }
+}
+
+impl Clock for Ticking {
+    fn monotonic(&self) -> io::Result<Duration> {
+        let seconds = self.seconds.get().saturating_add(1);
+        self.seconds.set(seconds);
+        Ok(Duration::from_secs(seconds))
+    }
+
+    fn since_1970(&self) -> io::Result<Duration> {
+        Err(io::Error::from(ErrorKind::Unsupported))
+    }
+}
+
+/// The clock is asked at the beginning and after each block of 16384 values.
+#[test]
+fn tells_a_terminal_how_far_it_is(rt: HostRuntime) -> Result<(), Fail> {
+    let counts = "values 81920, inexact 0, underflow 0, overflow 0, invalid 0, NaNs 0\n";
+    let told = "convert_values: 32768 values after 2 seconds\n\
+        convert_values: 65536 values after 4 seconds\n\
+        values 81920, inexact 0, underflow 0, overflow 0, invalid 0, NaNs 0\n";
+    for (is_terminal, wanted) in [(false, counts), (true, told)] {
+        let ticking = Ticking {
+            alloc: rt.alloc(),
+            seconds: std::cell::Cell::new(0),
+        };
+        let stream = vec![in rt.alloc(); 0u8; 81920]?;
+        let given = words(rt.alloc(), "e5m2 e5m2 even")?;
+        let mut output = Vec::new(rt.alloc());
+        let mut err = Vec::new(rt.alloc());
+        let status = run(
+            &ticking,
+            Ok(given),
+            is_terminal,
+            &mut stream.as_slice(),
+            &mut output,
+            &mut err,
+        );
+        assert_eq!(rt; err.as_slice(), wanted.as_bytes());
+        assert_eq!(rt; status, 0);
     }
     Ok(())
 }

@@ -1,15 +1,17 @@
 //! Which word of a command line is wrong.
 
+use commands::{FORMATS, MODES, WrongWord};
 use formats_at_run_time::{BuiltInKind, mode_named};
 
-/// A word that names nothing.
-#[derive(Clone, Copy)]
-pub struct WrongWord<'a> {
-    /// What is wrong with it.
-    pub fault: &'static str,
-    /// The word.
-    pub word: &'a str,
-}
+/// The options before a format.
+static OPTIONS: &[&str] = &[
+    "--saturate",
+    "--x87-bytes=10",
+    "--x87-bytes=16",
+    "--help",
+    "-h",
+    "--version",
+];
 
 /// The first wrong word, if three words and any options before them make a job.
 pub fn wrong_word(words: &[String]) -> Option<WrongWord<'_>> {
@@ -18,12 +20,24 @@ pub fn wrong_word(words: &[String]) -> Option<WrongWord<'_>> {
         [word, ..] if word.as_str().starts_with('-') => Some(WrongWord {
             fault: "no such option",
             word: word.as_str(),
+            known: OPTIONS,
         }),
         [_, _, _, word, ..] => Some(WrongWord {
             fault: "a word too many",
             word: word.as_str(),
+            known: &[],
         }),
         _ => wrong_name(words),
+    }
+}
+
+/// What is wrong with words none of which is wrong.
+pub fn wrong_form(words: &[String]) -> &'static str {
+    match words {
+        [.., source, _, _] if !is_option(source.as_str()) => {
+            "an option is given twice, or `--saturate` is not the first"
+        }
+        _ => "too few words",
     }
 }
 
@@ -42,16 +56,19 @@ fn wrong_name(names: &[String]) -> Option<WrongWord<'_>> {
         Some(WrongWord {
             fault,
             word: source.as_str(),
+            known: FORMATS,
         })
     } else if !is_format(target.as_str()) {
         Some(WrongWord {
             fault,
             word: target.as_str(),
+            known: FORMATS,
         })
     } else if mode_named(mode.as_str()).is_none() {
         Some(WrongWord {
             fault: "no such mode",
             word: mode.as_str(),
+            known: MODES,
         })
     } else {
         None

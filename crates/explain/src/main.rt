@@ -1,7 +1,7 @@
 //! Explains a computation: `explain FORMAT OP MODE A [B [C]]` shows the operands, the two neighbours of the exact
 //! result, its place between them, which of them the mode picks, and the flags; `explain FORMAT A` shows a value.
 //!
-//! `USAGE` explains the arguments.
+//! `HELP` explains the arguments.
 //!
 //! The exit status is 0 for an explanation, 2 for other arguments, 3 if there is not enough memory for them, and 1 if a
 //! write fails.

@@ -3,11 +3,11 @@
 use formats_at_run_time::{Arithmetic, BuiltInFormat, BuiltInKind, mode_named};
 use rustc_apfloat::Round;
 
-/// How the program is called.
-pub const USAGE: &str = "\
+/// The help; `packaging/manual` makes the man page and the completions of it.
+pub const HELP: &str = "\
 usage: explain FORMAT OP MODE A [B [C]]
        explain FORMAT A
-       explain --help
+       explain --help | --version
 
 Shows how an operation in the format FORMAT gets its result, or what the value
 A is.
@@ -29,10 +29,22 @@ are ten, and 1e5d is 100000. Any other word of hexadecimal digits is bits if
 the format has that many: 10, 1e5, 3c0d, and 0x10d, where 10d would be ten. If
 a word could have been either, the output says how it was read.
 
+--help, -h  writes this text
+--version   writes the name and the version of the program
+
+The exit status is 0 for an explanation, 2 for other arguments, 3 if there is
+not enough memory for them, and 1 if a write fails.
+
     explain half add even 3c01 1000
     explain double add even 0.1 0.2
     explain half 3c00
 ";
+
+/// The words of the operations.
+pub static OPERATIONS: &[&str] = &["add", "sub", "mul", "div", "rem", "mod", "fma", "sqrt"];
+
+/// The options.
+pub static OPTIONS: &[&str] = &["--help", "-h", "--version"];
 
 /// The computation that is explained.
 #[derive(Clone, Copy, Debug)]
@@ -91,8 +103,12 @@ pub struct Question<'a> {
 /// Why there is nothing to explain.
 #[derive(Clone, Copy, Debug)]
 pub enum Fault<'a> {
-    /// There are too few or too many words.
-    Count,
+    /// There are too few words.
+    TooFew,
+    /// There are more words than operands.
+    TooMany,
+    /// No option has this name.
+    Option(&'a str),
     /// No format has this name.
     Format(&'a str),
     /// No operation has this name.
@@ -106,8 +122,13 @@ pub enum Fault<'a> {
 impl<'a> Question<'a> {
     /// The question that these words ask, or the first fault.
     pub fn named(words: &'a [String]) -> Result<Question<'a>, Fault<'a>> {
+        if let [word, ..] = words
+            && word.as_str().starts_with('-')
+        {
+            return Err(Fault::Option(word.as_str()));
+        }
         if words.len() < 2 || words.len() == 3 {
-            return Err(Fault::Count);
+            return Err(Fault::TooFew);
         }
         let format_word = words[0].as_str();
         let Some(BuiltInKind::OfFormat(format)) = BuiltInKind::named(format_word) else {
@@ -129,8 +150,11 @@ impl<'a> Question<'a> {
             return Err(Fault::Mode(words[2].as_str()));
         };
         let operands = &words[3..];
-        if operands.len() != operation.operand_count() {
-            return Err(Fault::Count);
+        if operands.len() < operation.operand_count() {
+            return Err(Fault::TooFew);
+        }
+        if operands.len() > operation.operand_count() {
+            return Err(Fault::TooMany);
         }
         Ok(Question {
             format_word,

@@ -2,9 +2,12 @@
 
 use crate::compute::Computation;
 use crate::picture::write_explanation;
-use crate::question::{Fault, Question, USAGE};
+use crate::question::{Fault, HELP, OPERATIONS, OPTIONS, Question};
+use commands::{About, FORMATS, MODES, WrongWord, suggested, write_fault};
 use std::io;
 use std::io::{ErrorKind, Write};
+
+const PROGRAM: &str = "explain";
 
 const FAILED: u8 = 1;
 
@@ -32,11 +35,9 @@ fn answer<W: Write, V: Write>(
     out: &mut W,
     err: &mut V,
 ) -> io::Result<u8> {
-    if let [word] = words {
-        if word.as_str() == "--help" {
-            out.write_all(USAGE.as_bytes())?;
-            return Ok(0);
-        }
+    if let Some(about) = About::among(words) {
+        about.answer(PROGRAM, HELP, out)?;
+        return Ok(0);
     }
     let question = match Question::named(words) {
         Ok(question) => question,
@@ -55,22 +56,48 @@ fn answer<W: Write, V: Write>(
 /// Reports why there is nothing to explain.
 fn refuse<V: Write>(fault: Fault, err: &mut V) -> io::Result<u8> {
     match fault {
-        Fault::Count => err.write_all(USAGE.as_bytes())?,
-        Fault::Format(word) => writeln!(
-            err,
-            "explain: no format '{word}' (half single double quad bfloat e5m2 e4m3fn e4m3fnuz x87)"
-        )?,
-        Fault::Operation(word) => writeln!(
-            err,
-            "explain: no operation '{word}' (add sub mul div rem mod fma sqrt)"
-        )?,
-        Fault::Mode(word) => writeln!(err, "explain: no mode '{word}' (even up down zero away)")?,
+        Fault::TooFew => write_fault(PROGRAM, "too few words", err)?,
+        Fault::TooMany => write_fault(PROGRAM, "too many operands", err)?,
+        Fault::Option(word) => {
+            let wrong = WrongWord {
+                fault: "no such option",
+                word,
+                known: OPTIONS,
+            };
+            wrong.write(PROGRAM, err)?;
+        }
+        Fault::Format(word) => {
+            write!(
+                err,
+                "explain: no format '{word}' (half single double quad bfloat e5m2 e4m3fn e4m3fnuz x87)"
+            )?;
+            suggest(word, FORMATS, err)?;
+        }
+        Fault::Operation(word) => {
+            write!(
+                err,
+                "explain: no operation '{word}' (add sub mul div rem mod fma sqrt)"
+            )?;
+            suggest(word, OPERATIONS, err)?;
+        }
+        Fault::Mode(word) => {
+            write!(err, "explain: no mode '{word}' (even up down zero away)")?;
+            suggest(word, MODES, err)?;
+        }
         Fault::Value(word) => writeln!(
             err,
             "explain: no value '{word}' of the format (hexadecimal bits, or a number such as 0.1)"
         )?,
     }
     Ok(OTHER_WORDS)
+}
+
+/// Ends a line about a wrong word, with the word that was meant if it is one edit away.
+fn suggest<V: Write>(word: &str, known: &[&'static str], err: &mut V) -> io::Result<()> {
+    match suggested(word, known) {
+        Some(meant) => writeln!(err, "; did you mean '{meant}'?"),
+        None => writeln!(err),
+    }
 }
 
 /// Reports why there are no arguments.
@@ -81,7 +108,7 @@ fn refuse_words<V: Write>(error: io::Error, err: &mut V) -> io::Result<u8> {
             Ok(NO_MEMORY)
         }
         _ => {
-            err.write_all(USAGE.as_bytes())?;
+            write_fault(PROGRAM, "the words are not valid text", err)?;
             Ok(OTHER_WORDS)
         }
     }

@@ -6,15 +6,12 @@ use crate::command_row::CommandRow;
 use crate::failure::Failure;
 use crate::other_files::{Fpgen, TestFloat};
 use crate::summary::Summary;
+use commands::Progress;
 use std::alloc::{AllocError, Allocator, Global};
 use std::io::{BufRead, ErrorKind, Write};
 use std::rt::Clock;
-use std::time::Instant;
 use std::{fmt, io, str};
 use vector_lines::RowError;
-
-/// Seconds before the first progress message, and between two of them.
-const SECONDS: u64 = 3;
 
 /// Lines read between two readings of the clock.
 const LINES: u64 = 1024;
@@ -40,6 +37,8 @@ pub struct Task {
     pub is_summary: bool,
     /// The number of differing rows after which the check ends, if it is limited.
     pub first: Option<u64>,
+    /// Whether a long check says how far it has come.
+    pub shows_progress: bool,
 }
 
 impl Task {
@@ -49,6 +48,7 @@ impl Task {
             lines: Lines::Rows,
             is_summary: false,
             first: None,
+            shows_progress: false,
         }
     }
 }
@@ -100,8 +100,8 @@ impl Check {
         self.tally
     }
 
-    /// Checks the lines of an input to its end. Differences and malformed lines are written to `out`, and progress to
-    /// `err`. The buffer for a line, as long as the longest one, is allocated from `alloc`.
+    /// Checks the lines of an input to its end. Differences and malformed lines are written to `out`, and progress, if it
+    /// is shown, to `err`. The buffer for a line, as long as the longest one, is allocated from `alloc`.
     pub fn take<R: BufRead, A: Allocator, C: Clock, W: Write, V: Write>(
         &mut self,
         input: &mut R,
@@ -110,8 +110,7 @@ impl Check {
         out: &mut W,
         err: &mut V,
     ) -> Result<(), Failure> {
-        let start = Instant::now(clock).ok();
-        let mut due = SECONDS;
+        let mut progress = Progress::new(self.task.shows_progress, clock);
         let mut line = Vec::new(alloc);
         for _ in 0..u64::MAX {
             line.clear();
@@ -133,10 +132,8 @@ impl Check {
             }
             let lines = self.tally.lines();
             if lines % LINES == 0
-                && let Some(seconds) = seconds_since(start, clock)
-                && seconds >= due
+                && let Some(seconds) = progress.due(clock)
             {
-                due = seconds.saturating_add(SECONDS);
                 // A failure of this write is harmless.
                 let _ = writeln!(err, "check_vectors: {lines} lines after {seconds} seconds");
             }
@@ -313,11 +310,6 @@ fn read_line<R: BufRead, A: Allocator>(input: &mut R, line: &mut Vec<u8, A>) -> 
     line.extend_from_slice(&available[..=end])?;
     input.consume(end + 1);
     Ok(end + 1)
-}
-
-/// The seconds since `start`; 0 without a clock.
-fn seconds_since(start: Option<Instant>, clock: &impl Clock) -> Option<u64> {
-    Some(start?.elapsed(clock).ok()?.as_secs())
 }
 
 /// Adds one to a count.

@@ -3,51 +3,102 @@
 use crate::check::{Check, Lines, Task};
 use crate::failure::Failure;
 use crate::other_files::{Fpgen, TestFloat};
+use commands::{About, WrongWord, write_fault};
 use std::io::{BufRead, BufReader, BufWriter, ErrorKind, Read, Write};
 use std::rt::{Clock, Files};
 use std::{fs, io};
 
-/// The help: what the program is for, what it reads and writes, and what its exit status means.
-const HELP: &str = "\
-usage: check_vectors [FILE | --help]
-       check_vectors [--summary] [--first N] [--testfloat FUNCTION | --fpgen] [OPTION..] [FILE]
+const PROGRAM: &str = "check_vectors";
 
-Checks the rows of FILE, or of standard input if there is no FILE or it is `-`, against the library.
-A row is a line of columns separated by tabs: a command of the program vectors and its reply, or a call,
-its format, its mode, its operands, its value, its flags and what else it returns.
+/// The help; `packaging/manual` makes the man page and the completions of it.
+const HELP: &str = "\
+usage: check_vectors [--summary] [--first N] [FILE]
+       check_vectors [--summary] [--first N] --testfloat FUNCTION [OPTION..]
+                     [FILE]
+       check_vectors [--summary] [--first N] --fpgen [OPTION..] [FILE]
+       check_vectors --help | --version
+
+Checks rows of test vectors: whether the library gives what the rows of FILE
+say, or those of standard input if there is no FILE or it is `-`. A row is a
+line of columns separated by tabs: a command of the program vectors and its
+reply, or a call, its format, its mode, its operands, its value, its flags and
+what else it returns.
 
     half int even 464<TAB>5f40 OK
     add_r<TAB>half<TAB>any<TAB>3c00 3c00<TAB>4000<TAB>OK<TAB>-
 
-With --testfloat the lines are those of testfloat_gen for the function and its options, which may be
--rnear_even -rmax -rmin -rminMag -rnear_maxMag -tininessafter -tininessbefore -notexact -exact --any-nan;
-with --fpgen they are those of IBM's FPgen.
+--summary    writes only counts, by call and format
+--first N    ends the check after N rows that differ
+--testfloat  the lines are those of testfloat_gen for this function
+--fpgen      the lines are those of IBM's FPgen
+--help, -h   writes this text
+--version    writes the name and the version of the program
 
-With --summary only counts are written, by call and format; with --first N the check ends after N rows
-that differ.
+FUNCTION is an operation on f16, f32, f64, extF80 or f128, which is one of _add
+_sub _mul _mulAdd _div _rem _sqrt _roundToInt, as in f64_add, or a conversion of
+these to each other, from or to ui32, ui64, i32 or i64, as in f64_to_i32.
 
-Empty lines and comments, which begin with #, are skipped. The program writes each row that differs and
-each malformed line with its number, and at the end how many lines of each kind there were.
-docs/VECTORS.md has the calls, the formats, and what the words in each column mean.
+After --testfloat FUNCTION may follow -rnear_even -rmax -rmin -rminMag
+-rnear_maxMag -tininessafter -tininessbefore -notexact -exact --any-nan, and
+after --fpgen -tininessafter -tininessbefore. After --, the name of FILE may
+begin with -.
 
-Exit status, the first one that holds:
-  4  the input could not be opened or read, or something could not be written
-  3  there was not enough memory
-  2  other arguments than above, a malformed line, or an input without a row
-  1  a row differs
-  0  all rows agree
+Empty lines and comments, which begin with #, are skipped. The program writes
+each row that differs and each malformed line with its number, and at the end
+how many lines of each kind there were. If standard error is a terminal, a line
+there every two seconds says how many lines were read. docs/VECTORS.md has the
+calls, the formats, and what the words in each column mean.
+
+The exit status is the first of these that holds: 4 if the input could not be
+opened or read, or something could not be written; 3 if there was not enough
+memory; 2 for other arguments than above, a malformed line, or an input without
+a row; 1 if a row differs; 0 if all rows agree.
+
+    check_vectors --first 10 rows
+    testfloat_gen f64_add | check_vectors --testfloat f64_add
 ";
 
-/// What is printed for unknown arguments.
-const USAGE: &str = "\
-usage: check_vectors [FILE | --help]
-       check_vectors [--summary] [--first N] [--testfloat FUNCTION | --fpgen] [OPTION..] [FILE]
-";
+/// The options before the name of a file of rows.
+static OPTIONS: &[&str] = &[
+    "--summary",
+    "--first",
+    "--testfloat",
+    "--fpgen",
+    "--help",
+    "-h",
+    "--version",
+];
 
-/// Runs the program with the arguments from the system, without its own name. Returns the exit status.
+/// The same before one of TestFloat's lines.
+static OPTIONS_OF_TESTFLOAT: &[&str] = &[
+    "--summary",
+    "--first",
+    "--any-nan",
+    "-rnear_even",
+    "-rmax",
+    "-rmin",
+    "-rminMag",
+    "-rnear_maxMag",
+    "-tininessafter",
+    "-tininessbefore",
+    "-notexact",
+    "-exact",
+];
+
+/// The same before one of FPgen's lines.
+static OPTIONS_OF_FPGEN: &[&str] = &[
+    "--summary",
+    "--first",
+    "-tininessafter",
+    "-tininessbefore",
+];
+
+/// Runs the program with the arguments from the system, without its own name. If `err` is a terminal, it is told how far
+/// a long check has come. Returns the exit status.
 pub fn run<R: Files + Clock + Input + AllocGlobal, W: Write, V: Write>(
     rt: &R,
     given: io::Result<Vec<String>>,
+    is_terminal: bool,
     out: &mut W,
     err: &mut V,
 ) -> u8 {
@@ -57,39 +108,34 @@ pub fn run<R: Files + Clock + Input + AllocGlobal, W: Write, V: Write>(
     };
     match job_of(words.as_slice()) {
         Ok(Job::Check(task, None)) => {
+            let task = Task { shows_progress: is_terminal, ..task };
             check_reader(rt, "standard input", rt.reader(), task, out, err)
         }
-        Ok(Job::Check(task, Some(name))) => check_file(rt, name, task, out, err),
-        Ok(Job::Help) => help(out, err),
+        Ok(Job::Check(task, Some(name))) => {
+            let task = Task { shows_progress: is_terminal, ..task };
+            check_file(rt, name, task, out, err)
+        }
+        Ok(Job::About(about)) => answer(about, out, err),
         Err(wrong) => refuse_word(wrong, err),
     }
 }
 
 /// What the arguments ask for.
 enum Job<'a> {
-    /// To write the help.
-    Help,
+    /// To answer a question about the program.
+    About(About),
     /// To check the lines of a file or of standard input.
     Check(Task, Option<&'a str>),
 }
 
-/// A word among the arguments that is wrong.
-#[derive(Clone, Copy)]
-struct WrongWord<'a> {
-    /// What is wrong with it.
-    fault: &'static str,
-    /// The word.
-    word: &'a str,
-}
-
 /// What the arguments ask for, or the first word that is wrong.
 fn job_of(words: &[String]) -> Result<Job<'_>, WrongWord<'_>> {
-    match words {
-        [word] if matches!(word.as_str(), "--help" | "-h") => Ok(Job::Help),
-        _ => match task_of(words) {
-            Ok((task, left)) => check_of(task, file_of(left)),
-            Err(wrong) => Err(wrong),
-        },
+    if let Some(about) = About::among(words) {
+        return Ok(Job::About(about));
+    }
+    match task_of(words) {
+        Ok((task, left)) => check_of(task, file_of(left, options_before(task.lines))),
+        Err(wrong) => Err(wrong),
     }
 }
 
@@ -135,6 +181,9 @@ enum NextOption<'a> {
 fn next_option(task: Task, words: &[String]) -> NextOption<'_> {
     match words {
         [] => NextOption::End,
+        [word] if matches!(word.as_str(), "--first" | "--testfloat") => {
+            wrong("a word is missing after", word)
+        }
         [word, others @ ..] if word.as_str() == "--summary" => {
             let is_summary = true;
             NextOption::Known(Task { is_summary, ..task }, others)
@@ -174,8 +223,11 @@ fn option_on_lines(task: Task, words: &[String]) -> NextOption<'_> {
 
 /// A word after an option that is wrong.
 fn wrong<'a>(fault: &'static str, word: &'a String) -> NextOption<'a> {
-    let word = word.as_str();
-    NextOption::Wrong(WrongWord { fault, word })
+    NextOption::Wrong(WrongWord {
+        fault,
+        word: word.as_str(),
+        known: &[],
+    })
 }
 
 /// The task on other lines.
@@ -183,8 +235,21 @@ fn with_lines(task: Task, lines: Lines, others: &[String]) -> NextOption<'_> {
     NextOption::Known(Task { lines, ..task }, others)
 }
 
-/// The file that the last words name, or `None` for standard input.
-fn file_of(words: &[String]) -> Result<Option<&str>, WrongWord<'_>> {
+/// The options that may stand before the name of a file with these lines.
+fn options_before(lines: Lines) -> &'static [&'static str] {
+    match lines {
+        Lines::Rows => OPTIONS,
+        Lines::TestFloat(_) => OPTIONS_OF_TESTFLOAT,
+        Lines::Fpgen(_) => OPTIONS_OF_FPGEN,
+    }
+}
+
+/// The file that the last words name, or `None` for standard input. A word that begins with `-` is a wrong option, with
+/// the known ones.
+fn file_of<'a>(
+    words: &'a [String],
+    known: &'static [&'static str],
+) -> Result<Option<&'a str>, WrongWord<'a>> {
     match words {
         [] => Ok(None),
         [word] if word.as_str() == "-" => Ok(None),
@@ -192,11 +257,13 @@ fn file_of(words: &[String]) -> Result<Option<&str>, WrongWord<'_>> {
         [word, ..] if word.as_str().starts_with('-') => Err(WrongWord {
             fault: "no such option",
             word: word.as_str(),
+            known,
         }),
         [word] => Ok(Some(word.as_str())),
         [_, word, ..] => Err(WrongWord {
             fault: "a word too many",
             word: word.as_str(),
+            known: &[],
         }),
     }
 }
@@ -205,25 +272,18 @@ fn file_of(words: &[String]) -> Result<Option<&str>, WrongWord<'_>> {
 fn refuse<V: Write>(error: io::Error, err: &mut V) -> u8 {
     match error.kind() {
         ErrorKind::OutOfMemory => report("arguments", &Failure::Memory, err),
-        _ => usage(err),
+        _ => status_after(write_fault(PROGRAM, "the words are not valid text", err), 2),
     }
 }
 
-/// Writes how the program is called, and the word that is wrong. Returns the exit status for unknown arguments.
+/// Names the word that is wrong. Returns the exit status for unknown arguments.
 fn refuse_word<V: Write>(wrong: WrongWord<'_>, err: &mut V) -> u8 {
-    let WrongWord { fault, word } = wrong;
-    let status = usage(err);
-    status_after(writeln!(err, "check_vectors: {fault}: `{word}`"), status)
+    status_after(wrong.write(PROGRAM, err), 2)
 }
 
-/// Writes how the program is called. Returns the exit status for unknown arguments.
-fn usage<V: Write>(err: &mut V) -> u8 {
-    status_after(err.write_all(USAGE.as_bytes()), 2)
-}
-
-/// Writes the help. Returns the exit status.
-fn help<W: Write, V: Write>(out: &mut W, err: &mut V) -> u8 {
-    match out.write_all(HELP.as_bytes()) {
+/// Answers a question about the program. Returns the exit status.
+fn answer<W: Write, V: Write>(about: About, out: &mut W, err: &mut V) -> u8 {
+    match about.answer(PROGRAM, HELP, out) {
         Ok(()) => 0,
         Err(error) => report("help", &Failure::from(error), err),
     }
