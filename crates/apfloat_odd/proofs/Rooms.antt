@@ -1,5 +1,5 @@
 -- Which built-in formats have room for others.
-use Rattle.std.proofs.Common.{Bool, true, false, refl, arith}
+use Rattle.std.proofs.Common.{true, false, refl, arith}
 use Rattle.apfloat_model.specs.formats.Formats.{half_constants, single_constants, double_constants, quad_constants, bfloat_constants}
 use Rattle.apfloat_model.specs.formats.Formats.{e5m2_constants, e4m3fn_constants, e4m3fnuz_constants, x87_constants}
 use Rattle.apfloat_odd.specs.Rooms.{HaveRoom, AreRooms, HasNoRoom}
