@@ -32,7 +32,7 @@ use Rattle.apfloat_decimals.proofs.digits.ExactSignificands.{HasRanges}
 use Rattle.apfloat_hex_texts.specs.Scans.{number_from}
 use Rattle.hex_digits.specs.HexTexts.{character, digits_text, dotted, magnitude_text, number_text, last_place}
 use Rattle.hex_digits.specs.HexTexts.{IsShortestText, IsHexText}
-use Rattle.hex_digits.specs.ReadBack.{back, IsReadBack}
+use Rattle.hex_digits.specs.ReadBack.{back, IsReadExactly, IsReadBack}
 use Rattle.hex_digits.proofs.Characters.{digit_of, digits_number, digits_length, digits_hexadecimal}
 use Rattle.hex_digits.proofs.Characters.{exponent_written}
 use Rattle.hex_digits.proofs.Numbers.{exponent_within, one_number}
@@ -105,10 +105,10 @@ number_means false first places fraction e one fits low high =
 -- ---- what is read
 
 -- the text has a meaning, and that is the datum, exactly
-record IsTextOf (f : Format) (mode : Round) (x : Datum) (text : List ℕ) : Type 0 where
-  meaning : Meaning
-  means : Means text meaning
-  meant : (value : Datum) (status : ℕ) → IsMeant f mode meaning value status → (value ≡ x) × (status ≡ 0)
+pub record IsTextOf (f : Format) (mode : Round) (x : Datum) (text : List ℕ) : Type 0 where
+  pub meaning : Meaning
+  pub means : Means text meaning
+  pub meant : (value : Datum) (status : ℕ) → IsMeant f mode meaning value status → (value ≡ x) × (status ≡ 0)
 
 number_of : (f : Format) (mode : Round) (negative : Bool) (q : ℕ) (text : List ℕ) → HasRanges f → 0 < q
     → IsMember f (finite negative q) → IsShortestText f negative q text → IsTextOf f mode (finite negative q) text
@@ -153,14 +153,14 @@ infinity_means : (negative : Bool) → Means (sign_text negative ++ codes "inf")
 infinity_means true = refl
 infinity_means false = refl
 
-nan_means : (negative signaling : Bool)
+pub nan_means : (negative signaling : Bool)
     → Means (sign_text negative ++ ((cond signaling (codes "s") []) ++ codes "nan")) (not_a_number negative signaling 0)
 nan_means true true = refl
 nan_means true false = refl
 nan_means false true = refl
 nan_means false false = refl
 
-text_of : (f : Format) (mode : Round) (x : Datum) (text : List ℕ) → HasRanges f → IsMember f x → IsHexText f x text
+pub text_of : (f : Format) (mode : Round) (x : Datum) (text : List ℕ) → HasRanges f → IsMember f x → IsHexText f x text
     → IsTextOf f mode (back f x) text
 text_of f mode (finite negative zero) text ranges member is = zero_of f mode negative text member is
 text_of f mode (finite negative (suc q)) text ranges member is =
@@ -182,16 +182,19 @@ text_of f mode (nan negative significand) text ranges member is = record {
   meant = λ value status meant. (meant.value_is, meant.status_is);
 }
 
-pub read_back : (f : Format) (mode : Round) (x : Datum) (text : List ℕ) (answer : Result (StatusAnd Datum) ParseError)
-    → HasRanges f → IsMember f x → IsHexText f x text → IsRead f mode text answer → IsReadBack f x answer
-read_back f mode x text (Ok answer) ranges member is read =
-    let t = text_of f mode x text ranges member is in
+pub read_of : (f : Format) (mode : Round) (x : Datum) (text : List ℕ) (answer : Result (StatusAnd Datum) ParseError)
+    → IsTextOf f mode x text → IsRead f mode text answer → IsReadExactly x answer
+read_of f mode x text (Ok answer) t read =
     let same = one_meaning text read.meaning t.meaning read.means t.means in
     t.meant answer.value (bits_of answer.status)
     (subst (λ (m : Meaning). IsMeant f mode m answer.value (bits_of answer.status)) same read.is_meant)
-read_back f mode x text (Err error) ranges member is read =
-    let t = text_of f mode x text ranges member is in
+read_of f mode x text (Err error) t read =
     absurd (none-some _ (sym (meaning_no_fault text t.meaning t.means) ∙ read.is_first))
+
+pub read_back : (f : Format) (mode : Round) (x : Datum) (text : List ℕ) (answer : Result (StatusAnd Datum) ParseError)
+    → HasRanges f → IsMember f x → IsHexText f x text → IsRead f mode text answer → IsReadBack f x answer
+read_back f mode x text answer ranges member is read =
+    read_of f mode (back f x) text answer (text_of f mode x text ranges member is) read
 
 -- ---- one text
 

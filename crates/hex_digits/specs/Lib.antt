@@ -1,4 +1,5 @@
 pub mod HexTexts
+pub mod PayloadTexts
 pub mod ReadBack
 pub mod RoundedTexts
 pub mod WrittenTexts

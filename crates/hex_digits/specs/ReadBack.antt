@@ -15,7 +15,10 @@ back f (finite negative quanta) = finite negative quanta
 back f (infinite negative) = infinite negative
 back f (nan negative significand) = read_nan f negative (is_signaling f significand) 0
 
--- the text is read, with no flag
+-- the text is read as that value, with no flag
+abbrev pub IsReadExactly : Datum → Result (StatusAnd Datum) ParseError → Type 0
+IsReadExactly x (Ok answer) = (answer.value ≡ x) × (bits_of answer.status ≡ ok_bits)
+IsReadExactly x (Err error) = ⊥
+
 abbrev pub IsReadBack : Format → Datum → Result (StatusAnd Datum) ParseError → Type 0
-IsReadBack f x (Ok answer) = (answer.value ≡ back f x) × (bits_of answer.status ≡ ok_bits)
-IsReadBack f x (Err error) = ⊥
+IsReadBack f x answer = IsReadExactly (back f x) answer

@@ -22,7 +22,7 @@ fn character(digit: u8) -> u8
 }
 
 /// Adds the last `places` digits of a number.
-fn push_digits(line: &mut Line, places: u32, number: u128)
+pub(crate) fn push_digits(line: &mut Line, places: u32, number: u128)
     requires { length line.old + places ≤ 64 }
     ensures { line.new ≡ line.old ++ digits_text places number }
 {
@@ -125,7 +125,7 @@ pub(crate) fn infinity_line(negative: bool) -> Line
 /// The text of a NaN.
 pub(crate) fn nan_line(negative: bool, signaling: bool) -> Line
     ensures text { result ≡ nan_text negative signaling }
-    ensures room { length result ≤ 45 }
+    ensures room { length result ≤ 5 }
 {
     let mut line = Line::new();
     line.push_sign(negative);

@@ -71,7 +71,7 @@ fn positive_line<S: Semantics>(negative: bool, x: IeeeFloat<S>) -> Line
 }
 
 /// The shortest text of a value.
-fn line_of<S: Semantics>(x: IeeeFloat<S>) -> Line
+pub(crate) fn line_of<S: Semantics>(x: IeeeFloat<S>) -> Line
     ensures text { IsHexText (format_of S.Semantics) x result }
     ensures room { length result ≤ 45 }
 {

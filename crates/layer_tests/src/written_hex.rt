@@ -5,8 +5,9 @@ ghost use Rattle.std.specs.Prelude.{◌<◌};
 
 use crate::asserts::same;
 use apfloat_formats::{DoubleS, HalfS, QuadS, Semantics, SingleS};
+use apfloat_ieee::IeeeFloat;
 use apfloat_model::{Round, Status};
-use hex_digits::{HexError, hex_length, write_hex, write_hex_rounded};
+use hex_digits::{HexError, hex_length, write_hex, write_hex_rounded, write_hex_with_payload};
 use std::process::Abort;
 
 /// The bits of doubles, and their shortest texts.
@@ -90,13 +91,62 @@ fn check<S: Semantics>(rt: &impl Abort, rows: &[(u128, &str)])
     }
 }
 
+/// Asserts that the texts of the rows are read as the values.
+fn check_back<S: Semantics>(rt: &impl Abort, rows: &[(u128, &str)])
+    requires { S.PRECISION < S.BITS }
+{
+    for (bits, text) in rows {
+        match IeeeFloat::<S>::from_ascii_r(text.as_bytes(), Round::TowardNegative) {
+            Ok(back) => same(
+                rt,
+                (back.value.to_bits(), back.status),
+                (*bits, Status::OK),
+                *text,
+            ),
+            Err(_) => assert!(rt; false),
+        }
+    }
+}
+
+/// Asserts both.
+fn check_both<S: Semantics>(rt: &impl Abort, rows: &[(u128, &str)])
+    requires { S.PRECISION < S.BITS }
+{
+    check::<S>(rt, rows);
+    check_back::<S>(rt, rows);
+}
+
 #[test]
 fn shortest(rt: HostRuntime) {
-    check::<DoubleS>(&rt, &DOUBLES);
-    check::<HalfS>(&rt, &HALVES);
-    check::<SingleS>(&rt, &SINGLES);
-    check::<QuadS>(&rt, &QUADS);
+    check_both::<DoubleS>(&rt, &DOUBLES);
+    check_both::<HalfS>(&rt, &HALVES);
+    check_both::<SingleS>(&rt, &SINGLES);
+    check_both::<QuadS>(&rt, &QUADS);
     check::<DoubleS>(&rt, &SPECIALS);
+}
+
+/// NaNs with their payloads, and other values, whose texts stay the same.
+static PAYLOADS: [(u128, &str); 9] = [
+    (0x7ff8_0000_0000_0000, "nan"),
+    (0x7ff8_0000_0000_0001, "nan0x1"),
+    (0xfff8_0000_0000_002a, "-nan0x2a"),
+    (0x7fff_ffff_ffff_ffff, "nan0x7ffffffffffff"),
+    (0x7ff0_0000_0000_0001, "snan0x1"),
+    (0xfff4_0000_0000_0000, "-snan0x4000000000000"),
+    (0xfff0_0000_0000_0000, "-inf"),
+    (0xbfe8_0000_0000_0000, "-0x1.8p-1"),
+    (1 << 63, "-0x0p0"),
+];
+
+#[test]
+fn payloads(rt: HostRuntime) {
+    for (bits, text) in &PAYLOADS {
+        let mut buffer = [0; 45];
+        let got = write_hex_with_payload(DoubleS::from_bits(*bits), &mut buffer);
+        same(&rt, got, Ok(text.len()), *text);
+        assert!(rt; buffer.starts_with(text.as_bytes()));
+    }
+    check_back::<DoubleS>(&rt, &PAYLOADS);
 }
 
 /// Infinities and NaNs.

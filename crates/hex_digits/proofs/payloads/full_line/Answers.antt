@@ -1,0 +1,23 @@
+use Rattle.std.proofs.Common.{refl}
+use Rattle.apfloat_model.specs.declared.kinds.Category.TheVariants.{Infinity, Normal, Zero}
+use Rattle.apfloat_ieee.specs.Types.{format_of}
+use Rattle.hex_digits.proofs.NanPayloads.{full_of, other_category}
+use Rattle.hex_digits.proofs.payloads.full_line.Goals as goal
+
+pub returns-in-Infinity : goal.returns-in-Infinity
+returns-in-Infinity g c =
+    full_of (format_of g.S.Semantics) c.args.x c.line_of.result
+    (other_category (format_of g.S.Semantics) c.args.x Infinity (cc (c.category.ensures.category, c.in-Infinity.is)) refl)
+    c.line_of.ensures.text
+
+pub returns-in-Zero : goal.returns-in-Zero
+returns-in-Zero g c =
+    full_of (format_of g.S.Semantics) c.args.x c.line_of-in-Zero.result
+    (other_category (format_of g.S.Semantics) c.args.x Zero (cc (c.category.ensures.category, c.in-Zero.is)) refl)
+    c.line_of-in-Zero.ensures.text
+
+pub returns-in-Normal : goal.returns-in-Normal
+returns-in-Normal g c =
+    full_of (format_of g.S.Semantics) c.args.x c.line_of-in-Normal.result
+    (other_category (format_of g.S.Semantics) c.args.x Normal (cc (c.category.ensures.category, c.in-Normal.is)) refl)
+    c.line_of-in-Normal.ensures.text
