@@ -1,14 +1,20 @@
 #!/usr/bin/env python3
-"""The rows of crates/apfloat_augmented/src/rows.rt: augmented sums and differences (IEEE 754-2019 9.5).
+"""Prints crates/apfloat_augmented/src/tests/rows.rt: augmented sums and differences (IEEE 754-2019 9.5).
 
-Operands are bits. The exact result is a fraction. The head is found among all values of the format for half and the
-8-bit formats, and for single among the values next to the fraction. Nothing here is shared with the library's model
-in `exact`: `augmented.py` prints the rows, and `augmented.py --check FILE` compares them with a file.
+Operands are bits, and the exact result is a fraction. Nothing here is shared with the model in `exact`.
 """
 
 import random
-import sys
 from fractions import Fraction
+
+HEAD = """//! Augmented sums and differences as bits: the operation, its operands, the head and the tail, and whether the head is
+//! past the largest value. `evidence/augmented.py` writes the rows, from fractions.
+
+use super::Flagging::{self, Exact, Past};
+use super::Operation::{self, Add, Sub};
+
+pub type Row = (Operation, u128, u128, u128, u128, Flagging);
+"""
 
 
 class Format:
@@ -73,16 +79,14 @@ class Format:
 
 
 def augmented(f, exact, of_zero):
-    """The bits of head and tail, and the flags, of a fraction."""
+    """The bits of head and tail, and the flags, of a fraction; a sum leaves nothing inexact."""
     sign = int(exact < 0) if exact else of_zero
     head = f.nearest(abs(exact))
     if head > f.largest():
-        return f.past(sign), f.past(sign), "Overflows"
+        return f.past(sign), f.past(sign), "Past"
     rest = exact - (-head if sign else head)
-    tail = f.nearest(abs(rest))
     tail_sign = int(rest < 0) if rest else sign
-    status = "Exact" if tail == abs(rest) else "Underflows"
-    return f.bits_of(sign, head), f.bits_of(tail_sign, tail), status
+    return f.bits_of(sign, head), f.bits_of(tail_sign, abs(rest)), "Exact"
 
 
 def row(f, operation, a, b):
@@ -145,12 +149,8 @@ def text():
             numbers = ", ".join(f"0x{n:0{digits}x}" for n in (a, b, head, tail))
             lines.append(f"    ({operation.title()}, {numbers}, {status}),")
         lines.append("];")
-    return "\n".join(lines[1:]) + "\n"
+    return HEAD + "\n".join(lines)
 
 
 if __name__ == "__main__":
-    if len(sys.argv) == 3 and sys.argv[1] == "--check":
-        ok = text() in open(sys.argv[2]).read()
-        print("the same rows" if ok else "other rows")
-        sys.exit(0 if ok else 1)
-    print(text(), end="")
+    print(text())

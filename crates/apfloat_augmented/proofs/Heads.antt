@@ -172,7 +172,8 @@ pub short_number : (f : Format) (s : Bool) (amount : ℕ) (near short : Datum) (
     → number short ≡ signed s a.lower
 short_number f s amount near short a = ap number a.short_is ∙ (signed_number f.nonfinite s a.lower).number_is
 
-even_apart : (p amount other : ℕ) → apart (p * 1) amount ≤ apart (other * 1) amount → apart p amount ≤ apart other amount
+even_apart : (p amount other : ℕ) → apart (p * 1) amount ≤ apart (other * 1) amount
+    → apart p amount ≤ apart other amount
 even_apart p amount other h = omega (arith, h)
 
 -- the finite sum to nearest is a nearest number
@@ -311,7 +312,8 @@ even_nearer : (negative odd : Bool) (x y : ℕ) → takes_above NearestTiesToEve
 even_nearer negative odd x y h = grind arith
 
 -- the lower neighbour is not picked if the pick is above it
-taken : (s odd above : Bool) (low high amount e : ℕ) → takes_above NearestTiesToEven s (amount - low * 1) (high * 1 - amount) odd ≡ above
+taken : (s odd above : Bool) (low high amount e : ℕ)
+    → takes_above NearestTiesToEven s (amount - low * 1) (high * 1 - amount) odd ≡ above
     → e ≡ cond above high low → low < e → high * 1 - amount ≤ amount - low * 1
 taken s odd true low high amount e t q l = even_nearer s odd (amount - low * 1) (high * 1 - amount) t
 taken s odd false low high amount e t q l = absurd (omega (arith, q, l))
@@ -324,7 +326,8 @@ next_is f h s amount e l x b =
     let c = f.span in
     let u : 0 < 2 ^ c = pow_pos c in
     let next : (m + 1) * 2 ^ c ≡ largest f + 2 ^ c = omega arith in
-    let g = next_on_grid f.precision (2 ^ (f.precision - 1)) m c (doubled f h) (greatest_fits f.nonfinite f.precision) in
+    let g = next_on_grid f.precision (2 ^ (f.precision - 1)) m c (doubled f h)
+    (greatest_fits f.nonfinite f.precision) in
     let a = x.is_above.not_below in
     let lower : (m + 1) * 2 ^ c ≤ x.above =
     none_between f.precision (2 ^ (f.precision - 1)) m c x.above (doubled f h)

@@ -92,8 +92,8 @@ module _ (f : Format) (h : 3 ≤ f.precision) (s : f.scale < f.span) where
 pub payload_fits : (f : Format) (x : Datum) (payload : ℕ) → payload ≡ payload_of f (nan_significand x)
     → payload < 2 ^ payload_bits f
 payload_fits f x payload e =
-    let l : nan_significand x % 2 ^ payload_bits f < 2 ^ payload_bits f = mod_below (nan_significand x) (2 ^ payload_bits f)
-    (pow_pos (payload_bits f)) in
+    let l : nan_significand x % 2 ^ payload_bits f < 2 ^ payload_bits f =
+    mod_below (nan_significand x) (2 ^ payload_bits f) (pow_pos (payload_bits f)) in
     omega (arith, e, l)
 
 -- whether the class of a datum is that of NaNs

@@ -1,5 +1,5 @@
--- The pick to nearest with ties toward zero: it is unique, it follows from the picks of two modes, and no grid number is
--- nearer.
+-- The pick to nearest with ties toward zero: it is unique, it follows from the picks of two modes, and no grid number
+-- is nearer.
 use Rattle.std.proofs.Common.{◌≡◌, ℕ, ◌+◌, ◌-◌, ◌*◌, ◌<◌, ◌≤◌, Bool, true, false, cond, ltb, sym, refl, ap, ◌∙◌, subst, ⊎_elim, le_trans, arith}
 use Rattle.std.specs.Prelude.{◌-ℤ◌}
 use Rattle.std.proofs.lemmas.Bool.{cases_lt, lt-ltb, le-ltb}

@@ -1,5 +1,5 @@
--- Augmented sums, differences and products (IEEE 754-2019 9.5): the exact result, rounded to nearest with ties toward
--- zero, and what that leaves of it.
+-- Augmented sums and differences (IEEE 754-2019 9.5): the exact result, rounded to nearest with ties toward zero, and
+-- what that leaves of it.
 use Rattle.std.specs.Prelude.{◌≡◌, ℕ, ◌+◌, ◌*◌, ◌≤◌, ◌⊎◌, ltb, eqb, Bool, true, ℤ, ◌+ℤ◌, ◌-ℤ◌, if◌then◌else◌}
 use Rattle.std.specs.Bool.{MatchBool}
 use Rattle.apfloat_model.specs.declared.kinds.Round.TheVariants.{NearestTiesToEven}
@@ -37,7 +37,8 @@ pub record IsWithTail (f : Format) (negative : Bool) (exact : ℤ) (parts pick :
       ≡ (if eqb (quanta * parts) (magnitude (left_of exact parts negative pick)) then ok_bits
       else underflow_bit + inexact_bit)
 
--- The exact result is exact / parts quanta. `of_zero` is its sign if it is zero.
+-- The exact result is exact / parts quanta, and `of_zero` is its sign if it is zero. A sum has one part, so that its tail
+-- is exact (`IsExactSum`).
 pub record IsAugmented (f : Format) (of_zero : Bool) (exact : ℤ) (parts : ℕ) (head tail : Datum) (status : ℕ)
     : Type 0 where
   pub pick : ℕ

@@ -23,13 +23,13 @@ enum Operation {
 #[derive(Clone, Copy, PartialEq, Eq, Debug)]
 enum Flagging {
     Exact,
-    Overflows,
+    Past,
 }
 
 fn status_of(flagging: Flagging) -> Status {
     match flagging {
         Flagging::Exact => Status::OK,
-        Flagging::Overflows => Status::OVERFLOW.union(Status::INEXACT),
+        Flagging::Past => Status::OVERFLOW.union(Status::INEXACT),
     }
 }
 
@@ -91,8 +91,8 @@ fn special_operands(rt: HostRuntime) {
     }
 }
 
-/// A payload as a value, and the quiet and the signaling NaN with it; +0 where there is none. The rows for 0, -0, 1, 0.5
-/// and -1 agree with `setpayload` and `setpayloadsig` of glibc in double.
+/// A payload as a value, and the quiet and the signaling NaN with it; +0 where there is none. In double, `setpayload`
+/// and `setpayloadsig` of glibc agree with the rows for 0, -0, 1, 0.5 and -1.
 static PAYLOADS: [(u128, u128, u128); 8] = [
     (0x0000, 0x7e00, 0x0000),
     (0x8000, 0x0000, 0x0000),
