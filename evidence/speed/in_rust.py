@@ -2,11 +2,11 @@
 """Measures the crate of rust/rustc_apfloat against the Rust crate, call by call in one run, and prints a table.
 
     python3 evidence/speed/in_rust.py --crate FILE.rlib [--rounds N] [--store]
-    python3 evidence/speed/in_rust.py --crate FILE.rlib --count
+    python3 evidence/speed/in_rust.py --crate FILE.rlib --count [--store]
 
 FILE.rlib is the Rust crate as rustc or cargo built it, with the libraries that it needs next to it or in `deps`. The
-times are nanoseconds of a call, the fastest of all rounds; --store puts them into in_rust.tsv, and the table into
-docs/SPEED.md. With --count the instructions of a call are counted instead, by callgrind, which needs no quiet machine.
+times are nanoseconds of a call, the fastest of all rounds. With --count the instructions of a call are counted instead,
+by callgrind, which needs no quiet machine. --store puts the cells into in_rust.tsv, and the table into docs/SPEED.md.
 """
 
 import argparse
@@ -50,7 +50,7 @@ def main():
     parser.add_argument("--rounds", type=int, default=3)
     parser.add_argument("--count", action="store_true", help="count instructions")
     parser.add_argument("--call", help="leave out all other calls")
-    parser.add_argument("--store", action="store_true", help="put the times into in_rust.tsv and docs/SPEED.md")
+    parser.add_argument("--store", action="store_true", help="put them into in_rust.tsv and docs/SPEED.md")
     arguments = parser.parse_args()
     program = built(arguments.crate.resolve())
     with tempfile.TemporaryDirectory() as folder:
@@ -60,9 +60,9 @@ def main():
             cells, different = counted(program, Path(folder), calls)
         else:
             cells, different = timed(program, folder, calls, arguments.rounds)
-    if arguments.store and not arguments.count and not calls:
-        store(cells)
     unit = "instructions" if arguments.count else "nanoseconds"
+    if arguments.store and not calls:
+        store(cells, unit)
     print(table(cells))
     print(f"slower than the Rust crate, {unit} of the library and of the crate:")
     for cell in sorted(cells, key=lambda cell: ratio(cells[cell])):
@@ -128,17 +128,17 @@ def counted(program, folder, calls):
     return cells, [cell for cell, *_, same in lines if not same]
 
 
-def store(cells):
-    """Writes the times, and the table with what it comes to."""
-    lines = ["operands\tcall\tformat\tlibrary\tcrate"]
+def store(cells, unit):
+    """Writes the cells, and the table with what it comes to."""
+    lines = [f"operands\tcall\tformat\tlibrary\tcrate\t({unit})"]
     lines += ["\t".join((*cell, f"{ours:.1f}", f"{theirs:.1f}")) for cell, (ours, theirs) in cells.items()]
     (HERE / "in_rust.tsv").write_text("".join(line + "\n" for line in lines))
     commit = subprocess.check_output(["git", "rev-parse", "--short=8", "HEAD"], cwd=ROOT, text=True).strip()
     ratios = [ratio(cell) for cell in cells.values()]
-    slower = sum(ratio < 1 for ratio in ratios)
-    text = (f"At commit `{commit}` the calls of this crate were {min(ratios):.2f} to {max(ratios):.0f} times as fast "
-            f"as those of the Rust crate, with a geometric mean of {mean(ratios):.2f} over {len(ratios)} cells, and "
-            f"slower in {slower or 'none'} of them.\n\n{table(cells)}")
+    more = sum(ratio < 1 for ratio in ratios)
+    text = (f"At commit `{commit}` a call of the Rust crate took {min(ratios):.2f} to {max(ratios):.0f} times as many "
+            f"{unit} as the same call of this one, with a geometric mean of {mean(ratios):.2f} over {len(ratios)} "
+            f"cells, and fewer in {more or 'none'} of them.\n\n{table(cells)}")
     before, made = SPEED.read_text().split(BEGIN)
     SPEED.write_text(f"{before}{BEGIN}\n\n{text}\n{END}{made.split(END, 1)[1]}")
 
