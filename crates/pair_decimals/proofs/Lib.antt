@@ -1,2 +1,3 @@
 pub mod OneReading
 pub mod PairShortest
+pub mod SplitsJoined
