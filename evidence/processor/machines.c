@@ -31,14 +31,13 @@ static uint32_t bits_of(float x) { uint32_t bits; memcpy(&bits, &x, 4); return b
 
 #define SSE(CONTROL, NAME, OUT, ...)                                                                                   \
     do {                                                                                                               \
-        unsigned word = (CONTROL);                                                                                  \
+        unsigned word = (CONTROL);                                                                                     \
         __asm__ volatile("ldmxcsr %[word]\n\t" NAME "\n\tstmxcsr %[word]"                                              \
                          : OUT, [word] "+m"(word) : __VA_ARGS__);                                                      \
-        raised = word & 0x3f;                                                                          \
+        raised = word & 0x3f;                                                                                          \
     } while (0)
 
 static const uint32_t VALUES[] = {0x3f800000, 0x7fc00001, 0xffc00002, 0x7f800003, 0xff800004, 0x7f800000, 0x00000000};
-static const char *const NAMES[] = {"one", "q1", "-q2", "s3", "-s4", "inf", "0"};
 enum { COUNT = 7 };
 
 static void two(const char *name, unsigned control, uint32_t x, uint32_t y) {
@@ -108,6 +107,15 @@ static void x87_integer(X87 x) {
            flags_of(status & 0x3f));
 }
 
+static void x87_short(X87 x) {
+    int16_t r;
+    uint16_t status;
+    __asm__ volatile("fninit\n\tfldt %[x]\n\tfnclex\n\tfistps %[r]\n\tfnstsw %[status]"
+                     : [r] "=m"(r), [status] "=a"(status) : [x] "m"(x));
+    printf("x87 to_i16 %04x%016llx -> %04x %s\n", x.top, (unsigned long long)x.significand, (uint16_t)r,
+           flags_of(status & 0x3f));
+}
+
 static void x87_convert(X87 x) {
     uint64_t r;
     uint16_t status;
@@ -122,8 +130,14 @@ int main(void) {
     for (int c = 0; c < 6; c++)
         for (int i = 0; i < COUNT; i++)
             for (int j = 0; j < COUNT; j++) two(calls[c], MASKED, VALUES[i], VALUES[j]);
-    two("min", MASKED, 0x80000000, 0);
-    two("min", MASKED, 0, 0x80000000);
+    two("add", MASKED, 0x7f800000, 0xff800000);
+    const char *const extrema[] = {"min", "max"};
+    for (int c = 0; c < 2; c++) {
+        two(extrema[c], MASKED, 0x3f800000, 0x40000000);
+        two(extrema[c], MASKED, 0x80000000, 0);
+        two(extrema[c], MASKED, 0, 0x80000000);
+    }
+    fused(0x7f800000, 0x3f800000, 0xff800000);
     for (int i = 0; i < COUNT; i++)
         for (int j = 0; j < COUNT; j++)
             for (int k = 0; k < COUNT; k++) fused(VALUES[i], VALUES[j], VALUES[k]);
@@ -138,6 +152,7 @@ int main(void) {
     for (int ftz = 0; ftz < 2; ftz++) {
         unsigned control = ftz ? MASKED | FTZ : MASKED;
         printf("ftz %d: ", ftz), two("mul", control, 0x00800000, 0x3f000000);
+        printf("ftz %d: ", ftz), two("mul", control, 0x80800000, 0x3f000000);
         printf("ftz %d: ", ftz), two("mul", control, 0x80800001, 0x3f000000);
         printf("ftz %d: ", ftz), two("mul", control, 0x00ffffff, 0x3f000000);
         printf("ftz %d: ", ftz), two("mul", control, 0x3f7fffff, 0x00800000);
@@ -151,7 +166,7 @@ int main(void) {
     for (int i = 0; i < 8; i++)
         for (int j = 0; j < 8; j++) x87_two("add", values[i], values[j]);
     x87_two("add", x87(0x7fff, 1ull << 63), x87(0xffff, 1ull << 63));
-    for (int i = 0; i < 8; i++) x87_integer(values[i]), x87_convert(values[i]);
+    for (int i = 0; i < 8; i++) x87_integer(values[i]), x87_short(values[i]), x87_convert(values[i]);
     x87_integer(x87(0x7fff, 1ull << 63));
     return 0;
 }

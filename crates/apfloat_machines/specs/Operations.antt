@@ -2,8 +2,9 @@
 use Rattle.std.specs.Prelude.{◌≡◌, ℕ, Bool, true, false, not, ◌&&◌, ◌||◌, Option, Some, None, if◌then◌else◌}
 use Rattle.std.specs.Bool.{MatchBool}
 use Rattle.apfloat_model.specs.declared.kinds.Round.{Round}
+use Rattle.apfloat_model.specs.declared.kinds.NonfiniteBehavior.TheVariants.{IEEE754}
 use Rattle.apfloat_model.specs.declared.status.StatusAnd.{StatusAnd}
-use Rattle.apfloat_model.specs.rounding.Flags.{Gives}
+use Rattle.apfloat_model.specs.rounding.Flags.{Gives, bits_of}
 use Rattle.apfloat_model.specs.formats.Format.{Format}
 use Rattle.apfloat_model.specs.formats.Datum.{Datum}
 use Rattle.apfloat_model.specs.formats.Nan.{invalid_bit, invalid_if, is_signaling_nan}
@@ -158,3 +159,11 @@ settled_fused f machine x y z value = if is_nan value then fused_nan f machine x
 abbrev pub settled_fused_flags : Format → Machine → Datum → Datum → Datum → Datum → ℕ → ℕ
 settled_fused_flags f machine x y z value status =
     if is_nan value && is_nan_of_three x y z then invalid_if (is_invalid_of_nans f machine x y z) else status
+
+-- what `settled_fused` makes of an answer, and of that of a fused sum in a format with infinities
+pub record IsSettledFused (f : Format) (machine : Machine) (x y z : Datum) (answer result : StatusAnd Datum)
+    : Type 0 where
+  pub value_is : result.value ≡ settled_fused f machine x y z answer.value
+  pub status_is : bits_of result.status ≡ settled_fused_flags f machine x y z answer.value (bits_of answer.status)
+  pub fused_sum : f.nonfinite ≡ IEEE754 → (mode : Round) → Gives (IsFusedSum f mode x y z) answer
+      → Gives (IsMachineFusedSum f machine mode x y z) result

@@ -1,12 +1,14 @@
 -- The integers that machines deliver for invalid conversions (IEEE 754-2019 5.8, 7.2).
-use Rattle.std.specs.Prelude.{◌≡◌, ℕ, ◌+◌, ◌-◌, ◌^◌, not, ◌&&◌, ◌||◌, eqb, ℤ, pos, neg_ℤ, if◌then◌else◌}
+use Rattle.std.specs.Prelude.{◌≡◌, ℕ, ◌+◌, ◌-◌, ◌^◌, not, ◌&&◌, ◌||◌, eqb, ℤ, pos, neg_ℤ, if◌then◌else◌, Bool}
 use Rattle.apfloat_model.specs.declared.kinds.Round.{Round}
+use Rattle.apfloat_model.specs.declared.status.StatusAnd.{StatusAnd}
+use Rattle.apfloat_model.specs.rounding.Flags.{Gives, bits_of}
 use Rattle.apfloat_model.specs.formats.Format.{Format}
 use Rattle.apfloat_model.specs.formats.Datum.{Datum}
 use Rattle.apfloat_model.specs.formats.Nan.{invalid_bit}
 use Rattle.apfloat_model.specs.rounding.Rounding.{inexact_bit}
 use Rattle.apfloat_model.specs.order.Classes.{is_nan}
-use Rattle.apfloat_model.specs.whole_numbers.WholeNumbersOut.{Whole, to_unsigned, to_signed}
+use Rattle.apfloat_model.specs.whole_numbers.WholeNumbersOut.{Whole, to_unsigned, to_signed, IsToUnsigned}
 use Rattle.apfloat_machines.specs.declared.machine.Machine.{Machine}
 use Rattle.apfloat_machines.specs.declared.machine.WholeOfNan.{WholeOfNan}
 use Rattle.apfloat_machines.specs.declared.machine.WholeOfNan.TheVariants.{Zero, Least, Greatest}
@@ -64,3 +66,14 @@ IsMachineSigned f machine mode width x number status =
 abbrev pub IsMachineUnsigned : Format → Machine → Round → ℕ → Datum → ℕ → ℕ → Type 0
 IsMachineUnsigned f machine mode width x number status =
     IsMachineWhole machine x (unsigned_nan machine width) (to_unsigned f mode width x) (pos number) status
+
+-- what `settled_unsigned` makes of an answer, and of that of a conversion
+pub record IsSettledUnsigned (f : Format) (machine : Machine) (x : Datum) (width : ℕ)
+    (answer result : StatusAnd ℕ) : Type 0 where
+  pub value_is :
+      pos result.value
+      ≡ settled_number machine x (unsigned_nan machine width) (pos answer.value) (bits_of answer.status)
+  pub status_is : bits_of result.status ≡ settled_flags machine x (bits_of answer.status)
+  pub whole : (mode : Round) → (exact : Bool)
+      → IsToUnsigned f mode width x answer.value (bits_of answer.status) exact
+      → Gives (IsMachineUnsigned f machine mode width x) result

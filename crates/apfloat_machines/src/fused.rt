@@ -1,15 +1,12 @@
 //! Fused sums of machines (IEEE 754-2019 5.4.1, 7.2).
 
 ghost use Rattle.std.specs.Prelude.{◌≡◌, ◌<◌, if◌then◌else◌};
-ghost use Rattle.apfloat_model.specs.declared.kinds.NonfiniteBehavior.TheVariants.{IEEE754};
-ghost use Rattle.apfloat_model.specs.declared.kinds.Round.{Round};
-ghost use Rattle.apfloat_model.specs.rounding.Flags.{Gives, bits_of};
+ghost use Rattle.apfloat_model.specs.rounding.Flags.{bits_of};
 ghost use Rattle.apfloat_model.specs.formats.Nan.{invalid_if};
-ghost use Rattle.apfloat_model.specs.arithmetic.FusedSums.{IsFusedSum};
 ghost use Rattle.apfloat_ieee.specs.FlaggedTypes.{format_of};
 ghost use Rattle.apfloat_machines.specs.Machines.{has_fused};
 ghost use Rattle.apfloat_machines.specs.Invalid.{is_invalid_product};
-ghost use Rattle.apfloat_machines.specs.Operations.{IsMachineFusedSum, IsOffered, drops_addend};
+ghost use Rattle.apfloat_machines.specs.Operations.{IsOffered, IsSettledFused, drops_addend};
 ghost use Rattle.apfloat_machines.specs.Operations.{fused_nan, fused_takes_none};
 ghost use Rattle.apfloat_machines.specs.Operations.{is_invalid_of_nans, taken_in_order};
 ghost use Rattle.apfloat_machines.specs.Operations.{is_nan_of_three, settled_fused};
@@ -33,10 +30,8 @@ pub fn settled_fused<S: Flagged>(
     answer: StatusAnd<IeeeFloat<S>>,
 ) -> Option<StatusAnd<IeeeFloat<S>>>
     requires { S.PRECISION < S.BITS }
-    ensures { IsOffered (has_fused machine) (λ answered.
-        (format_of S.Flagged).nonfinite ≡ IEEE754 → (mode : Round)
-        → Gives (IsFusedSum (format_of S.Flagged) mode x y z) answer
-        → Gives (IsMachineFusedSum (format_of S.Flagged) machine mode x y z) answered) result }
+    ensures { IsOffered (has_fused machine)
+        (IsSettledFused (format_of S.Flagged) machine x y z answer) result }
 {
     if machine.has_fused() {
         Some(with_nan(machine, x, y, z, answer))

@@ -1,7 +1,7 @@
 //! Rows in `single` and in the format of the x87 unit. Those of `X86` and `X87` are results of a processor
 //! (`evidence/processor/machines.c`); the others follow from the tables of `docs/MACHINES.md` by hand.
 
-ghost use Rattle.std.specs.Prelude.{◌<◌};
+ghost use Rattle.std.specs.Prelude.{◌<◌, ◌≤◌};
 
 use crate::*;
 use apfloat_base::{Flags, Float, FloatConvert, Round, StatusAnd};
@@ -340,72 +340,102 @@ const HIGH: i128 = 0x7fff_ffff;
 
 const FULL: u128 = 0xffff_ffff;
 
+/// A machine, the bits of a value, its integer, and the bits of the flags.
+type SignedRow = (Machine, u128, i128, u8);
+
+static SIGNED_32: [SignedRow; 16] = [
+    (X86, Q1, LOW, 0x01),
+    (X86, INF, LOW, 0x01),
+    (X86, NEG_INF, LOW, 0x01),
+    (X86, 0x4f000000, LOW, 0x01),
+    (X86, 0xcf000001, LOW, 0x01),
+    (X86, 0xcf000000, LOW, 0x00),
+    (X86, 0x3fc00000, 2, 0x10),
+    (X87, S3, LOW, 0x01),
+    (Arm, NEG_Q2, 0, 0x01),
+    (Arm, INF, HIGH, 0x01),
+    (RiscV, NEG_Q2, HIGH, 0x01),
+    (RiscV, NEG_INF, LOW, 0x01),
+    (Power, INF, HIGH, 0x01),
+    (S390x, Q1, LOW, 0x01),
+    (S390x, INF, HIGH, 0x11),
+    (S390x, 0xcf000001, LOW, 0x11),
+];
+
+static SIGNED_64: [SignedRow; 4] = [
+    (X86, 0xff000000, -0x8000_0000_0000_0000, 0x01),
+    (ArmDefaultNan, S3, 0, 0x01),
+    (ArmAlternate, S3, 0, 0x01),
+    (Power, Q1, -0x8000_0000_0000_0000, 0x01),
+];
+
+static SIGNED_128: [SignedRow; 2] = [(RiscV, Q1, i128::MAX, 0x01), (Power, Q1, i128::MIN, 0x01)];
+
+fn check_signed(rt: &impl Abort, width: usize, rows: &[SignedRow])
+    requires low { 2 ≤ width }
+    requires high { width ≤ 128 }
+{
+    for (machine, bits, integer, flags) in rows {
+        let x = SingleS::from_bits(*bits);
+        let mut is_exact = false;
+        let converted = x.to_i128_r(width, EVEN, &mut is_exact);
+        let answer = settled_signed(*machine, x, width, converted);
+        let got = (answer.value, answer.status.bits());
+        same(rt, got, (*integer, *flags), (*machine, *bits));
+    }
+}
+
 #[test]
 fn signed_integers(rt: HostRuntime) {
-    let rows = [
-        (X86, Q1, 32, LOW, 0x01),
-        (X86, INF, 32, LOW, 0x01),
-        (X86, NEG_INF, 32, LOW, 0x01),
-        (X86, 0x4f000000, 32, LOW, 0x01),
-        (X86, 0xcf000001, 32, LOW, 0x01),
-        (X86, 0xcf000000, 32, LOW, 0x00),
-        (X86, 0x3fc00000, 32, 2, 0x10),
-        (X87, S3, 16, -0x8000, 0x01),
-        (Arm, NEG_Q2, 32, 0, 0x01),
-        (Arm, INF, 32, HIGH, 0x01),
-        (Arm, 0xcf000001, 32, LOW, 0x01),
-        (ArmAlternate, S3, 64, 0, 0x01),
-        (ArmDefaultNan, S3, 64, 0, 0x01),
-        (RiscV, NEG_Q2, 32, HIGH, 0x01),
-        (RiscV, NEG_INF, 32, LOW, 0x01),
-        (RiscV, 0x4f000000, 32, HIGH, 0x01),
-        (RiscV, Q1, 128, i128::MAX, 0x01),
-        (Power, Q1, 64, -0x8000_0000_0000_0000, 0x01),
-        (Power, INF, 32, HIGH, 0x01),
-        (Power, Q1, 128, i128::MIN, 0x01),
-        (S390x, Q1, 32, LOW, 0x01),
-        (S390x, INF, 32, HIGH, 0x11),
-        (S390x, 0xcf000001, 32, LOW, 0x11),
-        (S390x, 0x3fc00000, 32, 2, 0x10),
-    ];
-    for (machine, bits, width, integer, flags) in rows {
-        let x = SingleS::from_bits(bits);
+    check_signed(&rt, 32, &SIGNED_32);
+    check_signed(&rt, 64, &SIGNED_64);
+    check_signed(&rt, 128, &SIGNED_128);
+}
+
+/// The same; 0 with the flags 0xff if the machine has no such conversion.
+type UnsignedRow = (Machine, u128, u128, u8);
+
+static UNSIGNED_32: [UnsignedRow; 13] = [
+    (X86, Q1, FULL, 0x01),
+    (X86, 0xbf800000, FULL, 0x01),
+    (X86, INF, FULL, 0x01),
+    (X87, Q1, 0, 0xff),
+    (Arm, Q1, 0, 0x01),
+    (Arm, INF, FULL, 0x01),
+    (Arm, 0xbf800000, 0, 0x01),
+    (RiscV, NEG_Q2, FULL, 0x01),
+    (RiscV, 0xbf800000, 0, 0x01),
+    (Power, Q1, 0, 0x01),
+    (S390x, Q1, 0, 0x01),
+    (S390x, 0xbf800000, 0, 0x11),
+    (S390x, 0x3f000000, 0, 0x10),
+];
+
+static UNSIGNED_128: [UnsignedRow; 2] = [
+    (RiscV, Q1, u128::MAX, 0x01),
+    (Power, INF, u128::MAX, 0x01),
+];
+
+fn check_unsigned(rt: &impl Abort, width: usize, rows: &[UnsignedRow])
+    requires low { 1 ≤ width }
+    requires high { width ≤ 128 }
+{
+    for (machine, bits, integer, flags) in rows {
+        let x = SingleS::from_bits(*bits);
         let mut is_exact = false;
-        let answer = settled_signed(machine, x, width, x.to_i128_r(width, EVEN, &mut is_exact));
-        let got = (answer.value, answer.status.bits());
-        same(&rt, got, (integer, flags), (machine, bits));
+        let converted = x.to_u128_r(width, EVEN, &mut is_exact);
+        let got = match settled_unsigned(*machine, x, width, converted) {
+            Some(answer) => (answer.value, answer.status.bits()),
+            None => (0, 0xff),
+        };
+        same(rt, got, (*integer, *flags), (*machine, *bits));
     }
 }
 
 #[test]
 fn unsigned_integers(rt: HostRuntime) {
-    let rows = [
-        (X86, Q1, 32, FULL, 0x01),
-        (X86, 0xbf800000, 32, FULL, 0x01),
-        (X86, INF, 32, FULL, 0x01),
-        (X87, Q1, 32, 0, 0xff),
-        (Arm, Q1, 32, 0, 0x01),
-        (Arm, INF, 32, FULL, 0x01),
-        (Arm, 0xbf800000, 32, 0, 0x01),
-        (RiscV, NEG_Q2, 32, FULL, 0x01),
-        (RiscV, 0xbf800000, 32, 0, 0x01),
-        (RiscV, Q1, 128, u128::MAX, 0x01),
-        (Power, Q1, 32, 0, 0x01),
-        (Power, INF, 64, 0xffff_ffff_ffff_ffff, 0x01),
-        (S390x, Q1, 32, 0, 0x01),
-        (S390x, 0xbf800000, 32, 0, 0x11),
-        (S390x, 0x3f000000, 32, 0, 0x10),
-    ];
-    for (machine, bits, width, integer, flags) in rows {
-        let x = SingleS::from_bits(bits);
-        let mut is_exact = false;
-        let answer = x.to_u128_r(width, EVEN, &mut is_exact);
-        let got = match settled_unsigned(machine, x, width, answer) {
-            Some(answer) => (answer.value, answer.status.bits()),
-            None => (0, 0xff),
-        };
-        same(&rt, got, (integer, flags), (machine, bits));
-    }
+    check_unsigned(&rt, 32, &UNSIGNED_32);
+    check_unsigned(&rt, 128, &UNSIGNED_128);
 }
 
 // ---- minima and maxima

@@ -9,6 +9,7 @@ ghost use Rattle.apfloat_machines.specs.Machines.{has_unsigned};
 ghost use Rattle.apfloat_machines.specs.Operations.{IsOffered};
 ghost use Rattle.apfloat_machines.specs.WholeNumbers.{IsMachineSigned, IsMachineUnsigned, invalid_integer};
 ghost use Rattle.apfloat_machines.specs.WholeNumbers.{invalid_flags, signed_nan, unsigned_nan};
+ghost use Rattle.apfloat_machines.specs.WholeNumbers.{IsSettledUnsigned, settled_number, settled_flags};
 ghost use Rattle.apfloat_machines.specs.WholeNumbers.{greatest_signed, least_signed};
 
 use crate::machine::{Machine, WholeOfNan};
@@ -27,7 +28,10 @@ pub fn settled_signed<S: Flagged>(
 ) -> StatusAnd<i128>
     requires low { 2 ≤ width }
     requires high { width ≤ 128 }
-    ensures { (mode : Round) → (exact : Bool)
+    ensures value { result.value ≡ settled_number machine x (signed_nan machine width)
+        answer.value (bits_of answer.status) }
+    ensures status { bits_of result.status ≡ settled_flags machine x (bits_of answer.status) }
+    ensures whole { (mode : Round) → (exact : Bool)
         → IsToSigned (format_of S.Flagged) mode width x answer.value (bits_of answer.status) exact
         → Gives (IsMachineSigned (format_of S.Flagged) machine mode width x) result }
 {
@@ -49,16 +53,37 @@ pub fn settled_unsigned<S: Flagged>(
 ) -> Option<StatusAnd<u128>>
     requires low { 1 ≤ width }
     requires high { width ≤ 128 }
-    ensures { IsOffered (has_unsigned machine) (λ answered. (mode : Round) → (exact : Bool)
-        → IsToUnsigned (format_of S.Flagged) mode width x answer.value (bits_of answer.status) exact
-        → Gives (IsMachineUnsigned (format_of S.Flagged) machine mode width x) answered) result }
+    ensures { IsOffered (has_unsigned machine)
+        (IsSettledUnsigned (format_of S.Flagged) machine x width answer) result }
 {
-    if !machine.has_unsigned() {
-        None
-    } else if answer.status == Status::INVALID_OP {
-        Some(invalid_unsigned(machine, x, width, answer.value))
+    if machine.has_unsigned() {
+        Some(unsigned_answer(machine, x, width, answer))
     } else {
-        Some(answer)
+        None
+    }
+}
+
+/// The answer, with the machine's integer and its flags if it raises INVALID_OP.
+#[inline]
+fn unsigned_answer<S: Flagged>(
+    machine: Machine,
+    x: IeeeFloat<S>,
+    width: usize,
+    answer: StatusAnd<u128>,
+) -> StatusAnd<u128>
+    requires low { 1 ≤ width }
+    requires high { width ≤ 128 }
+    ensures value { pos result.value ≡ settled_number machine x (unsigned_nan machine width)
+        (pos answer.value) (bits_of answer.status) }
+    ensures status { bits_of result.status ≡ settled_flags machine x (bits_of answer.status) }
+    ensures whole { (mode : Round) → (exact : Bool)
+        → IsToUnsigned (format_of S.Flagged) mode width x answer.value (bits_of answer.status) exact
+        → Gives (IsMachineUnsigned (format_of S.Flagged) machine mode width x) result }
+{
+    if answer.status == Status::INVALID_OP {
+        invalid_unsigned(machine, x, width, answer.value)
+    } else {
+        answer
     }
 }
 

@@ -6,6 +6,10 @@ use Rattle.apfloat_machines.proofs.fused.settled_fused.Goals as goal
 pub returns-then-has_fused : goal.returns-then-has_fused
 returns-then-has_fused g c = (
   search rules,
-  fused_is_settled (format_of g.S.Flagged) c.args.machine c.args.x c.args.y c.args.z c.args.answer
-      c.with_nan.result c.with_nan.ensures.value c.with_nan.ensures.status,
+  record {
+    value_is = c.with_nan.ensures.value;
+    status_is = c.with_nan.ensures.status;
+    fused_sum = fused_is_settled (format_of g.S.Flagged) c.args.machine c.args.x c.args.y c.args.z c.args.answer
+        c.with_nan.result c.with_nan.ensures.value c.with_nan.ensures.status;
+  },
 )
