@@ -95,10 +95,13 @@ pub fn comparison_call(
 ) -> Option<IeeeCall>
     ensures { result ≡ comparison_call predicate on_nan x y }
 {
-    match (predicate, on_nan) {
-        (Some(predicate), Some(on_nan)) => Some(IeeeCall::Predicated(predicate, on_nan, x, y)),
-        _ => None,
-    }
+    let Some(predicate) = predicate else {
+        return None;
+    };
+    let Some(on_nan) = on_nan else {
+        return None;
+    };
+    Some(IeeeCall::Predicated(predicate, on_nan, x, y))
 }
 
 /// A minimum or a maximum of two values, if there is one.

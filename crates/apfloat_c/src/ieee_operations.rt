@@ -210,7 +210,8 @@ impl<S: Flagged> FillsInFormat for OnFormat<S> {
 fn in_another<S: Flagged, T: Flagged>(round: Round, call: InAnotherCall) -> Answer
     requires source { S.PRECISION < S.BITS }
     requires target { T.PRECISION < T.BITS }
-    ensures { IsInAnotherFormat (constants_of S.Flagged) (constants_of T.Flagged) round call result }
+    ensures { IsInAnotherFormat (constants_of S.Flagged) (constants_of T.Flagged) round call
+        result }
 {
     match call {
         InAnotherCall::SumTo(x, y) => { written(value::<S>(x).add_to::<T>(value::<S>(y), round)) }
@@ -241,7 +242,10 @@ fn reply_in_another(
 ) -> u32
     ensures { IsInAnotherReply format target mode call answer.old answer.new result }
 {
-    let (Some(format), Some(target)) = (format, target) else {
+    let Some(format) = format else {
+        return UNKNOWN_FORMAT;
+    };
+    let Some(target) = target else {
         return UNKNOWN_FORMAT;
     };
     let Some(round) = mode else {
@@ -250,19 +254,22 @@ fn reply_in_another(
     let Some(call) = call else {
         return NO_SUCH_OPERATION;
     };
-    match (format, target) {
-        (FlaggedKind::OfFormat(format), FlaggedKind::OfFormat(target)) => {
-            format.built_in().fill(
-                InAnother {
-                    target,
-                    round,
-                    call,
-                },
-                answer,
-            );
-            ANSWERED
-        }
-        _ => NO_SUCH_OPERATION,
+    match format {
+        FlaggedKind::Pairs => NO_SUCH_OPERATION,
+        FlaggedKind::OfFormat(format) => match target {
+            FlaggedKind::Pairs => NO_SUCH_OPERATION,
+            FlaggedKind::OfFormat(target) => {
+                format.built_in().fill(
+                    InAnother {
+                        target,
+                        round,
+                        call,
+                    },
+                    answer,
+                );
+                ANSWERED
+            }
+        },
     }
 }
 
@@ -305,8 +312,8 @@ pub extern "C" fn apfloat_total_order(format: u32, x: Halves, y: Halves, answer:
     reply(format, NEAREST_EVEN, Some(call), answer)
 }
 
-/// A minimum or a maximum of two values, with its flags (IEEE 754-2019 9.6). If `prefers_number` is not 0, that of a NaN
-/// and a number is the number.
+/// A minimum or a maximum of two values, with its flags (IEEE 754-2019 9.6). If `prefers_number` is not 0, that of a
+/// NaN and a number is the number.
 #[unsafe(no_mangle)]
 pub extern "C" fn apfloat_extremum(
     format: u32,
