@@ -1,5 +1,5 @@
-//! All pairs of values of the formats of eight bits in the operations of IEEE 754-2019, as checksums that Python computed
-//! from fractions (`evidence/eight_bits.py`).
+//! All pairs of values of the formats of eight bits in the operations of IEEE 754-2019, as checksums that Python
+//! computed from fractions (`evidence/eight_bits.py`).
 
 ghost use Rattle.std.specs.Prelude.{◌<◌};
 
@@ -172,4 +172,16 @@ fn agrees_with_fractions(rt: HostRuntime) {
     same(&rt, got, CHECKSUMS, "checksums");
 }
 
-const CHECKSUMS: [u128; 11] = [];
+const CHECKSUMS: [u128; 11] = [
+    0xa33a0c74_9769e40a_bd9acf1d_60f00968,
+    0x677ebe62_eab8b3e1_822ef51e_f025ac80,
+    0x400b4b51_553c9a62_99125ce2_67e0ea80,
+    0x09f6c2c2_400ffde8_aa50183d_dcf9e8b4,
+    0x6918eb43_72e406c2_61640be6_2dcde8f8,
+    0x85cf8c0c_6e75c0b1_58d0805d_c0ae5b80,
+    0x95902783_b106e61f_0173caad_af2665f8,
+    0xeae9f11b_d23902d6_f97d3270_7ff6cf76,
+    0x138616ef_0ad6c872_7e64bdd3_586b6fe2,
+    0x15c32390_d4d3a931_fd9f4cd2_94174472,
+    0x45034f37_101e4fdf_a8c0648d_2cdae661,
+];
