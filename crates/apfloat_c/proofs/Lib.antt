@@ -8,4 +8,3 @@ pub mod ElementCalls
 pub mod ArraysOnce
 pub mod ParsedOnce
 pub mod FlaglessOnce
-pub mod IeeeOnce

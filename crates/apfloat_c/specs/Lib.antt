@@ -6,4 +6,3 @@ pub mod Arrays
 pub mod Decimals
 pub mod About
 pub mod OneAnswer
-pub mod IeeeCalls

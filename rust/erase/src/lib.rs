@@ -34,8 +34,7 @@ pub const LIBRARY: [&str; 14] = [
 ];
 
 /// The crates that the library for C has above those.
-pub const FOR_C: [&str; 5] =
-    ["apfloat_comparisons", "rustc_apfloat", "formats_at_run_time", "array_conversions", "apfloat_c"];
+pub const FOR_C: [&str; 4] = ["rustc_apfloat", "formats_at_run_time", "array_conversions", "apfloat_c"];
 
 /// Modules that are left out, since no call of the erased crates uses them: streams are converted in buffers that a
 /// program has allocated.
