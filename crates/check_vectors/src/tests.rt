@@ -1,5 +1,7 @@
 //! Checks of short inputs, including failures of reading, writing and memory.
 
+use crate::program::{check_lines, run};
+use operation_rows::OperationRows;
 use std::alloc::{AllocError, Global};
 use std::io::{BufRead, BufReader, ErrorKind, Read, Write};
 use std::process::Abort;
@@ -7,7 +9,7 @@ use std::rt::Clock;
 use std::test::Fail;
 use std::time::Duration;
 use std::{fs, io};
-use vector_rows::{Check, Task, check_lines, run};
+use vector_rows::{Check, Task};
 
 /// Asserts what the program writes for an input, and with which exit status it ends.
 fn expect<R: Abort + Clock + AllocGlobal>(
@@ -510,7 +512,7 @@ fn tells_how_far_it_is(rt: HostRuntime) -> Result<(), Fail> {
         shows_progress: true,
         ..Task::rows()
     };
-    let mut check = Check::new(task, rt.alloc());
+    let mut check = Check::new(OperationRows, task, rt.alloc());
     let ended = check.take(
         &mut input.as_bytes(),
         rt.alloc(),

@@ -7,15 +7,17 @@ use commands::{About, WrongWord, write_fault};
 use std::io::{BufRead, BufReader, BufWriter, ErrorKind, Read, Write};
 use std::rt::{Clock, Files};
 use std::{fs, io};
+use vector_lines::Operations;
 
 const PROGRAM: &str = "check_vectors";
 
 /// The help; `packaging/manual` makes the man page and the completions of it.
 const HELP: &str = "\
 usage: check_vectors [--summary] [--first N] [FILE]
-       check_vectors [--summary] [--first N] --testfloat FUNCTION [OPTION..]
-                     [FILE]
-       check_vectors [--summary] [--first N] --fpgen [OPTION..] [FILE]
+       check_vectors [--summary] [--first N] [--skip-unknown]
+                     --testfloat FUNCTION [OPTION..] [FILE]
+       check_vectors [--summary] [--first N] [--skip-unknown]
+                     --fpgen [OPTION..] [FILE]
        check_vectors --help | --version
 
 Checks rows of test vectors: whether the library gives what the rows of FILE
@@ -27,21 +29,24 @@ what else it returns.
     half int even 464<TAB>5f40 OK
     add_r<TAB>half<TAB>any<TAB>3c00 3c00<TAB>4000<TAB>OK<TAB>-
 
---summary    writes only counts, by call and format
---first N    ends the check after N rows that differ
---testfloat  the lines are those of testfloat_gen for this function
---fpgen      the lines are those of IBM's FPgen
---help, -h   writes this text
---version    writes the name and the version of the program
+--summary       writes only counts, by call and format
+--first N       ends the check after N rows that differ
+--testfloat     the lines are those of testfloat_gen for this function
+--fpgen         the lines are those of IBM's FPgen
+--skip-unknown  skips lines whose call the library does not have
+--help, -h      writes this text
+--version       writes the name and the version of the program
 
 FUNCTION is an operation on f16, f32, f64, extF80 or f128, which is one of _add
-_sub _mul _mulAdd _div _rem _sqrt _roundToInt, as in f64_add, or a conversion of
-these to each other, from or to ui32, ui64, i32 or i64, as in f64_to_i32.
+_sub _mul _mulAdd _div _rem _sqrt _roundToInt, as in f64_add, a comparison _eq
+_le _lt _eq_signaling _le_quiet _lt_quiet, or a conversion of these to each
+other, from or to ui32, ui64, i32 or i64, as in f64_to_i32; those to integers
+may end in _r_minMag.
 
 After --testfloat FUNCTION may follow -rnear_even -rmax -rmin -rminMag
--rnear_maxMag -tininessafter -tininessbefore -notexact -exact --any-nan, and
-after --fpgen -tininessafter -tininessbefore. After --, the name of FILE may
-begin with -.
+-rnear_maxMag -precision80 -tininessafter -tininessbefore -notexact -exact
+--any-nan, and after --fpgen -tininessafter -tininessbefore. After --, the name
+of FILE may begin with -.
 
 Empty lines and comments, which begin with #, are skipped. The program writes
 each row that differs and each malformed line with its number, and at the end
@@ -62,6 +67,7 @@ a row; 1 if a row differs; 0 if all rows agree.
 static OPTIONS: &[&str] = &[
     "--summary",
     "--first",
+    "--skip-unknown",
     "--testfloat",
     "--fpgen",
     "--help",
@@ -73,12 +79,14 @@ static OPTIONS: &[&str] = &[
 static OPTIONS_OF_TESTFLOAT: &[&str] = &[
     "--summary",
     "--first",
+    "--skip-unknown",
     "--any-nan",
     "-rnear_even",
     "-rmax",
     "-rmin",
     "-rminMag",
     "-rnear_maxMag",
+    "-precision80",
     "-tininessafter",
     "-tininessbefore",
     "-notexact",
@@ -89,13 +97,15 @@ static OPTIONS_OF_TESTFLOAT: &[&str] = &[
 static OPTIONS_OF_FPGEN: &[&str] = &[
     "--summary",
     "--first",
+    "--skip-unknown",
     "-tininessafter",
     "-tininessbefore",
 ];
 
 /// Runs the program with the arguments from the system, without its own name. If `err` is a terminal, it is told how far
 /// a long check has come. Returns the exit status.
-pub fn run<R: Files + Clock + Input + AllocGlobal, W: Write, V: Write>(
+pub fn run<M: Operations, R: Files + Clock + Input + AllocGlobal, W: Write, V: Write>(
+    operations: M,
     rt: &R,
     given: io::Result<Vec<String>>,
     is_terminal: bool,
@@ -109,11 +119,19 @@ pub fn run<R: Files + Clock + Input + AllocGlobal, W: Write, V: Write>(
     match job_of(words.as_slice()) {
         Ok(Job::Check(task, None)) => {
             let task = Task { shows_progress: is_terminal, ..task };
-            check_reader(rt, "standard input", rt.reader(), task, out, err)
+            check_reader(
+                operations,
+                rt,
+                "standard input",
+                rt.reader(),
+                task,
+                out,
+                err,
+            )
         }
         Ok(Job::Check(task, Some(name))) => {
             let task = Task { shows_progress: is_terminal, ..task };
-            check_file(rt, name, task, out, err)
+            check_file(operations, rt, name, task, out, err)
         }
         Ok(Job::About(about)) => answer(about, out, err),
         Err(wrong) => refuse_word(wrong, err),
@@ -188,6 +206,16 @@ fn next_option(task: Task, words: &[String]) -> NextOption<'_> {
             let is_summary = true;
             NextOption::Known(Task { is_summary, ..task }, others)
         }
+        [word, others @ ..] if word.as_str() == "--skip-unknown" => {
+            let skips_unknown = true;
+            NextOption::Known(
+                Task {
+                    skips_unknown,
+                    ..task
+                },
+                others,
+            )
+        }
         [word, count, others @ ..] if word.as_str() == "--first" => {
             match count.as_str().parse::<u64>() {
                 Ok(count) => {
@@ -205,20 +233,33 @@ fn next_option(task: Task, words: &[String]) -> NextOption<'_> {
 fn option_on_lines(task: Task, words: &[String]) -> NextOption<'_> {
     match words {
         [word, others @ ..] if word.as_str() == "--fpgen" => {
-            with_lines(task, Lines::Fpgen(Fpgen::new()), others)
+            with_lines(
+                task,
+                Lines::Fpgen(Fpgen::new().skipping(task.skips_unknown)),
+                others,
+            )
         }
         [word, name, others @ ..] if word.as_str() == "--testfloat" => {
             match TestFloat::named(name.as_str()) {
                 Some(function) => with_lines(task, Lines::TestFloat(function), others),
+                None if task.skips_unknown => with_lines(task, Lines::Unknown, others),
                 None => wrong("no such function of TestFloat", name),
             }
         }
         [word, others @ ..] => match task.lines.with(word.as_str()) {
             Some(lines) => with_lines(task, lines, others),
+            None if task.skips_unknown && is_left_out(word.as_str()) => {
+                with_lines(task, Lines::Unknown, others)
+            }
             None => NextOption::End,
         },
         [] => NextOption::End,
     }
+}
+
+/// Whether a word is an option of TestFloat for calls that the library does not have.
+fn is_left_out(word: &str) -> bool {
+    matches!(word, "-rodd" | "-precision32" | "-precision64")
 }
 
 /// A word after an option that is wrong.
@@ -241,6 +282,7 @@ fn options_before(lines: Lines) -> &'static [&'static str] {
         Lines::Rows => OPTIONS,
         Lines::TestFloat(_) => OPTIONS_OF_TESTFLOAT,
         Lines::Fpgen(_) => OPTIONS_OF_FPGEN,
+        Lines::Unknown => OPTIONS_OF_TESTFLOAT,
     }
 }
 
@@ -290,7 +332,8 @@ fn answer<W: Write, V: Write>(about: About, out: &mut W, err: &mut V) -> u8 {
 }
 
 /// Checks the lines of a file. Returns the exit status.
-fn check_file<R: Files + Clock + AllocGlobal, W: Write, V: Write>(
+fn check_file<M: Operations, R: Files + Clock + AllocGlobal, W: Write, V: Write>(
+    operations: M,
     rt: &R,
     name: &str,
     task: Task,
@@ -298,13 +341,14 @@ fn check_file<R: Files + Clock + AllocGlobal, W: Write, V: Write>(
     err: &mut V,
 ) -> u8 {
     match fs::open(rt, name) {
-        Ok(file) => check_reader(rt, name, file, task, out, err),
+        Ok(file) => check_reader(operations, rt, name, file, task, out, err),
         Err(error) => report(name, &Failure::of_input("open", error), err),
     }
 }
 
 /// Checks the lines from a reader; messages call it `name`. Returns the exit status.
-fn check_reader<R: Clock + AllocGlobal, I: Read + Drop, W: Write, V: Write>(
+fn check_reader<M: Operations, R: Clock + AllocGlobal, I: Read + Drop, W: Write, V: Write>(
+    operations: M,
     rt: &R,
     name: &str,
     reader: I,
@@ -313,13 +357,14 @@ fn check_reader<R: Clock + AllocGlobal, I: Read + Drop, W: Write, V: Write>(
     err: &mut V,
 ) -> u8 {
     match BufReader::new(rt.alloc(), reader) {
-        Ok(mut input) => check_lines(rt, name, &mut input, task, out, err),
+        Ok(mut input) => check_lines(operations, rt, name, &mut input, task, out, err),
         Err(error) => report(name, &Failure::of_input("open", error), err),
     }
 }
 
 /// Checks the lines of an input; messages call it `name`. Returns the exit status.
-pub fn check_lines<R: Clock + AllocGlobal, B: BufRead, W: Write, V: Write>(
+pub fn check_lines<M: Operations, R: Clock + AllocGlobal, B: BufRead, W: Write, V: Write>(
+    operations: M,
     rt: &R,
     name: &str,
     input: &mut B,
@@ -331,7 +376,7 @@ pub fn check_lines<R: Clock + AllocGlobal, B: BufRead, W: Write, V: Write>(
         Ok(out) => out,
         Err(error) => return report(name, &Failure::from(error), err),
     };
-    let mut check = Check::new(task, rt.alloc());
+    let mut check = Check::new(operations, task, rt.alloc());
     let ended = check.take(input, rt.alloc(), rt, &mut out, err);
     if let Err(Failure::Output(error)) = ended {
         return report(name, &Failure::Output(error), err);
@@ -348,7 +393,7 @@ pub fn check_lines<R: Clock + AllocGlobal, B: BufRead, W: Write, V: Write>(
 }
 
 /// Writes the counts of a check.
-fn write_counts<W: Write>(check: &Check, out: &mut W) -> io::Result<()> {
+fn write_counts<M: Operations, W: Write>(check: &Check<M>, out: &mut W) -> io::Result<()> {
     check.write_counts(out)?;
     out.flush()
 }
