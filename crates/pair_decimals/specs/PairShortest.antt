@@ -8,8 +8,8 @@ use Rattle.apfloat_pair_theory.specs.PairParts.{same_pair}
 use Rattle.apfloat_decimals.specs.declared.decimal.Decimal.{Decimal}
 use Rattle.apfloat_decimals.specs.ShortestSearch.{GivesShortest}
 
--- If the pair is the split of its join, the shortest decimal of the join in the wide format. Any other pair has none: no
--- text is read as it.
+-- If the pair is the split of its join, the shortest decimal of the join in the wide format. Any other pair has none:
+-- no text is read as it.
 pub record GivesPairShortest (x : Pair) (answer : Option Decimal) : Type 0 where
   pub joined : Datum
   pub back : Pair

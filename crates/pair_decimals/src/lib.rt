@@ -75,8 +75,8 @@ pub fn shortest_of_pair(x: DoubleDouble) -> Option<Decimal>
     }
 }
 
-/// At most one decimal is the shortest of a pair, and the pair is read back from each text of its number and sign, among
-/// them the one that `Display` writes.
+/// At most one decimal is the shortest of a pair, and the pair is read back from each text of its number and sign,
+/// among them the one that `Display` writes.
 pub fn pair_shortest_reads_back()
     ensures once { (x : Pair) → Determines (GivesPairShortest x) }
     ensures text { (x : Pair) (decimal : Decimal) (text : List ℕ) (digits : ℕ) (exponent : ℤ)
@@ -90,8 +90,8 @@ pub fn pair_shortest_reads_back()
         → IsOkAnd answer (λ a. a.value ≡ x) }
 {}
 
-/// A pair that a text is read as, in any mode, has a shortest decimal, if its high part is finite; so `shortest_of_pair`
-/// returns none for a pair with a finite high part only if no text is read as it.
+/// A pair that a text is read as, in any mode, has a shortest decimal, if its high part is finite; so
+/// `shortest_of_pair` returns none for a pair with a finite high part only if no text is read as it.
 pub fn read_pairs_have_a_decimal()
     ensures { (mode : Round) (text : List ℕ) (x : Pair) (status : ℕ) (answer : Option Decimal)
         → IsPairDecimalReading mode text x status → is_finite x.high ≡ true
