@@ -1,3 +1,4 @@
 pub mod OneReading
 pub mod PairShortest
 pub mod SplitsJoined
+pub mod ReadPairs

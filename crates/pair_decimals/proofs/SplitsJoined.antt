@@ -163,16 +163,22 @@ found : (b : Bool) (n : ℕ) (answer : Option Decimal) → GivesShortest wide (f
 found b n None g = absurd g
 found b n (Some d) g = refl
 
--- the split of a nonzero wide number, if its high part is finite, has a shortest decimal
+-- the split of a wide number to which it is joined again has a shortest decimal
+pub joined_has_decimal : (negative : Bool) (quanta : ℕ) (x : Pair) (answer : Option Decimal)
+    → IsSplit (finite negative quanta) x → (given : GivesPairShortest x answer) → given.joined ≡ finite negative quanta
+    → IsSome answer
+joined_has_decimal b n x answer s g e =
+    let back : g.back ≡ x =
+    split_once (finite b n) g.back x (subst (λ (d : Datum). IsSplit d g.back) e g.is_split) s in
+    let same : same_pair g.back x ≡ true = subst (λ (y : Pair). same_pair y x ≡ true) (sym back) (pair_itself x) in
+    found b n answer
+    (subst (λ (d : Datum). GivesShortest wide d answer) e
+    (summed (same_pair g.back x) (GivesShortest wide g.joined answer) (answer ≡ None) same g.is_answer))
+
+-- so has the split of a nonzero wide number, if its high part is finite
 pub split_has_decimal : (negative : Bool) (quanta : ℕ) (x : Pair) (answer : Option Decimal) → 0 < quanta
     → IsFiniteOf wide negative quanta → is_finite x.high ≡ true → IsSplit (finite negative quanta) x
     → GivesPairShortest x answer → IsSome answer
 split_has_decimal b zero x answer p m f s g = absurd (omega (arith, p))
 split_has_decimal b (suc n) x answer p m f s g =
-    let e = number_joined b n x g.joined m f s g.is_joined in
-    let back : g.back ≡ x =
-    split_once (finite b (suc n)) g.back x (subst (λ (d : Datum). IsSplit d g.back) e g.is_split) s in
-    let same : same_pair g.back x ≡ true = subst (λ (y : Pair). same_pair y x ≡ true) (sym back) (pair_itself x) in
-    found b (suc n) answer
-    (subst (λ (d : Datum). GivesShortest wide d answer) e
-    (summed (same_pair g.back x) (GivesShortest wide g.joined answer) (answer ≡ None) same g.is_answer))
+    joined_has_decimal b (suc n) x answer s g (number_joined b n x g.joined m f s g.is_joined)

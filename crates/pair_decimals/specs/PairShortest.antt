@@ -9,7 +9,7 @@ use Rattle.apfloat_decimals.specs.declared.decimal.Decimal.{Decimal}
 use Rattle.apfloat_decimals.specs.ShortestSearch.{GivesShortest}
 
 -- If the pair is the split of its join, the shortest decimal of the join in the wide format. Any other pair has none:
--- what is read of a text is the split of a wide datum.
+-- no text is read as it.
 pub record GivesPairShortest (x : Pair) (answer : Option Decimal) : Type 0 where
   pub joined : Datum
   pub back : Pair

@@ -3,15 +3,13 @@
 //! A separate crate, so that the decimals do not depend on pairs, nor the pairs on decimals.
 #![tactic(auto)]
 
-ghost use Rattle.std.specs.Prelude.{◌≡◌, ◌<◌, Bool, true, ℕ, ℤ, List, Option, Some, IsSome, Result, IsOkAnd};
+ghost use Rattle.std.specs.Prelude.{◌≡◌, true, ℕ, ℤ, List, Option, Some, IsSome, Result, IsOkAnd};
 ghost use Rattle.apfloat_model.specs.Determined.{Determines};
+ghost use Rattle.apfloat_model.specs.declared.kinds.Round.{Round};
 ghost use Rattle.apfloat_model.specs.declared.kinds.Round.TheVariants.{NearestTiesToEven};
 ghost use Rattle.apfloat_model.specs.declared.parse_error.ParseError.{ParseError};
 ghost use Rattle.apfloat_model.specs.declared.status.StatusAnd.{StatusAnd};
-ghost use Rattle.apfloat_model.specs.formats.Datum.{finite};
-ghost use Rattle.apfloat_model.specs.formats.Members.{IsFiniteOf};
 ghost use Rattle.apfloat_model.specs.order.Classes.{is_finite};
-ghost use Rattle.apfloat_pair_theory.specs.PairFormats.{wide};
 ghost use Rattle.apfloat_pair_theory.specs.Pairs.{IsJoined, IsSplit, Pair};
 ghost use Rattle.apfloat_decimals.specs.declared.decimal.Decimal.{Decimal};
 ghost use Rattle.apfloat_decimals.specs.Parsing.{Spells};
@@ -19,7 +17,7 @@ ghost use Rattle.apfloat_decimals.specs.ReadBack.{IsStoredDecimal};
 ghost use Rattle.apfloat_decimals.specs.Shortest.{IsSameNumber};
 ghost use Rattle.apfloat_decimals.specs.Texts.{decimal_text};
 ghost use Rattle.pair_decimals.specs.OneReading.{IsPairReadOnce};
-ghost use Rattle.pair_decimals.specs.PairReadings.{IsPairDecimalRead};
+ghost use Rattle.pair_decimals.specs.PairReadings.{IsPairDecimalRead, IsPairDecimalReading};
 ghost use Rattle.pair_decimals.specs.PairShortest.{GivesPairShortest};
 
 use apfloat_base::{Float, ParseError, Round, StatusAnd};
@@ -77,8 +75,8 @@ pub fn shortest_of_pair(x: DoubleDouble) -> Option<Decimal>
     }
 }
 
-/// At most one decimal is the shortest of a pair, and the pair is read back from each text of its number and sign, among
-/// them the one that `Display` writes.
+/// At most one decimal is the shortest of a pair, and the pair is read back from each text of its number and sign,
+/// among them the one that `Display` writes.
 pub fn pair_shortest_reads_back()
     ensures once { (x : Pair) → Determines (GivesPairShortest x) }
     ensures text { (x : Pair) (decimal : Decimal) (text : List ℕ) (digits : ℕ) (exponent : ℤ)
@@ -92,12 +90,12 @@ pub fn pair_shortest_reads_back()
         → IsOkAnd answer (λ a. a.value ≡ x) }
 {}
 
-/// A pair that a nonzero number of the wide format is split into has a shortest decimal, if its high part is finite. So
-/// has each pair that is read as such a number.
-pub fn splits_have_a_decimal()
-    ensures { (negative : Bool) (quanta : ℕ) (x : Pair) (answer : Option Decimal) → 0 < quanta
-        → IsFiniteOf wide negative quanta → is_finite x.high ≡ true
-        → IsSplit (finite negative quanta) x → GivesPairShortest x answer → IsSome answer }
+/// A pair that a text is read as, in any mode, has a shortest decimal, if its high part is finite; so
+/// `shortest_of_pair` returns none for a pair with a finite high part only if no text is read as it.
+pub fn read_pairs_have_a_decimal()
+    ensures { (mode : Round) (text : List ℕ) (x : Pair) (status : ℕ) (answer : Option Decimal)
+        → IsPairDecimalReading mode text x status → is_finite x.high ≡ true
+        → GivesPairShortest x answer → IsSome answer }
 {}
 
 /// A value of the wide format as a pair.

@@ -20,11 +20,11 @@ fn parts_of(x: DoubleDouble) -> (Double, Double)
     (Double::from_bits(bits), Double::from_bits(bits >> 64))
 }
 
-/// A pair in the format `T`: the exact sum of the parts, rounded once (IEEE 754-2019 5.4.2, convertFormat), with exactly
-/// the flags of that rounding. Parts that cancel give the zero of `add_r`.
+/// A pair in the format `T`: the exact sum of the parts, rounded once (IEEE 754-2019 5.4.2, convertFormat), with
+/// exactly the flags of that rounding. Parts that cancel give the zero of `add_r`.
 ///
-/// If the high part is zero, infinite or a NaN, it is converted alone, as `convert_r` does, and the low part is ignored.
-/// With another high part, a low part that is infinite or a NaN is the sum.
+/// If the high part is zero, infinite or a NaN, it is converted alone, as `convert_r` does, and the low part is
+/// ignored. With another high part, a low part that is infinite or a NaN is the sum.
 pub fn pair_to_format<T: Flagged>(x: DoubleDouble, round: Round) -> StatusAnd<IeeeFloat<T>>
     ensures { Gives (IsPairTo (format_of T.Flagged) round x) result }
 {
