@@ -72,7 +72,8 @@ signaling_is p q a c k h l some o e qe =
     ap (λ (n : ℕ). bit_and n (2 ^ (p - 1) - 1)) d ∙ masked p c k h l in
     let t : eqb (bit_and (cleared_of IEEE754 p q) (2 ^ (p - 1) - 1)) 0 ≡ false =
     ne_eqb _ 0 (λ z. omega (arith, m, z, some)) in
-    ap (λ (b : Bool). (cond b (bit_or (cleared_of IEEE754 p q) (2 ^ (p - 2) / 2)) (cleared_of IEEE754 p q)) % 2 ^ (p - 2))
+    ap (λ (b : Bool). (cond b (bit_or (cleared_of IEEE754 p q) (2 ^ (p - 2) / 2)) (cleared_of IEEE754 p q))
+    % 2 ^ (p - 2))
     t
     ∙ ap (λ (n : ℕ). n % 2 ^ (p - 2)) d ∙ mod-mul-add (2 * c) (2 ^ (p - 2)) k l
 
