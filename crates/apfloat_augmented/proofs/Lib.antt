@@ -7,3 +7,4 @@ pub mod NanSignificands
 pub mod Cases
 pub mod PayloadValues
 pub mod OrderedSums
+pub mod PayloadsBack

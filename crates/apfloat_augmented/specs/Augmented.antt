@@ -37,8 +37,8 @@ pub record IsWithTail (f : Format) (negative : Bool) (exact : ℤ) (parts pick :
       ≡ (if eqb (quanta * parts) (magnitude (left_of exact parts negative pick)) then ok_bits
       else underflow_bit + inexact_bit)
 
--- The exact result is exact / parts quanta, and `of_zero` is its sign if it is zero. A sum has one part, so that its tail
--- is exact (`IsExactSum`).
+-- The exact result is exact / parts quanta, and `of_zero` is its sign if it is zero. A sum has one part, so its tail is
+-- exact (`IsExactSum`).
 pub record IsAugmented (f : Format) (of_zero : Bool) (exact : ℤ) (parts : ℕ) (head tail : Datum) (status : ℕ)
     : Type 0 where
   pub pick : ℕ

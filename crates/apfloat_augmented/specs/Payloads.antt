@@ -1,6 +1,6 @@
 -- Payloads of NaNs as data (IEEE 754-2019 9.7). The payload is the significand without the bits that say whether the
 -- NaN is quiet: where the integer bit is written, without that bit too (6.2.1).
-use Rattle.std.specs.Prelude.{ℕ, ◌-◌, ◌*◌, ◌/◌, ◌%◌, ◌^◌, Bool, true, false, not, ◌&&◌, leb, ltb}
+use Rattle.std.specs.Prelude.{◌≡◌, ℕ, ◌-◌, ◌*◌, ◌/◌, ◌%◌, ◌^◌, ◌<◌, ◌≤◌, Bool, true, false, not, ◌&&◌, leb, ltb}
 use Rattle.std.specs.Prelude.{Option, Some, None, if◌then◌else◌}
 use Rattle.apfloat_model.specs.declared.kinds.NonfiniteBehavior.{NonfiniteBehavior}
 use Rattle.apfloat_model.specs.declared.kinds.NonfiniteBehavior.TheVariants.{IEEE754, NanOnly, NanNegativeZero}
@@ -57,3 +57,13 @@ set_payload f x = if is_payload f 0 x then qnan f (integer_of f x) else zero_dat
 
 abbrev pub set_payload_signaling : Format → Datum → Datum
 set_payload_signaling f x = if is_payload f 1 x then snan f (integer_of f x) else zero_datum
+
+-- ---- a law
+
+-- the payload of the NaN with a payload is that payload
+abbrev pub ArePayloadsKept : Type 0
+ArePayloadsKept =
+    (f : Format) → 3 ≤ f.precision → (payload : ℕ) → payload < 2 ^ payload_bits f
+    → (get_payload f (set_payload f (integer_datum f false payload)) ≡ integer_datum f false payload)
+    × (1 ≤ payload
+    → get_payload f (set_payload_signaling f (integer_datum f false payload)) ≡ integer_datum f false payload)

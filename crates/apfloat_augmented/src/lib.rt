@@ -13,5 +13,6 @@ pub use augmented::Augmented;
 pub use payloads::{get_payload, set_payload, set_payload_signaling};
 pub use sums::{augmented_add, augmented_subtract};
 pub use theorems::{
-    augmented_differences_have_one_answer, augmented_sums_are_exact, augmented_sums_have_one_answer,
+    augmented_differences_have_one_answer, augmented_sums_are_exact,
+    augmented_sums_have_one_answer, payloads_are_kept,
 };

@@ -2,6 +2,7 @@
 
 ghost use Rattle.apfloat_augmented.specs.Augmented.{IsAugmentedSum, IsAugmentedDifference};
 ghost use Rattle.apfloat_augmented.specs.Augmented.{HasOneAugmented, IsExactSum};
+ghost use Rattle.apfloat_augmented.specs.Payloads.{ArePayloadsKept};
 
 /// An augmented sum has one head, one tail and one status.
 pub fn augmented_sums_have_one_answer()
@@ -17,4 +18,9 @@ pub fn augmented_differences_have_one_answer()
 /// head is past the largest value.
 pub fn augmented_sums_are_exact()
     ensures { IsExactSum }
+{}
+
+/// The payload of the NaN that `set_payload` or `set_payload_signaling` makes is the one that was set.
+pub fn payloads_are_kept()
+    ensures { ArePayloadsKept }
 {}
