@@ -1,5 +1,6 @@
 -- How long texts are.
-use Rattle.std.proofs.Common.{◌≡◌, ℕ, zero, suc, ◌+◌, ◌^◌, ◌<◌, ◌≤◌, Bool, true, false, cond, sym, subst, arith, lit≤, eqb, length, length-append}
+use Rattle.std.proofs.Common.{◌≡◌, ℕ, zero, suc, ◌+◌, ◌^◌, ◌<◌, ◌≤◌, Bool}
+use Rattle.std.proofs.Common.{true, false, cond, sym, subst, arith, lit≤, eqb, length, length-append}
 use Rattle.std.proofs.Common.{◌++◌, ◌∷◌, List, [], codes, ℤ, pos, negsuc}
 use Rattle.std.proofs.lemmas.Bool.{ne_eqb}
 use Rattle.std.proofs.lemmas.Fmt.{length_signed_le}
@@ -42,7 +43,8 @@ number_length negative first places fraction e few within =
     let exponent = exponent_length e within in
     let a = length-append (codes "p") (signed_decimal e) in
     let b = length-append (dotted places fraction) (codes "p" ++ signed_decimal e) in
-    let c = length-append (codes "0x") (character first ∷ (dotted places fraction ++ (codes "p" ++ signed_decimal e))) in
+    let c = length-append (codes "0x") (character first ∷ (dotted places fraction ++ (codes "p" ++ signed_decimal e)))
+    in
     let d = length-append (sign_text negative) (magnitude_text first places fraction e) in
     omega (arith, sign, dot, exponent, a, b, c, d, few)
 

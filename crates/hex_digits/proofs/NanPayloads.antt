@@ -5,7 +5,8 @@ use Rattle.std.proofs.Common.{append_assoc, codes, eqb, leb, ltb, Option, Some}
 use Rattle.std.specs.Bool.{⊤}
 use Rattle.std.specs.Int.Bits.{or_zero_l}
 use Rattle.std.specs.Prelude.{bit_and, bit_or, Result}
-use Rattle.std.proofs.Math.Nat.{div-eq_of_lt, div-eq_of_lt-le, div-lt_iff_lt-mul, mod-eq_of_lt, mod-lt, pow-le-pow_right}
+use Rattle.std.proofs.Math.Nat.{div-eq_of_lt, div-eq_of_lt-le, div-lt_iff_lt-mul}
+use Rattle.std.proofs.Math.Nat.{mod-eq_of_lt, mod-lt, pow-le-pow_right}
 use Rattle.std.proofs.Math.Pow.{mod-mod-pow}
 use Rattle.std.proofs.lemmas.Bool.{cases_Bool, cases_lt, cond_both, eqb-true, eqb-false, false≢true, lt-ltb, ne_eqb}
 use Rattle.std.proofs.lemmas.Bool.{and_parts}
@@ -24,7 +25,8 @@ use Rattle.apfloat_model.specs.declared.status.StatusAnd.{StatusAnd}
 use Rattle.apfloat_model.specs.formats.Datum.{Datum, finite, infinite, nan}
 use Rattle.apfloat_model.specs.formats.Format.{Format, smallest_normalized, nan_base_of, payload_mask_of, quiet_bits_of}
 use Rattle.apfloat_model.specs.formats.Members.{IsMember, IsNanSignificand}
-use Rattle.apfloat_model.specs.formats.Nan.{is_signaling, nan_sign, quiet_bit_of, quiet_significand, signaling_significand}
+use Rattle.apfloat_model.specs.formats.Nan.{is_signaling, nan_sign}
+use Rattle.apfloat_model.specs.formats.Nan.{quiet_bit_of, quiet_significand, signaling_significand}
 use Rattle.apfloat_model.specs.order.Classes.{category_of, is_nan_category}
 use Rattle.apfloat_model.specs.texts.Digits.{every, is_hexadecimal, number}
 use Rattle.apfloat_model.specs.texts.Parsing.{IsRead}

@@ -96,7 +96,8 @@ body_means first places fraction e one fits low high =
 
 number_means : (negative : Bool) (first places fraction : ℕ) (e : ℤ) → first < 16 → fraction < 16 ^ places
     → neg_ℤ (pos (2 ^ 32)) ≤ℤ e → e ≤ℤ pos (2 ^ 32)
-    → Means (number_text negative first places fraction e) (hexadecimal negative (first * 16 ^ places + fraction) places e)
+    → Means (number_text negative first places fraction e)
+    (hexadecimal negative (first * 16 ^ places + fraction) places e)
 number_means true first places fraction e one fits low high =
     (refl, body_means first places fraction e one fits low high)
 number_means false first places fraction e one fits low high =

@@ -4,6 +4,7 @@
 ghost use Rattle.std.specs.Prelude.{◌<◌};
 
 use crate::asserts::same;
+use apfloat_base::Float;
 use apfloat_formats::{DoubleS, HalfS, QuadS, Semantics, SingleS};
 use apfloat_ieee::IeeeFloat;
 use apfloat_model::{Round, Status};

@@ -7,7 +7,8 @@ use Rattle.hex_digits.proofs.payloads.full_line.Goals as goal
 pub returns-in-Infinity : goal.returns-in-Infinity
 returns-in-Infinity g c =
     full_of (format_of g.S.Semantics) c.args.x c.line_of.result
-    (other_category (format_of g.S.Semantics) c.args.x Infinity (cc (c.category.ensures.category, c.in-Infinity.is)) refl)
+    (other_category (format_of g.S.Semantics) c.args.x Infinity
+    (cc (c.category.ensures.category, c.in-Infinity.is)) refl)
     c.line_of.ensures.text
 
 pub returns-in-Zero : goal.returns-in-Zero

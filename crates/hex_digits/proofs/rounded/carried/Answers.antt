@@ -17,8 +17,8 @@ overflow_sub-result c =
 pub returns-then-units-one-clause-carried : goal.returns-then-units-one-clause-carried
 returns-then-units-one-clause-carried c =
     let exact = to_z-of_z w32 c.args.exponent c.ranges.exponent in
-    rw exact (carried_not c.args.places c.args.units c.power_of_two-one.result c.args.exponent c.power_of_two-one.ensures
-    c.requires.least c.if-units-one.true)
+    rw exact (carried_not c.args.places c.args.units c.power_of_two-one.result c.args.exponent
+    c.power_of_two-one.ensures c.requires.least c.if-units-one.true)
 
 pub returns-else-units-one-clause-carried : goal.returns-else-units-one-clause-carried
 returns-else-units-one-clause-carried c =

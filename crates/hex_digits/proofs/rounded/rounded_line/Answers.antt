@@ -9,8 +9,8 @@ use Rattle.hex_digits.proofs.rounded.rounded_line.Goals.{After-shift_right-cut, 
 use Rattle.hex_digits.proofs.rounded.rounded_line.Goals as goal
 
 cut_is : (g : Over) → (state : After-shift_right-cut g)
-    → IsCut (format_of g.S.Semantics) (quanta_of state.args.x) state.args.places state.shift_right-cut.result.significand
-    state.shift_right-cut.result.loss state.digits_of-number.result.exponent
+    → IsCut (format_of g.S.Semantics) (quanta_of state.args.x) state.args.places
+    state.shift_right-cut.result.significand state.shift_right-cut.result.loss state.digits_of-number.result.exponent
 cut_is g c =
     cut_of (format_of g.S.Semantics) (quanta_of c.args.x) c.args.places c.digits_of-number.result.digits
     c.shift_right-cut.result.significand (4 * (31 - c.args.places)) c.shift_right-cut.result.loss

@@ -4,8 +4,8 @@ use Rattle.hex_digits.proofs.significands.shortened.Goals as goal
 
 pub loop-places-preserved : goal.loop-places-preserved
 loop-places-preserved c =
-    shortening_goes_on c.args.fraction c.loop-places.places c.loop-places.digits (omega (arith, c.loop-places-test.true))
-    c.if-digits-eq0.true c.loop-places.invariant
+    shortening_goes_on c.args.fraction c.loop-places.places c.loop-places.digits
+    (omega (arith, c.loop-places-test.true)) c.if-digits-eq0.true c.loop-places.invariant
 
 pub returns-else-digits-eq0-clause-fits : goal.returns-else-digits-eq0-clause-fits
 returns-else-digits-eq0-clause-fits c =
