@@ -45,7 +45,8 @@ static double of_two(int call, double x, double y) {
     read_flags();
     return r;
 }
-static const char *const CALLS[] = {"add", "mul", "min:Number2008", "min:Propagated", "max:Number2008", "max:Propagated"};
+static const char *const CALLS[] = {"add",            "mul",            "min:Number2008",
+                                    "min:Propagated", "max:Number2008", "max:Propagated"};
 enum { CALL_COUNT = 6, MACHINE_COUNT = 2 };
 static const char *const MACHINES[] = {"Arm", "ArmDefaultNan"};
 static void choose(int machine) { control = machine ? 1 << 25 : 0; }
@@ -149,7 +150,10 @@ static u32 to_single(double x) {
 static long write_out(const char *text, long length) {
     register long r0 __asm__("r0") = 4, r3 __asm__("r3") = 1, r5 __asm__("r5") = length;
     register const char *r4 __asm__("r4") = text;
-    __asm__ volatile("sc" : "+r"(r3), "+r"(r0) : "r"(r4), "r"(r5) : "memory", "cr0", "ctr", "r6", "r7", "r8", "r9", "r10", "r11", "r12");
+    __asm__ volatile("sc"
+                     : "+r"(r3), "+r"(r0)
+                     : "r"(r4), "r"(r5)
+                     : "memory", "cr0", "ctr", "r6", "r7", "r8", "r9", "r10", "r11", "r12");
     return r3;
 }
 static void stop(void) {
@@ -186,7 +190,8 @@ static double of_two(int call, double x, double y) {
     read_flags();
     return r;
 }
-static const char *const CALLS[] = {"add", "mul", "min:Number2008", "max:Number2008", "min:SecondQuietly", "max:SecondQuietly", "min:FirstNan", "max:FirstNan"};
+static const char *const CALLS[] = {"add",          "mul",          "min:Number2008",    "max:Number2008",
+                                    "min:SecondQuietly", "max:SecondQuietly", "min:FirstNan", "max:FirstNan"};
 enum { CALL_COUNT = 8, MACHINE_COUNT = 1 };
 static const char *const MACHINES[] = {"Power"};
 static void choose(int machine) { (void)machine; }
@@ -261,7 +266,8 @@ static double of_two(int call, double x, double y) {
     read_flags();
     return r;
 }
-static const char *const CALLS[] = {"add", "mul", "min:Number2008", "max:Number2008", "min:Propagated", "max:Propagated", "min:Second", "max:Second"};
+static const char *const CALLS[] = {"add",            "mul",            "min:Number2008", "max:Number2008",
+                                    "min:Propagated", "max:Propagated", "min:Second",     "max:Second"};
 enum { CALL_COUNT = 8, MACHINE_COUNT = 1 };
 static const char *const MACHINES[] = {"S390x"};
 static void choose(int machine) { (void)machine; }
@@ -336,8 +342,9 @@ static const u64 VALUES[] = {0x3ff0000000000000, 0x7ff8000000000001, 0xfff800000
                              0xfff0000000000004, 0x7ff0000000000000, 0xfff0000000000000, 0x0000000000000000,
                              0x8000000000000000};
 enum { COUNT = 9 };
-static const u64 NUMBERS[] = {0x41e0000000000000, 0xc1e0000000000000, 0xc1e0000000200000, 0xc1e0000000100000, 0x41f0000000000000,
-                              0xbff0000000000000, 0x3ff8000000000000, 0xbfe0000000000000, 0x41dfffffffe00000};
+static const u64 NUMBERS[] = {0x41e0000000000000, 0xc1e0000000000000, 0xc1e0000000200000,
+                              0xc1e0000000100000, 0x41f0000000000000, 0xbff0000000000000,
+                              0x3ff8000000000000, 0xbfe0000000000000, 0x41dfffffffe00000};
 
 static void integers(const char *machine, u64 bits) {
     u64 r = to_signed(of_bits(bits));
@@ -353,7 +360,8 @@ void run(void) {
             for (int i = 0; i < COUNT; i++)
                 for (int j = 0; j < COUNT; j++) {
                     u64 r = bits_of(of_two(c, of_bits(VALUES[i]), of_bits(VALUES[j])));
-                    put_text(MACHINES[m]), put_text(CALLS[c]), put_bits(VALUES[i]), put_bits(VALUES[j]), end_line(r);
+                    put_text(MACHINES[m]), put_text(CALLS[c]);
+                    put_bits(VALUES[i]), put_bits(VALUES[j]), end_line(r);
                 }
         for (int i = 0; i < COUNT; i++)
             for (int j = 0; j < COUNT; j++)
@@ -373,7 +381,8 @@ void run(void) {
 }
 
 #if defined(__riscv)
-__asm__(".globl _start\n_start:\n\t.option push\n\t.option norelax\n\tla gp, __global_pointer$\n\t.option pop\n\tcall run\n");
+__asm__(".globl _start\n_start:\n\t.option push\n\t.option norelax\n\tla gp, __global_pointer$\n\t.option pop\n"
+        "\tcall run\n");
 #elif defined(__aarch64__)
 __asm__(".globl _start\n_start:\n\tbl run\n");
 #elif defined(__powerpc64__)

@@ -3,7 +3,8 @@
 
     qemu-s390x RUN | python3 evidence/processor/emulated.py
 
-Prints each line that differs with what the tables say, and then how many agree. The exit status is 1 if a line differs.
+Prints each line that differs with what the tables say, and then how many agree. The exit status is 1 if a line
+differs.
 """
 
 import sys
@@ -13,7 +14,8 @@ QUIET = 1 << 51
 INVALID, INEXACT = 1, 16
 
 # The tables of docs/MACHINES.md: the choice of NaN, the sign of the default, the order in a fused sum, whether an
-# infinity times a zero takes the place of a quiet and of a signaling addend, and whether it is invalid with a quiet one.
+# infinity times a zero takes the place of a quiet and of a signaling addend, and whether it is invalid with a quiet
+# one.
 RULES = {
     "Arm": ("signaling", 0, "zxy", True, False, True),
     "ArmDefaultNan": ("default", 0, "xyz", True, True, True),
@@ -45,7 +47,9 @@ def number(x):
     field, digits = x >> 52 & 0x7FF, x & (1 << 52) - 1
     if field == 0x7FF:
         return "-inf" if x >> 63 else "inf"
-    return sign * (Fraction(digits, 2**1074) if field == 0 else Fraction(digits + (1 << 52)) * Fraction(2) ** (field - 1075))
+    if field == 0:
+        return sign * Fraction(digits, 2**1074)
+    return sign * (digits + (1 << 52)) * Fraction(2) ** (field - 1075)
 
 
 def default(machine):

@@ -160,8 +160,9 @@ int main(void) {
     }
     printf("daz: "), two("add", MASKED | DAZ, 0x80000001, 0x80000002);
     printf("daz: "), two("add", MASKED, 0x80000001, 0x80000002);
-    const X87 values[] = {x87(0x3fff, 1ull << 63),      x87(0x7fff, 0xc000000000000001), x87(0xffff, 0xc000000000000001),
-                          x87(0xffff, 0xc000000000000002), x87(0x7fff, 0x8000000000000003), x87(0xffff, 0x8000000000000004),
+    const X87 values[] = {x87(0x3fff, 0x8000000000000000), x87(0x7fff, 0xc000000000000001),
+                          x87(0xffff, 0xc000000000000001), x87(0xffff, 0xc000000000000002),
+                          x87(0x7fff, 0x8000000000000003), x87(0xffff, 0x8000000000000004),
                           x87(0x3fff, 0x4000000000000000), x87(0x7fff, 0x4000000000000001)};
     for (int i = 0; i < 8; i++)
         for (int j = 0; j < 8; j++) x87_two("add", values[i], values[j]);

@@ -80,7 +80,8 @@ delivered_number : (f : Format) (mode : Round) (negative : Bool) (amount parts :
 delivered_number f mode negative amount parts value status e h =
     is_of value (delivered_value f mode negative h.pick) false h.value_is (value_number f mode negative h.pick e)
 
-rest_number : (kind : NonfiniteBehavior) (negative : Bool) (m taken : ℕ) → is_nan (rest_of kind negative m taken) ≡ false
+rest_number : (kind : NonfiniteBehavior) (negative : Bool) (m taken : ℕ)
+    → is_nan (rest_of kind negative m taken) ≡ false
 rest_number kind negative m taken =
     number_if (ltb m taken) (signed_quanta kind (not negative) (taken - m)) (signed_quanta kind negative (m - taken))
     (quanta_number kind (not negative) (taken - m)) (quanta_number kind negative (m - taken))

@@ -1,5 +1,7 @@
 -- What each machine does where IEEE 754-2019 leaves a choice, as tables.
-use Rattle.std.specs.Prelude.{Bool, true, false}
+use Rattle.std.specs.Prelude.{Bool, true, false, Option, Some, None}
+use Rattle.apfloat_machines.specs.declared.flushing.Flush.{Flush}
+use Rattle.apfloat_machines.specs.declared.flushing.Flush.TheVariants.{X86 as FlushX86, Arm as FlushArm}
 use Rattle.apfloat_machines.specs.declared.machine.Machine.{Machine}
 use Rattle.apfloat_machines.specs.declared.machine.Machine.TheVariants.{X86, X87, Arm, ArmDefaultNan}
 use Rattle.apfloat_machines.specs.declared.machine.Machine.TheVariants.{ArmAlternate, RiscV, Power, S390x}
@@ -144,3 +146,27 @@ invalid_integer_is_inexact ArmAlternate = false
 invalid_integer_is_inexact RiscV = false
 invalid_integer_is_inexact Power = false
 invalid_integer_is_inexact S390x = true
+
+-- ---- tininess (7.5) and flushing
+
+-- whether a result is tiny by its exact magnitude, or as rounded with an unbounded exponent
+abbrev pub tiny_before_rounding : Machine → Bool
+tiny_before_rounding X86 = false
+tiny_before_rounding X87 = false
+tiny_before_rounding Arm = true
+tiny_before_rounding ArmDefaultNan = true
+tiny_before_rounding ArmAlternate = false
+tiny_before_rounding RiscV = false
+tiny_before_rounding Power = true
+tiny_before_rounding S390x = true
+
+-- the flags of results that are flushed to zero, if the machine can flush them
+abbrev pub flush_of : Machine → Option Flush
+flush_of X86 = Some FlushX86
+flush_of X87 = None
+flush_of Arm = Some FlushArm
+flush_of ArmDefaultNan = Some FlushArm
+flush_of ArmAlternate = Some FlushX86
+flush_of RiscV = None
+flush_of Power = None
+flush_of S390x = None

@@ -19,11 +19,11 @@ pub enum Flush {
     Arm,
 }
 
-/// The answer of an operation, where tiny results are flushed: a result that is tiny is the zero of its sign, even if it
-/// is exact; any other is unchanged.
+/// The answer of an operation, where tiny results are flushed: a result that is tiny is the zero of its sign, even if
+/// it is exact; any other is unchanged.
 ///
-/// The answer is one of a format with the flags of IEEE 754, `IeeeFlags<S>` or `IeeeFlags<TinyBefore<S>>`, whose rule of
-/// tininess is the machine's: an inexact one is tiny exactly if it raises UNDERFLOW.
+/// The answer is one of a format with the flags of IEEE 754, `IeeeFlags<S>` or `IeeeFlags<TinyBefore<S>>`, whose rule
+/// of tininess is the machine's: an inexact one is tiny exactly if it raises UNDERFLOW.
 #[inline]
 pub fn flushed<S: Flagged>(flush: Flush, answer: StatusAnd<IeeeFloat<S>>) -> StatusAnd<IeeeFloat<S>>
     ensures { Gives (IsFlushed (format_of S.Flagged) flush answer.value (bits_of answer.status))

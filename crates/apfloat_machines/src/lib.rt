@@ -1,5 +1,5 @@
-//! What processors do where IEEE 754 leaves a choice: which NaN is delivered, which integer an invalid conversion gives,
-//! which of two operands is the minimum, and how denormal numbers are flushed to zero.
+//! What processors do where IEEE 754 leaves a choice: which NaN is delivered, which integer an invalid conversion
+//! gives, which of two operands is the minimum, and how denormal numbers are flushed to zero.
 //!
 //! An interpreter of instructions computes with `IeeeFloat`, and passes operands and answer to `settled` or one of the
 //! functions beside it: it returns what the machine gives, with its flags. `docs/MACHINES.md` has what to call for each

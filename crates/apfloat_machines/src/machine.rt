@@ -8,6 +8,9 @@ ghost use Rattle.apfloat_machines.specs.Machines.{flags_quiet_addend, has_unsign
 ghost use Rattle.apfloat_machines.specs.Machines.{signed_of_nan, unsigned_of_nan};
 ghost use Rattle.apfloat_machines.specs.Machines.{has_one_invalid_integer};
 ghost use Rattle.apfloat_machines.specs.Machines.{invalid_integer_is_inexact};
+ghost use Rattle.apfloat_machines.specs.Machines.{flush_of, tiny_before_rounding};
+
+use crate::flushing::Flush;
 
 /// A machine: an instruction set, with the state of its controls where they change a NaN.
 #[derive(Clone, Copy, PartialEq, Eq, Debug)]
@@ -204,6 +207,30 @@ impl Machine {
         match self {
             Machine::S390x => true,
             _ => false,
+        }
+    }
+
+    /// Whether a result is tiny by its exact magnitude: then the format is `IeeeFlags<TinyBefore<S>>`. Otherwise it is
+    /// tiny as rounded with an unbounded exponent, and the format is `IeeeFlags<S>`.
+    #[inline]
+    pub fn tiny_before_rounding(self) -> bool
+        ensures { result ≡ tiny_before_rounding self }
+    {
+        match self {
+            Machine::Arm | Machine::ArmDefaultNan | Machine::Power | Machine::S390x => true,
+            _ => false,
+        }
+    }
+
+    /// The flags of results that are flushed to zero, for `flushed`; none if the machine cannot flush them.
+    #[inline]
+    pub fn flush(self) -> Option<Flush>
+        ensures { result ≡ flush_of self }
+    {
+        match self {
+            Machine::X86 | Machine::ArmAlternate => Some(Flush::X86),
+            Machine::Arm | Machine::ArmDefaultNan => Some(Flush::Arm),
+            _ => None,
         }
     }
 }

@@ -23,8 +23,8 @@ pub enum MinimumRule {
     SecondQuietly,
     /// The first operand that is a NaN, as it is.
     FirstNan,
-    /// minNum and maxNum (IEEE 754-2008 5.3.1): of a quiet NaN and a number, the number; with a signaling NaN, or of two
-    /// NaNs, the machine's NaN.
+    /// minNum and maxNum (IEEE 754-2008 5.3.1): of a quiet NaN and a number, the number; with a signaling NaN, or of
+    /// two NaNs, the machine's NaN.
     Number2008,
     /// minimumNumber and maximumNumber (IEEE 754-2019 9.6): of any NaN and a number, the number; of two NaNs, the
     /// machine's default NaN.

@@ -18,8 +18,8 @@ use apfloat_ieee::{Flagged, IeeeFloat};
 /// The answer of an operation on two operands, as the machine gives it: if it is a NaN, the machine's NaN, and
 /// otherwise unchanged. The flags are those of the answer.
 ///
-/// `x` and `y` are the operands in the machine's order. The operation is a sum, a difference, a product, a quotient or a
-/// remainder of a format with infinities and with bits.
+/// `x` and `y` are the operands in the machine's order. The operation is a sum, a difference, a product, a quotient or
+/// a remainder of a format with infinities and with bits.
 #[inline]
 pub fn settled<S: Flagged>(
     machine: Machine,
