@@ -34,6 +34,10 @@ pub const LIBRARY: &[&str] = &[
     "pair_decimals",
     "apfloat_comparisons",
     "pair_operations",
+    "apfloat_odd",
+    "apfloat_augmented",
+    "apfloat_machines",
+    "hex_digits",
 ];
 
 /// The crates that the library for C has above those.

@@ -54,6 +54,24 @@ impl Returned for apfloat_base::Status {
     }
 }
 
+impl<T: Given> Given for StatusAnd<T> {
+    type Library = apfloat_base::StatusAnd<T::Library>;
+
+    #[inline]
+    fn given(self) -> Self::Library {
+        self.status.given().and(self.value.given())
+    }
+}
+
+impl<T: Returned> Returned for Option<T> {
+    type Answer = Option<T::Answer>;
+
+    #[inline]
+    fn returned(self) -> Self::Answer {
+        self.map(T::returned)
+    }
+}
+
 impl<T: Returned> Returned for apfloat_base::StatusAnd<T> {
     type Answer = StatusAnd<T::Answer>;
 
@@ -86,7 +104,7 @@ macro_rules! same_types {
     )*};
 }
 
-same_types! { bool, i32, u32, i128, u128, usize, crate::Round, Option<core::cmp::Ordering>, core::cmp::Ordering }
+same_types! { bool, i32, u32, i128, u128, usize, crate::Round, core::cmp::Ordering }
 
 /// Functions of the module `library`, the one of that name in the scope: each with its formats, the target first if
 /// there is one, and after `where` what is asserted of the arguments.

@@ -351,7 +351,7 @@ impl<S: Semantics> IeeeFloat<S> {
     }
 
     #[inline]
-    fn plain(self) -> apfloat_ieee::IeeeFloat<PlainS<S>> {
+    pub(crate) fn plain(self) -> apfloat_ieee::IeeeFloat<PlainS<S>> {
         apfloat_ieee::IeeeFloat::packed(self.value)
     }
 

@@ -37,8 +37,12 @@ pub mod ieee;
 pub mod ppc;
 
 // Beyond the crate `rustc_apfloat`, a module for each crate of the library.
+pub mod augmented;
 pub mod comparisons;
 pub mod format_of;
+pub mod hex_digits;
+pub mod machines;
+pub mod odd;
 
 pub use erased::apfloat_decimals::{Decimal, DecimalError};
 pub use erased::apfloat_model::{Category, ExpInt, IEK_INF, IEK_NAN, IEK_ZERO, ParseError, Round};

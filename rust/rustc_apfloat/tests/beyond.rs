@@ -1,10 +1,11 @@
-//! The modules beyond the interface of the crate `rustc_apfloat`: the stored rows of results in another format, and
-//! comparisons, extrema, logarithms and integers against the arithmetic of `f64`, into which codes of eight bits are
-//! decoded exactly.
+//! The modules beyond the interface of the crate `rustc_apfloat`: rows of results in another format, of augmented sums
+//! and of rounding to odd, which exact fractions gave, and comparisons, extrema, logarithms and integers against the
+//! arithmetic of `f64`, into which codes of eight bits are decoded exactly.
 
+use rustc_apfloat::augmented;
 use rustc_apfloat::comparisons::{self, Class, Extremum, OnNan, Predicate};
 use rustc_apfloat::ieee::*;
-use rustc_apfloat::{Float, IEK_INF, IEK_NAN, IEK_ZERO, Round, Status, StatusAnd, format_of};
+use rustc_apfloat::{Float, IEK_INF, IEK_NAN, IEK_ZERO, Round, Status, StatusAnd, format_of, odd};
 use std::cmp::Ordering;
 
 const MODES: [Round; 5] = [
@@ -50,11 +51,9 @@ fn check_rows<S: Semantics, T: Semantics>(table: &str) -> usize {
 
 #[test]
 fn results_in_another_format() {
-    let file = concat!(env!("CARGO_MANIFEST_DIR"), "/../../crates/layer_tests/src/format_of_rows.rt");
-    let text: String = std::fs::read_to_string(file).unwrap().split_whitespace().collect();
     let mut count = 0;
-    for table in text.split("static").skip(1) {
-        count += match table.split_once(':').unwrap().0 {
+    for (name, table) in &tables("layer_tests/src/format_of_rows.rt") {
+        count += match name.as_str() {
             "DOUBLE_TO_HALF" => check_rows::<DoubleS, HalfS>(table),
             "DOUBLE_TO_BFLOAT" => check_rows::<DoubleS, BFloatS>(table),
             "DOUBLE_TO_SINGLE" => check_rows::<DoubleS, SingleS>(table),
@@ -68,6 +67,91 @@ fn results_in_another_format() {
         };
     }
     assert_eq!(count, 324);
+}
+
+/// The words of each row of a table.
+fn rows_of<'a>(table: &'a str, separator: &'a str) -> impl Iterator<Item = Vec<&'a str>> {
+    let words = |row: &'a str| row.split([',', '(', ')', '[', ']', ';']).filter(|word| !word.is_empty()).collect();
+    table.split_once("=[").unwrap().1.split(separator).map(words).filter(|row: &Vec<&str>| !row.is_empty())
+}
+
+/// The tables of a file of a crate's tests, by their names.
+fn tables(path: &str) -> Vec<(String, String)> {
+    let file = format!("{}/../../crates/{path}", env!("CARGO_MANIFEST_DIR"));
+    let text: String = std::fs::read_to_string(file).unwrap().split_whitespace().collect();
+    let tables = text.split("static").skip(1).map(|table| table.split_once(':').unwrap());
+    tables.map(|(name, rows)| (name.to_owned(), rows.to_owned())).collect()
+}
+
+/// Rows of augmented sums: operation, operands, head, tail, whether the head is past the largest value.
+fn check_augmented<S: Semantics>(rows: &str) -> usize {
+    let past = Status::OVERFLOW | Status::INEXACT;
+    rows_of(rows, "),(")
+        .map(|words| {
+            let [operation, x, y, head, tail, flagging, ..] = words.as_slice() else { panic!("{words:?}") };
+            let [x, y] = [x, y].map(|word| IeeeFloat::<S>::from_bits(number(word)));
+            let answer = match *operation {
+                "Add" => augmented::augmented_add(x, y),
+                "Sub" => augmented::augmented_subtract(x, y),
+                _ => panic!("{words:?}"),
+            };
+            let status = if *flagging == "Past" { past } else { Status::OK };
+            let given = (answer.value.head.to_bits(), answer.value.tail.to_bits(), answer.status);
+            assert_eq!(given, (number(head), number(tail), status), "{words:?}");
+        })
+        .count()
+}
+
+#[test]
+fn augmented_sums() {
+    let tables = tables("apfloat_augmented/src/tests/rows.rt");
+    let count = tables.iter().map(|(name, rows)| match name.as_str() {
+        "HALF" => check_augmented::<HalfS>(rows),
+        "E5M2" => check_augmented::<Float8E5M2S>(rows),
+        "E4M3FN" => check_augmented::<Float8E4M3FNS>(rows),
+        "E4M3FNUZ" => check_augmented::<Float8E4M3FNUZS>(rows),
+        "SINGLE" => check_augmented::<SingleS>(rows),
+        name => panic!("no table {name} is known here"),
+    });
+    assert_eq!(count.sum::<usize>(), 224);
+}
+
+/// Rows of results rounded to odd: operation, operands, the bits of the result and of it rounded again in each mode,
+/// and the flags of each.
+fn check_odd<S: Semantics, T: Semantics>(rows: &str) -> usize {
+    rows_of(rows, "Operation::")
+        .map(|words| {
+            let [x, y] = [words[1], words[2]].map(|word| IeeeFloat::<S>::from_bits(number(word)));
+            let truncated = match words[0] {
+                "Sum" => x.add_r(y, Round::TowardZero),
+                "Product" => x.mul_r(y, Round::TowardZero),
+                "Quotient" => x.div_r(y, Round::TowardZero),
+                _ => panic!("{words:?}"),
+            };
+            let first = odd::to_odd(truncated, truncated.value.is_negative());
+            let given = (first.value.to_bits(), first.status.bits().into());
+            assert_eq!(given, (number(words[3]), number(words[9])), "{words:?}");
+            for (i, mode) in MODES.into_iter().enumerate() {
+                let again: StatusAnd<IeeeFloat<T>> = odd::round_odd_to(first, mode);
+                let given = (again.value.to_bits(), again.status.bits().into());
+                assert_eq!(given, (number(words[4 + i]), number(words[10 + i])), "{mode:?} {words:?}");
+            }
+        })
+        .count()
+}
+
+#[test]
+fn rounding_to_odd() {
+    type Before<S> = IeeeFlags<TinyBefore<S>>;
+    let tables = tables("apfloat_odd/src/rows.rt");
+    let count = tables.iter().map(|(name, rows)| match name.as_str() {
+        "HALF_TO_E5M2" => check_odd::<IeeeFlags<HalfS>, IeeeFlags<Float8E5M2S>>(rows),
+        "HALF_TO_E4M3FN" => check_odd::<HalfS, Float8E4M3FNS>(rows),
+        "SINGLE_TO_HALF" => check_odd::<Before<SingleS>, Before<HalfS>>(rows),
+        "SINGLE_TO_E4M3FNUZ" => check_odd::<SingleS, Float8E4M3FNUZS>(rows),
+        name => panic!("no table {name} is known here"),
+    });
+    assert_eq!(count.sum::<usize>(), 72);
 }
 
 type Small = Float8E5M2;

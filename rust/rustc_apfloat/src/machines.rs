@@ -1,0 +1,108 @@
+//! What processors do where IEEE 754 leaves a choice: which NaN is delivered, which integer an invalid conversion
+//! gives, which of two operands is the minimum, and how denormal numbers are flushed. `docs/MACHINES.md` of the
+//! repository has what to call for each instruction; the crate `rustc_apfloat` has none of this.
+//!
+//! An interpreter computes with [`IeeeFloat`], and passes operands and answer to `settled` or one of the functions
+//! beside it, which give what the machine gives.
+//!
+//! ```
+//! use rustc_apfloat::ieee::Single;
+//! use rustc_apfloat::machines::{self, Machine};
+//! use rustc_apfloat::{Float, Status};
+//!
+//! // The NaN of an invalid operation is positive on RISC-V, and negative on x86.
+//! let zero = Single::ZERO;
+//! let answer = zero / zero;
+//! assert_eq!(machines::settled(Machine::RiscV, zero, zero, answer).value.to_bits(), 0x7fc0_0000);
+//! assert_eq!(machines::settled(Machine::X86, zero, zero, answer).value.to_bits(), 0xffc0_0000);
+//! assert_eq!(answer.status, Status::INVALID_OP);
+//! ```
+
+use crate::StatusAnd;
+use crate::erased::apfloat_machines as library;
+use crate::ieee::{IeeeFloat, Semantics};
+
+pub use library::{Flush, FusedOrder, Machine, MinimumRule, NanChoice, WholeOfNan};
+
+same_types! { Flush, Machine, MinimumRule }
+
+library_calls! {
+    /// The answer of an operation on two operands, in the machine's order, as the machine gives it: if it is a NaN, the
+    /// machine's NaN, and otherwise unchanged. The operation is a sum, a difference, a product, a quotient or a
+    /// remainder of a format with infinities.
+    ///
+    /// # Panics
+    ///
+    /// In a format without bits.
+    fn settled<S>(machine: Machine, x: IeeeFloat<S>, y: IeeeFloat<S>, answer: StatusAnd<IeeeFloat<S>>)
+        -> StatusAnd<IeeeFloat<S>> where S::BITS > S::PRECISION => "a format without bits";
+    /// The answer of a square root, or of rounding to an integral value, as the machine gives it, like `settled`.
+    ///
+    /// # Panics
+    ///
+    /// In a format without bits.
+    fn settled_unary<S>(machine: Machine, x: IeeeFloat<S>, answer: StatusAnd<IeeeFloat<S>>)
+        -> StatusAnd<IeeeFloat<S>> where S::BITS > S::PRECISION => "a format without bits";
+    /// The answer of the fused sum `x * y + z`, as the machine gives it: if it is a NaN, the machine's NaN with its
+    /// flags. None if the machine has no fused sums.
+    ///
+    /// # Panics
+    ///
+    /// In a format without bits.
+    fn settled_fused<S>(
+        machine: Machine, x: IeeeFloat<S>, y: IeeeFloat<S>, z: IeeeFloat<S>, answer: StatusAnd<IeeeFloat<S>>
+    ) -> Option<StatusAnd<IeeeFloat<S>>> where S::BITS > S::PRECISION => "a format without bits";
+    /// The answer of the conversion of `x` to another format, as the machine gives it.
+    fn settled_conversion<S, T>(machine: Machine, x: IeeeFloat<S>, answer: StatusAnd<IeeeFloat<T>>)
+        -> StatusAnd<IeeeFloat<T>>;
+    /// The answer of the conversion of `x` to a signed integer of `width` binary digits, as the machine gives it.
+    ///
+    /// # Panics
+    ///
+    /// Unless the width is from 2 to 128.
+    fn settled_signed<S>(machine: Machine, x: IeeeFloat<S>, width: usize, answer: StatusAnd<i128>) -> StatusAnd<i128>
+        where (2..=128).contains(&width) => "no signed integer has this width";
+    /// The answer of the conversion of `x` to an unsigned integer of `width` binary digits, as the machine gives it.
+    /// None if the machine has no such conversions.
+    ///
+    /// # Panics
+    ///
+    /// Unless the width is from 1 to 128.
+    fn settled_unsigned<S>(machine: Machine, x: IeeeFloat<S>, width: usize, answer: StatusAnd<u128>)
+        -> Option<StatusAnd<u128>> where (1..=128).contains(&width) => "no integer has this width";
+
+    /// The NaN that an operation on two operands delivers.
+    ///
+    /// # Panics
+    ///
+    /// In a format without bits.
+    fn machine_nan<S>(machine: Machine, x: IeeeFloat<S>, y: IeeeFloat<S>) -> IeeeFloat<S>
+        where S::BITS > S::PRECISION => "a format without bits";
+    /// The quiet NaN without a payload that an invalid operation delivers, with the machine's sign.
+    fn default_nan<S>(machine: Machine) -> IeeeFloat<S>;
+    /// The value negated, except that a NaN keeps its sign.
+    fn negated_number<S>(x: IeeeFloat<S>) -> IeeeFloat<S>;
+
+    /// The lesser of two operands by a rule, with its flags.
+    ///
+    /// # Panics
+    ///
+    /// In a format without bits.
+    fn least<S>(rule: MinimumRule, machine: Machine, x: IeeeFloat<S>, y: IeeeFloat<S>) -> StatusAnd<IeeeFloat<S>>
+        where S::BITS > S::PRECISION => "a format without bits";
+    /// The greater of two operands by a rule, with its flags.
+    ///
+    /// # Panics
+    ///
+    /// In a format without bits.
+    fn greatest<S>(rule: MinimumRule, machine: Machine, x: IeeeFloat<S>, y: IeeeFloat<S>) -> StatusAnd<IeeeFloat<S>>
+        where S::BITS > S::PRECISION => "a format without bits";
+
+    /// The answer of an operation, where tiny results are flushed to the zero of their sign; the answer is one of a
+    /// format with the flags of IEEE 754, whose rule of tininess is the machine's.
+    fn flushed<S>(flush: Flush, answer: StatusAnd<IeeeFloat<S>>) -> StatusAnd<IeeeFloat<S>>;
+    /// An operand, where denormal ones are flushed: the zero of its sign if it is denormal.
+    fn without_denormal<S>(x: IeeeFloat<S>) -> IeeeFloat<S>;
+    /// Whether an operand is denormal, and none is a NaN.
+    fn has_denormal<S>(x: IeeeFloat<S>, y: IeeeFloat<S>) -> bool;
+}
