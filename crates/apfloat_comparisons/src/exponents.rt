@@ -14,9 +14,10 @@ use apfloat_ieee::{Flagged, IeeeFloat};
 
 /// logB (5.3.3) as a value of the format: the exponent of the highest binary digit, for denormal values too.
 ///
-/// It is rounded once, with INEXACT if the format lacks that integer, as formats of few digits do, and OVERFLOW if it is
-/// past the largest value; the exponent 0 is +0. Of an infinity the result is positive infinity, and of a zero negative infinity, or the NaN in its place, with
-/// DIV_BY_ZERO. A NaN is quieted; INVALID_OP is raised exactly if it was signaling.
+/// It is rounded once, with INEXACT if the format lacks that integer, as formats of few digits do, and OVERFLOW if it
+/// is past the largest value; the exponent 0 is +0. Of an infinity the result is positive infinity, and of a zero
+/// negative infinity, or the NaN in its place, with DIV_BY_ZERO. A NaN is quieted; INVALID_OP is raised exactly if it
+/// was signaling.
 pub fn log_b<S: Flagged>(x: IeeeFloat<S>, mode: Round) -> StatusAnd<IeeeFloat<S>>
     ensures { Gives (IsLogB (format_of S.Flagged) mode x) result }
 {

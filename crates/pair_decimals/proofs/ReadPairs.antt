@@ -104,7 +104,8 @@ zero_joined b x joined s j =
 -- ---- texts
 
 value_has_decimal : (value : Datum) (x : Pair) (answer : Option Decimal)
-    → (is_finite value ≡ true → IsMember wide value) → is_finite x.high ≡ true → IsSplit value x → GivesPairShortest x answer → IsSome answer
+    → (is_finite value ≡ true → IsMember wide value) → is_finite x.high ≡ true → IsSplit value x
+    → GivesPairShortest x answer → IsSome answer
 value_has_decimal (finite b zero) x answer m f s g =
     joined_has_decimal b 0 x answer s g (zero_joined b x g.joined s g.is_joined)
 value_has_decimal (finite b (suc n)) x answer m f s g =

@@ -116,8 +116,8 @@ impl<M: Operations> Check<M> {
         self.tally
     }
 
-    /// Checks the lines of an input to its end. Differences and malformed lines are written to `out`, and progress, if it
-    /// is shown, to `err`. The buffer for a line, as long as the longest one, is allocated from `alloc`.
+    /// Checks the lines of an input to its end. Differences and malformed lines are written to `out`, and progress, if
+    /// it is shown, to `err`. The buffer for a line, as long as the longest one, is allocated from `alloc`.
     pub fn take<R: BufRead, A: Allocator, C: Clock, W: Write, V: Write>(
         &mut self,
         input: &mut R,

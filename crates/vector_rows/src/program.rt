@@ -102,8 +102,8 @@ static OPTIONS_OF_FPGEN: &[&str] = &[
     "-tininessbefore",
 ];
 
-/// Runs the program with the arguments from the system, without its own name. If `err` is a terminal, it is told how far
-/// a long check has come. Returns the exit status.
+/// Runs the program with the arguments from the system, without its own name. If `err` is a terminal, it is told how
+/// far a long check has come. Returns the exit status.
 pub fn run<M: Operations, R: Files + Clock + Input + AllocGlobal, W: Write, V: Write>(
     operations: M,
     rt: &R,
@@ -118,7 +118,10 @@ pub fn run<M: Operations, R: Files + Clock + Input + AllocGlobal, W: Write, V: W
     };
     match job_of(words.as_slice()) {
         Ok(Job::Check(task, None)) => {
-            let task = Task { shows_progress: is_terminal, ..task };
+            let task = Task {
+                shows_progress: is_terminal,
+                ..task
+            };
             check_reader(
                 operations,
                 rt,
@@ -130,7 +133,10 @@ pub fn run<M: Operations, R: Files + Clock + Input + AllocGlobal, W: Write, V: W
             )
         }
         Ok(Job::Check(task, Some(name))) => {
-            let task = Task { shows_progress: is_terminal, ..task };
+            let task = Task {
+                shows_progress: is_terminal,
+                ..task
+            };
             check_file(operations, rt, name, task, out, err)
         }
         Ok(Job::About(about)) => answer(about, out, err),
