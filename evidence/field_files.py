@@ -32,6 +32,15 @@ OPERATIONS = {
     "sqrt": ("sqrt_r", 1),
     "roundToInt": ("round_to_integral", 1),
 }
+# Comparisons, whose result is 1 or 0.
+COMPARISONS = {
+    "eq": "compare_quiet_equal",
+    "le": "compare_signaling_less_equal",
+    "lt": "compare_signaling_less",
+    "eq_signaling": "compare_signaling_equal",
+    "le_quiet": "compare_quiet_less_equal",
+    "lt_quiet": "compare_quiet_less",
+}
 MODES = {
     "-rnear_even": "even",
     "-rmax": "up",
@@ -85,6 +94,8 @@ def testfloat(function, choices, options):
     if not to:
         kind, _, operation = function.partition("_")
         name, width, _ = FLOATS[kind]
+        if operation in COMPARISONS:
+            return comparison(COMPARISONS[operation], choices, kind, suffix)
         call, count = OPERATIONS[operation]
         operands = [hexadecimal(value(choices, kind), width) for _ in range(count)]
         result, flags = answer(call, name + suffix, mode, " ".join(operands).lower())
@@ -104,6 +115,8 @@ def testfloat(function, choices, options):
         return f"{hexadecimal(bits, width)} {hexadecimal(int(result, 16), target_width)} {flags:02X}"
     name, width, _ = FLOATS[source]
     operand = hexadecimal(value(choices, source), width)
+    if target.endswith("_r_minMag"):
+        target, mode = target.removesuffix("_r_minMag"), "zero"
     if target in INTEGERS:
         target_width = INTEGERS[target]
         call = "to_i128_r" if target.startswith("i") else "to_u128_r"
@@ -115,6 +128,16 @@ def testfloat(function, choices, options):
     call = "convert_r"
     result, flags = answer(call, f"{name}{suffix}>{target_name}{suffix}", mode, operand.lower())
     return f"{operand} {hexadecimal(int(result, 16), target_width)} {flags:02X}"
+
+
+def comparison(call, choices, kind, suffix):
+    """A line of a comparison; a third of the operands are equal or differ in their signs."""
+    name, width, _ = FLOATS[kind]
+    x, y = value(choices, kind), value(choices, kind)
+    y = choices.choice([y, y, y, y, x, x ^ 1 << width - 1])
+    operands = [hexadecimal(bits, width) for bits in (x, y)]
+    given = calls.answered(call, name + suffix, "-", " ".join(operands).lower())
+    return " ".join([*operands, "1" if given.value == "true" else "0", f"{numbers(given.flags):02X}"])
 
 
 FPGEN_FORMATS = {"b32": "f32", "b64": "f64", "b128": "f128"}

@@ -18,7 +18,7 @@ import re
 import sys
 from pathlib import Path
 
-from exact import calls, commands
+from exact import calls, commands, format_of, operations
 from exact.formats import FORMATS
 from questions.subjects import drawn
 
@@ -57,6 +57,9 @@ _CALL_SUBJECTS = {
     "BITS PRECISION MIN_EXP MAX_EXP MULTIPLIES": "NaNs and constants",
     "min max minimum maximum eq partial_cmp bitwise_eq cmp_abs_normal": "order",
     "debug": "how values are shown",
+    " ".join([*format_of.OPERATIONS, *operations.COMPARISONS, *operations.EXTREMA]): (
+        "the operations of IEEE 754-2019"
+    ),
 }
 _OTHER_CALLS = "classes and signs"
 

@@ -6,7 +6,16 @@ operands, the value, the flags, and what else the call returns. The first four a
 
 from typing import NamedTuple
 
-from exact import conversions, decimals, remainders, status, words
+from exact import (
+    conversions,
+    data,
+    decimals,
+    format_of,
+    operations,
+    remainders,
+    status,
+    words,
+)
 from exact.data import Finite
 from exact.pairs import PAIRS, joined, split
 from exact.rounding import Mode
@@ -126,6 +135,10 @@ def answered_in(call, kind_word, mode, operands):
         return answered_conversion(*kind_word.split(">"), mode, operands)
     if call == "from":
         return answered_from(*kind_word.split(">"), operands)
+    if call in format_of.OPERATIONS:
+        return answered_in_another(call, *kind_word.split(">"), mode, operands)
+    if call in operations.ON_FLAGS:
+        return answered_on_flags(call, operands)
     kind = _KINDS[kind_word]
     if call == "from_str_r":
         return answered_text(kind, operands, mode)
@@ -142,20 +155,20 @@ def answered_in(call, kind_word, mode, operands):
         return Answer(words.word_of(kind, _CONSTANTS[call](kind)))
     if call in _ON_WORDS:
         return _ON_WORDS[call](kind, mode, *operands.split(" "))
-    data = [words.value_of(kind, word) for word in operands.split(" ")]
+    values = [words.value_of(kind, word) for word in operands.split(" ")]
     if call in _TEXTS:
-        return Answer(_TEXTS[call](kind, *data))
+        return Answer(_TEXTS[call](kind, *values))
     if call in _TESTS:
-        return Answer(yes_or_no(_TESTS[call](kind, *data)))
+        return Answer(yes_or_no(_TESTS[call](kind, *values)))
     if call in _VALUES:
-        return Answer(words.word_of(kind, _VALUES[call](kind, *data)))
+        return Answer(words.word_of(kind, _VALUES[call](kind, *values)))
     if call in _RETURNING_MORE:
-        return _RETURNING_MORE[call](kind, mode, *data)
+        return _RETURNING_MORE[call](kind, mode, *values)
     if call in _OPERATORS:
-        return rounded(kind, _OPERATORS[call], mode, data)
+        return rounded(kind, _OPERATORS[call], mode, values)
     if call.endswith("="):
-        return Answer(rounded(kind, _OPERATORS[call[:-1]], mode, data).value)
-    return rounded(kind, call if call in _ROUNDED else call + "_r", mode, data)
+        return Answer(rounded(kind, _OPERATORS[call[:-1]], mode, values).value)
+    return rounded(kind, call if call in _ROUNDED else call + "_r", mode, values)
 
 
 def rounded(kind, call, mode, data):
@@ -189,6 +202,23 @@ def answered_from(source_word, target_word, operand):
     source, target = _KINDS[source_word], _KINDS[target_word]
     change = joined if source is PAIRS else split
     return Answer(words.word_of(target, change(words.value_of(source, operand))))
+
+
+def answered_in_another(call, source_word, target_word, mode, operands):
+    """An operation whose result is of another format."""
+    source, target = _KINDS[source_word], _KINDS[target_word]
+    drawn = [words.value_of(source, word) for word in operands.split(" ")]
+    operation = format_of.OPERATIONS[call]
+    return valued(target, format_of.computed(source.format, target.format, operation, mode, drawn))
+
+
+def answered_on_flags(call, operands):
+    """An operation on flags."""
+    flags = [operations.bits_of_flags(word) for word in operands.split(" ")]
+    answer = operations.ON_FLAGS[call](*flags)
+    if isinstance(answer, bool):
+        return Answer(yes_or_no(answer))
+    return Answer("-", status.names(answer))
 
 
 def answered_text(kind, text, mode):
@@ -278,8 +308,120 @@ def written(x, decimal_of):
     return Answer(("-" if x.negative else "") + decimals.spelled(*decimal))
 
 
+def answered_comparison(name):
+    """A comparison predicate."""
+
+    def answer(kind, _mode, *operands):
+        x, y = (words.value_of(kind, word) for word in operands)
+        holds, flags = operations.compared(kind.format, name, x, y)
+        return Answer(yes_or_no(holds), status.names(flags))
+
+    return answer
+
+
+def answered_extremum(name):
+    """A minimum or a maximum."""
+
+    def answer(kind, _mode, *operands):
+        x, y = (words.value_of(kind, word) for word in operands)
+        return valued(kind, operations.extremum(kind.format, name, x, y))
+
+    return answer
+
+
+def answered_order(of_total_cmp, takes_magnitudes=False):
+    """A call in the total order."""
+
+    def answer(kind, _mode, *operands):
+        x, y = (words.value_of(kind, word) for word in operands)
+        if takes_magnitudes:
+            x, y = kind.absolute(x), kind.absolute(y)
+        return Answer(of_total_cmp(operations.total_cmp(kind.format, x, y)))
+
+    return answer
+
+
+def answered_to_integer(name):
+    """An integer with its flags."""
+
+    def answer(kind, mode, word, width):
+        x = words.value_of(kind, word)
+        integer, flags = operations.to_integer(kind.format, name, x, int(width), mode)
+        return Answer(str(integer), status.names(flags))
+
+    return answer
+
+
+def answered_scale_b(kind, mode, word, power):
+    """A value times a power of two, with its flags."""
+    x = words.value_of(kind, word)
+    return valued(kind, operations.scale_b(kind.format, x, int(power), mode))
+
+
+def answered_log_b(kind, mode, word):
+    """The exponent of a value, as a value."""
+    return valued(kind, operations.log_b(kind.format, words.value_of(kind, word), mode))
+
+
+def answered_integer_log_b(kind, _mode, word):
+    """The exponent of a value, as an integer with its flags."""
+    exponent, flags = operations.integer_log_b(kind.format, words.value_of(kind, word))
+    return Answer(str(exponent), status.names(flags))
+
+
+def answered_integral(kind, mode, word):
+    """A value rounded to an integral value, without INEXACT."""
+    x = words.value_of(kind, word)
+    return valued(kind, operations.round_to_integral_in(kind.format, x, mode))
+
+
+def answered_digits(kind, mode, word, count):
+    """So many decimal digits of a number, or None of another value."""
+    x = words.value_of(kind, word)
+    if not data.is_nonzero_number(x):
+        return Answer("None")
+    digits, exponent, flags = operations.digits_of(kind.format, x, int(count), mode)
+    return Answer(digits, status.names(flags), (("exponent", exponent),))
+
+
+def answered_digit_count(kind, _mode, word):
+    """How many decimal digits a number has, or None of another value."""
+    x = words.value_of(kind, word)
+    if not data.is_nonzero_number(x):
+        return Answer("None")
+    return Answer(str(operations.digit_count(kind.format, x)))
+
+
 # Calls with operands that are not all values.
 _ON_WORDS = {
+    **{name: answered_comparison(name) for name in operations.COMPARISONS},
+    **{name: answered_extremum(name) for name in operations.EXTREMA},
+    **{
+        name: answered_to_integer(name)
+        for name in (
+            "convert_to_signed",
+            "convert_to_signed_exact",
+            "convert_to_unsigned",
+            "convert_to_unsigned_exact",
+        )
+    },
+    "total_order": answered_order(lambda order: yes_or_no(order <= 0)),
+    "total_order_mag": answered_order(lambda order: yes_or_no(order <= 0), True),
+    "total_cmp": answered_order(lambda order: _ORDER[order]),
+    "class_of": lambda kind, _mode, word: Answer(
+        operations.class_of(kind.format, words.value_of(kind, word))
+    ),
+    "radix": lambda kind, _mode, word: Answer("2"),
+    "is_canonical": lambda kind, _mode, word: Answer("true"),
+    "is_canonical_encoding": lambda kind, _mode, word: Answer(
+        yes_or_no(operations.is_canonical_encoding(kind.format, int(word, 16)))
+    ),
+    "log_b": answered_log_b,
+    "integer_log_b": answered_integer_log_b,
+    "scale_b": answered_scale_b,
+    "round_to_integral_in": answered_integral,
+    "write_digits": answered_digits,
+    "digit_count": answered_digit_count,
     "from_u128_r": answered_from_integer,
     "from_u128": answered_from_integer,
     "from_i128_r": answered_from_integer,

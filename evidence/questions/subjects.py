@@ -11,6 +11,7 @@ from questions import (
     hard_roots,
     hard_sums,
     mixed,
+    operations,
     products,
     roots,
 )
@@ -32,6 +33,7 @@ SUBJECTS = {
     "roots": each_drawn(roots.question),
     "flags": each_drawn(flags.question),
     "decimals": each_drawn(decimals.question),
+    "operations": each_drawn(operations.question),
     "hard_roots": hard_roots.questions,
     "hard_products": hard_products.questions,
     "hard_sums": hard_sums.questions,

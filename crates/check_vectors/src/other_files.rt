@@ -1,9 +1,10 @@
 //! Lines of other programs, with results that the model in `evidence` computed (`evidence/field_files.py`).
 
+use crate::program::check_lines;
 use std::io::{BufRead, Read, Write};
 use std::process::Abort;
 use std::rt::Clock;
-use vector_rows::{Fpgen, Lines, Task, TestFloat, check_lines};
+use vector_rows::{Fpgen, Lines, Task, TestFloat};
 
 /// Functions of TestFloat, an option, and three lines.
 static TESTFLOAT: &[(&str, &str, &str)] = &[
@@ -161,6 +162,41 @@ static TESTFLOAT: &[(&str, &str, &str)] = &[
         3FA10000 3D08 00\n\
         80764646 8000 03",
     ),
+    (
+        "f32_le",
+        "-rmax",
+        "E8572283 68572283 1 00\n\
+        0079E9EC C0667190 0 00\n\
+        80902000 80902000 1 00",
+    ),
+    (
+        "f64_lt_quiet",
+        "-rnear_even",
+        "FFE899C3AA1251EC 4023527D3FB9597A 1 00\n\
+        8FACA45433526CB2 8FACA45433526CB2 0 00\n\
+        000873311782BC3E 000873311782BC3E 0 00",
+    ),
+    (
+        "extF80_eq_signaling",
+        "-tininessbefore",
+        "7FFFC000000000000000 7FFFC000000000000000 0 10\n\
+        000187B71537010A49A3 C016D2B0787BAB9E7125 0 00\n\
+        80004880000000000000 80004880000000000000 1 00",
+    ),
+    (
+        "f64_to_i32_r_minMag",
+        "-exact",
+        "FFE4F06000000000 80000000 10\n\
+        3FFDA381F9C4D9DE 00000001 01\n\
+        FFF0000000000000 80000000 10",
+    ),
+    (
+        "f128_to_ui64_r_minMag",
+        "-rmax",
+        "4062A844D329C37290C843D5BEA6C297 FFFFFFFFFFFFFFFF 10\n\
+        8000B9956FADB475D33D3E8710C0BE3F 0000000000000000 01\n\
+        BFFD6667A7D63DEA34491C01CD06E964 0000000000000000 01",
+    ),
 ];
 
 /// Lines of FPgen. The last one states what is delivered to a trap handler.
@@ -230,6 +266,16 @@ fn agrees_with_lines_of_fpgen(rt: HostRuntime) {
     expect_agreement(&rt, Lines::Fpgen(Fpgen::new()), FPGEN.as_bytes(), (20, 1));
 }
 
+/// Lines of other operations are skipped if asked: a conversion to decimal, and a format that the library lacks.
+#[test]
+fn skips_what_is_unknown(rt: HostRuntime) {
+    let lines = Lines::Fpgen(Fpgen::new().skipping(true));
+    let input = "b32cfd =0 +1.000000P0 -> +1E0\n\
+        b32+ =0 +1.000000P0 +1.400000P1 -> +1.000000P2\n\
+        d64+ =0 +1E0 +1E0 -> +2E0";
+    expect_agreement(&rt, lines, input.as_bytes(), (1, 2));
+}
+
 /// Lines of FPgen. The first one is that of the messages.
 const SUMS: &str = "b32+ =0 +1.000000P0 +1.400000P1 -> +1.000000P2\n\
     b64- > +1.8000000000000P0 -1.8000000000000P0 -> +1.8000000000000P1\n\
@@ -243,6 +289,7 @@ fn counts_by_call_and_format(rt: HostRuntime) {
         lines: Lines::Fpgen(Fpgen::new()),
         is_summary: true,
         first: None,
+        skips_unknown: false,
     };
     let mut out = Vec::new(rt.alloc());
     let mut err = Vec::new(rt.alloc());

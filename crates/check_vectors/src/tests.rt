@@ -1,5 +1,7 @@
 //! Checks of short inputs, including failures of reading, writing and memory.
 
+use crate::program::{check_lines, run};
+use operation_rows::OperationRows;
 use std::alloc::{AllocError, Global};
 use std::io::{BufRead, BufReader, ErrorKind, Read, Write};
 use std::process::Abort;
@@ -7,7 +9,7 @@ use std::rt::Clock;
 use std::test::Fail;
 use std::time::Duration;
 use std::{fs, io};
-use vector_rows::{Check, Task, check_lines, run};
+use vector_rows::{Check, Task};
 
 /// Asserts what the program writes for an input, and with which exit status it ends.
 fn expect<R: Abort + Clock + AllocGlobal>(
@@ -506,7 +508,7 @@ fn tells_how_far_it_is(rt: HostRuntime) -> Result<(), Fail> {
     };
     let mut out = Vec::new(rt.alloc());
     let mut err = Vec::new(rt.alloc());
-    let mut check = Check::new(Task::rows(), rt.alloc());
+    let mut check = Check::new(OperationRows, Task::rows(), rt.alloc());
     let ended = check.take(
         &mut input.as_bytes(),
         rt.alloc(),
@@ -560,6 +562,13 @@ fn does_what_its_words_say(rt: HostRuntime) -> Result<(), Fail> {
         1 rows agree, 1 differ, 0 malformed; 0 lines skipped\n";
     expect_run(&rt, &["rows"], (1, whole, ""))?;
     expect_run(&rt, &["--", "rows"], (1, whole, ""))?;
+    let skipped = "0 rows agree, 0 differ, 0 malformed; 2 lines skipped\n";
+    for words in [
+        ["--skip-unknown", "--testfloat", "f16_cbrt", "-rmin", "rows"],
+        ["--skip-unknown", "--testfloat", "f16_add", "-rodd", "rows"],
+    ] {
+        expect_run(&rt, &words, (2, skipped, "check_vectors: rows: no rows\n"))?;
+    }
     Ok(())
 }
 

@@ -12,6 +12,8 @@ mod decimal_values;
 #[cfg(test)]
 mod decimals;
 #[cfg(test)]
+mod eight_bits;
+#[cfg(test)]
 mod format_of;
 #[cfg(test)]
 mod format_of_rows;

@@ -1,6 +1,7 @@
 //! The calls that rows can ask for, and their names.
 
 use crate::form::Form;
+use crate::operations::OperationCall;
 use crate::table::found;
 
 /// A call, grouped by the operands that it takes.
@@ -28,6 +29,8 @@ pub enum Call {
     OfFormat(FormatCall),
     /// A value of another type.
     Conversion(ConversionCall),
+    /// An operation of IEEE 754-2019 that `Float` lacks; pairs do not have it.
+    Operation(OperationCall),
 }
 
 /// A constant of a type.
@@ -302,7 +305,11 @@ static CALLS: &[(&str, Call)] = &[
 impl Call {
     /// The call of this name.
     pub fn named(name: &str) -> Option<Call> {
-        found(CALLS, name)
+        match (found(CALLS, name), OperationCall::named(name)) {
+            (Some(call), _) => Some(call),
+            (None, Some(operation)) => Some(Call::Operation(operation)),
+            (None, None) => None,
+        }
     }
 
     /// The form of its operands.
@@ -316,6 +323,7 @@ impl Call {
             Call::OfFormat(call) => call.form(),
             Call::OfText(_) => Form::Text,
             Call::OfDecimal(call) => call.form(),
+            Call::Operation(call) => call.form(),
         }
     }
 }

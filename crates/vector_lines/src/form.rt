@@ -19,20 +19,31 @@ pub enum Form {
     ValueAndWidth,
     /// A value and a number of digits.
     ValueAndCount,
+    /// A value and a number of digits that are written.
+    ValueAndDigits,
     /// An unsigned integer.
     Unsigned,
     /// A signed integer.
     Signed,
     /// The payload of a NaN.
     Payload,
+    /// Flags.
+    OneStatus,
+    /// Flags, twice.
+    TwoStatuses,
+    /// Flags, three times.
+    ThreeStatuses,
 }
 
 impl Form {
     /// How many operands at the start are values.
     pub fn value_count(self) -> usize {
         match self {
-            Form::OneValue | Form::ValueAndExponent | Form::ValueAndWidth | Form::ValueAndCount =>
-                1,
+            Form::OneValue
+            | Form::ValueAndExponent
+            | Form::ValueAndWidth
+            | Form::ValueAndCount
+            | Form::ValueAndDigits => 1,
             Form::TwoValues => 2,
             Form::ThreeValues => 3,
             _ => 0,
@@ -50,9 +61,13 @@ impl Form {
             Form::ValueAndExponent => "a value and an exponent",
             Form::ValueAndWidth => "a value and a width of at most 128 bits",
             Form::ValueAndCount => "a value and a count of 1 to 36 digits",
+            Form::ValueAndDigits => "a value and a count of 1 to 128 digits",
             Form::Unsigned => "an integer of 128 bits without a sign",
             Form::Signed => "an integer of 128 bits",
             Form::Payload => "hexadecimal digits or `None`",
+            Form::OneStatus => "OK, or names joined by bars, as OVERFLOW|INEXACT",
+            Form::TwoStatuses => "two of OK, or names joined by bars, as OVERFLOW|INEXACT",
+            Form::ThreeStatuses => "three of OK, or names joined by bars, as OVERFLOW|INEXACT",
         }
     }
 }

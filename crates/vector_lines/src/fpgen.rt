@@ -101,6 +101,8 @@ static ROUNDINGS: &[(&str, &str)] = &[
 pub struct Fpgen {
     /// Whether tininess is detected before rounding.
     tiny_before_rounding: bool,
+    /// Whether lines of other formats and operations are skipped.
+    skips_unknown: bool,
 }
 
 /// What a line says.
@@ -117,6 +119,15 @@ impl Fpgen {
     pub fn new() -> Fpgen {
         Fpgen {
             tiny_before_rounding: false,
+            skips_unknown: false,
+        }
+    }
+
+    /// The same lines, of which those of other formats and operations are skipped if asked.
+    pub fn skipping(self, skips_unknown: bool) -> Fpgen {
+        Fpgen {
+            skips_unknown,
+            ..self
         }
     }
 
@@ -125,19 +136,24 @@ impl Fpgen {
         match option {
             "-tininessbefore" => Some(Fpgen {
                 tiny_before_rounding: true,
+                ..self
             }),
-            "-tininessafter" => Some(Fpgen::new()),
+            "-tininessafter" => Some(Fpgen {
+                tiny_before_rounding: false,
+                ..self
+            }),
             _ => None,
         }
     }
 
-    /// What a line says; `None` if it states what is delivered to a trap handler.
+    /// What a line says; `None` if it states what is delivered to a trap handler, or is skipped.
     pub fn read(self, line: &str) -> Result<Option<FpgenTest>, RowError<'_>> {
         let Some((name, left, right)) = cut_line(line) else {
             return Err(RowError::Word("no line of FPgen", line, LINE));
         };
         let operation = match self.operation_named(name) {
             Ok(operation) => operation,
+            Err(_) if self.skips_unknown => return Ok(None),
             Err(error) => return Err(error),
         };
         let Some((rounding, words)) = left.split_once(' ') else {

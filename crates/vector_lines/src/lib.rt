@@ -12,6 +12,7 @@ mod columns;
 mod form;
 mod fpgen;
 mod operands;
+mod operations;
 mod quanta;
 mod row_error;
 mod row_format;
@@ -29,7 +30,11 @@ pub use call_fault::CallFault;
 pub use columns::{Columns, LineCall};
 pub use form::Form;
 pub use fpgen::{Fpgen, FpgenTest};
-pub use operands::{Operand, Operands};
+pub use operands::{Operand, Operands, two_values, value_of};
+pub use operations::{
+    FlagsCall, FormatOfCall, GeneralCall, OperationCall, OperationRequest, Operations, OrderCall,
+    ToIntegerCall,
+};
 pub use quanta::Quanta;
 pub use row_error::{RowError, bits_error};
 pub use row_format::{CallInFormat, OtherFormat, RowFormat};

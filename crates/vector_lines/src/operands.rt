@@ -1,8 +1,10 @@
 //! The operands of a call.
 
+use crate::answer::status_named;
 use crate::quanta::Quanta;
+use crate::widths::mask;
 use commands::{bits_of, number_of};
-use rustc_apfloat::ExpInt;
+use rustc_apfloat::{ExpInt, Float, Status};
 
 /// An operand, read without its format.
 #[derive(Clone, Copy)]
@@ -21,6 +23,8 @@ pub enum Operand {
     Signed(i128),
     /// The payload of a NaN, or none.
     Payload(Option<u128>),
+    /// Flags.
+    Status(Status),
 }
 
 /// The operands of a call.
@@ -79,6 +83,44 @@ impl Operands {
         }
     }
 
+    /// Flags, once.
+    pub fn one_status(text: &str) -> Option<Operands> {
+        match status_named(text) {
+            Some(status) => Some(Operands::one(Operand::Status(status))),
+            None => None,
+        }
+    }
+
+    /// Flags, twice, separated by a space.
+    pub fn two_statuses(text: &str) -> Option<Operands> {
+        let Some((first, second)) = text.split_once(' ') else {
+            return None;
+        };
+        match (status_named(first), status_named(second)) {
+            (Some(first), Some(second)) => Some(Operands {
+                first: Operand::Status(first),
+                second: Operand::Status(second),
+                third: Operand::Nothing,
+            }),
+            _ => None,
+        }
+    }
+
+    /// Flags, three times, separated by spaces.
+    pub fn three_statuses(text: &str) -> Option<Operands> {
+        let Some((first, others)) = text.split_once(' ') else {
+            return None;
+        };
+        match (status_named(first), Operands::two_statuses(others)) {
+            (Some(first), Some(others)) => Some(Operands {
+                first: Operand::Status(first),
+                second: others.first,
+                third: others.second,
+            }),
+            _ => None,
+        }
+    }
+
     /// A value and an integer, separated by a space.
     pub fn value_and_integer(text: &str) -> Option<Operands> {
         let Some((value, integer)) = text.split_once(' ') else {
@@ -130,5 +172,24 @@ impl Operand {
             None if word == "None" => Some(Operand::Payload(None)),
             None => None,
         }
+    }
+}
+
+/// The value of an operand: its bits, or a count of quanta in a format without bits.
+pub fn value_of<F: Float>(operand: Operand) -> Option<F> {
+    match operand {
+        Operand::Bits(bits) if bits <= mask(F::BITS) && F::PRECISION < F::BITS => {
+            Some(F::from_bits(bits))
+        }
+        Operand::Quanta(quanta) if F::PRECISION >= F::BITS => quanta.value(),
+        _ => None,
+    }
+}
+
+/// The values of the first two operands.
+pub fn two_values<F: Float>(operands: Operands) -> Option<(F, F)> {
+    match (value_of(operands.first), value_of(operands.second)) {
+        (Some(x), Some(y)) => Some((x, y)),
+        _ => None,
     }
 }

@@ -22,6 +22,8 @@ enum Kind {
     Unsigned(usize),
     /// A signed integer of this many bits.
     Signed(usize),
+    /// Whether a comparison holds.
+    Truth,
 }
 
 /// The kinds, by their words in the names of functions.
@@ -48,6 +50,12 @@ static OPERATIONS: &[(&str, (&str, usize))] = &[
     ("rem", ("ieee_rem", 2)),
     ("sqrt", ("sqrt_r", 1)),
     ("roundToInt", ("round_to_integral", 1)),
+    ("eq", ("compare_quiet_equal", 2)),
+    ("le", ("compare_signaling_less_equal", 2)),
+    ("lt", ("compare_signaling_less", 2)),
+    ("eq_signaling", ("compare_signaling_equal", 2)),
+    ("le_quiet", ("compare_quiet_less_equal", 2)),
+    ("lt_quiet", ("compare_quiet_less", 2)),
 ];
 
 /// The options of rounding, with their modes.
@@ -64,6 +72,8 @@ static ROUNDINGS: &[(&str, &str)] = &[
 pub struct TestFloat {
     call: &'static str,
     mode: &'static str,
+    // Whether the mode is part of the function.
+    has_own_mode: bool,
     operand: Kind,
     operand_count: usize,
     result: Kind,
@@ -77,7 +87,10 @@ impl TestFloat {
     /// rounding, and the inexact flag not compared for integral values and integers. All bits of a NaN are compared.
     pub fn named(name: &str) -> Option<TestFloat> {
         if let Some((source, target)) = name.split_once("_to_") {
-            return conversion(found(KINDS, source), found(KINDS, target));
+            return match target.strip_suffix("_r_minMag") {
+                Some(target) => truncation(found(KINDS, source), found(KINDS, target)),
+                None => conversion(found(KINDS, source), found(KINDS, target)),
+            };
         }
         match name.split_once('_') {
             Some((format, operation)) => {
@@ -91,7 +104,12 @@ impl TestFloat {
     fn of(call: &'static str, operand: Kind, operand_count: usize, given: Kind) -> TestFloat {
         TestFloat {
             call,
-            mode: if call == "ieee_rem" { "-" } else { "even" },
+            mode: if call == "ieee_rem" || is_comparison(call) {
+                "-"
+            } else {
+                "even"
+            },
+            has_own_mode: false,
             operand,
             operand_count,
             result: given,
@@ -110,15 +128,17 @@ impl TestFloat {
             "-exact" => changed.is_exact = true,
             "-notexact" => changed.is_exact = false,
             "--any-nan" => changed.any_nan = true,
+            "-precision80" => {}
             _ => return self.rounded(found(ROUNDINGS, option)),
         }
         Some(changed)
     }
 
-    /// The function in a mode, if there is one. A remainder has none.
+    /// The function in a mode, if there is one. Remainders and comparisons have none, and truncations their own.
     fn rounded(self, mode: Option<&'static str>) -> Option<TestFloat> {
         let mode = match (self.mode, mode) {
             (_, None) => return None,
+            (own, _) if self.has_own_mode => own,
             ("-", _) => "-",
             (_, Some(mode)) => mode,
         };
@@ -185,6 +205,7 @@ impl TestFloat {
         match self.result {
             Kind::Float(_, _, _) => self.call == "round_to_integral",
             Kind::Unsigned(_) | Kind::Signed(_) => true,
+            Kind::Truth => false,
         }
     }
 
@@ -201,6 +222,7 @@ impl TestFloat {
                     && is_nan(stated.result, width, infinity)
             }
             Kind::Unsigned(_) | Kind::Signed(_) => stated.flags & 16 != 0,
+            Kind::Truth => false,
         }
     }
 
@@ -294,7 +316,32 @@ fn conversion(source: Option<Kind>, target: Option<Kind>) -> Option<TestFloat> {
 /// The function that makes a call on operands of one kind, if the kind and the call exist.
 fn operation_on(kind: Option<Kind>, operation: Option<(&'static str, usize)>) -> Option<TestFloat> {
     match (kind, operation) {
+        (Some(kind), Some((call, count))) if is_comparison(call) => {
+            Some(TestFloat::of(call, kind, count, Kind::Truth))
+        }
         (Some(kind), Some((call, count))) => Some(TestFloat::of(call, kind, count, kind)),
+        _ => None,
+    }
+}
+
+/// Whether a call is a comparison predicate.
+fn is_comparison(call: &str) -> bool {
+    call.starts_with("compare_")
+}
+
+/// The function that truncates values of a format to integers of a kind, if both exist.
+fn truncation(source: Option<Kind>, target: Option<Kind>) -> Option<TestFloat> {
+    match (source, target) {
+        (Some(Kind::Float(_, _, _)), Some(Kind::Unsigned(_) | Kind::Signed(_))) => {
+            let Some(function) = conversion(source, target) else {
+                return None;
+            };
+            Some(TestFloat {
+                mode: "zero",
+                has_own_mode: true,
+                ..function
+            })
+        }
         _ => None,
     }
 }
@@ -315,6 +362,7 @@ fn call_between(source: Kind, target: Kind) -> Option<&'static str> {
 fn width_of(kind: Kind) -> usize {
     match kind {
         Kind::Float(_, width, _) | Kind::Unsigned(width) | Kind::Signed(width) => width,
+        Kind::Truth => 1,
     }
 }
 

@@ -9,7 +9,7 @@ use formats_at_run_time::mode_named;
 use rustc_apfloat::Round;
 use std::io;
 use std::io::Write;
-use vector_lines::{Call, CallFault, Operands, Quanta};
+use vector_lines::{Call, CallFault, Operands, Operations, Quanta};
 
 /// The modes, with the text that follows `given` in messages.
 static MODES: &[(&str, Round)] = &[
@@ -21,19 +21,23 @@ static MODES: &[(&str, Round)] = &[
 ];
 
 /// Whether a row agrees in each mode that it names.
-pub fn agrees(row: CallRow<'_>) -> Result<bool, CallFault> {
+pub fn agrees<M: Operations>(operations: M, row: CallRow<'_>) -> Result<bool, CallFault> {
     match Asked::of(row.call, row.format, row.mode, row.operands, row.value) {
-        Ok(asked) => asked.agrees(row.value, row.status, row.extra),
+        Ok(asked) => asked.agrees(operations, row.value, row.status, row.extra),
         Err(fault) => Err(fault),
     }
 }
 
 /// Writes what a row expects, and what the call returns in each mode of the row in which they differ.
-pub fn write_answers<W: Write>(row: CallRow<'_>, out: &mut W) -> io::Result<()> {
+pub fn write_answers<M: Operations, W: Write>(
+    operations: M,
+    row: CallRow<'_>,
+    out: &mut W,
+) -> io::Result<()> {
     let (value, status, extra) = (row.value, row.status, row.extra);
     writeln!(out, "  expected: {value}\t{status}\t{extra}")?;
     match Asked::of(row.call, row.format, row.mode, row.operands, value) {
-        Ok(asked) => asked.write_given(value, status, extra, out),
+        Ok(asked) => asked.write_given(operations, value, status, extra, out),
         Err(_) => Ok(()),
     }
 }
@@ -67,7 +71,7 @@ impl<'a> Asked<'a> {
         let Some(round) = mode_of(mode, takes_mode(name)) else {
             return Err(CallFault::Mode);
         };
-        let Some(formats) = Formats::named(format) else {
+        let Some(formats) = Formats::of(call, format) else {
             return Err(CallFault::Format);
         };
         match operands_of(call.form(), operands) {
@@ -84,29 +88,35 @@ impl<'a> Asked<'a> {
     }
 
     /// What the call returns; to nearest, ties to even, if all modes are asked for.
-    pub fn answer(self) -> Answered {
-        self.answer_in(self.round.unwrap_or(Round::NearestTiesToEven))
+    pub fn answer<M: Operations>(self, operations: M) -> Answered {
+        self.answer_in(operations, self.round.unwrap_or(Round::NearestTiesToEven))
     }
 
     /// What the call returns in a mode.
-    fn answer_in(self, round: Round) -> Answered {
+    fn answer_in<M: Operations>(self, operations: M, round: Round) -> Answered {
         let request = Request {
             call: self.call,
             round,
             operands: self.operands,
             stated: self.stated,
         };
-        answered(self.formats, request, self.text)
+        answered(operations, self.formats, request, self.text)
     }
 
     /// Whether the call returns what these columns state, in each mode.
-    fn agrees(self, value: &str, status: &str, extra: &str) -> Result<bool, CallFault> {
+    fn agrees<M: Operations>(
+        self,
+        operations: M,
+        value: &str,
+        status: &str,
+        extra: &str,
+    ) -> Result<bool, CallFault> {
         if let Some(round) = self.round {
-            return agree(self.answer_in(round), value, status, extra);
+            return agree(self.answer_in(operations, round), value, status, extra);
         }
         let mut all_agree = true;
         for (_, round) in MODES {
-            match agree(self.answer_in(*round), value, status, extra) {
+            match agree(self.answer_in(operations, *round), value, status, extra) {
                 Ok(agrees) => all_agree &= agrees,
                 Err(fault) => return Err(fault),
             }
@@ -115,18 +125,27 @@ impl<'a> Asked<'a> {
     }
 
     /// Writes what the call returns, in each mode in which that is not what these columns state.
-    fn write_given<W: Write>(
+    fn write_given<M: Operations, W: Write>(
         self,
+        operations: M,
         value: &str,
         status: &str,
         extra: &str,
         out: &mut W,
     ) -> io::Result<()> {
         if let Some(round) = self.round {
-            return write_other(self.answer_in(round), value, status, extra, "", out);
+            return write_other(
+                self.answer_in(operations, round),
+                value,
+                status,
+                extra,
+                "",
+                out,
+            );
         }
         for (label, round) in MODES {
-            write_other(self.answer_in(*round), value, status, extra, label, out)?;
+            let answer = self.answer_in(operations, *round);
+            write_other(answer, value, status, extra, label, out)?;
         }
         Ok(())
     }

@@ -11,7 +11,7 @@ use std::io::{BufRead, ErrorKind, Write};
 use std::rt::Clock;
 use std::time::Instant;
 use std::{fmt, io, str};
-use vector_lines::RowError;
+use vector_lines::{Operations, RowError};
 
 /// Seconds before the first progress message, and between two of them.
 const SECONDS: u64 = 3;
@@ -24,7 +24,9 @@ const BYTE_ORDER_MARK: &[u8] = b"\xef\xbb\xbf";
 
 /// A check in progress.
 #[derive(Drop)]
-pub struct Check {
+pub struct Check<M> {
+    // What checks the rows of operations.
+    operations: M,
     alloc: Global,
     tally: Tally,
     task: Task,
@@ -40,6 +42,8 @@ pub struct Task {
     pub is_summary: bool,
     /// The number of differing rows after which the check ends, if it is limited.
     pub first: Option<u64>,
+    /// Whether lines of other programs are skipped if the library has no such call.
+    pub skips_unknown: bool,
 }
 
 impl Task {
@@ -49,6 +53,7 @@ impl Task {
             lines: Lines::Rows,
             is_summary: false,
             first: None,
+            skips_unknown: false,
         }
     }
 }
@@ -62,6 +67,8 @@ pub enum Lines {
     TestFloat(TestFloat),
     /// Lines of FPgen.
     Fpgen(Fpgen),
+    /// Lines of TestFloat for a function that the library does not have; all of them are skipped.
+    Unknown,
 }
 
 impl Lines {
@@ -71,6 +78,8 @@ impl Lines {
             Lines::Rows => None,
             Lines::TestFloat(function) => Some(Lines::TestFloat(function.with(option)?)),
             Lines::Fpgen(fpgen) => Some(Lines::Fpgen(fpgen.with(option)?)),
+            Lines::Unknown if is_option(option) => Some(Lines::Unknown),
+            Lines::Unknown => None,
         }
     }
 
@@ -80,14 +89,21 @@ impl Lines {
             Lines::Rows => summary.count_row(text, agrees),
             Lines::TestFloat(function) => function.count(agrees, summary),
             Lines::Fpgen(fpgen) => fpgen.count(text, agrees, summary),
+            Lines::Unknown => Ok(()),
         }
     }
 }
 
-impl Check {
+/// Whether a word may be an option of TestFloat, or is the one that belongs to its lines.
+fn is_option(word: &str) -> bool {
+    word == "--any-nan" || (word.len() > 1 && word.starts_with('-') && !word.starts_with("--"))
+}
+
+impl<M: Operations> Check<M> {
     /// A check before the first line.
-    pub fn new(task: Task, alloc: Global) -> Check {
+    pub fn new(operations: M, task: Task, alloc: Global) -> Check<M> {
         Check {
+            operations,
             alloc,
             tally: Tally::default(),
             task,
@@ -157,6 +173,7 @@ impl Check {
             Lines::Rows => self.take_row(text, out),
             Lines::TestFloat(function) => self.take_testfloat(function, text, out),
             Lines::Fpgen(fpgen) => self.take_fpgen(fpgen, text, out),
+            Lines::Unknown => Ok(increment(&mut self.tally.skipped)),
         }
     }
 
@@ -167,10 +184,10 @@ impl Check {
         text: &str,
         out: &mut W,
     ) -> Result<(), Failure> {
-        match function.agrees(text) {
+        match function.agrees(self.operations, text) {
             Ok(agrees) => {
                 if self.takes_difference(text, agrees, out)? {
-                    function.write_given(text, out)?;
+                    function.write_given(self.operations, text, out)?;
                 }
                 Ok(())
             }
@@ -185,10 +202,10 @@ impl Check {
         text: &str,
         out: &mut W,
     ) -> Result<(), Failure> {
-        match fpgen.agrees(text) {
+        match fpgen.agrees(self.operations, text) {
             Ok(Some(agrees)) => {
                 if self.takes_difference(text, agrees, out)? {
-                    fpgen.write_given(text, out)?;
+                    fpgen.write_given(self.operations, text, out)?;
                 }
                 Ok(())
             }
@@ -217,10 +234,10 @@ impl Check {
         text: &str,
         out: &mut W,
     ) -> Result<(), Failure> {
-        match agrees(row) {
+        match agrees(self.operations, row) {
             Ok(agrees) => {
                 if self.takes_difference(text, agrees, out)? {
-                    write_answers(row, out)?;
+                    write_answers(self.operations, row, out)?;
                 }
                 Ok(())
             }

@@ -7,7 +7,7 @@ ghost use Rattle.apfloat_decimals.specs.ShortestSearch.{IsWithinQuad};
 ghost use Rattle.formats_at_run_time.specs.FormatKinds.{IfFormat};
 ghost use Rattle.rustc_apfloat.specs.Lawful.{format_with};
 
-use crate::of_type::{Answered, Request, value_of};
+use crate::of_type::{Answered, Request};
 use apfloat_decimals::{Decimal, exact, read_decimal, rounded, shortest};
 use formats_at_run_time::{FlaggedFormat, InFormat};
 use rustc_apfloat::Round;
@@ -15,6 +15,7 @@ use rustc_apfloat::ieee::{IeeeFloat, Semantics};
 use std::fmt::Write as _;
 use vector_lines::{
     CallFault, DecimalCall, ExtraField, Operand, Returned, RowAnswer, RowFormat, Text, ValueField,
+    value_of,
 };
 
 /// What a call of decimals returns in a format, if that is a built-in one with the flags of the built-in formats.

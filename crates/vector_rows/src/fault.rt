@@ -3,7 +3,7 @@
 use crate::call_row::CallRow;
 use crate::formats::Formats;
 use commands::bits_of;
-use vector_lines::{Call, CallFault, Form, Operand, RowError, bits_error};
+use vector_lines::{Call, CallFault, Form, Operand, OperationCall, RowError, bits_error};
 
 /// The form of a value, for messages.
 const VALUE: &str = "hexadecimal digits, or quanta as `+3q` in a format without bits";
@@ -72,7 +72,12 @@ fn modes(call: &str) -> &'static str {
 
 /// Whether the call of this name takes a rounding mode.
 pub fn takes_mode(call: &str) -> bool {
-    call.ends_with("_r") || matches!(call, "round_to_integral" | "read_decimal" | "rounded")
+    match OperationCall::named(call) {
+        Some(operation) => operation.takes_mode(),
+        None => {
+            call.ends_with("_r") || matches!(call, "round_to_integral" | "read_decimal" | "rounded")
+        }
+    }
 }
 
 /// The error for operands that do not have this form, at the first of them that is not a value.

@@ -1,7 +1,7 @@
 //! The calls of rows in their formats, including those that only some types have.
 
 use crate::decimals::in_decimals;
-use crate::of_type::{Answered, Request, of_type, two_values, value_of};
+use crate::of_type::{Answered, Request, of_type};
 use formats_at_run_time::InFormat;
 use rustc_apfloat::ieee::{Flagged, IeeeFloat, Semantics};
 use rustc_apfloat::ppc::{DoubleDouble, FallbackS};
@@ -9,8 +9,8 @@ use rustc_apfloat::{FUSED_LIMIT, Float, FloatConvert, Round, StatusAnd};
 use std::fmt::Debug;
 use std::marker::PhantomData;
 use vector_lines::{
-    Call, CallFault, CallInFormat, ConversionCall, ExtraField, FormatCall, Operands, Returned,
-    RowAnswer, RowFormat,
+    Call, CallFault, CallInFormat, ConversionCall, ExtraField, FormatCall, Operands, OperationCall,
+    OperationRequest, Operations, Returned, RowAnswer, RowFormat, two_values, value_of,
 };
 
 /// The formats of a row.
@@ -26,9 +26,25 @@ pub enum Formats {
     ToPairs,
     /// From one format to another.
     Between(RowFormat, RowFormat),
+    /// None, for operations on flags.
+    OfFlags,
 }
 
 impl Formats {
+    /// The formats of this word in a row of a call.
+    pub fn of(call: Call, word: &str) -> Option<Formats> {
+        match call {
+            Call::Operation(operation) if operation.is_of_flags() => {
+                if word == "-" {
+                    Some(Formats::OfFlags)
+                } else {
+                    None
+                }
+            }
+            _ => Formats::named(word),
+        }
+    }
+
     /// The formats of this word.
     pub fn named(word: &str) -> Option<Formats> {
         match word.split_once('>') {
@@ -48,7 +64,7 @@ impl Formats {
         match self {
             Formats::Pairs | Formats::FromPairs => Some(128),
             Formats::One(format) | Formats::Between(format, _) => format.width(),
-            Formats::ToPairs => None,
+            Formats::ToPairs | Formats::OfFlags => None,
         }
     }
 
@@ -62,13 +78,43 @@ impl Formats {
 }
 
 /// What the call of a row returns in its formats; `text` is its operand if that is a text.
-pub fn answered(formats: Formats, request: Request, text: &str) -> Answered {
+pub fn answered<M: Operations>(
+    operations: M,
+    formats: Formats,
+    request: Request,
+    text: &str,
+) -> Answered {
+    if let Call::Operation(call) = request.call {
+        return operated(operations, formats, call, request);
+    }
     match formats {
         Formats::Pairs => of_type::<DoubleDouble>(request, text),
         Formats::One(format) => in_one_format(format, request, text),
         Formats::FromPairs => from::<DoubleDouble, IeeeFloat<FallbackS>>(request),
         Formats::ToPairs => from::<IeeeFloat<FallbackS>, DoubleDouble>(request),
         Formats::Between(source, target) => between(source, target, request),
+        Formats::OfFlags => Err(CallFault::Support),
+    }
+}
+
+/// What an operation returns in its formats.
+fn operated<M: Operations>(
+    operations: M,
+    formats: Formats,
+    call: OperationCall,
+    request: Request,
+) -> Answered {
+    let asked = OperationRequest {
+        call,
+        round: request.round,
+        operands: request.operands,
+        stated: request.stated,
+    };
+    match formats {
+        Formats::One(format) => operations.in_one(format, asked),
+        Formats::Between(source, target) => operations.between(source, target, asked),
+        Formats::OfFlags => operations.on_flags(asked),
+        Formats::Pairs | Formats::FromPairs | Formats::ToPairs => Err(CallFault::Support),
     }
 }
 

@@ -2,15 +2,15 @@
 
 use crate::asked::Asked;
 use rustc_apfloat::{Flags, Status};
-use vector_lines::{Columns, LineCall, StatusField, ValueField};
+use vector_lines::{Columns, LineCall, Operations, StatusField, ValueField};
 
 /// What a call returns, if it exists and returns a status.
-pub fn given(call: &LineCall) -> Option<Columns> {
+pub fn given<M: Operations>(operations: M, call: &LineCall) -> Option<Columns> {
     let (format, operands) = (call.format.as_str(), call.operands.as_str());
     let Ok(asked) = Asked::of(call.name, format, call.mode, operands, "-") else {
         return None;
     };
-    let Ok(answer) = asked.answer() else {
+    let Ok(answer) = asked.answer(operations) else {
         return None;
     };
     let StatusField::Flags(status) = answer.status else {
@@ -28,6 +28,7 @@ fn bits_of_field(field: ValueField) -> Option<u128> {
         ValueField::Bits(bits, _) => Some(bits),
         ValueField::Unsigned(number) => Some(number),
         ValueField::Signed(number) => Some(bits_of_signed(number)),
+        ValueField::Truth(holds) => Some(if holds { 1 } else { 0 }),
         _ => None,
     }
 }

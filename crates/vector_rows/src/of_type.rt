@@ -9,7 +9,7 @@ use std::fmt::Debug;
 use vector_lines::{
     AssigningOperator, Call, CallFault, Constant, ExtraField, IntegerCall, OneValueCall, Operand,
     Operands, Property, Quanta, Returned, RowAnswer, Text, TextCall, TwoValuesCall, ValueField,
-    WordCall, mask, shown,
+    WordCall, shown, two_values, value_of,
 };
 
 /// What the call of a row returns, or the fault of the row.
@@ -39,26 +39,9 @@ pub fn of_type<F: ValueType + Magnitudes + Debug>(request: Request, text: &str) 
         Call::OfValueAndInteger(call) => of_value_and_integer::<F>(call, request),
         Call::OfWord(call) => of_word::<F>(call, request),
         Call::OfText(call) => Ok(of_text::<F>(call, text, request.round, request.stated)),
-        Call::OfFormat(_) | Call::OfDecimal(_) | Call::Conversion(_) => Err(CallFault::Support),
-    }
-}
-
-/// The value of an operand: its bits, or a count of quanta in a format without bits.
-pub fn value_of<F: Float>(operand: Operand) -> Option<F> {
-    match operand {
-        Operand::Bits(bits) if bits <= mask(F::BITS) && F::PRECISION < F::BITS => {
-            Some(F::from_bits(bits))
+        Call::OfFormat(_) | Call::OfDecimal(_) | Call::Conversion(_) | Call::Operation(_) => {
+            Err(CallFault::Support)
         }
-        Operand::Quanta(quanta) if F::PRECISION >= F::BITS => quanta.value(),
-        _ => None,
-    }
-}
-
-/// The values of the first two operands.
-pub fn two_values<F: Float>(operands: Operands) -> Option<(F, F)> {
-    match (value_of(operands.first), value_of(operands.second)) {
-        (Some(x), Some(y)) => Some((x, y)),
-        _ => None,
     }
 }
 

@@ -5,7 +5,7 @@ use crate::summary::Summary;
 use std::alloc::AllocError;
 use std::io;
 use std::io::Write;
-use vector_lines::RowError;
+use vector_lines::{Operations, RowError};
 
 /// The function of TestFloat that the lines of a file test, and how it rounds.
 #[derive(Clone, Copy)]
@@ -32,12 +32,12 @@ impl TestFloat {
     }
 
     /// Whether what the library returns agrees with a line.
-    pub fn agrees(self, line: &str) -> Result<bool, RowError<'_>> {
+    pub fn agrees<M: Operations>(self, operations: M, line: &str) -> Result<bool, RowError<'_>> {
         let (call, stated) = match self.lines.read(line) {
             Ok(parts) => parts,
             Err(error) => return Err(error),
         };
-        match given(&call) {
+        match given(operations, &call) {
             Some(given) => Ok(self.lines.agrees(given, stated)),
             None => Err(self.lines.no_call(line)),
         }
@@ -50,11 +50,16 @@ impl TestFloat {
     }
 
     /// Writes the result and the flags that the library returns for a line.
-    pub fn write_given<W: Write>(self, line: &str, out: &mut W) -> io::Result<()> {
+    pub fn write_given<M: Operations, W: Write>(
+        self,
+        operations: M,
+        line: &str,
+        out: &mut W,
+    ) -> io::Result<()> {
         let Ok((call, _)) = self.lines.read(line) else {
             return Ok(());
         };
-        match given(&call) {
+        match given(operations, &call) {
             Some(given) => self.lines.write_given(given, out),
             None => Ok(()),
         }
@@ -75,6 +80,13 @@ impl Fpgen {
         }
     }
 
+    /// The same lines, of which those are skipped, if asked, whose call the library does not have.
+    pub fn skipping(self, skips_unknown: bool) -> Fpgen {
+        Fpgen {
+            lines: self.lines.skipping(skips_unknown),
+        }
+    }
+
     /// The same with this option, if there is such an option.
     pub fn with(self, option: &str) -> Option<Fpgen> {
         match self.lines.with(option) {
@@ -84,14 +96,18 @@ impl Fpgen {
     }
 
     /// Whether what the library returns agrees with a line; `None` if the line states what is delivered to a trap
-    /// handler.
-    pub fn agrees(self, line: &str) -> Result<Option<bool>, RowError<'_>> {
+    /// handler, or is skipped.
+    pub fn agrees<M: Operations>(
+        self,
+        operations: M,
+        line: &str,
+    ) -> Result<Option<bool>, RowError<'_>> {
         let test = match self.lines.read(line) {
             Ok(Some(test)) => test,
             Ok(None) => return Ok(None),
             Err(error) => return Err(error),
         };
-        match given(&test.call) {
+        match given(operations, &test.call) {
             Some(given) => Ok(Some(test.agrees(given))),
             None => Err(vector_lines::Fpgen::no_call(line)),
         }
@@ -106,11 +122,16 @@ impl Fpgen {
     }
 
     /// Writes the bits and the flags that the library returns for a line.
-    pub fn write_given<W: Write>(self, line: &str, out: &mut W) -> io::Result<()> {
+    pub fn write_given<M: Operations, W: Write>(
+        self,
+        operations: M,
+        line: &str,
+        out: &mut W,
+    ) -> io::Result<()> {
         let Ok(Some(test)) = self.lines.read(line) else {
             return Ok(());
         };
-        match given(&test.call) {
+        match given(operations, &test.call) {
             Some(given) => test.write_given(given, out),
             None => Ok(()),
         }

@@ -6,11 +6,13 @@ use crate::other_files::{Fpgen, TestFloat};
 use std::io::{BufRead, BufReader, BufWriter, ErrorKind, Read, Write};
 use std::rt::{Clock, Files};
 use std::{fs, io};
+use vector_lines::Operations;
 
 /// The help: what the program is for, what it reads and writes, and what its exit status means.
 const HELP: &str = "\
 usage: check_vectors [FILE | --help]
-       check_vectors [--summary] [--first N] [--testfloat FUNCTION | --fpgen] [OPTION..] [FILE]
+       check_vectors [--summary] [--first N] [--skip-unknown] [--testfloat FUNCTION | --fpgen]
+                     [OPTION..] [FILE]
 
 Checks the rows of FILE, or of standard input if there is no FILE or it is `-`, against the library.
 A row is a line of columns separated by tabs: a command of the program vectors and its reply, or a call,
@@ -21,7 +23,8 @@ its format, its mode, its operands, its value, its flags and what else it return
 
 With --testfloat the lines are those of testfloat_gen for the function and its options, which may be
 -rnear_even -rmax -rmin -rminMag -rnear_maxMag -tininessafter -tininessbefore -notexact -exact --any-nan;
-with --fpgen they are those of IBM's FPgen.
+with --fpgen they are those of IBM's FPgen. After --skip-unknown, lines whose call the library does not
+have are skipped.
 
 With --summary only counts are written, by call and format; with --first N the check ends after N rows
 that differ.
@@ -41,11 +44,13 @@ Exit status, the first one that holds:
 /// What is printed for unknown arguments.
 const USAGE: &str = "\
 usage: check_vectors [FILE | --help]
-       check_vectors [--summary] [--first N] [--testfloat FUNCTION | --fpgen] [OPTION..] [FILE]
+       check_vectors [--summary] [--first N] [--skip-unknown] [--testfloat FUNCTION | --fpgen]
+                     [OPTION..] [FILE]
 ";
 
 /// Runs the program with the arguments from the system, without its own name. Returns the exit status.
-pub fn run<R: Files + Clock + Input + AllocGlobal, W: Write, V: Write>(
+pub fn run<M: Operations, R: Files + Clock + Input + AllocGlobal, W: Write, V: Write>(
+    operations: M,
     rt: &R,
     given: io::Result<Vec<String>>,
     out: &mut W,
@@ -57,9 +62,17 @@ pub fn run<R: Files + Clock + Input + AllocGlobal, W: Write, V: Write>(
     };
     match job_of(words.as_slice()) {
         Ok(Job::Check(task, None)) => {
-            check_reader(rt, "standard input", rt.reader(), task, out, err)
+            check_reader(
+                operations,
+                rt,
+                "standard input",
+                rt.reader(),
+                task,
+                out,
+                err,
+            )
         }
-        Ok(Job::Check(task, Some(name))) => check_file(rt, name, task, out, err),
+        Ok(Job::Check(task, Some(name))) => check_file(operations, rt, name, task, out, err),
         Ok(Job::Help) => help(out, err),
         Err(wrong) => refuse_word(wrong, err),
     }
@@ -139,6 +152,16 @@ fn next_option(task: Task, words: &[String]) -> NextOption<'_> {
             let is_summary = true;
             NextOption::Known(Task { is_summary, ..task }, others)
         }
+        [word, others @ ..] if word.as_str() == "--skip-unknown" => {
+            let skips_unknown = true;
+            NextOption::Known(
+                Task {
+                    skips_unknown,
+                    ..task
+                },
+                others,
+            )
+        }
         [word, count, others @ ..] if word.as_str() == "--first" => {
             match count.as_str().parse::<u64>() {
                 Ok(count) => {
@@ -156,20 +179,33 @@ fn next_option(task: Task, words: &[String]) -> NextOption<'_> {
 fn option_on_lines(task: Task, words: &[String]) -> NextOption<'_> {
     match words {
         [word, others @ ..] if word.as_str() == "--fpgen" => {
-            with_lines(task, Lines::Fpgen(Fpgen::new()), others)
+            with_lines(
+                task,
+                Lines::Fpgen(Fpgen::new().skipping(task.skips_unknown)),
+                others,
+            )
         }
         [word, name, others @ ..] if word.as_str() == "--testfloat" => {
             match TestFloat::named(name.as_str()) {
                 Some(function) => with_lines(task, Lines::TestFloat(function), others),
+                None if task.skips_unknown => with_lines(task, Lines::Unknown, others),
                 None => wrong("no such function of TestFloat", name),
             }
         }
         [word, others @ ..] => match task.lines.with(word.as_str()) {
             Some(lines) => with_lines(task, lines, others),
+            None if task.skips_unknown && is_left_out(word.as_str()) => {
+                with_lines(task, Lines::Unknown, others)
+            }
             None => NextOption::End,
         },
         [] => NextOption::End,
     }
+}
+
+/// Whether a word is an option of TestFloat for calls that the library does not have.
+fn is_left_out(word: &str) -> bool {
+    matches!(word, "-rodd" | "-precision32" | "-precision64")
 }
 
 /// A word after an option that is wrong.
@@ -230,7 +266,8 @@ fn help<W: Write, V: Write>(out: &mut W, err: &mut V) -> u8 {
 }
 
 /// Checks the lines of a file. Returns the exit status.
-fn check_file<R: Files + Clock + AllocGlobal, W: Write, V: Write>(
+fn check_file<M: Operations, R: Files + Clock + AllocGlobal, W: Write, V: Write>(
+    operations: M,
     rt: &R,
     name: &str,
     task: Task,
@@ -238,13 +275,14 @@ fn check_file<R: Files + Clock + AllocGlobal, W: Write, V: Write>(
     err: &mut V,
 ) -> u8 {
     match fs::open(rt, name) {
-        Ok(file) => check_reader(rt, name, file, task, out, err),
+        Ok(file) => check_reader(operations, rt, name, file, task, out, err),
         Err(error) => report(name, &Failure::of_input("open", error), err),
     }
 }
 
 /// Checks the lines from a reader; messages call it `name`. Returns the exit status.
-fn check_reader<R: Clock + AllocGlobal, I: Read + Drop, W: Write, V: Write>(
+fn check_reader<M: Operations, R: Clock + AllocGlobal, I: Read + Drop, W: Write, V: Write>(
+    operations: M,
     rt: &R,
     name: &str,
     reader: I,
@@ -253,13 +291,14 @@ fn check_reader<R: Clock + AllocGlobal, I: Read + Drop, W: Write, V: Write>(
     err: &mut V,
 ) -> u8 {
     match BufReader::new(rt.alloc(), reader) {
-        Ok(mut input) => check_lines(rt, name, &mut input, task, out, err),
+        Ok(mut input) => check_lines(operations, rt, name, &mut input, task, out, err),
         Err(error) => report(name, &Failure::of_input("open", error), err),
     }
 }
 
 /// Checks the lines of an input; messages call it `name`. Returns the exit status.
-pub fn check_lines<R: Clock + AllocGlobal, B: BufRead, W: Write, V: Write>(
+pub fn check_lines<M: Operations, R: Clock + AllocGlobal, B: BufRead, W: Write, V: Write>(
+    operations: M,
     rt: &R,
     name: &str,
     input: &mut B,
@@ -271,7 +310,7 @@ pub fn check_lines<R: Clock + AllocGlobal, B: BufRead, W: Write, V: Write>(
         Ok(out) => out,
         Err(error) => return report(name, &Failure::from(error), err),
     };
-    let mut check = Check::new(task, rt.alloc());
+    let mut check = Check::new(operations, task, rt.alloc());
     let ended = check.take(input, rt.alloc(), rt, &mut out, err);
     if let Err(Failure::Output(error)) = ended {
         return report(name, &Failure::Output(error), err);
@@ -288,7 +327,7 @@ pub fn check_lines<R: Clock + AllocGlobal, B: BufRead, W: Write, V: Write>(
 }
 
 /// Writes the counts of a check.
-fn write_counts<W: Write>(check: &Check, out: &mut W) -> io::Result<()> {
+fn write_counts<M: Operations, W: Write>(check: &Check<M>, out: &mut W) -> io::Result<()> {
     check.write_counts(out)?;
     out.flush()
 }

@@ -10,9 +10,11 @@ pub fn operands_of(form: Form, text: &str) -> Option<Operands> {
         Form::Text => Some(Operands::none()),
         Form::TwoValues => Operands::two_values(text),
         Form::ThreeValues => Operands::three_values(text),
-        Form::ValueAndExponent | Form::ValueAndWidth | Form::ValueAndCount => {
-            Operands::value_and_integer(text)
-        }
+        Form::ValueAndExponent | Form::ValueAndWidth | Form::ValueAndCount | Form::ValueAndDigits =>
+            Operands::value_and_integer(text),
+        Form::OneStatus => Operands::one_status(text),
+        Form::TwoStatuses => Operands::two_statuses(text),
+        Form::ThreeStatuses => Operands::three_statuses(text),
         _ => match operand_of(form, text) {
             Some(operand) => Some(Operands::one(operand)),
             None => None,

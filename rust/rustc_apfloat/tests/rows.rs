@@ -543,10 +543,20 @@ fn conversion(source: &str, target: &str, row: Row<'_>) -> Outcome {
     if target.contains('+') { with_ieee_format!(name, from_with_flags) } else { with_format!(name, from) }
 }
 
+/// Whether a call is an operation of IEEE 754-2019 that the crate lacks.
+fn is_other_operation(call: &str) -> bool {
+    ["compare_", "total_", "convert_to_", "is_canonical"].iter().any(|start| call.starts_with(start))
+        || ["_to", "_of", "_flags", "log_b"].iter().any(|end| call.ends_with(end))
+        || matches!(call, "radix" | "scale_b" | "round_to_integral_in" | "write_digits" | "digit_count")
+}
+
 /// A row of seven columns; `any` for each mode.
 fn call_row(columns: &[&str; 7]) -> Outcome {
     let [call_name, format, mode, operands, value, flags, more] = *columns;
     let mut outcome = Outcome::NoCall;
+    if is_other_operation(call_name) {
+        return outcome;
+    }
     for (name, round) in MODES {
         if mode != "any" && mode != "-" && mode != name {
             continue;

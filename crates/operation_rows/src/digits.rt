@@ -1,0 +1,87 @@
+//! The decimal digits of a value (5.12.2), in the built-in formats.
+//!
+//! The value of a row is the digits that `write_digits` writes, and `exponent=` the exponent of ten of the first one.
+
+ghost use Rattle.rustc_apfloat.specs.Types.{format_of};
+ghost use Rattle.rustc_apfloat.specs.Lawful.{format_with};
+ghost use Rattle.apfloat_decimals.specs.Decimals.{HasQuadExponents};
+ghost use Rattle.formats_at_run_time.specs.FormatKinds.{IfFormat};
+
+use crate::Answered;
+use decimal_digits::{Written, digit_count, write_digits};
+use formats_at_run_time::{FlaggedFormat, InFormat};
+use rustc_apfloat::ieee::{IeeeFloat, Semantics};
+use std::str;
+use vector_lines::{
+    CallFault, ExtraField, Operand, OperationCall, OperationRequest, RowAnswer, RowFormat,
+    StatusField, Text, ValueField, value_of,
+};
+
+/// What a call on the digits of a value returns in a format, if that is a built-in one with the flags of the built-in
+/// formats.
+pub fn digits_in(format: RowFormat, request: OperationRequest) -> Answered {
+    match format {
+        RowFormat::BuiltIn(format, FlaggedFormat::BuiltIn(_)) => {
+            format.run(DigitsIn { request })
+        }
+        _ => Err(CallFault::Support),
+    }
+}
+
+/// A call on the digits of a value.
+#[derive(Drop)]
+struct DigitsIn {
+    request: OperationRequest,
+}
+
+impl InFormat for DigitsIn {
+    type Output = Answered;
+
+    ghost can = { λ _ kind. IfFormat kind (λ c. HasQuadExponents (format_with c)) };
+
+    fn in_format<S: Semantics>(self) -> Answered {
+        let Some(x) = value_of::<IeeeFloat<S>>(self.request.operands.first) else {
+            return Err(CallFault::Operand);
+        };
+        match self.request.call {
+            OperationCall::WriteDigits => written(x, self.request),
+            _ => Ok(counted(x)),
+        }
+    }
+}
+
+/// How many digits a value has.
+fn counted<S: Semantics>(x: IeeeFloat<S>) -> RowAnswer
+    requires { HasQuadExponents (format_of S.Semantics) }
+{
+    match digit_count(x) {
+        Some(count) => RowAnswer::told(ValueField::Unsigned(u128::from(count))),
+        None => RowAnswer::told(ValueField::Text(Text::of("None"))),
+    }
+}
+
+/// As many digits of a value as the row asks for.
+fn written<S: Semantics>(x: IeeeFloat<S>, request: OperationRequest) -> Answered
+    requires { HasQuadExponents (format_of S.Semantics) }
+{
+    let Operand::Integer(count) = request.operands.second else {
+        return Err(CallFault::Operands);
+    };
+    let Ok(count) = usize::try_from(count) else {
+        return Err(CallFault::Operands);
+    };
+    if count < 1 || count > 128 {
+        return Err(CallFault::Operands);
+    }
+    let mut digits = [0; 128];
+    match write_digits(x, request.round, &mut digits[..count]) {
+        Written::Digits(answer) => Ok(RowAnswer {
+            value: ValueField::Text(Text::of(str::from_utf8(&digits[..count]).unwrap_or(""))),
+            status: StatusField::Flags(answer.status),
+            extra: ExtraField::Exponent(answer.value),
+        }),
+        Written::WithoutDigits(_) | Written::NoRoom => {
+            Ok(RowAnswer::told(ValueField::Text(Text::of("None"))))
+        }
+    }
+}

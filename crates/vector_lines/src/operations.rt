@@ -1,0 +1,365 @@
+//! The operations of IEEE 754-2019 that `Float` lacks, as rows name them.
+//!
+//! A row of one of them is checked by the crate `operation_rows`, behind the trait `Operations`.
+
+use crate::answer::RowAnswer;
+use crate::call_fault::CallFault;
+use crate::form::Form;
+use crate::operands::Operands;
+use crate::quanta::Quanta;
+use crate::row_format::RowFormat;
+use crate::table::found;
+use apfloat_comparisons::{Extremum, OnNan, Predicate};
+use rustc_apfloat::Round;
+
+/// An operation of IEEE 754-2019.
+#[derive(Clone, Copy)]
+pub enum OperationCall {
+    /// The result in another format (5.4.1, formatOf).
+    InAnother(FormatOfCall),
+    /// A comparison predicate (5.6.1, 5.11).
+    Comparison(Predicate, OnNan),
+    /// A call on two values without a status.
+    Order(OrderCall),
+    /// A minimum or a maximum (9.6); if true, of a NaN and a number the number.
+    Extremum(Extremum, bool),
+    /// A call on one value.
+    OfOne(GeneralCall),
+    /// The value times a power of two (5.3.3, scaleB).
+    ScaleB,
+    /// A value as an integer (5.8).
+    ToInteger(ToIntegerCall),
+    /// The decimal digits of a value (5.12.2).
+    WriteDigits,
+    /// How many decimal digits a value has.
+    DigitCount,
+    /// An operation on flags (5.7.4).
+    OfFlags(FlagsCall),
+}
+
+/// An operation whose result is of another format.
+#[derive(Clone, Copy)]
+pub enum FormatOfCall {
+    Add,
+    Sub,
+    Mul,
+    Div,
+    Sqrt,
+    MulAdd,
+}
+
+/// A call on two values in the total order (5.10).
+#[derive(Clone, Copy)]
+pub enum OrderCall {
+    TotalOrder,
+    TotalOrderMag,
+    TotalCmp,
+}
+
+/// A call on one value.
+#[derive(Clone, Copy)]
+pub enum GeneralCall {
+    LogB,
+    IntegerLogB,
+    RoundToIntegralIn,
+    Class,
+    Radix,
+    IsCanonical,
+    IsCanonicalEncoding,
+}
+
+/// A conversion to an integer, with INEXACT or without it.
+#[derive(Clone, Copy)]
+pub enum ToIntegerCall {
+    Signed,
+    SignedExact,
+    Unsigned,
+    UnsignedExact,
+}
+
+/// An operation on flags.
+#[derive(Clone, Copy)]
+pub enum FlagsCall {
+    Lower,
+    Raise,
+    Test,
+    SaveAll,
+    TestSaved,
+    Restore,
+}
+
+/// The operation of a row, in one mode.
+#[derive(Clone, Copy)]
+pub struct OperationRequest {
+    /// The operation.
+    pub call: OperationCall,
+    /// The mode, which is ignored if the operation takes none.
+    pub round: Round,
+    /// The operands.
+    pub operands: Operands,
+    /// The value that the row states, if it is one of a format without bits.
+    pub stated: Option<Quanta>,
+}
+
+// The operations by their names.
+static OPERATIONS: &[(&str, OperationCall)] = &[
+    ("add_to", OperationCall::InAnother(FormatOfCall::Add)),
+    ("sub_to", OperationCall::InAnother(FormatOfCall::Sub)),
+    ("mul_to", OperationCall::InAnother(FormatOfCall::Mul)),
+    ("div_to", OperationCall::InAnother(FormatOfCall::Div)),
+    ("sqrt_to", OperationCall::InAnother(FormatOfCall::Sqrt)),
+    ("mul_add_to", OperationCall::InAnother(FormatOfCall::MulAdd)),
+    (
+        "compare_quiet_equal",
+        OperationCall::Comparison(Predicate::Equal, OnNan::Quiet),
+    ),
+    (
+        "compare_quiet_not_equal",
+        OperationCall::Comparison(Predicate::NotEqual, OnNan::Quiet),
+    ),
+    (
+        "compare_quiet_greater",
+        OperationCall::Comparison(Predicate::Greater, OnNan::Quiet),
+    ),
+    (
+        "compare_quiet_greater_equal",
+        OperationCall::Comparison(Predicate::GreaterEqual, OnNan::Quiet),
+    ),
+    (
+        "compare_quiet_less",
+        OperationCall::Comparison(Predicate::Less, OnNan::Quiet),
+    ),
+    (
+        "compare_quiet_less_equal",
+        OperationCall::Comparison(Predicate::LessEqual, OnNan::Quiet),
+    ),
+    (
+        "compare_quiet_not_greater",
+        OperationCall::Comparison(Predicate::NotGreater, OnNan::Quiet),
+    ),
+    (
+        "compare_quiet_less_unordered",
+        OperationCall::Comparison(Predicate::LessUnordered, OnNan::Quiet),
+    ),
+    (
+        "compare_quiet_not_less",
+        OperationCall::Comparison(Predicate::NotLess, OnNan::Quiet),
+    ),
+    (
+        "compare_quiet_greater_unordered",
+        OperationCall::Comparison(Predicate::GreaterUnordered, OnNan::Quiet),
+    ),
+    (
+        "compare_quiet_unordered",
+        OperationCall::Comparison(Predicate::Unordered, OnNan::Quiet),
+    ),
+    (
+        "compare_quiet_ordered",
+        OperationCall::Comparison(Predicate::Ordered, OnNan::Quiet),
+    ),
+    (
+        "compare_signaling_equal",
+        OperationCall::Comparison(Predicate::Equal, OnNan::Signaling),
+    ),
+    (
+        "compare_signaling_not_equal",
+        OperationCall::Comparison(Predicate::NotEqual, OnNan::Signaling),
+    ),
+    (
+        "compare_signaling_greater",
+        OperationCall::Comparison(Predicate::Greater, OnNan::Signaling),
+    ),
+    (
+        "compare_signaling_greater_equal",
+        OperationCall::Comparison(Predicate::GreaterEqual, OnNan::Signaling),
+    ),
+    (
+        "compare_signaling_less",
+        OperationCall::Comparison(Predicate::Less, OnNan::Signaling),
+    ),
+    (
+        "compare_signaling_less_equal",
+        OperationCall::Comparison(Predicate::LessEqual, OnNan::Signaling),
+    ),
+    (
+        "compare_signaling_not_greater",
+        OperationCall::Comparison(Predicate::NotGreater, OnNan::Signaling),
+    ),
+    (
+        "compare_signaling_less_unordered",
+        OperationCall::Comparison(Predicate::LessUnordered, OnNan::Signaling),
+    ),
+    (
+        "compare_signaling_not_less",
+        OperationCall::Comparison(Predicate::NotLess, OnNan::Signaling),
+    ),
+    (
+        "compare_signaling_greater_unordered",
+        OperationCall::Comparison(Predicate::GreaterUnordered, OnNan::Signaling),
+    ),
+    ("total_order", OperationCall::Order(OrderCall::TotalOrder)),
+    (
+        "total_order_mag",
+        OperationCall::Order(OrderCall::TotalOrderMag),
+    ),
+    ("total_cmp", OperationCall::Order(OrderCall::TotalCmp)),
+    (
+        "minimum_of",
+        OperationCall::Extremum(Extremum::Minimum, false),
+    ),
+    (
+        "maximum_of",
+        OperationCall::Extremum(Extremum::Maximum, false),
+    ),
+    (
+        "minimum_magnitude_of",
+        OperationCall::Extremum(Extremum::MinimumMagnitude, false),
+    ),
+    (
+        "maximum_magnitude_of",
+        OperationCall::Extremum(Extremum::MaximumMagnitude, false),
+    ),
+    (
+        "minimum_number_of",
+        OperationCall::Extremum(Extremum::Minimum, true),
+    ),
+    (
+        "maximum_number_of",
+        OperationCall::Extremum(Extremum::Maximum, true),
+    ),
+    (
+        "minimum_magnitude_number_of",
+        OperationCall::Extremum(Extremum::MinimumMagnitude, true),
+    ),
+    (
+        "maximum_magnitude_number_of",
+        OperationCall::Extremum(Extremum::MaximumMagnitude, true),
+    ),
+    ("log_b", OperationCall::OfOne(GeneralCall::LogB)),
+    (
+        "integer_log_b",
+        OperationCall::OfOne(GeneralCall::IntegerLogB),
+    ),
+    (
+        "round_to_integral_in",
+        OperationCall::OfOne(GeneralCall::RoundToIntegralIn),
+    ),
+    ("class_of", OperationCall::OfOne(GeneralCall::Class)),
+    ("radix", OperationCall::OfOne(GeneralCall::Radix)),
+    (
+        "is_canonical",
+        OperationCall::OfOne(GeneralCall::IsCanonical),
+    ),
+    (
+        "is_canonical_encoding",
+        OperationCall::OfOne(GeneralCall::IsCanonicalEncoding),
+    ),
+    ("scale_b", OperationCall::ScaleB),
+    (
+        "convert_to_signed",
+        OperationCall::ToInteger(ToIntegerCall::Signed),
+    ),
+    (
+        "convert_to_signed_exact",
+        OperationCall::ToInteger(ToIntegerCall::SignedExact),
+    ),
+    (
+        "convert_to_unsigned",
+        OperationCall::ToInteger(ToIntegerCall::Unsigned),
+    ),
+    (
+        "convert_to_unsigned_exact",
+        OperationCall::ToInteger(ToIntegerCall::UnsignedExact),
+    ),
+    ("write_digits", OperationCall::WriteDigits),
+    ("digit_count", OperationCall::DigitCount),
+    ("lower_flags", OperationCall::OfFlags(FlagsCall::Lower)),
+    ("raise_flags", OperationCall::OfFlags(FlagsCall::Raise)),
+    ("test_flags", OperationCall::OfFlags(FlagsCall::Test)),
+    ("save_all_flags", OperationCall::OfFlags(FlagsCall::SaveAll)),
+    (
+        "test_saved_flags",
+        OperationCall::OfFlags(FlagsCall::TestSaved),
+    ),
+    ("restore_flags", OperationCall::OfFlags(FlagsCall::Restore)),
+];
+
+/// What checks the rows of operations.
+pub trait Operations: Copy {
+    /// What an operation returns in a format.
+    fn in_one(self, format: RowFormat, request: OperationRequest) -> Result<RowAnswer, CallFault>;
+
+    /// What an operation on values of one format returns in another.
+    fn between(
+        self,
+        source: RowFormat,
+        target: RowFormat,
+        request: OperationRequest,
+    ) -> Result<RowAnswer, CallFault>;
+
+    /// What an operation on flags returns.
+    fn on_flags(self, request: OperationRequest) -> Result<RowAnswer, CallFault>;
+}
+
+impl OperationCall {
+    /// The operation of this name.
+    pub fn named(name: &str) -> Option<OperationCall> {
+        found(OPERATIONS, name)
+    }
+
+    /// The form of its operands.
+    pub fn form(self) -> Form {
+        match self {
+            OperationCall::InAnother(call) => call.form(),
+            OperationCall::Comparison(_, _)
+            | OperationCall::Order(_)
+            | OperationCall::Extremum(_, _) => Form::TwoValues,
+            OperationCall::OfOne(_) | OperationCall::DigitCount => Form::OneValue,
+            OperationCall::ScaleB => Form::ValueAndExponent,
+            OperationCall::ToInteger(_) => Form::ValueAndWidth,
+            OperationCall::WriteDigits => Form::ValueAndDigits,
+            OperationCall::OfFlags(call) => call.form(),
+        }
+    }
+
+    /// Whether it takes a rounding mode.
+    pub fn takes_mode(self) -> bool {
+        match self {
+            OperationCall::InAnother(_)
+            | OperationCall::ScaleB
+            | OperationCall::ToInteger(_)
+            | OperationCall::WriteDigits => true,
+            OperationCall::OfOne(call) => {
+                matches!(call, GeneralCall::LogB | GeneralCall::RoundToIntegralIn)
+            }
+            _ => false,
+        }
+    }
+
+    /// Whether it is one on flags, which has no format.
+    pub fn is_of_flags(self) -> bool {
+        matches!(self, OperationCall::OfFlags(_))
+    }
+}
+
+impl FormatOfCall {
+    /// The form of its operands.
+    fn form(self) -> Form {
+        match self {
+            FormatOfCall::Sqrt => Form::OneValue,
+            FormatOfCall::MulAdd => Form::ThreeValues,
+            _ => Form::TwoValues,
+        }
+    }
+}
+
+impl FlagsCall {
+    /// The form of its operands.
+    fn form(self) -> Form {
+        match self {
+            FlagsCall::SaveAll => Form::OneStatus,
+            FlagsCall::Restore => Form::ThreeStatuses,
+            _ => Form::TwoStatuses,
+        }
+    }
+}
