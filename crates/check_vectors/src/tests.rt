@@ -574,6 +574,13 @@ fn does_what_its_words_say(rt: HostRuntime) -> Result<(), Fail> {
         1 rows agree, 1 differ, 0 malformed; 0 lines skipped\n";
     expect_run(&rt, &["rows"], (1, whole, ""))?;
     expect_run(&rt, &["--", "rows"], (1, whole, ""))?;
+    let skipped = "0 rows agree, 0 differ, 0 malformed; 2 lines skipped\n";
+    for words in [
+        ["--skip-unknown", "--testfloat", "f16_cbrt", "-rmin", "rows"],
+        ["--skip-unknown", "--testfloat", "f16_add", "-rodd", "rows"],
+    ] {
+        expect_run(&rt, &words, (2, skipped, "check_vectors: rows: no rows\n"))?;
+    }
     Ok(())
 }
 
