@@ -73,7 +73,7 @@ fn full_line<S: Semantics>(x: IeeeFloat<S>) -> Line
 ///
 /// # Errors
 ///
-/// `NoRoom` if the text is longer than the buffer, which then is unchanged. 45 bytes have room for every text.
+/// `NoRoom` if the text is longer than the buffer, which then is unchanged.
 pub fn write_hex_with_payload<S: Semantics>(
     x: IeeeFloat<S>,
     buffer: &mut [u8],
