@@ -12,9 +12,9 @@ use apfloat_ieee::{Flagged, IeeeFloat};
 /// The two results of an augmented operation (IEEE 754-2019 9.5).
 #[derive_where(Clone, Copy)]
 pub struct Augmented<S: Flagged> {
-    /// The exact result, rounded to nearest; of two values as near, the one of lower magnitude.
+    /// The exact result, rounded to nearest; of two values equally near, the one of lower magnitude.
     pub head: IeeeFloat<S>,
-    /// What the head leaves of the exact result.
+    /// What the head leaves of the exact result; the head itself, if that is an infinity or a NaN.
     pub tail: IeeeFloat<S>,
 }
 

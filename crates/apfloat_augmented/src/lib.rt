@@ -1,5 +1,5 @@
-//! Augmented sums and differences (IEEE 754-2019 9.5), whose two results are together the exact one, and payloads of
-//! NaNs (9.7), for every format.
+//! Augmented sums and differences for every format (IEEE 754-2019 9.5), whose two results are together the exact one
+//! unless it overflows, and payloads of NaNs (9.7).
 #![tactic(auto)]
 
 mod augmented;

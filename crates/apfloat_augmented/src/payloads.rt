@@ -1,4 +1,4 @@
-//! Payloads of NaNs as values (IEEE 754-2019 9.7), for formats with bits. No flag is raised.
+//! Payloads of NaNs as values (IEEE 754-2019 9.7). No flag is raised.
 //!
 //! The payload is the part of a NaN's significand below the bits that say whether it is quiet: the quiet bit, and in a
 //! format that writes the integer bit, as x87, that one too (6.2.1). It has two digits fewer than the precision. In a
@@ -15,7 +15,8 @@ use apfloat_base::{Float, NonfiniteBehavior};
 use apfloat_ieee::{Flagged, IeeeFloat};
 use apfloat_words::power_of_two;
 
-/// getPayload (9.7): the payload of a NaN as an integer, and -1 for any other value.
+/// getPayload (9.7): the payload of a NaN as an integer, and -1 for any other value. Only for a format with bits, as
+/// `to_bits`.
 pub fn get_payload<S: Flagged>(x: IeeeFloat<S>) -> IeeeFloat<S>
     requires { S.PRECISION < S.BITS }
     ensures { result ≡ get_payload (format_of S.Flagged) x }

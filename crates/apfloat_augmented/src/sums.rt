@@ -123,7 +123,7 @@ fn is_exactly<S: Flagged>(status: Status, value: IeeeFloat<S>, other: IeeeFloat<
     is_ok(status) && value == other
 }
 
-/// Whether the value is a number.
+/// Whether the value is finite.
 fn is_number<S: Flagged>(x: IeeeFloat<S>) -> bool
     ensures yes { result ≡ true → IsNumberIn (format_of S.Flagged) x }
     ensures no { result ≡ false → is_finite x ≡ false }

@@ -45,7 +45,7 @@ pub fn without_denormal<S: Flagged>(x: IeeeFloat<S>) -> IeeeFloat<S>
 }
 
 /// Whether an operand is denormal, and none is a NaN: the flag of a denormal operand, where the operation raises
-/// neither INVALID_OP nor DIV_BY_ZERO. Of more operands, the disjunction.
+/// neither INVALID_OP nor DIV_BY_ZERO. Of three operands, the disjunction, if none of the three is a NaN.
 #[inline]
 pub fn has_denormal<S: Flagged>(x: IeeeFloat<S>, y: IeeeFloat<S>) -> bool
     ensures { result ≡ has_denormal (format_of S.Flagged) x y }

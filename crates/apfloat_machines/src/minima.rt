@@ -33,7 +33,7 @@ pub enum MinimumRule {
     Propagated,
 }
 
-/// The lesser of two operands by a rule, with its flags.
+/// The lesser of two operands by a rule, with its flags. Only for a format with bits.
 pub fn least<S: Flagged>(
     rule: MinimumRule,
     machine: Machine,
@@ -46,7 +46,7 @@ pub fn least<S: Flagged>(
     status_of(rule, x, y).and(extreme(rule, machine, x < y, minimum_of(x, y).value, x, y))
 }
 
-/// The greater of two operands by a rule, with its flags.
+/// The greater of two operands by a rule, with its flags. Only for a format with bits.
 pub fn greatest<S: Flagged>(
     rule: MinimumRule,
     machine: Machine,

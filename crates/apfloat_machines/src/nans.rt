@@ -73,7 +73,8 @@ fn with_nan<S: Flagged>(
 }
 
 /// The NaN that an operation on two operands delivers: made of an operand that is a NaN, or the default if there is
-/// none, if the machine always delivers the default, or if the x87 unit does not take an operand.
+/// none, if the machine always delivers the default, or if the x87 unit does not take an operand. Only for a format
+/// with bits.
 #[cold]
 #[inline(never)]
 pub fn machine_nan<S: Flagged>(machine: Machine, x: IeeeFloat<S>, y: IeeeFloat<S>) -> IeeeFloat<S>

@@ -6,7 +6,8 @@ ghost use Rattle.apfloat_machines.specs.Theorems.{HaveOneAnswer, FusedSumsHaveOn
 ghost use Rattle.apfloat_machines.specs.Theorems.{ConversionsHaveOneAnswer};
 ghost use Rattle.apfloat_machines.specs.Theorems.{WholeNumbersHaveOneAnswer};
 
-/// A sum, a difference, a product, a quotient, a remainder and a root of a machine have one value and one status.
+/// A sum, a difference, a product, a quotient, a remainder, a root and a rounding to an integral value of a machine
+/// have one value and one status.
 pub fn operations_have_one_answer()
     ensures { (f : Format) → (machine : Machine) → HaveOneAnswer f machine }
 {}

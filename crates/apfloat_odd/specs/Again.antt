@@ -18,7 +18,7 @@ abbrev pub joined : ℕ → ℕ → ℕ
 joined again first = bit_or again (without 8 first underflow_bit)
 
 -- The first result, of the format f, is converted to the format g, with the flags of both. A NaN, an infinity and a
--- zero are converted like any other: a zero keeps its sign.
+-- zero are converted like any other: a zero keeps its sign if g has it.
 pub record IsRoundedAgain (f g : Format) (mode : Round) (first : StatusAnd Datum) (value : Datum)
     (status : ℕ) : Type 0 where
   pub again : ℕ

@@ -15,14 +15,14 @@ use apfloat_ieee::{Flagged, IeeeFloat};
 ///
 /// `S` has room if it has infinities as in IEEE 754, two digits more than `T`, a quantum of at most a quarter of that
 /// of `T` (an eighth, where `T` raises UNDERFLOW as IEEE 754 asks and detects tininess after rounding), a greatest
-/// exponent not below that of `T`, and the same rule of flags. Otherwise this is wrong for some results, as from `Half`
-/// to `BFloat`.
+/// exponent not below that of `T`, and the same rule of flags. Otherwise it can be wrong, as from `Half` to `BFloat`.
 ///
 /// The flags are those of this rounding together with those of the first one, except for UNDERFLOW: the first result
 /// is tiny in another format.
 ///
-/// A NaN is quieted and an infinity is kept, as `convert_r` does. A zero keeps its sign: where an exact sum of opposite
-/// numbers takes its sign from the mode (IEEE 754-2019 6.3), that is up to the caller.
+/// A NaN, an infinity and a zero are converted as by `convert_r`: a NaN is quieted, and the infinity or the sign of the
+/// zero is kept if `T` has it, and otherwise lost with INEXACT. Where an exact sum of opposite numbers takes its sign
+/// from the mode (IEEE 754-2019 6.3), that is up to the caller.
 pub fn round_odd_to<S: Flagged, T: Flagged>(
     first: StatusAnd<IeeeFloat<S>>,
     round: Round,

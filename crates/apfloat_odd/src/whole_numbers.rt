@@ -14,7 +14,7 @@ use crate::odd::to_odd;
 use apfloat_base::{Category, Float, Round, StatusAnd};
 use apfloat_ieee::{Flagged, IeeeFloat};
 
-/// The value of an unsigned integer, rounded to odd.
+/// The value of an unsigned integer, rounded to odd, with the flags of rounding toward zero.
 pub fn from_u128_odd<S: Flagged>(input: u128) -> StatusAnd<IeeeFloat<S>>
     ensures { let f = format_of S.Flagged in
         Gives (IsToOdd f false (input * 2 ^ f.scale) 1) result }
@@ -22,7 +22,7 @@ pub fn from_u128_odd<S: Flagged>(input: u128) -> StatusAnd<IeeeFloat<S>>
     to_odd(IeeeFloat::from_u128_r(input, Round::TowardZero), false)
 }
 
-/// The value of a signed integer, rounded to odd.
+/// The value of a signed integer, rounded to odd, with the flags of rounding toward zero.
 pub fn from_i128_odd<S: Flagged>(input: i128) -> StatusAnd<IeeeFloat<S>>
     ensures { let f = format_of S.Flagged in
         Gives (IsToOdd f (sign_of false input) (magnitude input * 2 ^ f.scale) 1) result }

@@ -1,4 +1,4 @@
-//! What a program is asked about itself: `--help` and `--version`.
+//! What a program is asked about itself: `--help` or `-h`, and `--version`.
 
 ghost use Rattle.std.specs.Prelude.{◌≡◌, OnOk, map, string_bytes};
 ghost use Rattle.std.specs.Io.KnownBytes.{Appends};

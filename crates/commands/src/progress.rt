@@ -1,4 +1,4 @@
-//! When a long work tells how far it is.
+//! When a long task reports its progress.
 
 use std::rt::Clock;
 use std::time::Instant;
@@ -6,7 +6,7 @@ use std::time::Instant;
 /// Seconds before the first message, and between two of them.
 const SECONDS: u64 = 2;
 
-/// The messages of a work that may take long.
+/// The progress messages of a task that may take long.
 #[derive(Drop)]
 pub struct Progress {
     start: Option<Instant>,
@@ -14,7 +14,7 @@ pub struct Progress {
 }
 
 impl Progress {
-    /// The messages of a work that begins now; none if they are not shown, or without a clock.
+    /// The progress messages of a task that begins now; none if they are not shown, or if there is no clock.
     pub fn new<C: Clock>(is_shown: bool, clock: &C) -> Progress {
         Progress {
             start: if is_shown {
@@ -26,7 +26,7 @@ impl Progress {
         }
     }
 
-    /// The seconds since the beginning if a message is due, which is then taken as written.
+    /// The seconds since the task began, if a message is due, which then counts as written; otherwise none.
     pub fn due<C: Clock>(&mut self, clock: &C) -> Option<u64> {
         let seconds = self.start?.elapsed(clock).ok()?.as_secs();
         if seconds < self.due {

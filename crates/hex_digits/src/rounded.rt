@@ -108,9 +108,10 @@ fn line_of<S: Semantics>(x: IeeeFloat<S>, places: u32, round: Round) -> Rounded
 /// (IEEE 754-2019 5.12.3), and returns its length with the status of the rounding; the rest of the buffer stays as it
 /// is.
 ///
-/// The text is as that of `write_hex`, but has exactly that many digits after the dot, of a zero too, and no dot if
-/// that is none. The first digit is 1: a value that is rounded up to 2 gets the next exponent. The status is `INEXACT`
-/// if the number is not the value, otherwise `OK`. Infinities and NaNs are written as by `write_hex`.
+/// The text is that of `write_hex`, except that it has exactly that many digits after the dot, a zero too, and no dot
+/// if there are none. The first digit of a nonzero number is 1: a value that is rounded up to 2 gets the next exponent.
+/// The status is `INEXACT` if the number is not the value, otherwise `OK`. Infinities and NaNs are written as by
+/// `write_hex`.
 ///
 /// # Errors
 ///

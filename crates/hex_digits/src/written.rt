@@ -87,9 +87,9 @@ pub(crate) fn line_of<S: Semantics>(x: IeeeFloat<S>) -> Line
 /// returns its length; the rest of the buffer stays as it is.
 ///
 /// The text is that of the number without rounding, such as `-0x1.8p-1`: the first digit is 1, for denormal values too,
-/// the last one after the dot is not 0, letters are small, and the exponent is that of `ilogb`, in decimal digits. A
-/// zero is `0x0p0` or `-0x0p0`, an infinity `inf` or `-inf`, a NaN `nan` or `-nan`, or `snan` or `-snan`, without its
-/// payload. `from_ascii_r` reads the text back (`text_reads_back`).
+/// the last one after the dot is not 0, letters are lower-case, and the exponent is that of `ilogb`, in decimal digits.
+/// A zero is `0x0p0` or `-0x0p0`, an infinity `inf` or `-inf`, a NaN `nan` or `-nan`, or `snan` or `-snan`, without its
+/// payload. `from_ascii_r` reads the text back, except for a payload (`text_reads_back`).
 ///
 /// # Errors
 ///

@@ -59,10 +59,10 @@ pub fn one_pair_reading()
 {}
 
 /// The shortest decimal that `read_decimal_pair` reads as the pair, to nearest, ties to even: the one with the fewest
-/// digits, and of those the nearest to the exact sum of the parts.
+/// digits, of those the nearest to the exact sum of the parts, and of two equally near ones the even one.
 ///
-/// None if there is no such decimal: for an infinity, a NaN, and a pair that is not the split of a value of the wide
-/// format, as `1 + 2^-200`, whose parts are too far apart, or one that is not normalized. A zero has the digits 0, the
+/// None for an infinity, for a NaN, and for a pair that no decimal is read as: one that is not the split of a wide
+/// value, as `1 + 2^-200`, whose parts are too far apart, or one that is not normalized. A zero has the digits 0, the
 /// exponent 0 and its sign.
 pub fn shortest_of_pair(x: DoubleDouble) -> Option<Decimal>
     ensures { GivesPairShortest x result }
