@@ -1,8 +1,8 @@
 //! Values written in decimal digits, any number of them, into a buffer of the caller (IEEE 754-2019 5.12.2). The crate
 //! `rustc_apfloat` has none of these.
 //!
-//! Of formats with exponents past those of [`Quad`](crate::ieee::Quad), which only a user declares, no value is written:
-//! a call does not compile.
+//! In a format with exponents past those of [`Quad`](crate::ieee::Quad), which only a user declares, these calls do not
+//! compile.
 //!
 //! ```
 //! use rustc_apfloat::decimal_digits::{Written, digit_count, write_digits};
