@@ -1,5 +1,6 @@
 /* Correctly rounded software floating point, C99. Two libraries have these functions, with the same answers: the proved
- * one, libapfloat_c.a, and the same text by rustc, libapfloat.a or libapfloat.so (docs/CALLING_FROM_C.md).
+ * one, which `rt lib` makes as libapfloat_c.a, and the same text by rustc, which cargo makes as libapfloat.a.
+ * docs/CALLING_FROM_C.md has their names once installed.
  *
  * A function on values takes them as their bits, with a code for the format and, if it rounds, one for the rounding
  * mode, and writes its result through a pointer. It returns APFLOAT_ANSWERED, or the code of the first error, in the
