@@ -1,0 +1,9 @@
+pub mod Storage
+pub mod Points
+pub mod Modes
+pub mod Codes
+pub mod Conversions
+pub mod Orders
+pub mod Neighbours
+pub mod Laws
+pub mod Types

@@ -1,0 +1,77 @@
+//! The constants that define a storage format.
+
+ghost use Rattle.std.specs.Prelude.{◌≡◌, ℕ, ℤ, Bool};
+ghost use Rattle.storage_formats.specs.declared.format.Nans.{Nans};
+ghost use Rattle.storage_formats.specs.Storage.{constants_with, IsLawful, IsCarrier};
+
+use apfloat_base::ExpInt;
+use apfloat_ieee::Semantics;
+
+/// Which codes of a storage format are NaNs.
+#[derive(Clone, Copy, PartialEq, Eq, Debug)]
+pub enum Nans {
+    /// None.
+    Never,
+    /// Those above the infinity at the greatest biased exponent, with payloads (IEEE 754-2019 3.4).
+    WithPayloads,
+    /// The one whose bits below the sign are all ones; one of each sign, if there is a sign.
+    Last,
+    /// The one that would be -0.
+    NegativeZero,
+}
+
+/// A storage format.
+///
+/// A type gives each constant twice, for code and for contracts, and proves that they are consistent (`lawful`); if they
+/// are literals, the proof is `lawful_from_test _ refl`. The bits of a code are, from the top, the sign, if there is one,
+/// the biased exponent, and `PRECISION - 1` bits of the significand.
+pub trait StorageFormat: Copy {
+    /// The width of a code in bits, at most 126. The biased exponent has at least one bit.
+    const BITS: usize;
+
+    /// The number of binary digits in a significand, 1 to 125, including the implied integer bit.
+    const PRECISION: usize;
+
+    /// The exponent of the least value whose significand has all its digits: -2^20 to 0.
+    const MIN_EXP: ExpInt;
+
+    /// Whether codes have a sign bit. Without it, the format has NaNs of the kind `Last`, or none.
+    const SIGNED: bool;
+
+    /// Which codes are NaNs. `WithPayloads` needs a sign, infinities and a precision of at least 3, and `NegativeZero` a
+    /// sign.
+    const NANS: Nans;
+
+    /// Whether the code after that of the largest number is an infinity.
+    const INFINITIES: bool;
+
+    /// Whether the format has a zero, at the code 0. Without it, the code 0 is the least number, the precision is 1, and
+    /// the format has no sign and NaNs of the kind `Last`.
+    const ZERO: bool;
+
+    /// A format with bits and the NaNs of IEEE 754 of the same precision, through which payloads pass. It is not used
+    /// unless NaNs have payloads.
+    type NanCarrier: Semantics;
+
+    ghost BITS: { ℕ };
+
+    ghost PRECISION: { ℕ };
+
+    ghost MIN_EXP: { ℤ };
+
+    ghost SIGNED: { Bool };
+
+    ghost NANS: { Nans };
+
+    ghost INFINITIES: { Bool };
+
+    ghost ZERO: { Bool };
+
+    // The constants obey the rules above. If they are literals, the proof is `lawful_from_test _ refl`, with
+    // `lawful_from_test` of `storage_formats.proofs.LawTest`.
+    ghost lawful: { IsLawful
+        (constants_with BITS PRECISION MIN_EXP SIGNED NANS INFINITIES ZERO) };
+
+    // what the carrier has to be, if NaNs have payloads
+    ghost carries: { IsCarrier NANS PRECISION NanCarrier.Semantics };
+}
