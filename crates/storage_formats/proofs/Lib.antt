@@ -1,0 +1,7 @@
+pub mod LawTest
+pub mod PointsInOrder
+pub mod MovesScaled
+pub mod PickedPoints
+pub mod PicksOfModel
+pub mod RandomCounts
+pub mod IntoOnce
