@@ -2,8 +2,8 @@
 use Rattle.std.specs.Prelude.{◌≡◌, ℕ, ◌+◌, ◌-◌, ◌^◌, pos, ◌≤ℤ◌, neg_ℤ, Bool, true, false, not, ◌&&◌, leb, ltb, eqb}
 use Rattle.std.proofs.lemmas.Bool.{and_parts, leb-true, ltb-true, eqb-true, not-true}
 use Rattle.apfloat_model.specs.rounding.Bounds.{format_bound}
-use Rattle.apfloat_model.proofs.formats.LawTest.{at_most}
-use lib.Signed.{le_z}
+use Rattle.std.proofs.Common.{ℤ, refl, subst, sym, T}
+use lib.Signed.{le_z, le_z_yes}
 use Rattle.storage_formats.specs.declared.format.Nans.{Nans}
 use Rattle.storage_formats.specs.declared.format.Nans.TheVariants.{Never, WithPayloads, Last, NegativeZero}
 use Rattle.storage_formats.specs.Storage.{Constants, AreNansLawful, IsLawful, IsWithoutZero, MayLackZero, max_exp, reserved, width}
@@ -40,6 +40,9 @@ lawful_test c =
     && (nans_test c.nans c && zero_test c.zero c)))))))))
 
 -- ---- what follows from a test that passes
+
+at_most : (a b : ℤ) → le_z a b ≡ true → a ≤ℤ b
+at_most a b e = le_z_yes (subst T (sym e) tt)
 
 nans_from_test : (nans : Nans) (c : Constants) → nans_test nans c ≡ true → AreNansLawful nans c
 nans_from_test Never c e = let a = and_parts _ _ e in (a.0, a.1)

@@ -8,7 +8,8 @@ ghost use Rattle.apfloat_model.specs.rounding.Flags.{bits_of};
 ghost use Rattle.apfloat_ieee.specs.FlaggedTypes.{format_of};
 ghost use Rattle.storage_formats.specs.Codes.{nan_code, past_code, point_code, zero_code};
 ghost use Rattle.storage_formats.specs.Conversions.{IsBelowAll, IsInfinityStored, IsInto, IsNanStored, IsNumberStored, IsZeroStored};
-ghost use Rattle.storage_formats.specs.Conversions.{rounded_code, saturates, is_finite_limit, is_below_all};
+ghost use Rattle.storage_formats.specs.Conversions.{rounded_code, saturates, is_finite_limit, nan_significand};
+ghost use Rattle.storage_formats.specs.declared.modes.ConversionRound.{ConversionRound};
 ghost use Rattle.storage_formats.specs.Modes.{leads_past};
 ghost use Rattle.storage_formats.specs.Storage.{first_point, format_for, largest_point};
 ghost use Rattle.storage_formats.specs.Types.{constants_of};
@@ -18,8 +19,10 @@ use crate::modes::{ConversionRound, Limit};
 use crate::numbers::number_of;
 use crate::picks::pick;
 use crate::stored::{StoredFloat, largest_code, points_of, width_of};
-use apfloat_base::{Category, ExpInt, Flags, Float, FloatConvert, Round, Status, StatusAnd};
-use apfloat_ieee::{Flagged, IeeeFloat, Semantics};
+use apfloat_base::{
+    Category, ExpInt, Flags, Float, FloatConvert, NonfiniteBehavior, Round, Status, StatusAnd,
+};
+use apfloat_ieee::{Flagged, IeeeFloat};
 use apfloat_words::{low_digits, power_of_two};
 
 /// A converted value with its flags, and whether information was lost.
@@ -154,9 +157,8 @@ fn single_nan<S: Flagged, F: StorageFormat>(x: IeeeFloat<S>) -> Converted<F>
 {
     // the whole payload is lost, if the source has one
     let payload = match S::NONFINITE_BEHAVIOR {
-        apfloat_base::NonfiniteBehavior::IEEE754 => true,
-        apfloat_base::NonfiniteBehavior::NanOnly
-        | apfloat_base::NonfiniteBehavior::NanNegativeZero => false,
+        NonfiniteBehavior::IEEE754 => true,
+        NonfiniteBehavior::NanOnly | NonfiniteBehavior::NanNegativeZero => false,
     };
     Converted {
         value: nan_of(x.is_negative()),
@@ -184,8 +186,9 @@ fn lossy<F: StorageFormat>(value: StoredFloat<F>, status: Status) -> Converted<F
 
 fn stored_nan<S: Flagged, F: StorageFormat>(limit: Limit, x: IeeeFloat<S>) -> Converted<F>
     requires { category_of x ≡ NaN }
-    ensures { IsInto (format_of S.Flagged) limit (constants_of F.StorageFormat)
-        ConversionRound.ToOdd x result.value (bits_of result.status) result.loses_info }
+    ensures { (mode : ConversionRound) → IsInto (format_of S.Flagged) limit
+        (constants_of F.StorageFormat) mode x result.value (bits_of result.status)
+        result.loses_info }
 {
     if limit == Limit::FiniteNans {
         return lossy(StoredFloat::largest(), Status::INVALID_OP);

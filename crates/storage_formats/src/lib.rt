@@ -12,6 +12,7 @@
 #![tactic(auto)]
 
 pub mod binary;
+mod carrier;
 mod cuts;
 pub mod format;
 mod from_value;
@@ -29,11 +30,12 @@ mod theorems;
 mod to_value;
 
 pub use binary::Binary;
+pub use carrier::FiveDigitsS;
 pub use format::{Nans, StorageFormat};
 pub use modes::{ConversionRound, Limit, RandomBits};
 pub use named::{E2M1FN, E2M3FN, E3M4, E8M0FNU, UE4M3};
 pub use stored::StoredFloat;
 pub use theorems::{
-    conversions_have_one_answer, exact_values_never_move, named_formats_have_room,
+    conversions_have_one_answer, exact_values_never_move,
     picks_are_those_of_the_model, picks_have_one_answer, random_numbers_are_counted,
 };

