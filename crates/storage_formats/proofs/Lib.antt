@@ -4,4 +4,6 @@ pub mod MovesScaled
 pub mod PickedPoints
 pub mod PicksOfModel
 pub mod RandomCounts
+pub mod RestLosses
+pub mod Units
 pub mod IntoOnce
