@@ -2,6 +2,7 @@ pub mod LawTest
 pub mod PointsInOrder
 pub mod MovesScaled
 pub mod PickedPoints
+pub mod PickAnswers
 pub mod PicksOfModel
 pub mod RandomCounts
 pub mod RestLosses

@@ -133,12 +133,14 @@ enclosed_by_cut p s k c amount parts u d some p' e a fits full =
     let high : s * U < (q + 1) * 2 ^ k * U = mul-lt-mul_of_pos_right (omega (arith, sum, rest)) some_unit in
     let low' : q * (2 ^ k * U) ≡ q * (2 ^ c * parts * 2 ^ d) = ap (λ (y : ℕ). q * y) unit in
     let high' : (q + 1) * (2 ^ k * U) ≡ (q + 1) * (2 ^ c * parts * 2 ^ d) = ap (λ (y : ℕ). (q + 1) * y) unit in
+    let from : q * 2 ^ c * parts * 2 ^ d ≤ amount * 2 ^ d = omega (arith, low, low', a) in
+    let to : amount * 2 ^ d < (q + 1) * 2 ^ c * parts * 2 ^ d = omega (arith, high, high', a) in
     record {
       double = sym (twice_half p some);
       fits = fits;
       full = full;
-      from = le_of_mul-le-mul_right (omega (arith, low, low', a)) (pow_pos d);
-      to = lt_of_mul-lt-mul_right (2 ^ d) (omega (arith, high, high', a));
+      from = le_of_mul-le-mul_right from (pow_pos d);
+      to = lt_of_mul-lt-mul_right (2 ^ d) to;
     }
 
 -- the point that is picked for a significand of which `k` digits are cut off

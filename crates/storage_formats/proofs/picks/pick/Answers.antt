@@ -1,13 +1,8 @@
--- unproved: the names of the goals and of the callee's results are guessed
-use Rattle.std.proofs.Common.{◌≡◌, ℕ, ◌+◌, ◌-◌, ◌*◌, ◌/◌, ◌%◌, ◌^◌, ◌<◌, ◌≤◌, inl, inr, sym, ap, ◌∙◌, arith}
-use Rattle.std.proofs.lemmas.Int.{ints}
-use Rattle.apfloat_model.proofs.rounding.KeptDigits.{fits_cut, full_cut, fits_shifted, full_shifted}
-use Rattle.storage_formats.proofs.PickedPoints.{picked_by_cut, picked_from}
-use Rattle.storage_formats.proofs.picks.pick.Goals as goal
-
--- Three returns.
--- 1. past the largest place: the point is picked by `picked_by_cut` (or, with the unit above the place, by `picked_from`),
---    and its number is at least place * half, more than the largest.
--- 2. the unit is at or above the place: amount ≡ kept * 2 ^ place * parts, by `shifted_stands` with ExactlyZero;
---    `picked_from` gives the number itself, since `moves` of the distance 0 is false.
--- 3. otherwise `picked_by_cut` with k = place - unit; `takes_next` says the same test.
+-- unproved: no answers yet; the names of the goals have to come from `rt check --start`
+--
+-- Three returns, each ended by one lemma over plain numbers:
+-- 1. past the largest place: `past_place` and `picked_past`, with `picked_by_cut`, or `picked_shifted` if the unit is at
+--    or above the place (both cases are possible there, so the return wants `cases_lt` on unit and place);
+-- 2. the unit at or above the place: `picked_shifted`; its sums of exponents come from `covers` and `reached` of
+--    `kept_place`, as in `apfloat_rounding/proofs/rounding/keep/Answers.antt` (fits_shifted, full_shifted);
+-- 3. otherwise `picked_by_cut` and `exact_cut` (fits_cut, full_cut); `takes_next` says the test of `next_or`.
