@@ -50,7 +50,7 @@ impl<S: Flagged> Model for IeeeFloat<S> {
 
 /// The constants of a format that rounding reads.
 #[inline]
-pub(crate) fn shape_of<S: Flagged>() -> Shape
+pub fn shape_of<S: Flagged>() -> Shape
     ensures { result ≡ shape_of S.Flagged }
 {
     Shape {
@@ -117,7 +117,7 @@ impl<S: Flagged> IeeeFloat<S> {
 
     /// The stored form of the value.
     #[inline]
-    pub(crate) fn unpacked(self) -> Unpacked
+    pub fn unpacked(self) -> Unpacked
         ensures stored { IsStored (shape_of S.Flagged) result }
         ensures datum { self ≡ datum_at (shape_of S.Flagged) result }
         ensures category { result.category ≡ category_of self }
@@ -128,7 +128,7 @@ impl<S: Flagged> IeeeFloat<S> {
 
     /// The result with the value of this stored form.
     #[inline]
-    pub(crate) fn answered(answer: StatusAnd<Unpacked>) -> StatusAnd<Self>
+    pub fn answered(answer: StatusAnd<Unpacked>) -> StatusAnd<Self>
         requires { IsStored (shape_of S.Flagged) answer.value }
         ensures status { result.status ≡ answer.status }
         ensures value { result.value ≡ datum_at (shape_of S.Flagged) answer.value }

@@ -6,5 +6,5 @@ pub mod PickAnswers
 pub mod PicksOfModel
 pub mod RandomCounts
 pub mod RestLosses
-pub mod Units
 pub mod IntoOnce
+pub mod BinaryLaw

@@ -7,3 +7,5 @@ pub mod Orders
 pub mod Neighbours
 pub mod Laws
 pub mod Types
+pub mod Results
+pub mod Binaries

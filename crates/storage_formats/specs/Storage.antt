@@ -4,7 +4,6 @@ use Rattle.apfloat_model.specs.declared.kinds.NonfiniteBehavior.{NonfiniteBehavi
 use Rattle.apfloat_model.specs.declared.kinds.NonfiniteBehavior.TheVariants.{IEEE754, NanOnly, NanNegativeZero}
 use Rattle.apfloat_model.specs.formats.Format.{Format}
 use Rattle.apfloat_model.specs.rounding.Bounds.{format_bound}
-use Rattle.apfloat_ieee.specs.declared.semantics.Semantics.{Ghosts}
 use Rattle.storage_formats.specs.declared.format.Nans.{Nans}
 use Rattle.storage_formats.specs.declared.format.Nans.TheVariants.{Never, WithPayloads, Last, NegativeZero}
 
@@ -122,18 +121,3 @@ pub record IsLawful (c : Constants) : Type 0 where
   pub numbers : 2 ^ (c.precision - 1) + reserved c.nans c.infinities c.precision < 2 ^ width c
   pub nans : AreNansLawful c.nans c
   pub zero : MayLackZero c.zero c
-
--- ---- payloads
-
--- a lawful format of that precision with bits and the NaNs of IEEE 754, without an explicit integer bit
-pub record CarriesPayloads {X : Type 0} (precision : ℕ) (carrier : Ghosts X) : Type 0 where
-  pub precision : carrier.PRECISION ≡ precision
-  pub bits : carrier.PRECISION < carrier.BITS
-  pub kind : carrier.NONFINITE_BEHAVIOR ≡ IEEE754
-  pub implied : carrier.EXPLICIT_INTEGER_BIT ≡ false
-
-abbrev pub IsCarrier : {X : Type 0} → Nans → ℕ → Ghosts X → Type 0
-IsCarrier WithPayloads precision carrier = CarriesPayloads precision carrier
-IsCarrier Never precision carrier = ⊤
-IsCarrier Last precision carrier = ⊤
-IsCarrier NegativeZero precision carrier = ⊤

@@ -5,11 +5,13 @@
 
 ghost use Rattle.std.specs.Prelude.{pos, neg_ℤ, ◌-ℤ◌, ◌^◌, ◌-◌, true, false, refl};
 ghost use Rattle.storage_formats.specs.declared.format.Nans.TheVariants.{Last, NegativeZero};
+ghost use Rattle.std.specs.Prelude.{◌≡◌, MatchOption};
 ghost use Rattle.storage_formats.proofs.LawTest.{lawful_from_test};
+ghost use Rattle.storage_formats.specs.Binaries.{IsBinary, binary_constants};
+ghost use Rattle.storage_formats.specs.Types.{constants_at};
 
-use crate::format::{Nans, StorageFormat};
+use crate::format::{Nans, StorageFormat, StorageShape};
 use apfloat_base::ExpInt;
-use apfloat_formats::HalfS;
 
 /// The format binaryKpP of P3109, `SIGNED` or not, with infinities if it is `EXTENDED`: K from 3 to 15, and P from 1 to
 /// K - 1 with a sign, to K without one.
@@ -36,8 +38,6 @@ macro_rules! signed_formats {
 
                 const ZERO: bool = true;
 
-                type NanCarrier = HalfS;
-
                 ghost BITS = { $bits };
 
                 ghost PRECISION = { $precision };
@@ -53,8 +53,6 @@ macro_rules! signed_formats {
                 ghost ZERO = { true };
 
                 ghost lawful = { lawful_from_test _ refl };
-
-                ghost carries = { tt };
             }
         )*
     };
@@ -78,8 +76,6 @@ macro_rules! unsigned_formats {
 
                 const ZERO: bool = true;
 
-                type NanCarrier = HalfS;
-
                 ghost BITS = { $bits };
 
                 ghost PRECISION = { $precision };
@@ -95,8 +91,6 @@ macro_rules! unsigned_formats {
                 ghost ZERO = { true };
 
                 ghost lawful = { lawful_from_test _ refl };
-
-                ghost carries = { tt };
             }
         )*
     };
@@ -138,4 +132,27 @@ unsigned_formats! {
     8 7 1 true,
     8 8 0 false,
     8 8 0 true,
+}
+
+/// The same formats as values, of 3 to 15 bits; `None` if there is no such format.
+pub fn binary(bits: u32, precision: u32, signed: bool, extended: bool) -> Option<StorageShape>
+    ensures { MatchOption result (IsBinary bits precision signed → ⊥)
+        (λ shape. constants_at shape ≡ binary_constants bits precision signed extended) }
+{
+    if bits < 3 || bits > 15 || precision < 1 || precision + u32::from(signed) > bits {
+        return None;
+    }
+    Some(StorageShape {
+        bits,
+        precision,
+        min_exp: 1 - (1 << (bits - precision - u32::from(signed))),
+        signed,
+        nans: if signed {
+            Nans::NegativeZero
+        } else {
+            Nans::Last
+        },
+        infinities: extended,
+        zero: true,
+    })
 }

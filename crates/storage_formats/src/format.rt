@@ -2,11 +2,10 @@
 
 ghost use Rattle.std.specs.Prelude.{◌≡◌, ℕ, ℤ, Bool};
 ghost use Rattle.storage_formats.specs.declared.format.Nans.{Nans};
-ghost use Rattle.storage_formats.specs.Storage.{constants_with, IsLawful, IsCarrier};
+ghost use Rattle.storage_formats.specs.Storage.{constants_with, IsLawful};
+ghost use Rattle.storage_formats.specs.Types.{constants_at, constants_of};
 
 use apfloat_base::ExpInt;
-use apfloat_ieee::Semantics;
-
 /// Which codes of a storage format are NaNs.
 #[derive(Clone, Copy, PartialEq, Eq, Debug)]
 pub enum Nans {
@@ -49,10 +48,6 @@ pub trait StorageFormat: Copy {
     /// the format has no sign and NaNs of the kind `Last`.
     const ZERO: bool;
 
-    /// A format with bits and the NaNs of IEEE 754 of the same precision, through which payloads pass. It is not used
-    /// unless NaNs have payloads.
-    type NanCarrier: Semantics;
-
     ghost BITS: { ℕ };
 
     ghost PRECISION: { ℕ };
@@ -71,7 +66,40 @@ pub trait StorageFormat: Copy {
     // `lawful_from_test` of `storage_formats.proofs.LawTest`.
     ghost lawful: { IsLawful
         (constants_with BITS PRECISION MIN_EXP SIGNED NANS INFINITIES ZERO) };
+}
 
-    // what the carrier has to be, if NaNs have payloads
-    ghost carries: { IsCarrier NANS PRECISION NanCarrier.Semantics };
+/// The constants of a storage format as a value: formats that are known at run time, as those of P3109, are such values.
+#[derive(Clone, Copy, Debug)]
+pub struct StorageShape {
+    /// The width of a code in bits.
+    pub bits: u32,
+    /// How many binary digits a significand has.
+    pub precision: u32,
+    /// The exponent of the least value with all digits.
+    pub min_exp: ExpInt,
+    /// Whether codes have a sign bit.
+    pub signed: bool,
+    /// Which codes are NaNs.
+    pub nans: Nans,
+    /// Whether the code after that of the largest number is an infinity.
+    pub infinities: bool,
+    /// Whether the code 0 is zero.
+    pub zero: bool,
+    pub ghost lawful: { IsLawful
+        (constants_with bits precision min_exp signed nans infinities zero) },
+}
+
+/// The constants of a storage format's type.
+pub fn shape_of<F: StorageFormat>() -> StorageShape
+    ensures { constants_at result ≡ constants_of F.StorageFormat }
+{
+    StorageShape {
+        bits: F::BITS as u32,
+        precision: F::PRECISION as u32,
+        min_exp: F::MIN_EXP,
+        signed: F::SIGNED,
+        nans: F::NANS,
+        infinities: F::INFINITIES,
+        zero: F::ZERO,
+    }
 }

@@ -1,36 +1,43 @@
 //! Conversions of the values of a format into a storage format.
 
-ghost use Rattle.std.specs.Prelude.{◌≡◌, ◌*◌, ◌^◌, ◌<◌, Bool, true, false};
-ghost use Rattle.apfloat_model.specs.declared.kinds.Category.TheVariants.{NaN, Infinity, Normal};
-ghost use Rattle.apfloat_model.specs.formats.Datum.{finite};
-ghost use Rattle.apfloat_model.specs.order.Classes.{category_of, is_negative, quanta_of};
+ghost use Rattle.std.specs.Prelude.{◌≡◌, ℕ, ◌*◌, ◌+◌, ◌^◌, ◌<◌, true, false, if◌then◌else◌};
+ghost use Rattle.apfloat_model.specs.declared.kinds.Category.TheVariants.{NaN, Normal};
 ghost use Rattle.apfloat_model.specs.rounding.Flags.{bits_of};
-ghost use Rattle.apfloat_ieee.specs.FlaggedTypes.{format_of};
-ghost use Rattle.storage_formats.specs.Codes.{nan_code, past_code, point_code, zero_code};
-ghost use Rattle.storage_formats.specs.Conversions.{IsBelowAll, IsInfinityStored, IsInto, IsNanStored, IsNumberStored, IsZeroStored};
-ghost use Rattle.storage_formats.specs.Conversions.{rounded_code, saturates, is_finite_limit, nan_significand};
-ghost use Rattle.storage_formats.specs.declared.modes.ConversionRound.{ConversionRound};
+ghost use Rattle.apfloat_model.specs.rounding.Rounding.{inexact_bit, overflow_bit};
+ghost use Rattle.apfloat_rounding.specs.Shapes.{format_at};
+ghost use Rattle.apfloat_rounding.specs.Stored.{IsNan, IsNormal, IsStored, datum_at, quanta_of};
+ghost use Rattle.storage_formats.specs.Conversions.{IsBelowAll, IsInfinityStored, IsInto, IsNanStored, IsNumberStored};
+ghost use Rattle.storage_formats.specs.Conversions.{IsZeroStored, is_finite_limit, rounded_code, saturates};
 ghost use Rattle.storage_formats.specs.Modes.{leads_past};
-ghost use Rattle.storage_formats.specs.Storage.{first_point, format_for, largest_point};
-ghost use Rattle.storage_formats.specs.Types.{constants_of};
+ghost use Rattle.storage_formats.specs.Results.{StoresAs};
+ghost use Rattle.storage_formats.specs.Storage.{format_for, largest_point};
+ghost use Rattle.storage_formats.specs.Types.{constants_at};
 
-use crate::format::{Nans, StorageFormat};
-use crate::modes::{ConversionRound, Limit};
-use crate::numbers::number_of;
-use crate::picks::pick;
-use crate::stored::{StoredFloat, largest_code, points_of, width_of};
-use apfloat_base::{
-    Category, ExpInt, Flags, Float, FloatConvert, NonfiniteBehavior, Round, Status, StatusAnd,
+use crate::codes::{
+    has_negative_zero, largest_code, largest_of_sign, past_code, point_code, points_of, single_nan,
+    with_sign, zero_code,
 };
-use apfloat_ieee::{Flagged, IeeeFloat};
-use apfloat_words::{low_digits, power_of_two};
+use crate::format::{Nans, StorageShape};
+use crate::modes::{ConversionRound, Limit};
+use crate::picks::pick;
+use crate::surrogate::with_payloads;
+use apfloat_conversions::between_formats::convert;
+use apfloat_model::{Category, ExpInt, Flags, Round, Status};
+use apfloat_rounding::exponents::last_exponent;
+use apfloat_rounding::nans::{payload_mask, signals, status_of};
+use apfloat_rounding::shape::Shape;
+use apfloat_rounding::unpacked::Unpacked;
+use apfloat_words::power_of_two;
 
-/// A converted value with its flags, and whether information was lost.
-#[derive(Clone, Copy)]
-struct Converted<F: StorageFormat> {
-    value: StoredFloat<F>,
-    status: Status,
-    loses_info: bool,
+/// A code with its flags, and whether information was lost.
+#[derive(Clone, Copy, Debug)]
+pub struct Stored {
+    /// The code.
+    pub code: u128,
+    /// The flags of the conversion.
+    pub status: Status,
+    /// Whether information was lost.
+    pub loses_info: bool,
 }
 
 /// Whether numbers past the largest one become that one in every mode.
@@ -69,187 +76,89 @@ fn leads_past(mode: ConversionRound, negative: bool) -> bool
     }
 }
 
-/// Whether -0 has a code.
-fn has_negative_zero<F: StorageFormat>() -> bool {
-    F::SIGNED && F::NANS != Nans::NegativeZero
-}
-
-/// The zero of that sign, if the format has it, and otherwise its only zero.
-fn zero_of<F: StorageFormat>(negative: bool) -> StoredFloat<F>
-    ensures { result ≡ zero_code (constants_of F.StorageFormat) negative }
-{
-    StoredFloat::with_sign(negative && has_negative_zero::<F>(), 0)
-}
-
-/// The number at a point; a point below that of the code 0 becomes that one.
-pub(crate) fn number_at<F: StorageFormat>(negative: bool, index: u128) -> StoredFloat<F>
-    requires signed { negative ≡ true → F.SIGNED ≡ true }
-    requires within { index ≤ largest_point (constants_of F.StorageFormat) }
-    ensures { result ≡ point_code (constants_of F.StorageFormat) negative index }
-{
-    let first = u128::from(points_of::<F>().first);
-    if index <= first {
-        if F::ZERO {
-            zero_of(negative)
-        } else {
-            StoredFloat::least_magnitude()
-        }
-    } else {
-        StoredFloat::with_sign(negative, index - first)
-    }
-}
-
-/// The NaN without a payload, in a format that has one.
-fn nan_of<F: StorageFormat>(negative: bool) -> StoredFloat<F>
-    ensures last { F.NANS ≡ Nans.Last → result
-        ≡ nan_code Nans.Last (constants_of F.StorageFormat) negative 0 }
-    ensures at_zero { F.NANS ≡ Nans.NegativeZero → result
-        ≡ nan_code Nans.NegativeZero (constants_of F.StorageFormat) negative 0 }
-{
-    match F::NANS {
-        Nans::NegativeZero => StoredFloat::with_sign(true, 0),
-        Nans::Last | Nans::WithPayloads | Nans::Never => StoredFloat::with_sign(
-            negative && F::SIGNED,
-            power_of_two(width_of::<F>()) - 1,
-        ),
-    }
-}
-
-/// What is past the largest number of that sign.
-pub(crate) fn past_of<F: StorageFormat>(negative: bool) -> StoredFloat<F>
-    requires { negative ≡ true → F.SIGNED ≡ true }
-    ensures { result ≡ past_code (constants_of F.StorageFormat) negative }
-{
-    if F::INFINITIES {
-        return StoredFloat::with_sign(negative, largest_code::<F>() + 1);
-    }
-    match F::NANS {
-        Nans::Never => StoredFloat::largest_of_sign(negative),
-        Nans::WithPayloads | Nans::Last | Nans::NegativeZero => nan_of(negative),
-    }
-}
-
-/// A NaN with the payload that the carrier has kept.
-fn carried_nan<S: Flagged, F: StorageFormat>(x: IeeeFloat<S>) -> Converted<F>
-    requires nan { category_of x ≡ NaN }
-    requires payloads { F.NANS ≡ Nans.WithPayloads }
-    ensures { IsNanStored Nans.WithPayloads (constants_of F.StorageFormat) (format_of S.Flagged)
-        (is_negative x) (nan_significand x) result.value (bits_of result.status)
-        result.loses_info }
-{
-    let mut loses_info = false;
-    let carried: StatusAnd<IeeeFloat<F::NanCarrier>> =
-        x.convert_r(Round::NearestTiesToEven, &mut loses_info);
-    let payload = low_digits(carried.value.to_bits(), F::PRECISION as u32 - 1);
-    Converted {
-        value: StoredFloat::with_sign(x.is_negative(), largest_code::<F>() + 1 + payload),
-        status: carried.status,
-        loses_info,
-    }
-}
-
-/// A NaN in a format with a single one for each sign, or a single one.
-fn single_nan<S: Flagged, F: StorageFormat>(x: IeeeFloat<S>) -> Converted<F>
-    requires { category_of x ≡ NaN }
-    ensures { IsNanStored F.NANS (constants_of F.StorageFormat) (format_of S.Flagged)
-        (is_negative x) (nan_significand x) result.value (bits_of result.status)
-        result.loses_info }
-{
-    // the whole payload is lost, if the source has one
-    let payload = match S::NONFINITE_BEHAVIOR {
-        NonfiniteBehavior::IEEE754 => true,
-        NonfiniteBehavior::NanOnly | NonfiniteBehavior::NanNegativeZero => false,
-    };
-    Converted {
-        value: nan_of(x.is_negative()),
-        status: if x.is_signaling() {
-            Status::INVALID_OP
-        } else {
-            Status::OK
-        },
-        loses_info: payload,
-    }
-}
-
 /// A result that loses information.
-fn lossy<F: StorageFormat>(value: StoredFloat<F>, status: Status) -> Converted<F>
-    ensures value { result.value ≡ value }
+fn lossy(code: u128, status: Status) -> Stored
+    ensures code { result.code ≡ code }
     ensures status { result.status ≡ status }
     ensures loses { result.loses_info ≡ true }
 {
-    Converted {
-        value,
+    Stored {
+        code,
         status,
         loses_info: true,
     }
 }
 
-fn stored_nan<S: Flagged, F: StorageFormat>(limit: Limit, x: IeeeFloat<S>) -> Converted<F>
-    requires { category_of x ≡ NaN }
-    ensures { (mode : ConversionRound) → IsInto (format_of S.Flagged) limit
-        (constants_of F.StorageFormat) mode x result.value (bits_of result.status)
-        result.loses_info }
+/// A NaN: as a NaN of three digits or more it is converted like one of any format.
+fn stored_nan(shape: StorageShape, from: Shape, x: Unpacked) -> Stored
+    requires { IsNan from x }
+    ensures { StoresAs (IsNanStored shape.nans (constants_at shape) (format_at from) x.negative
+        x.significand) result }
 {
-    if limit == Limit::FiniteNans {
-        return lossy(StoredFloat::largest(), Status::INVALID_OP);
-    }
-    match F::NANS {
-        Nans::Never => lossy(zero_of(false), Status::INVALID_OP),
-        Nans::WithPayloads => carried_nan(x),
-        Nans::Last | Nans::NegativeZero => single_nan(x),
+    match shape.nans {
+        Nans::Never => lossy(zero_code(shape, false), Status::INVALID_OP),
+        Nans::WithPayloads => {
+            let converted = convert(from, with_payloads(shape), x, Round::NearestTiesToEven);
+            let payload = converted.answer.value.significand;
+            Stored {
+                code: with_sign(shape, x.negative, largest_code(shape) + 1 + payload),
+                status: converted.answer.status,
+                loses_info: converted.loses_info,
+            }
+        }
+        Nans::Last | Nans::NegativeZero => Stored {
+            code: single_nan(shape, x.negative),
+            status: status_of(signals(from, x.significand)),
+            loses_info: payload_mask(from) != 0,
+        },
     }
 }
 
 /// A negative value in a format without a sign.
-fn below_all<F: StorageFormat>(limit: Limit) -> Converted<F>
-    requires { F.SIGNED ≡ false }
-    ensures { IsBelowAll limit (constants_of F.StorageFormat) result.value (bits_of result.status)
-        result.loses_info }
+fn below_all(shape: StorageShape, limit: Limit) -> Stored
+    requires { shape.signed ≡ false }
+    ensures { StoresAs (IsBelowAll limit (constants_at shape)) result }
 {
-    if is_finite_limit(limit) {
-        lossy(StoredFloat::least_magnitude(), Status::INVALID_OP)
+    let code = if is_finite_limit(limit) {
+        0
     } else {
-        lossy(nan_of(false), Status::INVALID_OP)
-    }
+        single_nan(shape, false)
+    };
+    lossy(code, Status::INVALID_OP)
 }
 
-fn stored_infinity<F: StorageFormat>(limit: Limit, negative: bool) -> Converted<F>
-    requires { negative ≡ true → F.SIGNED ≡ true }
-    ensures { IsInfinityStored limit (constants_of F.StorageFormat) negative result.value
-        (bits_of result.status) result.loses_info }
+fn stored_infinity(shape: StorageShape, limit: Limit, negative: bool) -> Stored
+    requires { negative ≡ true → shape.signed ≡ true }
+    ensures { StoresAs (IsInfinityStored limit (constants_at shape) negative) result }
 {
-    let missing = if !F::INFINITIES && F::NANS == Nans::Never {
+    let missing = if !shape.infinities && shape.nans == Nans::Never {
         Status::INVALID_OP
     } else {
         Status::INEXACT
     };
     if is_finite_limit(limit) {
-        return lossy(StoredFloat::largest_of_sign(negative), missing);
+        return lossy(largest_of_sign(shape, negative), missing);
     }
-    if F::INFINITIES {
-        Converted {
-            value: past_of(negative),
+    if shape.infinities {
+        Stored {
+            code: past_code(shape, negative),
             status: Status::OK,
             loses_info: false,
         }
     } else {
-        lossy(past_of(negative), missing)
+        lossy(past_code(shape, negative), missing)
     }
 }
 
-fn stored_zero<F: StorageFormat>(negative: bool) -> Converted<F>
-    ensures { IsZeroStored (constants_of F.StorageFormat) negative result.value
-        (bits_of result.status) result.loses_info }
+fn stored_zero(shape: StorageShape, negative: bool) -> Stored
+    ensures { StoresAs (IsZeroStored (constants_at shape) negative) result }
 {
-    if !F::ZERO {
-        return lossy(
-            StoredFloat::least_magnitude(),
-            Status::UNDERFLOW.union(Status::INEXACT),
-        );
+    if !shape.zero {
+        return lossy(0, Status::UNDERFLOW.union(Status::INEXACT));
     }
-    let loses_info = negative && !has_negative_zero::<F>();
-    Converted {
-        value: zero_of(negative),
+    let loses_info = negative && !has_negative_zero(shape);
+    Stored {
+        code: zero_code(shape, negative),
         status: if loses_info {
             Status::INEXACT
         } else {
@@ -259,98 +168,90 @@ fn stored_zero<F: StorageFormat>(negative: bool) -> Converted<F>
     }
 }
 
-/// A number, rounded once.
-fn stored_number<S: Flagged, F: StorageFormat>(
+/// The result if the pick is past the largest number.
+fn past_largest(
+    shape: StorageShape,
     limit: Limit,
     mode: ConversionRound,
-    x: IeeeFloat<S>,
-) -> Converted<F>
-    requires number { category_of x ≡ Normal }
-    requires signed { is_negative x ≡ true → F.SIGNED ≡ true }
-    ensures { let c = constants_of F.StorageFormat in let f = format_of S.Flagged in
-        IsNumberStored limit c mode (is_negative x) (quanta_of x * 2 ^ (format_for c).scale)
-        (2 ^ f.scale) result.value (bits_of result.status) result.loses_info }
+    negative: bool,
+) -> Stored
+    requires { negative ≡ true → shape.signed ≡ true }
+    ensures code { (index : ℕ) → largest_point (constants_at shape) < index
+        → result.code ≡ rounded_code limit (constants_at shape) mode negative index }
+    ensures status { bits_of result.status
+        ≡ (if leads_past mode negative then overflow_bit + inexact_bit else inexact_bit) }
+    ensures loses { result.loses_info ≡ true }
 {
-    let negative = x.is_negative();
-    let number = number_of(x.abs());
-    let points = points_of::<F>();
-    let scale = F::PRECISION as ExpInt - 1 - F::MIN_EXP;
-    let picked = pick(
-        points,
-        number.significand,
-        number.exponent + scale,
-        mode,
-        negative,
-    );
-    if picked.index > points.largest {
-        return past_largest(limit, mode, negative);
+    let leads = leads_past(mode, negative);
+    let code = if leads && !saturates(limit) {
+        past_code(shape, negative)
+    } else {
+        largest_of_sign(shape, negative)
+    };
+    if leads {
+        lossy(code, Status::OVERFLOW.union(Status::INEXACT))
+    } else {
+        lossy(code, Status::INEXACT)
     }
-    let value = number_at(negative, picked.index);
+}
+
+/// A number, rounded once.
+fn stored_number(
+    shape: StorageShape,
+    from: Shape,
+    x: Unpacked,
+    mode: ConversionRound,
+    limit: Limit,
+) -> Stored
+    requires number { IsNormal from x }
+    requires signed { x.negative ≡ true → shape.signed ≡ true }
+    ensures { let c = constants_at shape in StoresAs (IsNumberStored limit c mode x.negative
+        (quanta_of from x * 2 ^ (format_for c).scale) (2 ^ (format_at from).scale)) result }
+{
+    let points = points_of(shape);
+    let scale = shape.precision as ExpInt - 1 - shape.min_exp;
+    let unit = last_exponent(from, x.exponent) + scale;
+    let picked = pick(points, x.significand, unit, mode, x.negative);
+    if picked.index > points.largest {
+        return past_largest(shape, limit, mode, x.negative);
+    }
+    let code = point_code(shape, x.negative, picked.index);
     if picked.exact {
-        return Converted {
-            value,
+        return Stored {
+            code,
             status: Status::OK,
             loses_info: false,
         };
     }
     if picked.index < power_of_two(points.precision - 1) {
-        lossy(value, Status::UNDERFLOW.union(Status::INEXACT))
+        lossy(code, Status::UNDERFLOW.union(Status::INEXACT))
     } else {
-        lossy(value, Status::INEXACT)
+        lossy(code, Status::INEXACT)
     }
 }
 
-/// The result if the pick is past the largest number.
-fn past_largest<F: StorageFormat>(
-    limit: Limit,
+/// A value of a format as a code, rounded once.
+pub fn store(
+    shape: StorageShape,
+    from: Shape,
+    x: Unpacked,
     mode: ConversionRound,
-    negative: bool,
-) -> Converted<F>
-    requires { negative ≡ true → F.SIGNED ≡ true }
-    ensures value { (index : ℕ) → largest_point (constants_of F.StorageFormat) < index
-        → result.value ≡ rounded_code limit (constants_of F.StorageFormat) mode negative index }
-    ensures status { bits_of result.status ≡ (if leads_past mode negative then 20 else 16) }
-    ensures loses { result.loses_info ≡ true }
+    limit: Limit,
+) -> Stored
+    requires { IsStored from x }
+    ensures stored { StoresAs (IsInto (format_at from) limit (constants_at shape) mode
+        (datum_at from x)) result }
+    ensures below { result.code < 2 ^ shape.bits }
 {
-    let leads = leads_past(mode, negative);
-    let value = if leads && !saturates(limit) {
-        past_of(negative)
-    } else {
-        StoredFloat::largest_of_sign(negative)
-    };
-    if leads {
-        lossy(value, Status::OVERFLOW.union(Status::INEXACT))
-    } else {
-        lossy(value, Status::INEXACT)
-    }
-}
-
-impl<F: StorageFormat> StoredFloat<F> {
-    /// A value of another format, rounded once (IEEE 754-2019 5.4.2), with the flags of that rounding.
-    ///
-    /// The flags of a number are those that the built-in formats raise: past the largest number OVERFLOW and INEXACT where
-    /// the mode leads past it, and INEXACT alone where it does not; below the least number with all digits UNDERFLOW and
-    /// INEXACT if the result is inexact.
-    pub fn from_value<S: Flagged>(
-        x: IeeeFloat<S>,
-        mode: ConversionRound,
-        limit: Limit,
-        loses_info: &mut bool,
-    ) -> StatusAnd<Self>
-        ensures { IsInto (format_of S.Flagged) limit (constants_of F.StorageFormat) mode x
-            result.value (bits_of result.status) loses_info.new }
-    {
-        let negative = x.is_negative();
-        let below = negative && !F::SIGNED;
-        let converted = match x.category() {
-            Category::NaN => stored_nan(limit, x),
-            Category::Infinity if below => below_all(limit),
-            Category::Infinity => stored_infinity(limit, negative),
-            Category::Zero => stored_zero(negative),
-            Category::Normal if below => below_all(limit),
-            Category::Normal => stored_number(limit, mode, x),
-        };
-        *loses_info = converted.loses_info;
-        converted.status.and(converted.value)
+    let below = x.negative && !shape.signed;
+    match x.category {
+        Category::NaN if limit == Limit::FiniteNans => {
+            lossy(largest_of_sign(shape, false), Status::INVALID_OP)
+        }
+        Category::NaN => stored_nan(shape, from, x),
+        Category::Zero => stored_zero(shape, x.negative),
+        Category::Infinity | Category::Normal if below => below_all(shape, limit),
+        Category::Infinity => stored_infinity(shape, limit, x.negative),
+        Category::Normal => stored_number(shape, from, x, mode, limit),
     }
 }

@@ -5,6 +5,9 @@
 //! exponents on either side of 0. A value has no arithmetic; it is converted from and to the values of every format
 //! (`IeeeFloat<S>`), rounded once, and has an order, classes and neighbours.
 //!
+//! The work is done on codes and on a `StorageShape`, the constants of a format as a value, so that formats known only at
+//! run time have it too; the calls of `StoredFloat<F>` pass the constants of a type.
+//!
 //! The grid points of a precision are numbered from 0 upwards (`points`), and the code of a number is the number of its
 //! point: so the next code is the next value, also past a power of two, and what is past the largest value has a code
 //! past that of the largest value. A conversion cuts the significand of the source once, at the last digit that the
@@ -12,26 +15,25 @@
 #![tactic(auto)]
 
 pub mod binary;
-mod carrier;
+mod codes;
 mod cuts;
 pub mod format;
-mod from_value;
+pub mod from_value;
 pub mod modes;
 mod named;
-mod neighbours;
-mod numbers;
-mod order;
+pub mod neighbours;
+pub mod order;
 mod picks;
 mod points;
 mod stored;
+mod surrogate;
 #[cfg(test)]
 mod tests;
 mod theorems;
-mod to_value;
+pub mod to_value;
 
-pub use binary::Binary;
-pub use carrier::FiveDigitsS;
-pub use format::{Nans, StorageFormat};
+pub use binary::{Binary, binary};
+pub use format::{Nans, StorageFormat, StorageShape, shape_of};
 pub use modes::{ConversionRound, Limit, RandomBits};
 pub use named::{E2M1FN, E2M3FN, E3M4, E8M0FNU, UE4M3};
 pub use stored::StoredFloat;

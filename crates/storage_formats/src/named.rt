@@ -1,13 +1,11 @@
 //! The storage formats with names of their own.
 
-ghost use Rattle.std.specs.Prelude.{pos, negsuc, true, false, refl, lit<};
+ghost use Rattle.std.specs.Prelude.{pos, negsuc, true, false, refl};
 ghost use Rattle.storage_formats.specs.declared.format.Nans.TheVariants.{Never, WithPayloads, Last};
 ghost use Rattle.storage_formats.proofs.LawTest.{lawful_from_test};
 
-use crate::carrier::FiveDigitsS;
 use crate::format::{Nans, StorageFormat};
 use apfloat_base::ExpInt;
-use apfloat_formats::HalfS;
 
 /// Four bits, with values to 6: the elements of MXFP4 and NVFP4. No infinities, no NaNs.
 #[derive(Clone, Copy)]
@@ -28,8 +26,6 @@ impl StorageFormat for E2M1FN {
 
     const ZERO: bool = true;
 
-    type NanCarrier = HalfS;
-
     ghost BITS = { 4 };
 
     ghost PRECISION = { 2 };
@@ -45,8 +41,6 @@ impl StorageFormat for E2M1FN {
     ghost ZERO = { true };
 
     ghost lawful = { lawful_from_test _ refl };
-
-    ghost carries = { tt };
 }
 
 /// Six bits, three of the significand, with values to 7.5. No infinities, no NaNs.
@@ -68,8 +62,6 @@ impl StorageFormat for E2M3FN {
 
     const ZERO: bool = true;
 
-    type NanCarrier = HalfS;
-
     ghost BITS = { 6 };
 
     ghost PRECISION = { 4 };
@@ -85,8 +77,6 @@ impl StorageFormat for E2M3FN {
     ghost ZERO = { true };
 
     ghost lawful = { lawful_from_test _ refl };
-
-    ghost carries = { tt };
 }
 
 /// Eight bits, four of the significand, with values to 15.5, infinities and NaNs with payloads.
@@ -108,8 +98,6 @@ impl StorageFormat for E3M4 {
 
     const ZERO: bool = true;
 
-    type NanCarrier = FiveDigitsS;
-
     ghost BITS = { 8 };
 
     ghost PRECISION = { 5 };
@@ -125,8 +113,6 @@ impl StorageFormat for E3M4 {
     ghost ZERO = { true };
 
     ghost lawful = { lawful_from_test _ refl };
-
-    ghost carries = { record { precision = refl; bits = lit< tt; kind = refl; implied = refl } };
 }
 
 /// The powers of two from 2^-127 to 2^127 and a NaN: the scales of MX blocks. No sign, no zero.
@@ -148,8 +134,6 @@ impl StorageFormat for E8M0FNU {
 
     const ZERO: bool = false;
 
-    type NanCarrier = HalfS;
-
     ghost BITS = { 8 };
 
     ghost PRECISION = { 1 };
@@ -165,8 +149,6 @@ impl StorageFormat for E8M0FNU {
     ghost ZERO = { false };
 
     ghost lawful = { lawful_from_test _ refl };
-
-    ghost carries = { tt };
 }
 
 /// The nonnegative values of `Float8E4M3FN` in seven bits: the scales of NVFP4 blocks. A byte has 0 above them.
@@ -188,8 +170,6 @@ impl StorageFormat for UE4M3 {
 
     const ZERO: bool = true;
 
-    type NanCarrier = HalfS;
-
     ghost BITS = { 7 };
 
     ghost PRECISION = { 4 };
@@ -205,6 +185,4 @@ impl StorageFormat for UE4M3 {
     ghost ZERO = { true };
 
     ghost lawful = { lawful_from_test _ refl };
-
-    ghost carries = { tt };
 }

@@ -1,14 +1,26 @@
-//! A value of a storage format, which is its code.
+//! A value of a storage format's type, which is its code, and its calls: each passes the constants of the type to a
+//! function on shapes.
 
-ghost use Rattle.std.specs.Prelude.{◌≡◌, ◌+◌, ◌-◌, ◌%◌, ◌^◌, ◌<◌, ◌≤◌, Bool, if◌then◌else◌};
-ghost use Rattle.storage_formats.specs.Codes.{magnitude_of, sign_of_code, signed_code};
-ghost use Rattle.storage_formats.specs.Codes.{largest_of_sign, zero_code};
-ghost use Rattle.storage_formats.specs.Storage.{first_point, infinity_code, largest_code, largest_point, width};
+ghost use Rattle.std.specs.Prelude.{◌≡◌, ◌%◌, ◌^◌, ◌<◌, true, false};
+ghost use Rattle.apfloat_model.specs.rounding.Flags.{bits_of};
+ghost use Rattle.apfloat_ieee.specs.FlaggedTypes.{format_of};
+ghost use Rattle.storage_formats.specs.Conversions.{IsInto, IsOutOf};
+ghost use Rattle.storage_formats.specs.Neighbours.{IsNext};
+ghost use Rattle.storage_formats.specs.Orders.{category_of_code, compared_codes, is_denormal_code, is_negative_code};
+ghost use Rattle.storage_formats.specs.Storage.{largest_code};
 ghost use Rattle.storage_formats.specs.Types.{constants_of};
 
-use crate::format::{Nans, StorageFormat};
-use crate::picks::Points;
-use apfloat_words::{low_digits, power_of_two};
+use crate::codes;
+use crate::format::{StorageFormat, shape_of};
+use crate::from_value::store;
+use crate::modes::{ConversionRound, Limit};
+use crate::neighbours;
+use crate::order;
+use crate::to_value::load;
+use apfloat_base::{Category, Round, StatusAnd};
+use apfloat_ieee::{Flagged, IeeeFloat};
+use apfloat_words::low_digits;
+use std::cmp::Ordering;
 use std::marker::{Model, PhantomData};
 
 /// A value of the storage format `F`: one of its codes.
@@ -33,62 +45,12 @@ impl<F: StorageFormat> Model for StoredFloat<F> {
     ghost inverse_ok = { λ x h. refl };
 }
 
-/// How many bits are below the sign.
-pub(crate) fn width_of<F: StorageFormat>() -> u32
-    ensures value { result ≡ width (constants_of F.StorageFormat) }
-    ensures high { result ≤ 126 }
-{
-    if F::SIGNED {
-        F::BITS as u32 - 1
-    } else {
-        F::BITS as u32
-    }
-}
-
-/// How many of the greatest codes below the sign are not numbers.
-fn reserved<F: StorageFormat>() -> u128
-    ensures { let c = constants_of F.StorageFormat in
-        result + largest_code c ≡ 2 ^ width c - 1 }
-{
-    match F::NANS {
-        Nans::Never => u128::from(F::INFINITIES),
-        Nans::WithPayloads => power_of_two(F::PRECISION as u32 - 1),
-        Nans::Last => 1 + u128::from(F::INFINITIES),
-        Nans::NegativeZero => u128::from(F::INFINITIES),
-    }
-}
-
-/// The code of the largest number.
-pub(crate) fn largest_code<F: StorageFormat>() -> u128
-    ensures value { result ≡ largest_code (constants_of F.StorageFormat) }
-    ensures high { result < 2 ^ 126 - 1 }
-{
-    power_of_two(width_of::<F>()) - 1 - reserved::<F>()
-}
-
-/// The points of the format.
-pub(crate) fn points_of<F: StorageFormat>() -> Points
-    ensures precision { result.precision ≡ F.PRECISION }
-    ensures first { result.first ≡ first_point (constants_of F.StorageFormat) }
-    ensures largest { result.largest ≡ largest_point (constants_of F.StorageFormat) }
-{
-    let first = if F::ZERO { 0 } else { 1 };
-    Points {
-        precision: F::PRECISION as u32,
-        first,
-        largest: largest_code::<F>() + u128::from(first),
-    }
-}
-
 impl<F: StorageFormat> StoredFloat<F> {
     /// The value with the lowest `BITS` bits of `bits` as its code.
     pub fn from_bits(bits: u128) -> Self
         ensures { result ≡ bits % 2 ^ F.BITS }
     {
-        StoredFloat {
-            code: low_digits(bits, F::BITS as u32),
-            marker: PhantomData,
-        }
+        Self::coded(low_digits(bits, F::BITS as u32))
     }
 
     /// The code of the value.
@@ -99,57 +61,112 @@ impl<F: StorageFormat> StoredFloat<F> {
         self.code
     }
 
-    /// The value with this sign and these bits below it; without a sign bit, the sign has to be plus.
-    pub(crate) fn with_sign(negative: bool, magnitude: u128) -> Self
-        requires fits { magnitude < 2 ^ width (constants_of F.StorageFormat) }
-        requires signed { negative ≡ Bool.true → F.SIGNED ≡ Bool.true }
-        ensures { result ≡ signed_code (constants_of F.StorageFormat) negative magnitude }
+    fn coded(code: u128) -> Self
+        requires { code < 2 ^ F.BITS }
+        ensures { result ≡ code }
     {
-        let sign = if negative {
-            power_of_two(width_of::<F>())
-        } else {
-            0
-        };
         StoredFloat {
-            code: sign + magnitude,
+            code,
             marker: PhantomData,
         }
-    }
-
-    /// The bits below the sign.
-    pub(crate) fn magnitude(self) -> u128
-        ensures value { result ≡ magnitude_of (constants_of F.StorageFormat) self }
-        ensures below { result < 2 ^ width (constants_of F.StorageFormat) }
-    {
-        low_digits(self.code, width_of::<F>())
-    }
-
-    /// Whether the sign bit is set.
-    pub(crate) fn has_sign_bit(self) -> bool
-        ensures { result ≡ sign_of_code (constants_of F.StorageFormat) self }
-    {
-        F::SIGNED && self.code >= power_of_two(width_of::<F>())
-    }
-
-    /// The largest number of that sign.
-    pub fn largest_of_sign(negative: bool) -> Self
-        requires { negative ≡ Bool.true → F.SIGNED ≡ Bool.true }
-        ensures { result ≡ largest_of_sign (constants_of F.StorageFormat) negative }
-    {
-        Self::with_sign(negative, largest_code::<F>())
     }
 
     /// The largest number.
     pub fn largest() -> Self
         ensures { result ≡ largest_code (constants_of F.StorageFormat) }
     {
-        Self::largest_of_sign(false)
+        Self::coded(codes::largest_code(shape_of::<F>()))
     }
 
-    /// The code 0: zero, or the least number of a format without a zero.
-    pub fn least_magnitude() -> Self
-        ensures { result ≡ 0 }
+    /// A value of another format, rounded once (IEEE 754-2019 5.4.2), with the flags of that rounding.
+    ///
+    /// The flags of a number are those that the built-in formats raise: past the largest number OVERFLOW and INEXACT where
+    /// the mode leads past it, and INEXACT alone where it does not; below the least number with all digits UNDERFLOW and
+    /// INEXACT if the result is inexact.
+    pub fn from_value<S: Flagged>(
+        x: IeeeFloat<S>,
+        mode: ConversionRound,
+        limit: Limit,
+        loses_info: &mut bool,
+    ) -> StatusAnd<Self>
+        ensures { IsInto (format_of S.Flagged) limit (constants_of F.StorageFormat) mode x
+            result.value (bits_of result.status) loses_info.new }
     {
-        Self::with_sign(false, 0)
+        let stored = store(
+            shape_of::<F>(),
+            apfloat_ieee::ieee_float::shape_of::<S>(),
+            x.unpacked(),
+            mode,
+            limit,
+        );
+        *loses_info = stored.loses_info;
+        stored.status.and(Self::coded(stored.code))
+    }
+
+    /// The value in another format, rounded once (IEEE 754-2019 5.4.2), with the flags of that rounding, as a value of any
+    /// other format is converted.
+    pub fn convert_r<T: Flagged>(
+        self,
+        round: Round,
+        loses_info: &mut bool,
+    ) -> StatusAnd<IeeeFloat<T>>
+        ensures { IsOutOf (constants_of F.StorageFormat) (format_of T.Flagged) round self
+            result.value (bits_of result.status) loses_info.new }
+    {
+        let loaded = load(
+            shape_of::<F>(),
+            apfloat_ieee::ieee_float::shape_of::<T>(),
+            self.code,
+            round,
+        );
+        *loses_info = loaded.loses_info;
+        IeeeFloat::answered(loaded.answer)
+    }
+
+    /// Whether the value is an infinity, a NaN, a zero or another number.
+    pub fn category(self) -> Category
+        ensures { result ≡ category_of_code (constants_of F.StorageFormat) self }
+    {
+        order::category(shape_of::<F>(), self.code)
+    }
+
+    /// Whether the sign is minus; the NaN of the kind `NegativeZero` has none.
+    pub fn is_negative(self) -> bool
+        ensures { result ≡ is_negative_code (constants_of F.StorageFormat) self }
+    {
+        order::is_negative(shape_of::<F>(), self.code)
+    }
+
+    /// Whether the value is a nonzero number without all digits.
+    pub fn is_denormal(self) -> bool
+        ensures { result ≡ is_denormal_code (constants_of F.StorageFormat) self }
+    {
+        order::is_denormal(shape_of::<F>(), self.code)
+    }
+
+    /// The order of two values (IEEE 754-2019 5.11): numbers by their values, infinities at the ends; a NaN has none.
+    pub fn compare(self, other: Self) -> Option<Ordering>
+        ensures { result ≡ compared_codes (constants_of F.StorageFormat) self other }
+    {
+        order::compare(shape_of::<F>(), self.code, other.code)
+    }
+
+    /// The least value above (IEEE 754-2019 5.3.1); positive infinity and the largest value of a format without infinities
+    /// and NaNs stay.
+    pub fn next_up(self) -> StatusAnd<Self>
+        ensures { IsNext false (constants_of F.StorageFormat) self result.value
+            (bits_of result.status) }
+    {
+        let next = neighbours::next_toward(shape_of::<F>(), false, self.code);
+        next.status.and(Self::coded(next.value))
+    }
+
+    /// The greatest value below; the least value of a format without a sign stays.
+    pub fn next_down(self) -> StatusAnd<Self>
+        ensures { IsNext true (constants_of F.StorageFormat) self result.value
+            (bits_of result.status) }
+    {
+        let next = neighbours::next_toward(shape_of::<F>(), true, self.code);
+        next.status.and(Self::coded(next.value))
     }
 }

@@ -1,139 +1,111 @@
 //! Conversions of the values of a storage format to any format.
 
-ghost use Rattle.std.specs.Prelude.{◌≡◌, ◌^◌, ◌<◌, Bool};
-ghost use Rattle.apfloat_model.specs.rounding.Flags.{bits_of};
-ghost use Rattle.apfloat_ieee.specs.FlaggedTypes.{format_of};
+ghost use Rattle.std.specs.Prelude.{◌≡◌, ◌*◌, ◌^◌, ◌<◌};
+ghost use Rattle.apfloat_model.specs.declared.kinds.Category.TheVariants.{Normal, NaN};
+ghost use Rattle.apfloat_model.specs.declared.kinds.Round.{Round};
+ghost use Rattle.apfloat_conversions.specs.Results.{ConvertsAt};
+ghost use Rattle.apfloat_rounding.specs.Shapes.{format_at};
+ghost use Rattle.apfloat_rounding.specs.Stored.{IsStored};
 ghost use Rattle.storage_formats.specs.Conversions.{IsOutOf};
-ghost use Rattle.storage_formats.specs.Types.{constants_of};
+ghost use Rattle.storage_formats.specs.Orders.{category_of_code};
+ghost use Rattle.storage_formats.specs.Types.{constants_at};
 
-use crate::format::{Nans, StorageFormat};
+use crate::codes::{has_sign_bit, largest_code, magnitude_of, points_of};
+use crate::format::{Nans, StorageShape};
+use crate::order::{category, is_negative};
 use crate::points::point_at;
-use crate::stored::{StoredFloat, largest_code, points_of};
-use apfloat_base::{Category, ExpInt, Flags, Float, NonfiniteBehavior, Round, Status, StatusAnd};
-use apfloat_ieee::{Flagged, IeeeFloat, deliver};
-use apfloat_model::Loss;
+use crate::surrogate::with_payloads;
+use apfloat_conversions::between_formats::{Converted, convert};
+use apfloat_model::{Category, ExpInt, Flags, Loss, NonfiniteBehavior, Round, Status};
+use apfloat_rounding::nans::quiet_significand;
+use apfloat_rounding::rounding::deliver;
+use apfloat_rounding::shape::Shape;
+use apfloat_rounding::unpacked::{Unpacked, infinity_of, nan_of, zero_of};
+use apfloat_words::power_of_two;
 
-impl<F: StorageFormat> StoredFloat<F> {
-    /// The value in another format, rounded once (IEEE 754-2019 5.4.2), with the flags of that rounding, as a value of any
-    /// other format is converted.
-    pub fn convert_r<T: Flagged>(
-        self,
-        round: Round,
-        loses_info: &mut bool,
-    ) -> StatusAnd<IeeeFloat<T>>
-        ensures { IsOutOf (constants_of F.StorageFormat) (format_of T.Flagged) round self
-            result.value (bits_of result.status) loses_info.new }
-    {
-        match self.category() {
-            Category::Normal => {
-                let answer = self.delivered(round);
-                *loses_info = answer.status != Status::OK;
-                answer
-            }
-            Category::Zero => kept(zero_of(self.is_negative()), self.is_negative(), loses_info),
-            Category::Infinity => infinity_of(self.is_negative(), loses_info),
-            Category::NaN => self.nan_as(loses_info),
+/// The value with this code in another format, rounded once, and whether information was lost.
+pub fn load(shape: StorageShape, into: Shape, code: u128, round: Round) -> Converted
+    requires { code < 2 ^ shape.bits }
+    ensures stored { IsStored into result.answer.value }
+    ensures converted { ConvertsAt into
+        (IsOutOf (constants_at shape) (format_at into) round code) result }
+{
+    let negative = is_negative(shape, code);
+    match category(shape, code) {
+        Category::Normal => loaded_number(shape, into, code, round),
+        Category::Zero => {
+            let zero = zero_of(into, negative);
+            kept(zero, zero.negative != negative)
         }
+        Category::Infinity => kept(
+            infinity_of(into, negative),
+            into.nonfinite != NonfiniteBehavior::IEEE754,
+        ),
+        Category::NaN => loaded_nan(shape, into, code, negative),
     }
+}
 
-    /// A nonzero number in another format.
-    fn delivered<T: Flagged>(self, round: Round) -> StatusAnd<IeeeFloat<T>> {
-        let points = points_of::<F>();
-        let point = point_at(
-            points.precision,
-            self.magnitude() + u128::from(points.first),
-        );
-        let exponent = point.place as ExpInt + F::MIN_EXP - (F::PRECISION as ExpInt - 1);
-        deliver::<T>(
-            point.significand,
-            exponent,
-            Loss::ExactlyZero,
-            round,
-            self.has_sign_bit(),
-        )
+/// A result that is inexact if it loses information.
+fn kept(value: Unpacked, loses_info: bool) -> Converted
+    ensures value { result.answer.value ≡ value }
+    ensures loses { result.loses_info ≡ loses_info }
+{
+    let status = if loses_info {
+        Status::INEXACT
+    } else {
+        Status::OK
+    };
+    Converted {
+        answer: status.and(value),
+        loses_info,
     }
+}
 
-    /// The payload's digits as those of the other format's precision, quieted.
-    fn nan_as<T: Flagged>(self, loses_info: &mut bool) -> StatusAnd<IeeeFloat<T>> {
-        let significand = self.nan_significand();
-        let quiet = quieted::<F>(significand);
-        let payload = moved(quiet, F::PRECISION as u32, T::PRECISION as u32, F::NANS);
-        *loses_info = payload.loses_info
-            || (F::NANS == Nans::WithPayloads && T::NONFINITE_BEHAVIOR != NonfiniteBehavior::IEEE754);
-        let nan = with_sign(
-            IeeeFloat::<T>::qnan(Some(payload.digits)),
-            self.is_negative(),
-        );
-        if self.is_signaling() {
-            Status::INVALID_OP.and(nan)
-        } else {
-            Status::OK.and(nan)
+/// A nonzero number: its point, rounded once.
+fn loaded_number(shape: StorageShape, into: Shape, code: u128, round: Round) -> Converted
+    requires { category_of_code (constants_at shape) code ≡ Normal }
+    ensures stored { IsStored into result.answer.value }
+    ensures converted { ConvertsAt into
+        (IsOutOf (constants_at shape) (format_at into) round code) result }
+{
+    let points = points_of(shape);
+    let index = magnitude_of(shape, code) + u128::from(points.first);
+    let point = point_at(points.precision, index);
+    let exponent = point.place as ExpInt + shape.min_exp - (shape.precision as ExpInt - 1);
+    let answer = deliver(
+        into,
+        point.significand,
+        exponent,
+        Loss::ExactlyZero,
+        round,
+        has_sign_bit(shape, code),
+    );
+    Converted {
+        answer,
+        loses_info: answer.status != Status::OK,
+    }
+}
+
+/// A NaN: with a payload it is converted like one of any format; without one its significand is all ones, or 0.
+fn loaded_nan(shape: StorageShape, into: Shape, code: u128, negative: bool) -> Converted
+    requires { category_of_code (constants_at shape) code ≡ NaN }
+    ensures stored { IsStored into result.answer.value }
+    ensures converted { (round : Round) → ConvertsAt into
+        (IsOutOf (constants_at shape) (format_at into) round code) result }
+{
+    let significand = match shape.nans {
+        Nans::WithPayloads => {
+            let nan = Unpacked {
+                significand: magnitude_of(shape, code) - (largest_code(shape) + 1),
+                exponent: 0,
+                category: Category::NaN,
+                negative,
+            };
+            return convert(with_payloads(shape), into, nan, Round::NearestTiesToEven);
         }
-    }
-}
-
-/// The digits of a payload, and whether a set one was cut off.
-struct Moved {
-    digits: u128,
-    loses_info: bool,
-}
-
-fn moved(significand: u128, from: u32, into: u32, nans: Nans) -> Moved {
-    if into >= from {
-        return Moved {
-            digits: significand << (into - from),
-            loses_info: false,
-        };
-    }
-    match nans {
-        // only where payloads vary are digits cut off
-        Nans::WithPayloads => Moved {
-            digits: significand >> (from - into),
-            loses_info: significand % (1 << (from - into)) != 0,
-        },
-        Nans::Last | Nans::NegativeZero | Nans::Never => Moved {
-            digits: significand,
-            loses_info: false,
-        },
-    }
-}
-
-/// The significand with the quiet bit, if NaNs have payloads.
-fn quieted<F: StorageFormat>(significand: u128) -> u128 {
-    match F::NANS {
-        Nans::WithPayloads => significand | (1 << (F::PRECISION - 2)),
-        Nans::Never | Nans::Last | Nans::NegativeZero => significand,
-    }
-}
-
-fn with_sign<T: Flagged>(x: IeeeFloat<T>, negative: bool) -> IeeeFloat<T> {
-    if negative { -x } else { x }
-}
-
-fn zero_of<T: Flagged>(negative: bool) -> IeeeFloat<T> {
-    with_sign(IeeeFloat::zero(), negative)
-}
-
-/// A value that has or loses its sign.
-fn kept<T: Flagged>(
-    value: IeeeFloat<T>,
-    negative: bool,
-    loses_info: &mut bool,
-) -> StatusAnd<IeeeFloat<T>> {
-    *loses_info = value.is_negative() != negative;
-    if *loses_info {
-        Status::INEXACT.and(value)
-    } else {
-        Status::OK.and(value)
-    }
-}
-
-fn infinity_of<T: Flagged>(negative: bool, loses_info: &mut bool) -> StatusAnd<IeeeFloat<T>> {
-    let infinity = with_sign(IeeeFloat::<T>::infinity(), negative);
-    *loses_info = T::NONFINITE_BEHAVIOR != NonfiniteBehavior::IEEE754;
-    if *loses_info {
-        Status::INEXACT.and(infinity)
-    } else {
-        Status::OK.and(infinity)
-    }
+        Nans::Last => power_of_two(shape.precision - 1) - 1,
+        Nans::NegativeZero | Nans::Never => 0,
+    };
+    let payload = significand << into.precision.saturating_sub(shape.precision);
+    kept(nan_of(into, negative, quiet_significand(into, payload)), false)
 }
