@@ -2,16 +2,19 @@
 use Rattle.std.specs.Prelude.{◌≡◌, ℕ, zero, suc, ◌+◌, ◌-◌, ◌*◌, ◌^◌, ◌<◌, ◌≤◌, Bool, true, false, if◌then◌else◌}
 use Rattle.apfloat_model.specs.declared.kinds.Round.{Round}
 use Rattle.apfloat_model.specs.formats.Format.{Format}
+use Rattle.apfloat_model.specs.arithmetic.Conversions.{has_infinities}
 use Rattle.apfloat_model.specs.formats.Datum.{Datum}
-use Rattle.apfloat_model.specs.rounding.Rounding.{IsPick}
+use Rattle.apfloat_model.specs.rounding.Rounding.{IsPick, IsDelivered}
 use Rattle.storage_formats.specs.declared.modes.ConversionRound.{ConversionRound}
 use Rattle.storage_formats.specs.declared.modes.ConversionRound.TheVariants.{Ieee, Stochastic}
 use Rattle.storage_formats.specs.declared.modes.Limit.{Limit}
 use Rattle.storage_formats.specs.declared.modes.RandomBits.{RandomBits}
-use Rattle.storage_formats.specs.Conversions.{IsInto}
+use Rattle.storage_formats.specs.declared.modes.Limit.TheVariants.{Rounded}
+use Rattle.storage_formats.specs.Codes.{datum_in}
+use Rattle.storage_formats.specs.Conversions.{IsInto, IsNumberStored, has_nans}
 use Rattle.storage_formats.specs.Modes.{IsPickedPoint, moves, parts_above}
 use Rattle.storage_formats.specs.Points.{point}
-use Rattle.storage_formats.specs.Storage.{Constants, IsLawful}
+use Rattle.storage_formats.specs.Storage.{Constants, IsLawful, format_for}
 
 -- With two digits or more, the picks of the five modes are those of the model. With one digit, the model sends each tie
 -- up, since the significand 1 is odd; here a tie goes to the even code.
@@ -55,3 +58,17 @@ IsIntoOnce =
     (f : Format) (limit : Limit) (c : Constants) (mode : ConversionRound) (x : Datum) (code other status flags : ℕ)
     (loses lost : Bool) → IsLawful c → IsInto f limit c mode x code status loses
     → IsInto f limit c mode x other flags lost → (code ≡ other) × (status ≡ flags) × (loses ≡ lost)
+
+-- Where the model has the kind (with a sign, and infinities exactly if NaNs have payloads), a number is delivered as the
+-- model delivers it, in value and flags.
+pub record IsOfModel (c : Constants) : Type 0 where
+  pub precise : 2 ≤ c.precision
+  pub signed : c.signed ≡ true
+  pub nans : has_nans c.nans ≡ true
+  pub infinities : c.infinities ≡ has_infinities (format_for c).nonfinite
+
+abbrev pub IsDeliveredAsInModel : Type 0
+IsDeliveredAsInModel =
+    (c : Constants) (mode : Round) (negative : Bool) (amount parts code status : ℕ) (loses : Bool) → IsLawful c
+    → IsOfModel c → 0 < parts → IsNumberStored Rounded c (Ieee mode) negative amount parts code status loses
+    → IsDelivered (format_for c) mode negative amount parts (datum_in c code) status
