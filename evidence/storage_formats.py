@@ -230,6 +230,39 @@ def rows(form, random):
             yield f"    ({whole:#010x}, [{codes}], [{flags}]),"
 
 
+def next_rows(form):
+    """Each code with the codes of its neighbours, by the order of the values; a NaN is its own."""
+    values = {}
+    for code in range(1 << form.bits):
+        negative, magnitude = divmod(code, 1 << form.width)
+        if form.kind(magnitude) == "number":
+            value = form.number(magnitude)
+            values[code] = -value if negative else value
+    for code in range(1 << form.bits):
+        if code not in values:
+            yield f"    ({code:#x}, {code:#x}, {code:#x}),"
+            continue
+        value = values[code]
+        above = [c for c, v in values.items() if v > value]
+        below = [c for c, v in values.items() if v < value]
+        up = min(above, key=lambda c: (values[c], code_of_zero(form, c, True))) if above else past(form, code, 0)
+        down = max(below, key=lambda c: (values[c], code_of_zero(form, c, False))) if below else past(form, code, 1)
+        yield f"    ({code:#x}, {up:#x}, {down:#x}),"
+
+
+def code_of_zero(form, code, upward):
+    """Of two zeros, the one that is reached: from below -0, from above +0."""
+    is_negative = code >> form.width == 1
+    return is_negative != upward if upward else not is_negative
+
+
+def past(form, code, negative):
+    """What is past the last value in a direction: the same, unless a NaN is there."""
+    if negative and not form.signed:
+        return code
+    return form.past(bool(negative))
+
+
 def family():
     """One checksum for each format of P3109: all its values in all others of the same width, in all modes."""
     for bits in range(3, 16):
@@ -258,10 +291,15 @@ def main():
         return
     random = Random(53)
     print("//! Rows by exact fractions (`evidence/storage_formats.py`).\n")
-    print("use crate::tests::FromRow;\n")
+    print("use crate::tests::{FromRow, NextRow};\n")
     for form in NAMED:
-        print(f"pub(crate) static {form.name}: &[FromRow] = &[")
+        print(f"pub(crate) static FROM_{form.name}: &[FromRow] = &[")
         for row in rows(form, random):
+            print(row)
+        print("];\n")
+    for form in (NAMED[0], NAMED[3]):
+        print(f"pub(crate) static NEXT_{form.name}: &[NextRow] = &[")
+        for row in next_rows(form):
             print(row)
         print("];\n")
 

@@ -5,8 +5,8 @@ use Rattle.apfloat_model.specs.formats.Datum.{Datum, finite, infinite, nan}
 use Rattle.apfloat_model.specs.formats.Format.{Format}
 use Rattle.apfloat_model.specs.formats.Nan.{invalid_bit}
 use Rattle.apfloat_model.specs.rounding.Rounding.{ok_bits, inexact_bit, underflow_bit}
-use Rattle.storage_formats.specs.declared.format.Nans.{Nans}
-use Rattle.storage_formats.specs.declared.format.Nans.TheVariants.{Never, WithPayloads, Last, NegativeZero}
+use Rattle.storage_formats.specs.declared.nans.Nans.{Nans}
+use Rattle.storage_formats.specs.declared.nans.Nans.TheVariants.{Never, WithPayloads, Last, NegativeZero}
 use Rattle.storage_formats.specs.declared.modes.ConversionRound.{ConversionRound}
 use Rattle.storage_formats.specs.declared.modes.Limit.{Limit}
 use Rattle.storage_formats.specs.Codes.{has_negative_zero, largest_of_sign, past_code, zero_code}

@@ -4,8 +4,8 @@ use Rattle.std.proofs.lemmas.Bool.{and_parts, leb-true, ltb-true, eqb-true, not-
 use Rattle.apfloat_model.specs.rounding.Bounds.{format_bound}
 use Rattle.std.proofs.Common.{ℤ, refl, subst, sym, T}
 use lib.Signed.{le_z, le_z_yes}
-use Rattle.storage_formats.specs.declared.format.Nans.{Nans}
-use Rattle.storage_formats.specs.declared.format.Nans.TheVariants.{Never, WithPayloads, Last, NegativeZero}
+use Rattle.storage_formats.specs.declared.nans.Nans.{Nans}
+use Rattle.storage_formats.specs.declared.nans.Nans.TheVariants.{Never, WithPayloads, Last, NegativeZero}
 use Rattle.storage_formats.specs.Storage.{Constants, AreNansLawful, IsLawful, IsWithoutZero, MayLackZero, max_exp, reserved, width}
 
 -- ---- each part of the law as a test

@@ -1,6 +1,6 @@
 -- The formats of IEEE P3109.
 use Rattle.std.specs.Prelude.{ℕ, ◌+◌, ◌-◌, ◌^◌, ◌≤◌, pos, ◌-ℤ◌, Bool, true, if◌then◌else◌}
-use Rattle.storage_formats.specs.declared.format.Nans.TheVariants.{Last, NegativeZero}
+use Rattle.storage_formats.specs.declared.nans.Nans.TheVariants.{Last, NegativeZero}
 use Rattle.storage_formats.specs.Storage.{Constants}
 
 -- the exponent has a bit of its own, beside a sign

@@ -1,8 +1,8 @@
 -- What codes mean, and the codes of what has one.
 use Rattle.std.specs.Prelude.{◌≡◌, ℕ, ◌+◌, ◌-◌, ◌/◌, ◌%◌, ◌^◌, ◌<◌, ◌≤◌, Bool, true, false, ◌&&◌, leb, eqb, if◌then◌else◌}
 use Rattle.apfloat_model.specs.formats.Datum.{Datum, finite, infinite, nan}
-use Rattle.storage_formats.specs.declared.format.Nans.{Nans}
-use Rattle.storage_formats.specs.declared.format.Nans.TheVariants.{Never, WithPayloads, Last, NegativeZero}
+use Rattle.storage_formats.specs.declared.nans.Nans.{Nans}
+use Rattle.storage_formats.specs.declared.nans.Nans.TheVariants.{Never, WithPayloads, Last, NegativeZero}
 use Rattle.storage_formats.specs.Points.{point}
 use Rattle.storage_formats.specs.Storage.{Constants, width, largest_code, infinity_code, first_point, largest_point}
 

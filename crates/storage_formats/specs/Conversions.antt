@@ -8,8 +8,8 @@ use Rattle.apfloat_model.specs.formats.Nan.{invalid_bit, invalid_if, is_signalin
 use Rattle.apfloat_model.specs.order.Classes.{is_negative}
 use Rattle.apfloat_model.specs.rounding.Rounding.{ok_bits, inexact_bit, overflow_bit, underflow_bit}
 use Rattle.apfloat_model.specs.arithmetic.Conversions.{IsConversion, converted_nan, nan_loses}
-use Rattle.storage_formats.specs.declared.format.Nans.{Nans}
-use Rattle.storage_formats.specs.declared.format.Nans.TheVariants.{Never, WithPayloads, Last, NegativeZero}
+use Rattle.storage_formats.specs.declared.nans.Nans.{Nans}
+use Rattle.storage_formats.specs.declared.nans.Nans.TheVariants.{Never, WithPayloads, Last, NegativeZero}
 use Rattle.storage_formats.specs.declared.modes.ConversionRound.{ConversionRound}
 use Rattle.storage_formats.specs.declared.modes.Limit.{Limit}
 use Rattle.storage_formats.specs.declared.modes.Limit.TheVariants.{Rounded, Saturated, Finite, FiniteNans}

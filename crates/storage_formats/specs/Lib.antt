@@ -9,3 +9,4 @@ pub mod Laws
 pub mod Types
 pub mod Results
 pub mod Binaries
+pub mod RandomDigits

@@ -7,12 +7,6 @@ use Rattle.storage_formats.specs.declared.modes.ConversionRound.{ConversionRound
 use Rattle.storage_formats.specs.declared.modes.ConversionRound.TheVariants.{Ieee, ToOdd, Stochastic}
 use Rattle.storage_formats.specs.Points.{point}
 
--- 1 to 32 random binary digits
-pub record AreRandomBits (digits random : ℕ) : Type 0 where
-  pub some : 1 ≤ digits
-  pub few : digits ≤ 32
-  pub fits : random < 2 ^ digits
-
 -- of 2 ^ digits parts of the distance between the two neighbours, how many whole ones the magnitude is above the lower
 abbrev pub parts_above : ℕ → ℕ → ℕ → ℕ
 parts_above digits below_by above_by = 2 ^ digits * below_by / (below_by + above_by)

@@ -4,8 +4,8 @@ use Rattle.apfloat_model.specs.declared.kinds.NonfiniteBehavior.{NonfiniteBehavi
 use Rattle.apfloat_model.specs.declared.kinds.NonfiniteBehavior.TheVariants.{IEEE754, NanOnly, NanNegativeZero}
 use Rattle.apfloat_model.specs.formats.Format.{Format}
 use Rattle.apfloat_model.specs.rounding.Bounds.{format_bound}
-use Rattle.storage_formats.specs.declared.format.Nans.{Nans}
-use Rattle.storage_formats.specs.declared.format.Nans.TheVariants.{Never, WithPayloads, Last, NegativeZero}
+use Rattle.storage_formats.specs.declared.nans.Nans.{Nans}
+use Rattle.storage_formats.specs.declared.nans.Nans.TheVariants.{Never, WithPayloads, Last, NegativeZero}
 
 -- named as in the types of storage formats
 pub record Constants : Type 0 where

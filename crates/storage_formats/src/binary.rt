@@ -4,13 +4,14 @@
 //! greatest codes of each sign, or before the NaN.
 
 ghost use Rattle.std.specs.Prelude.{pos, neg_ℤ, ◌-ℤ◌, ◌^◌, ◌-◌, true, false, refl};
-ghost use Rattle.storage_formats.specs.declared.format.Nans.TheVariants.{Last, NegativeZero};
+ghost use Rattle.storage_formats.specs.declared.nans.Nans.TheVariants.{Last, NegativeZero};
 ghost use Rattle.std.specs.Prelude.{◌≡◌, MatchOption};
 ghost use Rattle.storage_formats.proofs.LawTest.{lawful_from_test};
 ghost use Rattle.storage_formats.specs.Binaries.{IsBinary, binary_constants};
 ghost use Rattle.storage_formats.specs.Types.{constants_at};
 
-use crate::format::{Nans, StorageFormat, StorageShape};
+use crate::format::{StorageFormat, StorageShape};
+use crate::nans::Nans;
 use apfloat_base::ExpInt;
 
 /// The format binaryKpP of P3109, `SIGNED` or not, with infinities if it is `EXTENDED`: K from 3 to 15, and P from 1 to

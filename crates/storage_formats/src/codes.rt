@@ -1,13 +1,14 @@
 //! The codes of a storage format.
 
 ghost use Rattle.std.specs.Prelude.{◌≡◌, ◌+◌, ◌-◌, ◌%◌, ◌^◌, ◌<◌, ◌≤◌, true};
-ghost use Rattle.storage_formats.specs.declared.format.Nans.TheVariants.{Never, NegativeZero};
+ghost use Rattle.storage_formats.specs.declared.nans.Nans.TheVariants.{Never, NegativeZero};
 ghost use Rattle.storage_formats.specs.Codes.{has_negative_zero, largest_of_sign, magnitude_of, nan_code, past_code};
 ghost use Rattle.storage_formats.specs.Codes.{point_code, sign_of_code, signed_code, zero_code};
 ghost use Rattle.storage_formats.specs.Storage.{first_point, largest_code, largest_point, width};
 ghost use Rattle.storage_formats.specs.Types.{constants_at};
 
-use crate::format::{Nans, StorageShape};
+use crate::format::StorageShape;
+use crate::nans::Nans;
 use crate::picks::Points;
 use apfloat_words::{low_digits, power_of_two};
 

@@ -1,24 +1,11 @@
 //! The constants that define a storage format.
 
-ghost use Rattle.std.specs.Prelude.{◌≡◌, ℕ, ℤ, Bool};
-ghost use Rattle.storage_formats.specs.declared.format.Nans.{Nans};
+ghost use Rattle.std.specs.Prelude.{ℕ, ℤ, Bool};
+ghost use Rattle.storage_formats.specs.declared.nans.Nans.{Nans};
 ghost use Rattle.storage_formats.specs.Storage.{constants_with, IsLawful};
-ghost use Rattle.storage_formats.specs.Types.{constants_at, constants_of};
 
+use crate::nans::Nans;
 use apfloat_base::ExpInt;
-/// Which codes of a storage format are NaNs.
-#[derive(Clone, Copy, PartialEq, Eq, Debug)]
-pub enum Nans {
-    /// None.
-    Never,
-    /// Those above the infinity at the greatest biased exponent, with payloads (IEEE 754-2019 3.4).
-    WithPayloads,
-    /// The one whose bits below the sign are all ones; one of each sign, if there is a sign.
-    Last,
-    /// The one that would be -0.
-    NegativeZero,
-}
-
 /// A storage format.
 ///
 /// A type gives each constant twice, for code and for contracts, and proves that they are consistent (`lawful`); if they
@@ -87,19 +74,4 @@ pub struct StorageShape {
     pub zero: bool,
     pub ghost lawful: { IsLawful
         (constants_with bits precision min_exp signed nans infinities zero) },
-}
-
-/// The constants of a storage format's type.
-pub fn shape_of<F: StorageFormat>() -> StorageShape
-    ensures { constants_at result ≡ constants_of F.StorageFormat }
-{
-    StorageShape {
-        bits: F::BITS as u32,
-        precision: F::PRECISION as u32,
-        min_exp: F::MIN_EXP,
-        signed: F::SIGNED,
-        nans: F::NANS,
-        infinities: F::INFINITIES,
-        zero: F::ZERO,
-    }
 }

@@ -17,7 +17,8 @@ use crate::codes::{
     has_negative_zero, largest_code, largest_of_sign, past_code, point_code, points_of, single_nan,
     with_sign, zero_code,
 };
-use crate::format::{Nans, StorageShape};
+use crate::format::StorageShape;
+use crate::nans::Nans;
 use crate::modes::{ConversionRound, Limit};
 use crate::picks::pick;
 use crate::surrogate::with_payloads;

@@ -21,21 +21,27 @@ pub mod format;
 pub mod from_value;
 pub mod modes;
 mod named;
+mod nans;
 pub mod neighbours;
 pub mod order;
 mod picks;
 mod points;
+mod shapes;
 mod stored;
 mod surrogate;
+#[cfg(test)]
+mod rows;
 #[cfg(test)]
 mod tests;
 mod theorems;
 pub mod to_value;
 
 pub use binary::{Binary, binary};
-pub use format::{Nans, StorageFormat, StorageShape, shape_of};
+pub use format::{StorageFormat, StorageShape};
 pub use modes::{ConversionRound, Limit, RandomBits};
 pub use named::{E2M1FN, E2M3FN, E3M4, E8M0FNU, UE4M3};
+pub use nans::Nans;
+pub use shapes::shape_of;
 pub use stored::StoredFloat;
 pub use theorems::{
     conversions_have_one_answer, exact_values_never_move,

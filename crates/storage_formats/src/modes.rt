@@ -2,7 +2,7 @@
 
 ghost use Rattle.std.specs.Prelude.{◌≡◌, ◌<◌, ◌≤◌, ◌^◌};
 ghost use Rattle.std.specs.Prelude.{MatchOption};
-ghost use Rattle.storage_formats.specs.Modes.{AreRandomBits};
+ghost use Rattle.storage_formats.specs.RandomDigits.{AreRandomBits};
 
 use apfloat_base::Round;
 use apfloat_words::power_of_two;

@@ -1,10 +1,11 @@
 //! The storage formats with names of their own.
 
 ghost use Rattle.std.specs.Prelude.{pos, negsuc, true, false, refl};
-ghost use Rattle.storage_formats.specs.declared.format.Nans.TheVariants.{Never, WithPayloads, Last};
+ghost use Rattle.storage_formats.specs.declared.nans.Nans.TheVariants.{Never, WithPayloads, Last};
 ghost use Rattle.storage_formats.proofs.LawTest.{lawful_from_test};
 
-use crate::format::{Nans, StorageFormat};
+use crate::format::StorageFormat;
+use crate::nans::Nans;
 use apfloat_base::ExpInt;
 
 /// Four bits, with values to 6: the elements of MXFP4 and NVFP4. No infinities, no NaNs.

@@ -9,7 +9,8 @@ use crate::codes::{
     has_sign_bit, largest_code, largest_of_sign, magnitude_of, past_code, point_code, points_of,
     with_sign,
 };
-use crate::format::{Nans, StorageShape};
+use crate::format::StorageShape;
+use crate::nans::Nans;
 use crate::order::category;
 use apfloat_model::{Category, Flags, Status, StatusAnd};
 use apfloat_words::power_of_two;

@@ -6,7 +6,8 @@ ghost use Rattle.storage_formats.specs.Orders.{is_denormal_code};
 ghost use Rattle.storage_formats.specs.Types.{constants_at};
 
 use crate::codes::{has_sign_bit, largest_code, magnitude_of, width};
-use crate::format::{Nans, StorageShape};
+use crate::format::StorageShape;
+use crate::nans::Nans;
 use apfloat_model::Category;
 use apfloat_words::power_of_two;
 use std::cmp::Ordering;

@@ -11,7 +11,8 @@ ghost use Rattle.storage_formats.specs.Storage.{largest_code};
 ghost use Rattle.storage_formats.specs.Types.{constants_of};
 
 use crate::codes;
-use crate::format::{StorageFormat, shape_of};
+use crate::format::StorageFormat;
+use crate::shapes::shape_of;
 use crate::from_value::store;
 use crate::modes::{ConversionRound, Limit};
 use crate::neighbours;

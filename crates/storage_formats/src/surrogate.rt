@@ -2,7 +2,7 @@
 
 ghost use Rattle.std.specs.Prelude.{◌≡◌, false};
 ghost use Rattle.apfloat_model.specs.declared.kinds.NonfiniteBehavior.TheVariants.{IEEE754};
-ghost use Rattle.storage_formats.specs.declared.format.Nans.TheVariants.{WithPayloads};
+ghost use Rattle.storage_formats.specs.declared.nans.Nans.TheVariants.{WithPayloads};
 
 use crate::format::StorageShape;
 use apfloat_model::{ExpInt, NonfiniteBehavior};

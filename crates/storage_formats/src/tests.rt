@@ -3,10 +3,11 @@
 
 ghost use Rattle.std.specs.Prelude.{◌<◌};
 
-use crate::rows::{FROM_SINGLE, NEIGHBOURS, ODD_AND_RANDOM, TO_SINGLE};
+use crate::rows::{
+    FROM_E2M1FN, FROM_E2M3FN, FROM_E3M4, FROM_E8M0FNU, FROM_UE4M3, NEXT_E2M1FN, NEXT_E8M0FNU,
+};
 use crate::{
-    Binary, ConversionRound, E2M1FN, E2M3FN, E3M4, E8M0FNU, Limit, RandomBits, StorageFormat,
-    StoredFloat, UE4M3,
+    ConversionRound, E2M1FN, E2M3FN, E3M4, E8M0FNU, Limit, StorageFormat, StoredFloat, UE4M3,
 };
 use apfloat_base::{Flags, Float, Round};
 use apfloat_formats::Single;
@@ -23,8 +24,12 @@ static MODES: [Round; 5] = [
 /// The bits of a single; the codes in the five modes, and their flags.
 pub(crate) type FromRow = (u32, [u16; 5], [u8; 5]);
 
-/// A code, and the bits of a single.
-pub(crate) type ToRow = (u16, u32);
+/// A code; the codes of its neighbours above and below.
+pub(crate) type NextRow = (u16, u16, u16);
+
+/// The bits of a single; its code rounded to odd and the flags; a number of random digits, and how many of all random
+/// numbers give the lower and the upper code, which are last.
+pub(crate) type OtherRow = (u32, u16, u8, u32, u32, u32, u16, u16);
 
 fn check_from<F: StorageFormat>(rt: &impl Abort, rows: &[FromRow]) {
     for row in rows {
@@ -49,3 +54,29 @@ fn check_from<F: StorageFormat>(rt: &impl Abort, rows: &[FromRow]) {
         }
     }
 }
+
+fn check_next<F: StorageFormat>(rt: &impl Abort, rows: &[NextRow]) {
+    for row in rows {
+        let (code, above, below) = *row;
+        let x = StoredFloat::<F>::from_bits(u128::from(code));
+        let got = (x.next_up().value.to_bits(), x.next_down().value.to_bits());
+        assert_eq!(rt; got, (u128::from(above), u128::from(below)), "{row:?}");
+    }
+}
+
+#[test]
+fn conversions(rt: &impl Abort) {
+    check_from::<E2M1FN>(rt, FROM_E2M1FN);
+    check_from::<E2M3FN>(rt, FROM_E2M3FN);
+    check_from::<E3M4>(rt, FROM_E3M4);
+    check_from::<E8M0FNU>(rt, FROM_E8M0FNU);
+    check_from::<UE4M3>(rt, FROM_UE4M3);
+}
+
+#[test]
+fn neighbours(rt: &impl Abort) {
+    check_next::<E2M1FN>(rt, NEXT_E2M1FN);
+    check_next::<E8M0FNU>(rt, NEXT_E8M0FNU);
+}
+
+// Random digits: the loop over all random numbers of a row counts both codes.

@@ -11,7 +11,8 @@ ghost use Rattle.storage_formats.specs.Orders.{category_of_code};
 ghost use Rattle.storage_formats.specs.Types.{constants_at};
 
 use crate::codes::{has_sign_bit, largest_code, magnitude_of, points_of};
-use crate::format::{Nans, StorageShape};
+use crate::format::StorageShape;
+use crate::nans::Nans;
 use crate::order::{category, is_negative};
 use crate::points::point_at;
 use crate::surrogate::with_payloads;
