@@ -32,7 +32,7 @@ half('inf')
 <Flags.DIV_BY_ZERO: 2>
 
 A format raises the flags of IEEE 754-2008 in every mode if it is written half.ieee, with tininess detected before
-rounding if it is written half.ieee.before; e4m3fn, e4m3fnuz and double_pair have no such choice.
+rounding if it is written half.ieee.before; double_pair and the formats without infinities have no such choice.
 
 An array has values of one format and any number of axes. It is made of nested lists or of a numpy array, whose numbers
 it rounds once each, and turned into a numpy array of the same numbers:
@@ -77,8 +77,9 @@ from typing import Any, Callable, Generic, Iterable, Iterator, Self, Sequence, T
 
 __all__ = [
     'Array', 'Context', 'DOWNWARD', 'Flags', 'Format', 'Mask', 'NEAREST_AWAY', 'NEAREST_EVEN', 'Refused', 'Rounding',
-    'TOWARD_ZERO', 'UPWARD', 'Value', 'bfloat', 'bfloat16', 'context', 'double', 'double_pair', 'e4m3fn', 'e4m3fnuz',
-    'e5m2', 'float8_e4m3fn', 'float8_e4m3fnuz', 'float8_e5m2', 'half', 'quad', 'single', 'x87',
+    'TOWARD_ZERO', 'UPWARD', 'Value', 'bfloat', 'bfloat16', 'context', 'double', 'double_pair', 'e4m3', 'e4m3b11fnuz',
+    'e4m3fn', 'e4m3fnuz', 'e5m2', 'e5m2fnuz', 'float8_e4m3', 'float8_e4m3b11fnuz', 'float8_e4m3fn', 'float8_e4m3fnuz',
+    'float8_e5m2', 'float8_e5m2fnuz', 'half', 'quad', 'single', 'tf32', 'x87',
 ]
 
 
@@ -556,14 +557,15 @@ def _nested(of: Any) -> tuple[tuple[int, ...], list[Any]]:
 # ---- numpy
 
 # The numpy elements that values of a format are, by its code: numbers, or their bits.
-_ELEMENTS = {1: 'f2', 2: 'f4', 3: 'f8', 5: 'u2', 6: 'u1', 7: 'u1', 8: 'u1'}
+_ELEMENTS = {1: 'f2', 2: 'f4', 3: 'f8', 5: 'u2', 6: 'u1', 7: 'u1', 8: 'u1', 16: 'u1', 17: 'u1', 18: 'u1', 19: 'u4'}
 
 
 def _format_of(dtype: Any) -> Format | None:
     """The format of the numbers of a type of numpy or ml_dtypes, if there is one here."""
     return {
         'float16': half, 'float32': single, 'float64': double, 'bfloat16': bfloat, 'float8_e5m2': e5m2,
-        'float8_e4m3fn': e4m3fn, 'float8_e4m3fnuz': e4m3fnuz,
+        'float8_e4m3fn': e4m3fn, 'float8_e4m3fnuz': e4m3fnuz, 'float8_e4m3': e4m3,
+        'float8_e5m2fnuz': e5m2fnuz, 'float8_e4m3b11fnuz': e4m3b11fnuz,
     }.get(dtype.name)
 
 
@@ -886,7 +888,7 @@ class Value(_Arithmetic[Number]):
         >>> -half(1), -half('nan'), -double_pair(1), -(double_pair(1) / 3)
         (half('-1.0'), half('-nan'), double_pair('-1.0'), double_pair('-0.3333333333333333 + -1.8503717077085944e-17'))
         """
-        if self.format is e4m3fnuz and (self.is_zero or self.is_nan):
+        if self.format in _WITHOUT_NEGATIVE_ZERO and (self.is_zero or self.is_nan):
             return self
         bits = self.bits ^ self.format._sign_bit
         if self.format is double_pair:
@@ -1454,7 +1456,7 @@ class Array(_Elements, _Arithmetic[Any]):
         return Array(format, format._joined(results), counts, rest.shape)
 
     def __neg__(self) -> Array:
-        if self.format in (e4m3fnuz, double_pair):
+        if self.format in (*_WITHOUT_NEGATIVE_ZERO, double_pair):
             return self._mapped(operator.neg)
         number = int.from_bytes(self._data, 'little') ^ self._repeated(self.format._sign_bit)
         return self._like(number.to_bytes(len(self._data), 'little'), self.shape)
@@ -1463,7 +1465,7 @@ class Array(_Elements, _Arithmetic[Any]):
         return self
 
     def __abs__(self) -> Array:
-        if self.format in (e4m3fnuz, double_pair):
+        if self.format in (*_WITHOUT_NEGATIVE_ZERO, double_pair):
             return self._mapped(abs)
         number = int.from_bytes(self._data, 'little') & self._repeated(self.format._sign_bit - 1)
         return self._like(number.to_bytes(len(self._data), 'little'), self.shape)
@@ -1480,7 +1482,7 @@ class Array(_Elements, _Arithmetic[Any]):
     def _with_signs(self, values: Array, signs: Array) -> Array:
         """The values with the signs of another array of their shape."""
         format = self.format
-        if format._plain in (e4m3fnuz, x87, double_pair):
+        if format._plain in (*_WITHOUT_NEGATIVE_ZERO, x87, double_pair):
             # Some of their values have no sign, or are written with other bits.
             each = (Value(format, value).copy_sign(Value(format, sign)).bits
                     for value, sign in zip(values._patterns(), signs._patterns()))
@@ -1757,10 +1759,10 @@ def _exact_number(of: Any) -> Any:
 def _hexadecimal(value: Value) -> str:
     """The hexadecimal text of a value that is no pair."""
     format = value.format
-    sign = '-' if value.bits >> (format.width - 1) and not (format is e4m3fnuz and value.is_nan) else ''
+    sign = '-' if value.bits >> (format.width - 1) and not (format in _WITHOUT_NEGATIVE_ZERO and value.is_nan) else ''
     kind = value._class()
     if kind in (0, 1):
-        payload = value.bits & (1 << format._precision - 2) - 1 if format not in (e4m3fn, e4m3fnuz) else 0
+        payload = value.bits & (1 << format._precision - 2) - 1 if format not in (e4m3fn, *_WITHOUT_NEGATIVE_ZERO) else 0
         return sign + ('snan' if kind == 0 else 'nan') + (f'({payload:#x})' if payload else '')
     if kind in (2, 9):
         return sign + 'inf'
@@ -1788,6 +1790,14 @@ e4m3fn = Format('e4m3fn', 7, 8, 4, 4)
 e4m3fnuz = Format('e4m3fnuz', 8, 8, 4, 4)
 x87 = Format('x87', 9, 80, 64, 15)
 double_pair = Format('double_pair', 10, 128, 106, 11)
+e4m3 = Format('e4m3', 16, 8, 4, 4)
+e5m2fnuz = Format('e5m2fnuz', 17, 8, 3, 5)
+e4m3b11fnuz = Format('e4m3b11fnuz', 18, 8, 4, 4)
+tf32 = Format('tf32', 19, 19, 11, 8)
+
+# The formats without -0, whose NaN is there.
+_WITHOUT_NEGATIVE_ZERO = (e4m3fnuz, e5m2fnuz, e4m3b11fnuz)
 
 # The names that ml_dtypes has for these formats.
 bfloat16, float8_e5m2, float8_e4m3fn, float8_e4m3fnuz = bfloat, e5m2, e4m3fn, e4m3fnuz
+float8_e4m3, float8_e5m2fnuz, float8_e4m3b11fnuz = e4m3, e5m2fnuz, e4m3b11fnuz

@@ -16,6 +16,8 @@ static const struct code formats[] = {
     {"half", APFLOAT_HALF},     {"single", APFLOAT_SINGLE}, {"double", APFLOAT_DOUBLE},
     {"quad", APFLOAT_QUAD},     {"bfloat", APFLOAT_BFLOAT}, {"e5m2", APFLOAT_E5M2},
     {"e4m3fn", APFLOAT_E4M3FN}, {"x87", APFLOAT_X87},       {"e4m3fnuz", APFLOAT_E4M3FNUZ},
+    {"e4m3", APFLOAT_E4M3},     {"e5m2fnuz", APFLOAT_E5M2FNUZ},     {"e4m3b11fnuz", APFLOAT_E4M3B11FNUZ},
+    {"tf32", APFLOAT_TF32},
     {"dd", APFLOAT_DOUBLE_PAIR}};
 
 static const struct code modes[] = {{"even", APFLOAT_NEAREST_EVEN},

@@ -5,7 +5,7 @@ use Rattle.std.proofs.lemmas.List.{get_or-map, length-map}
 use denote.Ref.{Bor}
 use Rattle.rustc_apfloat.specs.declared.Round.{Round}
 use Rattle.formats_at_run_time.specs.declared.built_in.BuiltInKind.{BuiltInKind}
-use Rattle.formats_at_run_time.specs.BuiltIns.{kind_named, kind_of}
+use Rattle.formats_at_run_time.specs.BuiltIns.{command_kind_named, kind_of}
 use Rattle.formats_at_run_time.specs.ValueKinds.{Kind}
 use Rattle.commands.specs.declared.operation.Operation.{Operation}
 use Rattle.commands.specs.declared.operation.Operation.TheVariants.{OfTwo, FusedSum, WholeNumber, Text}
@@ -103,7 +103,7 @@ calculation_of kind Text name first second third count e = rw e refl
 -- a reply to the named operation is the reply to the command
 pub only_named : (format operation mode first second third : List ℕ) (count : ℕ) (kind : BuiltInKind)
     (known : Operation) (round : Round) (reply : Reply)
-    → count ≤ 3 → kind_named format ≡ Some kind → named operation mode count ≡ Ok (known, round)
+    → count ≤ 3 → command_kind_named format ≡ Some kind → named operation mode count ≡ Ok (known, round)
     → IsOnly (IsReplyTo (commanded (kind_of kind) round
     (calculation (kind_of kind) known operation (first ∷ second ∷ third ∷ [])))) reply
     → IsOnly (IsReplyTo (with_format format operation mode (take count (first ∷ second ∷ third ∷ [])))) reply

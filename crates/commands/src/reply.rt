@@ -91,7 +91,7 @@ fn answer<'a>(
         (reply_of result) }
     ensures short { digit_count (reply_of result) ≤ 32 }
 {
-    let Some(kind) = BuiltInKind::named(format) else {
+    let Some(kind) = BuiltInKind::named_in_commands(format) else {
         return Reply::Refused(format);
     };
     let (known, round) = match named(operation, mode, count) {

@@ -69,7 +69,7 @@ fn refuse<V: Write>(fault: Fault, err: &mut V) -> io::Result<u8> {
         Fault::Format(word) => {
             write!(
                 err,
-                "explain: no format '{word}' (half single double quad bfloat e5m2 e4m3fn e4m3fnuz x87)"
+                "explain: no format '{word}' (half single double quad bfloat e5m2 e4m3fn e4m3fnuz x87 e4m3 e5m2fnuz e4m3b11fnuz tf32)"
             )?;
             suggest(word, FORMATS, err)?;
         }

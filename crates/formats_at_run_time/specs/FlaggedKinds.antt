@@ -4,11 +4,11 @@ use Rattle.rustc_apfloat.specs.Lawful.{Constants}
 use Rattle.formats_at_run_time.specs.BuiltIns.{constants_in, kind_coded}
 use Rattle.formats_at_run_time.specs.ValueKinds.{Kind, of_format, of_pairs}
 use Rattle.formats_at_run_time.specs.declared.built_in.BuiltInFormat.{BuiltInFormat}
-use Rattle.formats_at_run_time.specs.declared.built_in.BuiltInFormat.TheVariants.{Half, Single, Double, Quad, BFloat, E5M2, X87}
+use Rattle.formats_at_run_time.specs.declared.built_in.BuiltInFormat.TheVariants.{Half, Single, Double, Quad, BFloat, E5M2, X87, E4M3, TF32}
 use Rattle.formats_at_run_time.specs.declared.built_in.BuiltInKind.{BuiltInKind}
 use Rattle.formats_at_run_time.specs.declared.built_in.BuiltInKind.TheVariants.{Pairs as PairsOfDoubles, OfFormat as OfBuiltIn}
 use Rattle.formats_at_run_time.specs.declared.flagged.IeeeFormat.{IeeeFormat}
-use Rattle.formats_at_run_time.specs.declared.flagged.IeeeFormat.TheVariants.{Half as IeeeHalf, Single as IeeeSingle, Double as IeeeDouble, Quad as IeeeQuad, BFloat as IeeeBFloat, E5M2 as IeeeE5M2, X87 as IeeeX87}
+use Rattle.formats_at_run_time.specs.declared.flagged.IeeeFormat.TheVariants.{Half as IeeeHalf, Single as IeeeSingle, Double as IeeeDouble, Quad as IeeeQuad, BFloat as IeeeBFloat, E5M2 as IeeeE5M2, X87 as IeeeX87, E4M3 as IeeeE4M3, TF32 as IeeeTF32}
 use Rattle.formats_at_run_time.specs.declared.flagged.FlaggedFormat.{FlaggedFormat}
 use Rattle.formats_at_run_time.specs.declared.flagged.FlaggedFormat.TheVariants.{BuiltIn, AfterRounding, BeforeRounding}
 use Rattle.formats_at_run_time.specs.declared.flagged.FlaggedKind.{FlaggedKind}
@@ -24,6 +24,8 @@ format_of_ieee IeeeQuad = Quad
 format_of_ieee IeeeBFloat = BFloat
 format_of_ieee IeeeE5M2 = E5M2
 format_of_ieee IeeeX87 = X87
+format_of_ieee IeeeE4M3 = E4M3
+format_of_ieee IeeeTF32 = TF32
 
 -- the built-in formats detect tininess after rounding
 abbrev pub after_rounding : IeeeFormat → Constants
@@ -57,6 +59,8 @@ ieee_format_in (OfBuiltIn Quad) = Some IeeeQuad
 ieee_format_in (OfBuiltIn BFloat) = Some IeeeBFloat
 ieee_format_in (OfBuiltIn E5M2) = Some IeeeE5M2
 ieee_format_in (OfBuiltIn X87) = Some IeeeX87
+ieee_format_in (OfBuiltIn E4M3) = Some IeeeE4M3
+ieee_format_in (OfBuiltIn TF32) = Some IeeeTF32
 ieee_format_in kind = None
 
 abbrev pub built_in : BuiltInKind → FlaggedKind

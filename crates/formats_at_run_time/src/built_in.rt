@@ -2,18 +2,19 @@
 
 ghost use Rattle.std.specs.Prelude.{◌≡◌, Some};
 ghost use Rattle.formats_at_run_time.specs.ValueKinds.{of_format};
-ghost use Rattle.formats_at_run_time.specs.BuiltIns.{all_kinds, constants_in, format_in, kind_coded, kind_named, kind_of};
+ghost use Rattle.formats_at_run_time.specs.BuiltIns.{all_kinds, command_kind_named, constants_in, format_in, kind_coded, kind_named, kind_of};
 
 use crate::flagged::{FillsInFormat, WritesInFormat};
 use crate::in_kind::{InFormat, InKind};
 use rustc_apfloat::ieee::{
-    BFloatS, DoubleS, Float8E4M3FNS, Float8E4M3FNUZS, Float8E5M2S, HalfS, QuadS, SingleS,
-    X87DoubleExtendedS,
+    BFloatS, DoubleS, Float8E4M3B11FNUZS, Float8E4M3FNS, Float8E4M3FNUZS, Float8E4M3S,
+    Float8E5M2FNUZS, Float8E5M2S, FloatTF32S, HalfS, QuadS, SingleS, X87DoubleExtendedS,
 };
 
-// Passes each built-in format to the macro named: its variant, the constants of its type, its word and its code.
-macro_rules! each_format {
-    ($taker:ident($($given:tt)*)) => {
+// Passes each built-in format that commands have to the macro named: its variant, the constants of its type, its word and
+// its code; and then the formats that follow the call.
+macro_rules! each_command_format {
+    ($taker:ident($($given:tt)*) $($later:tt)*) => {
         $taker! {
             ($($given)*)
             Half HalfS "half" 1,
@@ -25,6 +26,20 @@ macro_rules! each_format {
             E4M3FN Float8E4M3FNS "e4m3fn" 7,
             E4M3FNUZ Float8E4M3FNUZS "e4m3fnuz" 8,
             X87 X87DoubleExtendedS "x87" 9,
+            $($later)*
+        }
+    };
+}
+
+// The same with all built-in formats. 10 is the code of pairs; 11 to 15 stay without a meaning.
+macro_rules! each_format {
+    ($taker:ident($($given:tt)*)) => {
+        each_command_format! {
+            $taker($($given)*)
+            E4M3 Float8E4M3S "e4m3" 16,
+            E5M2FNUZ Float8E5M2FNUZS "e5m2fnuz" 17,
+            E4M3B11FNUZ Float8E4M3B11FNUZS "e4m3b11fnuz" 18,
+            TF32 FloatTF32S "tf32" 19,
         }
     };
 }
@@ -111,6 +126,14 @@ pub enum BuiltInFormat {
     E4M3FNUZ,
     /// The extended format of the x87, with an explicit integer bit.
     X87,
+    /// Eight bits, four of them the exponent, with infinities.
+    E4M3,
+    /// Eight bits, five of them the exponent, without infinities and a negative zero.
+    E5M2FNUZ,
+    /// The same with four bits of the exponent, of bias 11.
+    E4M3B11FNUZ,
+    /// Nineteen bits: the exponents of binary32 and the digits of binary16.
+    TF32,
 }
 
 /// The built-in kinds of values.
@@ -122,11 +145,11 @@ pub enum BuiltInKind {
     Pairs,
 }
 
-/// All built-in kinds of values, in the order of their codes.
+/// The built-in kinds of values that commands have, in the order of their codes.
 pub fn built_in_kinds() -> &'static [BuiltInKind]
     ensures { result.now ≡ all_kinds }
 {
-    &each_format!(all_kinds())
+    &each_command_format!(all_kinds())
 }
 
 impl BuiltInFormat {
@@ -173,6 +196,13 @@ impl BuiltInKind {
         ensures { result ≡ kind_named word.now }
     {
         each_format!(kind_of_word(word))
+    }
+
+    /// The kind that this word names in a command, if any.
+    pub fn named_in_commands(word: &str) -> Option<BuiltInKind>
+        ensures { result ≡ command_kind_named word.now }
+    {
+        each_command_format!(kind_of_word(word))
     }
 
     /// The word that names the kind: `half`, `single` and so on, `dd` for pairs.

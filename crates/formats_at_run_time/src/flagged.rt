@@ -8,8 +8,8 @@ ghost use Rattle.formats_at_run_time.specs.FlaggedKinds.{after_rounding, before_
 use crate::built_in::{BuiltInFormat, BuiltInKind};
 use crate::in_kind::{InFormat, InKind};
 use rustc_apfloat::ieee::{
-    BFloatS, DoubleS, Flagged, Float8E5M2S, HalfS, IeeeFlags, QuadS, Semantics, SingleS,
-    TinyBefore, X87DoubleExtendedS,
+    BFloatS, DoubleS, Flagged, Float8E4M3S, Float8E5M2S, FloatTF32S, HalfS, IeeeFlags, QuadS,
+    Semantics, SingleS, TinyBefore, X87DoubleExtendedS,
 };
 
 // Passes each built-in format with the infinities of IEEE 754 to the macro named, with the constants of its type.
@@ -24,6 +24,8 @@ macro_rules! each_ieee_format {
             BFloat BFloatS,
             E5M2 Float8E5M2S,
             X87 X87DoubleExtendedS,
+            E4M3 Float8E4M3S,
+            TF32 FloatTF32S,
         }
     };
 }
@@ -185,6 +187,10 @@ pub enum IeeeFormat {
     E5M2,
     /// The extended format of the x87.
     X87,
+    /// Eight bits, four of them the exponent.
+    E4M3,
+    /// Nineteen bits: the exponents of binary32 and the digits of binary16.
+    TF32,
 }
 
 /// The built-in formats, each with its rule of flags.

@@ -40,7 +40,7 @@ impl<'a> CommandRow<'a> {
             return Some(RowError::Word("no reply", self.reply, REPLY));
         }
         match self.command.split_once(' ') {
-            Some((format, _)) if BuiltInKind::named(format).is_none() => {
+            Some((format, _)) if BuiltInKind::named_in_commands(format).is_none() => {
                 Some(RowError::Word("no format", format, FORMATS))
             }
             Some((_, words)) => mode_fault(words),
