@@ -1,0 +1,82 @@
+-- The lemma of this crate: for a finite single, the steps of a lane give the conversion of the model.
+-- unproved: the whole file was written without the checker
+use Rattle.std.proofs.Common.{◌≡◌, ℕ, ◌+◌, ◌-◌, ◌*◌, ◌%◌, ◌^◌, ◌<◌, ◌≤◌, ◌⊎◌, Bool, true, false, not, cond, ltb, eqb, refl, sym, ap, ◌∙◌, subst, inl, inr, arith}
+use Rattle.std.proofs.lemmas.Bool.{cases_lt, cases_eq, ne_eqb, eq-eqb}
+use Rattle.std.proofs.lemmas.Nat.{pow_pos, mod_below}
+use Rattle.apfloat_model.specs.declared.kinds.Round.{Round}
+use Rattle.apfloat_model.specs.formats.Datum.{Datum, finite}
+use Rattle.apfloat_model.specs.formats.Format.{largest, nan_base}
+use Rattle.apfloat_model.specs.formats.Formats.{single_constants}
+use Rattle.apfloat_model.specs.formats.Lawful.{Constants, IsLawful, format_with, layout_with}
+use Rattle.apfloat_model.specs.bits.Layout.{datum_of, IsEncodedBy}
+use Rattle.apfloat_model.specs.rounding.Rounding.{IsDelivered, IsPick, leads_out, past_largest, signed_quanta, raises_overflow}
+use Rattle.apfloat_model.proofs.rounding.Deliveries.{delivered_past, past_is}
+use Rattle.apfloat_rounding.specs.Cuts.{loss_at}
+use Rattle.apfloat_rounding.proofs.CutRests.{picked_if_moved, delivered_within}
+use Rattle.array_conversions.proofs.FarNumbers.{number_read}
+use Rattle.array_conversions.specs.FarNumbers.{with_overflow}
+use Rattle.array_conversions.specs.Values.{IsAnswerFrom}
+use Rattle.array_conversions.specs.declared.Overflow.{Overflow}
+use Rattle.array_lanes.proofs.Encoded.{past_encoded, point_encoded}
+use Rattle.array_lanes.proofs.Kept.{amount_of, lane_encloses, lane_fits, lane_full, lane_stands}
+use Rattle.array_lanes.proofs.Limits.{moves_is}
+use Rattle.array_lanes.proofs.Points.{IsPointAt, past_by_code}
+use Rattle.array_lanes.proofs.Targets.{is_target, scale_and_least}
+use Rattle.array_lanes.proofs.Tiny.{tiny_after_is, tiny_before_is}
+use Rattle.array_lanes.specs.Answers.{lane_answer, leads, status_of_lane}
+use Rattle.array_lanes.specs.Steps.{biased_of, code_of, is_minus, is_past, kept_of, moves, rest_of, whole_of}
+use Rattle.array_lanes.specs.Targets.{HasLanes, target_of}
+
+-- the single that the word encodes; the formula holds for denormal numbers too, since 0 - 1 is 0
+pub single_read : (x : ℕ) → x < 2 ^ 32 → biased_of x < 255
+    → datum_of (format_with single_constants) (layout_with single_constants) x
+    ≡ finite (is_minus x) (whole_of x * 2 ^ (biased_of x - 1))
+single_read x word finite_one =
+    elim (cases_eq (biased_of x) 0) [
+      | inl low ↦ ? -- unproved: implied_number at biased exponent 0; x % 2 ^ 23 is whole_of x, and 2 ^ (0 - 1) is 1
+      | inr some ↦ ? -- unproved: number_read single_constants x refl, and is_minus x ≡ eqb (x / 2 ^ 31 % 2) 1
+    ]
+
+-- the picked significand, before its place
+abbrev picked : Round → Constants → ℕ → ℕ
+picked mode d x =
+    cond (moves mode (is_minus x) (kept_of (target_of d) x % 2) (rest_of (target_of d) x)) (kept_of (target_of d) x + 1) (kept_of (target_of d) x)
+
+-- a nonzero single is delivered once, with the lane's status
+pub lane_delivered : (d : Constants) (mode : Round) (x from : ℕ) → IsLawful d → HasLanes d → from ≡ 149
+    → 0 < whole_of x → (value : Datum) (status : ℕ)
+    → value ≡ cond (is_past mode (target_of d) x)
+    (cond (leads_out mode (is_minus x)) (past_largest d.nonfinite (nan_base (format_with d)) (is_minus x))
+    (finite (is_minus x) (largest (format_with d))))
+    (signed_quanta d.nonfinite (is_minus x) (picked mode d x * 2 ^ (biased_of x - (target_of d).least)))
+    → status ≡ status_of_lane Overflow.Rounded d mode x
+    → IsDelivered (format_with d) mode (is_minus x) (amount_of x (format_with d).scale) (2 ^ from) value status
+lane_delivered d mode x from lawful has single some value status value_is status_is =
+    let t = target_of d in
+    let is = is_target d lawful has in
+    let scale = scale_and_least d lawful has in
+    let c = biased_of x - t.least in
+    let i = lane_encloses t x (format_with d).scale from is scale single some in
+    let s = lane_stands t x (format_with d).scale from is scale single some in
+    let up = moves_is mode (is_minus x) (kept_of t x % 2) (rest_of t x) (mod_below _ 2 (omega arith)) (mod_below _ (2 ^ 16) (pow_pos 16)) in
+    let pick = picked_if_moved d.precision mode (is_minus x) (kept_of t x) c (amount_of x (format_with d).scale) (2 ^ from)
+    (picked mode d x * 2 ^ c) (loss_at (rest_of t x) (2 ^ 15)) _ up refl (pow_pos from) i s in
+    let past = past_by_code (2 ^ t.trailing) (picked mode d x) c _ (format_with d).span ? in -- unproved: IsPointAt
+    elim (cases_lt t.greatest (code_of mode t x)) [
+      | inl over ↦ ? -- unproved: delivered_past with pick, past, value_is, status_is
+      | inr within ↦ ? -- unproved: delivered_within with up, past, i, s, and is_tiny by Tiny
+    ]
+
+-- ---- the lemma
+
+pub lane_answers : (overflow : Overflow) (d : Constants) (mode : Round) (x : ℕ) → IsLawful d → HasLanes d
+    → x < 2 ^ 32 → biased_of x < 255
+    → IsAnswerFrom overflow single_constants d mode x (lane_answer overflow d mode x)
+lane_answers overflow d mode x lawful has word finite_one =
+    elim (cases_eq (whole_of x) 0) [
+      | inl zero ↦ ? -- unproved: IsKept (finite (zero_sign ..) 0); kept, rest and place are 0, so the code is 0
+      | inr some ↦
+          -- the value is `with_overflow overflow (format_with d) (is_minus x)` of what is delivered (as `number_converted`
+          -- of array_conversions.proofs.FarNumbers), encoded by point_encoded, past_encoded, or as the largest value
+          ? -- unproved
+    ]

@@ -1,0 +1,9 @@
+pub mod Targets
+pub mod Limits
+pub mod Kept
+pub mod Points
+pub mod Tiny
+pub mod Encoded
+pub mod LaneAnswers
+pub mod Vectors
+pub mod Sixteen

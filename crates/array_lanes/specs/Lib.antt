@@ -1,0 +1,4 @@
+pub mod Lists
+pub mod Targets
+pub mod Steps
+pub mod Answers
