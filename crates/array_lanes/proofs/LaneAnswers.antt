@@ -56,7 +56,8 @@ lane_delivered d mode x from lawful has single some value status value_is status
     let is = is_target d lawful has in
     let scale = scale_and_least d lawful has in
     let c = biased_of x - t.least in
-    let i = lane_encloses t x (format_with d).scale from is scale single some in
+    let precise : d.precision ≡ (d.precision - 1) + 1 = omega (arith, lawful.parameters.precision_low) in
+    let i = lane_encloses t x d.precision (format_with d).scale from is precise scale single some in
     let s = lane_stands t x (format_with d).scale from is scale single some in
     let up = moves_is mode (is_minus x) (kept_of t x % 2) (rest_of t x) (mod_below _ 2 (omega arith)) (mod_below _ (2 ^ 16) (pow_pos 16)) in
     let pick = picked_if_moved d.precision mode (is_minus x) (kept_of t x) c (amount_of x (format_with d).scale) (2 ^ from)
