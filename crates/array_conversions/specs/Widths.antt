@@ -1,5 +1,5 @@
 -- How many bytes a value takes.
-use Rattle.std.specs.Prelude.{ℕ, if◌then◌else◌}
+use Rattle.std.specs.Prelude.{◌≡◌, ℕ, false, if◌then◌else◌}
 use Rattle.std.specs.Int.{div_ceil}
 use Rattle.rustc_apfloat.specs.Lawful.{Constants}
 use Rattle.formats_at_run_time.specs.declared.built_in.BuiltInFormat.{BuiltInFormat}
@@ -33,3 +33,8 @@ array_widths conversion =
       source = width_of conversion.source Packed;
       target = width_of (format_without_rule conversion.target) Packed;
     }
+
+-- widths of values of these formats: only those with an explicit integer bit may be padded
+pub record AreWidths (c d : Constants) (widths : Widths) : Type 0 where
+  pub source : c.explicit_integer_bit ≡ false → widths.source ≡ div_ceil c.bits 8
+  pub target : d.explicit_integer_bit ≡ false → widths.target ≡ div_ceil d.bits 8

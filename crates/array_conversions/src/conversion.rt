@@ -1,15 +1,9 @@
 //! Blocks of values from any format to any other.
 
-ghost use Rattle.std.specs.Prelude.{◌≡◌, ◌+◌, ◌*◌, ◌/◌, ◌≤◌, length, take};
-ghost use Rattle.formats_at_run_time.specs.BuiltIns.{constants_in};
+ghost use Rattle.std.specs.Prelude.{◌≡◌, ◌≤◌};
 ghost use Rattle.array_conversions.specs.Words.{conversion_named, format_named};
 ghost use Rattle.array_conversions.specs.Widths.{source_width, target_width};
-ghost use Rattle.array_conversions.specs.Values.{IsConvertedBy};
-ghost use Rattle.array_conversions.specs.Blocks.{IsBlock};
 
-use crate::block_call::BlockCall;
-use crate::counts::Counts;
-use crate::saturation::Overflow;
 use crate::widths::{Extended, Widths, width};
 use formats_at_run_time::{BuiltInFormat, BuiltInKind, mode_named};
 use rustc_apfloat::Round;
@@ -53,54 +47,6 @@ impl Conversion {
             target: width(self.target, self.extended),
         }
     }
-
-    /// Converts the complete values in `read`, each in its place in `written`, which must have room for them; the bytes
-    /// after them are unspecified. `overflow` says what a number that overflows becomes.
-    pub fn convert_by(self, overflow: Overflow, read: &[u8], written: Vec<u8>) -> ConvertedBlock
-        requires { (length read.now / source_width self) * target_width self
-            ≤ length written.items }
-        ensures parts { let count = length read.now / source_width self in
-            (result.written ≡ count * target_width self)
-            × (result.left_over + count * source_width self ≡ length read.now) }
-        ensures room { length result.buffer.items ≡ length written.items }
-        ensures within { result.written ≤ length result.buffer.items }
-        ensures block { let count = length read.now / source_width self in
-            let c = constants_in self.source in let d = constants_in self.target in
-            IsBlock (IsConvertedBy overflow c d self.round) (source_width self)
-            (target_width self) count (take (count * source_width self) read.now)
-            (take result.written result.buffer.items) result.counts }
-    {
-        let widths = self.widths();
-        let count = read.len() / widths.source;
-        let whole = count * widths.source;
-        let call = BlockCall {
-            conversion: self,
-            overflow,
-            count,
-            input: &read[..whole],
-            output: written,
-        };
-        let answer = self.source.run(call);
-        ConvertedBlock {
-            counts: answer.counts,
-            buffer: answer.output,
-            written: count * widths.target,
-            left_over: read.len() - whole,
-        }
-    }
-}
-
-/// The outcome of converting a block.
-#[derive(Drop)]
-pub struct ConvertedBlock {
-    /// The counts of its outcomes.
-    pub counts: Counts,
-    /// The buffer that was passed, which begins with the converted values.
-    pub buffer: Vec<u8>,
-    /// The number of bytes that the converted values take.
-    pub written: usize,
-    /// The number of input bytes after the last complete value.
-    pub left_over: usize,
 }
 
 /// The format of this word.

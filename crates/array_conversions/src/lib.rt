@@ -2,7 +2,6 @@
 #![tactic(auto)]
 
 mod array;
-mod block_call;
 mod blocks;
 mod bytes;
 mod conversion;
@@ -14,9 +13,11 @@ mod saturation;
 mod widths;
 
 pub use array::ArrayConversion;
-pub use blocks::{convert_block_by, one_block};
+pub use blocks::{convert_values, one_block};
 pub use bytes::{number_of, write_number};
-pub use conversion::{Conversion, ConvertedBlock};
+pub use conversion::Conversion;
+pub use converted::Converted;
 pub use counts::{Counts, Outcome};
+pub use far_numbers::{FarAnswers, far_answers_for};
 pub use saturation::{Overflow, convert_by};
 pub use widths::{Extended, Widths, width};

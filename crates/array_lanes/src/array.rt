@@ -7,7 +7,7 @@ ghost use Rattle.formats_at_run_time.specs.FlaggedKinds.{flagged_constants};
 ghost use Rattle.array_conversions.specs.Blocks.{IsBlock};
 ghost use Rattle.array_conversions.specs.Calls.{at_format};
 ghost use Rattle.array_conversions.specs.Values.{IsConvertedBy};
-ghost use Rattle.array_conversions.specs.Widths.{array_widths, source_width, target_width};
+ghost use Rattle.array_conversions.specs.Widths.{AreWidths, array_widths, source_width, target_width};
 
 use crate::sixteen::convert_sixteen;
 use crate::target::{has_lanes, target_of};
@@ -103,6 +103,7 @@ impl WritesInFormat for BlockCall<'_> {
     ghost can = { λ it kind old.
         (it.widths.source ≤ 16)
         × ((flagged_constants it.target).bits ≤ 8 * it.widths.target)
+        × at_format kind (λ c. AreWidths c (flagged_constants it.target) it.widths)
         × (length it.input.now ≡ it.count * it.widths.source)
         × (length old ≡ it.count * it.widths.target) };
 
@@ -130,7 +131,8 @@ impl<S: Flagged> WritesInFormat for BlockCallFrom<'_, S> {
         × (it.call.widths.source ≤ 16)
         × (length it.call.input.now ≡ it.call.count * it.call.widths.source)
         × (length old ≡ it.call.count * it.call.widths.target)
-        × at_format kind (λ d. d.bits ≤ 8 * it.call.widths.target) };
+        × at_format kind (λ d. (d.bits ≤ 8 * it.call.widths.target)
+        × AreWidths (constants_of S.Flagged) d it.call.widths) };
 
     ghost gives = { λ it kind old new counts.
         at_format kind (λ d. let c = constants_of S.Flagged in
@@ -164,6 +166,7 @@ fn convert_block<S: Flagged, T: Flagged>(
     requires written { T.PRECISION < T.BITS }
     requires source { widths.source ≤ 16 }
     requires target { T.BITS ≤ 8 * widths.target }
+    requires exact { AreWidths (constants_of S.Flagged) (constants_of T.Flagged) widths }
     requires input { length input.now ≡ count * widths.source }
     requires output { length output.old ≡ count * widths.target }
     ensures { let c = constants_of S.Flagged in let d = constants_of T.Flagged in

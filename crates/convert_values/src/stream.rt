@@ -4,6 +4,7 @@ ghost use Rattle.std.specs.Prelude.{◌≡◌, ◌*◌, ◌≤◌, IfOk, length}
 ghost use Rattle.array_conversions.specs.Widths.{source_width, target_width};
 
 use array_conversions::{Conversion, Counts, Overflow};
+use array_lanes::convert_stream as convert_front;
 use commands::Progress;
 use std::alloc::AllocError;
 use std::io;
@@ -54,14 +55,14 @@ pub fn convert_stream<R: Clock + AllocGlobal, I: Read, W: Write, V: Write>(
     let alloc = rt.alloc();
     let widths = conversion.widths();
     let mut read = vec![in alloc; 0u8; BLOCK * widths.source]?;
-    let buffer = vec![in alloc; 0u8; BLOCK * widths.target]?;
+    let mut written = vec![in alloc; 0u8; BLOCK * widths.target]?;
     convert_through(
         rt,
         conversion,
         overflow,
         progress,
         read.as_mut_slice(),
-        buffer,
+        written.as_mut_slice(),
         input,
         output,
         err,
@@ -75,38 +76,37 @@ fn convert_through<C: Clock, I: Read, W: Write, V: Write>(
     overflow: Overflow,
     progress: Progress,
     read: &mut [u8],
-    buffer: Vec<u8>,
+    written: &mut [u8],
     input: &mut I,
     output: &mut W,
     err: &mut V,
 ) -> Result<Summary, Failure>
     requires read { length read.old ≡ BLOCK * source_width conversion }
-    requires buffer { length buffer.items ≡ BLOCK * target_width conversion }
+    requires written { length written.old ≡ BLOCK * target_width conversion }
 {
+    let widths = conversion.widths();
     let mut counts = Counts::NONE;
-    let mut buffer = buffer;
     let mut progress = progress;
     for _ in 0..u64::MAX {
         let filled = match fill(input, read) {
             Ok(filled) => filled,
             Err(error) => return Err(Failure::Reading(error)),
         };
-        let block = conversion.convert_by(overflow, &read[..filled], buffer);
-        counts.add(block.counts);
-        if let Err(error) = output.write_all(&block.buffer[..block.written]) {
+        let count = filled / widths.source;
+        counts.add(convert_front(conversion, overflow, &read[..filled], written));
+        if let Err(error) = output.write_all(&written[..count * widths.target]) {
             return Err(Failure::Writing(error));
         }
         if filled < read.len() {
             return match output.flush() {
                 Ok(()) => Ok(Summary {
                     counts,
-                    left_over: block.left_over,
+                    left_over: filled - count * widths.source,
                 }),
                 Err(error) => Err(Failure::Writing(error)),
             };
         }
         tell_progress(&mut progress, counts.values, clock, err);
-        buffer = block.buffer;
     }
     Err(Failure::TooLong)
 }

@@ -41,11 +41,14 @@ pub const LIBRARY: &[&str] = &[
 ];
 
 /// The crates that the library for C has above those.
-pub const FOR_C: &[&str] = &["rustc_apfloat", "formats_at_run_time", "array_conversions", "apfloat_c"];
+pub const FOR_C: &[&str] =
+    &["rustc_apfloat", "formats_at_run_time", "array_conversions", "array_lanes", "apfloat_c"];
 
-/// Modules that are left out, since no call of the erased crates uses them: streams are converted in buffers that a
-/// program has allocated.
-const WITHOUT: [(&str, &[&str]); 1] = [("array_conversions", &["block_call", "conversion"])];
+/// Modules that are left out, since no call of the erased crates uses them.
+const WITHOUT: [(&str, &[&str]); 0] = [];
+
+/// Modules that have another text for rustc: vectors are not stable there.
+const STAND_INS: [(&str, &str, &str); 1] = [("array_lanes", "lanes", include_str!("../../stand_ins/lanes.rs"))];
 
 /// The crates that are not of the repository: whoever builds the erased ones writes a module in place of each.
 const GIVEN: [&str; 1] = ["bitflags"];
@@ -97,6 +100,10 @@ type Exported = (Vec<String>, String);
 /// Erases a module and those that it declares, and gives the macros that they export.
 fn write_module(place: &Place<'_>, source: &Path, target: &Path, module: &[String]) -> Result<Vec<Exported>, Refusal> {
     let path: PathBuf = if module.is_empty() { "lib".into() } else { module.iter().collect() };
+    if let Some((_, _, text)) = STAND_INS.iter().find(|(of, name, _)| *of == place.name && path == Path::new(name)) {
+        write(&target.join(&path).with_extension("rs"), text)?;
+        return Ok(Vec::new());
+    }
     let file = source.join(&path).with_extension("rt");
     let text = fs::read_to_string(&file).map_err(|error| failed(&file, &error))?;
     let erased = erased(&text, place, &file)?;
