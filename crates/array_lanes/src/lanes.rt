@@ -255,7 +255,7 @@ pub fn count(marks: Halves) -> u64
 pub fn has_mark(marks: Halves) -> bool
     ensures { result ≡ nat_lt 0 (marked marks) }
 {
-    marks.simd_ne(u16x16::splat(0)).any()
+    marks.simd_ne(u16x16::splat(0)).to_bitmask() != 0
 }
 
 #[inline(always)]
