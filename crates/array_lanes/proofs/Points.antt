@@ -1,7 +1,7 @@
 -- The code of a point: its order is that of the points, so an overflow is seen in the code.
 -- unproved: the whole file was written without the checker
 use Rattle.std.proofs.Common.{◌≡◌, ℕ, ◌+◌, ◌-◌, ◌*◌, ◌^◌, ◌<◌, ◌≤◌, ◌⊎◌, Bool, ltb, min, refl, sym, ap, ◌∙◌, subst, inl, inr, arith}
-use Rattle.std.proofs.Math.Nat.{mul-le-mul_right}
+use Rattle.std.proofs.Math.Nat.{mul-le-mul_left, mul-le-mul_right}
 use Rattle.std.proofs.lemmas.Nat.{pow_pos}
 use Rattle.std.proofs.lemmas.Bool.{cases_lt, cases_eq, lt-ltb, le-ltb}
 use Rattle.apfloat_model.proofs.general.Choices.{ltb_times}
@@ -56,4 +56,5 @@ pub low_by_code : (half q c : ℕ) → (c ≡ 0) ⊎ (half ≤ q) → ltb (q * 2
 low_by_code half q c (inl z) = rw z (ap (λ n. ltb n half) (omega arith))
 low_by_code half q c (inr f) =
     let w : 1 ≤ 2 ^ c = pow_pos c in
-    le-ltb _ _ ? ∙ sym (le-ltb _ _ (omega (arith, f))) -- unproved: half ≤ q * 2 ^ c, as `large_after` of Deliveries
+    let a : q * 1 ≤ q * 2 ^ c = mul-le-mul_left q w in
+    le-ltb _ _ (omega (arith, a, f)) ∙ sym (le-ltb _ _ (omega (arith, f)))

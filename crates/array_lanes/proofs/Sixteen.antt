@@ -16,7 +16,10 @@ use Rattle.array_conversions.specs.Values.{IsConvertedBy}
 use Rattle.array_conversions.specs.declared.Counts.{Counts}
 use Rattle.array_conversions.specs.declared.Outcome.{Outcome}
 use Rattle.array_conversions.specs.declared.Overflow.{Overflow}
+use Rattle.std.proofs.lemmas.List.{drop-drop, take-take}
+use Rattle.std.proofs.lemmas.Slice.{between_is}
 use Rattle.array_conversions.proofs.ConversionsBy.{converted_from}
+use Rattle.array_conversions.proofs.Places.{place_below}
 use Rattle.array_lanes.specs.Answers.{lane_answer, outcome_of_lane}
 use Rattle.array_lanes.specs.Lists.{numbers_in}
 use Rattle.array_lanes.specs.Steps.{biased_of}
@@ -49,15 +52,52 @@ counts_append outcomes more =
     let nans = by became_nan in
     cc
 
--- unproved: the outcomes are joined; at an index below the first count the first block says it (`get_left`), at one from
--- it on the second does, whose values are those of the rest of the bytes: value_at width (count + k) bytes is
--- value_at width k (drop (count * width) bytes)
+-- a value within the first bytes is the same in all of them
+pub value_in_front : (width index count : ℕ) (bytes : List ℕ) → index < count
+    → value_at width index (take (count * width) bytes) ≡ value_at width index bytes
+value_in_front width index count bytes before =
+    let room = place_below index count width before in
+    between_is (take (count * width) bytes) (index * width) (index * width + width)
+    ∙ ap (drop (index * width)) (take-take (index * width + width) (count * width) bytes room)
+    ∙ sym (between_is bytes (index * width) (index * width + width))
+
+-- a value after the first bytes is the one of that place among the others
+pub value_behind : (width index count : ℕ) (bytes : List ℕ)
+    → value_at width index (drop (count * width) bytes) ≡ value_at width (count + index) bytes
+value_behind width index count bytes =
+    let at : index * width + count * width ≡ (count + index) * width = omega arith in
+    let size : index * width + width - index * width ≡ (count + index) * width + width - (count + index) * width = omega arith in
+    ap (take (index * width + width - index * width)) (drop-drop (index * width) (count * width) bytes ∙ ap (λ (n : ℕ). drop n bytes) at)
+    ∙ ap (λ (n : ℕ). take n (drop ((count + index) * width) bytes)) size
+
+-- two blocks, one after the other
 pub block_append : (Holds : List ℕ → List ℕ → Outcome → Type 0) (source target count more : ℕ)
     (input output : List ℕ) (counts others : Counts)
     → IsBlock Holds source target count (take (count * source) input) (take (count * target) output) counts
     → IsBlock Holds source target more (drop (count * source) input) (drop (count * target) output) others
     → IsBlock Holds source target (count + more) input output (both_counts counts others)
-block_append Holds source target count more input output counts others one other = ?
+block_append Holds source target count more input output counts others one other =
+    let all = one.outcomes ++ other.outcomes in
+    let Says : ℕ → Type 0 = λ index. IfSome (slice_get (one.outcomes ++ other.outcomes) index)
+    (λ o. Holds (value_at source index input) (value_at target index output) o) in
+    let front : (index : ℕ) → index < count → Says index = λ index h.
+    let found = get_left one.outcomes other.outcomes index (omega (arith, h, one.size)) in
+    rw (found, ← value_in_front source index count input h, ← value_in_front target index count output h) (one.each index) in
+    let behind : (index : ℕ) → Says (count + index) = λ index.
+    -- unproved name: the law for an index from the length of the first list on
+    let found = get_right one.outcomes other.outcomes count index one.size in
+    rw (found, ← value_behind source index count input, ← value_behind target index count output) (other.each index) in
+    record {
+      outcomes = one.outcomes ++ other.outcomes;
+      size = length-append one.outcomes other.outcomes ∙ ap (λ n. n + length other.outcomes) one.size ∙ ap (λ n. count + n) other.size;
+      each = λ index. elim (cases_lt index count) [
+        | inl h ↦ front index h
+        | inr g ↦ (let e : count + (index - count) ≡ index = omega (arith, g) in subst Says e (behind (index - count)))
+      ];
+      counted = ap (λ c. both_counts c others) one.counted
+          ∙ ap (λ c. both_counts (counts_of one.outcomes) c) other.counted
+          ∙ sym (counts_append one.outcomes other.outcomes);
+    }
 
 -- a count is at most the number of outcomes, so a sum that saturates is the sum while there are fewer than 2 ^ 64 values
 -- unproved
