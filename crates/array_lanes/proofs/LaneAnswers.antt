@@ -1,7 +1,7 @@
 -- The lemma of this crate: for a finite single, the steps of a lane give the conversion of the model.
 -- unproved: the whole file was written without the checker
 use Rattle.std.proofs.Common.{◌≡◌, ℕ, ◌+◌, ◌-◌, ◌*◌, ◌%◌, ◌^◌, ◌<◌, ◌≤◌, ◌⊎◌, Bool, true, false, not, cond, ltb, eqb, refl, sym, ap, ◌∙◌, subst, inl, inr, arith}
-use Rattle.std.proofs.lemmas.Bool.{cases_lt, cases_eq, ne_eqb, eq-eqb, le-ltb, lt-ltb}
+use Rattle.std.proofs.lemmas.Bool.{false≢true, cases_lt, cases_eq, ne_eqb, eq-eqb, le-ltb, lt-ltb}
 use Rattle.std.proofs.lemmas.Nat.{pow_pos, mod_below}
 use Rattle.apfloat_model.specs.declared.kinds.Round.{Round}
 use Rattle.apfloat_model.specs.formats.Datum.{Datum, finite}
@@ -23,12 +23,12 @@ use Rattle.array_conversions.specs.FarNumbers.{with_overflow}
 use Rattle.array_conversions.specs.Values.{IsAnswerFrom}
 use Rattle.array_conversions.specs.declared.Overflow.{Overflow}
 use Rattle.array_lanes.proofs.Encoded.{past_encoded, point_encoded}
-use Rattle.array_lanes.proofs.Kept.{amount_of, lane_encloses, lane_fits, lane_full, lane_stands}
+use Rattle.array_lanes.proofs.Kept.{amount_of, kept_high, lane_encloses, lane_fits, lane_full, lane_stands}
 use Rattle.array_lanes.proofs.Limits.{moves_is}
 use Rattle.array_lanes.proofs.Points.{IsPointAt, low_by_code, past_by_code}
 use Rattle.array_lanes.proofs.Targets.{is_target, scale_and_least}
 use Rattle.array_lanes.proofs.Tiny.{tiny_after_is, tiny_before_is}
-use Rattle.array_lanes.specs.Answers.{is_tiny_in, lane_answer, leads, status_of_lane}
+use Rattle.array_lanes.specs.Answers.{is_tiny_in, lane_answer, leads, loses_sign, status_of_lane}
 use Rattle.array_lanes.specs.Steps.{biased_of, code_of, is_minus, is_past, kept_of, loses, moves, place_of, rest_of, whole_of}
 use Rattle.array_lanes.specs.Targets.{HasLanes, target_of}
 
@@ -87,22 +87,62 @@ past_is_code d mode x lawful has =
     (greatest_significand d.nonfinite d.precision) (format_with d).span (picked_at d mode x lawful has)
     ∙ ap (λ (n : ℕ). ltb t.greatest (n + place_of t x * 2 ^ (d.precision - 1))) (one_more m (kept_of t x))
 
+-- a place past those of the format is seen in the code, so within the format none is clipped
+place_within : (d : Constants) (mode : Round) (x : ℕ) → IsLawful d → HasLanes d → is_past mode (target_of d) x ≡ false
+    → place_of (target_of d) x ≡ biased_of x - (target_of d).least
+place_within d mode x lawful has within =
+    let t = target_of d in
+    let is = is_target d lawful has in
+    elim (cases_lt t.highest (biased_of x - t.least)) [
+      | inr near ↦ omega (arith, near)
+      | inl far ↦ absurd (
+          -- kept is at least 2 ^ trailing there, so the code is at least (highest + 1) * 2 ^ trailing
+          let full = kept_high t x is (omega (arith, far)) in
+          let clipped : place_of t x ≡ t.highest = omega (arith, far) in
+          let code : (t.highest + 1) * 2 ^ t.trailing ≤ code_of mode t x = rw clipped (omega (arith, full)) in
+          false≢true (sym within ∙ lt-ltb t.greatest (code_of mode t x) (omega (arith, is.greatest_is, code))))
+    ]
+
 -- the three rules of tininess
+tiny_by : (d : Constants) (mode : Round) (x from : ℕ) (before flags : Bool) → IsLawful d → HasLanes d → from ≡ 149
+    → 0 < whole_of x → is_past mode (target_of d) x ≡ false → d.tiny_before_rounding ≡ before → d.ieee_flags ≡ flags
+    → is_tiny (format_with d) mode (is_minus x) (amount_of x (format_with d).scale) (2 ^ from)
+    (picked mode d x * 2 ^ (biased_of x - (target_of d).least))
+    ≡ is_tiny_in d mode x
+tiny_by d mode x from true flags lawful has single some within e f =
+    let t = target_of d in
+    let is = is_target d lawful has in
+    let precise : d.precision ≡ (d.precision - 1) + 1 = omega (arith, lawful.parameters.precision_low) in
+    let i = lane_encloses t x d.precision (format_with d).scale from is precise (scale_and_least d lawful has) single some in
+    before_is (format_with d) mode (is_minus x) (amount_of x (format_with d).scale) (2 ^ from) _ e
+    ∙ sym (tiny_before d.precision (2 ^ (d.precision - 1)) (kept_of t x) (biased_of x - t.least)
+    (amount_of x (format_with d).scale) (2 ^ from) (pow_pos from) i)
+    ∙ sym (tiny_before_is t x is) ∙ sym (rw e refl)
+tiny_by d mode x from false true lawful has single some within e f =
+    let t = target_of d in
+    let is = is_target d lawful has in
+    let precise : d.precision ≡ (d.precision - 1) + 1 = omega (arith, lawful.parameters.precision_low) in
+    unbounded_is (format_with d) mode (is_minus x) (amount_of x (format_with d).scale) (2 ^ from) _ e f
+    ∙ tiny_after_is mode t x d.precision (format_with d).scale from is precise (scale_and_least d lawful has) single some
+    ∙ sym (rw (e, f) refl)
+tiny_by d mode x from false false lawful has single some within e f =
+    let t = target_of d in
+    let half = 2 ^ (d.precision - 1) in
+    let m = moves mode (is_minus x) (kept_of t x % 2) (rest_of t x) in
+    let place = place_within d mode x lawful has within in
+    picked_is (format_with d) mode (is_minus x) (amount_of x (format_with d).scale) (2 ^ from) _ e f
+    ∙ low_by_code half (picked mode d x) (biased_of x - t.least) (picked_at d mode x lawful has).full
+    ∙ ap (λ (n : ℕ). ltb (n + (biased_of x - t.least) * half) half) (one_more m (kept_of t x))
+    ∙ ap (λ (n : ℕ). ltb (kept_of t x + one_if m + n * half) half) (sym place)
+    ∙ sym (rw (e, f) refl)
+
 tiny_is : (d : Constants) (mode : Round) (x from : ℕ) → IsLawful d → HasLanes d → from ≡ 149 → 0 < whole_of x
     → is_past mode (target_of d) x ≡ false
     → is_tiny (format_with d) mode (is_minus x) (amount_of x (format_with d).scale) (2 ^ from)
     (picked mode d x * 2 ^ (biased_of x - (target_of d).least))
     ≡ is_tiny_in d mode x
 tiny_is d mode x from lawful has single some within =
-    by_rule d.tiny_before_rounding refl d.ieee_flags refl
-  where
-    by_rule : (before : Bool) → d.tiny_before_rounding ≡ before → (flags : Bool) → d.ieee_flags ≡ flags → _
-    -- by the exact magnitude: before_is, tiny_before of Deliveries with lane_encloses, tiny_before_is
-    by_rule true e flags f = ? -- unproved
-    -- unbounded: unbounded_is and tiny_after_is
-    by_rule false e true f = ? -- unproved
-    -- by the pick: picked_is, low_by_code; the place is not clipped, since the code is within the format
-    by_rule false e false f = ? -- unproved
+    tiny_by d mode x from d.tiny_before_rounding d.ieee_flags lawful has single some within refl refl
 
 -- a nonzero single is delivered once, with the lane's status
 pub lane_delivered : (d : Constants) (mode : Round) (x from : ℕ) → IsLawful d → HasLanes d → from ≡ 149
@@ -146,14 +186,39 @@ lane_delivered d mode x from lawful has single some value status value_is status
 
 -- ---- the lemma
 
+-- a number that is neither lost nor past the largest value is not 0, so no sign is lost with it
+-- unproved: with rest 0, amount ≡ kept * 2 ^ place * parts (lane_stands), so kept and the code are above 0
+keeps_sign : (overflow : Overflow) (d : Constants) (mode : Round) (x : ℕ) → IsLawful d → HasLanes d → 0 < whole_of x
+    → loses (target_of d) x ≡ false → loses_sign overflow d mode x ≡ false
+keeps_sign overflow d mode x lawful has some exact = ?
+
+-- zeros. unproved: kept, rest and place are 0 and nothing moves, so the code is 0, the status is INEXACT exactly if the
+-- sign is lost, and the bits are those of the zero (low_fields_of, by point_encoded at 0)
+zero_answers : (overflow : Overflow) (d : Constants) (mode : Round) (x : ℕ) → IsLawful d → HasLanes d → x < 2 ^ 32
+    → whole_of x ≡ 0 → IsAnswerFrom overflow single_constants d mode x (lane_answer overflow d mode x)
+zero_answers overflow d mode x lawful has word zero = ?
+
+-- the bits of a lane encode what is delivered, with either treatment of overflow. unproved: past with `leads` by
+-- past_encoded; past without it as the point (greatest, span) by point_encoded; otherwise the picked point by
+-- point_encoded, where a negative zero keeps its sign unless the format lacks it
+lane_encoded : (overflow : Overflow) (d : Constants) (mode : Round) (x : ℕ) (rounded : Datum) → IsLawful d → HasLanes d
+    → 0 < whole_of x
+    → rounded ≡ cond (is_past mode (target_of d) x)
+    (cond (leads_out mode (is_minus x)) (past_largest d.nonfinite (nan_base (format_with d)) (is_minus x))
+    (finite (is_minus x) (largest (format_with d))))
+    (signed_quanta d.nonfinite (is_minus x) (picked mode d x * 2 ^ (biased_of x - (target_of d).least)))
+    → IsEncodedBy (format_with d) (layout_with d) (lane_answer overflow d mode x).bits
+    (with_overflow overflow (format_with d) (is_minus x) rounded)
+lane_encoded overflow d mode x rounded lawful has some is = ?
+
+-- a finite single: the lane's bits, flags and outcome are those of its conversion
 pub lane_answers : (overflow : Overflow) (d : Constants) (mode : Round) (x : ℕ) → IsLawful d → HasLanes d
     → x < 2 ^ 32 → biased_of x < 255
     → IsAnswerFrom overflow single_constants d mode x (lane_answer overflow d mode x)
 lane_answers overflow d mode x lawful has word finite_one =
     elim (cases_eq (whole_of x) 0) [
-      | inl zero ↦ ? -- unproved: IsKept (finite (zero_sign ..) 0); kept, rest and place are 0, so the code is 0
-      | inr some ↦
-          -- the value is `with_overflow overflow (format_with d) (is_minus x)` of what is delivered (as `number_converted`
-          -- of array_conversions.proofs.FarNumbers), encoded by point_encoded, past_encoded, or as the largest value
-          ? -- unproved
+      | inl zero ↦ zero_answers overflow d mode x lawful has word zero
+      -- value: `with_overflow` of what lane_delivered delivers, at 149; loses: whether the status is not OK; the number is
+      -- read by single_read, and quanta * 2 ^ scale is amount_of; encoded by lane_encoded; status by keeps_sign
+      | inr some ↦ ? -- unproved: `number_converted` of array_conversions.proofs.FarNumbers, with `subst` along single_read
     ]

@@ -70,6 +70,13 @@ value_behind width index count bytes =
     ap (take (index * width + width - index * width)) (drop-drop (index * width) (count * width) bytes ∙ ap (λ (n : ℕ). drop n bytes) at)
     ∙ ap (λ (n : ℕ). take n (drop ((count + index) * width) bytes)) size
 
+-- from the length of the first list on, the items are those of the second
+get_right : {X : Type 0} (xs ys : List X) (n k : ℕ) → length xs ≡ n → slice_get (xs ++ ys) (n + k) ≡ slice_get ys k
+get_right [] ys n k e = ap (slice_get ys) (omega (arith, e))
+get_right (x ∷ xs) ys n k e =
+    let step : n + k ≡ suc (length xs + k) = omega (arith, e) in
+    ap (slice_get (x ∷ (xs ++ ys))) step ∙ get_right xs ys (length xs) k refl
+
 -- two blocks, one after the other
 pub block_append : (Holds : List ℕ → List ℕ → Outcome → Type 0) (source target count more : ℕ)
     (input output : List ℕ) (counts others : Counts)
@@ -84,7 +91,6 @@ block_append Holds source target count more input output counts others one other
     let found = get_left one.outcomes other.outcomes index (omega (arith, h, one.size)) in
     rw (found, ← value_in_front source index count input h, ← value_in_front target index count output h) (one.each index) in
     let behind : (index : ℕ) → Says (count + index) = λ index.
-    -- unproved name: the law for an index from the length of the first list on
     let found = get_right one.outcomes other.outcomes count index one.size in
     rw (found, ← value_behind source index count input, ← value_behind target index count output) (other.each index) in
     record {
