@@ -6,7 +6,6 @@ use Rattle.std.proofs.lemmas.Nat.{pow_pos, mod_below}
 use Rattle.apfloat_model.specs.declared.kinds.Round.{Round}
 use Rattle.apfloat_model.specs.formats.Datum.{Datum, finite}
 use Rattle.apfloat_model.specs.formats.Format.{greatest_significand, largest, nan_base}
-use Rattle.apfloat_model.specs.formats.Formats.{single_constants}
 use Rattle.apfloat_model.specs.formats.Lawful.{Constants, IsLawful, format_with, layout_with}
 use Rattle.apfloat_model.specs.bits.Layout.{datum_of, IsEncodedBy}
 use Rattle.apfloat_model.specs.rounding.Rounding.{IsDelivered, is_tiny, leads_out, past_largest, signed_quanta, raises_overflow}
@@ -30,16 +29,15 @@ use Rattle.array_lanes.proofs.Targets.{is_target, scale_and_least}
 use Rattle.array_lanes.proofs.Tiny.{tiny_after_is, tiny_before_is}
 use Rattle.array_lanes.specs.Answers.{is_tiny_in, lane_answer, leads, loses_sign, status_of_lane}
 use Rattle.array_lanes.specs.Steps.{biased_of, code_of, is_minus, is_past, kept_of, loses, moves, place_of, rest_of, whole_of}
-use Rattle.array_lanes.specs.Targets.{HasLanes, target_of}
+use Rattle.array_lanes.specs.Targets.{HasLanes, IsSingle, target_of}
 
 -- the single that the word encodes; the formula holds for denormal numbers too, since 0 - 1 is 0
-pub single_read : (x : ℕ) → x < 2 ^ 32 → biased_of x < 255
-    → datum_of (format_with single_constants) (layout_with single_constants) x
-    ≡ finite (is_minus x) (whole_of x * 2 ^ (biased_of x - 1))
-single_read x word finite_one =
+pub single_read : (c : Constants) (x : ℕ) → IsSingle c → x < 2 ^ 32 → biased_of x < 255
+    → datum_of (format_with c) (layout_with c) x ≡ finite (is_minus x) (whole_of x * 2 ^ (biased_of x - 1))
+single_read c x single word finite_one =
     elim (cases_eq (biased_of x) 0) [
       | inl low ↦ ? -- unproved: implied_number at biased exponent 0; x % 2 ^ 23 is whole_of x, and 2 ^ (0 - 1) is 1
-      | inr some ↦ ? -- unproved: number_read single_constants x refl, and is_minus x ≡ eqb (x / 2 ^ 31 % 2) 1
+      | inr some ↦ ? -- unproved: number_read c x single.implied, and is_minus x ≡ eqb (x / 2 ^ 31 % 2) 1
     ]
 
 -- the picked significand, before its place
@@ -194,9 +192,9 @@ keeps_sign overflow d mode x lawful has some exact = ?
 
 -- zeros. unproved: kept, rest and place are 0 and nothing moves, so the code is 0, the status is INEXACT exactly if the
 -- sign is lost, and the bits are those of the zero (low_fields_of, by point_encoded at 0)
-zero_answers : (overflow : Overflow) (d : Constants) (mode : Round) (x : ℕ) → IsLawful d → HasLanes d → x < 2 ^ 32
-    → whole_of x ≡ 0 → IsAnswerFrom overflow single_constants d mode x (lane_answer overflow d mode x)
-zero_answers overflow d mode x lawful has word zero = ?
+zero_answers : (overflow : Overflow) (c d : Constants) (mode : Round) (x : ℕ) → IsSingle c → IsLawful d → HasLanes d
+    → x < 2 ^ 32 → whole_of x ≡ 0 → IsAnswerFrom overflow c d mode x (lane_answer overflow d mode x)
+zero_answers overflow c d mode x single lawful has word zero = ?
 
 -- the bits of a lane encode what is delivered, with either treatment of overflow. unproved: past with `leads` by
 -- past_encoded; past without it as the point (greatest, span) by point_encoded; otherwise the picked point by
@@ -212,12 +210,12 @@ lane_encoded : (overflow : Overflow) (d : Constants) (mode : Round) (x : ℕ) (r
 lane_encoded overflow d mode x rounded lawful has some is = ?
 
 -- a finite single: the lane's bits, flags and outcome are those of its conversion
-pub lane_answers : (overflow : Overflow) (d : Constants) (mode : Round) (x : ℕ) → IsLawful d → HasLanes d
-    → x < 2 ^ 32 → biased_of x < 255
-    → IsAnswerFrom overflow single_constants d mode x (lane_answer overflow d mode x)
-lane_answers overflow d mode x lawful has word finite_one =
+pub lane_answers : (overflow : Overflow) (c d : Constants) (mode : Round) (x : ℕ) → IsSingle c → IsLawful d
+    → HasLanes d → x < 2 ^ 32 → biased_of x < 255
+    → IsAnswerFrom overflow c d mode x (lane_answer overflow d mode x)
+lane_answers overflow c d mode x single lawful has word finite_one =
     elim (cases_eq (whole_of x) 0) [
-      | inl zero ↦ zero_answers overflow d mode x lawful has word zero
+      | inl zero ↦ zero_answers overflow c d mode x single lawful has word zero
       -- value: `with_overflow` of what lane_delivered delivers, at 149; loses: whether the status is not OK; the number is
       -- read by single_read, and quanta * 2 ^ scale is amount_of; encoded by lane_encoded; status by keeps_sign
       | inr some ↦ ? -- unproved: `number_converted` of array_conversions.proofs.FarNumbers, with `subst` along single_read

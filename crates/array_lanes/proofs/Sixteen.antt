@@ -9,7 +9,6 @@ use Rattle.std.proofs.lemmas.Option.{slice_get_past}
 use Rattle.apfloat_model.proofs.general.ListLaws.{get_left}
 use Rattle.rustc_apfloat.specs.declared.Round.{Round}
 use Rattle.apfloat_model.specs.formats.Lawful.{Constants, IsLawful}
-use Rattle.apfloat_model.specs.formats.Formats.{single_constants}
 use Rattle.array_conversions.specs.Blocks.{IsBlock, value_at}
 use Rattle.array_conversions.specs.Outcomes.{counts_of, raised, became_nan}
 use Rattle.array_conversions.specs.Values.{IsConvertedBy}
@@ -23,7 +22,7 @@ use Rattle.array_conversions.proofs.Places.{place_below}
 use Rattle.array_lanes.specs.Answers.{lane_answer, outcome_of_lane}
 use Rattle.array_lanes.specs.Lists.{numbers_in}
 use Rattle.array_lanes.specs.Steps.{biased_of}
-use Rattle.array_lanes.specs.Targets.{HasLanes}
+use Rattle.array_lanes.specs.Targets.{HasLanes, IsSingle}
 use Rattle.array_lanes.proofs.LaneAnswers.{lane_answers}
 
 -- ---- a block after a block
@@ -114,10 +113,10 @@ count_few test outcomes = ?
 
 -- unproved: the value at each index is the number of its four bytes (`numbers_in`), `lane_answers` says its answer, and
 -- `converted_from` carries it to the bytes that are written
-pub block_of_lanes : (overflow : Overflow) (d : Constants) (mode : Round) (input output : List ℕ)
+pub block_of_lanes : (overflow : Overflow) (c d : Constants) (mode : Round) (input output : List ℕ) → IsSingle c
     → IsLawful d → HasLanes d → length input ≡ 64
     → ((index : ℕ) → index < 16 → IfSome (slice_get (numbers_in 4 16 input) index) (λ x. biased_of x < 255))
     → numbers_in (d.bits / 8) 16 output ≡ map (λ x. (lane_answer overflow d mode x).bits) (numbers_in 4 16 input)
-    → IsBlock (IsConvertedBy overflow single_constants d mode) 4 (d.bits / 8) 16 input output
+    → IsBlock (IsConvertedBy overflow c d mode) 4 (d.bits / 8) 16 input output
     (counts_of (map (outcome_of_lane overflow d mode) (numbers_in 4 16 input)))
-block_of_lanes overflow d mode input output lawful has long numbers written = ?
+block_of_lanes overflow c d mode input output single lawful has long numbers written = ?

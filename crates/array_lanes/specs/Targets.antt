@@ -10,6 +10,15 @@ use Rattle.apfloat_model.specs.formats.Format.{greatest_significand}
 use Rattle.apfloat_model.specs.formats.Lawful.{Constants, format_with}
 use Rattle.array_lanes.specs.declared.target.Target.{Target}
 
+-- the source is binary32, whatever its rule of flags: no conversion from it depends on that
+pub record IsSingle (c : Constants) : Type 0 where
+  pub bits : c.bits ≡ 32
+  pub exp_bits : c.exp_bits ≡ 8
+  pub precision : c.precision ≡ 24
+  pub least : c.min_exp ≡ neg_ℤ (pos 126)
+  pub nonfinite : c.nonfinite ≡ IEEE754
+  pub implied : c.explicit_integer_bit ≡ false
+
 -- at most 16 bits and 11 digits, and no exponents below those of singles
 pub record HasLanes (d : Constants) : Type 0 where
   pub implied : d.explicit_integer_bit ≡ false

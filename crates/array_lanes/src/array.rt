@@ -184,7 +184,7 @@ fn convert_block<S: Flagged, T: Flagged>(
         let (from, to) = (64 * step, STEP * widths.target * step);
         let source = &input[from..from + 64];
         let place = &mut output[to..to + STEP * widths.target];
-        counts.add(match convert_sixteen::<T>(target, overflow, round, source, place) {
+        counts.add(match convert_sixteen::<S, T>(target, overflow, round, source, place) {
             Some(block) => block,
             None => convert_values::<S, T>(&far, overflow, round, widths, STEP, source, place),
         });

@@ -2,9 +2,7 @@
 
 ghost use Rattle.std.specs.Prelude.{◌≡◌, IsTrue};
 ghost use Rattle.rustc_apfloat.specs.FlaggedTypes.{constants_of};
-ghost use Rattle.apfloat_model.specs.formats.Formats.{single_constants};
-ghost use Rattle.apfloat_model.specs.formats.Lawful.{format_with, layout_with};
-ghost use Rattle.array_lanes.specs.Targets.{HasLanes, IsTarget, target_of};
+ghost use Rattle.array_lanes.specs.Targets.{HasLanes, IsSingle, IsTarget, target_of};
 
 use rustc_apfloat::NonfiniteBehavior;
 use rustc_apfloat::ieee::Flagged;
@@ -37,8 +35,7 @@ pub struct Target {
 /// Whether lanes convert values of one format to the other.
 #[inline(always)]
 pub fn has_lanes<S: Flagged, T: Flagged>() -> bool
-    ensures { IsTrue result → (format_with (constants_of S.Flagged) ≡ format_with single_constants)
-        × (layout_with (constants_of S.Flagged) ≡ layout_with single_constants)
+    ensures { IsTrue result → IsSingle (constants_of S.Flagged)
         × HasLanes (constants_of T.Flagged) }
 {
     is_single::<S>()
@@ -51,10 +48,13 @@ pub fn has_lanes<S: Flagged, T: Flagged>() -> bool
 
 /// Whether the format is binary32, whatever its rule of flags: no conversion from it depends on that.
 #[inline(always)]
-fn is_single<S: Flagged>() -> bool {
+fn is_single<S: Flagged>() -> bool
+    ensures { IsTrue result → IsSingle (constants_of S.Flagged) }
+{
     !S::EXPLICIT_INTEGER_BIT
         & (S::NONFINITE_BEHAVIOR == NonfiniteBehavior::IEEE754)
         & (S::BITS == 32)
+        & (S::EXP_BITS == 8)
         & (S::PRECISION == 24)
         & (S::MIN_EXP == -126)
 }
