@@ -8,7 +8,10 @@ use Rattle.array_conversions.specs.declared.Converted.{Converted}
 use Rattle.array_conversions.specs.declared.Outcome.{Outcome}
 use Rattle.array_conversions.specs.declared.Overflow.{Overflow}
 use Rattle.array_conversions.specs.declared.Overflow.TheVariants.{Rounded, Saturated}
-use Rattle.array_lanes.specs.Steps.{is_minus, is_past, loses, is_tiny_pick, is_tiny_before, is_tiny_after, bounded, bits_of_lane}
+use Rattle.array_conversions.specs.Outcomes.{one_if}
+use Rattle.array_lanes.specs.declared.flags.Found.{Found}
+use Rattle.array_lanes.specs.declared.target.Target.{Target}
+use Rattle.array_lanes.specs.Steps.{biased_of, code_of, kept_of, rest_of, is_minus, is_past, loses, is_tiny_pick, is_tiny_before, is_tiny_after, bounded, bits_of_lane}
 use Rattle.array_lanes.specs.Targets.{target_of}
 
 -- whether an overflow with this sign leaves the largest value
@@ -50,3 +53,14 @@ lane_answer overflow d mode x =
 
 abbrev pub outcome_of_lane : Overflow → Constants → Round → ℕ → Outcome
 outcome_of_lane overflow d mode x = (lane_answer overflow d mode x).outcome
+
+-- what the steps find of sixteen singles
+abbrev pub found_in : Round → Target → List ℕ → Found
+found_in mode t x =
+    record {
+      minus = map (λ n. one_if (is_minus n)) x;
+      biased = map biased_of x;
+      kept = map (kept_of t) x;
+      rest = map (rest_of t) x;
+      codes = map (code_of mode t) x;
+    }

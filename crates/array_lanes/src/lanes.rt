@@ -152,7 +152,8 @@ pub fn below(lanes: Halves, number: u16) -> Halves
 pub fn is(lanes: Halves, number: u16) -> Halves
     ensures { result ≡ map (λ n. one_if (n == number)) lanes }
 {
-    as_marks(lanes.simd_eq(u16x16::splat(number)))
+    lanes.simd_eq(u16x16::splat(number))
+        .select(u16x16::splat(1), u16x16::splat(0))
 }
 
 /// 1 where the lane is above this number.
@@ -160,7 +161,8 @@ pub fn is(lanes: Halves, number: u16) -> Halves
 pub fn exceeds(lanes: Halves, number: u16) -> Halves
     ensures { result ≡ map (λ n. one_if (nat_lt number n)) lanes }
 {
-    as_marks(lanes.simd_gt(u16x16::splat(number)))
+    lanes.simd_gt(u16x16::splat(number))
+        .select(u16x16::splat(1), u16x16::splat(0))
 }
 
 /// The other marks.
@@ -212,7 +214,8 @@ pub fn lesser(one: Halves, other: Halves) -> Halves
 pub fn exceeds_lane(lanes: Halves, other: Halves) -> Halves
     ensures { result ≡ zip2 (λ m n. one_if (nat_lt n m)) lanes other }
 {
-    as_marks(lanes.simd_gt(other))
+    lanes.simd_gt(other)
+        .select(u16x16::splat(1), u16x16::splat(0))
 }
 
 /// The digits of both lanes.
@@ -256,11 +259,6 @@ pub fn has_mark(marks: Halves) -> bool
     ensures { result ≡ nat_lt 0 (marked marks) }
 {
     marks.simd_ne(u16x16::splat(0)).to_bitmask() != 0
-}
-
-#[inline(always)]
-fn as_marks(mask: mask16x16) -> Halves {
-    mask.select(u16x16::splat(1), u16x16::splat(0))
 }
 
 // ---- powers of two

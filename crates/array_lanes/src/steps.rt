@@ -1,10 +1,10 @@
 //! The steps that convert sixteen singles, each over all lanes.
 
-ghost use Rattle.std.specs.Prelude.{◌≡◌, ℕ, ◌<◌, ◌^◌, length, map};
+ghost use Rattle.std.specs.Prelude.{◌≡◌, ℕ, ◌<◌, ◌^◌, Bool, List, length, map};
 ghost use Rattle.std.specs.Simd.Lanes.{Each1};
 ghost use Rattle.array_conversions.specs.Outcomes.{one_if};
 ghost use Rattle.array_lanes.specs.Answers.{leads};
-ghost use Rattle.array_lanes.specs.Steps.{biased_of, bits_of_lane, code_of, is_minus, is_special, kept_of, odd_of, place_of, places_of, rest_of};
+ghost use Rattle.array_lanes.specs.Steps.{biased_of, bits_of_lane, bounded, code_of, is_minus, is_special, is_tiny_after, is_tiny_before, kept_of, moves, odd_of, reaches_normal, rest_of};
 ghost use Rattle.array_lanes.specs.Targets.{IsTarget};
 
 use crate::lanes::{
@@ -70,9 +70,14 @@ pub fn cut_of(target: Target, biased: Halves, x: Words) -> (Halves, Halves)
     product(odd_of(target, biased, x), powers)
 }
 
-/// 1 where the mode moves a significand up.
+/// 1 where the mode moves a significand up. The clause is about lanes computed from any list.
 #[inline(always)]
-pub fn moves(round: Round, minus: Halves, odd: Halves, rest: Halves) -> Halves {
+pub fn moves(round: Round, minus: Halves, odd: Halves, rest: Halves) -> Halves
+    ensures { (negative : ℕ → Bool) (last lost : ℕ → ℕ) (x : List ℕ) → length x ≡ 16
+        → ((n : ℕ) → last n < 2) → minus ≡ map (λ n. one_if (negative n)) x → odd ≡ map last x
+        → rest ≡ map lost x
+        → result ≡ map (λ n. one_if (moves round (negative n) (last n) (lost n))) x }
+{
     let limits = choice(minus, limit_for(round, true), limit_for(round, false));
     let lower = both(odd, all(lower_for(round)));
     exceeds_lane(rest, difference(limits, lower))
@@ -118,7 +123,7 @@ pub fn bits_of(
         ≡ map (λ n. bits_of_lane (leads overflow round (is_minus n)) round target n) x }
     ensures fits { Each1 (λ n. n < 2 ^ target.bits) result }
 {
-    let largest = bounded(target, overflow, round, minus, codes);
+    let largest = bounded(target, overflow, round, minus, codes, x);
     let signs = if target.lacks_minus_zero {
         both(minus, exceeds(largest, 0))
     } else {
@@ -135,7 +140,13 @@ pub fn bounded(
     round: Round,
     minus: Halves,
     codes: Halves,
-) -> Halves {
+    x: Words,
+) -> Halves
+    requires target { IsTarget target }
+    requires minus { minus ≡ map (λ n. one_if (is_minus n)) x }
+    requires codes { codes ≡ map (code_of round target) x }
+    ensures { result ≡ map (λ n. bounded (leads overflow round (is_minus n)) round target n) x }
+{
     let greatest = choice(
         minus,
         target.greatest + u16::from(leads(overflow, round, true)),
@@ -152,7 +163,14 @@ pub fn reach_normal(
     minus: Halves,
     kept: Halves,
     rest: Halves,
-) -> Halves {
+    x: Words,
+) -> Halves
+    requires target { IsTarget target }
+    requires minus { minus ≡ map (λ n. one_if (is_minus n)) x }
+    requires kept { kept ≡ map (kept_of target) x }
+    requires rest { rest ≡ map (rest_of target) x }
+    ensures { result ≡ map (λ n. one_if (reaches_normal round target n)) x }
+{
     let last = is(kept, (1 << target.trailing) - 1);
     let past_half = exceeds(rest, 0x7fff);
     both(
@@ -163,7 +181,10 @@ pub fn reach_normal(
 
 /// 1 where an inexact result is tiny by its exact magnitude.
 #[inline(always)]
-pub fn tiny_before(target: Target, biased: Halves) -> Halves {
+pub fn tiny_before(target: Target, biased: Halves, x: Words) -> Halves
+    requires { biased ≡ map biased_of x }
+    ensures { result ≡ map (λ n. one_if (is_tiny_before target n)) x }
+{
     at_most(below(biased, target.least), 1)
 }
 
@@ -176,9 +197,17 @@ pub fn tiny_after(
     biased: Halves,
     kept: Halves,
     rest: Halves,
-) -> Halves {
+    x: Words,
+) -> Halves
+    requires target { IsTarget target }
+    requires minus { minus ≡ map (λ n. one_if (is_minus n)) x }
+    requires biased { biased ≡ map biased_of x }
+    requires kept { kept ≡ map (kept_of target) x }
+    requires rest { rest ≡ map (rest_of target) x }
+    ensures { result ≡ map (λ n. one_if (is_tiny_after round target n)) x }
+{
     both(
-        tiny_before(target, biased),
-        unmarked(reach_normal(target, round, minus, kept, rest)),
+        tiny_before(target, biased, x),
+        unmarked(reach_normal(target, round, minus, kept, rest, x)),
     )
 }
