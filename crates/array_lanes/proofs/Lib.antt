@@ -6,4 +6,5 @@ pub mod Tiny
 pub mod Encoded
 pub mod LaneAnswers
 pub mod Vectors
+pub mod Counted
 pub mod Sixteen
