@@ -5,6 +5,6 @@ pub mod Points
 pub mod Tiny
 pub mod Encoded
 pub mod LaneAnswers
-pub mod Vectors
 pub mod Counted
+pub mod Vectors
 pub mod Sixteen
