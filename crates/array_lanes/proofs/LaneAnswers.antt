@@ -196,9 +196,18 @@ zero_answers : (overflow : Overflow) (c d : Constants) (mode : Round) (x : ℕ) 
     → x < 2 ^ 32 → whole_of x ≡ 0 → IsAnswerFrom overflow c d mode x (lane_answer overflow d mode x)
 zero_answers overflow c d mode x single lawful has word zero = ?
 
--- the bits of a lane encode what is delivered, with either treatment of overflow. unproved: past with `leads` by
--- past_encoded; past without it as the point (greatest, span) by point_encoded; otherwise the picked point by
--- point_encoded, where a negative zero keeps its sign unless the format lacks it
+-- an overflow is not tiny by any rule, so the count of lost and tiny lanes has none. unproved: the code is above
+-- greatest, which is at least half; and below the least exponent kept < half at place 0, so the code is at most half
+past_not_tiny : (d : Constants) (mode : Round) (x : ℕ) → IsLawful d → HasLanes d → is_past mode (target_of d) x ≡ true
+    → is_tiny_in d mode x ≡ false
+past_not_tiny d mode x lawful has past = ?
+
+-- the bits of a lane encode what is delivered, with either treatment of overflow. unproved:
+-- past, and the result leaves the largest value (so nothing saturates): bounded is greatest + 1, past_encoded;
+-- past otherwise: bounded is greatest, the point (greatest significand, span) of point_encoded; `saturated` of an infinity,
+-- of a NaN and of the largest value is the largest value of that sign;
+-- not past: bounded is the code picked + c * half (place_within), which is 0 exactly if the pick is; then the sign is that
+-- of `zero_sign`, and otherwise that of the single
 lane_encoded : (overflow : Overflow) (d : Constants) (mode : Round) (x : ℕ) (rounded : Datum) → IsLawful d → HasLanes d
     → 0 < whole_of x
     → rounded ≡ cond (is_past mode (target_of d) x)
