@@ -1,4 +1,5 @@
 pub mod Targets
+pub mod Words
 pub mod Limits
 pub mod Kept
 pub mod Points
