@@ -2,6 +2,7 @@
 -- unproved: the whole file was written without the checker
 use Rattle.std.proofs.Common.{◌≡◌, ℕ, ◌+◌, ◌-◌, ◌*◌, ◌%◌, ◌^◌, ◌<◌, ◌≤◌, ◌⊎◌, Bool, true, false, not, cond, ltb, eqb, refl, sym, ap, ◌∙◌, subst, inl, inr, arith}
 use Rattle.std.proofs.lemmas.Bool.{false≢true, cases_lt, cases_eq, ne_eqb, eq-eqb, le-ltb, lt-ltb}
+use Rattle.std.proofs.Math.Nat.{mul-pos}
 use Rattle.std.proofs.lemmas.Nat.{pow_pos, mod_below}
 use Rattle.apfloat_model.specs.declared.kinds.Round.{Round}
 use Rattle.apfloat_model.specs.formats.Datum.{Datum, finite}
@@ -17,9 +18,11 @@ use Rattle.apfloat_rounding.specs.Cuts.{loss_at}
 use Rattle.apfloat_rounding.proofs.CutRests.{picked_if_moved, delivered_within}
 use Rattle.apfloat_rounding.proofs.HalfQuanta.{before_is, picked_is, unbounded_is}
 use Rattle.array_conversions.specs.Outcomes.{one_if}
-use Rattle.array_conversions.proofs.FarNumbers.{number_read}
+use Rattle.array_conversions.proofs.FarNumbers.{number_converted, number_read}
 use Rattle.array_conversions.specs.FarNumbers.{with_overflow}
+use Rattle.array_conversions.specs.Saturation.{IsConversionBy}
 use Rattle.array_conversions.specs.Values.{IsAnswerFrom}
+use Rattle.apfloat_model.specs.order.Classes.{is_nan}
 use Rattle.array_conversions.specs.declared.Overflow.{Overflow}
 use Rattle.array_lanes.proofs.Encoded.{past_encoded, point_encoded}
 use Rattle.array_lanes.proofs.Kept.{amount_of, kept_high, lane_encloses, lane_fits, lane_full, lane_stands}
@@ -27,7 +30,7 @@ use Rattle.array_lanes.proofs.Limits.{moves_is}
 use Rattle.array_lanes.proofs.Points.{IsPointAt, low_by_code, past_by_code}
 use Rattle.array_lanes.proofs.Targets.{is_target, scale_and_least}
 use Rattle.array_lanes.proofs.Tiny.{tiny_after_is, tiny_before_is}
-use Rattle.array_lanes.specs.Answers.{is_tiny_in, lane_answer, leads, loses_sign, status_of_lane}
+use Rattle.array_lanes.specs.Answers.{becomes_nan, is_tiny_in, lane_answer, leads, loses_sign, status_of_lane}
 use Rattle.array_lanes.specs.Steps.{biased_of, code_of, is_minus, is_past, kept_of, loses, moves, place_of, rest_of, whole_of}
 use Rattle.array_lanes.specs.Targets.{HasLanes, IsSingle, target_of}
 
@@ -44,6 +47,14 @@ single_read c x single word finite_one =
 abbrev picked : Round → Constants → ℕ → ℕ
 picked mode d x =
     cond (moves mode (is_minus x) (kept_of (target_of d) x % 2) (rest_of (target_of d) x)) (kept_of (target_of d) x + 1) (kept_of (target_of d) x)
+
+-- the value that it is rounded to
+abbrev pub rounded_lane : Constants → Round → ℕ → Datum
+rounded_lane d mode x =
+    cond (is_past mode (target_of d) x)
+    (cond (leads_out mode (is_minus x)) (past_largest d.nonfinite (nan_base (format_with d)) (is_minus x))
+    (finite (is_minus x) (largest (format_with d))))
+    (signed_quanta d.nonfinite (is_minus x) (picked mode d x * 2 ^ (biased_of x - (target_of d).least)))
 
 -- one more if it moves
 one_more : (moved : Bool) (n : ℕ) → cond moved (n + 1) n ≡ n + one_if moved
@@ -145,10 +156,7 @@ tiny_is d mode x from lawful has single some within =
 -- a nonzero single is delivered once, with the lane's status
 pub lane_delivered : (d : Constants) (mode : Round) (x from : ℕ) → IsLawful d → HasLanes d → from ≡ 149
     → 0 < whole_of x → (value : Datum) (status : ℕ)
-    → value ≡ cond (is_past mode (target_of d) x)
-    (cond (leads_out mode (is_minus x)) (past_largest d.nonfinite (nan_base (format_with d)) (is_minus x))
-    (finite (is_minus x) (largest (format_with d))))
-    (signed_quanta d.nonfinite (is_minus x) (picked mode d x * 2 ^ (biased_of x - (target_of d).least)))
+    → value ≡ rounded_lane d mode x
     → status ≡ cond (is_past mode (target_of d) x)
     (cond (raises_overflow (format_with d) mode (is_minus x)) 20 16)
     (cond (loses (target_of d) x) (cond (is_tiny_in d mode x) 24 16) 0)
@@ -210,13 +218,28 @@ past_not_tiny d mode x lawful has past = ?
 -- of `zero_sign`, and otherwise that of the single
 lane_encoded : (overflow : Overflow) (d : Constants) (mode : Round) (x : ℕ) (rounded : Datum) → IsLawful d → HasLanes d
     → 0 < whole_of x
-    → rounded ≡ cond (is_past mode (target_of d) x)
-    (cond (leads_out mode (is_minus x)) (past_largest d.nonfinite (nan_base (format_with d)) (is_minus x))
-    (finite (is_minus x) (largest (format_with d))))
-    (signed_quanta d.nonfinite (is_minus x) (picked mode d x * 2 ^ (biased_of x - (target_of d).least)))
+    → rounded ≡ rounded_lane d mode x
     → IsEncodedBy (format_with d) (layout_with d) (lane_answer overflow d mode x).bits
     (with_overflow overflow (format_with d) (is_minus x) rounded)
 lane_encoded overflow d mode x rounded lawful has some is = ?
+
+-- a result is a NaN exactly if it left the largest value of a format without infinities. unproved: by the kind, past and
+-- leads; a number and a saturated result are none
+lane_nan : (overflow : Overflow) (d : Constants) (mode : Round) (x : ℕ) (rounded : Datum)
+    → rounded ≡ rounded_lane d mode x
+    → becomes_nan overflow d mode x ≡ is_nan (with_overflow overflow (format_with d) (is_minus x) rounded)
+lane_nan overflow d mode x rounded is = ?
+
+-- if nothing is lost, no sign is
+last_zero : (past lost sign : Bool) (a b : ℕ) → (lost ≡ false → sign ≡ false)
+    → cond past a (cond lost b (cond sign 16 0)) ≡ cond past a (cond lost b 0)
+last_zero true lost sign a b h = refl
+last_zero false true sign a b h = refl
+last_zero false false sign a b h = rw (h refl) refl
+
+-- the quantum of singles
+single_scale : (c : Constants) → IsSingle c → (format_with c).scale ≡ 149
+single_scale c single = rw (single.precision, single.least) refl
 
 -- a finite single: the lane's bits, flags and outcome are those of its conversion
 pub lane_answers : (overflow : Overflow) (c d : Constants) (mode : Round) (x : ℕ) → IsSingle c → IsLawful d
@@ -225,7 +248,27 @@ pub lane_answers : (overflow : Overflow) (c d : Constants) (mode : Round) (x : �
 lane_answers overflow c d mode x single lawful has word finite_one =
     elim (cases_eq (whole_of x) 0) [
       | inl zero ↦ zero_answers overflow c d mode x single lawful has word zero
-      -- value: `with_overflow` of what lane_delivered delivers, at 149; loses: whether the status is not OK; the number is
-      -- read by single_read, and quanta * 2 ^ scale is amount_of; encoded by lane_encoded; status by keeps_sign
-      | inr some ↦ ? -- unproved: `number_converted` of array_conversions.proofs.FarNumbers, with `subst` along single_read
+      | inr other ↦
+          let some : 0 < whole_of x = omega (arith, other) in
+          let rounded = rounded_lane d mode x in
+          let status = status_of_lane overflow d mode x in
+          let quanta = whole_of x * 2 ^ (biased_of x - 1) in
+          let same = last_zero (is_past mode (target_of d) x) (loses (target_of d) x) (loses_sign overflow d mode x) _ _
+          (keeps_sign overflow d mode x lawful has some) in
+          let delivered = lane_delivered d mode x (format_with c).scale lawful has (single_scale c single) some rounded
+          status refl same in
+          record {
+            value = with_overflow overflow (format_with d) (is_minus x) rounded;
+            loses = not (eqb (status_of_lane overflow d mode x) ok_bits);
+            is_conversion =
+                subst
+                (λ (y : Datum). IsConversionBy overflow (format_with c) (format_with d) mode y
+                (with_overflow overflow (format_with d) (is_minus x) (rounded_lane d mode x))
+                (status_of_lane overflow d mode x) (not (eqb (status_of_lane overflow d mode x) ok_bits)))
+                (sym (single_read c x single word finite_one))
+                (number_converted overflow (format_with c) (format_with d) mode (is_minus x) quanta rounded status
+                (mul-pos some (pow_pos (biased_of x - 1))) delivered);
+            is_encoded = lane_encoded overflow d mode x rounded lawful has some refl;
+            nan_is = lane_nan overflow d mode x rounded refl;
+          }
     ]
