@@ -9,7 +9,7 @@ use Rattle.apfloat_model.specs.formats.Datum.{Datum, finite}
 use Rattle.apfloat_model.specs.formats.Format.{greatest_significand, largest, nan_base}
 use Rattle.apfloat_model.specs.formats.Lawful.{Constants, IsLawful, format_with, layout_with}
 use Rattle.apfloat_model.specs.bits.Layout.{datum_of, IsEncodedBy}
-use Rattle.apfloat_model.specs.rounding.Rounding.{IsDelivered, is_tiny, leads_out, past_largest, signed_quanta, raises_overflow}
+use Rattle.apfloat_model.specs.rounding.Rounding.{IsDelivered, is_tiny, leads_out, ok_bits, past_largest, signed_quanta, raises_overflow}
 use Rattle.apfloat_model.proofs.formats.Greatest.{greatest_fits, greatest_full}
 use Rattle.apfloat_model.proofs.general.Choices.{cond_within}
 use Rattle.apfloat_model.proofs.general.Powers.{twice_half}
