@@ -1,16 +1,16 @@
 -- The lemma of this crate: for a finite single, the steps of a lane give the conversion of the model.
 -- unproved: the whole file was written without the checker
-use Rattle.std.proofs.Common.{◌≡◌, ℕ, ◌+◌, ◌-◌, ◌*◌, ◌%◌, ◌^◌, ◌<◌, ◌≤◌, ◌⊎◌, Bool, true, false, not, cond, ltb, eqb, refl, sym, ap, ◌∙◌, subst, inl, inr, arith}
+use Rattle.std.proofs.Common.{◌≡◌, ℕ, ◌+◌, ◌-◌, ◌*◌, ◌%◌, ◌^◌, ◌<◌, ◌≤◌, ◌⊎◌, Bool, true, false, not, ◌&&◌, cond, ltb, eqb, min, bit_or, refl, sym, ap, ◌∙◌, subst, inl, inr, arith}
 use Rattle.std.proofs.lemmas.Bool.{false≢true, cases_lt, cases_eq, ne_eqb, eq-eqb, le-ltb, lt-ltb}
 use Rattle.std.proofs.Math.Nat.{mul-pos}
 use Rattle.std.proofs.lemmas.Nat.{pow_pos, mod_below}
 use Rattle.apfloat_model.specs.declared.kinds.Round.{Round}
 use Rattle.apfloat_model.specs.formats.Datum.{Datum, finite}
-use Rattle.apfloat_model.specs.formats.Format.{greatest_significand, largest, nan_base}
+use Rattle.apfloat_model.specs.formats.Format.{Format, greatest_significand, largest, nan_base}
 use Rattle.apfloat_model.specs.formats.Lawful.{Constants, IsLawful, format_with, layout_with}
 use Rattle.apfloat_model.specs.bits.Layout.{datum_of, IsEncodedBy}
-use Rattle.apfloat_model.specs.rounding.Rounding.{IsDelivered, is_tiny, leads_out, ok_bits, past_largest, signed_quanta, raises_overflow}
-use Rattle.apfloat_model.proofs.formats.Greatest.{greatest_fits, greatest_full}
+use Rattle.apfloat_model.specs.rounding.Rounding.{IsDelivered, is_tiny, leads_out, ok_bits, past_largest, signed_quanta, raises_overflow, zero_sign}
+use Rattle.apfloat_model.proofs.formats.Greatest.{greatest_fits, greatest_full, greatest_some}
 use Rattle.apfloat_model.proofs.general.Choices.{cond_within}
 use Rattle.apfloat_model.proofs.general.Powers.{twice_half}
 use Rattle.apfloat_model.proofs.rounding.Deliveries.{delivered_past, tiny_before}
@@ -20,10 +20,13 @@ use Rattle.apfloat_rounding.proofs.HalfQuanta.{before_is, picked_is, unbounded_i
 use Rattle.array_conversions.specs.Outcomes.{one_if}
 use Rattle.array_conversions.proofs.FarNumbers.{number_converted, number_read}
 use Rattle.array_conversions.specs.FarNumbers.{with_overflow}
-use Rattle.array_conversions.specs.Saturation.{IsConversionBy}
+use Rattle.array_conversions.specs.Saturation.{IsConversionBy, saturated}
 use Rattle.array_conversions.specs.Values.{IsAnswerFrom}
 use Rattle.apfloat_model.specs.order.Classes.{is_nan}
 use Rattle.array_conversions.specs.declared.Overflow.{Overflow}
+use Rattle.array_conversions.specs.declared.Overflow.TheVariants.{Rounded, Saturated}
+use Rattle.apfloat_model.specs.declared.kinds.NonfiniteBehavior.{NonfiniteBehavior}
+use Rattle.apfloat_model.specs.declared.kinds.NonfiniteBehavior.TheVariants.{IEEE754, NanOnly, NanNegativeZero}
 use Rattle.array_lanes.proofs.Encoded.{past_encoded, point_encoded}
 use Rattle.array_lanes.proofs.Kept.{amount_of, kept_high, lane_encloses, lane_fits, lane_full, lane_stands}
 use Rattle.array_lanes.proofs.Limits.{moves_is}
@@ -32,7 +35,7 @@ use Rattle.array_lanes.proofs.Targets.{is_target, scale_and_least}
 use Rattle.array_lanes.proofs.Tiny.{tiny_after_is, tiny_before_is}
 use Rattle.array_lanes.specs.Answers.{becomes_nan, is_tiny_in, lane_answer, leads, loses_sign, status_of_lane}
 use Rattle.array_lanes.specs.Steps.{biased_of, code_of, is_minus, is_past, kept_of, loses, moves, place_of, rest_of, whole_of}
-use Rattle.array_lanes.specs.Targets.{HasLanes, IsSingle, target_of}
+use Rattle.array_lanes.specs.Targets.{HasLanes, IsSingle, lacks_minus_zero, target_of}
 
 -- the single that the word encodes; the formula holds for denormal numbers too, since 0 - 1 is 0
 pub single_read : (c : Constants) (x : ℕ) → IsSingle c → x < 2 ^ 32 → biased_of x < 255
@@ -210,18 +213,145 @@ past_not_tiny : (d : Constants) (mode : Round) (x : ℕ) → IsLawful d → HasL
     → is_tiny_in d mode x ≡ false
 past_not_tiny d mode x lawful has past = ?
 
--- the bits of a lane encode what is delivered, with either treatment of overflow. unproved:
--- past, and the result leaves the largest value (so nothing saturates): bounded is greatest + 1, past_encoded;
--- past otherwise: bounded is greatest, the point (greatest significand, span) of point_encoded; `saturated` of an infinity,
--- of a NaN and of the largest value is the largest value of that sign;
--- not past: bounded is the code picked + c * half (place_within), which is 0 exactly if the pick is; then the sign is that
--- of `zero_sign`, and otherwise that of the single
+-- ---- the bits
+
+-- the sign of a code that is not 0 is the single's
+sign_kept : (negative lacks : Bool) (code : ℕ) → 0 < code → (negative && not (lacks && eqb code 0)) ≡ negative
+sign_kept negative lacks code some = rw (ne_eqb code 0 (λ e. omega (arith, e, some))) (both negative lacks)
+  where
+    both : (a b : Bool) → (a && not (b && false)) ≡ a
+    both true true = refl
+    both true false = refl
+    both false b = refl
+
+-- the sign of a zero is the one that its format has
+sign_of_none : (kind : NonfiniteBehavior) (negative : Bool)
+    → (negative && not (lacks_minus_zero kind && true)) ≡ zero_sign kind negative
+sign_of_none IEEE754 true = refl
+sign_of_none IEEE754 false = refl
+sign_of_none NanOnly true = refl
+sign_of_none NanOnly false = refl
+sign_of_none NanNegativeZero true = refl
+sign_of_none NanNegativeZero false = refl
+
+sign_twice : (kind : NonfiniteBehavior) (negative : Bool)
+    → zero_sign kind negative ≡ zero_sign kind (zero_sign kind negative)
+sign_twice IEEE754 negative = refl
+sign_twice NanOnly negative = refl
+sign_twice NanNegativeZero negative = refl
+
+-- what saturates: the value past the largest one, and nothing else
+saturated_past : (g : Format) (kind : NonfiniteBehavior) (base : ℕ) (negative : Bool)
+    → saturated g (finite negative 0) (past_largest kind base negative) ≡ finite negative (largest g)
+saturated_past g IEEE754 base negative = refl
+saturated_past g NanOnly base negative = refl
+saturated_past g NanNegativeZero base negative = refl
+
+saturated_quanta : (overflow : Overflow) (g : Format) (kind : NonfiniteBehavior) (negative : Bool) (quanta : ℕ)
+    → with_overflow overflow g negative (signed_quanta kind negative quanta) ≡ signed_quanta kind negative quanta
+saturated_quanta Rounded g kind negative quanta = refl
+saturated_quanta Saturated g kind negative quanta = by_zero (eqb quanta 0)
+  where
+    by_zero : (zero : Bool)
+        → saturated g (finite negative 0) (cond zero (finite (zero_sign kind negative) 0) (finite negative quanta))
+        ≡ cond zero (finite (zero_sign kind negative) 0) (finite negative quanta)
+    by_zero true = refl
+    by_zero false = refl
+
+-- past the largest value, the result is the value past it or the largest one
+value_past : (overflow : Overflow) (d : Constants) (mode : Round) (negative : Bool)
+    → with_overflow overflow (format_with d) negative
+    (cond (leads_out mode negative) (past_largest d.nonfinite (nan_base (format_with d)) negative)
+    (finite negative (largest (format_with d))))
+    ≡ cond (leads overflow mode negative) (past_largest d.nonfinite (nan_base (format_with d)) negative)
+    (finite negative (largest (format_with d)))
+value_past Rounded d mode negative = refl
+value_past Saturated d mode negative = by_lead (leads_out mode negative)
+  where
+    by_lead : (lead : Bool)
+        → saturated (format_with d) (finite negative 0)
+        (cond lead (past_largest d.nonfinite (nan_base (format_with d)) negative) (finite negative (largest (format_with d))))
+        ≡ finite negative (largest (format_with d))
+    by_lead true = saturated_past (format_with d) d.nonfinite (nan_base (format_with d)) negative
+    by_lead false = refl
+
+-- the code of a result past the largest value
+bounded_past : (code greatest : ℕ) (lead : Bool) → greatest < code → min code (greatest + one_if lead) ≡ greatest + one_if lead
+bounded_past code greatest true over = omega (arith, over)
+bounded_past code greatest false over = omega (arith, over)
+
+bounded_within : (code greatest : ℕ) (lead : Bool) → code ≤ greatest → min code (greatest + one_if lead) ≡ code
+bounded_within code greatest true within = omega (arith, within)
+bounded_within code greatest false within = omega (arith, within)
+
+-- the largest value by its code
+largest_encoded : (d : Constants) (negative : Bool) → IsLawful d → HasLanes d
+    → IsEncodedBy (format_with d) (layout_with d)
+    (bit_or (target_of d).greatest (cond negative (2 ^ (d.bits - 1)) 0)) (finite negative (largest (format_with d)))
+largest_encoded d negative lawful has =
+    let precise = lawful.parameters.precision_low in
+    let double : 2 * 2 ^ (d.precision - 1) ≡ 2 ^ d.precision = twice_half d.precision (omega (arith, precise)) in
+    let fits = greatest_fits d.nonfinite d.precision in
+    let full = greatest_full d.nonfinite d.precision precise in
+    let some : 0 < largest (format_with d) =
+    mul-pos (greatest_some d.nonfinite d.precision precise) (pow_pos (format_with d).span) in
+    point_encoded d negative (greatest_significand d.nonfinite d.precision) (format_with d).span lawful has
+    (omega (arith, fits, double)) (inr full) (omega arith) (is_target d lawful has).greatest
+    (λ none. absurd (omega (arith, none, some)))
+
+-- the bits of a lane encode what is delivered, with either treatment of overflow
 lane_encoded : (overflow : Overflow) (d : Constants) (mode : Round) (x : ℕ) (rounded : Datum) → IsLawful d → HasLanes d
-    → 0 < whole_of x
     → rounded ≡ rounded_lane d mode x
     → IsEncodedBy (format_with d) (layout_with d) (lane_answer overflow d mode x).bits
     (with_overflow overflow (format_with d) (is_minus x) rounded)
-lane_encoded overflow d mode x rounded lawful has some is = ?
+lane_encoded overflow d mode x rounded lawful has is =
+    let t = target_of d in
+    let negative = is_minus x in
+    let half = 2 ^ (d.precision - 1) in
+    let lead = leads overflow mode (is_minus x) in
+    let point = picked_at d mode x lawful has in
+    elim (cases_lt t.greatest (code_of mode t x)) [
+      | inl over ↦
+          let p : is_past mode t x ≡ true = lt-ltb t.greatest (code_of mode t x) over in
+          let code = bounded_past (code_of mode t x) t.greatest lead over in
+          let full = greatest_full d.nonfinite d.precision lawful.parameters.precision_low in
+          let some : 0 < t.greatest + one_if lead = omega (arith, full, pow_pos (d.precision - 1)) in
+          let sign = sign_kept negative t.lacks_minus_zero (t.greatest + one_if lead) some in
+          rw (is, p, value_past overflow d mode negative, code, sign) (by_lead lead)
+      | inr within ↦
+          let p : is_past mode t x ≡ false = le-ltb t.greatest (code_of mode t x) within in
+          let code = bounded_within (code_of mode t x) t.greatest lead within in
+          let place = place_within d mode x lawful has p in
+          let c = biased_of x - t.least in
+          let same : code_of mode t x ≡ picked mode d x + c * half = ? in -- unproved: one_more, place
+          let low : picked mode d x + c * half < 2 ^ (d.bits - 1) = omega (arith, same, within, (is_target d lawful has).greatest) in
+          let inside : picked mode d x * 2 ^ c ≤ largest (format_with d) = ? in -- unproved: past_is_code and p
+          elim (cases_eq (picked mode d x * 2 ^ c) 0) [
+            | inl zero ↦
+                -- the pick is 0 at place 0, so the code is 0, and the sign is that of the format's zero
+                let none : picked mode d x ≡ 0 = ? in -- unproved: 2 ^ c is above 0
+                let at : c ≡ 0 = elim point.full [ inl z ↦ z | inr f ↦ absurd (omega (arith, f, none, point.some)) ] in
+                let empty : code_of mode t x ≡ 0 = omega (arith, same, none, at) in
+                rw (is, p, saturated_quanta overflow (format_with d) d.nonfinite negative (picked mode d x * 2 ^ c), code, empty,
+                eq-eqb _ 0 zero, sign_of_none d.nonfinite negative)
+                (point_encoded d (zero_sign d.nonfinite negative) 0 0 lawful has (omega arith) (inl refl) (omega arith)
+                (pow_pos (d.bits - 1)) (λ _. sign_twice d.nonfinite negative))
+            | inr number ↦
+                let some : 0 < code_of mode t x = ? in -- unproved: otherwise the pick is 0
+                let sign = sign_kept negative t.lacks_minus_zero (code_of mode t x) some in
+                rw (is, p, saturated_quanta overflow (format_with d) d.nonfinite negative (picked mode d x * 2 ^ c), code, sign,
+                ne_eqb _ 0 number, same)
+                (point_encoded d negative (picked mode d x) c lawful has point.most point.full inside low
+                (λ none. absurd (number none)))
+          ]
+    ]
+  where
+    by_lead : (lead : Bool)
+        → IsEncodedBy (format_with d) (layout_with d)
+        (bit_or ((target_of d).greatest + one_if lead) (cond (is_minus x) (2 ^ (d.bits - 1)) 0))
+        (cond lead (past_largest d.nonfinite (nan_base (format_with d)) (is_minus x)) (finite (is_minus x) (largest (format_with d))))
+    by_lead true = past_encoded d (is_minus x) lawful has
+    by_lead false = largest_encoded d (is_minus x) lawful has
 
 -- a result is a NaN exactly if it left the largest value of a format without infinities. unproved: by the kind, past and
 -- leads; a number and a saturated result are none
@@ -268,7 +398,7 @@ lane_answers overflow c d mode x single lawful has word finite_one =
                 (sym (single_read c x single word finite_one))
                 (number_converted overflow (format_with c) (format_with d) mode (is_minus x) quanta rounded status
                 (mul-pos some (pow_pos (biased_of x - 1))) delivered);
-            is_encoded = lane_encoded overflow d mode x rounded lawful has some refl;
+            is_encoded = lane_encoded overflow d mode x rounded lawful has refl;
             nan_is = lane_nan overflow d mode x rounded refl;
           }
     ]
