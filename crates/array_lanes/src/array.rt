@@ -173,10 +173,12 @@ fn convert_block<S: Flagged, T: Flagged>(
         IsBlock (IsConvertedBy overflow c d round) widths.source widths.target count
         input.now output.new result }
 {
-    let far = far_answers_for::<S, T>(overflow, round, count);
     if !has_lanes::<S, T>() || widths.source != 4 || 8 * widths.target != T::BITS {
+        let far = far_answers_for::<S, T>(overflow, round, count);
         return convert_values::<S, T>(&far, overflow, round, widths, count, input, output);
     }
+    // Lanes leave few values, for which the far answers would take longer than they save.
+    let far = None;
     let target = target_of::<T>();
     let steps = count / STEP;
     let mut counts = Counts::NONE;
