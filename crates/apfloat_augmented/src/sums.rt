@@ -115,7 +115,11 @@ fn rest_of<S: Flagged>(
 }
 
 /// Whether a result with that status is exact and equal to another value.
-pub(crate) fn is_exactly<S: Flagged>(status: Status, value: IeeeFloat<S>, other: IeeeFloat<S>) -> bool
+pub(crate) fn is_exactly<S: Flagged>(
+    status: Status,
+    value: IeeeFloat<S>,
+    other: IeeeFloat<S>,
+) -> bool
     ensures ok { result ≡ true → bits_of status ≡ ok_bits }
     ensures equal { result ≡ true → is_equal value other ≡ true }
     ensures no { result ≡ false → bits_of status ≡ ok_bits → is_equal value other ≡ false }
