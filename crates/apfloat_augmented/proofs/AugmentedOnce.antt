@@ -94,7 +94,6 @@ augmented_difference_once f (infinite b) y h g t u i j =
 augmented_difference_once f (nan b m) y h g t u i j =
     both_once _ h g t u i j (difference_once f NearestTiesToEven (nan b m) y)
 
--- unproved
 pub augmented_product_once : HasOneAugmented IsAugmentedProduct
 augmented_product_once f (finite b m) (finite c n) h g t u i j =
     augmented_once f (product_sign b c) (signed (product_sign b c) (m * n)) (2 ^ f.scale) h g t u i j
@@ -166,7 +165,6 @@ sums_are_exact f h (nan b m) y head tail status mx my p q x = absurd (false≢tr
 
 -- ---- products that are an integral number of quanta are exact
 
--- unproved
 -- what is left of a whole product is on the grid
 whole_rest : (f : Format) → 3 ≤ f.precision → (of_zero : Bool) (a c whole exact : ℤ) (pick : ℕ)
     → IsOnGrid f.precision (magnitude a) → IsOnGrid f.precision (magnitude c) → (a *ℤ c) ≡ exact
@@ -192,7 +190,6 @@ whole_rest f h of_zero a c whole exact pick g k d e t =
     subst (λ (i : ℕ). IsOnGrid f.precision (magnitude (whole -ℤ signed (sign_of of_zero exact) i))) one
     (on_grid_as (magnitude-sub (signed (sign_of of_zero exact) pick) whole) r)
 
--- unproved
 exact_or_past : (f : Format) (s : Bool) (whole exact : ℤ) (pick : ℕ) (head tail : Datum) (status : ℕ)
     → (whole *ℤ pos (2 ^ f.scale)) ≡ exact → IsOnGrid f.precision (magnitude (left_of whole 1 s pick)) → (test : Bool)
     → MatchBool test (IsPastLargest f s head tail status)
@@ -203,7 +200,6 @@ exact_or_past f s whole exact pick head tail status e g false x =
     inl (exact_of f s whole pick head tail status g
     (with_tail_of_times f whole exact (2 ^ f.scale) (pow_pos f.scale) e s pick head tail status x))
 
--- unproved
 pub products_are_exact : IsExactProduct
 products_are_exact f h (finite b m) (finite c n) head tail status whole mx my p q e x =
     let of_zero = product_sign b c in

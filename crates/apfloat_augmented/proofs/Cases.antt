@@ -119,7 +119,6 @@ ranges_of c law =
     record {
       precision = p.precision_low;
       scale = omega (arith, ints, scale, span, p.precision_low, p.max_exp_low, p.min_exp_high);
-      -- unproved
       wide = omega (arith, ints, span, p.max_exp_low, p.min_exp_high);
       span = omega (arith, ints, span, p.precision_low, p.max_exp_low, p.min_exp_high);
       span_short = omega (arith, ints, span, p.min_exp_low, p.max_exp_high);

@@ -30,7 +30,6 @@ IsHalfPast low amount parts = 2 * amount ≡ (2 * low + 1) * parts
 
 -- ---- the two neighbours
 
--- unproved
 -- the neighbours of a fraction are on either side of it
 pub above_fraction : (precision below amount parts : ℕ) → IsFraction amount parts
     → IsBelow precision below amount parts → below * parts < amount
@@ -42,7 +41,6 @@ above_fraction precision below amount parts n b =
     absurd (n.not_whole below (omega (arith, q, l))))
     (cases_lt (below * parts) amount)
 
--- unproved
 pub below_fraction : (precision above amount parts : ℕ) → IsFraction amount parts
     → IsAbove precision above amount parts → amount < above * parts
 below_fraction precision above amount parts n a =
@@ -53,7 +51,6 @@ below_fraction precision above amount parts n a =
     absurd (n.not_whole above (omega (arith, q, l))))
     (cases_lt amount (above * parts))
 
--- unproved
 -- A magnitude below 2 ^ (2 * precision - 1) quanta has neighbours that are at most 2 ^ (precision - 1) quanta apart.
 unit_at_most : (precision half m c amount parts : ℕ) → 0 < precision → half ≡ 2 ^ (precision - 1)
     → IsEnclosed precision half m c amount parts → amount < 2 ^ precision * (2 ^ (precision - 1) * parts)
@@ -73,7 +70,6 @@ unit_at_most precision half m c amount parts p e i l (inr q) =
     absurd (omega (arith, t, s, f, l)))
     (cases_lt c precision)
 
--- unproved
 pub gap : (precision amount parts below above : ℕ) → 0 < precision → 0 < parts
     → amount < 2 ^ precision * (2 ^ (precision - 1) * parts) → IsBelow precision below amount parts
     → IsAbove precision above amount parts → above ≤ below + 2 ^ (precision - 1)
@@ -94,7 +90,6 @@ gap precision amount parts below above h p l b a =
 
 -- ---- even and odd
 
--- unproved
 pub halves : (n : ℕ) → ((k : ℕ) × (n ≡ 2 * k)) ⊎ ((k : ℕ) × (n ≡ 2 * k + 1))
 halves zero = inl (0, refl)
 halves (suc n) =
@@ -103,7 +98,6 @@ halves (suc n) =
     (λ h. let e = h.1 in inl (h.0 + 1, omega (arith, e)))
     (halves n)
 
--- unproved
 -- a grid number with more digits than the precision is even
 even_grid : (precision n : ℕ) → IsOnGrid precision n → 2 ^ precision ≤ n → (k : ℕ) × (n ≡ 2 * k)
 even_grid precision n g l =
@@ -117,7 +111,6 @@ even_grid precision n g l =
     (m.times, omega (arith, e)))
     (cases_lt g.place 1)
 
--- unproved
 -- twice a fraction that is an integral number of quanta is an odd one
 pub odd_half : (amount parts k : ℕ) → IsFraction amount parts → 2 * amount ≡ k * parts
     → (i : ℕ) × IsHalfPast i amount parts
@@ -131,7 +124,6 @@ odd_half amount parts k n e =
     (h.0, e ∙ w))
     (halves k)
 
--- unproved
 -- Two neighbours with a fraction halfway between them are one quantum apart.
 pub tie_of_quanta : (precision below above amount parts : ℕ) → 0 < precision → 0 < parts → IsFraction amount parts
     → IsBelow precision below amount parts → IsAbove precision above amount parts
@@ -164,15 +156,12 @@ tie_of_quanta precision below above amount parts h p n b a e =
 
 -- ---- from the pick to nearest, with ties to even
 
--- unproved
 even_nearer : (negative odd : Bool) (x y : ℕ) → takes_above NearestTiesToEven negative x y odd ≡ true → y ≤ x
 even_nearer negative odd x y h = grind arith
 
--- unproved
 even_farther : (negative odd : Bool) (x y : ℕ) → takes_above NearestTiesToEven negative x y odd ≡ false → x ≤ y
 even_farther negative odd x y h = grind arith
 
--- unproved
 not_half_in : (negative odd above : Bool) (low high amount parts e : ℕ)
     → takes_above NearestTiesToEven negative (amount - low * parts) (high * parts - amount) odd ≡ above
     → low * parts ≤ amount → amount ≤ high * parts → e ≡ cond above high low
@@ -188,7 +177,6 @@ not_half_in negative odd false low high amount parts e t l h q n =
     let w = even_farther negative odd (amount - low * parts) (high * parts - amount) t in
     q ∙ sym (takes_low_by low high amount parts l h (omega (arith, w, l, h)))
 
--- unproved
 -- unless it is halfway, the pick to even is that with ties toward zero
 pub from_even_in : (precision : ℕ) (negative : Bool) (amount parts e : ℕ)
     → (x : IsPick precision NearestTiesToEven negative amount parts e) → (2 * amount ≡ (e + x.below) * parts → ⊥)
@@ -202,12 +190,10 @@ from_even_in precision negative amount parts e x n = record {
       not_half_in negative _ _ x.below x.above amount parts e refl x.is_below.not_above x.is_above.not_below x.is n;
 }
 
--- unproved
 either_is : (test : Bool) (x y e : ℕ) → e ≡ cond test x y → (e ≡ x) ⊎ (e ≡ y)
 either_is true x y e h = inl h
 either_is false x y e h = inr h
 
--- unproved
 -- a pick is one of the neighbours
 pub pick_cases : (precision : ℕ) (negative : Bool) (amount parts e : ℕ)
     → (x : IsPick precision NearestTiesToEven negative amount parts e) → (e ≡ x.above) ⊎ (e ≡ x.below)
@@ -215,7 +201,6 @@ pick_cases precision negative amount parts e x = either_is _ x.above x.below e x
 
 -- ---- halfway between two quanta
 
--- unproved
 half_below : (precision amount parts i : ℕ) → 0 < parts → i < 2 ^ precision → IsHalfPast i amount parts
     → IsBelow precision i amount parts
 half_below precision amount parts i p h e = record {
@@ -230,7 +215,6 @@ half_below precision amount parts i p h e = record {
       (cases_lt i other);
 }
 
--- unproved
 half_above : (precision amount parts i : ℕ) → 0 < precision → 0 < parts → i < 2 ^ precision
     → IsHalfPast i amount parts → IsAbove precision (i + 1) amount parts
 half_above precision amount parts i w p h e = record {
@@ -246,7 +230,6 @@ half_above precision amount parts i w p h e = record {
       (cases_lt i other);
 }
 
--- unproved
 -- halfway between two quanta that are on the grid, the lower one is picked
 pub half_pick : (precision amount parts i : ℕ) → 0 < precision → 0 < parts → i < 2 ^ precision
     → IsHalfPast i amount parts → IsTiesToZeroPick precision amount parts i
@@ -258,14 +241,12 @@ half_pick precision amount parts i w p h e = record {
   is = sym (takes_low_by i (i + 1) amount parts (omega (arith, e)) (omega (arith, e)) (omega (arith, e)));
 }
 
--- unproved
 -- and it is the pick toward zero
 pub half_short : (precision : ℕ) (negative : Bool) (amount parts i t : ℕ) → 0 < parts → i < 2 ^ precision
     → IsHalfPast i amount parts → IsPick precision TowardZero negative amount parts t → t ≡ i
 half_short precision negative amount parts i t p h e x =
     x.is ∙ below_unique precision x.below i amount parts x.is_below (half_below precision amount parts i p h e)
 
--- unproved
 -- Half a quantum past the neighbour below, that neighbour is picked, however far the one above is.
 pub low_pick : (precision low above amount parts : ℕ) → 0 < parts → IsBelow precision low amount parts
     → IsAbove precision above amount parts → IsHalfPast low amount parts → IsTiesToZeroPick precision amount parts low
@@ -288,7 +269,6 @@ low_pick precision low above amount parts p b a e =
 abbrev pub distance : ℕ → ℕ → ℕ → ℕ
 distance head amount parts = apart amount (head * parts)
 
--- unproved
 -- it is no integral number of quanta either
 pub distance_fraction : (head amount parts : ℕ) → IsFraction amount parts
     → IsFraction (distance head amount parts) parts
@@ -301,7 +281,6 @@ distance_fraction head amount parts n = record {
       (λ (q : head * parts ≤ amount). n.not_whole (head + k) (omega (arith, e, q)))
       (cases_lt amount (head * parts));
 } where
-  -- unproved
   fewer : (k : ℕ) → k * parts ≤ head * parts → amount < head * parts → k * parts ≡ distance head amount parts → ⊥
   fewer k w q e =
       ⊎_elim
@@ -314,7 +293,6 @@ distance_fraction head amount parts n = record {
       n.not_whole (head - k) (omega (arith, v, e, q)))
       (cases_lt head k)
 
--- unproved
 -- twice the distance is an integral number of quanta only if twice the magnitude is
 pub distance_half : (head amount parts k : ℕ) → 0 < parts → 2 * distance head amount parts ≡ k * parts
     → (m : ℕ) × (2 * amount ≡ m * parts)
@@ -329,7 +307,6 @@ distance_half head amount parts k p e =
     (λ (q : head * parts ≤ amount). (2 * head + k, omega (arith, e, q)))
     (cases_lt amount (head * parts))
 
--- unproved
 -- halfway between two quanta, each head leaves that too
 pub distance_half_past : (head amount parts i : ℕ) → IsHalfPast i amount parts
     → (k : ℕ) × IsHalfPast k (distance head amount parts) parts
@@ -345,7 +322,6 @@ distance_half_past head amount parts i e =
     (i - head, omega (arith, v, e)))
     (cases_lt i head)
 
--- unproved
 -- a neighbour leaves at most 2 ^ (precision - 1) quanta
 pub distance_at_most : (precision head below above amount parts : ℕ) → above ≤ below + 2 ^ (precision - 1)
     → below * parts ≤ amount → amount ≤ above * parts → (head ≡ above) ⊎ (head ≡ below)
@@ -361,7 +337,6 @@ distance_at_most precision head below above amount parts g l h (inr e) =
 
 -- ---- past the largest value
 
--- unproved
 -- a pick past the largest value is that of a greater magnitude
 pub beyond_in : (f : Format) (s : Bool) (amount parts e : ℕ) → 0 < parts → largest f < e
     → IsPick f.precision NearestTiesToEven s amount parts e → largest f * parts < amount
@@ -374,7 +349,6 @@ beyond_in f s amount parts e p l x =
     absurd (omega (arith, a, w, l)))
     (cases_lt (largest f * parts) amount)
 
--- unproved
 -- the lower neighbour is not picked if the pick is above it
 taken_in : (s odd above : Bool) (low high amount parts e : ℕ)
     → takes_above NearestTiesToEven s (amount - low * parts) (high * parts - amount) odd ≡ above
@@ -383,7 +357,6 @@ taken_in s odd true low high amount parts e t q l =
     even_nearer s odd (amount - low * parts) (high * parts - amount) t
 taken_in s odd false low high amount parts e t q l = absurd (omega (arith, q, l))
 
--- unproved
 -- the neighbour above the largest value
 next_in : (f : Format) → 3 ≤ f.precision → (s : Bool) (amount parts e : ℕ) → 0 < parts → largest f * parts < amount
     → (x : IsPick f.precision NearestTiesToEven s amount parts e) → x.below ≡ largest f
@@ -416,7 +389,6 @@ pub record IsPastIn (f : Format) (amount parts : ℕ) : Type 0 where
   pub is_pick : IsTiesToZeroPick f.precision amount parts pick
   pub past : largest f < pick
 
--- unproved
 pub past_pick_in : (f : Format) → 3 ≤ f.precision → 1 ≤ f.span → (s : Bool) (amount parts e : ℕ) → 0 < parts
     → largest f < e → IsPick f.precision NearestTiesToEven s amount parts e
     → (amount ≡ (largest f + half_unit f) * parts → ⊥) → IsPastIn f amount parts

@@ -34,7 +34,6 @@ use Rattle.apfloat_augmented.proofs.Rests.{eight}
 
 -- ---- exact roundings
 
--- unproved
 -- a number of the format is rounded exactly
 pub fraction_exactly : (f : Format) (mode : Round) (of_zero : Bool) (z exact : ℤ) (parts : ℕ) (value : Datum)
     (status : ℕ) → 0 < parts → IsOnGrid f.precision (magnitude z) → magnitude z ≤ largest f → (z *ℤ pos parts) ≡ exact
@@ -60,7 +59,6 @@ pub record HasParts (parts : ℕ) (exact : ℤ) (value : Datum) : Type 0 where
   pub is_finite : is_finite value ≡ true
   pub parts_are : (number value *ℤ pos parts) ≡ exact
 
--- unproved
 -- a rounding with status OK is exact
 pub ok_parts : (f : Format) (mode : Round) (of_zero : Bool) (exact : ℤ) (parts : ℕ) (value : Datum) (status : ℕ)
     → IsRounded f mode of_zero exact parts value status → status ≡ ok_bits → HasParts parts exact value
@@ -79,7 +77,6 @@ ok_parts f mode of_zero exact parts value status x o =
 
 -- ---- products and fused sums of finite data
 
--- unproved
 pub product_rounded : (f : Format) (mode : Round) (x y value : Datum) (status : ℕ) → is_finite x ≡ true
     → is_finite y ≡ true → 0 < magnitude (number x *ℤ number y) → IsProduct f mode x y value status
     → IsRounded f mode (product_sign (is_negative x) (is_negative y)) (number x *ℤ number y) (2 ^ f.scale) value status
@@ -94,7 +91,6 @@ product_rounded f mode (finite b m) (nan c n) value status p q o h = absurd (fal
 product_rounded f mode (infinite b) y value status p q o h = absurd (false≢true p)
 product_rounded f mode (nan b m) y value status p q o h = absurd (false≢true p)
 
--- unproved
 fused_rounded : (f : Format) (mode : Round) (x y z value : Datum) (status : ℕ) → is_finite x ≡ true
     → is_finite y ≡ true → is_finite z ≡ true → IsFusedSum f mode x y z value status
     → (of_zero : Bool) × IsRounded f mode of_zero ((number x *ℤ number y) +ℤ (number z *ℤ pos (2 ^ f.scale)))
@@ -115,7 +111,6 @@ fused_rounded f mode (finite b l) (nan c m) z value status p q r h = absurd (fal
 fused_rounded f mode (infinite b) y z value status p q r h = absurd (false≢true p)
 fused_rounded f mode (nan b l) y z value status p q r h = absurd (false≢true p)
 
--- unproved
 minus_is : (p q r : ℤ) → r ≡ neg_ℤ q → (p +ℤ r) ≡ (p -ℤ q)
 minus_is p q r h = omega (arith, ints, h)
 
@@ -123,7 +118,6 @@ minus_is p q r h = omega (arith, ints, h)
 abbrev pub rest_of_product : Format → Datum → Datum → Datum → ℤ
 rest_of_product f x y head = (number x *ℤ number y) -ℤ (number head *ℤ pos (2 ^ f.scale))
 
--- unproved
 pub rest_rounded : (f : Format) (mode : Round) (x y head value : Datum) (status : ℕ) → is_finite x ≡ true
     → is_finite y ≡ true → is_finite head ≡ true → IsFusedSum f mode x y (negated f.nonfinite head) value status
     → (of_zero : Bool) × IsRounded f mode of_zero (rest_of_product f x y head) (2 ^ f.scale) value status
@@ -140,7 +134,6 @@ rest_rounded f mode x y head value status p q r h =
 
 -- ---- products that are an integral number of quanta
 
--- unproved
 -- Where the last digits of the factors are below the quantum, the product is below 2 ^ (2 * precision - 1) quanta.
 pub small_product : (precision scale m n : ℕ) → 0 < precision → (g : IsOnGrid precision m) (h : IsOnGrid precision n)
     → g.place + h.place < scale → m * n < 2 ^ precision * (2 ^ (precision - 1) * 2 ^ scale)
@@ -166,7 +159,6 @@ small_product precision scale m n p g h q =
     ap (λ (i : ℕ). (2 ^ precision * i) * 2 ^ (g.place + h.place)) (sym (twice_half precision p)) in
     omega (arith, e, e', f', t', d)
 
--- unproved
 -- an integral number of quanta that is a product has at most twice the digits of a grid number
 pub whole_of : (precision scale : ℕ) (a c x : ℤ) → 0 < precision → IsGridNumber precision a → IsGridNumber precision c
     → (x *ℤ pos (2 ^ scale)) ≡ (a *ℤ c) → IsWholeProduct precision scale a c x
@@ -195,7 +187,6 @@ whole_of precision scale a c x p g h e =
 
 -- ---- nearest fractions
 
--- unproved
 -- the pick to nearest, with the sign of the amount, is the nearest of all signed grid numbers
 nearest_fraction : (precision : ℕ) (negative : Bool) (amount parts p : ℕ)
     → IsPick precision NearestTiesToEven negative amount parts p
@@ -212,7 +203,6 @@ nearest_fraction precision s amount parts p x = record {
       (le_trans a b');
 }
 
--- unproved
 -- a finite rounding to nearest of an integral number of quanta is a nearest number
 finite_is_nearest : (f : Format) (of_zero : Bool) (exact whole : ℤ) (parts : ℕ) (value : Datum) (status : ℕ)
     → 0 < parts → (whole *ℤ pos parts) ≡ exact → is_finite value ≡ true
@@ -228,7 +218,6 @@ finite_is_nearest f of_zero exact whole parts value status p e q x =
     subst (λ (i : ℤ). IsNearest f.precision whole i) (sym k)
     (whole_nearest f.precision parts exact whole (signed s x.pick) p e n)
 
--- unproved
 -- What the finite product to nearest leaves of an integral number of quanta is exact.
 pub whole_is_exact : (f : Format) → 3 ≤ f.precision → (x y near rest : Datum) (i j : ℕ) (whole : ℤ)
     → IsNumberIn f x → IsNumberIn f y → IsNumberIn f near → 0 < magnitude (number x *ℤ number y)

@@ -18,15 +18,12 @@ use Rattle.apfloat_augmented.proofs.TiesToZero.{takes_low, takes_high}
 
 -- ---- integers
 
--- unproved
 same_apart : (x y : ℤ) → x ≡ y → magnitude (x -ℤ y) ≡ 0
 same_apart x y h = omega (arith, ints, h, one_side (x -ℤ y))
 
--- unproved
 not_apart : (x y : ℤ) → magnitude (x -ℤ y) ≤ 0 → x ≡ y
 not_apart x y h = omega (arith, ints, h, one_side (x -ℤ y))
 
--- unproved
 -- a factor above 0 can be cancelled
 pub times_cancelled : (a b : ℤ) (u : ℕ) → 0 < u → (a *ℤ pos u) ≡ (b *ℤ pos u) → a ≡ b
 times_cancelled a b u p e =
@@ -36,11 +33,9 @@ times_cancelled a b u p e =
     let l : magnitude (a -ℤ b) * u ≤ 0 * u = omega (arith, z) in
     not_apart a b (le_of_mul-le-mul_right l p)
 
--- unproved
 none_times : (u : ℕ) → (pos 0 *ℤ pos u) ≡ pos 0
 none_times u = omega (arith, ints)
 
--- unproved
 -- a multiple has the same sign
 pub sign_times : (of_zero : Bool) (z : ℤ) (u : ℕ) → 0 < u → sign_of of_zero (z *ℤ pos u) ≡ sign_of of_zero z
 sign_times of_zero (pos zero) u p = ap (λ (i : ℤ). sign_of of_zero i) (none_times u)
@@ -51,7 +46,6 @@ sign_times of_zero (negsuc n) u p =
     ap (λ (i : ℤ). sign_of of_zero i) (sym (signed_times true (suc n) u)) ∙
     sign_signed of_zero true (suc n * u) (mul-pos (omega arith) p)
 
--- unproved
 -- an integer other than 0 has its own sign
 pub sign_some : (of_zero other : Bool) (z : ℤ) → 0 < magnitude z → sign_of of_zero z ≡ sign_of other z
 sign_some of_zero other (pos zero) p = absurd (omega (arith, p))
@@ -60,7 +54,6 @@ sign_some of_zero other (negsuc n) p = refl
 
 -- ---- neighbours of a multiple
 
--- unproved
 pub below_times : (precision g amount parts : ℕ) → 0 < parts → IsBelow precision g amount 1
     → IsBelow precision g (amount * parts) parts
 below_times precision g amount parts p x =
@@ -74,7 +67,6 @@ below_times precision g amount parts p x =
           x.greatest other o (omega (arith, m));
     }
 
--- unproved
 pub above_times : (precision g amount parts : ℕ) → 0 < parts → IsAbove precision g amount 1
     → IsAbove precision g (amount * parts) parts
 above_times precision g amount parts p x =
@@ -88,7 +80,6 @@ above_times precision g amount parts p x =
           x.least other o (omega (arith, m));
     }
 
--- unproved
 -- the neighbours of a multiple are those of the magnitude
 pub below_of_times : (precision g amount parts : ℕ) → 0 < parts → IsBelow precision g (amount * parts) parts
     → IsBelow precision g amount 1
@@ -102,7 +93,6 @@ below_of_times precision g amount parts p x =
           x.greatest other o (mul-le-mul_right parts m);
     }
 
--- unproved
 pub above_of_times : (precision g amount parts : ℕ) → 0 < parts → IsAbove precision g (amount * parts) parts
     → IsAbove precision g amount 1
 above_of_times precision g amount parts p x =
@@ -117,18 +107,15 @@ above_of_times precision g amount parts p x =
 
 -- ---- the nearer neighbour
 
--- unproved
 -- which neighbour is taken, by the sum of the two
 pub takes_low_by : (low high amount parts : ℕ) → low * parts ≤ amount → amount ≤ high * parts
     → 2 * amount ≤ (low + high) * parts → nearer_between low high amount parts ≡ low
 takes_low_by low high amount parts l h k = takes_low low high amount parts (omega (arith, l, h, k))
 
--- unproved
 pub takes_high_by : (low high amount parts : ℕ) → low * parts ≤ amount → amount ≤ high * parts
     → (low + high) * parts < 2 * amount → nearer_between low high amount parts ≡ high
 takes_high_by low high amount parts l h k = takes_high low high amount parts (omega (arith, l, h, k))
 
--- unproved
 -- the nearer neighbour of a multiple is that of the magnitude
 pub nearer_times : (low high amount parts : ℕ) → 0 < parts → low ≤ amount → amount ≤ high
     → nearer_between low high (amount * parts) parts ≡ nearer_between low high amount 1
@@ -146,7 +133,6 @@ nearer_times low high amount parts p l h =
     sym (takes_low_by low high amount 1 (omega (arith, l)) (omega (arith, h)) (omega (arith, q))))
     (cases_lt (low + high) (2 * amount))
 
--- unproved
 -- what is picked for a magnitude is picked for its multiple, and the other way round
 pub ties_times : (precision amount parts pick : ℕ) → 0 < parts → IsTiesToZeroPick precision amount 1 pick
     → IsTiesToZeroPick precision (amount * parts) parts pick
@@ -161,7 +147,6 @@ ties_times precision amount parts pick p x =
       is = x.is ∙ sym (nearer_times x.below x.above amount parts p (omega (arith, l)) (omega (arith, h)));
     }
 
--- unproved
 pub ties_of_times : (precision amount parts pick : ℕ) → 0 < parts
     → IsTiesToZeroPick precision (amount * parts) parts pick → IsTiesToZeroPick precision amount 1 pick
 ties_of_times precision amount parts pick p x =
@@ -177,7 +162,6 @@ ties_of_times precision amount parts pick p x =
 
 -- ---- the two results for a multiple
 
--- unproved
 -- what a head leaves of a multiple is the multiple of what it leaves
 pub left_times : (whole exact : ℤ) (parts : ℕ) (negative : Bool) (pick : ℕ) → (whole *ℤ pos parts) ≡ exact
     → (left_of whole 1 negative pick *ℤ pos parts) ≡ left_of exact parts negative pick
@@ -187,7 +171,6 @@ left_times whole exact parts s pick e =
     ap (λ (i : ℤ). i -ℤ (signed s (pick * 1) *ℤ pos parts)) e ∙
     ap (λ (i : ℤ). exact -ℤ i) (sym (signed_times s (pick * 1) parts) ∙ ap (λ (k : ℕ). signed s k) one)
 
--- unproved
 eqb_times : (m n parts : ℕ) → 0 < parts → eqb (m * parts) (n * parts) ≡ eqb (m * 1) n
 eqb_times m n parts p =
     ⊎_elim
@@ -206,7 +189,6 @@ eqb_times m n parts p =
     (cases_eq m n)
 
 module _ (f : Format) (whole exact : ℤ) (parts : ℕ) (some : 0 < parts) (is : (whole *ℤ pos parts) ≡ exact) where
-  -- unproved
   with_tail_times : (s : Bool) (pick : ℕ) (head tail : Datum) (status : ℕ)
       → IsWithTail f s whole 1 pick head tail status → IsWithTail f s exact parts pick head tail status
   with_tail_times s pick head tail status x =
@@ -228,7 +210,6 @@ module _ (f : Format) (whole exact : ℤ) (parts : ℕ) (some : 0 < parts) (is :
             ∙ ap (λ (i : ℕ). eqb (x.quanta * parts) i) m);
       }
 
-  -- unproved
   pub with_tail_of_times : (s : Bool) (pick : ℕ) (head tail : Datum) (status : ℕ)
       → IsWithTail f s exact parts pick head tail status → IsWithTail f s whole 1 pick head tail status
   with_tail_of_times s pick head tail status x =
@@ -249,7 +230,6 @@ module _ (f : Format) (whole exact : ℤ) (parts : ℕ) (some : 0 < parts) (is :
             (ap (λ (i : ℕ). eqb (x.quanta * parts) i) m ∙ eqb_times x.quanta (magnitude left) parts some);
       }
 
-  -- unproved
   either_times : (s t : Bool) (pick : ℕ) (head tail : Datum) (status : ℕ) → s ≡ t → (test : Bool)
       → MatchBool test (IsPastLargest f s head tail status) (IsWithTail f s whole 1 pick head tail status)
       → MatchBool test (IsPastLargest f t head tail status) (IsWithTail f t exact parts pick head tail status)
@@ -259,7 +239,6 @@ module _ (f : Format) (whole exact : ℤ) (parts : ℕ) (some : 0 < parts) (is :
       subst (λ (c : Bool). IsWithTail f c exact parts pick head tail status) e
       (with_tail_times s pick head tail status x)
 
-  -- unproved
   -- The augmented result of an integral number of quanta other than 0 is that of the same number in parts.
   pub augmented_times : (of_zero other : Bool) (head tail : Datum) (status : ℕ) → 0 < magnitude exact
       → IsAugmented f of_zero whole 1 head tail status → IsAugmented f other exact parts head tail status

@@ -17,11 +17,12 @@ use Rattle.apfloat_model.specs.arithmetic.Exact.{magnitude, signed, sign_of, pro
 use Rattle.apfloat_model.specs.arithmetic.Products.{IsProduct}
 use Rattle.apfloat_model.specs.arithmetic.FusedSums.{IsFusedSum}
 use Rattle.apfloat_model.specs.arithmetic.Sums.{zero_sum_sign}
-use Rattle.apfloat_model.specs.order.Classes.{category_of, is_finite, is_finite_non_zero, is_negative}
+use Rattle.apfloat_model.specs.order.Classes.{category_of, is_finite, is_finite_non_zero, is_finite_non_zero_category, is_negative}
 use Rattle.apfloat_model.specs.order.Order.{number}
 use Rattle.apfloat_model.proofs.arithmetic.Signs.{magnitude_signed, no_sign}
 use Rattle.apfloat_model.proofs.formats.Greatest.{greatest_fits, greatest_some}
 use Rattle.apfloat_model.proofs.formats.Ranges.{at_top}
+use Rattle.apfloat_model.proofs.order.PredicatesAgree.{number_agrees}
 use Rattle.apfloat_model.proofs.rounding.Deliveries.{signed_some}
 use Rattle.apfloat_model.proofs.rounding.Laws.{delivered_once, exact_delivered, zero_on_grid}
 use Rattle.apfloat_pair_theory.proofs.numbers.Roundings.{signed_exact}
@@ -40,7 +41,6 @@ use Rattle.apfloat_augmented.proofs.TiesToZero.{ties_to_zero_exact, short_is_bel
 
 -- ---- finite data, and others
 
--- unproved
 pub product_of_numbers : (f : Format) (x y head tail : Datum) (status : ℕ) → is_finite x ≡ true → is_finite y ≡ true
     → IsAugmented f (product_sign (is_negative x) (is_negative y)) (number x *ℤ number y) (2 ^ f.scale) head tail status
     → IsAugmentedProduct f x y head tail status
@@ -52,7 +52,6 @@ product_of_numbers f (finite b m) (nan c n) head tail status p q h = absurd (fal
 product_of_numbers f (infinite b) y head tail status p q h = absurd (false≢true p)
 product_of_numbers f (nan b m) y head tail status p q h = absurd (false≢true p)
 
--- unproved
 numbers_of_sum : (f : Format) (x y head tail : Datum) (status : ℕ) → is_finite x ≡ true → is_finite y ≡ true
     → IsAugmentedSum f x y head tail status
     → IsAugmented f (zero_sum_sign NearestTiesToEven (is_negative x) (is_negative y)) (number x +ℤ number y) 1 head
@@ -63,19 +62,16 @@ numbers_of_sum f (finite b m) (nan c n) head tail status p q h = absurd (false�
 numbers_of_sum f (infinite b) y head tail status p q h = absurd (false≢true p)
 numbers_of_sum f (nan b m) y head tail status p q h = absurd (false≢true p)
 
--- unproved
 -- a product of numbers other than zero is not zero
 pub product_some : (f : Format) (x y : Datum) → IsNonzeroIn f x → IsNonzeroIn f y
     → 0 < magnitude (number x *ℤ number y)
 product_some f x y p q =
     subst (λ (i : ℕ). 0 < i) (sym (magnitude-mul (number x) (number y))) (mul-pos p.some q.some)
 
--- unproved
 nothing_left : (s : Bool) (k : ℕ) → k ≡ 0 → (pos 0 -ℤ signed s k) ≡ pos 0
 nothing_left true k e = omega (arith, ints, e)
 nothing_left false k e = omega (arith, ints, e)
 
--- unproved
 zero_has_tail : (f : Format) (s : Bool) (head tail : Datum) (status : ℕ) → head ≡ signed_quanta f.nonfinite s 0
     → tail ≡ head → status ≡ ok_bits → IsWithTail f s (pos 0) (2 ^ f.scale) 0 head tail status
 zero_has_tail f s head tail status d t o =
@@ -92,7 +88,6 @@ zero_has_tail f s head tail status d t o =
       status_is = o ∙ sym (ap (λ (c : Bool). if c then ok_bits else underflow_bit + inexact_bit) (eq-eqb _ _ same));
     }
 
--- unproved
 -- both results are the zero that is the product of a zero and a number
 zero_product : (f : Format) (b c : Bool) (m n : ℕ) (head tail : Datum) (status : ℕ) → m * n ≡ 0
     → IsProduct f NearestTiesToEven (finite b m) (finite c n) head status → tail ≡ head
@@ -117,17 +112,16 @@ zero_product f b c m n head tail status e h t =
     } in
     subst (λ (i : ℤ). IsAugmented f s i (2 ^ f.scale) head tail status) (sym z) v
 
--- unproved
 nonzero_by : (m : ℕ) → ltb 0 m ≡ false → m ≡ 0
 nonzero_by zero h = refl
 nonzero_by (suc m) h = absurd (false≢true (sym h ∙ lt-ltb 0 (suc m) (omega arith)))
 
--- unproved
 -- one factor is zero, an infinity or a NaN
 pub product_of_left : (f : Format) (x y head tail : Datum) (status : ℕ) → is_finite_non_zero x ≡ false
     → IsProduct f NearestTiesToEven x y head status → tail ≡ head → IsAugmentedProduct f x y head tail status
 product_of_left f (finite b m) (finite c n) head tail status p h e =
-    zero_product f b c m n head tail status (ap (λ (i : ℕ). i * n) (nonzero_by m p)) h e
+    let z : m * n ≡ 0 = ap (λ (i : ℕ). i * n) (nonzero_by m p) ∙ omega arith in
+    zero_product f b c m n head tail status z h e
 product_of_left f (finite b m) (infinite c) head tail status p h e = record { is = h; tail_is = e }
 product_of_left f (finite b m) (nan c n) head tail status p h e = record { is = h; tail_is = e }
 product_of_left f (infinite b) (finite c n) head tail status p h e = record { is = h; tail_is = e }
@@ -135,7 +129,6 @@ product_of_left f (infinite b) (infinite c) head tail status p h e = record { is
 product_of_left f (infinite b) (nan c n) head tail status p h e = record { is = h; tail_is = e }
 product_of_left f (nan b m) y head tail status p h e = record { is = h; tail_is = e }
 
--- unproved
 pub product_of_right : (f : Format) (x y head tail : Datum) (status : ℕ) → is_finite_non_zero y ≡ false
     → IsProduct f NearestTiesToEven x y head status → tail ≡ head → IsAugmentedProduct f x y head tail status
 product_of_right f (finite b m) (finite c n) head tail status p h e =
@@ -150,11 +143,9 @@ product_of_right f (nan b m) y head tail status p h e = record { is = h; tail_is
 
 -- ---- an exact rest
 
--- unproved
 back : (a b e : ℤ) → b ≡ e -ℤ a → (a +ℤ b) ≡ e
 back a b e h = omega (arith, ints, h)
 
--- unproved
 -- a datum and what it leaves exactly: their augmented sum is the augmented product
 pub exact_product : (f : Format) (x y first rest : Datum) (rest_status : ℕ) → IsNonzeroIn f x → IsNonzeroIn f y
     → is_finite first ≡ true → IsFusedSum f NearestTiesToEven x y (negated f.nonfinite first) rest rest_status
@@ -174,7 +165,6 @@ exact_product f x y first rest rest_status nx ny p fused o head tail status sum 
 
 -- ---- past the largest value
 
--- unproved
 pub past_in : (f : Format) (of_zero : Bool) (exact : ℤ) (parts p : ℕ) (head tail : Datum) (status : ℕ)
     → IsTiesToZeroPick f.precision (magnitude exact) parts p → largest f < p
     → head ≡ past_largest f.nonfinite (nan_base f) (sign_of of_zero exact) → tail ≡ head
@@ -190,7 +180,6 @@ past_in f of_zero exact parts p head tail status t l e k o =
           (record { head_is = e; tail_is = k; status_is = o });
     }
 
--- unproved
 -- the product toward zero is the largest value
 short_is_largest_in : (f : Format) → 3 ≤ f.precision → (of_zero : Bool) (exact : ℤ) (parts e : ℕ) (short : Datum)
     (j : ℕ) → 0 < parts → largest f < e
@@ -209,12 +198,10 @@ short_is_largest_in f h of_zero exact parts e short j p l x y =
     ap (λ (i : ℕ). signed_quanta f.nonfinite s i) w ∙ signed_some f.nonfinite s (largest f) (largest_some f h))
     (cases_lt (largest f) y.pick)
 
--- unproved
 signed_minus : (s : Bool) (a b c : ℕ) → a ≡ b + c → signed s c ≡ (signed s a -ℤ signed s b)
 signed_minus true a b c e = omega (arith, ints, e)
 signed_minus false a b c e = omega (arith, ints, e)
 
--- unproved
 half_on_grid : (f : Format) → 3 ≤ f.precision → IsOnGrid f.precision (half_unit f)
 half_on_grid f h = record {
   significand = 1;
@@ -224,14 +211,12 @@ half_on_grid f h = record {
   is = omega arith;
 }
 
--- unproved
 half_is_within : (f : Format) → 3 ≤ f.precision → half_unit f ≤ largest f
 half_is_within f h =
     let w : 1 * half_unit f ≤ largest f =
     at_top f 1 (f.span - 1) (greatest_some f.nonfinite f.precision h) (omega arith) in
     omega (arith, w)
 
--- unproved
 -- Halfway past the largest value, what that value leaves is exact.
 half_is_exact : (f : Format) → 3 ≤ f.precision → (of_zero s : Bool) (exact : ℤ) (parts : ℕ) (x y short rest : Datum)
     (j : ℕ) → 0 < parts → parts ≡ 2 ^ f.scale → exact ≡ (number x *ℤ number y)
@@ -252,7 +237,6 @@ half_is_exact f h of_zero s exact parts x y short rest j p u e d is r amount =
     (fraction_exactly f NearestTiesToEven of_zero (signed s (half_unit f)) (rest_of_product f x y short) parts rest j p
     (on_grid_as m (half_on_grid f h)) (subst (λ (i : ℕ). i ≤ largest f) m (half_is_within f h)) (k ∙ n) r).status_is
 
--- unproved
 -- the head is past the largest value: what the largest value leaves is not exact
 pub product_is_past : (f : Format) → 3 ≤ f.precision → 1 ≤ f.span → (x y near short rest : Datum) (i j k : ℕ)
     → IsNonzeroIn f x → IsNonzeroIn f y → is_finite near ≡ false → IsProduct f NearestTiesToEven x y near i
@@ -278,7 +262,6 @@ product_is_past f h w x y near short rest i j k nx ny out product shorter fused 
     (past_in f of_zero exact (2 ^ f.scale) p.pick head tail status p.is_pick p.past
     (hd ∙ n.value_is ∙ past_is f s n.pick past) (tl ∙ sym hd) o)
 
--- unproved
 -- the product toward zero is finite
 pub short_is_finite : (f : Format) → 3 ≤ f.precision → (x y near short : Datum) (i j : ℕ) → IsNonzeroIn f x
     → IsNonzeroIn f y → is_finite near ≡ false → IsProduct f NearestTiesToEven x y near i
@@ -296,35 +279,22 @@ short_is_finite f h x y near short i j nx ny out product shorter =
 
 -- ---- classes
 
--- unproved
 normal_some : (m : ℕ) → category_of (finite false m) ≡ Normal → 0 < m
 normal_some zero e = cc
 normal_some (suc m) e = omega arith
 
--- unproved
 pub some_of_normal : (x : Datum) → category_of x ≡ Normal → 0 < magnitude (number x)
 some_of_normal (finite b m) e =
     subst (λ (i : ℕ). 0 < i) (sym (magnitude_signed b m)) (normal_some m e)
 some_of_normal (infinite b) e = cc
 some_of_normal (nan b s) e = cc
 
--- unproved
+-- a datum of another class is not a number other than zero
 pub zero_of_category : (x : Datum) → category_of x ≡ Zero → is_finite_non_zero x ≡ false
-zero_of_category (finite b zero) e = refl
-zero_of_category (finite b (suc m)) e = cc
-zero_of_category (infinite b) e = refl
-zero_of_category (nan b s) e = refl
+zero_of_category x e = sym (number_agrees x) ∙ ap is_finite_non_zero_category e
 
--- unproved
 pub infinity_of_category : (x : Datum) → category_of x ≡ Infinity → is_finite_non_zero x ≡ false
-infinity_of_category (finite b zero) e = refl
-infinity_of_category (finite b (suc m)) e = cc
-infinity_of_category (infinite b) e = refl
-infinity_of_category (nan b s) e = refl
+infinity_of_category x e = sym (number_agrees x) ∙ ap is_finite_non_zero_category e
 
--- unproved
 pub nan_of_category : (x : Datum) → category_of x ≡ NaN → is_finite_non_zero x ≡ false
-nan_of_category (finite b zero) e = refl
-nan_of_category (finite b (suc m)) e = cc
-nan_of_category (infinite b) e = refl
-nan_of_category (nan b s) e = refl
+nan_of_category x e = sym (number_agrees x) ∙ ap is_finite_non_zero_category e

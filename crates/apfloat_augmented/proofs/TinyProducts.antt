@@ -42,7 +42,6 @@ use Rattle.apfloat_augmented.proofs.TiesToZero.{short_is_below}
 
 -- ---- sizes
 
--- unproved
 -- the square of the power past the significands is within the largest value
 square_within : (f : Format) → 3 ≤ f.precision → f.precision < f.span → 2 ^ f.precision * 2 ^ f.precision ≤ largest f
 square_within f h w =
@@ -53,7 +52,6 @@ square_within f h w =
     mul-le-mul_left (greatest_significand f.nonfinite f.precision) (half_at_most f.precision f.span w) in
     omega (arith, a, b)
 
--- unproved
 -- a significand whose unit is below 1 can be doubled
 double_within : (f : Format) → 3 ≤ f.precision → f.scale < f.span → (n : ℕ) (g : IsOnGrid f.precision n)
     → g.place < f.scale → 2 * n ≤ largest f
@@ -91,7 +89,6 @@ exact_of x y = number x *ℤ number y
 abbrev pub sign_of_product : Datum → Datum → Bool
 sign_of_product x y = sign_of (product_sign (is_negative x) (is_negative y)) (number x *ℤ number y)
 
--- unproved
 -- The product is no integral number of quanta, since what its rounding leaves would be exact.
 no_whole : (f : Format) → 3 ≤ f.precision → (x y near rest : Datum) (i k : ℕ) → IsNonzeroIn f x → IsNonzeroIn f y
     → IsNumberIn f near → IsProduct f NearestTiesToEven x y near i
@@ -107,7 +104,6 @@ no_whole f h x y near rest i k nx ny nn product fused lost = record {
       (product_some f x y nx ny) product fused w);
 }
 
--- unproved
 small : (f : Format) → 3 ≤ f.precision → f.scale < f.span → (x y near rest : Datum) (i k : ℕ) → IsNonzeroIn f x
     → IsNonzeroIn f y → IsNumberIn f near → IsProduct f NearestTiesToEven x y near i
     → IsFusedSum f NearestTiesToEven x y (negated f.nonfinite near) rest k → (k ≡ ok_bits → ⊥) → IsSmall f x y
@@ -128,7 +124,6 @@ small f h w x y near rest i k nx ny nn product fused lost =
     v.1.is)))
     (cases_lt (g.place + j.place) f.scale)
 
--- unproved
 pub tiny_of : (f : Format) → 3 ≤ f.precision → f.scale < f.span → (x y near short rest : Datum) (i j k : ℕ)
     → IsNonzeroIn f x → IsNonzeroIn f y → IsNumberIn f near → IsProduct f NearestTiesToEven x y near i
     → IsProduct f TowardZero x y short j → IsFusedSum f NearestTiesToEven x y (negated f.nonfinite near) rest k
@@ -160,12 +155,10 @@ tiny_of f h w x y near short rest i j k nx ny nn product shorter fused lost =
 
 -- ---- twice what the product toward zero leaves
 
--- unproved
 signed_double : (s : Bool) (m : ℕ) → signed s (m * 2) ≡ (signed s m +ℤ signed s m)
 signed_double true m = omega (arith, ints)
 signed_double false m = omega (arith, ints)
 
--- unproved
 doubled_has : (f : Format) (x double : Datum) → IsNumberIn f x → 2 * magnitude (number x) ≤ largest f
     → IsScaling f NearestTiesToEven x (pos 1) double → HasNumber (number x +ℤ number x) double
 doubled_has f (finite b m) double n l h =
@@ -186,15 +179,12 @@ doubled_has f (finite b m) double n l h =
 doubled_has f (infinite b) double n l h = absurd (false≢true n.is_finite)
 doubled_has f (nan b s) double n l h = absurd (false≢true n.is_finite)
 
--- unproved
 twice_left_is : (a b : ℤ) → ((a +ℤ a) -ℤ (b +ℤ b)) ≡ ((a -ℤ b) +ℤ (a -ℤ b))
 twice_left_is a b = omega (arith, ints)
 
--- unproved
 magnitude_double : (z : ℤ) → magnitude (z +ℤ z) ≡ 2 * magnitude z
 magnitude_double z = omega (arith, ints, one_side z, one_side (z +ℤ z))
 
--- unproved
 -- twice what a head leaves is rounded once
 twice_rounded : (f : Format) (x y head left : Datum) (k : ℕ) → IsNumberIn f x → is_finite y ≡ true
     → IsNumberIn f head → 2 * magnitude (number x) ≤ largest f → 2 * magnitude (number head) ≤ largest f
@@ -217,7 +207,6 @@ twice_rounded f x y head left k nx q nh lx lh t =
     twice_left_is (number x *ℤ number y) (number head *ℤ pos (2 ^ f.scale)) in
     (r.0, subst (λ (i : ℤ). IsRounded f NearestTiesToEven r.0 i (2 ^ f.scale) left k) w r.1)
 
--- unproved
 -- what a head of `pick` quanta leaves of the product, and its magnitude
 rest_is : (f : Format) (x y head : Datum) (s : Bool) (pick : ℕ) → number head ≡ signed s pick
     → rest_of_product f x y head ≡ left_of (exact_of x y) (2 ^ f.scale) s pick
@@ -225,14 +214,12 @@ rest_is f x y head s pick e =
     ap (λ (i : ℤ). (number x *ℤ number y) -ℤ (i *ℤ pos (2 ^ f.scale))) e ∙
     ap (λ (i : ℤ). (number x *ℤ number y) -ℤ i) (sym (signed_times s pick (2 ^ f.scale)))
 
--- unproved
 left_magnitude : (of_zero : Bool) (exact : ℤ) (parts pick : ℕ)
     → magnitude (left_of exact parts (sign_of of_zero exact) pick) ≡ distance pick (magnitude exact) parts
 left_magnitude of_zero exact parts pick =
     ap (λ (i : ℤ). magnitude (i -ℤ signed (sign_of of_zero exact) (pick * parts))) (sym (signed_exact of_zero exact)) ∙
     signed_apart (sign_of of_zero exact) (magnitude exact) (pick * parts)
 
--- unproved
 signed_twice : (s : Bool) (a b c : ℕ) → 2 * a ≡ 2 * b + c
     → signed s c ≡ ((signed s a -ℤ signed s b) +ℤ (signed s a -ℤ signed s b))
 signed_twice true a b c e = omega (arith, ints, e)
@@ -242,26 +229,21 @@ module _ (f : Format) (precise : 3 ≤ f.precision) (wide : f.precision < f.span
     (nx : IsNonzeroIn f x) (ny : IsNonzeroIn f y)
     (t : IsTiny f x y near short (sign_of_product x y) (magnitude (exact_of x y)) (2 ^ f.scale))
     (twice : IsTwiceLeft f x y short left k) where
-  -- unproved
   parts_some : 0 < 2 ^ f.scale
   parts_some = pow_pos f.scale
 
-  -- unproved
   lower_below : t.lower ≡ t.is_even.below
   lower_below = short_is_below f.precision (sign_of_product x y) (magnitude (exact_of x y)) (2 ^ f.scale) t.even t.lower
       t.is_even t.is_lower
 
-  -- unproved
   short_number : number short ≡ signed (sign_of_product x y) t.lower
   short_number = ap number t.short_is ∙ (signed_number f.nonfinite (sign_of_product x y) t.lower).number_is
 
-  -- unproved
   short_in : IsNumberIn f short
   short_in =
       quanta_in f (sign_of_product x y) t.lower short
       (on_grid_as (sym lower_below) t.is_even.is_below.on_grid) t.lower_within t.short_is
 
-  -- unproved
   -- the head toward zero is below 2 ^ (2 * precision - 1) quanta, so it can be doubled
   short_double : 2 * magnitude (number short) ≤ largest f
   short_double =
@@ -277,18 +259,15 @@ module _ (f : Format) (precise : 3 ≤ f.precision) (wide : f.precision < f.span
       ap (λ (i : ℕ). 2 ^ f.precision * i) (twice_half f.precision (omega (arith, precise))) in
       omega (arith, e, d, v, w)
 
-  -- unproved
   rounded : (of_zero : Bool) × IsRounded f NearestTiesToEven of_zero
       (rest_of_product f x y short +ℤ rest_of_product f x y short) (2 ^ f.scale) left k
   rounded = twice_rounded f x y short left k nx.is_in ny.is_in.is_finite short_in t.double short_double twice
 
-  -- unproved
   lower_apart : t.is_even.above ≤ t.is_even.below + 2 ^ (f.precision - 1)
   lower_apart =
       gap f.precision (magnitude (exact_of x y)) (2 ^ f.scale) t.is_even.below t.is_even.above
       (omega (arith, precise)) parts_some t.low t.is_even.is_below t.is_even.is_above
 
-  -- unproved
   -- if that is exact, twice the product is an integral number of quanta
   pub twice_of_ok : k ≡ ok_bits
       → 2 * magnitude (exact_of x y) ≡ (2 * t.lower + magnitude (number left)) * 2 ^ f.scale
@@ -304,7 +283,6 @@ module _ (f : Format) (precise : 3 ≤ f.precision) (wide : f.precision < f.span
       let b : t.lower * 2 ^ f.scale ≡ t.is_even.below * 2 ^ f.scale = ap (λ (i : ℕ). i * 2 ^ f.scale) lower_below in
       omega (arith, e, r, a, b)
 
-  -- unproved
   -- if twice the product is an integral number of quanta, that is exact
   twice_is_ok : (j : ℕ) → j < 2 ^ f.precision
       → 2 * magnitude (exact_of x y) ≡ (2 * t.lower + j) * 2 ^ f.scale → k ≡ ok_bits
@@ -327,10 +305,9 @@ module _ (f : Format) (precise : 3 ≤ f.precision) (wide : f.precision < f.span
       (fraction_exactly f NearestTiesToEven rounded.0 (signed (sign_of_product x y) j) _ (2 ^ f.scale) left k parts_some
       (on_grid_as m g) (subst (λ (i : ℕ). i ≤ largest f) m (omega (arith, b))) w rounded.1).status_is
 
-  -- unproved
   -- so if that is not exact, twice the product is no integral number of quanta
   pub not_half_of : (k ≡ ok_bits → ⊥) → (m : ℕ) → 2 * magnitude (exact_of x y) ≡ m * 2 ^ f.scale → ⊥
-  not_half_of no m e =
+  not_half_of lost m e =
       let a = t.is_even.is_below.not_above in
       let b : t.lower * 2 ^ f.scale ≡ t.is_even.below * 2 ^ f.scale = ap (λ (i : ℕ). i * 2 ^ f.scale) lower_below in
       let c' : 2 * t.lower * 2 ^ f.scale ≤ m * 2 ^ f.scale = omega (arith, a, b, e) in
@@ -347,11 +324,10 @@ module _ (f : Format) (precise : 3 ≤ f.precision) (wide : f.precision < f.span
       let v : m < 2 * t.is_even.below + 2 * 2 ^ (f.precision - 1) = lt_of_mul-lt-mul_right (2 ^ f.scale) v' in
       let w = twice_half f.precision (omega (arith, precise)) in
       let z = lower_below in
-      no (twice_is_ok (m - 2 * t.lower) (omega (arith, v, w, z, c)) (omega (arith, e, d')))
+      lost (twice_is_ok (m - 2 * t.lower) (omega (arith, v, w, z, c)) (omega (arith, e, d')))
 
   -- ---- the heads
 
-  -- unproved
   -- if it is exactly one quantum, the product is half a quantum past the lower neighbour, which is the head
   pub pick_short : k ≡ ok_bits → magnitude (number left) ≡ 1
       → IsTiesToZeroPick f.precision (magnitude (exact_of x y)) (2 ^ f.scale) t.lower
@@ -364,11 +340,10 @@ module _ (f : Format) (precise : 3 ≤ f.precision) (wide : f.precision < f.span
       (low_pick f.precision t.is_even.below t.is_even.above (magnitude (exact_of x y)) (2 ^ f.scale) parts_some
       t.is_even.is_below t.is_even.is_above (omega (arith, e, e', b)))
 
-  -- unproved
   -- a tie leaves one quantum exactly
   tie_leaves : 2 * magnitude (exact_of x y) ≡ (t.even + t.is_even.below) * 2 ^ f.scale
       → (k ≡ ok_bits → ⊥) ⊎ (magnitude (number left) ≡ 1 → ⊥) → ⊥
-  tie_leaves e (inl no) = not_half_of no (t.even + t.is_even.below) e
+  tie_leaves e (inl lost) = not_half_of lost (t.even + t.is_even.below) e
   tie_leaves e (inr other) =
       ⊎_elim
       (λ (h : t.even ≡ t.is_even.above).
@@ -397,24 +372,21 @@ module _ (f : Format) (precise : 3 ≤ f.precision) (wide : f.precision < f.span
       t.fraction.not_whole t.is_even.below (omega (arith, e, h')))
       (pick_cases f.precision (sign_of_product x y) (magnitude (exact_of x y)) (2 ^ f.scale) t.even t.is_even)
 
-  -- unproved
   -- otherwise the head is the product to nearest
   pub pick_near : (k ≡ ok_bits → ⊥) ⊎ (magnitude (number left) ≡ 1 → ⊥)
       → IsTiesToZeroPick f.precision (magnitude (exact_of x y)) (2 ^ f.scale) t.even
-  pick_near no =
+  pick_near lost =
       from_even_in f.precision (sign_of_product x y) (magnitude (exact_of x y)) (2 ^ f.scale) t.even t.is_even
-      (λ e. tie_leaves e no)
+      (λ e. tie_leaves e lost)
 
   -- ---- the tails
 
-  -- unproved
   at_most : (pick : ℕ) → (pick ≡ t.is_even.above) ⊎ (pick ≡ t.is_even.below)
       → distance pick (magnitude (exact_of x y)) (2 ^ f.scale) ≤ 2 ^ (f.precision - 1) * 2 ^ f.scale
   at_most pick h =
       distance_at_most f.precision pick t.is_even.below t.is_even.above (magnitude (exact_of x y)) (2 ^ f.scale)
       lower_apart t.is_even.is_below.not_above t.is_even.is_above.not_below h
 
-  -- unproved
   -- What a head leaves is rounded to nearest with ties toward zero, and inexact.
   tail_is : (head tail : Datum) (pick status last : ℕ) (mode : Round) → IsNumberIn f head
       → head ≡ signed_quanta f.nonfinite (sign_of_product x y) pick → pick ≤ largest f
@@ -480,21 +452,19 @@ module _ (f : Format) (precise : 3 ≤ f.precision) (wide : f.precision < f.span
             let b = half_within f precise in
             omega (arith, v, w, b)
 
-  -- unproved
   -- not halfway between two quanta, the tail is what the head leaves to nearest
   picks_even : (pick : ℕ) → (k ≡ ok_bits → ⊥) → (negative : Bool) (amount q : ℕ)
       → amount ≡ distance pick (magnitude (exact_of x y)) (2 ^ f.scale)
       → IsPick f.precision NearestTiesToEven negative amount (2 ^ f.scale) q
       → IsTiesToZeroPick f.precision amount (2 ^ f.scale) q
-  picks_even pick no negative amount q e u =
+  picks_even pick lost negative amount q e u =
       from_even_in f.precision negative amount (2 ^ f.scale) q u
       (λ h.
       let d : 2 * distance pick (magnitude (exact_of x y)) (2 ^ f.scale) ≡ (q + u.below) * 2 ^ f.scale =
       ap (λ (i : ℕ). 2 * i) (sym e) ∙ h in
       let m = distance_half pick (magnitude (exact_of x y)) (2 ^ f.scale) (q + u.below) parts_some d in
-      not_half_of no m.0 m.1)
+      not_half_of lost m.0 m.1)
 
-  -- unproved
   -- halfway, it is what the head leaves toward zero
   picks_short : (pick : ℕ) → (pick ≡ t.is_even.above) ⊎ (pick ≡ t.is_even.below) → k ≡ ok_bits
       → (negative : Bool) (amount q : ℕ) → amount ≡ distance pick (magnitude (exact_of x y)) (2 ^ f.scale)
@@ -518,7 +488,6 @@ module _ (f : Format) (precise : 3 ≤ f.precision) (wide : f.precision < f.span
 
   -- ---- the two results
 
-  -- unproved
   pub head_is_short : k ≡ ok_bits → magnitude (number left) ≡ 1 → (head tail : Datum) (status last : ℕ)
       → head ≡ short → IsFusedSum f TowardZero x y (negated f.nonfinite short) tail last
       → status ≡ underflow_bit + inexact_bit → IsAugmentedProduct f x y head tail status
@@ -527,12 +496,10 @@ module _ (f : Format) (precise : 3 ≤ f.precision) (wide : f.precision < f.span
       (tail_is short tail t.lower status last TowardZero short_in t.short_is t.lower_within (inr lower_below)
       (pick_short ok one) fused (picks_short t.lower (inr lower_below) ok) o)
 
-  -- unproved
   near_side : (t.even ≡ t.is_even.above) ⊎ (t.even ≡ t.is_even.below)
   near_side =
       pick_cases f.precision (sign_of_product x y) (magnitude (exact_of x y)) (2 ^ f.scale) t.even t.is_even
 
-  -- unproved
   pub head_is_near_tie : IsNumberIn f near → k ≡ ok_bits → (magnitude (number left) ≡ 1 → ⊥) → (head tail : Datum)
       (status last : ℕ) → head ≡ near → IsFusedSum f TowardZero x y (negated f.nonfinite near) tail last
       → status ≡ underflow_bit + inexact_bit → IsAugmentedProduct f x y head tail status
@@ -541,18 +508,16 @@ module _ (f : Format) (precise : 3 ≤ f.precision) (wide : f.precision < f.span
       (tail_is near tail t.even status last TowardZero nn t.near_is t.even_within near_side (pick_near (inr other))
       fused (picks_short t.even near_side ok) o)
 
-  -- unproved
   pub head_is_near : IsNumberIn f near → (k ≡ ok_bits → ⊥) → (head tail : Datum) (status last : ℕ) → head ≡ near
       → IsFusedSum f NearestTiesToEven x y (negated f.nonfinite near) tail last
       → status ≡ underflow_bit + inexact_bit → IsAugmentedProduct f x y head tail status
-  head_is_near nn no head tail status last hd fused o =
+  head_is_near nn lost head tail status last hd fused o =
       subst (λ (i : Datum). IsAugmentedProduct f x y i tail status) (sym hd)
-      (tail_is near tail t.even status last NearestTiesToEven nn t.near_is t.even_within near_side (pick_near (inl no))
-      fused (picks_even t.even no) o)
+      (tail_is near tail t.even status last NearestTiesToEven nn t.near_is t.even_within near_side (pick_near (inl lost))
+      fused (picks_even t.even lost) o)
 
 -- ---- whether it is one quantum
 
--- unproved
 pub left_is_one : (f : Format) (left size unit : Datum) → is_finite left ≡ true → size ≡ abs f left
     → unit ≡ finite false 1 → is_equal size unit ≡ true → magnitude (number left) ≡ 1
 left_is_one f left size unit p m u e =
@@ -562,7 +527,6 @@ left_is_one f left size unit p m u e =
     let w : pos (magnitude (number left)) ≡ pos 1 = sym a.number_is ∙ q ∙ ap number u in
     omega (arith, ints, w)
 
--- unproved
 pub left_not_one : (f : Format) (left size unit : Datum) → is_finite left ≡ true → size ≡ abs f left
     → unit ≡ finite false 1 → is_equal size unit ≡ false → magnitude (number left) ≡ 1 → ⊥
 left_not_one f left size unit p m u e one =
@@ -571,7 +535,6 @@ left_not_one f left size unit p m u e one =
     let q : number (abs f left) ≡ number unit = a.number_is ∙ ap pos one ∙ sym (ap number u) in
     false≢true (sym e' ∙ equal_data (abs f left) unit a.is_finite (ap is_finite u) q)
 
--- unproved
 -- what is left is finite if its status is OK
 pub left_is_finite : (f : Format) → 3 ≤ f.precision → f.precision < f.span → (x y near short left : Datum) (k : ℕ)
     → IsNonzeroIn f x → IsNonzeroIn f y

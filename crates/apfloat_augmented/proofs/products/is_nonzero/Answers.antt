@@ -5,7 +5,6 @@ use Rattle.apfloat_augmented.proofs.Numbers.{number_in}
 use Rattle.apfloat_augmented.proofs.ProductCases.{some_of_normal, zero_of_category, infinity_of_category, nan_of_category}
 use Rattle.apfloat_augmented.proofs.products.is_nonzero.Goals as goal
 
--- unproved
 pub returns-in-Normal-clause-yes : goal.returns-in-Normal-clause-yes
 returns-in-Normal-clause-yes g c =
     let e = sym c.category.ensures.category ∙ c.in-Normal.is in
@@ -14,17 +13,14 @@ returns-in-Normal-clause-yes g c =
       some = some_of_normal c.args.x e;
     }
 
--- unproved
 pub returns-in-Zero-clause-no : goal.returns-in-Zero-clause-no
 returns-in-Zero-clause-no g c =
     λ h. zero_of_category c.args.x (sym c.category.ensures.category ∙ c.in-Zero.is)
 
--- unproved
 pub returns-in-Infinity-clause-no : goal.returns-in-Infinity-clause-no
 returns-in-Infinity-clause-no g c =
     λ h. infinity_of_category c.args.x (sym c.category.ensures.category ∙ c.in-Infinity.is)
 
--- unproved
 pub returns-in-NaN-clause-no : goal.returns-in-NaN-clause-no
 returns-in-NaN-clause-no g c =
     λ h. nan_of_category c.args.x (sym c.category.ensures.category ∙ c.in-NaN.is)

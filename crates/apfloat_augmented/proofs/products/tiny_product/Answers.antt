@@ -6,18 +6,17 @@ use Rattle.apfloat_augmented.proofs.Cases.{ranges_of}
 use Rattle.apfloat_augmented.proofs.TinyProducts.{tiny_of, head_is_short, head_is_near_tie, head_is_near, left_is_one, left_not_one, left_is_finite}
 use Rattle.apfloat_augmented.proofs.products.tiny_product.Goals as goal
 
--- unproved
 pub returns-then-is_exactly : goal.returns-then-is_exactly
 returns-then-is_exactly g c =
     let f = format_of g.S.Flagged in
     let r = ranges_of (constants_of g.S.Flagged) g.S.Flagged.lawful in
-    let short = c.wide_mul_r.result in
+    let short = c.wide_mul_r-short.result in
     let left = c.twice_left-left.result in
     let answer = c.with_rounded_tail in
     let lost = c.requires.lost in
     let t = tiny_of f r.precision r.scale c.args.x c.args.y c.args.near short.value lost.0 c.requires.product.0
     (bits_of short.status) lost.1 c.requires.left c.requires.right c.requires.near c.requires.product.1
-    c.wide_mul_r.ensures lost.2 lost.3 in
+    c.wide_mul_r-short.ensures lost.2 lost.3 in
     let ok = c.is_exactly.ensures.ok c.if-is_exactly.true in
     let finite = left_is_finite f r.precision r.wide c.args.x c.args.y c.args.near short.value left.value
     (bits_of left.status) c.requires.left c.requires.right t c.twice_left-left.ensures ok in
@@ -28,18 +27,17 @@ returns-then-is_exactly g c =
     answer.result.value.tail (bits_of answer.result.status) answer.ensures.tail.0 answer.ensures.head
     answer.ensures.tail.1 answer.ensures.status
 
--- unproved
 pub returns-then-is_ok : goal.returns-then-is_ok
 returns-then-is_ok g c =
     let f = format_of g.S.Flagged in
     let r = ranges_of (constants_of g.S.Flagged) g.S.Flagged.lawful in
-    let short = c.wide_mul_r.result in
+    let short = c.wide_mul_r-short.result in
     let left = c.twice_left-left.result in
     let answer = c.with_rounded_tail-then-is_ok in
     let lost = c.requires.lost in
     let t = tiny_of f r.precision r.scale c.args.x c.args.y c.args.near short.value lost.0 c.requires.product.0
     (bits_of short.status) lost.1 c.requires.left c.requires.right c.requires.near c.requires.product.1
-    c.wide_mul_r.ensures lost.2 lost.3 in
+    c.wide_mul_r-short.ensures lost.2 lost.3 in
     let ok = c.is_ok.ensures.yes c.if-is_ok.true in
     let finite = left_is_finite f r.precision r.wide c.args.x c.args.y c.args.near short.value left.value
     (bits_of left.status) c.requires.left c.requires.right t c.twice_left-left.ensures ok in
@@ -50,18 +48,17 @@ returns-then-is_ok g c =
     answer.result.value.tail (bits_of answer.result.status) answer.ensures.tail.0 answer.ensures.head
     answer.ensures.tail.1 answer.ensures.status
 
--- unproved
 pub returns-else-is_ok : goal.returns-else-is_ok
 returns-else-is_ok g c =
     let f = format_of g.S.Flagged in
     let r = ranges_of (constants_of g.S.Flagged) g.S.Flagged.lawful in
-    let short = c.wide_mul_r.result in
+    let short = c.wide_mul_r-short.result in
     let left = c.twice_left-left.result in
     let answer = c.with_rounded_tail-else-is_ok in
     let lost = c.requires.lost in
     let t = tiny_of f r.precision r.scale c.args.x c.args.y c.args.near short.value lost.0 c.requires.product.0
     (bits_of short.status) lost.1 c.requires.left c.requires.right c.requires.near c.requires.product.1
-    c.wide_mul_r.ensures lost.2 lost.3 in
+    c.wide_mul_r-short.ensures lost.2 lost.3 in
     head_is_near f r.precision r.wide c.args.x c.args.y c.args.near short.value left.value (bits_of left.status)
     c.requires.left c.requires.right t c.twice_left-left.ensures c.requires.near
     (λ o. false≢true (sym c.if-is_ok.false ∙ c.is_ok.ensures.no o)) answer.result.value.head answer.result.value.tail

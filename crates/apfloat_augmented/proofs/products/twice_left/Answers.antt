@@ -1,6 +1,5 @@
 use Rattle.apfloat_augmented.proofs.products.twice_left.Goals as goal
 
--- unproved
 pub returns : goal.returns
 returns g c =
     record {

@@ -5,7 +5,6 @@ use Rattle.apfloat_ieee.specs.FlaggedTypes.{format_of}
 use Rattle.apfloat_augmented.proofs.ProductCases.{exact_product}
 use Rattle.apfloat_augmented.proofs.products.within_product.Goals as goal
 
--- unproved
 pub returns-then-is_ok : goal.returns-then-is_ok
 returns-then-is_ok g c =
     let rest = c.wide_mul_add_r-rest.result in
@@ -15,7 +14,6 @@ returns-then-is_ok g c =
     (c.is_ok.ensures.yes c.if-is_ok.true) answer.value.head answer.value.tail (bits_of answer.status)
     c.augmented_add.ensures
 
--- unproved
 pub tiny_product-requires-clause-lost : goal.tiny_product-requires-clause-lost
 tiny_product-requires-clause-lost g c =
     let rest = c.wide_mul_add_r-rest.result in (
