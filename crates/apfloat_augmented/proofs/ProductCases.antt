@@ -1,5 +1,5 @@
 -- Augmented products, in each of the cases of the calls: special operands, an exact rest, and past the largest value.
-use Rattle.std.proofs.Common.{◌≡◌, ℕ, zero, suc, ◌+◌, ◌-◌, ◌*◌, ◌^◌, ◌<◌, ◌≤◌, Bool, true, false, ltb, eqb, if◌then◌else◌, sym, refl, ap, ◌∙◌, subst, ⊎_elim, arith, lit<}
+use Rattle.std.proofs.Common.{◌≡◌, ℕ, zero, suc, ◌+◌, ◌-◌, ◌*◌, ◌^◌, ◌<◌, ◌≤◌, Bool, true, false, ltb, if◌then◌else◌, sym, refl, ap, ◌∙◌, subst, ⊎_elim, arith}
 use Rattle.std.specs.Prelude.{ℤ, pos, ◌+ℤ◌, ◌-ℤ◌, ◌*ℤ◌}
 use Rattle.std.specs.Bool.{MatchBool}
 use Rattle.std.proofs.Math.Nat.{mul-pos}
@@ -29,7 +29,7 @@ use Rattle.apfloat_pair_theory.proofs.numbers.Roundings.{signed_exact}
 use Rattle.apfloat_pair_theory.proofs.numbers.Signed.{on_grid_as}
 use Rattle.apfloat_pair_theory.proofs.numbers.SignedProducts.{sum_times, magnitude-mul, signed_product, signed_times}
 use Rattle.apfloat_augmented.specs.Augmented.{IsPastLargest, IsWithTail, IsAugmented, IsAugmentedSum, IsAugmentedProduct}
-use Rattle.apfloat_augmented.specs.Numbers.{IsNumberIn, IsNonzeroIn}
+use Rattle.apfloat_augmented.specs.Numbers.{IsNonzeroIn}
 use Rattle.apfloat_augmented.specs.TiesToZero.{IsTiesToZeroPick}
 use Rattle.apfloat_augmented.proofs.FractionPicks.{beyond_in, past_pick_in}
 use Rattle.apfloat_augmented.proofs.FractionRoundings.{rest_of_product, fraction_exactly, ok_parts, product_rounded, rest_rounded}

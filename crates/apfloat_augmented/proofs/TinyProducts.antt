@@ -1,6 +1,6 @@
 -- Augmented products that have digits below the quantum: the head and the tail, from whether twice the product has such
 -- digits too.
-use Rattle.std.proofs.Common.{◌≡◌, ℕ, ◌+◌, ◌-◌, ◌*◌, ◌^◌, ◌<◌, ◌≤◌, ◌⊎◌, Bool, true, false, ltb, eqb, if◌then◌else◌, sym, refl, ap, ◌∙◌, subst, inl, inr, ⊎_elim, arith, lit<}
+use Rattle.std.proofs.Common.{◌≡◌, ℕ, ◌+◌, ◌-◌, ◌*◌, ◌^◌, ◌<◌, ◌≤◌, ◌⊎◌, Bool, true, false, ltb, eqb, if◌then◌else◌, sym, ap, ◌∙◌, subst, inl, inr, ⊎_elim, arith, lit<}
 use Rattle.std.specs.Prelude.{ℤ, pos, ◌+ℤ◌, ◌-ℤ◌, ◌*ℤ◌}
 use Rattle.std.specs.Bool.{MatchBool}
 use Rattle.std.proofs.Math.Nat.{mul-le-mul_right, mul-le-mul_left, le_of_mul-le-mul_right, lt_of_mul-lt-mul_right}
@@ -30,11 +30,11 @@ use Rattle.apfloat_pair_theory.proofs.numbers.Roundings.{signed_exact, signed_ap
 use Rattle.apfloat_pair_theory.proofs.numbers.Signed.{on_grid_as}
 use Rattle.apfloat_pair_theory.proofs.numbers.SignedProducts.{sum_times, magnitude-mul, magnitude-times, signed_times}
 use Rattle.apfloat_pair_theory.proofs.numbers.WholeProducts.{whole_product}
-use Rattle.apfloat_augmented.specs.Augmented.{left_of, IsPastLargest, IsWithTail, IsAugmented, IsAugmentedProduct}
+use Rattle.apfloat_augmented.specs.Augmented.{left_of, IsPastLargest, IsWithTail, IsAugmentedProduct}
 use Rattle.apfloat_augmented.specs.Numbers.{HasNumber, IsNumberIn, IsNonzeroIn, IsTwiceLeft}
 use Rattle.apfloat_augmented.specs.TiesToZero.{IsTiesToZeroPick}
 use Rattle.apfloat_augmented.proofs.FractionPicks.{IsFraction, IsHalfPast, distance, below_fraction, gap, odd_half, tie_of_quanta, from_even_in, pick_cases, half_pick, half_short, low_pick, distance_fraction, distance_half, distance_half_past, distance_at_most}
-use Rattle.apfloat_augmented.proofs.FractionRoundings.{rest_of_product, fraction_exactly, HasParts, ok_parts, product_rounded, rest_rounded, small_product, whole_is_exact}
+use Rattle.apfloat_augmented.proofs.FractionRoundings.{rest_of_product, fraction_exactly, ok_parts, product_rounded, rest_rounded, small_product, whole_is_exact}
 use Rattle.apfloat_augmented.proofs.Multiples.{sign_some}
 use Rattle.apfloat_augmented.proofs.Numbers.{signed_number, same_number, within_is, finite_within, quanta_in, abs_has, equal_numbers, equal_data}
 use Rattle.apfloat_augmented.proofs.ProductCases.{product_of_numbers, product_some}
