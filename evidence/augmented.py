@@ -1,5 +1,5 @@
 #!/usr/bin/env python3
-"""Prints crates/apfloat_augmented/src/tests/rows.rt: augmented sums and differences (IEEE 754-2019 9.5).
+"""Prints crates/apfloat_augmented/src/tests/rows.rt: augmented operations (IEEE 754-2019 9.5).
 
 Operands are bits, and the exact result is a fraction. Nothing here is shared with the model in `exact`.
 """
@@ -7,11 +7,12 @@ Operands are bits, and the exact result is a fraction. Nothing here is shared wi
 import random
 from fractions import Fraction
 
-HEAD = """//! Augmented sums and differences as bits: the operation, its operands, the head and the tail, and whether the head is
-//! past the largest value. `evidence/augmented.py` writes the rows, from fractions.
+HEAD = """//! Augmented sums, differences and products as bits: the operation, its operands, the head and the tail, and whether
+//! the head is past the largest value or the product has digits below the quantum. `evidence/augmented.py` writes the
+//! rows, from fractions.
 
-use super::Flagging::{self, Exact, Past};
-use super::Operation::{self, Add, Sub};
+use super::Flagging::{self, Exact, Past, Tiny};
+use super::Operation::{self, Add, Mul, Sub};
 
 pub type Row = (Operation, u128, u128, u128, u128, Flagging);
 """
@@ -79,18 +80,21 @@ class Format:
 
 
 def augmented(f, exact, of_zero):
-    """The bits of head and tail, and the flags, of a fraction; a sum leaves nothing inexact."""
+    """The bits of head and tail, and the flags, of a fraction; a tail with digits below the quantum is rounded too."""
     sign = int(exact < 0) if exact else of_zero
     head = f.nearest(abs(exact))
     if head > f.largest():
         return f.past(sign), f.past(sign), "Past"
     rest = exact - (-head if sign else head)
     tail_sign = int(rest < 0) if rest else sign
-    return f.bits_of(sign, head), f.bits_of(tail_sign, abs(rest)), "Exact"
+    tail = f.nearest(abs(rest))
+    return f.bits_of(sign, head), f.bits_of(tail_sign, tail), "Exact" if tail == abs(rest) else "Tiny"
 
 
 def row(f, operation, a, b):
     x, y = f.value(a), f.value(b)
+    if operation == "mul":
+        return augmented(f, x[2] * y[2], x[1] ^ y[1])
     if operation == "sub":
         y = (y[0], 1 - y[1], -y[2])
     exact = x[2] + y[2]
@@ -121,6 +125,38 @@ BY_HAND = {
         (0x3F800001, 0xB3800000), (0x7F7FFFFF, 0x00000001), (0x00000001, 0x80000001),
     ],
 }
+# Products: ties of the head in both directions of evenness, also in the lowest binade; ties of the tail; a tie past the
+# largest value, where the format has one; half a quantum, less, more, and 3 and 5 halves; normal heads with inexact
+# tails; zeros
+PRODUCTS = {
+    "half": [
+        (0x3C00, 0x3C00), (0x3C01, 0x3C01), (0x3C01, 0x3E00), (0x3C03, 0x3E00), (0xBC01, 0x3E00), (0x7BFF, 0x3C01),
+        (0x7BFF, 0xC000), (0x7BFF, 0x7BFF), (0x63E0, 0x5410), (0xE3E0, 0x5410), (0x63E1, 0x5410), (0x0001, 0x0001),
+        (0x8001, 0x0001), (0x0001, 0x3800), (0x8001, 0x3800), (0x0001, 0x3801), (0x0001, 0x37FF), (0x0003, 0x3800),
+        (0x0005, 0x3800), (0x8003, 0x3800), (0x03FF, 0x3C01), (0x0401, 0x3801), (0x0801, 0x3A00), (0x0803, 0x3A00),
+        (0x0C01, 0x3900), (0x0C01, 0x3B00), (0x3001, 0x3403), (0xB001, 0x3403), (0x3003, 0x3403), (0x3003, 0x3405),
+        (0x8000, 0x3C00), (0x0000, 0x8000), (0x8000, 0x8000), (0x7BFF, 0x0001),
+    ],
+    "e5m2": [
+        (0x3D, 0x3D), (0x3D, 0x3E), (0x3F, 0x3F), (0x7B, 0x3D), (0x3D, 0x7A), (0xBD, 0x7A), (0x01, 0x01), (0x01, 0x38),
+        (0x81, 0x38), (0x03, 0x38), (0x05, 0x38), (0x05, 0x3A), (0x0D, 0x3D), (0x0D, 0x39), (0x11, 0x35), (0x7B, 0x01),
+        (0x80, 0x3C),
+    ],
+    "e4m3fn": [
+        (0x39, 0x39), (0x39, 0x3C), (0x3B, 0x3C), (0x7E, 0x39), (0x7E, 0x38), (0x7E, 0xB9), (0x01, 0x01), (0x01, 0x30),
+        (0x81, 0x30), (0x03, 0x30), (0x05, 0x30), (0x11, 0x34), (0x11, 0x35), (0x1B, 0x2B), (0x80, 0x38), (0x7E, 0x01),
+    ],
+    "e4m3fnuz": [
+        (0x41, 0x41), (0x41, 0x44), (0x43, 0x44), (0x7F, 0x41), (0x7F, 0xC1), (0x01, 0x01), (0x81, 0x01), (0x01, 0x38),
+        (0x81, 0x38), (0x03, 0x38), (0x05, 0x38), (0x12, 0x3C), (0x13, 0x3D), (0x1B, 0x33), (0x00, 0xC0), (0x7F, 0x01),
+    ],
+    "single": [
+        (0x3F800001, 0x3F800001), (0x3F800001, 0x3FC00000), (0x3F800003, 0x3FC00000), (0x7F7FFFFF, 0x3F800001),
+        (0x46918E00, 0x78612000), (0xC6918E00, 0x78612000), (0x46918E01, 0x78612000), (0x00000001, 0x3F000000),
+        (0x80000001, 0x3F000000), (0x00000003, 0x3F000000), (0x00800001, 0x3F400000), (0x01000001, 0x3F400000),
+        (0x00000001, 0x00000001), (0x1A000001, 0x26000003), (0x80000000, 0x3F800000),
+    ],
+}
 FORMATS = [HALF, E5M2, E4M3FN, E4M3FNUZ, SINGLE]
 
 
@@ -137,6 +173,23 @@ def rows(f):
     for a, b in pairs:
         for operation in ("add", "sub"):
             yield (operation, a, b) + row(f, operation, a, b)
+    for a, b in products(f):
+        yield ("mul", a, b) + row(f, "mul", a, b)
+
+
+def products(f):
+    """Pairs of factors; most of those that are drawn have products near the smallest values."""
+    drawn = random.Random(9600 + f.bits)
+    pairs = list(PRODUCTS[f.name])
+    ones = (1 << f.exponent_bits) - 1
+    while len(pairs) < len(PRODUCTS[f.name]) + 16:
+        a, b = drawn.getrandbits(f.bits), drawn.getrandbits(f.bits)
+        if drawn.random() < 0.75:
+            other = f.bias - (a >> f.trailing & ones) + drawn.randrange(-1 - f.trailing, f.precision + 3)
+            b = b & ~(ones << f.trailing) | min(max(other, 0), ones - 1) << f.trailing
+        if f.value(a)[0] == f.value(b)[0] == "number":
+            pairs.append((a, b))
+    return pairs
 
 
 def text():

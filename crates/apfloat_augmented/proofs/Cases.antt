@@ -104,6 +104,7 @@ difference_of_right f (nan b m) (nan c n) head tail status p h e = record { is =
 pub record HasRanges (c : Constants) : Type 0 where
   pub precision : 3 ≤ c.precision
   pub scale : (format_with c).scale < (format_with c).span
+  pub wide : c.precision < (format_with c).span
   pub span : 1 ≤ (format_with c).span
   pub span_short : (format_with c).span ≤ 2 ^ 21
   pub span_is : c.max_exp -ℤ c.min_exp ≡ pos ((format_with c).span)
@@ -118,6 +119,7 @@ ranges_of c law =
     record {
       precision = p.precision_low;
       scale = omega (arith, ints, scale, span, p.precision_low, p.max_exp_low, p.min_exp_high);
+      wide = omega (arith, ints, span, p.max_exp_low, p.min_exp_high);
       span = omega (arith, ints, span, p.precision_low, p.max_exp_low, p.min_exp_high);
       span_short = omega (arith, ints, span, p.min_exp_low, p.max_exp_high);
       span_is = span;

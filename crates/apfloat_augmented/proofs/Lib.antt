@@ -2,9 +2,14 @@ pub mod TiesToZero
 pub mod Numbers
 pub mod Rests
 pub mod Heads
+pub mod Multiples
+pub mod FractionRoundings
+pub mod FractionPicks
 pub mod AugmentedOnce
 pub mod NanSignificands
 pub mod Cases
 pub mod PayloadValues
 pub mod OrderedSums
+pub mod ProductCases
+pub mod TinyProducts
 pub mod PayloadsBack

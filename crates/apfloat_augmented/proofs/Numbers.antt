@@ -118,7 +118,7 @@ lost_not_ok : (tiny : Bool) → (cond tiny (underflow_bit + inexact_bit) inexact
 lost_not_ok true e = omega (arith, e)
 lost_not_ok false e = omega (arith, e)
 
-ok_tests : (past exact out tiny : Bool)
+pub ok_tests : (past exact out tiny : Bool)
     → (cond past (cond out (overflow_bit + inexact_bit) inexact_bit)
     (cond exact ok_bits (cond tiny (underflow_bit + inexact_bit) inexact_bit))) ≡ ok_bits
     → (past ≡ false) × (exact ≡ true)
@@ -126,7 +126,7 @@ ok_tests true exact out tiny e = absurd (past_not_ok out e)
 ok_tests false true out tiny e = (refl, refl)
 ok_tests false false out tiny e = absurd (lost_not_ok tiny e)
 
-test_within : (m n : ℕ) → ltb m n ≡ false → n ≤ m
+pub test_within : (m n : ℕ) → ltb m n ≡ false → n ≤ m
 test_within m n h = grind arith
 
 -- a rounding with status OK is exact

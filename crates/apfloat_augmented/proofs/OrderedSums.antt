@@ -27,7 +27,7 @@ use Rattle.apfloat_augmented.proofs.Heads.{half_unit, largest_on_grid, with_tail
 use Rattle.apfloat_augmented.proofs.Numbers.{signed_number, within_is, past_is, short_is, past_without, sum_rounded, quanta_in}
 use Rattle.apfloat_augmented.proofs.Rests.{as_nearest, rest_in_format}
 
-largest_some : (f : Format) → 3 ≤ f.precision → 0 < largest f
+pub largest_some : (f : Format) → 3 ≤ f.precision → 0 < largest f
 largest_some f h = mul-pos (greatest_some f.nonfinite f.precision h) (pow_pos f.span)
 
 -- the sum toward zero is a number of the format

@@ -1,6 +1,7 @@
--- Augmented sums and differences (IEEE 754-2019 9.5): the exact result, rounded to nearest with ties toward zero, and
--- what that leaves of it.
-use Rattle.std.specs.Prelude.{◌≡◌, ℕ, ◌+◌, ◌*◌, ◌≤◌, ◌⊎◌, ltb, eqb, Bool, true, ℤ, ◌+ℤ◌, ◌-ℤ◌, if◌then◌else◌}
+-- Augmented sums, differences and products (IEEE 754-2019 9.5): the exact result, rounded to nearest with ties toward
+-- zero, and what that leaves of it.
+use Rattle.std.specs.Prelude.{◌≡◌, ℕ, ◌+◌, ◌*◌, ◌^◌, ◌≤◌, ◌⊎◌, ltb, eqb, Bool, true, ℤ, pos, ◌+ℤ◌, ◌-ℤ◌, ◌*ℤ◌}
+use Rattle.std.specs.Prelude.{if◌then◌else◌}
 use Rattle.std.specs.Bool.{MatchBool}
 use Rattle.apfloat_model.specs.declared.kinds.Round.TheVariants.{NearestTiesToEven}
 use Rattle.apfloat_model.specs.formats.Format.{Format, largest, nan_base}
@@ -9,8 +10,9 @@ use Rattle.apfloat_model.specs.formats.Members.{IsMember}
 use Rattle.apfloat_model.specs.rounding.Rounding.{ok_bits, overflow_bit, underflow_bit, inexact_bit}
 use Rattle.apfloat_model.specs.rounding.Rounding.{past_largest, signed_quanta}
 use Rattle.apfloat_model.specs.rounding.Negation.{negated}
-use Rattle.apfloat_model.specs.arithmetic.Exact.{signed, sign_of, magnitude}
+use Rattle.apfloat_model.specs.arithmetic.Exact.{signed, sign_of, magnitude, product_sign}
 use Rattle.apfloat_model.specs.arithmetic.Sums.{IsSum, IsDifference, zero_sum_sign}
+use Rattle.apfloat_model.specs.arithmetic.Products.{IsProduct}
 use Rattle.apfloat_model.specs.order.Classes.{is_finite}
 use Rattle.apfloat_model.specs.order.Order.{number}
 use Rattle.apfloat_augmented.specs.TiesToZero.{IsTiesToZeroPick}
@@ -63,6 +65,12 @@ IsAugmentedDifference f (finite b m) (finite c n) head tail status =
     IsAugmentedSum f (finite b m) (negated f.nonfinite (finite c n)) head tail status
 IsAugmentedDifference f x y head tail status = AreBoth (IsDifference f NearestTiesToEven x y) head tail status
 
+-- The product of two numbers of quanta is that many parts of a quantum, of which a quantum has 2 ^ scale.
+abbrev pub IsAugmentedProduct : Format → Datum → Datum → Datum → Datum → ℕ → Type 0
+IsAugmentedProduct f (finite b m) (finite c n) head tail status =
+    IsAugmented f (product_sign b c) (signed (product_sign b c) (m * n)) (2 ^ f.scale) head tail status
+IsAugmentedProduct f x y head tail status = AreBoth (IsProduct f NearestTiesToEven x y) head tail status
+
 -- ---- theorems
 
 -- the head and the tail together are exactly that number, with no flag
@@ -80,7 +88,15 @@ IsExactSum =
     → AreExactly (number x +ℤ number y) head tail status ⊎ ((negative : Bool)
     × IsPastLargest f negative head tail status)
 
--- an augmented sum and an augmented difference have one answer
+-- an augmented product that is an integral number of quanta is exact, or the head is past the largest value
+abbrev pub IsExactProduct : Type 0
+IsExactProduct =
+    (f : Format) → 3 ≤ f.precision → (x y head tail : Datum) (status : ℕ) (whole : ℤ) → IsMember f x → IsMember f y
+    → is_finite x ≡ true → is_finite y ≡ true → (whole *ℤ pos (2 ^ f.scale)) ≡ (number x *ℤ number y)
+    → IsAugmentedProduct f x y head tail status
+    → AreExactly whole head tail status ⊎ ((negative : Bool) × IsPastLargest f negative head tail status)
+
+-- an augmented sum, an augmented difference and an augmented product have one answer
 abbrev pub HasOneAugmented : (Format → Datum → Datum → Datum → Datum → ℕ → Type 0) → Type 0
 HasOneAugmented Says =
     (f : Format) (x y head other_head tail other_tail : Datum) (status other_status : ℕ)

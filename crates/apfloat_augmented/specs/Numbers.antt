@@ -1,10 +1,14 @@
 -- Finite data by their numbers.
-use Rattle.std.specs.Prelude.{◌≡◌, ℕ, ◌≤◌, true, ℤ, ◌-ℤ◌, if◌then◌else◌}
+use Rattle.std.specs.Prelude.{◌≡◌, ℕ, ◌<◌, ◌≤◌, true, ℤ, pos, ◌-ℤ◌, if◌then◌else◌}
+use Rattle.apfloat_model.specs.declared.kinds.Round.TheVariants.{NearestTiesToEven}
 use Rattle.apfloat_model.specs.formats.Format.{Format, largest}
 use Rattle.apfloat_model.specs.formats.Constants.{zero_datum}
 use Rattle.apfloat_model.specs.formats.Datum.{Datum}
 use Rattle.apfloat_model.specs.rounding.Grid.{IsOnGrid}
+use Rattle.apfloat_model.specs.rounding.Negation.{negated}
 use Rattle.apfloat_model.specs.arithmetic.Exact.{magnitude}
+use Rattle.apfloat_model.specs.arithmetic.FusedSums.{IsFusedSum}
+use Rattle.apfloat_model.specs.arithmetic.Scaling.{IsScaling}
 use Rattle.apfloat_model.specs.arithmetic.Signs.{copy_sign}
 use Rattle.apfloat_model.specs.order.Classes.{is_finite, is_zero}
 use Rattle.apfloat_model.specs.order.Order.{number}
@@ -19,6 +23,19 @@ pub record IsNumberIn (f : Format) (x : Datum) : Type 0 where
   pub is_finite : is_finite x ≡ true
   pub on_grid : IsOnGrid f.precision (magnitude (number x))
   pub within : magnitude (number x) ≤ largest f
+
+-- a finite datum of the format other than zero
+pub record IsNonzeroIn (f : Format) (x : Datum) : Type 0 where
+  pub is_in : IsNumberIn f x
+  pub some : 0 < magnitude (number x)
+
+-- what a head leaves of a product, times two, rounded
+pub record IsTwiceLeft (f : Format) (x y head value : Datum) (status : ℕ) : Type 0 where
+  pub double : Datum
+  pub double_head : Datum
+  pub is_double : IsScaling f NearestTiesToEven x (pos 1) double
+  pub is_double_head : IsScaling f NearestTiesToEven head (pos 1) double_head
+  pub is_left : IsFusedSum f NearestTiesToEven double y (negated f.nonfinite double_head) value status
 
 -- no number with a magnitude on the grid is nearer to `exact` than z
 pub record IsNearestTo (precision : ℕ) (exact z : ℤ) : Type 0 where

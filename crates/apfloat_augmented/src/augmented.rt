@@ -1,12 +1,14 @@
 //! The two results of an augmented operation.
 
-ghost use Rattle.std.specs.Prelude.{◌≡◌, ◌+◌};
+ghost use Rattle.std.specs.Prelude.{◌≡◌, ℕ, ◌+◌};
 ghost use Rattle.apfloat_model.specs.rounding.Flags.{bits_of};
-ghost use Rattle.apfloat_model.specs.rounding.Rounding.{ok_bits, overflow_bit, inexact_bit};
+ghost use Rattle.apfloat_model.specs.rounding.Rounding.{ok_bits, overflow_bit, underflow_bit, inexact_bit};
+ghost use Rattle.apfloat_model.specs.rounding.Negation.{negated};
+ghost use Rattle.apfloat_model.specs.arithmetic.FusedSums.{IsFusedSum};
 ghost use Rattle.apfloat_ieee.specs.FlaggedTypes.{format_of};
 ghost use Rattle.apfloat_augmented.specs.Numbers.{with_sign};
 
-use apfloat_base::{Flags, Float, Status, StatusAnd};
+use apfloat_base::{Flags, Float, Round, Status, StatusAnd};
 use apfloat_ieee::{Flagged, IeeeFloat};
 
 /// The two results of an augmented operation (IEEE 754-2019 9.5).
@@ -54,4 +56,22 @@ pub(crate) fn with_tail<S: Flagged>(
         rest
     };
     Status::OK.and(Augmented { head, tail })
+}
+
+/// A head, and what it leaves of `x * y`, rounded, where that has digits below the quantum.
+pub(crate) fn with_rounded_tail<S: Flagged>(
+    x: IeeeFloat<S>,
+    y: IeeeFloat<S>,
+    head: IeeeFloat<S>,
+    round: Round,
+) -> StatusAnd<Augmented<S>>
+    ensures status { bits_of result.status ≡ underflow_bit + inexact_bit }
+    ensures head { result.value.head ≡ head }
+    ensures tail { (status : ℕ) × IsFusedSum (format_of S.Flagged) round x y
+        (negated (format_of S.Flagged).nonfinite head) result.value.tail status }
+{
+    let tail = x.wide_mul_add_r(y, -head, round).value;
+    Status::UNDERFLOW
+        .union(Status::INEXACT)
+        .and(Augmented { head, tail })
 }

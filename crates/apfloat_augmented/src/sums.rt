@@ -115,7 +115,11 @@ fn rest_of<S: Flagged>(
 }
 
 /// Whether a result with that status is exact and equal to another value.
-fn is_exactly<S: Flagged>(status: Status, value: IeeeFloat<S>, other: IeeeFloat<S>) -> bool
+pub(crate) fn is_exactly<S: Flagged>(
+    status: Status,
+    value: IeeeFloat<S>,
+    other: IeeeFloat<S>,
+) -> bool
     ensures ok { result ≡ true → bits_of status ≡ ok_bits }
     ensures equal { result ≡ true → is_equal value other ≡ true }
     ensures no { result ≡ false → bits_of status ≡ ok_bits → is_equal value other ≡ false }
@@ -124,7 +128,7 @@ fn is_exactly<S: Flagged>(status: Status, value: IeeeFloat<S>, other: IeeeFloat<
 }
 
 /// Whether the value is finite.
-fn is_number<S: Flagged>(x: IeeeFloat<S>) -> bool
+pub(crate) fn is_number<S: Flagged>(x: IeeeFloat<S>) -> bool
     ensures yes { result ≡ true → IsNumberIn (format_of S.Flagged) x }
     ensures no { result ≡ false → is_finite x ≡ false }
 {
@@ -137,7 +141,7 @@ fn is_number<S: Flagged>(x: IeeeFloat<S>) -> bool
 }
 
 /// Whether no flag was raised.
-fn is_ok(status: Status) -> bool
+pub(crate) fn is_ok(status: Status) -> bool
     ensures yes { result ≡ true → bits_of status ≡ ok_bits }
     ensures no { bits_of status ≡ ok_bits → result ≡ true }
 {

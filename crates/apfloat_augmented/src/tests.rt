@@ -1,4 +1,4 @@
-//! Rows of augmented sums and differences in five formats, special operands, and payloads.
+//! Rows of augmented sums, differences and products in five formats, special operands, and payloads.
 
 mod rows;
 
@@ -17,23 +17,26 @@ use std::process::Abort;
 enum Operation {
     Add,
     Sub,
+    Mul,
 }
 
-/// No flag, or OVERFLOW and INEXACT.
+/// No flag, OVERFLOW and INEXACT, or UNDERFLOW and INEXACT.
 #[derive(Clone, Copy, PartialEq, Eq, Debug)]
 enum Flagging {
     Exact,
     Past,
+    Tiny,
 }
 
 fn status_of(flagging: Flagging) -> Status {
     match flagging {
         Flagging::Exact => Status::OK,
         Flagging::Past => Status::OVERFLOW.union(Status::INEXACT),
+        Flagging::Tiny => Status::UNDERFLOW.union(Status::INEXACT),
     }
 }
 
-/// The head, the tail and the status of an augmented sum or difference.
+/// The head, the tail and the status of an augmented sum, difference or product.
 fn answer<S: Semantics>(operation: Operation, a: u128, b: u128) -> (u128, u128, Status)
     requires { S.PRECISION < S.BITS }
 {
@@ -42,6 +45,7 @@ fn answer<S: Semantics>(operation: Operation, a: u128, b: u128) -> (u128, u128, 
     let answer = match operation {
         Operation::Add => augmented_add(x, y),
         Operation::Sub => augmented_subtract(x, y),
+        Operation::Mul => augmented_multiply(x, y),
     };
     (
         answer.value.head.to_bits(),
@@ -61,7 +65,7 @@ fn check<S: Semantics>(rt: &impl Abort, rows: &[Row])
 }
 
 #[test]
-fn sums(rt: HostRuntime) {
+fn sums_and_products(rt: HostRuntime) {
     check::<HalfS>(&rt, &rows::HALF);
     check::<Float8E5M2S>(&rt, &rows::E5M2);
     check::<Float8E4M3FNS>(&rt, &rows::E4M3FN);
@@ -71,8 +75,8 @@ fn sums(rt: HostRuntime) {
 
 const INVALID: Status = Status::INVALID_OP;
 
-/// Infinities and NaNs in `half`, as the sum itself: both results are that (5.4.1, 6.1, 6.2.3).
-static SPECIALS: [(Operation, u128, u128, u128, Status); 8] = [
+/// Infinities and NaNs in `half`, as the sum or product itself: both results are that (5.4.1, 6.1, 6.2.3).
+static SPECIALS: [(Operation, u128, u128, u128, Status); 12] = [
     (Operation::Add, 0x7c00, 0x3c00, 0x7c00, Status::OK),
     (Operation::Add, 0x3c00, 0xfc00, 0xfc00, Status::OK),
     (Operation::Add, 0x7c00, 0xfc00, 0x7e00, INVALID),
@@ -81,6 +85,10 @@ static SPECIALS: [(Operation, u128, u128, u128, Status); 8] = [
     (Operation::Sub, 0x3c00, 0x7e05, 0x7e05, Status::OK),
     (Operation::Add, 0xfc01, 0x7e05, 0xfe01, INVALID),
     (Operation::Add, 0x3c00, 0x7c03, 0x7e03, INVALID),
+    (Operation::Mul, 0x7c00, 0xbc00, 0xfc00, Status::OK),
+    (Operation::Mul, 0x7c00, 0x8000, 0x7e00, INVALID),
+    (Operation::Mul, 0x0000, 0x7e05, 0x7e05, Status::OK),
+    (Operation::Mul, 0xfc01, 0x7e05, 0xfe01, INVALID),
 ];
 
 #[test]

@@ -1,7 +1,7 @@
 //! Theorems about the definitions that the calls cite, as contracts of functions with empty bodies.
 
-ghost use Rattle.apfloat_augmented.specs.Augmented.{IsAugmentedSum, IsAugmentedDifference};
-ghost use Rattle.apfloat_augmented.specs.Augmented.{HasOneAugmented, IsExactSum};
+ghost use Rattle.apfloat_augmented.specs.Augmented.{IsAugmentedSum, IsAugmentedDifference, IsAugmentedProduct};
+ghost use Rattle.apfloat_augmented.specs.Augmented.{HasOneAugmented, IsExactSum, IsExactProduct};
 ghost use Rattle.apfloat_augmented.specs.Payloads.{ArePayloadsKept};
 
 /// An augmented sum has one head, one tail and one status.
@@ -14,10 +14,21 @@ pub fn augmented_differences_have_one_answer()
     ensures { HasOneAugmented IsAugmentedDifference }
 {}
 
+/// An augmented product has one head, one tail and one status.
+pub fn augmented_products_have_one_answer()
+    ensures { HasOneAugmented IsAugmentedProduct }
+{}
+
 /// The head and the tail of an augmented sum of finite values are together exactly the sum, with no flag, unless the
 /// head is past the largest value.
 pub fn augmented_sums_are_exact()
     ensures { IsExactSum }
+{}
+
+/// The head and the tail of an augmented product of finite values that is an integral number of quanta are together
+/// exactly the product, with no flag, unless the head is past the largest value.
+pub fn augmented_products_are_exact()
+    ensures { IsExactProduct }
 {}
 
 /// The payload of the NaN that `set_payload` or `set_payload_signaling` makes is the one that was set.
