@@ -18,6 +18,8 @@ mod exported_call;
 mod exports;
 mod flagless;
 mod flagless_call;
+mod ieee_call;
+mod ieee_operations;
 mod maps;
 mod one_answer;
 mod operations;

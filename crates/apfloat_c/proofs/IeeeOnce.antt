@@ -1,0 +1,110 @@
+-- An operation of IEEE 754-2019 leaves one code and one result.
+use Rattle.std.proofs.Common.{Bool, true, false, Some, None, refl, sym, ap, ◌∙◌}
+use Rattle.rustc_apfloat.specs.declared.Round.{Round}
+use Rattle.rustc_apfloat.specs.declared.StatusAnd.{StatusAnd}
+use Rattle.rustc_apfloat.specs.Datum.{Datum}
+use Rattle.rustc_apfloat.specs.Determined.{Determines}
+use Rattle.rustc_apfloat.specs.Exponents.{IsExactInverse}
+use Rattle.rustc_apfloat.specs.Flags.{bits_of}
+use Rattle.rustc_apfloat.specs.Lawful.{Constants, format_with}
+use Rattle.apfloat_model.proofs.Determined.{gives_once, same_answer}
+use Rattle.apfloat_comparisons.specs.declared.extrema.Extremum.{Extremum}
+use Rattle.apfloat_comparisons.proofs.OneAnswer.{compared_once}
+use Rattle.apfloat_comparisons.proofs.IntegralOnce.{rounded_to_integral_once}
+use Rattle.apfloat_comparisons.proofs.Logarithms.{log_b_once, scaled_once}
+use Rattle.apfloat_format_of.proofs.Once.{has_one_sum, has_one_difference, has_one_product, has_one_quotient}
+use Rattle.apfloat_format_of.proofs.Once.{has_one_fused_sum, has_one_root}
+use Rattle.formats_at_run_time.specs.declared.FlaggedKind.TheVariants.{OfFormat, Pairs}
+use Rattle.formats_at_run_time.specs.BuiltIns.{constants_in}
+use Rattle.formats_at_run_time.specs.FlaggedKinds.{flagged_constants, flagged_kind_of, format_without_rule}
+use Rattle.formats_at_run_time.specs.Relations.{in_format}
+use Rattle.formats_at_run_time.specs.ValueKinds.{Kind, of_format, of_pairs, value_of}
+use Rattle.apfloat_c.specs.declared.ieee_call.IeeeCall.{IeeeCall}
+use Rattle.apfloat_c.specs.declared.ieee_call.IeeeCall.TheVariants.{Predicated, TotalOrder, ExtremumOf}
+use Rattle.apfloat_c.specs.declared.ieee_call.IeeeCall.TheVariants.{LogB, ScaleB, Integral}
+use Rattle.apfloat_c.specs.declared.ieee_call.InAnotherCall.{InAnotherCall}
+use Rattle.apfloat_c.specs.declared.ieee_call.InAnotherCall.TheVariants.{SumTo, DifferenceTo, ProductTo}
+use Rattle.apfloat_c.specs.declared.ieee_call.InAnotherCall.TheVariants.{QuotientTo, FusedSumTo, RootTo}
+use Rattle.apfloat_c.specs.Answers.{IsValue, one_if}
+use Rattle.apfloat_c.specs.IeeeCalls.{IsExtremumBy, IsIeeeAnswer, IsIeeeReplyOnce, IsInAnotherFormat, IsTruth}
+use Rattle.apfloat_c.specs.IeeeCalls.{IsInAnotherReplyOnce}
+use Rattle.apfloat_c.proofs.ExportsOnce.{HasLaw, OnceAnswer, format_determined, format_law, given_once, unchanged}
+use Rattle.apfloat_c.proofs.ExportsOnce.{value_once, built_in_law}
+
+-- if a relation has one truth value with one status, it leaves one result
+truth_once : (Holds : StatusAnd Bool → Type 0) → Determines Holds → OnceAnswer (IsTruth Holds)
+truth_once Holds determines a b x y =
+    let same = determines x.given y.given x.holds y.holds in
+    record {
+      bits = x.bits_are ∙ sym y.bits_are;
+      status = x.status_is ∙ ap (λ (d : StatusAnd Bool). bits_of d.status) same ∙ sym y.status_is;
+      number = x.number_is ∙ ap (λ (d : StatusAnd Bool). one_if d.value) same ∙ sym y.number_is;
+    }
+
+-- a minimum or a maximum has one value and one status
+extremum_once : (prefers_number : Bool) (c : Constants) (which : Extremum) (x y : Datum)
+    → Determines (IsExtremumBy prefers_number c which x y)
+extremum_once true c which x y answer other h k =
+    same_answer answer other (h.value_is ∙ sym k.value_is) (h.status_is ∙ sym k.status_is)
+extremum_once false c which x y answer other h k =
+    same_answer answer other (h.value_is ∙ sym k.value_is) (h.status_is ∙ sym k.status_is)
+
+module _ (c : Constants) (has : HasLaw c) (mode : Round) where
+  -- if a relation has one value with one status in the format, it leaves one result
+  in_format_once : (Holds : StatusAnd Datum → Type 0) → Determines Holds → OnceAnswer (IsValue (in_format c) Holds)
+  in_format_once Holds determines =
+      value_once (in_format c) (IsExactInverse (format_with c)) mode c.precision c.bits has.wide
+      (format_determined c has mode) Holds determines
+
+  ieee_answer_once : (call : IeeeCall) → OnceAnswer (IsIeeeAnswer c mode call)
+  ieee_answer_once (Predicated predicate on_nan x y) =
+      truth_once _ (compared_once (format_with c) predicate on_nan (value_of c x) (value_of c y))
+  ieee_answer_once (TotalOrder x y) = given_once _
+  ieee_answer_once (ExtremumOf which prefers_number x y) =
+      in_format_once _ (extremum_once prefers_number c which (value_of c x) (value_of c y))
+  ieee_answer_once (LogB x) = in_format_once _ (log_b_once (format_with c) mode (value_of c x))
+  ieee_answer_once (ScaleB x power) = in_format_once _ (scaled_once (format_with c) mode (value_of c x) power)
+  ieee_answer_once (Integral x) = in_format_once _ (rounded_to_integral_once (format_with c) mode (value_of c x))
+
+  -- the result in that format of a call on values of another
+  in_another_once : (from : Constants) (call : InAnotherCall) → OnceAnswer (IsInAnotherFormat from c mode call)
+  in_another_once from (SumTo x y) = in_format_once _ (gives_once _ (λ v w r s. has_one_sum _ _ _ mode _ _ v w r s))
+  in_another_once from (DifferenceTo x y) =
+      in_format_once _ (gives_once _ (λ v w r s. has_one_difference _ _ _ mode _ _ v w r s))
+  in_another_once from (ProductTo x y) =
+      in_format_once _ (gives_once _ (λ v w r s. has_one_product _ _ _ mode _ _ v w r s))
+  in_another_once from (QuotientTo x y) =
+      in_format_once _ (gives_once _ (λ v w r s. has_one_quotient _ _ _ mode _ _ v w r s))
+  in_another_once from (FusedSumTo x y z) =
+      in_format_once _ (gives_once _ (λ v w r s. has_one_fused_sum _ _ _ _ mode _ _ _ v w r s))
+  in_another_once from (RootTo x) = in_format_once _ (gives_once _ (λ v w r s. has_one_root _ _ mode _ v w r s))
+
+-- two replies to the same arguments are the same
+pub ieee_reply_once : IsIeeeReplyOnce
+ieee_reply_once None mode call old a b code other x y = (x.0 ∙ sym y.0, unchanged old a b x.1 y.1)
+ieee_reply_once (Some (OfFormat f)) None call old a b code other x y = (x.0 ∙ sym y.0, unchanged old a b x.1 y.1)
+ieee_reply_once (Some Pairs) None call old a b code other x y = (x.0 ∙ sym y.0, unchanged old a b x.1 y.1)
+ieee_reply_once (Some Pairs) (Some mode) call old a b code other x y =
+    (x.0 ∙ sym y.0, unchanged old a b x.1 y.1)
+ieee_reply_once (Some (OfFormat f)) (Some mode) None old a b code other x y =
+    (x.0 ∙ sym y.0, unchanged old a b x.1 y.1)
+ieee_reply_once (Some (OfFormat f)) (Some mode) (Some call) old a b code other x y =
+    (x.0 ∙ sym y.0, ieee_answer_once (flagged_constants f) (format_law f) mode call a b x.1 y.1)
+
+pub in_another_reply_once : IsInAnotherReplyOnce
+in_another_reply_once None target mode call old a b code other x y =
+    (x.0 ∙ sym y.0, unchanged old a b x.1 y.1)
+in_another_reply_once (Some kind) None mode call old a b code other x y =
+    (x.0 ∙ sym y.0, unchanged old a b x.1 y.1)
+in_another_reply_once (Some kind) (Some target) None call old a b code other x y =
+    (x.0 ∙ sym y.0, unchanged old a b x.1 y.1)
+in_another_reply_once (Some kind) (Some target) (Some mode) None old a b code other x y =
+    (x.0 ∙ sym y.0, unchanged old a b x.1 y.1)
+in_another_reply_once (Some Pairs) (Some target) (Some mode) (Some call) old a b code other x y =
+    (x.0 ∙ sym y.0, unchanged old a b x.1 y.1)
+in_another_reply_once (Some (OfFormat f)) (Some Pairs) (Some mode) (Some call) old a b code other x y =
+    (x.0 ∙ sym y.0, unchanged old a b x.1 y.1)
+in_another_reply_once (Some (OfFormat f)) (Some (OfFormat g)) (Some mode) (Some call) old a b code other x y = (
+  x.0 ∙ sym y.0,
+  in_another_once (flagged_constants g) (format_law g) mode (constants_in (format_without_rule f)) call a b x.1 y.1,
+)
