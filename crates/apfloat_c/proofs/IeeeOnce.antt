@@ -1,5 +1,5 @@
 -- An operation of IEEE 754-2019 leaves one code and one result.
-use Rattle.std.proofs.Common.{Bool, true, false, Some, None, refl, sym, ap, ◌∙◌}
+use Rattle.std.proofs.Common.{Bool, true, false, Some, None, sym, ap, ◌∙◌}
 use Rattle.rustc_apfloat.specs.declared.Round.{Round}
 use Rattle.rustc_apfloat.specs.declared.StatusAnd.{StatusAnd}
 use Rattle.rustc_apfloat.specs.Datum.{Datum}
@@ -26,10 +26,10 @@ use Rattle.apfloat_c.specs.declared.ieee_call.InAnotherCall.{InAnotherCall}
 use Rattle.apfloat_c.specs.declared.ieee_call.InAnotherCall.TheVariants.{SumTo, DifferenceTo, ProductTo}
 use Rattle.apfloat_c.specs.declared.ieee_call.InAnotherCall.TheVariants.{QuotientTo, FusedSumTo, RootTo}
 use Rattle.apfloat_c.specs.Answers.{IsValue, one_if}
-use Rattle.apfloat_c.specs.IeeeCalls.{IsExtremumBy, IsIeeeAnswer, IsIeeeReplyOnce, IsInAnotherFormat, IsTruth}
-use Rattle.apfloat_c.specs.IeeeCalls.{IsInAnotherReplyOnce}
+use Rattle.apfloat_c.specs.IeeeCalls.{IsExtremumBy, IsIeeeAnswer, IsInAnotherFormat, IsTruth}
+use Rattle.apfloat_c.specs.OneAnswer.{IsIeeeReplyOnce, IsInAnotherReplyOnce}
 use Rattle.apfloat_c.proofs.ExportsOnce.{HasLaw, OnceAnswer, format_determined, format_law, given_once, unchanged}
-use Rattle.apfloat_c.proofs.ExportsOnce.{value_once, built_in_law}
+use Rattle.apfloat_c.proofs.ExportsOnce.{value_once}
 
 -- if a relation has one truth value with one status, it leaves one result
 truth_once : (Holds : StatusAnd Bool → Type 0) → Determines Holds → OnceAnswer (IsTruth Holds)
@@ -51,7 +51,7 @@ extremum_once false c which x y answer other h k =
 
 module _ (c : Constants) (has : HasLaw c) (mode : Round) where
   -- if a relation has one value with one status in the format, it leaves one result
-  in_format_once : (Holds : StatusAnd Datum → Type 0) → Determines Holds → OnceAnswer (IsValue (in_format c) Holds)
+  pub in_format_once : (Holds : StatusAnd Datum → Type 0) → Determines Holds → OnceAnswer (IsValue (in_format c) Holds)
   in_format_once Holds determines =
       value_once (in_format c) (IsExactInverse (format_with c)) mode c.precision c.bits has.wide
       (format_determined c has mode) Holds determines

@@ -1,5 +1,5 @@
 -- The operations of IEEE 754-2019 that `Float` lacks, as the exports make them.
-use Rattle.std.specs.Prelude.{◌≡◌, ℕ, ◌==◌, pos, ℤ, Bool, true, false, if◌then◌else◌, Option, Some, None}
+use Rattle.std.specs.Prelude.{◌≡◌, ℕ, ◌==◌, Bool, true, false, if◌then◌else◌, Option, Some, None}
 use Rattle.rustc_apfloat.specs.declared.Round.{Round}
 use Rattle.rustc_apfloat.specs.declared.StatusAnd.{StatusAnd}
 use Rattle.rustc_apfloat.specs.Datum.{Datum}
@@ -40,7 +40,6 @@ use Rattle.apfloat_c.specs.declared.ieee_call.InAnotherCall.TheVariants.{SumTo, 
 use Rattle.apfloat_c.specs.declared.ieee_call.InAnotherCall.TheVariants.{QuotientTo, FusedSumTo, RootTo}
 use Rattle.apfloat_c.specs.Answers.{IsNumber, IsValue, one_if, order_code, whole}
 use Rattle.apfloat_c.specs.KnownCalls.{answered, unknown_format, unknown_mode, no_such_operation}
-use Rattle.apfloat_c.specs.OneAnswer.{SameAnswer}
 
 -- ---- codes
 
@@ -187,20 +186,3 @@ IsInAnotherReply (Some (OfFormat format)) (Some Pairs) (Some mode) (Some call) o
 IsInAnotherReply (Some (OfFormat format)) (Some (OfFormat target)) (Some mode) (Some call) old new code =
     (code ≡ answered)
     × IsInAnotherFormat (constants_in (format_without_rule format)) (flagged_constants target) mode call new
-
--- ---- each leaves one code and one result
-
-abbrev pub IsIeeeReplyOnce : Type 0
-IsIeeeReplyOnce =
-    (format : Option FlaggedKind) (mode : Option Round) (call : Option IeeeCall) (old first second : Answer)
-    (code other : ℕ)
-    → IsIeeeReply format mode call old first code → IsIeeeReply format mode call old second other
-    → (code ≡ other) × SameAnswer first second
-
-abbrev pub IsInAnotherReplyOnce : Type 0
-IsInAnotherReplyOnce =
-    (format target : Option FlaggedKind) (mode : Option Round) (call : Option InAnotherCall)
-    (old first second : Answer) (code other : ℕ)
-    → IsInAnotherReply format target mode call old first code
-    → IsInAnotherReply format target mode call old second other
-    → (code ≡ other) × SameAnswer first second

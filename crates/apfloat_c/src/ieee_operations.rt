@@ -1,6 +1,6 @@
 //! The operations of IEEE 754-2019 that `Float` lacks, and the exports that make them.
 
-ghost use Rattle.std.specs.Prelude.{◌≡◌, ◌<◌, pos, Some, if◌then◌else◌};
+ghost use Rattle.std.specs.Prelude.{◌≡◌, ◌<◌, pos, Some};
 ghost use Rattle.rustc_apfloat.specs.declared.Round.TheVariants.{NearestTiesToEven};
 ghost use Rattle.rustc_apfloat.specs.Flags.{bits_of};
 ghost use Rattle.rustc_apfloat.specs.FlaggedTypes.{constants_of};
@@ -13,7 +13,6 @@ ghost use Rattle.apfloat_c.specs.Answers.{IsWritten, one_if, whole};
 ghost use Rattle.apfloat_c.specs.FlaglessCalls.{is_set};
 ghost use Rattle.apfloat_c.specs.IeeeCalls.{IsIeeeAnswer, IsIeeeReply, IsIeeeReplyIn, IsInAnother, IsInAnotherKind};
 ghost use Rattle.apfloat_c.specs.IeeeCalls.{IsInAnotherReply, IsInAnotherFormat};
-ghost use Rattle.apfloat_c.specs.IeeeCalls.{IsIeeeReplyOnce, IsInAnotherReplyOnce};
 ghost use Rattle.apfloat_c.specs.IeeeCalls.{comparison_call, extremum_call, extremum_coded, on_nan_coded};
 ghost use Rattle.apfloat_c.specs.IeeeCalls.{operation_coded, predicate_coded, IsExtremumBy};
 
@@ -32,12 +31,6 @@ use formats_at_run_time::{FillsInFormat, FillsInKind, FlaggedFormat, FlaggedKind
 use rustc_apfloat::ieee::{Flagged, IeeeFloat};
 use rustc_apfloat::{Float, Round, StatusAnd};
 use std::marker::PhantomData;
-
-/// What the exports leave is determined by their arguments.
-pub fn ieee_answers_once()
-    ensures reply { IsIeeeReplyOnce }
-    ensures in_another { IsInAnotherReplyOnce }
-{}
 
 /// A call, if its code is known, with the code of its rounding mode.
 #[derive(Clone, Copy)]

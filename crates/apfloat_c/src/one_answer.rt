@@ -2,6 +2,7 @@
 
 ghost use Rattle.apfloat_c.specs.OneAnswer.{IsConvertedArrayOnce, IsMappedArrayOnce, IsParsedOnce, IsReplyOnce};
 ghost use Rattle.apfloat_c.specs.OneAnswer.{IsErrorTextOnce, IsFlaglessReplyOnce, IsTextOnce};
+ghost use Rattle.apfloat_c.specs.OneAnswer.{IsIeeeReplyOnce, IsInAnotherReplyOnce};
 
 /// The contract of each export allows one code and one result, text or array.
 pub fn one_answer()
@@ -9,6 +10,8 @@ pub fn one_answer()
     ensures parsed { IsParsedOnce }
     ensures text { IsTextOnce }
     ensures flagless { IsFlaglessReplyOnce }
+    ensures ieee { IsIeeeReplyOnce }
+    ensures in_another { IsInAnotherReplyOnce }
     ensures error { IsErrorTextOnce }
     ensures converted { IsConvertedArrayOnce }
     ensures mapped { IsMappedArrayOnce }
