@@ -120,7 +120,7 @@ fn extremum<S: Flagged>(
 }
 
 /// The value of bits.
-fn value<S: Flagged>(bits: u128) -> IeeeFloat<S>
+pub fn value<S: Flagged>(bits: u128) -> IeeeFloat<S>
     requires { S.PRECISION < S.BITS }
     ensures { result ≡ value_of (constants_of S.Flagged) bits }
 {
@@ -137,7 +137,7 @@ fn told(answer: StatusAnd<bool>) -> Answer
 }
 
 /// A value with its flags.
-fn written<S: Flagged>(answer: StatusAnd<IeeeFloat<S>>) -> Answer
+pub fn written<S: Flagged>(answer: StatusAnd<IeeeFloat<S>>) -> Answer
     requires { S.PRECISION < S.BITS }
     ensures { IsWritten (in_format (constants_of S.Flagged)) answer (pos 0) result }
 {

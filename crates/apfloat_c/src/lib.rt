@@ -20,6 +20,8 @@ mod flagless;
 mod flagless_call;
 mod ieee_call;
 mod ieee_operations;
+mod machine_call;
+mod machine_operations;
 mod maps;
 mod one_answer;
 mod operations;

@@ -2,7 +2,7 @@
 
 ghost use Rattle.apfloat_c.specs.OneAnswer.{IsConvertedArrayOnce, IsMappedArrayOnce, IsParsedOnce, IsReplyOnce};
 ghost use Rattle.apfloat_c.specs.OneAnswer.{IsErrorTextOnce, IsFlaglessReplyOnce, IsTextOnce};
-ghost use Rattle.apfloat_c.specs.OneAnswer.{IsIeeeReplyOnce, IsInAnotherReplyOnce};
+ghost use Rattle.apfloat_c.specs.OneAnswer.{IsIeeeReplyOnce, IsInAnotherReplyOnce, IsMachineReplyOnce};
 
 /// The contract of each export allows one code and one result, text or array.
 pub fn one_answer()
@@ -12,6 +12,7 @@ pub fn one_answer()
     ensures flagless { IsFlaglessReplyOnce }
     ensures ieee { IsIeeeReplyOnce }
     ensures in_another { IsInAnotherReplyOnce }
+    ensures machine { IsMachineReplyOnce }
     ensures error { IsErrorTextOnce }
     ensures converted { IsConvertedArrayOnce }
     ensures mapped { IsMappedArrayOnce }
