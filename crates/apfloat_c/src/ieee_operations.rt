@@ -330,7 +330,8 @@ pub extern "C" fn apfloat_extremum(
 #[unsafe(no_mangle)]
 pub extern "C" fn apfloat_log_b(format: u32, mode: u32, x: Halves, answer: &mut Answer) -> u32
     ensures { let call = Some (LogB (whole x)) in
-        IsIeeeReply (flagged_kind_coded format) (mode_coded mode) call answer.old answer.new result }
+        IsIeeeReply (flagged_kind_coded format) (mode_coded mode) call
+        answer.old answer.new result }
 {
     reply(format, mode, Some(IeeeCall::LogB(x.number())), answer)
 }
@@ -345,7 +346,8 @@ pub extern "C" fn apfloat_scale_b(
     answer: &mut Answer,
 ) -> u32
     ensures { let call = Some (ScaleB (whole x) power) in
-        IsIeeeReply (flagged_kind_coded format) (mode_coded mode) call answer.old answer.new result }
+        IsIeeeReply (flagged_kind_coded format) (mode_coded mode) call
+        answer.old answer.new result }
 {
     reply(
         format,
@@ -359,7 +361,8 @@ pub extern "C" fn apfloat_scale_b(
 #[unsafe(no_mangle)]
 pub extern "C" fn apfloat_integral(format: u32, mode: u32, x: Halves, answer: &mut Answer) -> u32
     ensures { let call = Some (Integral (whole x)) in
-        IsIeeeReply (flagged_kind_coded format) (mode_coded mode) call answer.old answer.new result }
+        IsIeeeReply (flagged_kind_coded format) (mode_coded mode) call
+        answer.old answer.new result }
 {
     reply(format, mode, Some(IeeeCall::Integral(x.number())), answer)
 }

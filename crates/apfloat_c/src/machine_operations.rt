@@ -344,8 +344,8 @@ fn reply(
     )
 }
 
-/// What a machine delivers for an operation on values of a format, NaNs and flags included (`docs/MACHINES.md`). `to` is
-/// the format of a conversion, the width of an integer, or the rule of a minimum or a maximum.
+/// What a machine delivers for an operation on values of a format, NaNs and flags included (`docs/MACHINES.md`). `to`
+/// is the format of a conversion, the width of an integer, or the rule of a minimum or a maximum.
 #[unsafe(no_mangle)]
 pub extern "C" fn apfloat_machine(
     machine: u32,
