@@ -561,7 +561,7 @@ class SignTests(unittest.TestCase):
                 found = machine.to_integer(infinity, 32), machine.to_integer(infinity, 32, signed=False)
             self.assertEqual(found, integers, name)
             self.assertEqual(context.inexact, name == 's390x', name)
-        # (1 - 2^-10) * (1 + 2^-10) * 2^-14 is 2^-14 - 2^-34, which is tiny, and no more when it is rounded to 11 digits.
+        # (1 - 2^-10) * (1 + 2^-10) * 2^-14 is 2^-14 - 2^-34: tiny, and no more when it is rounded to 11 digits.
         for name, is_tiny in (('arm', True), ('x86', False)):
             with Context() as context:
                 product = apfloat.machine(name).delivers('mul', apfloat.half.from_bits(0x3bfe),

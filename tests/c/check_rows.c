@@ -672,7 +672,7 @@ static const struct {
      {0x3f800000, 0}, 0x01},
     {ARM, APFLOAT_GREATEST, 2, APFLOAT_RULE_PROPAGATED, {0x3f800000, 0}, {0x7fc00001, 0}, {0, 0},
      {0x7fc00001, 0}, 0x00},
-    /* 2^-14 - 2^-34 in binary16: tiny, and no more when it is rounded to 11 digits. The code's rule takes precedence. */
+    /* 2^-14 - 2^-34 in binary16: tiny, and no more when it is rounded to 11 digits. The code's rule comes first. */
     {ARM, APFLOAT_MUL, 1, 0, {0x3bfe, 0}, {0x0401, 0}, {0, 0}, {0x0400, 0}, 0x18},
     {X86, APFLOAT_MUL, 1, 0, {0x3bfe, 0}, {0x0401, 0}, {0, 0}, {0x0400, 0}, 0x10},
     {ARM, APFLOAT_MUL, 1 | APFLOAT_IEEE_FLAGS, 0, {0x3bfe, 0}, {0x0401, 0}, {0, 0}, {0x0400, 0}, 0x10},
