@@ -1,4 +1,4 @@
-/* The interface of Berkeley SoftFloat 3e, made of calls of libapfloat. README.md in this folder says how it is built. */
+/* The interface of Berkeley SoftFloat 3e, made of calls of libapfloat. README.md in this folder says how to build it. */
 #include "softfloat.h"
 
 #include "apfloat.h"
@@ -141,37 +141,38 @@ static apfloat_answer delivered(uint32_t operation, uint32_t format, uint32_t mo
     return answer;
 }
 
-/* A truncated result with an odd last digit, in the mode that asks for it, unless it is exact. The lowest bit is the last
- * digit in every format, and the largest value has an odd one. */
+/* A truncated result with an odd last digit, in the mode that asks for it, unless it is exact. The lowest bit is the
+ * last digit in every format, and the largest value has an odd one. */
 static apfloat_answer odd_if_asked(apfloat_answer answer, uint_fast8_t mode) {
     if (mode == softfloat_round_odd && (answer.status & APFLOAT_INEXACT)) answer.bits.low |= 1;
     return answer;
 }
 
 static int32_t class_of(uint32_t format, apfloat_halves x) {
-    apfloat_answer class = {{0, 0}, 0, 0};
-    apfloat_classify(format, x, &class);
-    return class.number;
+    apfloat_answer answer = {{0, 0}, 0, 0};
+    apfloat_classify(format, x, &answer);
+    return answer.number;
 }
 
 static bool is_nan(uint32_t format, apfloat_halves x) {
-    const int32_t class = class_of(format, x);
-    return class == APFLOAT_SIGNALING_NAN || class == APFLOAT_QUIET_NAN;
+    const int32_t code = class_of(format, x);
+    return code == APFLOAT_SIGNALING_NAN || code == APFLOAT_QUIET_NAN;
 }
 
 /* ---- extFloat80_t with 53 or 24 digits */
 
-/* The result of a call with fewer digits than extFloat80_t has, and its exponents, is rounded to odd in all 64 digits, and
- * then once more, which is rounding once: 64 digits are two more than 53. The second rounding is a conversion to a
- * format with so many digits, of the result times a power of two that takes the end of the exponents of extFloat80_t
- * to that of the format, if it is near an end, and otherwise far from both. These products are exact. */
+/* A result with fewer digits than extFloat80_t has, and with its exponents, is rounded to odd in all 64 digits, and
+ * then once more, which is rounding once: 64 digits are at least two more. The second rounding is a conversion to a
+ * format of so many digits. Before it, a result near the greatest or the least exponents of extFloat80_t is multiplied
+ * by the power of two that takes these to those of the format, and any other by one that takes it near 1; afterwards,
+ * by the inverse. These products are exact. */
 static apfloat_answer narrowed(apfloat_answer odd, uint32_t format) {
-    const int32_t end = format == APFLOAT_DOUBLE ? 16383 - 1023 : 16383 - 127, near = 64;
+    const int32_t end = format == APFLOAT_DOUBLE ? 16383 - 1023 : 16383 - 127, margin = 64;
     const uint_fast8_t mode = softfloat_roundingMode;
-    apfloat_answer exponent, scaled, narrow, wide, result = {{0, 0}, 0, 0};
+    apfloat_answer exponent = {{0, 0}, 0, 0}, scaled = exponent, narrow = exponent, wide = exponent, result = exponent;
     int32_t power;
     apfloat_ilogb(APFLOAT_X87, odd.bits, &exponent);
-    power = exponent.number >= 16383 - near ? -end : exponent.number <= -16382 + near ? end : -exponent.number;
+    power = exponent.number >= 16383 - margin ? -end : exponent.number <= -16382 + margin ? end : -exponent.number;
     apfloat_scalbn(APFLOAT_X87, APFLOAT_NEAREST_EVEN, odd.bits, power, &scaled);
     apfloat_convert(APFLOAT_X87, direction(mode), ruled(format), scaled.bits, &narrow);
     narrow = odd_if_asked(narrow, mode);

@@ -1,6 +1,6 @@
-/* The interface of Berkeley SoftFloat 3e over libapfloat, in C99 and C++: a program that calls SoftFloat is compiled with
- * this header, or with SoftFloat's own, and linked with softfloat.c and the library instead. README.md in this folder
- * says what is the same and what is not. */
+/* The interface of Berkeley SoftFloat 3e over libapfloat, in C99 and C++: a program that calls SoftFloat is compiled
+ * with this header, or with SoftFloat's own, and linked with softfloat.c and the library instead. README.md in this
+ * folder says what is the same and what is not. */
 #ifndef softfloat_h
 #define softfloat_h 1
 
