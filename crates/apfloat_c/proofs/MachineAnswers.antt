@@ -1,4 +1,6 @@
 -- From the answers of the library to those of a machine.
+use Rattle.std.proofs.Common.{◌≡◌, subst}
+use Rattle.std.proofs.Math.Path.{subst₂}
 use Rattle.rustc_apfloat.specs.declared.Round.{Round}
 use Rattle.rustc_apfloat.specs.declared.StatusAnd.{StatusAnd}
 use Rattle.rustc_apfloat.specs.Datum.{Datum}
@@ -23,3 +25,9 @@ settled_of_two c machine Product mode x y answer result given settled = settled.
 settled_of_two c machine Quotient mode x y answer result given settled = settled.quotient mode given
 settled_of_two c machine NearestRemainder mode x y answer result given settled = settled.nearest given
 settled_of_two c machine TruncatedRemainder mode x y answer result given settled = settled.truncated given
+
+-- of three equal data, a property of the ones is one of the others
+pub replaced : {x y z a b d : Datum} (Holds : Datum → Datum → Datum → Type 0) → x ≡ a → y ≡ b → z ≡ d
+    → Holds x y z → Holds a b d
+replaced {x} {y} {z} {a} {b} {d} Holds x_is y_is z_is holds =
+    subst (λ t. Holds a b t) z_is (subst₂ (λ t u. Holds t u z) x_is y_is holds)
