@@ -1,5 +1,5 @@
 -- From the answers of the library to those of a machine.
-use Rattle.std.proofs.Common.{◌≡◌, subst}
+use Rattle.std.proofs.Common.{◌≡◌, ℕ, true, Option, Some, None, subst}
 use Rattle.std.proofs.Math.Path.{subst₂}
 use Rattle.rustc_apfloat.specs.declared.Round.{Round}
 use Rattle.rustc_apfloat.specs.declared.StatusAnd.{StatusAnd}
@@ -11,8 +11,17 @@ use Rattle.formats_at_run_time.specs.declared.Arithmetic.{Arithmetic}
 use Rattle.formats_at_run_time.specs.declared.Arithmetic.TheVariants.{Sum, Difference, Product, Quotient}
 use Rattle.formats_at_run_time.specs.declared.Arithmetic.TheVariants.{NearestRemainder, TruncatedRemainder}
 use Rattle.formats_at_run_time.specs.OfTwo.{IsOfTwo}
+use Rattle.formats_at_run_time.specs.FlaggedKinds.{flagged_constants}
 use Rattle.formats_at_run_time.specs.Relations.{in_format}
-use Rattle.apfloat_c.specs.MachineCalls.{IsMachineOfTwo}
+use Rattle.formats_at_run_time.specs.ValueKinds.{of_format}
+use Rattle.apfloat_c.specs.declared.data.Answer.{Answer}
+use Rattle.apfloat_c.specs.declared.machine_call.MachineCall.{MachineCall}
+use Rattle.apfloat_c.specs.declared.machine_call.MachineFormat.{MachineFormat}
+use Rattle.apfloat_c.specs.Answers.{IsLeftBy}
+use Rattle.apfloat_c.specs.KnownCalls.{without}
+use Rattle.apfloat_c.specs.MachineCalls.{IsMachineAnswer, IsMachineLeftIn, IsMachineOfTwo, IsMachineReply, MachineRequest}
+use Rattle.apfloat_c.specs.MachineCalls.{call_fault, format_on, machine_fault, operands_fit, width_of}
+use Rattle.apfloat_c.proofs.MachineFormats.{has_infinities_on}
 
 -- what `settled` makes of the answer of an operation on two values is the machine's
 pub settled_of_two : (c : Constants) (machine : Machine) (arithmetic : Arithmetic) (mode : Round) (x y : Datum)
@@ -31,3 +40,24 @@ pub replaced : {x y z a b d : Datum} (Holds : Datum → Datum → Datum → Type
     → Holds x y z → Holds a b d
 replaced {x} {y} {z} {a} {b} {d} Holds x_is y_is z_is holds =
     subst (λ t. Holds a b t) z_is (subst₂ (λ t u. Holds t u z) x_is y_is holds)
+
+-- what a call leaves is the reply to the request, unless it has a fault
+left_replied : (fault : Option ℕ) (known : MachineRequest) (old new : Answer) (code : ℕ)
+    → IsLeftBy fault
+    (IsMachineAnswer (flagged_constants (format_on known.machine known.format)) known.machine known.mode known.call)
+    old new code
+    → IsMachineReply (without fault known) old new code
+left_replied None known old new code left = left
+left_replied (Some fault) known old new code left = left
+
+-- what a call leaves in the format of a machine, whose operands fit, is the reply to the request
+pub call_replied : (machine : Machine) (format : MachineFormat) (mode : Round) (call : MachineCall) (old new : Answer)
+    (code : ℕ) → operands_fit (width_of format) call ≡ true
+    → IsMachineLeftIn (of_format (flagged_constants (format_on machine format))) machine mode call old new code
+    → IsMachineReply
+    (without (machine_fault machine format call)
+    (record { machine = machine; format = format; mode = mode; call = call })) old new code
+call_replied machine format mode call old new code fit left =
+    rw (fit) (left_replied (call_fault machine call)
+    (record { machine = machine; format = format; mode = mode; call = call }) old new code
+    (left (has_infinities_on machine format)))

@@ -13,7 +13,7 @@ returns g c =
       given = c.settled_conversion.result;
       holds = subst
           (λ x. Gives (IsMachineConversion f to c.args.machine c.args.round x) c.settled_conversion.result)
-          c.value.ensures
-          (c.settled_conversion.ensures.conversion c.args.round c.convert_r.new.loses_info c.convert_r.ensures);
+          c.value-x.ensures
+          (c.settled_conversion.ensures.conversion c.args.round c.convert_r-plain.new.loses_info c.convert_r-plain.ensures);
       is_written = c.written.ensures;
     }

@@ -21,11 +21,11 @@ returns-in-Some g c = λ infinite.
     let delivered = c.in-Some.ensures.1.fused_sum infinite c.args.round c.wide_mul_add_r.ensures in
     answered_if (has_fused c.args.machine) lacking_operation
     (IsMachineAnswer k c.args.machine c.args.round (FusedSum c.args.x c.args.y c.args.z)) c.args.answer.now
-    c.in-Some.written.result c.in-Some.ensures.0
+    c.written.result c.in-Some.ensures.0
     (record {
       given = c.in-Some.sum;
       holds = replaced
           (λ x y z. Gives (IsMachineFusedSum (format_with k) c.args.machine c.args.round x y z) c.in-Some.sum)
           c.value-x.ensures c.value-y.ensures c.value-z.ensures delivered;
-      is_written = c.in-Some.written.ensures;
+      is_written = c.written.ensures;
     })

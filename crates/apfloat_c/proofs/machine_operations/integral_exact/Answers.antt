@@ -10,7 +10,7 @@ returns g c = λ infinite.
     let f = format_with (constants_of g.S.Flagged) in
     record {
       given = c.settled_unary.result;
-      holds = subst (λ x. Gives (IsMachineIntegralExact f c.args.machine c.args.round x) c.settled_unary.result) c.value.ensures
+      holds = subst (λ x. Gives (IsMachineIntegralExact f c.args.machine c.args.round x) c.settled_unary.result) c.value-x.ensures
           ((c.settled_unary.ensures.operations infinite).exact c.args.round c.round_to_integral.ensures);
       is_written = c.written.ensures;
     }
