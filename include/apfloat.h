@@ -2,7 +2,7 @@
  *
  * A function on values takes them as their bits, with a code for the format and, if it rounds, one for the rounding
  * mode, and writes its result through a pointer. It returns APFLOAT_ANSWERED, or the code of the first error, in the
- * order in which these codes are listed; on an error, *answer is unchanged.
+ * order in which these codes are listed, unless the function says another; on an error, *answer is unchanged.
  *
  * The library never allocates, keeps no state between calls, and calls no functions outside itself other than the
  * compiler's own division of 128-bit integers, and memcpy and memset, which compilers call everywhere. So its functions

@@ -19,8 +19,8 @@ use Rattle.apfloat_c.specs.declared.machine_call.MachineCall.{MachineCall}
 use Rattle.apfloat_c.specs.declared.machine_call.MachineFormat.{MachineFormat}
 use Rattle.apfloat_c.specs.Answers.{IsLeftBy}
 use Rattle.apfloat_c.specs.KnownCalls.{without}
-use Rattle.apfloat_c.specs.MachineCalls.{IsMachineAnswer, IsMachineLeftIn, IsMachineOfTwo, IsMachineReply, MachineRequest}
-use Rattle.apfloat_c.specs.MachineCalls.{call_fault, format_on, machine_fault, operands_fit, width_of}
+use Rattle.apfloat_c.specs.MachineCalls.{IsMachineAnswer, IsMachineLeftIn, IsMachineOfTwo, IsMachineReply}
+use Rattle.apfloat_c.specs.MachineCalls.{MachineRequest, call_fault, format_on, machine_fault, operands_fit, width_of}
 use Rattle.apfloat_c.proofs.MachineFormats.{has_infinities_on}
 
 -- what `settled` makes of the answer of an operation on two values is the machine's
