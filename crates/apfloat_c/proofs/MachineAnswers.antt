@@ -1,12 +1,12 @@
 -- From the answers of the library to those of a machine.
-use Rattle.std.proofs.Common.{◌≡◌, ℕ, true, Option, Some, None, subst}
+use Rattle.std.proofs.Common.{◌≡◌, ℕ, Bool, true, Option, Some, None, subst}
 use Rattle.std.proofs.Math.Path.{subst₂}
 use Rattle.rustc_apfloat.specs.declared.Round.{Round}
 use Rattle.rustc_apfloat.specs.declared.StatusAnd.{StatusAnd}
 use Rattle.rustc_apfloat.specs.Datum.{Datum}
 use Rattle.rustc_apfloat.specs.Lawful.{Constants, format_with}
 use Rattle.apfloat_machines.specs.declared.machine.Machine.{Machine}
-use Rattle.apfloat_machines.specs.Operations.{AreSettled}
+use Rattle.apfloat_machines.specs.Operations.{AreSettled, IsOffered}
 use Rattle.formats_at_run_time.specs.declared.Arithmetic.{Arithmetic}
 use Rattle.formats_at_run_time.specs.declared.Arithmetic.TheVariants.{Sum, Difference, Product, Quotient}
 use Rattle.formats_at_run_time.specs.declared.Arithmetic.TheVariants.{NearestRemainder, TruncatedRemainder}
@@ -34,6 +34,12 @@ settled_of_two c machine Product mode x y answer result given settled = settled.
 settled_of_two c machine Quotient mode x y answer result given settled = settled.quotient mode given
 settled_of_two c machine NearestRemainder mode x y answer result given settled = settled.nearest given
 settled_of_two c machine TruncatedRemainder mode x y answer result given settled = settled.truncated given
+
+-- what holds of an answer that is offered, if what is said of it implies that
+pub offered : {A : Type 0} (has : Bool) (Says Tells : A → Type 0) (result : Option A)
+    → ((answer : A) → Says answer → Tells answer) → IsOffered has Says result → IsOffered has Tells result
+offered has Says Tells None implies said = said
+offered has Says Tells (Some answer) implies said = (said.0, implies answer said.1)
 
 -- of three equal data, a property of the ones is one of the others
 pub replaced : {x y z a b d : Datum} (Holds : Datum → Datum → Datum → Type 0) → x ≡ a → y ≡ b → z ≡ d

@@ -1,8 +1,13 @@
 //! What machines deliver, and the export that makes it.
 
-ghost use Rattle.std.specs.Prelude.{◌≡◌, ◌<◌};
+ghost use Rattle.std.specs.Prelude.{◌≡◌, ◌<◌, ◌≤◌};
 ghost use Rattle.apfloat_model.specs.declared.kinds.NonfiniteBehavior.TheVariants.{IEEE754};
+ghost use Rattle.rustc_apfloat.specs.Flags.{Gives};
 ghost use Rattle.rustc_apfloat.specs.FlaggedTypes.{constants_of, format_of};
+ghost use Rattle.rustc_apfloat.specs.Lawful.{format_with};
+ghost use Rattle.apfloat_machines.specs.Machines.{has_unsigned};
+ghost use Rattle.apfloat_machines.specs.Operations.{IsOffered};
+ghost use Rattle.apfloat_machines.specs.WholeNumbers.{IsMachineSigned, IsMachineUnsigned};
 ghost use Rattle.formats_at_run_time.specs.FlaggedKinds.{flagged_kind_coded};
 ghost use Rattle.formats_at_run_time.specs.Modes.{mode_coded};
 ghost use Rattle.formats_at_run_time.specs.ValueKinds.{of_format, value_of};
@@ -190,16 +195,34 @@ fn to_unsigned<S: Flagged>(
     if !is_width(1, width) {
         return WRONG_WIDTH;
     }
-    let x = value::<S>(x);
-    let mut is_exact = false;
-    let whole = x.to_u128_r(width as usize, round, &mut is_exact);
-    match settled_unsigned(machine, x, width as usize, whole) {
+    match unsigned_integer::<S>(machine, round, x, width as usize) {
         None => LACKING_OPERATION,
         Some(whole) => {
             *answer = Answer::of(whole.value, whole.status, 0);
             ANSWERED
         }
     }
+}
+
+/// The integer, if the machine has unsigned ones.
+fn unsigned_integer<S: Flagged>(
+    machine: Machine,
+    round: Round,
+    x: u128,
+    width: usize,
+) -> Option<StatusAnd<u128>>
+    requires bits { S.PRECISION < S.BITS }
+    requires low { 1 ≤ width }
+    requires high { width ≤ 128 }
+    ensures { let c = constants_of S.Flagged in
+        IsOffered (has_unsigned machine)
+        (λ given. Gives (IsMachineUnsigned (format_with c) machine round width (value_of c x)) given)
+        result }
+{
+    let x = value::<S>(x);
+    let mut is_exact = false;
+    let plain = x.to_u128_r(width, round, &mut is_exact);
+    settled_unsigned(machine, x, width, plain)
 }
 
 /// A value as a signed integer.
@@ -218,12 +241,28 @@ fn to_signed<S: Flagged>(
     if !is_width(2, width) {
         return WRONG_WIDTH;
     }
-    let x = value::<S>(x);
-    let mut is_exact = false;
-    let whole = x.to_i128_r(width as usize, round, &mut is_exact);
-    let whole = settled_signed(machine, x, width as usize, whole);
+    let whole = signed_integer::<S>(machine, round, x, width as usize);
     *answer = Answer::of(whole.value.cast_unsigned(), whole.status, 0);
     ANSWERED
+}
+
+/// The signed integer.
+fn signed_integer<S: Flagged>(
+    machine: Machine,
+    round: Round,
+    x: u128,
+    width: usize,
+) -> StatusAnd<i128>
+    requires bits { S.PRECISION < S.BITS }
+    requires low { 2 ≤ width }
+    requires high { width ≤ 128 }
+    ensures { let c = constants_of S.Flagged in
+        Gives (IsMachineSigned (format_with c) machine round width (value_of c x)) result }
+{
+    let x = value::<S>(x);
+    let mut is_exact = false;
+    let plain = x.to_i128_r(width, round, &mut is_exact);
+    settled_signed(machine, x, width, plain)
 }
 
 /// The lesser of two values, by a rule.
