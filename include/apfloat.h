@@ -326,8 +326,8 @@ uint32_t apfloat_to_format(uint32_t operation, uint32_t format, uint32_t mode, u
 #define APFLOAT_ROUND_TO_INTEGRAL UINT32_C(9) /* with APFLOAT_INEXACT */
 #define APFLOAT_INTEGRAL UINT32_C(10)         /* without it */
 #define APFLOAT_CONVERT UINT32_C(11)          /* to the format `to` */
-#define APFLOAT_TO_U128 UINT32_C(12)          /* to an integer of `to` binary digits, as apfloat_to_u128 */
-#define APFLOAT_TO_I128 UINT32_C(13)          /* as apfloat_to_i128 */
+#define APFLOAT_TO_U128 UINT32_C(12)          /* to an unsigned integer of `to` binary digits, 1 to 128 */
+#define APFLOAT_TO_I128 UINT32_C(13)          /* to a signed one, 2 to 128 */
 #define APFLOAT_LEAST UINT32_C(14)            /* the minimum by the rule `to` */
 #define APFLOAT_GREATEST UINT32_C(15)         /* the maximum */
 
@@ -343,12 +343,12 @@ uint32_t apfloat_to_format(uint32_t operation, uint32_t format, uint32_t mode, u
 
 /* What the machine delivers for an operation on x, y and z, in the machine's order. Operands that the operation does
  * not take are ignored, and so is `to` where no operation above mentions it. `bits` is the result, and `number` is 0.
- * The formats have infinities. Without APFLOAT_IEEE_FLAGS too, the flags are those of IEEE 754, with tininess as the
- * machine detects it; with them, as the code says. In a conversion, that of `to` counts.
+ * The formats have infinities. The flags are those of IEEE 754: with APFLOAT_IEEE_FLAGS tininess is detected as the code
+ * says, and otherwise as the machine does it. In a conversion, the code `to` counts.
  *
  * The errors, in this order: APFLOAT_UNKNOWN_FORMAT and APFLOAT_UNKNOWN_MODE; APFLOAT_NO_SUCH_OPERATION for a format
- * without infinities, for an unknown operation or rule, and for a conversion to a format without infinities, to an
- * unknown one APFLOAT_UNKNOWN_FORMAT; APFLOAT_UNKNOWN_MACHINE; APFLOAT_WIDE_OPERAND if an operand has bits at or above
+ * without infinities, for an unknown operation or rule, and for a conversion to a format without infinities, and
+ * APFLOAT_UNKNOWN_FORMAT for one to an unknown format; APFLOAT_UNKNOWN_MACHINE; APFLOAT_WIDE_OPERAND if an operand has bits at or above
  * the width of its format, which other functions ignore; APFLOAT_WRONG_WIDTH; and APFLOAT_LACKING_OPERATION for fused
  * sums and unsigned integers of APFLOAT_MACHINE_X87. */
 uint32_t apfloat_machine(uint32_t machine, uint32_t operation, uint32_t format, uint32_t mode, uint32_t to,

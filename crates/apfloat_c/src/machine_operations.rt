@@ -197,8 +197,8 @@ fn to_unsigned<S: Flagged>(
     }
     match unsigned_integer::<S>(machine, round, x, width as usize) {
         None => LACKING_OPERATION,
-        Some(whole) => {
-            *answer = Answer::of(whole.value, whole.status, 0);
+        Some(integer) => {
+            *answer = Answer::of(integer.value, integer.status, 0);
             ANSWERED
         }
     }
@@ -215,9 +215,8 @@ fn unsigned_integer<S: Flagged>(
     requires low { 1 ≤ width }
     requires high { width ≤ 128 }
     ensures { let c = constants_of S.Flagged in
-        IsOffered (has_unsigned machine)
-        (λ given. Gives (IsMachineUnsigned (format_with c) machine round width (value_of c x)) given)
-        result }
+        let says = IsMachineUnsigned (format_with c) machine round width (value_of c x) in
+        IsOffered (has_unsigned machine) (λ given. Gives says given) result }
 {
     let x = value::<S>(x);
     let mut is_exact = false;
@@ -241,8 +240,8 @@ fn to_signed<S: Flagged>(
     if !is_width(2, width) {
         return WRONG_WIDTH;
     }
-    let whole = signed_integer::<S>(machine, round, x, width as usize);
-    *answer = Answer::of(whole.value.cast_unsigned(), whole.status, 0);
+    let integer = signed_integer::<S>(machine, round, x, width as usize);
+    *answer = Answer::of(integer.value.cast_unsigned(), integer.status, 0);
     ANSWERED
 }
 
