@@ -9,6 +9,14 @@
 #define WAY APFLOAT_MACHINE_ARM
 #define WAY_OF_EXTF80 APFLOAT_MACHINE_ARM
 #define TININESS softfloat_tininess_beforeRounding
+#elif defined(SOFTFLOAT_ARM_VFPV2_DEFAULTNAN)
+#define WAY APFLOAT_MACHINE_ARM_DEFAULT_NAN
+#define WAY_OF_EXTF80 APFLOAT_MACHINE_ARM_DEFAULT_NAN
+#define TININESS softfloat_tininess_beforeRounding
+#elif defined(SOFTFLOAT_8086)
+#define WAY APFLOAT_MACHINE_X87
+#define WAY_OF_EXTF80 APFLOAT_MACHINE_X87
+#define TININESS softfloat_tininess_afterRounding
 #elif defined(SOFTFLOAT_RISCV)
 #define WAY APFLOAT_MACHINE_RISC_V
 #define WAY_OF_EXTF80 APFLOAT_MACHINE_RISC_V
@@ -128,9 +136,12 @@ static uint32_t direction(uint_fast8_t mode) {
     }
 }
 
-/* The unit of the x87 has no unsigned integers; those of SSE are what SoftFloat has in their place. */
+/* The x87 unit has no unsigned integers and no fused sums. What SoftFloat has in their place is as in SSE: integers, and
+ * the default NaN, the only one that a fused sum of numbers and infinities gives. */
 static uint32_t machine_for(uint32_t operation, uint32_t format) {
-    return format == APFLOAT_X87 && operation != APFLOAT_TO_U128 ? WAY_OF_EXTF80 : WAY;
+    const uint32_t machine = format == APFLOAT_X87 ? WAY_OF_EXTF80 : WAY;
+    const bool is_lacking = operation == APFLOAT_TO_U128 || operation == APFLOAT_FMA;
+    return machine == APFLOAT_MACHINE_X87 && is_lacking ? APFLOAT_MACHINE_X86 : machine;
 }
 
 /* No call is refused: formats, operations and widths are known, and no value has bits above its width. */

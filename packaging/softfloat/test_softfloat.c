@@ -26,31 +26,53 @@ static void check(const char *call, bool is_same, unsigned flags) {
 #define WAY "ARM-VFPv2"
 #define OF_QUIET_AND_SIGNALING QUIETED
 #define OF_QUIET QUIET
+#define OF_DEFAULT_AND_QUIET POSITIVE_DEFAULT
 #define DEFAULT POSITIVE_DEFAULT
 #define TININESS softfloat_tininess_beforeRounding
-enum { IS_NEGATIVE_UNSIGNED_ZERO = 1 };
-#define UNSIGNED_OF_NAN(WIDTH) UINT64_C(0)
-#define SIGNED_OF_NAN(WIDTH) INT64_C(0)
+#elif defined(SOFTFLOAT_ARM_VFPV2_DEFAULTNAN)
+#define WAY "ARM-VFPv2-defaultNaN"
+#define OF_QUIET_AND_SIGNALING POSITIVE_DEFAULT
+#define OF_QUIET POSITIVE_DEFAULT
+#define OF_DEFAULT_AND_QUIET POSITIVE_DEFAULT
+#define DEFAULT POSITIVE_DEFAULT
+#define TININESS softfloat_tininess_beforeRounding
 #elif defined(SOFTFLOAT_RISCV)
 #define WAY "RISCV"
 #define OF_QUIET_AND_SIGNALING POSITIVE_DEFAULT
 #define OF_QUIET POSITIVE_DEFAULT
+#define OF_DEFAULT_AND_QUIET POSITIVE_DEFAULT
 #define DEFAULT POSITIVE_DEFAULT
 #define TININESS softfloat_tininess_afterRounding
-enum { IS_NEGATIVE_UNSIGNED_ZERO = 1 };
-#define UNSIGNED_OF_NAN(WIDTH) UINT##WIDTH##_MAX
-#define SIGNED_OF_NAN(WIDTH) INT##WIDTH##_MAX
+#elif defined(SOFTFLOAT_8086)
+#define WAY "8086"
+#define OF_QUIET_AND_SIGNALING QUIET
+#define OF_QUIET QUIET
+#define OF_DEFAULT_AND_QUIET QUIET
+#define DEFAULT NEGATIVE_DEFAULT
+#define TININESS softfloat_tininess_afterRounding
 #else
 #define WAY "8086-SSE"
 #define OF_QUIET_AND_SIGNALING QUIET
 #define OF_QUIET QUIET
+#define OF_DEFAULT_AND_QUIET NEGATIVE_DEFAULT
 #define DEFAULT NEGATIVE_DEFAULT
 #define TININESS softfloat_tininess_afterRounding
-enum { IS_NEGATIVE_UNSIGNED_ZERO = 0 };
+#endif
+
+/* The integers of NaNs, and that of a negative number as an unsigned one. */
+#if defined(SOFTFLOAT_ARM_VFPV2) || defined(SOFTFLOAT_ARM_VFPV2_DEFAULTNAN)
+#define UNSIGNED_OF_NAN(WIDTH) UINT64_C(0)
+#define SIGNED_OF_NAN(WIDTH) INT64_C(0)
+#define UNSIGNED_OF_NEGATIVE(WIDTH) UINT64_C(0)
+#elif defined(SOFTFLOAT_RISCV)
+#define UNSIGNED_OF_NAN(WIDTH) UINT##WIDTH##_MAX
+#define SIGNED_OF_NAN(WIDTH) INT##WIDTH##_MAX
+#define UNSIGNED_OF_NEGATIVE(WIDTH) UINT64_C(0)
+#else
 #define UNSIGNED_OF_NAN(WIDTH) UINT##WIDTH##_MAX
 #define SIGNED_OF_NAN(WIDTH) INT##WIDTH##_MIN
+#define UNSIGNED_OF_NEGATIVE(WIDTH) UINT##WIDTH##_MAX
 #endif
-#define UNSIGNED_OF_NEGATIVE(WIDTH) (IS_NEGATIVE_UNSIGNED_ZERO ? 0 : UINT##WIDTH##_MAX)
 
 /* ---- values, by their bits */
 
@@ -288,7 +310,9 @@ static float128_t f128P_mulAdd(float128_t a, float128_t b, float128_t c) {
 #define CHECK_FUSED(F, G) \
     do { \
         CHECK_VALUE(F, G##_mulAdd(VALUE(F, TWO), VALUE(F, ONE), VALUE(F, ONE)), THREE, 0); \
-        CHECK_VALUE(F, G##_mulAdd(VALUE(F, INFINITE), F##_of(bits(0, 0)), VALUE(F, QUIET)), DEFAULT, INVALID); \
+        CHECK_VALUE(F, G##_mulAdd(VALUE(F, INFINITE), F##_of(bits(0, 0)), VALUE(F, ONE)), DEFAULT, INVALID); \
+        CHECK_VALUE(F, G##_mulAdd(VALUE(F, INFINITE), F##_of(bits(0, 0)), VALUE(F, QUIET)), OF_DEFAULT_AND_QUIET, \
+                    INVALID); \
         CHECK_VALUE(F, G##_mulAdd(VALUE(F, ONE), VALUE(F, QUIET), VALUE(F, SIGNALING)), OF_QUIET_AND_SIGNALING, \
                     INVALID); \
         CHECK_VALUE(F, G##_mulAdd(VALUE(F, ONE), VALUE(F, ONE), VALUE(F, QUIET)), OF_QUIET, 0); \
