@@ -1,5 +1,5 @@
 -- The formats of machines have infinities.
-use Rattle.std.proofs.Common.{◌≡◌, Bool, true, false, Some, None, if◌then◌else◌, refl}
+use Rattle.std.proofs.Common.{◌≡◌, Bool, true, false, if◌then◌else◌, refl}
 use Rattle.apfloat_model.specs.declared.kinds.NonfiniteBehavior.TheVariants.{IEEE754}
 use Rattle.rustc_apfloat.specs.Lawful.{format_with}
 use Rattle.apfloat_machines.specs.declared.machine.Machine.{Machine}
