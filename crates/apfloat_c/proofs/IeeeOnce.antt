@@ -16,9 +16,9 @@ use Rattle.apfloat_format_of.proofs.Once.{has_one_sum, has_one_difference, has_o
 use Rattle.apfloat_format_of.proofs.Once.{has_one_fused_sum, has_one_root}
 use Rattle.formats_at_run_time.specs.declared.FlaggedKind.TheVariants.{OfFormat, Pairs}
 use Rattle.formats_at_run_time.specs.BuiltIns.{constants_in}
-use Rattle.formats_at_run_time.specs.FlaggedKinds.{flagged_constants, flagged_kind_of, format_without_rule}
+use Rattle.formats_at_run_time.specs.FlaggedKinds.{flagged_constants, format_without_rule}
 use Rattle.formats_at_run_time.specs.Relations.{in_format}
-use Rattle.formats_at_run_time.specs.ValueKinds.{Kind, of_format, of_pairs, value_of}
+use Rattle.formats_at_run_time.specs.ValueKinds.{value_of}
 use Rattle.apfloat_c.specs.declared.ieee_call.IeeeCall.{IeeeCall}
 use Rattle.apfloat_c.specs.declared.ieee_call.IeeeCall.TheVariants.{Predicated, TotalOrder, ExtremumOf}
 use Rattle.apfloat_c.specs.declared.ieee_call.IeeeCall.TheVariants.{LogB, ScaleB, Integral}
