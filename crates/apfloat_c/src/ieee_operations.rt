@@ -1,35 +1,31 @@
 //! The operations of IEEE 754-2019 that `Float` lacks, and the exports that make them.
 
-ghost use Rattle.std.specs.Prelude.{◌≡◌, ◌<◌, pos, Some};
+ghost use Rattle.std.specs.Prelude.{◌≡◌, ◌<◌, Some};
 ghost use Rattle.rustc_apfloat.specs.declared.Round.TheVariants.{NearestTiesToEven};
-ghost use Rattle.rustc_apfloat.specs.Flags.{bits_of};
 ghost use Rattle.rustc_apfloat.specs.FlaggedTypes.{constants_of};
 ghost use Rattle.formats_at_run_time.specs.FlaggedKinds.{flagged_kind_coded};
 ghost use Rattle.formats_at_run_time.specs.Modes.{mode_coded};
-ghost use Rattle.formats_at_run_time.specs.Relations.{in_format};
-ghost use Rattle.formats_at_run_time.specs.ValueKinds.{value_of};
 ghost use Rattle.apfloat_c.specs.declared.ieee_call.IeeeCall.TheVariants.{TotalOrder, LogB, ScaleB, Integral};
-ghost use Rattle.apfloat_c.specs.Answers.{IsWritten, one_if, whole};
+ghost use Rattle.apfloat_c.specs.Answers.{whole};
 ghost use Rattle.apfloat_c.specs.FlaglessCalls.{is_set};
 ghost use Rattle.apfloat_c.specs.IeeeCalls.{IsIeeeAnswer, IsIeeeReply, IsIeeeReplyIn, IsInAnother, IsInAnotherKind};
 ghost use Rattle.apfloat_c.specs.IeeeCalls.{IsInAnotherReply, IsInAnotherFormat};
 ghost use Rattle.apfloat_c.specs.IeeeCalls.{comparison_call, extremum_call, extremum_coded, on_nan_coded};
-ghost use Rattle.apfloat_c.specs.IeeeCalls.{operation_coded, predicate_coded, IsExtremumBy};
+ghost use Rattle.apfloat_c.specs.IeeeCalls.{operation_coded, predicate_coded};
 
-use crate::codes::{
-    ANSWERED, NEAREST_EVEN, NO_SUCH_OPERATION, UNKNOWN_FORMAT, UNKNOWN_MODE, one_if, order_code,
-};
+use crate::codes::{ANSWERED, NEAREST_EVEN, NO_SUCH_OPERATION, UNKNOWN_FORMAT, UNKNOWN_MODE};
 use crate::data::{Answer, Halves};
+use crate::ieee_answers::{
+    difference_to, extreme, fused_sum_to, in_total_order, integral, logarithm, predicated,
+    product_to, quotient_to, root_to, scaled_by, sum_to,
+};
 use crate::ieee_call::{
     IeeeCall, InAnotherCall, comparison_call, extremum_call, extremum_coded, on_nan_coded,
     operation_coded, predicate_coded,
 };
-use apfloat_comparisons::{
-    Extremum, compare, extremum_number_of, extremum_of, log_b, round_to_integral_in, total_cmp,
-};
 use formats_at_run_time::{FillsInFormat, FillsInKind, FlaggedFormat, FlaggedKind, mode_coded};
-use rustc_apfloat::ieee::{Flagged, IeeeFloat};
-use rustc_apfloat::{Float, Round, StatusAnd};
+use rustc_apfloat::Round;
+use rustc_apfloat::ieee::Flagged;
 use std::marker::PhantomData;
 
 /// A call, if its code is known, with the code of its rounding mode.
@@ -89,59 +85,16 @@ fn ieee_answer<S: Flagged>(round: Round, call: IeeeCall) -> Answer
 {
     match call {
         IeeeCall::Predicated(predicate, on_nan, x, y) => {
-            told(compare(predicate, on_nan, value::<S>(x), value::<S>(y)))
+            predicated::<S>(round, predicate, on_nan, x, y)
         }
-        IeeeCall::TotalOrder(x, y) => {
-            Answer::number(order_code(Some(total_cmp(value::<S>(x), value::<S>(y)))))
-        }
+        IeeeCall::TotalOrder(x, y) => in_total_order::<S>(round, x, y),
         IeeeCall::ExtremumOf(which, prefers_number, x, y) => {
-            written(extremum(which, prefers_number, value::<S>(x), value::<S>(y)))
+            extreme::<S>(round, which, prefers_number, x, y)
         }
-        IeeeCall::LogB(x) => written(log_b(value::<S>(x), round)),
-        IeeeCall::ScaleB(x, power) => written(value::<S>(x).scale_b(power, round)),
-        IeeeCall::Integral(x) => written(round_to_integral_in(value::<S>(x), round)),
+        IeeeCall::LogB(x) => logarithm::<S>(round, x),
+        IeeeCall::ScaleB(x, power) => scaled_by::<S>(round, x, power),
+        IeeeCall::Integral(x) => integral::<S>(round, x),
     }
-}
-
-/// A minimum or a maximum.
-fn extremum<S: Flagged>(
-    which: Extremum,
-    prefers_number: bool,
-    x: IeeeFloat<S>,
-    y: IeeeFloat<S>,
-) -> StatusAnd<IeeeFloat<S>>
-    ensures { IsExtremumBy prefers_number (constants_of S.Flagged) which x y result }
-{
-    if prefers_number {
-        extremum_number_of(which, x, y)
-    } else {
-        extremum_of(which, x, y)
-    }
-}
-
-/// The value of bits.
-pub fn value<S: Flagged>(bits: u128) -> IeeeFloat<S>
-    requires { S.PRECISION < S.BITS }
-    ensures { result ≡ value_of (constants_of S.Flagged) bits }
-{
-    IeeeFloat::from_bits(bits)
-}
-
-/// A truth value with its flags.
-fn told(answer: StatusAnd<bool>) -> Answer
-    ensures bits { whole result.bits ≡ 0 }
-    ensures status { result.status ≡ bits_of answer.status }
-    ensures number { result.number ≡ one_if answer.value }
-{
-    Answer::of(0, answer.status, one_if(answer.value))
-}
-
-/// A value with its flags.
-pub fn written<S: Flagged>(answer: StatusAnd<IeeeFloat<S>>) -> Answer
-    requires { S.PRECISION < S.BITS }
-    ensures { IsWritten (in_format (constants_of S.Flagged)) answer (pos 0) result }
-{
-    Answer::of(answer.value.to_bits(), answer.status, 0)
 }
 
 /// A call whose result is of another format, which may be any.
@@ -207,20 +160,12 @@ fn in_another<S: Flagged, T: Flagged>(round: Round, call: InAnotherCall) -> Answ
         result }
 {
     match call {
-        InAnotherCall::SumTo(x, y) => { written(value::<S>(x).add_to::<T>(value::<S>(y), round)) }
-        InAnotherCall::DifferenceTo(x, y) => {
-            written(value::<S>(x).sub_to::<T>(value::<S>(y), round))
-        }
-        InAnotherCall::ProductTo(x, y) => {
-            written(value::<S>(x).mul_to::<T>(value::<S>(y), round))
-        }
-        InAnotherCall::QuotientTo(x, y) => {
-            written(value::<S>(x).div_to::<T>(value::<S>(y), round))
-        }
-        InAnotherCall::FusedSumTo(x, y, z) => {
-            written(value::<S>(x).mul_add_to::<T>(value::<S>(y), value::<S>(z), round))
-        }
-        InAnotherCall::RootTo(x) => written(value::<S>(x).sqrt_to::<T>(round)),
+        InAnotherCall::SumTo(x, y) => sum_to::<S, T>(round, x, y),
+        InAnotherCall::DifferenceTo(x, y) => difference_to::<S, T>(round, x, y),
+        InAnotherCall::ProductTo(x, y) => product_to::<S, T>(round, x, y),
+        InAnotherCall::QuotientTo(x, y) => quotient_to::<S, T>(round, x, y),
+        InAnotherCall::FusedSumTo(x, y, z) => fused_sum_to::<S, T>(round, x, y, z),
+        InAnotherCall::RootTo(x) => root_to::<S, T>(round, x),
     }
 }
 

@@ -18,6 +18,7 @@ mod exported_call;
 mod exports;
 mod flagless;
 mod flagless_call;
+mod ieee_answers;
 mod ieee_call;
 mod ieee_operations;
 mod machine_call;

@@ -23,7 +23,7 @@ use crate::codes::{
     WIDE_OPERAND, WRONG_WIDTH, is_width,
 };
 use crate::data::{Answer, Halves};
-use crate::ieee_operations::{value, written};
+use crate::ieee_answers::{value, written};
 use crate::machine_call::{MachineCall, MachineFormat, machine_call, machine_coded, operands_fit};
 use apfloat_comparisons::round_to_integral_in;
 use apfloat_machines::{
