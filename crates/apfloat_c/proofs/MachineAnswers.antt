@@ -1,6 +1,5 @@
 -- From the answers of the library to those of a machine.
-use Rattle.std.proofs.Common.{◌≡◌, ℕ, Bool, true, Option, Some, None, subst}
-use Rattle.std.proofs.Math.Path.{subst₂}
+use Rattle.std.proofs.Common.{◌≡◌, ℕ, Bool, true, Option, Some, None}
 use Rattle.rustc_apfloat.specs.declared.Round.{Round}
 use Rattle.rustc_apfloat.specs.declared.StatusAnd.{StatusAnd}
 use Rattle.rustc_apfloat.specs.Datum.{Datum}
@@ -40,12 +39,6 @@ pub offered : {A : Type 0} (has : Bool) (Says Tells : A → Type 0) (result : Op
     → ((answer : A) → Says answer → Tells answer) → IsOffered has Says result → IsOffered has Tells result
 offered has Says Tells None implies said = said
 offered has Says Tells (Some answer) implies said = (said.0, implies answer said.1)
-
--- of three equal data, a property of the ones is one of the others
-pub replaced : {x y z a b d : Datum} (Holds : Datum → Datum → Datum → Type 0) → x ≡ a → y ≡ b → z ≡ d
-    → Holds x y z → Holds a b d
-replaced {x} {y} {z} {a} {b} {d} Holds x_is y_is z_is holds =
-    subst (λ t. Holds a b t) z_is (subst₂ (λ t u. Holds t u z) x_is y_is holds)
 
 -- what a call leaves is the reply to the request, unless it has a fault
 left_replied : (fault : Option ℕ) (known : MachineRequest) (old new : Answer) (code : ℕ)
