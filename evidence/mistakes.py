@@ -97,6 +97,8 @@ MISTAKES = {
         ("apfloat_arithmetic", "-u128-sum", f"quad sub down {ONE} {ONE}\t{quad('8')} OK"),
         ("apfloat_arithmetic", "-fused-sum", CANCELLED),
         ("apfloat_arithmetic", "-wide-fused-sum", QUAD_CANCELLED),
+        ("apfloat_arithmetic", "-zeros", "half add even 8000 0000\t0000 OK"),
+        ("apfloat_arithmetic", "-zero-product", "half fma down 0000 3c00 8000\t8000 OK"),
     ],
     "remainder-rounds-quotient": [("apfloat_arithmetic", "", "half rem even 7bff 4200\tbc00 OK")],
     "conversion-drops-or-rounds-twice": [
@@ -196,6 +198,7 @@ MISTAKES = {
             "-conversion",
             call("convert_r", "half>e4m3fnuz", "even", "8000", "00", "INEXACT", "loses_info=true"),
         ),
+        ("apfloat_conversions", "-next-up", call("next_up", "e4m3fnuz", "-", "81", "00", "OK", "-")),
         ("apfloat_hex_texts", "-text", "e4m3fnuz parse even -0x0p0\t00 OK"),
     ],
     "pair-product-drops-low-cross-term": [

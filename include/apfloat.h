@@ -1,13 +1,16 @@
-/* Correctly rounded software floating point: the library libapfloat_c.a, C99.
+/* Correctly rounded software floating point, C99. Two libraries have these functions, with the same answers: the proved
+ * one, which `rt lib` makes as libapfloat_c.a, and the same text by rustc, which cargo makes as libapfloat.a.
+ * docs/CALLING_FROM_C.md has their names once installed.
  *
  * A function on values takes them as their bits, with a code for the format and, if it rounds, one for the rounding
  * mode, and writes its result through a pointer. It returns APFLOAT_ANSWERED, or the code of the first error, in the
  * order in which these codes are listed, unless the function says another; on an error, *answer is unchanged.
  *
- * The library never allocates, keeps no state between calls, and calls no functions outside itself other than the
- * compiler's own division of 128-bit integers, and memcpy and memset, which compilers call everywhere. So its functions
- * may be called from any thread, and from a signal handler. Given valid pointers, they are defined for every value of
- * every argument: no code, bit pattern, width or text causes undefined behaviour.
+ * The library never allocates, keeps no state between calls, and calls no functions outside itself other than memcpy
+ * and memset, which compilers call everywhere, and one more: the proved one the compiler's own division of 128-bit
+ * integers, and the one by rustc abort, for tests that rustc leaves in and that never fail. So its functions may be
+ * called from any thread, and from a signal handler. Given valid pointers, they are defined for every value of every
+ * argument: no code, bit pattern, width or text causes undefined behaviour.
  *
  * Pointers are not checked. The caller must ensure that:
  *
@@ -22,7 +25,8 @@
  * - `answer` and `text` do not overlap. Values and integers are passed by value, so an answer may overwrite an operand:
  *   apfloat_add(f, m, a.bits, b, &a) is fine.
  *
- * The result of each function is stated by the contract of its export in crates/apfloat_c, and proved. */
+ * The result of each function is stated by the contract of its export in crates/apfloat_c. Of the library that `rt lib`
+ * makes it is proved; of the one by rustc no proof is claimed. */
 #ifndef APFLOAT_H
 #define APFLOAT_H
 

@@ -327,8 +327,8 @@ struct e4m3fnuz : detail::binary<e4m3fnuz, APFLOAT_E4M3FNUZ, std::uint8_t, 8, 4,
     static constexpr detail::constants<bits_type> constants = {1, 0x08, 0x7f, 0, 0x80, 0, 0x28, 0x38};
 };
 
-/// Pairs of doubles, IBM's extended double. They have no fused sum, no conversion to or from a format, and no shortest
-/// decimal, and what std::numeric_limits says of them is not all that it says of the other formats.
+/// Pairs of doubles, IBM's extended double. The library for C has no fused sum, no conversion to or from a format, and
+/// no shortest decimal of them, and what std::numeric_limits says of them is not all that it says of the other formats.
 struct double_pair : detail::binary<double_pair, APFLOAT_DOUBLE_PAIR, bits128, 128, 106, -969, 1023> {
     static constexpr bool is_pair = true, has_ieee_flags = false;
     static constexpr detail::constants<bits_type> constants = {

@@ -64,10 +64,11 @@ fn with_value<S: Semantics>(sum: u128, answer: StatusAnd<IeeeFloat<S>>) -> u128
 }
 
 /// The two values of a pair.
-fn pair<S: Semantics>(number: u128) -> (IeeeFloat<S>, IeeeFloat<S>)
+fn pair<S: Semantics>(number: u64) -> (IeeeFloat<S>, IeeeFloat<S>)
     requires { S.PRECISION < S.BITS }
 {
-    (S::from_bits(number / 256), S::from_bits(number % 256))
+    let bits = u128::from(number);
+    (S::from_bits(bits / 256), S::from_bits(bits % 256))
 }
 
 /// The checksum of all comparisons and extrema, and of the total order.
@@ -75,7 +76,7 @@ fn comparisons<S: Semantics>() -> u128
     requires { S.PRECISION < S.BITS }
 {
     let mut sum = 0;
-    for number in 0..1 << 16 {
+    for number in 0..1u64 << 16 {
         let (x, y) = pair::<S>(number);
         for predicate in &PREDICATES {
             let quiet = compare(*predicate, OnNan::Quiet, x, y);
@@ -98,7 +99,7 @@ fn in_another<S: Semantics, T: Semantics>() -> u128
     requires target { T.PRECISION < T.BITS }
 {
     let mut sum = 0;
-    for number in 0..1 << 16 {
+    for number in 0..1u64 << 16 {
         let (x, y) = pair::<S>(number);
         for round in &MODES {
             sum = with_value(sum, x.add_to::<T>(y, *round));
@@ -131,8 +132,8 @@ fn of_one<S: Semantics>() -> u128
     requires { S.PRECISION < S.BITS }
 {
     let mut sum = 0;
-    for bits in 0..256 {
-        let x = S::from_bits(bits);
+    for bits in 0..256u64 {
+        let x = S::from_bits(u128::from(bits));
         let exponent = integer_log_b(x);
         let negative = exponent.value < 0;
         sum = with_truth(sum, negative, exponent.status.bits());

@@ -355,14 +355,20 @@ impl<S: Semantics> IeeeFloat<S> {
         apfloat_ieee::IeeeFloat::packed(self.value)
     }
 
+    /// The value in a format whose values the library writes in decimal digits; it does not compile in another.
+    #[inline]
+    pub(crate) fn written(self) -> apfloat_ieee::IeeeFloat<PlainS<S>> {
+        let () = LawOfFormat::<S>::IS_WRITTEN;
+        self.plain()
+    }
+
     /// The shortest decimal that gives the value when it is rounded to nearest, ties to even, and of those the nearest;
     /// infinities and NaNs have none. It does not compile in a format of more digits or farther exponents than `Quad`.
     ///
     /// The crate `rustc_apfloat` has no such call.
     pub fn shortest(self) -> Option<Decimal> {
-        let () = LawOfFormat::<S>::IS_WRITTEN;
         let () = LawOfFormat::<S>::HAS_SHORTEST;
-        apfloat_decimals::shortest(self.plain())
+        apfloat_decimals::shortest(self.written())
     }
 
     /// The decimal that equals the value, if its digits are below 2^128; infinities and NaNs have none.
@@ -381,9 +387,8 @@ impl<S: Semantics> IeeeFloat<S> {
     ///
     /// Unless the count is from 1 to 36.
     pub fn rounded_decimal(self, count: u32, round: Round) -> Option<(Decimal, bool)> {
-        let () = LawOfFormat::<S>::IS_WRITTEN;
         assert!((1..=36).contains(&count), "a value is rounded to 1 to 36 digits, and not to {count}");
-        apfloat_decimals::rounded(self.plain(), count, round)
+        apfloat_decimals::rounded(self.written(), count, round)
     }
 
     /// The square root, rounded once. The crate `rustc_apfloat` has none.
@@ -404,6 +409,15 @@ impl<S: Semantics> IeeeFloat<S> {
     #[inline]
     pub fn scale_b(self, places: ExpInt, round: Round) -> StatusAnd<Self> {
         Self::answered(self.inner().scale_b(places, round))
+    }
+
+    /// The remainder that `c_fmod` returns, and how many ones there are among the binary digits of the quotient
+    /// truncated toward zero: the subtractions that long division takes to find it. The time grows with that number, as
+    /// that of `c_fmod` does not. The crate `rustc_apfloat` has no such call.
+    #[inline]
+    pub fn c_fmod_steps(self, rhs: Self) -> (StatusAnd<Self>, u32) {
+        let (remainder, steps) = self.inner().c_fmod_steps(rhs.inner());
+        (Self::answered(remainder), steps)
     }
 }
 

@@ -16,7 +16,8 @@ use core::ops::Neg;
 ///
 /// Pairs of doubles are the library's. Pairs of another type are composed of that type's calls, in the same way, and of
 /// calls of their wide format, [`FallbackS`], whose flags are those of the built-in formats. Where the wide format is
-/// outside the law of formats, as it is for `Half`, `X87DoubleExtended` and `Quad`, such a pair does not compile.
+/// outside the law of formats, as it is for `Half`, `X87DoubleExtended` and `Quad`, only what does without it compiles:
+/// sums, products, signs, classes, orders, exponents and scaling.
 ///
 /// ```
 /// use rustc_apfloat::{Float, ieee::Single, ppc::DoubleFloat};

@@ -1,11 +1,15 @@
 //! The rows of `crates/check_vectors/stdin`: known answers, from elsewhere, of calls and commands. `docs/VECTORS.md` of
 //! the repository says what a row means.
 
+use rustc_apfloat::decimal_digits::{self, Written};
 use rustc_apfloat::ieee::*;
 use rustc_apfloat::ppc::{DoubleDouble, FallbackExtendedS, FallbackS};
-use rustc_apfloat::{Category, Decimal, ExpInt, Float, FloatConvert, ParseError, Round, Status, StatusAnd};
+use rustc_apfloat::{
+    Category, Decimal, ExpInt, Float, FloatConvert, ParseError, Round, Status, StatusAnd, comparisons,
+};
 use std::cmp::Ordering;
-use std::fmt::Debug;
+use std::collections::BTreeSet;
+use std::fmt::{Debug, Display};
 
 const MODES: [(&str, Round); 5] = [
     ("even", Round::NearestTiesToEven),
@@ -88,13 +92,17 @@ impl Type for DoubleDouble {
     }
 }
 
-/// Whether a row agrees, or that the crate has no such call.
+/// Whether a row agrees, or what the crate has no call for.
 #[derive(Clone, Debug, PartialEq)]
 enum Outcome {
     Agrees,
     Differs(String),
-    NoCall,
+    NoCall(&'static str),
 }
+
+/// What the crate has no call for: it multiplies in every format, its `Debug` is the other crate's, it reads the
+/// decimals that the library's `from_str_r` refuses, and it has no commands, which refuse words.
+const WITHOUT_CALL: [&str; 4] = ["MULTIPLIES", "a refused decimal", "a refused word of a command", "debug"];
 
 /// A row of seven columns in one mode.
 #[derive(Clone, Copy)]
@@ -174,16 +182,16 @@ fn names(status: Status) -> String {
     if names.is_empty() { "OK".to_owned() } else { names.join("|") }
 }
 
-/// Whether the flags of a row are these, in any order.
-fn are_flags(column: &str, status: Status) -> bool {
-    let named = column.split('|').map(|name| Status::from_name(name).unwrap()).collect::<Status>();
-    column == "-" || named == status
+/// The flags of a word, in any order.
+fn flags(word: &str) -> Status {
+    word.split('|').map(|name| Status::from_name(name).unwrap()).collect()
 }
 
-fn differs<T>(given: impl std::fmt::Display, more: Option<T>) -> Outcome
-where
-    T: std::fmt::Display,
-{
+fn are_flags(column: &str, status: Status) -> bool {
+    column == "-" || flags(column) == status
+}
+
+fn differs<T: Display>(given: impl Display, more: Option<T>) -> Outcome {
     let more = more.map_or(String::new(), |more| format!(" {more}"));
     Outcome::Differs(format!("{given}{more}"))
 }
@@ -248,7 +256,7 @@ fn rounded<F: Type>(row: Row<'_>) -> Outcome {
         "from_u128_r" => Given::Answer(F::from_u128_r(row.number(0), round)),
         "from_str_r" => match F::from_str_r(row.operands, round) {
             // The library's own calls refuse decimals with these words; here they are read.
-            _ if row.value == "Not a special or hexadecimal literal" => return Outcome::NoCall,
+            _ if row.value == "Not a special or hexadecimal literal" => return Outcome::NoCall("a refused decimal"),
             Ok(answer) => Given::Answer(answer),
             Err(error) => Given::Refused(error),
         },
@@ -277,8 +285,7 @@ fn in_type<F: Type>(row: Row<'_>) -> Outcome {
         "mul_add" => Given::Answer(x().mul_add(y(), z())),
         "sqrt" => Given::Answer(x().sqrt_of(Round::NearestTiesToEven)),
         "ieee_rem" => Given::Answer(x().ieee_rem(y())),
-        // The count of steps is of the library alone.
-        "c_fmod" | "c_fmod_steps" => Given::Answer(x().c_fmod(y())),
+        "c_fmod" => Given::Answer(x().c_fmod(y())),
         "round_to_integral" => Given::Answer(x().round_to_integral(round)),
         "next_up" => Given::Answer(x().next_up()),
         "next_down" => Given::Answer(x().next_down()),
@@ -337,7 +344,9 @@ fn in_type<F: Type>(row: Row<'_>) -> Outcome {
             };
             Given::Number(answer.status, answer.value.to_string())
         }
-        "from_str" if row.value == "Not a special or hexadecimal literal" => return Outcome::NoCall,
+        "from_str" if row.value == "Not a special or hexadecimal literal" => {
+            return Outcome::NoCall("a refused decimal");
+        }
         "from_str" => match row.operands.parse::<F>() {
             Ok(x) => Given::Value(x),
             Err(error) => Given::Refused(error),
@@ -387,11 +396,94 @@ fn in_type<F: Type>(row: Row<'_>) -> Outcome {
         "is_smallest_normalized" => truth(x().is_smallest_normalized()),
         "is_largest" => truth(x().is_largest()),
         "is_negative" => truth(x().is_negative()),
-        // Of the library alone.
-        "MULTIPLIES" | "debug" => return Outcome::NoCall,
+        "MULTIPLIES" => return Outcome::NoCall("MULTIPLIES"),
+        "debug" => return Outcome::NoCall("debug"),
         _ => return rounded::<F>(row),
     };
     row.compared(given, more)
+}
+
+/// What the call of `comparisons` returns that a row names, if it is one of these: what takes the answer, the operands,
+/// and the calls.
+macro_rules! comparison {
+    ($row:ident: $($given:ident $operands:tt: $($name:ident)*;)*) => {
+        match $row.call {
+            $($(call if call == stringify!($name) => Some($given(comparisons::$name $operands)),)*)*
+            _ => None,
+        }
+    };
+}
+
+fn answer<F>(answer: StatusAnd<F>) -> Given<F> {
+    Given::Answer(answer)
+}
+
+fn number<F, T: Display>(answer: StatusAnd<T>) -> Given<F> {
+    Given::Number(answer.status, answer.value.to_string())
+}
+
+fn shown<F, T: Debug>(value: T) -> Given<F> {
+    Given::Text(format!("{value:?}"))
+}
+
+fn raised<F>(status: Status) -> Given<F> {
+    Given::Number(status, "-".to_owned())
+}
+
+/// The outcome of a row of a call that `Float` lacks, in a format; none for other calls.
+fn operated<S: Semantics>(row: Row<'_>) -> Option<Outcome> {
+    let round = row.round;
+    let x = || row.operand::<IeeeFloat<S>>(0);
+    let y = || row.operand::<IeeeFloat<S>>(1);
+    let mut more = None;
+    let given = match row.call {
+        "scale_b" => Given::Answer(x().scale_b(row.number(1), round)),
+        "c_fmod_steps" => {
+            let (remainder, steps) = x().c_fmod_steps(y());
+            let bound = x().ilogb().saturating_sub(y().ilogb()).saturating_add(1).max(0);
+            more = Some(match row.more.contains("bound") {
+                true => format!("steps={steps} bound={bound}"),
+                false => format!("steps={steps}"),
+            });
+            Given::Answer(remainder)
+        }
+        "is_canonical_encoding" => {
+            shown(comparisons::is_canonical_encoding::<S>(u128::from_str_radix(row.operands, 16).unwrap()))
+        }
+        _ => comparison! { row:
+            number (x(), y()):
+                compare_quiet_equal compare_quiet_not_equal compare_quiet_greater compare_quiet_greater_equal
+                compare_quiet_less compare_quiet_less_equal compare_quiet_unordered compare_quiet_ordered
+                compare_quiet_not_greater compare_quiet_less_unordered compare_quiet_not_less
+                compare_quiet_greater_unordered compare_signaling_equal compare_signaling_not_equal
+                compare_signaling_greater compare_signaling_greater_equal compare_signaling_less
+                compare_signaling_less_equal compare_signaling_not_greater compare_signaling_less_unordered
+                compare_signaling_not_less compare_signaling_greater_unordered;
+            shown (x(), y()): total_order total_order_mag total_cmp;
+            shown (x()): class_of radix is_canonical;
+            answer (x(), y()):
+                minimum_of maximum_of minimum_magnitude_of maximum_magnitude_of minimum_number_of maximum_number_of
+                minimum_magnitude_number_of maximum_magnitude_number_of;
+            answer (x(), round): log_b round_to_integral_in;
+            number (x()): integer_log_b;
+            number (x(), row.number(1), round): convert_to_signed convert_to_signed_exact;
+            number (x(), row.number(1), round): convert_to_unsigned convert_to_unsigned_exact;
+        }?,
+    };
+    Some(row.compared(given, more))
+}
+
+/// The outcome of a row of an operation on flags.
+fn on_flags(row: Row<'_>) -> Outcome {
+    let words = row.words();
+    let set = |i: usize| flags(words[i]);
+    let given: Option<Given<Half>> = comparison! { row:
+        raised (set(0), set(1)): lower_flags raise_flags;
+        raised (set(0)): save_all_flags;
+        raised (set(0), set(1), set(2)): restore_flags;
+        shown (set(0), set(1)): test_flags test_saved_flags;
+    };
+    row.compared(given.unwrap_or_else(|| panic!("no call {}", row.call)), None)
 }
 
 /// Runs a macro with a format of rows, from a list of them.
@@ -437,32 +529,49 @@ macro_rules! with_ieee_format {
 fn decimals<S: Semantics>(row: Row<'_>) -> Outcome {
     let x: IeeeFloat<S> = row.operand(0);
     let text = |decimal: Option<Decimal>| decimal.map_or("None".to_owned(), |decimal| decimal.to_string());
+    let mut more = None;
     let given = match row.call {
         "shortest" => Given::Text(text(x.shortest())),
         "exact" => Given::Text(text(x.exact_decimal())),
-        _ => {
+        "rounded" => {
             let answer = x.rounded_decimal(row.number(1), row.round);
-            let more = answer.map(|(_, exact)| format!("is_exact={exact}"));
-            return row.compared::<IeeeFloat<S>>(Given::Text(text(answer.map(|answer| answer.0))), more);
+            more = answer.map(|(_, exact)| format!("is_exact={exact}"));
+            Given::Text(text(answer.map(|answer| answer.0)))
         }
+        "digit_count" => {
+            Given::Text(decimal_digits::digit_count(x).map_or("None".to_owned(), |count| count.to_string()))
+        }
+        "write_digits" => {
+            let mut digits = vec![0; row.number(1)];
+            match decimal_digits::write_digits(x, row.round, &mut digits) {
+                Written::Digits(answer) => {
+                    more = Some(format!("exponent={}", answer.value));
+                    Given::Number(answer.status, String::from_utf8(digits).unwrap())
+                }
+                Written::WithoutDigits(_) => Given::Text("None".to_owned()),
+                Written::NoRoom => Given::Text("no room".to_owned()),
+            }
+        }
+        call => panic!("no call {call}"),
     };
-    row.compared::<IeeeFloat<S>>(given, None)
+    row.compared::<IeeeFloat<S>>(given, more)
 }
 
 fn call(format: &str, row: Row<'_>) -> Outcome {
     macro_rules! plain {
         ($S:ty) => {
-            in_type::<IeeeFloat<$S>>(row)
+            operated::<$S>(row).unwrap_or_else(|| in_type::<IeeeFloat<$S>>(row))
         };
     }
     macro_rules! raised {
         ($S:ty) => {
-            rounded::<IeeeFloat<IeeeFlags<$S>>>(row)
+            operated::<IeeeFlags<$S>>(row).unwrap_or_else(|| rounded::<IeeeFloat<IeeeFlags<$S>>>(row))
         };
     }
     macro_rules! raised_before {
         ($S:ty) => {
-            rounded::<IeeeFloat<IeeeFlags<TinyBefore<$S>>>>(row)
+            operated::<IeeeFlags<TinyBefore<$S>>>(row)
+                .unwrap_or_else(|| rounded::<IeeeFloat<IeeeFlags<TinyBefore<$S>>>>(row))
         };
     }
     macro_rules! written {
@@ -471,10 +580,13 @@ fn call(format: &str, row: Row<'_>) -> Outcome {
         };
     }
     match format.split_once('+').unwrap_or((format, "")) {
+        ("-", _) => on_flags(row),
         ("dd", _) => in_type::<DoubleDouble>(row),
         (name, "ieee") => with_ieee_format!(name, raised),
         (name, "ieee+before") => with_ieee_format!(name, raised_before),
-        (name, _) if matches!(row.call, "shortest" | "exact" | "rounded") => with_built_in_format!(name, written),
+        (name, _) if matches!(row.call, "shortest" | "exact" | "rounded" | "write_digits" | "digit_count") => {
+            with_built_in_format!(name, written)
+        }
         (name, _) => with_format!(name, plain),
     }
 }
@@ -517,6 +629,46 @@ fn convert_from_with_flags<S: Semantics>(target: &str, row: Row<'_>) -> Outcome 
     }
 }
 
+/// The outcome of a row of an operation whose result is of another format.
+fn operated_to<S: Semantics, T: Semantics>(row: Row<'_>) -> Outcome {
+    let round = row.round;
+    let x = || row.operand::<IeeeFloat<S>>(0);
+    let y = || row.operand::<IeeeFloat<S>>(1);
+    let answer: StatusAnd<IeeeFloat<T>> = match row.call {
+        "add_to" => x().add_to(y(), round),
+        "sub_to" => x().sub_to(y(), round),
+        "mul_to" => x().mul_to(y(), round),
+        "div_to" => x().div_to(y(), round),
+        "sqrt_to" => x().sqrt_to(round),
+        "mul_add_to" => x().mul_add_to(y(), row.operand(2), round),
+        call => panic!("no call {call}"),
+    };
+    row.compared(Given::Answer(answer), None)
+}
+
+fn operated_from<S: Semantics>(target: &str, row: Row<'_>) -> Outcome {
+    macro_rules! plain {
+        ($T:ty) => {
+            operated_to::<S, $T>(row)
+        };
+    }
+    macro_rules! raised {
+        ($T:ty) => {
+            operated_to::<S, IeeeFlags<$T>>(row)
+        };
+    }
+    macro_rules! raised_before {
+        ($T:ty) => {
+            operated_to::<S, IeeeFlags<TinyBefore<$T>>>(row)
+        };
+    }
+    match target.split_once('+').unwrap_or((target, "")) {
+        (name, "ieee") => with_ieee_format!(name, raised),
+        (name, "ieee+before") => with_ieee_format!(name, raised_before),
+        (name, _) => with_format!(name, plain),
+    }
+}
+
 fn conversion(source: &str, target: &str, row: Row<'_>) -> Outcome {
     type Wide = IeeeFloat<FallbackS<Double>>;
     match (source, target) {
@@ -538,25 +690,23 @@ fn conversion(source: &str, target: &str, row: Row<'_>) -> Outcome {
             convert_from_with_flags::<$S>(target, row)
         };
     }
+    macro_rules! operation_from {
+        ($S:ty) => {
+            operated_from::<$S>(target, row)
+        };
+    }
     // The source is read in the plain format.
     let name = source.split('+').next().unwrap();
+    if row.call.ends_with("_to") {
+        return with_built_in_format!(name, operation_from);
+    }
     if target.contains('+') { with_ieee_format!(name, from_with_flags) } else { with_format!(name, from) }
-}
-
-/// Whether a call is an operation of IEEE 754-2019 that the crate lacks.
-fn is_other_operation(call: &str) -> bool {
-    ["compare_", "total_", "convert_to_", "is_canonical"].iter().any(|start| call.starts_with(start))
-        || ["_to", "_of", "_flags", "log_b"].iter().any(|end| call.ends_with(end))
-        || matches!(call, "radix" | "scale_b" | "round_to_integral_in" | "write_digits" | "digit_count")
 }
 
 /// A row of seven columns; `any` for each mode.
 fn call_row(columns: &[&str; 7]) -> Outcome {
     let [call_name, format, mode, operands, value, flags, more] = *columns;
-    let mut outcome = Outcome::NoCall;
-    if is_other_operation(call_name) {
-        return outcome;
-    }
+    let mut outcome = Outcome::Differs("no such mode".to_owned());
     for (name, round) in MODES {
         if mode != "any" && mode != "-" && mode != name {
             continue;
@@ -590,13 +740,13 @@ fn command_row(command: &str, reply: &str) -> Outcome {
         "int" => "from_u128_r",
         "parse" => "from_str_r",
         // A word that the commands' program refuses.
-        _ => return Outcome::NoCall,
+        _ => return Outcome::NoCall("a refused word of a command"),
     };
     let operands = if operands == "\"\"" { "" } else { operands };
     let (value, flags) = match reply.strip_prefix("refused: ") {
         // Words that the commands' program refuses are of no call.
         Some(words) if operation == "parse" && words.len() > 12 => (words, "ParseError"),
-        Some(_) => return Outcome::NoCall,
+        Some(_) => return Outcome::NoCall("a refused word of a command"),
         None => reply.split_once(' ').unwrap(),
     };
     call_row(&[name, format, mode, operands, value, flags, "-"])
@@ -606,7 +756,7 @@ fn command_row(command: &str, reply: &str) -> Outcome {
 fn stored_rows() {
     let file = concat!(env!("CARGO_MANIFEST_DIR"), "/../../crates/check_vectors/stdin");
     let text = std::fs::read_to_string(file).unwrap();
-    let (mut agreed, mut without) = (0, 0);
+    let (mut agreed, mut without) = (0, Vec::new());
     let mut differing = Vec::new();
     for (number, line) in text.lines().enumerate() {
         if line.starts_with('#') || line.trim().is_empty() {
@@ -619,18 +769,19 @@ fn stored_rows() {
         };
         match outcome {
             Outcome::Agrees => agreed += 1,
-            Outcome::NoCall => without += 1,
+            Outcome::NoCall(what) => without.push(what),
             Outcome::Differs(given) => differing.push(format!("line {}: {line}\n  given: {given}", number + 1)),
         }
     }
-    println!("{agreed} rows agree, {without} are of no call of the crate");
+    println!("{agreed} rows agree, {} are of no call of the crate", without.len());
     assert!(
         differing.is_empty(),
         "{} rows differ:\n{}",
         differing.len(),
         differing[..differing.len().min(40)].join("\n")
     );
-    assert!(agreed > 30_000, "{agreed} rows agree");
+    assert!(without.iter().copied().collect::<BTreeSet<_>>().into_iter().eq(WITHOUT_CALL));
+    assert!(agreed > 34_000, "{agreed} rows agree");
 }
 
 #[test]
