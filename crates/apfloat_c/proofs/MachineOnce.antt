@@ -90,5 +90,5 @@ machine_reply_once (Ok known) old a b code other x y =
     let format = format_on known.machine known.format in (
       x.0 ∙ sym y.0,
       machine_answer_once (flagged_constants format) (format_law format) known.machine known.mode known.call a b x.1
-      y.1,
+          y.1,
     )

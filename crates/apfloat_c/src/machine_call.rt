@@ -122,13 +122,7 @@ pub fn rule_coded(code: u32) -> Option<MinimumRule>
 
 /// The operation of this code on values, of which it takes the first ones, or the error: `to` is the code of the format
 /// of a conversion, the binary digits of an integer, or the code of a rule of minima.
-pub fn machine_call(
-    operation: u32,
-    to: u32,
-    x: u128,
-    y: u128,
-    z: u128,
-) -> Result<MachineCall, u32>
+pub fn machine_call(operation: u32, to: u32, x: u128, y: u128, z: u128) -> Result<MachineCall, u32>
     ensures { result ≡ machine_call operation to x y z }
 {
     match operation {

@@ -323,12 +323,7 @@ impl<S: Flagged> FillsInFormat for ConversionOf<S> {
 
 /// A value of the format `S` in the format `T`.
 #[inline(never)]
-fn converted<S: Flagged, T: Flagged>(
-    answer: &mut Answer,
-    machine: Machine,
-    round: Round,
-    x: u128,
-)
+fn converted<S: Flagged, T: Flagged>(answer: &mut Answer, machine: Machine, round: Round, x: u128)
     requires source { S.PRECISION < S.BITS }
     requires target { T.PRECISION < T.BITS }
     ensures { let c = constants_of S.Flagged in
