@@ -933,7 +933,7 @@ class Value(_Arithmetic[Number]):
         """self times 2 to the power of `power`, rounded once, with its flags (IEEE 754-2019 5.3.3, scaleB).
 
         >>> half(3).scale_b(-25)
-        half('1.2e-7')
+        half('1e-7')
         """
         try:
             power = operator.index(power)

@@ -843,8 +843,9 @@ class ArrayTests(unittest.TestCase):
         # The texts that include/apfloat.h has for the codes.
         texts = ['unknown format', 'unknown rounding mode', 'the format does not have the operation',
                  'an integer cannot have this width', 'the text was refused', 'wrong length of an array',
-                 'unknown error code', 'code 8']
-        self.assertEqual([str(apfloat.Refused(code)) for code in range(1, 9)], texts)
+                 'unknown error code', 'unknown machine', 'an operand is wider than its format',
+                 'the machine does not have the operation', 'code 11']
+        self.assertEqual([str(apfloat.Refused(code)) for code in range(1, 12)], texts)
         again = pickle.loads(pickle.dumps(apfloat.Refused(5)))
         self.assertEqual((str(again), again.code), ('the text was refused', 5))
 
