@@ -275,6 +275,71 @@ X87(div, "fdivp")
 X87(sqrt, "fstp %%st(1)\n\tfsqrt")
 X87(roundToInt, "fstp %%st(1)\n\tfrndint")
 
+// A result of x87 that it stores as another type: a narrower value, or an integer, in the mode of `way`.
+#define STORED(NAME, TYPE, TEXT)                                                                                       \
+    static Outcome extF80_to_##NAME##_x87(extFloat80_t x, unsigned way) {                                              \
+        uint16_t control = (uint16_t)(0x33f | way << 10), standard = 0x37f, status;                                    \
+        TYPE r;                                                                                                        \
+        __asm__ volatile("fldt %[x]\n\tfnclex\n\tfldcw %[control]\n\t" TEXT                                            \
+                         " %[r]\n\tfnstsw %[status]\n\tfldcw %[standard]\n\tfnclex"                                   \
+                         : [r] "=m"(r), [status] "=m"(status)                                                          \
+                         : [x] "m"(x), [control] "m"(control), [standard] "m"(standard)                                \
+                         : "st");                                                                                      \
+        return (Outcome){r, 0, of_mxcsr(status)};                                                                      \
+    }
+STORED(f32, uint32_t, "fstps")
+STORED(f64, uint64_t, "fstpl")
+STORED(i32, uint32_t, "fistpl")
+STORED(i64, uint64_t, "fistpll")
+
+#define LOADED(NAME, TYPE, TEXT)                                                                                       \
+    static Outcome NAME##_to_extF80_x87(TYPE x) {                                                                      \
+        uint16_t status;                                                                                               \
+        extFloat80_t r;                                                                                                \
+        memset(&r, 0, sizeof r);                                                                                       \
+        __asm__ volatile("fnclex\n\t" TEXT " %[x]\n\tfnstsw %[status]\n\tfstpt %[r]\n\tfnclex"                         \
+                         : [r] "=m"(r), [status] "=m"(status)                                                          \
+                         : [x] "m"(x)                                                                                  \
+                         : "st");                                                                                      \
+        return (Outcome){r.signif, r.signExp, of_mxcsr(status)};                                                       \
+    }
+LOADED(f32, uint32_t, "flds")
+LOADED(f64, uint64_t, "fldl")
+LOADED(i32, int32_t, "fildl")
+LOADED(i64, int64_t, "fildll")
+
+// Steps of `fprem1` until the status word says that the remainder is there.
+static Outcome extF80_rem_x87(extFloat80_t x, extFloat80_t y) {
+    uint16_t status;
+    extFloat80_t r;
+    memset(&r, 0, sizeof r);
+    __asm__ volatile("fldt %[y]\n\tfldt %[x]\n\tfnclex\n"
+                     "1:\tfprem1\n\tfnstsw %%ax\n\ttestw $0x400, %%ax\n\tjne 1b\n\t"
+                     "movw %%ax, %[status]\n\tfstpt %[r]\n\tfstp %%st(0)\n\tfnclex"
+                     : [r] "=m"(r), [status] "=m"(status)
+                     : [x] "m"(x), [y] "m"(y)
+                     : "ax", "cc", "st", "st(1)");
+    return (Outcome){r.signif, r.signExp, of_mxcsr(status)};
+}
+
+static Outcome extF80_compared(extFloat80_t x, extFloat80_t y, bool is_signaling, char relation) {
+    unsigned char below, equal, unordered;
+    uint16_t status;
+#define BY(INSTRUCTION)                                                                                                \
+    __asm__ volatile("fldt %[y]\n\tfldt %[x]\n\tfnclex\n\t" INSTRUCTION                                              \
+                     " %%st(1), %%st\n\tsetb %[l]\n\tsete %[e]\n\tsetp %[u]\n\tfnstsw %[status]\n\t"                \
+                     "fstp %%st(0)\n\tfstp %%st(0)\n\tfnclex"                                                         \
+                     : [l] "=&q"(below), [e] "=&q"(equal), [u] "=&q"(unordered), [status] "=m"(status)                 \
+                     : [x] "m"(x), [y] "m"(y)                                                                          \
+                     : "cc", "st", "st(1)")
+    if (is_signaling)
+        BY("fcomi");
+    else
+        BY("fucomi");
+    const bool holds = relation == '=' ? equal : relation == '<' ? below : below || equal;
+    return (Outcome){holds && !unordered, 0, of_mxcsr(status)};
+}
+
 // ---- comparison
 
 static const struct {
@@ -443,11 +508,49 @@ static void try_extF80(void) {
     extF80_roundingPrecision = 80;
     IN_DIGITS(", 64 digits");
     if (mode != softfloat_round_odd) EXTENDED(roundToInt, "", extF80_roundToInt_x87(a, a), a, mode, true);
+    EXTENDED(rem, "", extF80_rem_x87(a, b), a, b);
+    compare("extF80_eq", extF80_compared(a, b, false, '='), extF80_eq(a, b), 0, operands);
+    compare("extF80_le", extF80_compared(a, b, true, 'l'), extF80_le(a, b), 0, operands);
+    compare("extF80_lt", extF80_compared(a, b, true, '<'), extF80_lt(a, b), 0, operands);
+    compare("extF80_eq_signaling", extF80_compared(a, b, true, '='), extF80_eq_signaling(a, b), 0, operands);
+    compare("extF80_le_quiet", extF80_compared(a, b, false, 'l'), extF80_le_quiet(a, b), 0, operands);
+    compare("extF80_lt_quiet", extF80_compared(a, b, false, '<'), extF80_lt_quiet(a, b), 0, operands);
     extF80_roundingPrecision = 64;
     IN_DIGITS(", 53 digits");
     extF80_roundingPrecision = 32;
     IN_DIGITS(", 24 digits");
     extF80_roundingPrecision = 80;
+}
+
+static void try_extF80_conversions(void) {
+    const uint8_t mode = MODES[now].mode;
+    const unsigned way = mode == softfloat_round_odd ? 1 : direction;
+    extFloat80_t a = drawn_extF80();
+    // Near the ends of the narrower formats, or near an integer.
+    if (drawn() & 1) a.signExp = (uint16_t)((a.signExp & 0x8000) | (16383 - 152 + drawn() % 282));
+    if (drawn() % 8 == 0) a.signExp = (uint16_t)((a.signExp & 0x8000) | (16383 - 1076 + drawn() % 70));
+    if (a.signExp & 0x7fff) a.signif |= 1ull << 63;
+    if (drawn() % 3 == 0) {
+        const Outcome near = f64_to_extF80_x87(f64_bits(drawn_near_integer()));
+        a = (extFloat80_t){near.low, (uint16_t)near.high};
+    }
+    const float32_t single = {(uint32_t)drawn_value(8, 23)};
+    const float64_t wide = {drawn_value(11, 52)};
+    const uint64_t n = drawn_integer();
+    const uint64_t operands[] = {a.signif, a.signExp, single.v}, others[] = {single.v, wide.v, n};
+    extFloat80_t z;
+    compare("extF80_to_f32", odd(extF80_to_f32_x87(a, direction)), extF80_to_f32(a).v, 0, operands);
+    compare("extF80_to_f64", odd(extF80_to_f64_x87(a, direction)), extF80_to_f64(a).v, 0, operands);
+    compare("extF80_to_i32", odd(extF80_to_i32_x87(a, way)), extF80_to_i32(a, mode, true) & 0xffffffff, 0, operands);
+    compare("extF80_to_i64", odd(extF80_to_i64_x87(a, way)), (uint64_t)extF80_to_i64(a, mode, true), 0, operands);
+    z = f32_to_extF80(single);
+    compare("f32_to_extF80", f32_to_extF80_x87(single.v), z.signif, z.signExp, others);
+    z = f64_to_extF80(wide);
+    compare("f64_to_extF80", f64_to_extF80_x87(wide.v), z.signif, z.signExp, others);
+    z = i32_to_extF80((int32_t)n);
+    compare("i32_to_extF80", i32_to_extF80_x87((int32_t)n), z.signif, z.signExp, others);
+    z = i64_to_extF80((int64_t)n);
+    compare("i64_to_extF80", i64_to_extF80_x87((int64_t)n), z.signif, z.signExp, others);
 }
 
 int main(int count, char **words) {
@@ -464,6 +567,7 @@ int main(int count, char **words) {
             try_integers_f64();
             try_conversions();
             try_extF80();
+            try_extF80_conversions();
         }
     }
     for (unsigned i = 0; i < KINDS && kinds[i].name; i++) {
