@@ -513,8 +513,8 @@ module _ (f : Format) (precise : 3 ≤ f.precision) (wide : f.precision < f.span
       → status ≡ underflow_bit + inexact_bit → IsAugmentedProduct f x y head tail status
   head_is_near nn lost head tail status last hd fused o =
       subst (λ (i : Datum). IsAugmentedProduct f x y i tail status) (sym hd)
-      (tail_is near tail t.even status last NearestTiesToEven nn t.near_is t.even_within near_side (pick_near (inl lost))
-      fused (picks_even t.even lost) o)
+      (tail_is near tail t.even status last NearestTiesToEven nn t.near_is t.even_within near_side
+      (pick_near (inl lost)) fused (picks_even t.even lost) o)
 
 -- ---- whether it is one quantum
 

@@ -1,5 +1,5 @@
-//! Augmented sums, differences and products (IEEE 754-2019 9.5), whose two results are together the exact one where
-//! that is possible, and payloads of NaNs as values (9.7). The crate `rustc_apfloat` has none of these.
+//! Augmented sums, differences and products (IEEE 754-2019 9.5), whose two results are together the exact one, and
+//! payloads of NaNs as values (9.7), in every format. The crate `rustc_apfloat` has none of these.
 //!
 //! ```
 //! use rustc_apfloat::ieee::Half;
@@ -71,9 +71,11 @@ library_calls! {
     /// augmentedSubtraction (9.5): `augmented_add` of `x` and `-y`, except that a NaN is not negated.
     fn augmented_subtract<S>(x: IeeeFloat<S>, y: IeeeFloat<S>) -> StatusAnd<Augmented<S>>;
     /// augmentedMultiplication (9.5): the product, rounded to nearest with ties toward zero, and what that leaves of the
-    /// exact product, rounded in the same way, with `UNDERFLOW` and `INEXACT`, if it has digits below the smallest
-    /// denormal value. A head past the largest value is as of `augmented_add`. If an operand is zero, an infinity or a
-    /// NaN, both results are that of the product, with its flags.
+    /// exact product.
+    ///
+    /// If the exact product has digits below the smallest denormal value, the tail is rounded in the same way, with
+    /// `UNDERFLOW` and `INEXACT`. Past the largest value it is as for sums. If an operand is zero, an infinity or a NaN,
+    /// both results are that of `mul_r`, with its flags.
     fn augmented_multiply<S>(x: IeeeFloat<S>, y: IeeeFloat<S>) -> StatusAnd<Augmented<S>>;
 
     /// getPayload (9.7): the payload of a NaN as an integer, and -1 for any other value.

@@ -83,9 +83,10 @@ fn tables(path: &str) -> Vec<(String, String)> {
     tables.map(|(name, rows)| (name.to_owned(), rows.to_owned())).collect()
 }
 
-/// Rows of augmented sums: operation, operands, head, tail, whether the head is past the largest value.
+/// Rows of augmented sums and products: operation, operands, head, tail, and which flags are raised.
 fn check_augmented<S: Semantics>(rows: &str) -> usize {
     let past = Status::OVERFLOW | Status::INEXACT;
+    let tiny = Status::UNDERFLOW | Status::INEXACT;
     rows_of(rows, "),(")
         .map(|words| {
             let [operation, x, y, head, tail, flagging, ..] = words.as_slice() else { panic!("{words:?}") };
@@ -93,9 +94,14 @@ fn check_augmented<S: Semantics>(rows: &str) -> usize {
             let answer = match *operation {
                 "Add" => augmented::augmented_add(x, y),
                 "Sub" => augmented::augmented_subtract(x, y),
+                "Mul" => augmented::augmented_multiply(x, y),
                 _ => panic!("{words:?}"),
             };
-            let status = if *flagging == "Past" { past } else { Status::OK };
+            let status = match *flagging {
+                "Past" => past,
+                "Tiny" => tiny,
+                _ => Status::OK,
+            };
             let given = (answer.value.head.to_bits(), answer.value.tail.to_bits(), answer.status);
             assert_eq!(given, (number(head), number(tail), status), "{words:?}");
         })
@@ -103,7 +109,7 @@ fn check_augmented<S: Semantics>(rows: &str) -> usize {
 }
 
 #[test]
-fn augmented_sums() {
+fn augmented_sums_and_products() {
     let tables = tables("apfloat_augmented/src/tests/rows.rt");
     let count = tables.iter().map(|(name, rows)| match name.as_str() {
         "HALF" => check_augmented::<HalfS>(rows),
@@ -113,7 +119,7 @@ fn augmented_sums() {
         "SINGLE" => check_augmented::<SingleS>(rows),
         name => panic!("no table {name} is known here"),
     });
-    assert_eq!(count.sum::<usize>(), 224);
+    assert_eq!(count.sum::<usize>(), 402);
 }
 
 /// Rows of results rounded to odd: operation, operands, the bits of the result and of it rounded again in each mode,

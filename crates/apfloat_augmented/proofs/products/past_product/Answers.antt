@@ -15,7 +15,8 @@ returns-then-is_ok g c =
     let answer = c.augmented_add.result in
     exact_product f c.args.x c.args.y short.value rest.value (bits_of rest.status) c.requires.left c.requires.right
     (short_is_finite f r.precision c.args.x c.args.y c.args.near short.value c.requires.product.0
-    (bits_of short.status) c.requires.left c.requires.right c.requires.past c.requires.product.1 c.wide_mul_r-largest.ensures)
+    (bits_of short.status) c.requires.left c.requires.right c.requires.past c.requires.product.1
+    c.wide_mul_r-largest.ensures)
     (rw c.neg.ensures at c.wide_mul_add_r-rest.ensures) (c.is_ok.ensures.yes c.if-is_ok.true) answer.value.head
     answer.value.tail (bits_of answer.status) c.augmented_add.ensures
 
