@@ -24,8 +24,8 @@ use apfloat_ieee::{Flagged, IeeeFloat};
 /// answer. A neighbour past the largest value gives the largest value, as toward zero; so an inexact result is even
 /// only where the last digit of the largest value is, as in `Float8E4M3FN`, whose next encoding is the NaN.
 ///
-/// An infinity or a NaN is unchanged, and so is any answer without INEXACT. The clause `odd` is about exact results that
-/// are fractions, which roots need not be.
+/// An infinity or a NaN is unchanged, and so is any answer without INEXACT. The clause `odd` is about exact results
+/// that are fractions, which roots need not be.
 pub fn to_odd<S: Flagged>(
     answer: StatusAnd<IeeeFloat<S>>,
     negative: bool,

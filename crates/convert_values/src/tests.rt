@@ -166,8 +166,8 @@ fn refuses_other_words(rt: HostRuntime) -> Result<(), Fail> {
     Ok(())
 }
 
-/// Lines with a word that is wrong, and the line that is written for each. A word is suggested if one byte put in, taken
-/// out or replaced, or two neighbours swapped, makes it of the wrong one; of several, the first of the list.
+/// Lines with a word that is wrong, and the line that is written for each. A word is suggested if one byte put in,
+/// taken out or replaced, or two neighbours swapped, makes it of the wrong one; of several, the first of the list.
 static WRONG_WORDS: &[(&str, &[u8])] = &[
     (
         "single halff even",

@@ -2,9 +2,9 @@
 //!
 //! A nonzero number has its first digit before the dot, always 1, and the digits after it in groups of four binary
 //! ones, at most 31 of them (`significands`). `write_hex` writes them all, without the zeros at their end;
-//! `write_hex_rounded` writes a given number of them, rounded once (`rounded`), and `write_hex_with_payload` the payloads
-//! of NaNs too (`payloads`). All of them build the text in a line on the stack (`texts`) and copy it if it fits
-//! (`written`). `reading_back` states what a text is read as.
+//! `write_hex_rounded` writes a given number of them, rounded once (`rounded`), and `write_hex_with_payload` the
+//! payloads of NaNs too (`payloads`). All of them build the text in a line on the stack (`texts`) and copy it if it
+//! fits (`written`). `reading_back` states what a text is read as.
 #![tactic(auto)]
 
 mod payloads;
