@@ -77,7 +77,7 @@ typedef struct apfloat_answer {
  * APFLOAT_UNDERFLOW. No value depends on the rule. Without them, a result that a mode rounds to the largest value
  * raises no APFLOAT_OVERFLOW, and an inexact result raises APFLOAT_UNDERFLOW if it is below the smallest normal number
  * once it is rounded to the format. With the first, APFLOAT_OVERFLOW is raised wherever the result, rounded with an
- * unbounded exponent, is past the largest value (IEEE 754-2008 7.4), and APFLOAT_UNDERFLOW if an inexact result is
+ * unbounded exponent, is past the largest value (IEEE 754-2019 7.4), and APFLOAT_UNDERFLOW if an inexact result is
  * below the smallest normal number when it is rounded with an unbounded exponent, as x86 and RISC-V have it, or, with
  * both, before it is rounded, as Arm and POWER have it (7.5). APFLOAT_E4M3FN, APFLOAT_E4M3FNUZ and APFLOAT_DOUBLE_PAIR
  * have no such choice. Joined to their codes, or the second without the first, these make an unknown format. In a
@@ -85,14 +85,14 @@ typedef struct apfloat_answer {
 #define APFLOAT_IEEE_FLAGS UINT32_C(0x100)
 #define APFLOAT_TINY_BEFORE_ROUNDING UINT32_C(0x200)
 
-/* Rounding modes (IEEE 754-2008 4.3). */
+/* Rounding modes (IEEE 754-2019 4.3). */
 #define APFLOAT_NEAREST_EVEN UINT32_C(0) /* to the nearest value, ties to even */
 #define APFLOAT_UPWARD UINT32_C(1)       /* toward positive infinity */
 #define APFLOAT_DOWNWARD UINT32_C(2)     /* toward negative infinity */
 #define APFLOAT_TOWARD_ZERO UINT32_C(3)
 #define APFLOAT_NEAREST_AWAY UINT32_C(4) /* to the nearest value, ties away from zero */
 
-/* Flags (IEEE 754-2008 7). */
+/* Flags (IEEE 754-2019 7). */
 #define APFLOAT_INVALID_OP UINT32_C(0x01)
 #define APFLOAT_DIV_BY_ZERO UINT32_C(0x02)
 #define APFLOAT_OVERFLOW UINT32_C(0x04)
@@ -119,7 +119,7 @@ uint32_t apfloat_div(uint32_t format, uint32_t mode, apfloat_halves x, apfloat_h
 uint32_t apfloat_fma(uint32_t format, uint32_t mode, apfloat_halves x, apfloat_halves y, apfloat_halves z,
                      apfloat_answer *answer);
 
-/* The square root of x, rounded once (IEEE 754-2008 5.4.1): -0 gives -0, and a value below zero a NaN with
+/* The square root of x, rounded once (IEEE 754-2019 5.4.1): -0 gives -0, and a value below zero a NaN with
  * APFLOAT_INVALID_OP. That of a pair of doubles is rounded to 106 binary digits, and then split into two doubles. */
 uint32_t apfloat_sqrt(uint32_t format, uint32_t mode, apfloat_halves x, apfloat_answer *answer);
 
@@ -167,7 +167,7 @@ uint32_t apfloat_next_down(uint32_t format, apfloat_halves x, apfloat_answer *an
 #define APFLOAT_UNORDERED 2
 uint32_t apfloat_compare(uint32_t format, apfloat_halves x, apfloat_halves y, apfloat_answer *answer);
 
-/* `number` is one of these (IEEE 754-2008 5.7.2). */
+/* `number` is one of these (IEEE 754-2019 5.7.2). */
 #define APFLOAT_SIGNALING_NAN 0
 #define APFLOAT_QUIET_NAN 1
 #define APFLOAT_NEGATIVE_INFINITY 2
@@ -185,11 +185,11 @@ uint32_t apfloat_classify(uint32_t format, apfloat_halves x, apfloat_answer *ans
  * These functions round nothing and raise no flag, not even for a signaling NaN, which stays signaling. They have no
  * mode, and joined to a format's code APFLOAT_IEEE_FLAGS makes no difference. */
 
-/* `number` is 1 if x has a minus sign, else 0 (IEEE 754-2008 5.7.2, isSignMinus): also for a NaN, whose class does not
+/* `number` is 1 if x has a minus sign, else 0 (IEEE 754-2019 5.7.2, isSignMinus): also for a NaN, whose class does not
  * show its sign. */
 uint32_t apfloat_is_negative(uint32_t format, apfloat_halves x, apfloat_answer *answer);
 
-/* x with the opposite sign, without a sign, and with the sign of y (IEEE 754-2008 5.5.1). Any of them may be a NaN. In
+/* x with the opposite sign, without a sign, and with the sign of y (IEEE 754-2019 5.5.1). Any of them may be a NaN. In
  * APFLOAT_E4M3FNUZ zero and the NaN have no sign. A pair of doubles has the sign of its high part. */
 uint32_t apfloat_neg(uint32_t format, apfloat_halves x, apfloat_answer *answer);
 uint32_t apfloat_abs(uint32_t format, apfloat_halves x, apfloat_answer *answer);
@@ -207,7 +207,7 @@ uint32_t apfloat_minimum(uint32_t format, apfloat_halves x, apfloat_halves y, ap
 uint32_t apfloat_maximum(uint32_t format, apfloat_halves x, apfloat_halves y, apfloat_answer *answer);
 
 /* The quiet NaN and the signaling NaN with this payload, of which the bits that the format has room for are taken
- * (IEEE 754-2008 6.2.1); negative if `negative` is not 0. A signaling NaN whose payload would be 0 has the highest bit
+ * (IEEE 754-2019 6.2.1); negative if `negative` is not 0. A signaling NaN whose payload would be 0 has the highest bit
  * of a payload set. APFLOAT_E4M3FN has only a quiet NaN of each sign, and APFLOAT_E4M3FNUZ only one NaN. In a pair of
  * doubles the high part is the NaN, and the low part 0. */
 uint32_t apfloat_qnan(uint32_t format, uint32_t negative, apfloat_halves payload, apfloat_answer *answer);
@@ -222,7 +222,7 @@ uint32_t apfloat_parse(uint32_t format, uint32_t mode, const uint8_t *text, size
 
 /* The same, and of a decimal number such as -0.1 or 1e-7 the value that it spells, rounded once, whatever its length
  * and its exponent: digits with at most one dot, after an optional sign, and an exponent after e or E if there is one,
- * with an optional sign (IEEE 754-2008 5.12.2). A pair of doubles is the value of 106 binary digits, split into two
+ * with an optional sign (IEEE 754-2019 5.12.2). A pair of doubles is the value of 106 binary digits, split into two
  * doubles. Formats with APFLOAT_IEEE_FLAGS do not have it. */
 uint32_t apfloat_parse_decimal(uint32_t format, uint32_t mode, const uint8_t *text, size_t length,
                                apfloat_answer *answer);

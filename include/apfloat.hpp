@@ -61,7 +61,7 @@ namespace apfloat {
 
 // ---- modes, flags and errors
 
-/// The rounding modes of IEEE 754-2008 4.3.
+/// The rounding modes of IEEE 754-2019 4.3.
 enum class rounding : std::uint32_t {
     nearest_even = APFLOAT_NEAREST_EVEN, ///< to the nearest value, ties to even
     upward = APFLOAT_UPWARD,             ///< toward positive infinity
@@ -70,7 +70,7 @@ enum class rounding : std::uint32_t {
     nearest_away = APFLOAT_NEAREST_AWAY ///< to the nearest value, ties away from zero
 };
 
-/// One of the flags of IEEE 754-2008 7.
+/// One of the flags of IEEE 754-2019 7.
 enum class flag : std::uint32_t {
     invalid_op = APFLOAT_INVALID_OP,
     div_by_zero = APFLOAT_DIV_BY_ZERO,
@@ -251,7 +251,7 @@ struct binary {
 } // namespace detail
 
 /// A format, named by a type. `width` is the number of bits of a value, `precision` the number of binary digits, and
-/// `min_exponent` and `max_exponent` are the least and the greatest exponent of normal numbers (IEEE 754-2008 3.3).
+/// `min_exponent` and `max_exponent` are the least and the greatest exponent of normal numbers (IEEE 754-2019 3.3).
 struct binary16 : detail::binary<binary16, APFLOAT_HALF, std::uint16_t, 16, 11, -14, 15> {
     static constexpr detail::constants<bits_type> constants = {1,      0x0400, 0x7bff, 0x7c00,
                                                                0x7e00, 0x7d00, 0x1400, 0x3800};
@@ -336,7 +336,7 @@ struct double_pair : detail::binary<double_pair, APFLOAT_DOUBLE_PAIR, bits128, 1
         {UINT64_C(0x3fe0000000000000), 0}};
 };
 
-/// A format whose roundings raise the flags of IEEE 754-2008 7.4 and 7.5, with tininess detected after rounding, as
+/// A format whose roundings raise the flags of IEEE 754-2019 7.4 and 7.5, with tininess detected after rounding, as
 /// x86 and RISC-V do. The values and their bits are those of the format; apfloat.h has the rule of the others. These
 /// formats read no decimal texts, only hexadecimal ones.
 template <class F>
@@ -530,7 +530,7 @@ public:
     /// Whether the sign is that of negative values, also of a zero or a NaN.
     constexpr bool sign_bit() const { return detail::is_negative<F>(halves()); }
 
-    /// The value with the opposite sign, also of a zero or a NaN (IEEE 754-2008 5.5.1). The zero and the NaN of
+    /// The value with the opposite sign, also of a zero or a NaN (IEEE 754-2019 5.5.1). The zero and the NaN of
     /// `e4m3fnuz` have no sign.
     constexpr value operator-() const { return from_lowest(detail::negated<F>(halves())); }
     constexpr value operator+() const { return *this; }
@@ -576,14 +576,14 @@ constexpr value<binary64> low_of(const value<double_pair> &x) { return value<bin
 
 // ---- signs
 
-/// The value without its sign (IEEE 754-2008 5.5.1).
+/// The value without its sign (IEEE 754-2019 5.5.1).
 template <class F>
 constexpr value<F> abs(const value<F> &x) {
     const auto negated = -x;
     return x.sign_bit() ? negated : -negated;
 }
 
-/// `x` with the sign of `y` (IEEE 754-2008 5.5.1).
+/// `x` with the sign of `y` (IEEE 754-2019 5.5.1).
 template <class F>
 constexpr value<F> copy_sign(const value<F> &x, const value<F> &y) {
     const auto negated = -x;
@@ -626,7 +626,7 @@ value<F> maximum(const value<F> &x, const value<F> &y) {
     return detail::value_of<F>(detail::answer_of(apfloat_maximum, F::code, x.halves(), y.halves()));
 }
 
-/// The quiet NaN with this payload, of which the bits that the format has room for are taken (IEEE 754-2008 6.2.1).
+/// The quiet NaN with this payload, of which the bits that the format has room for are taken (IEEE 754-2019 6.2.1).
 template <class F>
 value<F> quiet_nan(apfloat_halves payload = {0, 0}, bool negative = false) {
     const std::uint32_t sign = negative;
@@ -642,7 +642,7 @@ value<F> signaling_nan(apfloat_halves payload = {0, 0}, bool negative = false) {
 
 // ---- classes
 
-/// The classes of values (IEEE 754-2008 5.7.2).
+/// The classes of values (IEEE 754-2019 5.7.2).
 enum class number_class : std::int32_t {
     signaling_nan = APFLOAT_SIGNALING_NAN,
     quiet_nan = APFLOAT_QUIET_NAN,
@@ -1025,7 +1025,7 @@ I to_integer(const value<F> &x, gather &with) {
 // ---- texts
 
 /// The value of a text, rounded once: a decimal, such as -0.1 or 1e-7, or what `parse_hexadecimal` reads. The formats
-/// with the flags of IEEE 754-2008 read no decimals.
+/// with the flags of IEEE 754-2019 read no decimals.
 template <class F>
 expected<result<value<F>>> parse(std::string_view text, rounding mode = rounding::nearest_even);
 

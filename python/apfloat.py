@@ -31,7 +31,7 @@ half('inf')
 >>> context.flags
 <Flags.DIV_BY_ZERO: 2>
 
-A format raises the flags of IEEE 754-2008 in every mode if it is written half.ieee, with tininess detected before
+A format raises the flags of IEEE 754-2019 in every mode if it is written half.ieee, with tininess detected before
 rounding if it is written half.ieee.before; e4m3fn, e4m3fnuz and double_pair have no such choice.
 
 An array has values of one format and any number of axes. It is made of nested lists or of a numpy array, whose numbers
@@ -83,7 +83,7 @@ __all__ = [
 
 
 class Rounding(enum.IntEnum):
-    """The rounding modes of IEEE 754-2008 4.3."""
+    """The rounding modes of IEEE 754-2019 4.3."""
 
     NEAREST_EVEN = 0
     UPWARD = 1
@@ -100,7 +100,7 @@ NEAREST_AWAY = Rounding.NEAREST_AWAY
 
 
 class Flags(enum.IntFlag):
-    """The flags of IEEE 754-2008 7; OK is none of them."""
+    """The flags of IEEE 754-2019 7; OK is none of them."""
 
     OK = 0
     INVALID_OP = 1
@@ -323,7 +323,7 @@ class Format:
 
     @property
     def ieee(self) -> Format:
-        """The format with the flags of IEEE 754-2008 (7.4, 7.5), tininess detected after rounding.
+        """The format with the flags of IEEE 754-2019 (7.4, 7.5), tininess detected after rounding.
 
         >>> with Context(mode=TOWARD_ZERO) as context:
         ...     half.ieee(65504) + 65504, half.ieee('1e-7')
@@ -337,7 +337,7 @@ class Format:
 
     @property
     def before(self) -> Format:
-        """Of a format with the flags of IEEE 754-2008: with tininess detected before rounding.
+        """Of a format with the flags of IEEE 754-2019: with tininess detected before rounding.
 
         >>> below_one = half(1).next_down().next_down()
         >>> for format in half.ieee, half.ieee.before:
@@ -696,7 +696,7 @@ class _Arithmetic(Generic[_Operand]):
         return self._with('fma', factor, addend)
 
     def sqrt(self) -> Self:
-        """The square root, rounded once (IEEE 754-2008 5.4.1); of a value below zero a NaN.
+        """The square root, rounded once (IEEE 754-2019 5.4.1); of a value below zero a NaN.
 
         >>> double(2).sqrt(), quad(4).sqrt(), half('-0x0p0').sqrt()
         (double('1.4142135623730951'), quad('2.0'), half('-0.0'))
@@ -721,7 +721,7 @@ class _Arithmetic(Generic[_Operand]):
         return self._with('mod', divisor)
 
     def copy_sign(self, sign: _Operand) -> Self:
-        """self with the sign of another value, also of a zero or a NaN, like math.copysign (IEEE 754-2008 5.5.1).
+        """self with the sign of another value, also of a zero or a NaN, like math.copysign (IEEE 754-2019 5.5.1).
 
         >>> half(1.5).copy_sign(-2), half('nan').copy_sign(half('-0.0')), half.array([1, -2]).copy_sign([-3, 3])
         (half('-1.5'), half('-nan'), half.array(['-1.0', '2.0']))
@@ -850,7 +850,7 @@ class Value(_Arithmetic[Number]):
 
     @property
     def is_negative(self) -> bool:
-        """Whether it has a minus sign, also if it is a zero or a NaN (IEEE 754-2008 5.7.2, isSignMinus).
+        """Whether it has a minus sign, also if it is a zero or a NaN (IEEE 754-2019 5.7.2, isSignMinus).
 
         >>> half('-0.0').is_negative, half('-nan').is_negative, half('nan').is_negative, e4m3fnuz('-nan').is_negative
         (True, True, False, False)
@@ -881,7 +881,7 @@ class Value(_Arithmetic[Number]):
         return self._with('maximum', other)
 
     def __neg__(self) -> Value:
-        """The value with the opposite sign, a NaN's too (IEEE 754-2008 5.5.1).
+        """The value with the opposite sign, a NaN's too (IEEE 754-2019 5.5.1).
 
         >>> -half(1), -half('nan'), -double_pair(1), -(double_pair(1) / 3)
         (half('-1.0'), half('-nan'), double_pair('-1.0'), double_pair('-0.3333333333333333 + -1.8503717077085944e-17'))
@@ -900,7 +900,7 @@ class Value(_Arithmetic[Number]):
         return self
 
     def __abs__(self) -> Value:
-        """The value without its sign, a NaN's too (IEEE 754-2008 5.5.1).
+        """The value without its sign, a NaN's too (IEEE 754-2019 5.5.1).
 
         >>> abs(half('-1.5')), abs(half('-0.0')), abs(half('-nan'))
         (half('1.5'), half('0.0'), half('nan'))

@@ -451,7 +451,7 @@ static bool has_bits(uint32_t code, const apfloat_answer *answer, apfloat_halves
            answer->status == 0 && answer->number == 0;
 }
 
-/* How many of them agree, in a format with the flags of IEEE 754-2008 too, whose values are the same. */
+/* How many of them agree, in a format with the flags of IEEE 754-2019 too, whose values are the same. */
 static unsigned negative_nans(void) {
     const apfloat_halves payload = {5, 0};
     unsigned count = 0;

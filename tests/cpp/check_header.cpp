@@ -131,7 +131,7 @@ void check_flags() {
     CHECK(written.str() == "OK INVALID_OP|INEXACT INVALID_OP|DIV_BY_ZERO|OVERFLOW|UNDERFLOW|INEXACT");
     const auto [third, status] = div(number(1.0), number(3.0));
     CHECK(static_cast<double>(third) == 1.0 / 3.0 && status == flag::inexact);
-    // The largest value of binary16, doubled: the rule of its format, and that of IEEE 754-2008 7.4.
+    // The largest value of binary16, doubled: the rule of its format, and that of IEEE 754-2019 7.4.
     const auto largest = std::numeric_limits<half>::max();
     const value<ieee<binary16>> with_ieee_flags(largest);
     CHECK(add(largest, largest, rounding::toward_zero).status == flag::inexact);
@@ -250,7 +250,7 @@ void check_errors() {
     CHECK(parse<binary64>("").error() == errc::refused_text && parse<binary64>({}).error() == errc::refused_text);
     CHECK(parse<binary64>("1", static_cast<rounding>(5)).error() == errc::unknown_mode);
     CHECK(parse_hexadecimal<binary64>("0.5").error() == errc::refused_text);
-    // Formats with the flags of IEEE 754-2008 read no decimals.
+    // Formats with the flags of IEEE 754-2019 read no decimals.
     CHECK(parse<ieee<binary64>>("0.5").error() == errc::refused_text);
     CHECK(parse<ieee<binary64>>("0x1p-1")->value.bits() == number(0.5).bits());
     const auto read = parse<binary16>("65519.99", rounding::nearest_even);

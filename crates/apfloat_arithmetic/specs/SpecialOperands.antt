@@ -1,4 +1,4 @@
--- Operations with a special operand, and the result of each of them (IEEE 754-2008 6.1 to 6.3, 7.2, 7.3).
+-- Operations with a special operand, and the result of each of them (IEEE 754-2019 6.1 to 6.3, 7.2, 7.3).
 use Rattle.std.specs.Prelude.{◌≡◌, ℕ, ◌<◌, true}
 use Rattle.apfloat_model.specs.declared.kinds.Category.TheVariants.{Normal}
 use Rattle.apfloat_model.specs.declared.kinds.Round.{Round}

@@ -1,4 +1,4 @@
-//! Classes of values (IEEE 754-2008 5.7.2).
+//! Classes of values (IEEE 754-2019 5.7.2).
 
 ghost use Rattle.std.specs.Prelude.{◌≡◌, ltb, true, false};
 ghost use Rattle.apfloat_model.specs.formats.Format.{smallest_normalized};

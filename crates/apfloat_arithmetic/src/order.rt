@@ -73,7 +73,7 @@ fn compare_on_one_side(x: Unpacked, y: Unpacked) -> Ordering
 }
 
 /// The numeric order of two values: both zeros are equal, the infinities are at the ends, and a NaN is unordered (IEEE
-/// 754-2008 5.11).
+/// 754-2019 5.11).
 #[inline(always)]
 pub fn compare(x: Unpacked, y: Unpacked) -> Option<Ordering>
     ensures { (shape : Shape) → IsStored shape x → IsStored shape y

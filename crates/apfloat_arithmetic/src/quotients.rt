@@ -14,7 +14,7 @@ use crate::specials::{Operation, special};
 use apfloat_model::{Round, StatusAnd};
 use apfloat_rounding::exponents::quotient_exponent;
 use apfloat_rounding::rounding::deliver;
-use apfloat_rounding::rounding::from_word::deliver_word_digits;
+use apfloat_rounding::rounding::from_word::deliver_counted_word;
 use apfloat_rounding::shape::Shape;
 use apfloat_rounding::unpacked::Unpacked;
 use apfloat_words::{WORD_LIMIT, divide_by_guess, divide_u128, divide_word, guess_quotient};
@@ -65,7 +65,7 @@ fn divide_word_numbers(shape: Shape, x: Unpacked, y: Unpacked, round: Round) -> 
     let divisor = y.significand as u64;
     let up = places_up(dividend, divisor);
     let places = shape.precision + 1 + up;
-    deliver_word_digits(
+    deliver_counted_word(
         shape,
         word_quotient_of(shape.precision, dividend << up, divisor),
         quotient_exponent(x.exponent, y.exponent, places),
@@ -100,7 +100,7 @@ fn divide_numbers(shape: Shape, x: Unpacked, y: Unpacked, round: Round) -> Statu
     )
 }
 
-/// The quotient of two values, rounded once (IEEE 754-2008 5.4.1, division).
+/// The quotient of two values, rounded once (IEEE 754-2019 5.4.1, division).
 #[inline(always)]
 pub fn divide(shape: Shape, x: Unpacked, y: Unpacked, round: Round) -> StatusAnd<Unpacked>
     requires left { IsStored shape x }

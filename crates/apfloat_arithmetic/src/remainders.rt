@@ -33,7 +33,7 @@ struct Magnitude {
 
 /// The same magnitude with its digits moved up, to the precision or to the least place.
 #[inline(always)]
-fn raised(precision: u32, magnitude: Magnitude, least: u32) -> Magnitude
+fn moved_up_to(precision: u32, magnitude: Magnitude, least: u32) -> Magnitude
     requires precise { precision ≤ 125 }
     requires fits { magnitude.significand < 2 ^ precision }
     requires above { least ≤ magnitude.place }
@@ -120,7 +120,7 @@ fn rest_by(precision: u32, x: Magnitude, y: Magnitude) -> Rest
                 steps,
             };
         }
-        rest = raised(precision, less, y.place);
+        rest = moved_up_to(precision, less, y.place);
     }
     Rest {
         magnitude: rest,
@@ -268,7 +268,7 @@ fn in_quanta(precision: u32, magnitude: Magnitude) -> Magnitude
 {
     let quantum = precision - 1;
     if magnitude.place > quantum {
-        let high = raised(precision, magnitude, quantum);
+        let high = moved_up_to(precision, magnitude, quantum);
         Magnitude {
             significand: high.significand,
             place: high.place - quantum,
@@ -442,7 +442,7 @@ pub fn counted_remainder(shape: Shape, x: Unpacked, y: Unpacked) -> Remainder
     }
 }
 
-/// The remainder by the integer nearest to the quotient, ties to even (IEEE 754-2008 5.3.1).
+/// The remainder by the integer nearest to the quotient, ties to even (IEEE 754-2019 5.3.1).
 #[inline(always)]
 pub fn nearest_remainder(shape: Shape, x: Unpacked, y: Unpacked) -> StatusAnd<Unpacked>
     requires x { IsStored shape x }

@@ -67,7 +67,7 @@ fn is_positive_number(x: Unpacked) -> bool
     (x.category == Category::Normal) & !x.negative
 }
 
-/// The square root of a value, rounded once (IEEE 754-2008 5.4.1, squareRoot).
+/// The square root of a value, rounded once (IEEE 754-2019 5.4.1, squareRoot).
 #[inline(always)]
 pub fn square_root(shape: Shape, x: Unpacked, round: Round) -> StatusAnd<Unpacked>
     requires { IsStored shape x }

@@ -1,4 +1,4 @@
-//! Negation (IEEE 754-2008 5.5.1).
+//! Negation (IEEE 754-2019 5.5.1).
 
 ghost use Rattle.std.specs.Prelude.{◌≡◌, not};
 ghost use Rattle.apfloat_model.specs.rounding.Negation.{negated};

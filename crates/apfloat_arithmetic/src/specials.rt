@@ -1,4 +1,4 @@
-//! Special operands: the result of each operation if not all its operands are nonzero numbers (IEEE 754-2008 6.1 to
+//! Special operands: the result of each operation if not all its operands are nonzero numbers (IEEE 754-2019 6.1 to
 //! 6.3, 7.2 and 7.3). Each function has a row for every category of the left operand, and in it one for every category
 //! of the right one. The mode matters for the sign of a sum of zeros, and if a fused sum reduces to a product.
 
@@ -22,7 +22,7 @@ ghost use Rattle.apfloat_arithmetic.specs.SpecialOperands.{HasSpecials, IsResult
 use crate::exact::{exact_infinity, exact_zero};
 use crate::products::product_sign;
 use crate::sums::sign_of_zero;
-use crate::wide_products::wide_multiply_numbers;
+use crate::wide_products::multiply_numbers_at_every_precision;
 use apfloat_model::{Category, Round, Status, StatusAnd};
 use apfloat_rounding::nans::{invalid, propagated, propagated_left};
 use apfloat_rounding::shape::Shape;
@@ -236,7 +236,7 @@ fn add_to_number_product(
 {
     match z.category {
         Category::Normal => unreachable!(),
-        Category::Zero => wide_multiply_numbers(shape, x, y, round),
+        Category::Zero => multiply_numbers_at_every_precision(shape, x, y, round),
         Category::Infinity => Status::OK.and(z),
         Category::NaN => propagated(shape, z),
     }

@@ -1,4 +1,4 @@
-//! Sums and differences, rounded once (IEEE 754-2008 5.4.1, 6.1, 6.3).
+//! Sums and differences, rounded once (IEEE 754-2019 5.4.1, 6.1, 6.3).
 
 ghost use Rattle.std.specs.Prelude.{◌≡◌, ℕ, ◌+◌, ◌*◌, ◌^◌, ◌<◌, ◌≤◌, pos, ◌+ℤ◌};
 ghost use Rattle.apfloat_model.specs.arithmetic.Exact.{signed, IsRounded};
@@ -40,7 +40,7 @@ fn term_of(shape: Shape, x: Unpacked) -> Term
     }
 }
 
-/// The sign of an exact zero as the sum of numbers with these signs (IEEE 754-2008 6.3).
+/// The sign of an exact zero as the sum of numbers with these signs (IEEE 754-2019 6.3).
 #[inline(always)]
 pub fn sign_of_zero(round: Round, left: bool, right: bool) -> bool
     ensures { result ≡ zero_sum_sign round left right }
@@ -67,9 +67,9 @@ pub fn sign_of_odd_total(significand: u128, negative: bool, of_zero: bool) -> bo
 }
 
 /// Delivers the total of two numbers with these signs, which was rounded to odd, rounded once. An exact zero has the
-/// sign that the mode gives it (IEEE 754-2008 6.3).
+/// sign that the mode gives it (IEEE 754-2019 6.3).
 #[inline(always)]
-pub(crate) fn deliver_total(
+pub fn deliver_total(
     shape: Shape,
     total: U128Total,
     left: bool,
@@ -178,7 +178,7 @@ fn add_numbers(shape: Shape, x: Unpacked, y: Unpacked, round: Round) -> StatusAn
     remade(add_wide_numbers(shape.remade(), x.remade(), y.remade(), round))
 }
 
-/// `x + y`, rounded once (IEEE 754-2008 5.4.1).
+/// `x + y`, rounded once (IEEE 754-2019 5.4.1).
 #[inline(always)]
 pub fn add(shape: Shape, x: Unpacked, y: Unpacked, round: Round) -> StatusAnd<Unpacked>
     requires x_stored { IsStored shape x }
@@ -207,7 +207,7 @@ fn added(shape: Shape, y: Unpacked) -> Unpacked
     }
 }
 
-/// `x - y`, rounded once (IEEE 754-2008 5.4.1).
+/// `x - y`, rounded once (IEEE 754-2019 5.4.1).
 #[inline(always)]
 pub fn subtract(shape: Shape, x: Unpacked, y: Unpacked, round: Round) -> StatusAnd<Unpacked>
     requires x_stored { IsStored shape x }

@@ -14,7 +14,7 @@ use apfloat_model::{Round, StatusAnd};
 pub trait FloatConvert<T: Float>: Float {
     ghost converts: { Self → Round → StatusAnd T → Bool → Type 0 };
 
-    /// The value in `T`, rounded once (IEEE 754-2008 5.4.2, convertFormat); `loses_info` says whether information was
+    /// The value in `T`, rounded once (IEEE 754-2019 5.4.2, convertFormat); `loses_info` says whether information was
     /// lost.
     ///
     /// A number loses information exactly if the status is not OK: if it is rounded, or is a zero whose sign `T` does

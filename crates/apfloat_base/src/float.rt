@@ -163,21 +163,21 @@ pub trait Float: Copy
     fn infinity() -> Self
         ensures { result ≡ the_infinity };
 
-    /// The positive quiet NaN without a payload (IEEE 754-2008 6.2).
+    /// The positive quiet NaN without a payload (IEEE 754-2019 6.2).
     fn nan() -> Self
         ensures { result ≡ quiet_nan_of 0 }
     {
         Self::qnan(None)
     }
 
-    /// The positive quiet NaN with this payload, truncated to the bits that the format has room for (IEEE 754-2008
+    /// The positive quiet NaN with this payload, truncated to the bits that the format has room for (IEEE 754-2019
     /// 6.2.1).
     fn qnan(payload: Option<u128>) -> Self
         ensures { result ≡ quiet_nan_of (unwrap_or payload 0) };
 
     /// The positive signaling NaN with this payload, truncated to the bits that the format has room for. If no bit is
     /// left set, the bit below the quiet bit is set, since a signaling NaN needs a payload; in a format with a single
-    /// NaN, the result is that NaN (IEEE 754-2008 6.2.1).
+    /// NaN, the result is that NaN (IEEE 754-2019 6.2.1).
     fn snan(payload: Option<u128>) -> Self
         ensures { result ≡ signaling_nan_of (unwrap_or payload 0) };
 
@@ -193,7 +193,7 @@ pub trait Float: Copy
     fn smallest_normalized() -> Self
         ensures { result ≡ the_smallest_normalized };
 
-    /// `self + rhs`, rounded once (IEEE 754-2008 5.4.1, addition).
+    /// `self + rhs`, rounded once (IEEE 754-2019 5.4.1, addition).
     ///
     /// If an operand is a NaN, returns it quieted (the left one if both are); `INVALID_OP` is raised if any operand is
     /// signaling (6.2.3). Adding infinities of opposite signs is invalid (7.2): the result is the quiet NaN without a
@@ -202,14 +202,14 @@ pub trait Float: Copy
     fn add_r(self, rhs: Self, round: Round) -> StatusAnd<Self>
         ensures { adds self rhs round result };
 
-    /// `self - rhs`, rounded once (IEEE 754-2008 5.4.1, subtraction), computed as the sum of `self` and `-rhs`; so
+    /// `self - rhs`, rounded once (IEEE 754-2019 5.4.1, subtraction), computed as the sum of `self` and `-rhs`; so
     /// subtracting infinities of equal signs is invalid.
     ///
     /// A NaN operand is treated as in `add_r`; a NaN on the right is not negated.
     fn sub_r(self, rhs: Self, round: Round) -> StatusAnd<Self>
         ensures { subtracts self rhs round result };
 
-    /// The product, rounded once (IEEE 754-2008 5.4.1, multiplication), for a type whose `MULTIPLIES` holds: for
+    /// The product, rounded once (IEEE 754-2019 5.4.1, multiplication), for a type whose `MULTIPLIES` holds: for
     /// `IeeeFloat`, the precision must be at most `PRODUCT_LIMIT`.
     ///
     /// An infinity times a zero is invalid (7.2): the result is the quiet NaN without a payload, with `INVALID_OP`. A
@@ -218,7 +218,7 @@ pub trait Float: Copy
         requires { IsTrue MULTIPLIES }
         ensures { multiplies self rhs round result };
 
-    /// The quotient, rounded once (IEEE 754-2008 5.4.1, division).
+    /// The quotient, rounded once (IEEE 754-2019 5.4.1, division).
     ///
     /// A nonzero number divided by a zero gives the infinity with the sign of the quotient, or the NaN in its place,
     /// with `DIV_BY_ZERO` (7.3). Zero divided by zero and infinity divided by infinity are invalid (7.2): the result is
@@ -226,7 +226,7 @@ pub trait Float: Copy
     fn div_r(self, rhs: Self, round: Round) -> StatusAnd<Self>
         ensures { divides self rhs round result };
 
-    /// The remainder `self - rhs * n`, where `n` is the integer nearest to the quotient, ties to even (IEEE 754-2008
+    /// The remainder `self - rhs * n`, where `n` is the integer nearest to the quotient, ties to even (IEEE 754-2019
     /// 5.3.1, remainder). It is exact.
     ///
     /// A zero remainder has the sign of `self` if the format has that zero, and an infinite `rhs` leaves a finite value
@@ -242,19 +242,19 @@ pub trait Float: Copy
     fn c_fmod(self, rhs: Self) -> StatusAnd<Self>
         ensures { leaves self rhs result };
 
-    /// The value rounded to an integral value of the same type, with its sign (IEEE 754-2008 5.9,
+    /// The value rounded to an integral value of the same type, with its sign (IEEE 754-2019 5.9,
     /// roundToIntegralExact). `INEXACT` is raised if the result differs from the value. Infinities and zeros are
     /// unchanged; a NaN is quieted, with `INVALID_OP` if it was signaling.
     fn round_to_integral(self, round: Round) -> StatusAnd<Self>
         ensures { rounds_to_integral self round result };
 
-    /// The least value that compares greater (IEEE 754-2008 5.3.1, nextUp), always exact. The value after the largest
+    /// The least value that compares greater (IEEE 754-2019 5.3.1, nextUp), always exact. The value after the largest
     /// is the infinity, or the NaN in its place. Positive infinity and quiet NaNs are unchanged; for a signaling NaN,
     /// the result is the quiet NaN of its sign without a payload, with `INVALID_OP`.
     fn next_up(self) -> StatusAnd<Self>
         ensures { steps_up self result };
 
-    /// The greatest value that compares less (IEEE 754-2008 5.3.1, nextDown), computed as the negation of `next_up` of
+    /// The greatest value that compares less (IEEE 754-2019 5.3.1, nextDown), computed as the negation of `next_up` of
     /// the negated value.
     fn next_down(self) -> StatusAnd<Self>
         ensures { steps_down self result }
@@ -262,14 +262,14 @@ pub trait Float: Copy
         (-self).next_up().map(|value| -value)
     }
 
-    /// The value without its sign (IEEE 754-2008 5.5.1, abs). A NaN loses its sign too, and no flag is raised.
+    /// The value without its sign (IEEE 754-2019 5.5.1, abs). A NaN loses its sign too, and no flag is raised.
     fn abs(self) -> Self
         ensures { result ≡ (if sign_of self then negated self else self) }
     {
         if self.is_negative() { -self } else { self }
     }
 
-    /// The value with the sign of `rhs` (IEEE 754-2008 5.5.1, copySign). Either may be a NaN; no flag is raised.
+    /// The value with the sign of `rhs` (IEEE 754-2019 5.5.1, copySign). Either may be a NaN; no flag is raised.
     fn copy_sign(self, rhs: Self) -> Self
         ensures { result
             ≡ (if not (same_sign (sign_of self) (sign_of rhs)) then negated self else self) }
@@ -281,13 +281,13 @@ pub trait Float: Copy
         }
     }
 
-    /// The value whose encoding is `bits` (IEEE 754-2008 3.4), for a type with bits, with `PRECISION` below `BITS`.
+    /// The value whose encoding is `bits` (IEEE 754-2019 3.4), for a type with bits, with `PRECISION` below `BITS`.
     /// Bits at and above `BITS` are ignored.
     fn from_bits(bits: u128) -> Self
         requires { PRECISION < BITS }
         ensures { result ≡ value_of_bits bits };
 
-    /// The value of a signed integer, rounded once (IEEE 754-2008 5.4.1, convertFromInt).
+    /// The value of a signed integer, rounded once (IEEE 754-2019 5.4.1, convertFromInt).
     fn from_i128_r(input: i128, round: Round) -> StatusAnd<Self>
         ensures { converts_signed input round result }
     {
@@ -305,7 +305,7 @@ pub trait Float: Copy
         Self::from_i128_r(input, Round::NearestTiesToEven)
     }
 
-    /// The value of an unsigned integer, rounded once (IEEE 754-2008 5.4.1, convertFromInt).
+    /// The value of an unsigned integer, rounded once (IEEE 754-2019 5.4.1, convertFromInt).
     fn from_u128_r(input: u128, round: Round) -> StatusAnd<Self>
         ensures { converts_unsigned input round result };
 
@@ -316,7 +316,7 @@ pub trait Float: Copy
         Self::from_u128_r(input, Round::NearestTiesToEven)
     }
 
-    /// The value of a text, rounded once, or an error for a malformed text (IEEE 754-2008 5.12,
+    /// The value of a text, rounded once, or an error for a malformed text (IEEE 754-2019 5.12,
     /// convertFromHexCharacter).
     ///
     /// A text is an optional sign followed by one of: an infinity, `inf`, `Inf` or `INFINITY`; a NaN, `nan` or `NaN`,
@@ -325,7 +325,7 @@ pub trait Float: Copy
     fn from_str_r(s: &str, round: Round) -> Result<StatusAnd<Self>, ParseError>
         ensures { reads s.now round result };
 
-    /// The bits of the canonical encoding of the value (IEEE 754-2008 3.4), for a type with bits, with `PRECISION`
+    /// The bits of the canonical encoding of the value (IEEE 754-2019 3.4), for a type with bits, with `PRECISION`
     /// below `BITS`. `from_bits` of them returns the value.
     fn to_bits(self) -> u128
         requires { PRECISION < BITS }
@@ -333,7 +333,7 @@ pub trait Float: Copy
         ensures below { result < 2 ^ BITS }
         ensures back { value_of_bits result ≡ self };
 
-    /// The value rounded to a signed integer of `width` bits, 2 to 128, in two's complement (IEEE 754-2008 5.4.1,
+    /// The value rounded to a signed integer of `width` bits, 2 to 128, in two's complement (IEEE 754-2019 5.4.1,
     /// convertToInteger).
     ///
     /// A value out of range, infinities included, gives the nearer end of the range, and a NaN gives 0, each with
@@ -366,7 +366,7 @@ pub trait Float: Copy
         self.to_i128_r(width, Round::TowardZero, &mut is_exact)
     }
 
-    /// The value rounded to an unsigned integer of `width` bits, 1 to 128 (IEEE 754-2008 5.4.1, convertToInteger).
+    /// The value rounded to an unsigned integer of `width` bits, 1 to 128 (IEEE 754-2019 5.4.1, convertToInteger).
     ///
     /// A value out of range, infinities included, gives the nearer end of the range, and a NaN gives 0, each with
     /// `INVALID_OP`. `INEXACT` is raised if a value in range is not an integer. `is_exact` says whether the integer
@@ -463,51 +463,51 @@ pub trait Float: Copy
         }
     }
 
-    /// Whether the sign is minus, for zeros and NaNs too (IEEE 754-2008 5.7.2, isSignMinus).
+    /// Whether the sign is minus, for zeros and NaNs too (IEEE 754-2019 5.7.2, isSignMinus).
     fn is_negative(self) -> bool
         ensures { result ≡ sign_of self };
 
-    /// Whether the value is finite, nonzero and not denormal (IEEE 754-2008 5.7.2, isNormal).
+    /// Whether the value is finite, nonzero and not denormal (IEEE 754-2019 5.7.2, isNormal).
     fn is_normal(self) -> bool
         ensures { result ≡ (is_finite_non_zero_category (category_of self) && not (denormal self)) }
     {
         self.is_finite_non_zero() && !self.is_denormal()
     }
 
-    /// Whether the value is finite (IEEE 754-2008 5.7.2, isFinite).
+    /// Whether the value is finite (IEEE 754-2019 5.7.2, isFinite).
     fn is_finite(self) -> bool
         ensures { result ≡ is_finite_category (category_of self) }
     {
         !self.is_nan() && !self.is_infinite()
     }
 
-    /// Whether the value is +0 or -0 (IEEE 754-2008 5.7.2, isZero).
+    /// Whether the value is +0 or -0 (IEEE 754-2019 5.7.2, isZero).
     fn is_zero(self) -> bool
         ensures { result ≡ is_zero_category (category_of self) }
     {
         self.category() == Category::Zero
     }
 
-    /// Whether the value is nonzero and smaller in magnitude than the smallest normal value (IEEE 754-2008 5.7.2,
+    /// Whether the value is nonzero and smaller in magnitude than the smallest normal value (IEEE 754-2019 5.7.2,
     /// isSubnormal).
     fn is_denormal(self) -> bool
         ensures { result ≡ denormal self };
 
-    /// Whether the value is an infinity (IEEE 754-2008 5.7.2, isInfinite).
+    /// Whether the value is an infinity (IEEE 754-2019 5.7.2, isInfinite).
     fn is_infinite(self) -> bool
         ensures { result ≡ is_infinite_category (category_of self) }
     {
         self.category() == Category::Infinity
     }
 
-    /// Whether the value is a NaN, quiet or signaling (IEEE 754-2008 5.7.2, isNaN).
+    /// Whether the value is a NaN, quiet or signaling (IEEE 754-2019 5.7.2, isNaN).
     fn is_nan(self) -> bool
         ensures { result ≡ is_nan_category (category_of self) }
     {
         self.category() == Category::NaN
     }
 
-    /// Whether the value is a signaling NaN (IEEE 754-2008 5.7.2, isSignaling). Never true in a format with a single
+    /// Whether the value is a signaling NaN (IEEE 754-2019 5.7.2, isSignaling). Never true in a format with a single
     /// NaN.
     fn is_signaling(self) -> bool
         ensures { result ≡ signals self };
@@ -593,12 +593,12 @@ pub trait Float: Copy
     fn get_exact_inverse(self) -> Option<Self>
         ensures { inverts self result };
 
-    /// The exponent of the highest binary digit, for denormal values too (IEEE 754-2008 5.3.3, logB): the floor of the
+    /// The exponent of the highest binary digit, for denormal values too (IEEE 754-2019 5.3.3, logB): the floor of the
     /// binary logarithm of the magnitude. For a zero, an infinity or a NaN it is `IEK_ZERO`, `IEK_INF` or `IEK_NAN`.
     fn ilogb(self) -> ExpInt
         ensures { has_exponent self result };
 
-    /// The value times 2 to the power of `exp`, rounded once (IEEE 754-2008 5.3.3, scaleB). Infinities and zeros are
+    /// The value times 2 to the power of `exp`, rounded once (IEEE 754-2019 5.3.3, scaleB). Infinities and zeros are
     /// unchanged, and a NaN is quieted. No status is returned.
     fn scalbn_r(self, exp: ExpInt, round: Round) -> Self
         ensures { scales self exp round result };

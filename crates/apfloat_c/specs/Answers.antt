@@ -43,7 +43,7 @@ order_code (Some Equal) = pos 0
 order_code (Some Greater) = pos 1
 order_code None = pos 2
 
--- the classes in the order of IEEE 754-2008 5.7.2, by the category, the sign, whether denormal, and whether signaling
+-- the classes in the order of IEEE 754-2019 5.7.2, by the category, the sign, whether denormal, and whether signaling
 abbrev pub class_code : Category → Bool → Bool → Bool → ℤ
 class_code NaN negative denormal signaling = if signaling then pos 0 else pos 1
 class_code Infinity negative denormal signaling = if negative then pos 2 else pos 9

@@ -59,7 +59,7 @@ pub fn order_code(order: Option<Ordering>) -> i32
     }
 }
 
-/// The code of the class of a value of this category and sign (IEEE 754-2008 5.7.2).
+/// The code of the class of a value of this category and sign (IEEE 754-2019 5.7.2).
 pub fn class_code(category: Category, negative: bool, denormal: bool, signaling: bool) -> i32
     ensures { result ≡ class_code category negative denormal signaling }
 {

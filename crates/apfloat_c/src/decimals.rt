@@ -38,7 +38,7 @@ const _: () = prove!(size_of::<DecimalText>() == 68);
 const _: () = prove!(align_of::<DecimalText>() == 4);
 
 /// The value of a text, a decimal number or what `apfloat_parse` reads, rounded once. A text with a byte above 127 is
-/// refused, and so is a format with the flags of IEEE 754-2008.
+/// refused, and so is a format with the flags of IEEE 754-2019.
 #[unsafe(no_mangle)]
 pub extern "C" fn apfloat_parse_decimal(
     format: u32,

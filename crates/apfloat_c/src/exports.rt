@@ -400,7 +400,7 @@ pub extern "C" fn apfloat_compare(format: u32, x: Halves, y: Halves, answer: &mu
     )
 }
 
-/// The class of a value in `number` (IEEE 754-2008 5.7.2).
+/// The class of a value in `number` (IEEE 754-2019 5.7.2).
 #[unsafe(no_mangle)]
 pub extern "C" fn apfloat_classify(format: u32, x: Halves, answer: &mut Answer) -> u32
     ensures { let call = Class (whole x) in

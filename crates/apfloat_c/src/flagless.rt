@@ -107,7 +107,7 @@ fn is_set(word: u32) -> bool
     word != 0
 }
 
-/// The value with the opposite sign (IEEE 754-2008 5.5.1, negate).
+/// The value with the opposite sign (IEEE 754-2019 5.5.1, negate).
 #[unsafe(no_mangle)]
 pub extern "C" fn apfloat_neg(format: u32, x: Halves, answer: &mut Answer) -> u32
     ensures { IsFlaglessReply (flagged_kind_coded format) (Negation (whole x))
@@ -116,7 +116,7 @@ pub extern "C" fn apfloat_neg(format: u32, x: Halves, answer: &mut Answer) -> u3
     reply(format, FlaglessCall::Negation(x.number()), answer)
 }
 
-/// The value without its sign (IEEE 754-2008 5.5.1, abs).
+/// The value without its sign (IEEE 754-2019 5.5.1, abs).
 #[unsafe(no_mangle)]
 pub extern "C" fn apfloat_abs(format: u32, x: Halves, answer: &mut Answer) -> u32
     ensures { IsFlaglessReply (flagged_kind_coded format) (AbsoluteValue (whole x))
@@ -125,7 +125,7 @@ pub extern "C" fn apfloat_abs(format: u32, x: Halves, answer: &mut Answer) -> u3
     reply(format, FlaglessCall::AbsoluteValue(x.number()), answer)
 }
 
-/// The first value with the sign of the second (IEEE 754-2008 5.5.1, copySign).
+/// The first value with the sign of the second (IEEE 754-2019 5.5.1, copySign).
 #[unsafe(no_mangle)]
 pub extern "C" fn apfloat_copy_sign(format: u32, x: Halves, y: Halves, answer: &mut Answer) -> u32
     ensures { IsFlaglessReply (flagged_kind_coded format) (SignCopy (whole x) (whole y))
@@ -192,7 +192,7 @@ pub extern "C" fn apfloat_maximum(format: u32, x: Halves, y: Halves, answer: &mu
     )
 }
 
-/// The quiet NaN with this payload, truncated to the bits that the format has room for (IEEE 754-2008 6.2.1); it is
+/// The quiet NaN with this payload, truncated to the bits that the format has room for (IEEE 754-2019 6.2.1); it is
 /// negative if `negative` is not 0.
 #[unsafe(no_mangle)]
 pub extern "C" fn apfloat_qnan(
@@ -212,7 +212,7 @@ pub extern "C" fn apfloat_qnan(
 }
 
 /// The signaling NaN with this payload, truncated to the bits that the format has room for; if none of them is set, the
-/// highest one is (IEEE 754-2008 6.2.1). It is negative if `negative` is not 0. In a format with a single NaN, the
+/// highest one is (IEEE 754-2019 6.2.1). It is negative if `negative` is not 0. In a format with a single NaN, the
 /// result is that NaN.
 #[unsafe(no_mangle)]
 pub extern "C" fn apfloat_snan(
@@ -231,7 +231,7 @@ pub extern "C" fn apfloat_snan(
     )
 }
 
-/// Whether the value has a minus sign, in `number` (IEEE 754-2008 5.7.2, isSignMinus).
+/// Whether the value has a minus sign, in `number` (IEEE 754-2019 5.7.2, isSignMinus).
 #[unsafe(no_mangle)]
 pub extern "C" fn apfloat_is_negative(format: u32, x: Halves, answer: &mut Answer) -> u32
     ensures { IsFlaglessReply (flagged_kind_coded format) (SignTest (whole x))

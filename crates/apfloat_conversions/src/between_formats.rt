@@ -15,7 +15,7 @@ use crate::held::{has, widened};
 use crate::payloads::converted_nan;
 use apfloat_model::{Category, NonfiniteBehavior, Round, Status, StatusAnd};
 use apfloat_rounding::exponents::last_exponent;
-use apfloat_rounding::rounding::deliver_u128_digits;
+use apfloat_rounding::rounding::deliver_counted_u128;
 use apfloat_rounding::shape::Shape;
 use apfloat_rounding::unpacked::{Unpacked, infinity_of, remade, significand_of, zero_of};
 
@@ -43,7 +43,7 @@ fn converted_number(from: Shape, into: Shape, x: Unpacked, round: Round) -> Conv
             loses_info: false,
         };
     }
-    let answer = deliver_u128_digits(
+    let answer = deliver_counted_u128(
         into,
         significand_of(from, x),
         from.precision,
@@ -138,7 +138,7 @@ fn convert_other(from: Shape, into: Shape, x: Unpacked, round: Round) -> Convert
     }
 }
 
-/// A value converted to another format, rounded once, and whether information was lost (IEEE 754-2008 5.4.2,
+/// A value converted to another format, rounded once, and whether information was lost (IEEE 754-2019 5.4.2,
 /// convertFormat).
 #[inline(always)]
 pub fn convert(from: Shape, into: Shape, x: Unpacked, round: Round) -> Converted

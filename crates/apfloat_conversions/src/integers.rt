@@ -1,6 +1,6 @@
 //! Conversions from and to integers.
 
-ghost use Rattle.std.specs.Prelude.{◌≡◌, ◌-◌, ◌*◌, ◌^◌, ◌<◌, ◌≤◌, pos, ◌-ℤ◌, if◌then◌else◌};
+ghost use Rattle.std.specs.Prelude.{◌≡◌, ◌-◌, ◌*◌, ◌^◌, ◌<◌, ◌≤◌, pos, if◌then◌else◌};
 ghost use Rattle.apfloat_model.specs.formats.Datum.{finite};
 ghost use Rattle.apfloat_model.specs.rounding.Flags.{bits_of};
 ghost use Rattle.apfloat_model.specs.whole_numbers.WholeNumbers.{IsFromUnsigned, inexact_unless};
@@ -10,8 +10,9 @@ ghost use Rattle.apfloat_rounding.specs.Stored.{IsStored, IsNormal, datum_at, nu
 ghost use Rattle.apfloat_conversions.specs.Results.{GivesWhole};
 
 use crate::whole::{Whole, whole_of};
-use apfloat_model::{Category, ExpInt, Round, Status, StatusAnd};
-use apfloat_rounding::rounding::deliver_u128_digits;
+use apfloat_model::{Category, Round, Status, StatusAnd};
+use apfloat_rounding::exponents::aligned_exponent;
+use apfloat_rounding::rounding::deliver_counted_u128;
 use apfloat_rounding::shape::Shape;
 use apfloat_rounding::unpacked::{Unpacked, zero_of};
 use apfloat_words::digits;
@@ -29,15 +30,6 @@ fn aligned(number: u128, count: u32) -> u128
     number << (128 - count)
 }
 
-/// The exponent of the last digit of an integer that was shifted up to 128 digits.
-#[inline(always)]
-fn aligned_exponent(count: u32) -> ExpInt
-    requires { count ≤ 128 }
-    ensures { result ≡ pos count -ℤ pos 128 }
-{
-    count as ExpInt - 128
-}
-
 /// The value of an integer, rounded once. The integer is normalized first, so that the cut is at the same digit for
 /// all.
 #[inline(always)]
@@ -50,7 +42,7 @@ pub fn from_unsigned(shape: Shape, number: u128, round: Round) -> StatusAnd<Unpa
         return Status::OK.and(zero_of(shape, false));
     }
     let significand = aligned(number, count);
-    deliver_u128_digits(
+    deliver_counted_u128(
         shape,
         significand,
         128,

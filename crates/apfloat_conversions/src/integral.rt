@@ -32,7 +32,7 @@ fn round_number(shape: Shape, x: Unpacked, round: Round) -> StatusAnd<Unpacked>
     status_of(whole.exact).and(from_quanta(shape, x.negative, whole.magnitude, shape.scale()))
 }
 
-/// A value rounded to an integer in its own format (IEEE 754-2008 5.9, roundToIntegralExact).
+/// A value rounded to an integer in its own format (IEEE 754-2019 5.9, roundToIntegralExact).
 #[inline(always)]
 pub fn round_to_integral(shape: Shape, x: Unpacked, round: Round) -> StatusAnd<Unpacked>
     requires { IsStored shape x }

@@ -136,7 +136,7 @@ fn next_of_nan(shape: Shape, x: Unpacked) -> StatusAnd<Unpacked>
     }
 }
 
-/// The least value that compares greater (IEEE 754-2008 5.3.1, nextUp).
+/// The least value that compares greater (IEEE 754-2019 5.3.1, nextUp).
 #[inline(always)]
 pub fn next_up(shape: Shape, x: Unpacked) -> StatusAnd<Unpacked>
     requires { IsStored shape x }

@@ -1,5 +1,5 @@
 //! Conversion of NaNs from one format to another: quieted, and with the leading bits of the payload that the other
-//! format has room for (IEEE 754-2008 6.2.3).
+//! format has room for (IEEE 754-2019 6.2.3).
 
 ghost use Rattle.std.specs.Prelude.{◌≡◌, ◌-◌, ◌*◌, ◌/◌, ◌^◌, ◌<◌};
 ghost use Rattle.apfloat_model.specs.arithmetic.Conversions.{IsConverted, places_out, nan_loses, converted_nan};
@@ -55,7 +55,7 @@ fn nan_loses(from: Shape, into: Shape, significand: u128) -> bool
     cut != 0 || ((hides_integer_bit && signals(from, significand)) || drops_payload)
 }
 
-/// A NaN, quieted, with the leading bits of its payload that the other format has room for (IEEE 754-2008 6.2.3).
+/// A NaN, quieted, with the leading bits of its payload that the other format has room for (IEEE 754-2019 6.2.3).
 #[inline(always)]
 pub(crate) fn converted_nan(from: Shape, into: Shape, x: Unpacked) -> Converted
     requires { IsNan from x }

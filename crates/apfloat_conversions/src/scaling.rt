@@ -68,7 +68,7 @@ fn scale_number(shape: Shape, x: Unpacked, places: ExpInt, round: Round) -> Stat
     )
 }
 
-/// A value times 2 to the power of `places`, rounded once (IEEE 754-2008 5.3.3, scaleB).
+/// A value times 2 to the power of `places`, rounded once (IEEE 754-2019 5.3.3, scaleB).
 #[inline(always)]
 pub fn scaled(shape: Shape, x: Unpacked, places: ExpInt, round: Round) -> Unpacked
     requires { IsStored shape x }
@@ -84,7 +84,7 @@ pub fn scaled(shape: Shape, x: Unpacked, places: ExpInt, round: Round) -> Unpack
     }
 }
 
-/// A value times 2 to the power of `places`, rounded once, with its status (IEEE 754-2008 5.3.3, scaleB).
+/// A value times 2 to the power of `places`, rounded once, with its status (IEEE 754-2019 5.3.3, scaleB).
 #[inline(always)]
 pub fn scaled_with_status(
     shape: Shape,
@@ -105,7 +105,7 @@ pub fn scaled_with_status(
     }
 }
 
-/// The exponent of the highest digit of a value, or the constant returned in its place (IEEE 754-2008 5.3.3, logB).
+/// The exponent of the highest digit of a value, or the constant returned in its place (IEEE 754-2019 5.3.3, logB).
 #[inline(always)]
 pub fn ilogb(shape: Shape, x: Unpacked) -> ExpInt
     requires { IsStored shape x }

@@ -139,7 +139,7 @@ fn round_word(shape: Shape, x: Unpacked, round: Round) -> Whole
 
 /// The integer `significand * 2^places`.
 #[inline(always)]
-fn raised(precision: u32, significand: u128, places: u32) -> u128
+fn integer_of(precision: u32, significand: u128, places: u32) -> u128
     requires some { 0 < precision }
     requires fits { significand < 2 ^ precision }
     requires near { precision + places ≤ 128 }
@@ -164,7 +164,7 @@ pub fn whole_of(shape: Shape, x: Unpacked, round: Round) -> Option<Whole>
     let exponent = last_exponent(shape, x.exponent);
     if exponent >= 0 {
         return Some(Whole {
-            magnitude: raised(shape.precision, x.significand, steps_between(exponent, 0)),
+            magnitude: integer_of(shape.precision, x.significand, steps_between(exponent, 0)),
             exact: true,
         });
     }

@@ -1,4 +1,4 @@
--- A text that is read as a decimal (IEEE 754-2008 5.12.2).
+-- A text that is read as a decimal (IEEE 754-2019 5.12.2).
 use Rattle.std.specs.Prelude.{◌≡◌, ◌⊎◌, ℕ, ◌+◌, ◌^◌, ◌<◌, ◌≤◌, ℤ, pos, neg_ℤ, ◌≤ℤ◌, Bool, List, if◌then◌else◌, Option}
 use Rattle.std.specs.Prelude.{Some, Result, Ok, Err}
 use Rattle.apfloat_model.specs.declared.parse_error.Fault.{Fault}

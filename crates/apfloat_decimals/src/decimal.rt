@@ -24,7 +24,7 @@ pub struct Decimal {
     pub exponent: ExpInt,
 }
 
-/// The value of a decimal, rounded once to the format (IEEE 754-2008 5.12.2), with exactly the flags of that rounding.
+/// The value of a decimal, rounded once to the format (IEEE 754-2019 5.12.2), with exactly the flags of that rounding.
 ///
 /// The exponents of the format are within those of `Quad`, as in each built-in format; the decimal may have any
 /// exponent. A zero keeps its sign if the format has signed zeros.

@@ -1,7 +1,7 @@
 //! The built-in binary floating-point formats, together with the functions on values of any format.
 //!
 //! A format is a type that implements `Semantics`; `IeeeFloat<S>` is a value of the format `S`, and
-//! `IeeeFloat<IeeeFlags<S>>` one whose operations raise the flags of IEEE 754-2008.
+//! `IeeeFloat<IeeeFlags<S>>` one whose operations raise the flags of IEEE 754-2019.
 #![tactic(auto)]
 
 mod formats;

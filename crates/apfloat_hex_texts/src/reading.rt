@@ -69,7 +69,7 @@ fn read_bytes(shape: Shape, text: &[u8], round: Round) -> Result<StatusAnd<Unpac
     }
 }
 
-/// Reads a text (IEEE 754-2008 5.12): returns its value, rounded once, or the message for its first fault from the
+/// Reads a text (IEEE 754-2019 5.12): returns its value, rounded once, or the message for its first fault from the
 /// left.
 ///
 /// The text is given by its bytes: no character of more than one byte has a meaning.

@@ -12,7 +12,7 @@ use std::marker::PhantomData;
 /// A binary format together with the rule by which a rounding raises OVERFLOW and UNDERFLOW.
 ///
 /// Each type that implements `Semantics` implements this too, with the rule of the built-in formats; `IeeeFlags<S>` is
-/// the format `S` with the rule of IEEE 754-2008. The other constants are those of `Semantics`. No value depends on the
+/// the format `S` with the rule of IEEE 754-2019. The other constants are those of `Semantics`. No value depends on the
 /// rule.
 pub trait Flagged: Copy {
     /// `Semantics::BITS`.
@@ -54,7 +54,7 @@ pub trait Flagged: Copy {
     /// `Semantics::TINY_BEFORE_ROUNDING`.
     const TINY_BEFORE_ROUNDING: bool;
 
-    /// Whether flags are raised as IEEE 754-2008 asks: OVERFLOW whenever the result, rounded with an unbounded
+    /// Whether flags are raised as IEEE 754-2019 asks: OVERFLOW whenever the result, rounded with an unbounded
     /// exponent, is past the largest value (7.4), even in the modes that then deliver the largest value; and UNDERFLOW
     /// if an inexact result, rounded with an unbounded exponent, is tiny, or, with `TINY_BEFORE_ROUNDING`, if the exact
     /// result is (7.5).
@@ -155,7 +155,7 @@ impl<S: Semantics> Flagged for S {
     ghost lawful = { S.lawful };
 }
 
-/// The format `S` with the flags of IEEE 754-2008 and tininess detected after rounding, as on x86 and RISC-V.
+/// The format `S` with the flags of IEEE 754-2019 and tininess detected after rounding, as on x86 and RISC-V.
 /// `IeeeFlags<TinyBefore<S>>` detects it before rounding, as on Arm and POWER.
 #[derive_where(Clone, Copy)]
 pub struct IeeeFlags<S: Semantics> {

@@ -12,7 +12,7 @@ use apfloat_arithmetic::fused::multiply_add;
 use apfloat_base::{Round, StatusAnd};
 
 impl<S: Flagged> IeeeFloat<S> {
-    /// `self * multiplicand + addend`, rounded once (IEEE 754-2008 5.4.1, fusedMultiplyAdd), in a format of at most
+    /// `self * multiplicand + addend`, rounded once (IEEE 754-2019 5.4.1, fusedMultiplyAdd), in a format of at most
     /// `FUSED_LIMIT` digits.
     ///
     /// The product itself is never rounded, even if it is below the smallest denormal value or cancels the addend. An

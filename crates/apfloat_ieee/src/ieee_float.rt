@@ -138,7 +138,7 @@ impl<S: Flagged> IeeeFloat<S> {
 }
 
 /// Delivers `significand * 2^exponent`, where `loss` says what was cut off below the last digit, rounded once to the
-/// format (IEEE 754-2008 4.3), with exactly the flags of that rounding.
+/// format (IEEE 754-2019 4.3), with exactly the flags of that rounding.
 ///
 /// If something was lost, the unit of the last digit has to divide an ulp of the result: it is at most the quantum, or
 /// the significand has all the digits of the format. Where tininess is judged with an unbounded exponent, it is at most

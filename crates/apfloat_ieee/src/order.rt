@@ -24,7 +24,7 @@ impl<S: Flagged> PartialEq for IeeeFloat<S> {
 
     ghost laws = { equal_laws };
 
-    /// Whether both are the same number (IEEE 754-2008 5.11): both zeros are equal, and a NaN equals nothing.
+    /// Whether both are the same number (IEEE 754-2019 5.11): both zeros are equal, and a NaN equals nothing.
     #[inline]
     fn eq(&self, other: &Self) -> bool {
         match compare(*self, *other) {
@@ -42,7 +42,7 @@ impl<S: Flagged> PartialOrd for IeeeFloat<S> {
 
     ghost laws = { compared_laws };
 
-    /// The numeric order (IEEE 754-2008 5.11): both zeros are equal, the infinities are at the ends, and a NaN is
+    /// The numeric order (IEEE 754-2019 5.11): both zeros are equal, the infinities are at the ends, and a NaN is
     /// unordered.
     #[inline]
     fn partial_cmp(&self, other: &Self) -> Option<Ordering> {

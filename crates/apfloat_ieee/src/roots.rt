@@ -12,7 +12,7 @@ use apfloat_arithmetic::roots::square_root;
 use apfloat_base::{Round, StatusAnd};
 
 impl<S: Flagged> IeeeFloat<S> {
-    /// The square root, rounded once (IEEE 754-2008 5.4.1, squareRoot).
+    /// The square root, rounded once (IEEE 754-2019 5.4.1, squareRoot).
     ///
     /// The root of a zero is that zero, with its sign, and the root of positive infinity is positive infinity. The root
     /// of a negative number or of negative infinity is invalid (7.2): the result is the quiet NaN without a payload,

@@ -10,7 +10,7 @@ use apfloat_base::{ExpInt, Round, StatusAnd};
 use apfloat_conversions::scaling::scaled_with_status;
 
 impl<S: Flagged> IeeeFloat<S> {
-    /// The value times 2 to the power of `places`, rounded once (IEEE 754-2008 5.3.3, scaleB), with exactly the flags
+    /// The value times 2 to the power of `places`, rounded once (IEEE 754-2019 5.3.3, scaleB), with exactly the flags
     /// of that rounding: the value of `scalbn_r`, which returns no status.
     ///
     /// Infinities and zeros are unchanged. A NaN is quieted, with `INVALID_OP` if it was signaling.

@@ -59,7 +59,7 @@ pub trait Semantics: Copy {
     const EXPLICIT_INTEGER_BIT: bool;
 
     /// Whether tininess, a magnitude below 2 to the power of `MIN_EXP`, is detected before rounding rather than after
-    /// it (IEEE 754-2008 7.5). Any format may choose either.
+    /// it (IEEE 754-2019 7.5). Any format may choose either.
     const TINY_BEFORE_ROUNDING: bool;
 
     ghost BITS: { ℕ };
@@ -88,7 +88,7 @@ pub trait Semantics: Copy {
 
     ghost TINY_BEFORE_ROUNDING: { Bool };
 
-    /// The value whose encoding is `bits` (IEEE 754-2008 3.4), in a format with bits, with `PRECISION` below `BITS`.
+    /// The value whose encoding is `bits` (IEEE 754-2019 3.4), in a format with bits, with `PRECISION` below `BITS`.
     /// Bits at and above `BITS` are ignored.
     ///
     /// With an implied integer bit, all encodings below `2^BITS` are canonical: writing the value gives `bits` again.
@@ -103,7 +103,7 @@ pub trait Semantics: Copy {
         decode::<Self>(bits)
     }
 
-    /// The bits of the one canonical encoding of the value (IEEE 754-2008 3.4), in a format with bits, with `PRECISION`
+    /// The bits of the one canonical encoding of the value (IEEE 754-2019 3.4), in a format with bits, with `PRECISION`
     /// below `BITS`. `from_bits` of them returns the value.
     #[inline]
     final fn to_bits(x: IeeeFloat<Self>) -> u128

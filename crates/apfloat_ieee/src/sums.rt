@@ -47,7 +47,7 @@ impl<S: Flagged> Neg for IeeeFloat<S> {
 
     ghost neg_gives = { λ x r. r ≡ negated (format_of S.Flagged).nonfinite x };
 
-    /// The negated value (IEEE 754-2008 5.5.1, negate). A NaN is negated too; no flag is raised.
+    /// The negated value (IEEE 754-2019 5.5.1, negate). A NaN is negated too; no flag is raised.
     #[inline]
     fn neg(self) -> IeeeFloat<S> {
         IeeeFloat::packed(negated(shape_of::<S>(), self.unpacked()))

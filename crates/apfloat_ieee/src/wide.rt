@@ -9,12 +9,12 @@ ghost use Rattle.apfloat_ieee.specs.FlaggedTypes.{format_of};
 use crate::flagged::Flagged;
 use crate::ieee_float::{IeeeFloat, shape_of};
 use crate::products::product;
-use apfloat_arithmetic::wide_fused::wide_multiply_add;
-use apfloat_arithmetic::wide_products::multiply_wide;
+use apfloat_arithmetic::wide_fused::multiply_add_at_every_precision;
+use apfloat_arithmetic::wide_products::multiply_at_every_precision;
 use apfloat_base::{FUSED_LIMIT, PRODUCT_LIMIT, Round, StatusAnd};
 
 impl<S: Flagged> IeeeFloat<S> {
-    /// `self * rhs`, rounded once (IEEE 754-2008 5.4.1, multiplication), in a format of any precision.
+    /// `self * rhs`, rounded once (IEEE 754-2019 5.4.1, multiplication), in a format of any precision.
     ///
     /// The result is that of `mul_r`, which only formats of at most `PRODUCT_LIMIT` digits have.
     #[inline(always)]
@@ -24,7 +24,12 @@ impl<S: Flagged> IeeeFloat<S> {
         if S::PRECISION <= PRODUCT_LIMIT {
             return product(self, rhs, round);
         }
-        IeeeFloat::answered(multiply_wide(shape_of::<S>(), self.unpacked(), rhs.unpacked(), round))
+        IeeeFloat::answered(multiply_at_every_precision(
+            shape_of::<S>(),
+            self.unpacked(),
+            rhs.unpacked(),
+            round,
+        ))
     }
 
     /// `self * rhs`, rounded once to the nearest value, ties to even, in a format of any precision.
@@ -35,7 +40,7 @@ impl<S: Flagged> IeeeFloat<S> {
         self.wide_mul_r(rhs, Round::NearestTiesToEven)
     }
 
-    /// `self * multiplicand + addend`, rounded once (IEEE 754-2008 5.4.1, fusedMultiplyAdd), in a format of any
+    /// `self * multiplicand + addend`, rounded once (IEEE 754-2019 5.4.1, fusedMultiplyAdd), in a format of any
     /// precision.
     ///
     /// The result is that of `mul_add_r`, which only formats of at most `FUSED_LIMIT` digits have.
@@ -46,7 +51,7 @@ impl<S: Flagged> IeeeFloat<S> {
         if S::PRECISION <= FUSED_LIMIT {
             return self.mul_add_r(multiplicand, addend, round);
         }
-        IeeeFloat::answered(wide_multiply_add(
+        IeeeFloat::answered(multiply_add_at_every_precision(
             shape_of::<S>(),
             self.unpacked(),
             multiplicand.unpacked(),

@@ -18,7 +18,7 @@ pub enum Category {
     Zero,
 }
 
-/// A rounding mode (IEEE 754-2008 4.3): which of its two neighbours in a format represents a result that lies between
+/// A rounding mode (IEEE 754-2019 4.3): which of its two neighbours in a format represents a result that lies between
 /// them.
 #[derive(Clone, Copy, PartialEq, Eq, Debug)]
 pub enum Round {
@@ -55,7 +55,7 @@ impl Neg for Round {
 /// Which non-finite values a format has, and how it writes them.
 #[derive(Clone, Copy, PartialEq, Eq, Debug)]
 pub enum NonfiniteBehavior {
-    /// Infinities and NaNs with payloads, at the greatest biased exponent (IEEE 754-2008 3.4).
+    /// Infinities and NaNs with payloads, at the greatest biased exponent (IEEE 754-2019 3.4).
     IEEE754,
     /// No infinities, and one NaN of each sign, whose exponent and significand are all ones.
     NanOnly,

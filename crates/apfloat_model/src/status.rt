@@ -6,7 +6,7 @@ ghost use Rattle.apfloat_model.specs.rounding.Flags.{bits_of};
 
 use bitflags::{Flag, Flags, bitflag_items};
 
-/// The flags that an operation raises (IEEE 754-2008 7), as a set. Its set operations are those of the trait `Flags`.
+/// The flags that an operation raises (IEEE 754-2019 7), as a set. Its set operations are those of the trait `Flags`.
 #[derive(Clone, Copy, PartialEq, Eq, PartialOrd, Ord, Debug)]
 pub struct Status(u8);
 

@@ -25,7 +25,7 @@ impl Neg for DoubleFloat {
 
     ghost neg_gives = { λ x r. r ≡ negated_pair x };
 
-    /// The negation of both parts (IEEE 754-2008 5.5.1, negate); a low part that is zero, infinite or a NaN is
+    /// The negation of both parts (IEEE 754-2019 5.5.1, negate); a low part that is zero, infinite or a NaN is
     /// unchanged.
     #[inline]
     fn neg(self) -> DoubleFloat {

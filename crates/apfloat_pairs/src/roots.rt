@@ -10,7 +10,7 @@ use crate::wide::split_answer;
 use apfloat_base::{Round, StatusAnd};
 
 impl DoubleFloat {
-    /// The square root (IEEE 754-2008 5.4.1, squareRoot): that of the exact sum of the parts, rounded once to 106
+    /// The square root (IEEE 754-2019 5.4.1, squareRoot): that of the exact sum of the parts, rounded once to 106
     /// binary digits, and split.
     #[inline]
     pub fn sqrt_r(self, round: Round) -> StatusAnd<DoubleFloat>

@@ -1,4 +1,4 @@
-//! NaNs: which of them are signaling, and the results that are NaNs (IEEE 754-2008 6.2).
+//! NaNs: which of them are signaling, and the results that are NaNs (IEEE 754-2019 6.2).
 
 ghost use Rattle.std.specs.Prelude.{◌≡◌};
 ghost use Rattle.apfloat_model.specs.declared.kinds.Category.TheVariants.{NaN};

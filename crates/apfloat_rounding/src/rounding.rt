@@ -38,6 +38,7 @@ pub mod from_u128;
 pub mod from_word;
 
 use self::denormal::{cut_at_quantum, in_word};
+use crate::exponents::unit_place;
 use crate::shape::Shape;
 use crate::unpacked::{
     Unpacked, from_few_quanta, from_full_quanta, from_rounded_quanta, infinity_of, largest_of,
@@ -559,16 +560,6 @@ fn round(shape: Shape, known: Known, cut: Cut, mode: Round, negative: bool) -> S
     status.and(from_full_quanta(shape, negative, point.significand, point.place))
 }
 
-/// The exponent of a unit, relative to the quantum's.
-#[inline(always)]
-fn unit_place(shape: Shape, exponent: ExpInt) -> ExpInt
-    requires { IsWithin exponent_bound exponent }
-    ensures value { result ≡ exponent +ℤ pos (format_at shape).scale }
-    ensures within { IsWithin unit_bound result }
-{
-    exponent + shape.scale() as ExpInt
-}
-
 /// Delivers `significand * 2^exponent`, with `loss` below its last digit, rounded once.
 ///
 /// If something was lost below, the unit must be fine enough to divide the spacing of the format there: it is at most
@@ -750,7 +741,7 @@ fn split(significand: u128, digits: u32, places: u32) -> Pieces
 
 /// Cuts a significand with `digits` digits to the precision.
 #[inline(always)]
-fn cut_u128_digits(precision: u32, significand: u128, digits: u32, unit: ExpInt) -> Cut
+fn cut_counted_u128(precision: u32, significand: u128, digits: u32, unit: ExpInt) -> Cut
     requires some { 0 < precision }
     requires precise { precision ≤ 125 }
     requires long { precision < digits }
@@ -779,7 +770,7 @@ fn cut_u128_digits(precision: u32, significand: u128, digits: u32, unit: ExpInt)
 /// Delivers `significand * 2^exponent`, rounded once. The significand has exactly `digits` digits. The result is that
 /// of `deliver` with nothing lost; this is faster if the number of digits is a constant.
 #[inline(always)]
-pub fn deliver_u128_digits(
+pub fn deliver_counted_u128(
     shape: Shape,
     significand: u128,
     digits: u32,
@@ -800,7 +791,7 @@ pub fn deliver_u128_digits(
     let unit = unit_place(shape, exponent);
     if digits > shape.precision {
         if unit + digits as ExpInt >= shape.precision as ExpInt {
-            let cut = cut_u128_digits(shape.precision, significand, digits, unit);
+            let cut = cut_counted_u128(shape.precision, significand, digits, unit);
             return round(shape, Known::Normal, cut, mode, negative);
         }
         if shape.precision <= 59 {

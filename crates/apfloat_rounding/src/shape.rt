@@ -21,7 +21,7 @@ pub struct Shape {
     pub explicit_integer_bit: bool,
     /// Whether tininess is detected before rounding.
     pub tiny_before_rounding: bool,
-    /// Whether flags are raised as IEEE 754-2008 7.4 and 7.5 say.
+    /// Whether flags are raised as IEEE 754-2019 7.4 and 7.5 say.
     pub ieee_flags: bool,
     pub ghost parameters: { AreParameters precision min_exp max_exp },
 }

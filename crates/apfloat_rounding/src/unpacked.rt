@@ -11,6 +11,7 @@ ghost use Rattle.apfloat_model.specs.formats.Nan.{nan_sign};
 ghost use Rattle.apfloat_rounding.specs.Shapes.{format_at};
 ghost use Rattle.apfloat_rounding.specs.Stored.{IsNanSignificandAt, IsStored, datum_at};
 
+use crate::exponents::exponent_at;
 use crate::shape::Shape;
 use apfloat_model::{Category, ExpInt, NonfiniteBehavior, StatusAnd};
 use apfloat_words::digits;
@@ -134,20 +135,6 @@ pub fn infinity_of(shape: Shape, negative: bool) -> Unpacked
         NonfiniteBehavior::NanOnly => nan_of(shape, negative, shape.integer_bit() - 1),
         NonfiniteBehavior::NanNegativeZero => nan_of(shape, negative, 0),
     }
-}
-
-/// The exponent of the integer bit of a number, if that bit was moved up by `place` and down by `shift` from that of
-/// the smallest normalized value.
-#[inline(always)]
-fn exponent_at(min_exp: ExpInt, place: u32, shift: u32) -> ExpInt
-    requires least { neg_ℤ (pos format_bound) ≤ℤ min_exp }
-    requires below_one { min_exp ≤ℤ pos 0 }
-    requires near { place ≤ place_bound }
-    requires short { shift ≤ 128 }
-    ensures value { result ≡ (min_exp +ℤ pos place) -ℤ pos shift }
-    ensures moved { shift + up (result -ℤ min_exp) ≡ place + down (result -ℤ min_exp) }
-{
-    min_exp + place as ExpInt - shift as ExpInt
 }
 
 /// `significand * 2^place` quanta with that sign.

@@ -7,6 +7,7 @@
 //! Products and sums that are too long for a `u128` take two (`Wide`), and are rounded to odd when they are cut to one.
 #![tactic(auto)]
 
+mod exponents;
 pub mod guessed_quotient;
 pub mod loss;
 pub mod product;

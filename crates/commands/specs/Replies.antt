@@ -107,7 +107,7 @@ unfoldable pub hexadecimal_text : ℕ → ℕ → List ℕ
 hexadecimal_text n zero = []
 hexadecimal_text n (suc place) = hexadecimal_digit (n / 16 ^ place % 16) ∷ hexadecimal_text n place
 
--- the flags in the order of their bits (IEEE 754-2008 7.1)
+-- the flags in the order of their bits (IEEE 754-2019 7.1)
 abbrev pub flags : List (List ℕ × ℕ)
 flags =
     (codes "INVALID_OP", 1)

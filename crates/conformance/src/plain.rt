@@ -109,7 +109,7 @@ pub struct Bounds {
     pub smallest_normalized: u128,
     /// Whether tininess is detected before rounding.
     pub tiny_before_rounding: bool,
-    /// Whether OVERFLOW and UNDERFLOW are raised as IEEE 754-2008 7.4 and 7.5 ask.
+    /// Whether OVERFLOW and UNDERFLOW are raised as IEEE 754-2019 7.4 and 7.5 ask.
     pub ieee_flags: bool,
     /// Which non-finite values the format has.
     pub nonfinite: NonfiniteBehavior,

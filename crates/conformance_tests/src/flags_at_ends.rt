@@ -1,4 +1,4 @@
-//! The flags of IEEE 754-2008 at both ends of the range: every bit pattern of binary16 with numbers around the smallest
+//! The flags of IEEE 754-2019 at both ends of the range: every bit pattern of binary16 with numbers around the smallest
 //! normalized one and the largest one, by both rules of tininess. Value and status are compared with the plain program
 //! for one rounding.
 

@@ -7,7 +7,7 @@ ghost use Rattle.rustc_apfloat.proofs.LawTest.{lawful_from_test};
 use rustc_apfloat::ExpInt;
 use rustc_apfloat::ieee::{NonfiniteBehavior, Semantics};
 
-/// Binary16, except that tininess is detected before rounding (IEEE 754-2008 7.5).
+/// Binary16, except that tininess is detected before rounding (IEEE 754-2019 7.5).
 #[derive(Clone, Copy)]
 pub struct HalfTinyBeforeS;
 

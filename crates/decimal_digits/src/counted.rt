@@ -13,7 +13,7 @@ ghost use Rattle.apfloat_decimals.specs.ShortestSearch.{IsPositive};
 ghost use Rattle.decimal_digits.specs.DigitCounts.{GivesDigitCount, IsDigitCount};
 
 use apfloat_base::{Category, ExpInt, Float};
-use apfloat_decimals::exponents::lowered;
+use apfloat_decimals::exponents::exponent_below;
 use apfloat_decimals::{first_exponent, first_place, last_place, significand};
 use apfloat_ieee::{IeeeFloat, Semantics};
 
@@ -33,7 +33,7 @@ fn count_of<S: Semantics>(x: IeeeFloat<S>) -> u32
     requires positive { IsPositive (format_of S.Semantics) x }
     ensures { IsDigitCount (format_of S.Semantics) (quanta_of x) result }
 {
-    let last = lowered(first_exponent(x), S::PRECISION as u32 - 1);
+    let last = exponent_below(first_exponent(x), S::PRECISION as u32 - 1);
     let place = last_place(significand(x, last), last);
     count_between(first_place(x), place)
 }

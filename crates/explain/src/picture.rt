@@ -279,7 +279,7 @@ fn reason_of(round: Round, side: Side) -> &'static str {
     }
 }
 
-/// Writes the flags, each with the clause of IEEE 754-2008 that defines it.
+/// Writes the flags, each with the clause of IEEE 754-2019 that defines it.
 fn write_flags<W: Write>(status: Status, in_colour: bool, out: &mut W) -> io::Result<()> {
     if status.is_empty() {
         return writeln!(out, "flags   none");

@@ -63,7 +63,7 @@ abbrev pub built_in : BuiltInKind → FlaggedKind
 built_in (OfBuiltIn format) = OfFormat (BuiltIn format)
 built_in PairsOfDoubles = Pairs
 
--- the kind with the rule of flags that the bits above its code name: none, 1 for the flags of IEEE 754-2008, or 3 for
+-- the kind with the rule of flags that the bits above its code name: none, 1 for the flags of IEEE 754-2019, or 3 for
 -- these with tininess detected before rounding
 abbrev pub with_flags : ℕ → BuiltInKind → Option FlaggedKind
 with_flags bits kind =

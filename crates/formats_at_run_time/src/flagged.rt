@@ -192,9 +192,9 @@ pub enum IeeeFormat {
 pub enum FlaggedFormat {
     /// With the flags of the built-in formats.
     BuiltIn(BuiltInFormat),
-    /// With the flags of IEEE 754-2008, tininess detected after rounding.
+    /// With the flags of IEEE 754-2019, tininess detected after rounding.
     AfterRounding(IeeeFormat),
-    /// With the flags of IEEE 754-2008, tininess detected before rounding.
+    /// With the flags of IEEE 754-2019, tininess detected before rounding.
     BeforeRounding(IeeeFormat),
 }
 
@@ -233,7 +233,7 @@ impl IeeeFormat {
         each_ieee_format!(ieee_format(kind))
     }
 
-    /// Makes a call in the format with the flags of IEEE 754-2008, tininess detected after rounding.
+    /// Makes a call in the format with the flags of IEEE 754-2019, tininess detected after rounding.
     #[inline(always)]
     fn run_after_rounding<C: InFlaggedFormat>(self, call: C) -> C::Output
         ensures { C.gives call (of_format (after_rounding self)) result }
@@ -241,7 +241,7 @@ impl IeeeFormat {
         each_ieee_format!(run_after_rounding(self, call))
     }
 
-    /// Makes a call in the format with the flags of IEEE 754-2008, tininess detected before rounding.
+    /// Makes a call in the format with the flags of IEEE 754-2019, tininess detected before rounding.
     #[inline(always)]
     fn run_before_rounding<C: InFlaggedFormat>(self, call: C) -> C::Output
         ensures { C.gives call (of_format (before_rounding self)) result }
@@ -251,7 +251,7 @@ impl IeeeFormat {
 }
 
 impl IeeeFormat {
-    /// Makes a call that fills a lent place, with the flags of IEEE 754-2008, tininess detected after rounding.
+    /// Makes a call that fills a lent place, with the flags of IEEE 754-2019, tininess detected after rounding.
     #[inline(always)]
     fn fill_after_rounding<C: FillsInFormat>(self, call: C, place: &mut C::Place) -> C::Output
         ensures { C.gives call (of_format (after_rounding self)) place.old place.new result }
@@ -259,7 +259,7 @@ impl IeeeFormat {
         each_ieee_format!(fill_after_rounding(self, call, place))
     }
 
-    /// Makes a call that fills a lent place, with the flags of IEEE 754-2008, tininess detected before rounding.
+    /// Makes a call that fills a lent place, with the flags of IEEE 754-2019, tininess detected before rounding.
     #[inline(always)]
     fn fill_before_rounding<C: FillsInFormat>(self, call: C, place: &mut C::Place) -> C::Output
         ensures { C.gives call (of_format (before_rounding self)) place.old place.new result }
@@ -276,7 +276,7 @@ impl IeeeFormat {
         each_ieee_format!(built_in_format(self))
     }
 
-    /// Makes a call that writes to lent bytes, with the flags of IEEE 754-2008, tininess detected after rounding.
+    /// Makes a call that writes to lent bytes, with the flags of IEEE 754-2019, tininess detected after rounding.
     fn write_after_rounding<C: WritesInFormat>(self, call: C, bytes: &mut [u8]) -> C::Output
         requires { C.can call (of_format (after_rounding self)) bytes.old }
         ensures { C.gives call (of_format (after_rounding self)) bytes.old bytes.new result }
@@ -284,7 +284,7 @@ impl IeeeFormat {
         each_ieee_format!(write_after_rounding(self, call, bytes))
     }
 
-    /// Makes a call that writes to lent bytes, with the flags of IEEE 754-2008, tininess detected before rounding.
+    /// Makes a call that writes to lent bytes, with the flags of IEEE 754-2019, tininess detected before rounding.
     fn write_before_rounding<C: WritesInFormat>(self, call: C, bytes: &mut [u8]) -> C::Output
         requires { C.can call (of_format (before_rounding self)) bytes.old }
         ensures { C.gives call (of_format (before_rounding self)) bytes.old bytes.new result }
@@ -366,7 +366,7 @@ impl FlaggedKind {
     }
 
     /// The kind that this code names, if any. The lowest eight bits are the code of a built-in kind; the next bit asks
-    /// for the flags of IEEE 754-2008, and the one after it, only together with that bit, for tininess before rounding.
+    /// for the flags of IEEE 754-2019, and the one after it, only together with that bit, for tininess before rounding.
     #[inline(always)]
     pub fn coded(code: u32) -> Option<FlaggedKind>
         ensures { result ≡ flagged_kind_coded code }

@@ -9,7 +9,7 @@ ghost use Rattle.apfloat_decimals.specs.ShortestSearch.{IsPositive};
 ghost use Rattle.hex_digits.specs.HexTexts.{IsNumberOf};
 
 use apfloat_base::ExpInt;
-use apfloat_decimals::exponents::lowered;
+use apfloat_decimals::exponents::exponent_below;
 use apfloat_decimals::{first_exponent, significand};
 use apfloat_ieee::{IeeeFloat, Semantics};
 
@@ -35,7 +35,7 @@ pub(crate) fn digits_of<S: Semantics>(x: IeeeFloat<S>) -> Aligned
 {
     let exponent = first_exponent(x);
     let precision = S::PRECISION as u32;
-    let all = significand(x, lowered(exponent, precision - 1));
+    let all = significand(x, exponent_below(exponent, precision - 1));
     Aligned {
         digits: all << (125 - precision),
         exponent,

@@ -14,22 +14,26 @@ pub fn flags_of(call: FlagsCall, operands: Operands) -> Result<RowAnswer, CallFa
         return Err(CallFault::Operands);
     };
     match (call, operands.second, operands.third) {
-        (FlagsCall::SaveAll, _, _) => Ok(raised(save_all_flags(flags))),
-        (FlagsCall::Lower, Operand::Status(group), _) => Ok(raised(lower_flags(flags, group))),
-        (FlagsCall::Raise, Operand::Status(group), _) => Ok(raised(raise_flags(flags, group))),
+        (FlagsCall::SaveAll, _, _) => Ok(flags_raised(save_all_flags(flags))),
+        (FlagsCall::Lower, Operand::Status(group), _) => Ok(flags_raised(lower_flags(
+            flags, group,
+        ))),
+        (FlagsCall::Raise, Operand::Status(group), _) => Ok(flags_raised(raise_flags(
+            flags, group,
+        ))),
         (FlagsCall::Test, Operand::Status(group), _) => Ok(told(test_flags(flags, group))),
         (FlagsCall::TestSaved, Operand::Status(group), _) => {
             Ok(told(test_saved_flags(flags, group)))
         }
         (FlagsCall::Restore, Operand::Status(saved), Operand::Status(group)) => {
-            Ok(raised(restore_flags(flags, saved, group)))
+            Ok(flags_raised(restore_flags(flags, saved, group)))
         }
         _ => Err(CallFault::Operands),
     }
 }
 
 /// The columns for flags, with `-` in that of the value.
-fn raised(flags: Status) -> RowAnswer {
+fn flags_raised(flags: Status) -> RowAnswer {
     RowAnswer {
         value: ValueField::Text(Text::of("-")),
         status: StatusField::Flags(flags),

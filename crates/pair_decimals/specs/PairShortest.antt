@@ -1,4 +1,4 @@
--- The shortest decimal of a pair of doubles (IEEE 754-2008 5.12.2).
+-- The shortest decimal of a pair of doubles (IEEE 754-2019 5.12.2).
 use Rattle.std.specs.Prelude.{◌≡◌, Option, None}
 use Rattle.std.specs.Bool.{MatchBool}
 use Rattle.apfloat_model.specs.formats.Datum.{Datum}

@@ -48,7 +48,7 @@ pub fn read_decimal_pair_ascii(
     ensures { IsPairDecimalRead round text.now result }
 {
     match read_decimal_ascii::<FallbackS>(text, round) {
-        Ok(answer) => Ok(answer.status.and(pair_of_wide(answer.value))),
+        Ok(answer) => Ok(answer.status.and(pair_of_joined(answer.value))),
         Err(error) => Err(error),
     }
 }
@@ -67,8 +67,8 @@ pub fn one_pair_reading()
 pub fn shortest_of_pair(x: DoubleDouble) -> Option<Decimal>
     ensures { GivesPairShortest x result }
 {
-    let joined = wide_of_pair(x);
-    if pair_of_wide(joined).bitwise_eq(x) {
+    let joined = joined_of_pair(x);
+    if pair_of_joined(joined).bitwise_eq(x) {
         shortest(joined)
     } else {
         None
@@ -99,14 +99,14 @@ pub fn read_pairs_have_a_decimal()
 {}
 
 /// A value of the wide format as a pair.
-fn pair_of_wide(x: Wide) -> DoubleDouble
+fn pair_of_joined(x: Wide) -> DoubleDouble
     ensures { IsSplit x result }
 {
     DoubleDouble::from(x)
 }
 
 /// The exact sum of the parts of a pair, rounded once to the wide format.
-fn wide_of_pair(x: DoubleDouble) -> Wide
+fn joined_of_pair(x: DoubleDouble) -> Wide
     ensures { IsJoined x result }
 {
     Wide::from(x)

@@ -1,7 +1,7 @@
 //! Lines of Berkeley TestFloat, as `testfloat_gen` writes them for one of its functions: the operands, the result and
 //! the flags, in hexadecimal digits, separated by single spaces.
 //!
-//! Flags are those that processors raise, so the formats have the rule of flags of IEEE 754-2008.
+//! Flags are those that processors raise, so the formats have the rule of flags of IEEE 754-2019.
 
 use crate::columns::{Columns, LineCall, is_nan};
 use crate::row_error::RowError;

@@ -112,10 +112,10 @@ pub trait Semantics: Sized {
     /// Whether the integer bit is explicit, as in the x87's format.
     const EXPLICIT_INTEGER_BIT: bool = Self::QNAN_SIGNIFICAND >> (Self::PRECISION - 1) & 1 == 1;
 
-    /// Whether an inexact result is tiny by its exact magnitude, and not by the rounded one (IEEE 754-2008 7.5).
+    /// Whether an inexact result is tiny by its exact magnitude, and not by the rounded one (IEEE 754-2019 7.5).
     const TINY_BEFORE_ROUNDING: bool = false;
 
-    /// Whether `OVERFLOW` and `UNDERFLOW` are raised as IEEE 754-2008 asks (7.4, 7.5), also in modes that deliver the
+    /// Whether `OVERFLOW` and `UNDERFLOW` are raised as IEEE 754-2019 asks (7.4, 7.5), also in modes that deliver the
     /// largest value. `IeeeFlags` sets it.
     const IEEE_FLAGS: bool = false;
 
@@ -278,7 +278,7 @@ macro_rules! formats_of {
 }
 
 formats_of! {
-    /// The format `S` with the flags of IEEE 754-2008, tininess detected after rounding: those of x86 and RISC-V.
+    /// The format `S` with the flags of IEEE 754-2019, tininess detected after rounding: those of x86 and RISC-V.
     /// `IeeeFlags<TinyBefore<S>>` has those of Arm and POWER. The crate `rustc_apfloat` has no such formats.
     IeeeFlags { IEEE_FLAGS, other TINY_BEFORE_ROUNDING: bool }
     /// The format `S` with tininess detected before rounding.

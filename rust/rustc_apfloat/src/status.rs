@@ -5,7 +5,7 @@ use crate::erased::bitflags::Flags;
 use core::fmt;
 use core::ops::{BitAnd, BitAndAssign, BitOr, BitOrAssign, BitXor, BitXorAssign, Not, Sub, SubAssign};
 
-/// The flags that an operation raises (IEEE 754-2008 7), as a set.
+/// The flags that an operation raises (IEEE 754-2019 7), as a set.
 ///
 /// `OVERFLOW` and `UNDERFLOW` come with `INEXACT`.
 #[must_use]

@@ -1,4 +1,4 @@
-//! The binary interchange formats of IEEE 754-2008 3.6.
+//! The binary interchange formats of IEEE 754-2019 3.6.
 
 ghost use Rattle.std.specs.Prelude.{◌-◌, ◌*◌, ◌^◌, pos, negsuc, true, false, refl};
 ghost use Rattle.apfloat_model.specs.declared.kinds.NonfiniteBehavior.TheVariants.{IEEE754};
@@ -7,7 +7,7 @@ ghost use Rattle.apfloat_model.proofs.formats.LawTest.{lawful_from_test};
 use apfloat_base::{ExpInt, NonfiniteBehavior};
 use apfloat_ieee::Semantics;
 
-/// Binary16 (IEEE 754-2008 3.6).
+/// Binary16 (IEEE 754-2019 3.6).
 #[derive(Clone, Copy)]
 pub struct HalfS;
 
@@ -67,7 +67,7 @@ impl Semantics for HalfS {
     ghost lawful = { lawful_from_test _ refl };
 }
 
-/// Binary32 (IEEE 754-2008 3.6).
+/// Binary32 (IEEE 754-2019 3.6).
 #[derive(Clone, Copy)]
 pub struct SingleS;
 
@@ -127,7 +127,7 @@ impl Semantics for SingleS {
     ghost lawful = { lawful_from_test _ refl };
 }
 
-/// Binary64 (IEEE 754-2008 3.6).
+/// Binary64 (IEEE 754-2019 3.6).
 #[derive(Clone, Copy)]
 pub struct DoubleS;
 
@@ -187,7 +187,7 @@ impl Semantics for DoubleS {
     ghost lawful = { lawful_from_test _ refl };
 }
 
-/// Binary128 (IEEE 754-2008 3.6).
+/// Binary128 (IEEE 754-2019 3.6).
 #[derive(Clone, Copy)]
 pub struct QuadS;
 

@@ -1,4 +1,4 @@
-//! The extended format of the x87 (IEEE 754-2008 3.7).
+//! The extended format of the x87 (IEEE 754-2019 3.7).
 
 ghost use Rattle.std.specs.Prelude.{◌-◌, ◌*◌, ◌^◌, pos, negsuc, true, false, refl};
 ghost use Rattle.apfloat_model.specs.declared.kinds.NonfiniteBehavior.TheVariants.{IEEE754};

@@ -1,4 +1,4 @@
--- The order of data is partial, and equality by it a partial equivalence (IEEE 754-2008 5.11).
+-- The order of data is partial, and equality by it a partial equivalence (IEEE 754-2019 5.11).
 use Rattle.std.specs.Prelude.{◌≡◌, Bool, true, false, Option, Some, None}
 use Rattle.std.proofs.Common.{refl, ap}
 use Rattle.std.specs.declared.cmp.Ordering.{Ordering}

@@ -88,7 +88,7 @@ sum_kept_at_the_largest = rounded 2047 29 refl refl refl
 double_of_the_largest : IsSum half TowardZero (in_half 0x7bff) (in_half 0x7bff) (in_half 0x7bff) inexact_bit
 double_of_the_largest = rounded 2047 30 refl refl refl
 
--- with the flags of IEEE 754-2008, it overflows
+-- with the flags of IEEE 754-2019, it overflows
 overflow_toward_zero : IsSum half_ieee TowardZero (in_half 0x7bff) (in_half 0x7bff) (in_half 0x7bff)
     (overflow_bit + inexact_bit)
 overflow_toward_zero = rounded 2047 30 refl refl refl

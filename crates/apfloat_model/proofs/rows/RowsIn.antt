@@ -37,7 +37,7 @@ e4m3fnuz = format_with e4m3fnuz_constants
 abbrev pub half_tiny_before : Format
 half_tiny_before = format_with (record half_constants { tiny_before_rounding = true })
 
--- half precision, with the flags of IEEE 754-2008, tininess decided after or before rounding
+-- half precision, with the flags of IEEE 754-2019, tininess decided after or before rounding
 abbrev pub half_ieee : Format
 half_ieee = format_with (record half_constants { ieee_flags = true })
 

@@ -1,4 +1,4 @@
--- Conversion of a datum of f into g (IEEE 754-2008 5.4.2 convertFormat, 6.2.3).
+-- Conversion of a datum of f into g (IEEE 754-2019 5.4.2 convertFormat, 6.2.3).
 use Rattle.std.specs.Prelude.{◌≡◌, ℕ, ◌-◌, ◌*◌, ◌/◌, ◌%◌, ◌^◌, Bool, true, false, not, ◌&&◌, ◌||◌, eqb, if◌then◌else◌, ⊤}
 use Rattle.std.specs.Bool.{MatchBool}
 use Rattle.apfloat_model.specs.declared.kinds.Round.{Round}

@@ -10,7 +10,7 @@ abbrev pub same_sign : Bool → Bool → Bool
 same_sign true right = right
 same_sign false right = not right
 
--- the sign of a product or a quotient (IEEE 754-2008 6.3)
+-- the sign of a product or a quotient (IEEE 754-2019 6.3)
 abbrev pub product_sign : Bool → Bool → Bool
 product_sign left right = not (same_sign left right)
 

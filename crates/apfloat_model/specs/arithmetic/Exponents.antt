@@ -1,4 +1,4 @@
--- The exponent of a datum (IEEE 754-2008 5.3.3, logB), its fraction, and its exact inverse.
+-- The exponent of a datum (IEEE 754-2019 5.3.3, logB), its fraction, and its exact inverse.
 use Rattle.std.specs.Prelude.{◌≡◌, ℕ, ◌+◌, ◌-◌, ◌*◌, ◌^◌, ◌<◌, ◌≤◌, Bool, eqb, ℤ, pos, neg_ℤ, ◌-ℤ◌, Option, Some, None, ⊤}
 use Rattle.std.specs.Bool.{MatchBool}
 use Rattle.apfloat_model.specs.formats.Format.{Format, smallest_normalized, largest}

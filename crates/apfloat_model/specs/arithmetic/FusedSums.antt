@@ -1,4 +1,4 @@
--- The product of two operands plus a third, rounded once (IEEE 754-2008 5.4.1, fusedMultiplyAdd).
+-- The product of two operands plus a third, rounded once (IEEE 754-2019 5.4.1, fusedMultiplyAdd).
 use Rattle.std.specs.Prelude.{ℕ, ◌*◌, ◌^◌, eqb, ◌+ℤ◌}
 use Rattle.std.specs.Bool.{MatchBool}
 use Rattle.apfloat_model.specs.declared.kinds.Round.{Round}

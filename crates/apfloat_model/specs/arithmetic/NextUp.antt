@@ -1,4 +1,4 @@
--- The least datum that compares greater (IEEE 754-2008 5.3.1), and the greatest that compares less.
+-- The least datum that compares greater (IEEE 754-2019 5.3.1), and the greatest that compares less.
 use Rattle.std.specs.Prelude.{◌≡◌, ℕ, ◌+◌, ◌-◌, Bool, true, false, eqb}
 use Rattle.std.specs.Bool.{MatchBool}
 use Rattle.apfloat_model.specs.formats.Format.{Format, largest}

@@ -1,4 +1,4 @@
--- Products (IEEE 754-2008 5.4.1, 6.1, 6.3, 7.2).
+-- Products (IEEE 754-2019 5.4.1, 6.1, 6.3, 7.2).
 use Rattle.std.specs.Prelude.{ℕ, ◌*◌, ◌^◌, eqb, IsTrue}
 use Rattle.std.specs.Bool.{MatchBool}
 use Rattle.apfloat_model.specs.declared.kinds.Round.{Round}

@@ -1,4 +1,4 @@
--- Quotients (IEEE 754-2008 5.4.1, 6.1, 6.3, 7.2, 7.3).
+-- Quotients (IEEE 754-2019 5.4.1, 6.1, 6.3, 7.2, 7.3).
 use Rattle.std.specs.Prelude.{ℕ, ◌*◌, ◌^◌, eqb}
 use Rattle.std.specs.Bool.{MatchBool}
 use Rattle.apfloat_model.specs.declared.kinds.Round.{Round}

@@ -1,4 +1,4 @@
--- Remainders, by the quotient truncated toward zero and by the nearest integer (IEEE 754-2008 5.3.1); both are exact.
+-- Remainders, by the quotient truncated toward zero and by the nearest integer (IEEE 754-2019 5.3.1); both are exact.
 use Rattle.std.specs.Prelude.{ℕ, ◌-◌, ◌*◌, ◌/◌, Bool, false, not, ltb, eqb, count_ones, if◌then◌else◌}
 use Rattle.std.specs.Bool.{MatchBool}
 use Rattle.apfloat_model.specs.declared.kinds.NonfiniteBehavior.{NonfiniteBehavior}

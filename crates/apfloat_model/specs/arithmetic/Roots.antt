@@ -1,4 +1,4 @@
--- Square roots (IEEE 754-2008 5.4.1, 6.1, 6.3, 7.2).
+-- Square roots (IEEE 754-2019 5.4.1, 6.1, 6.3, 7.2).
 --
 -- No root is computed here: a root is compared with another number by comparing their squares. The root of n quanta is
 -- the number of quanta whose square is n * 2 ^ scale, since the quantum is 2 ^ -scale; that number is called `square`.

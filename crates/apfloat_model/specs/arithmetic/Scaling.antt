@@ -1,4 +1,4 @@
--- A datum times 2 to the power j (IEEE 754-2008 5.3.3, scaleB), rounded once; its status is not returned.
+-- A datum times 2 to the power j (IEEE 754-2019 5.3.3, scaleB), rounded once; its status is not returned.
 use Rattle.std.specs.Prelude.{◌≡◌, ℕ, ◌*◌, ◌^◌, ℤ}
 use Rattle.apfloat_model.specs.declared.kinds.Round.{Round}
 use Rattle.apfloat_model.specs.formats.Format.{Format}

@@ -1,4 +1,4 @@
--- Operations on the sign (IEEE 754-2008 5.5.1; `negated` is the third).
+-- Operations on the sign (IEEE 754-2019 5.5.1; `negated` is the third).
 use Rattle.std.specs.Prelude.{not, if◌then◌else◌}
 use Rattle.apfloat_model.specs.formats.Format.{Format}
 use Rattle.apfloat_model.specs.formats.Datum.{Datum}

@@ -1,4 +1,4 @@
--- Sums and differences (IEEE 754-2008 5.4.1, 6.1, 6.3).
+-- Sums and differences (IEEE 754-2019 5.4.1, 6.1, 6.3).
 use Rattle.std.specs.Prelude.{◌≡◌, ℕ, ◌*◌, ◌<◌, ◌≤◌, Bool, true, false, ℤ, pos, ◌+ℤ◌, ◌-ℤ◌, ◌≤ℤ◌, if◌then◌else◌, IsTrue}
 use Rattle.std.specs.Bool.{MatchBool}
 use Rattle.apfloat_model.specs.declared.kinds.Round.{Round}

@@ -1,4 +1,4 @@
--- How the data of a format are written as bits (IEEE 754-2008 3.4): from the top, the sign, the biased exponent, and
+-- How the data of a format are written as bits (IEEE 754-2019 3.4): from the top, the sign, the biased exponent, and
 -- the trailing significand. With an explicit integer bit, the trailing significand includes that bit; otherwise it is
 -- implied.
 use Rattle.std.specs.Prelude.{◌≡◌, ℕ, ◌+◌, ◌-◌, ◌*◌, ◌/◌, ◌%◌, ◌^◌, ◌<◌, Bool, true, false, ◌&&◌, ltb, leb, eqb, if◌then◌else◌, IsTrue}

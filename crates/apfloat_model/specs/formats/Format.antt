@@ -1,4 +1,4 @@
--- A format, its two bounds, and its NaNs (IEEE 754-2008 3.3, 3.4, 6.2.1).
+-- A format, its two bounds, and its NaNs (IEEE 754-2019 3.3, 3.4, 6.2.1).
 use Rattle.std.specs.Prelude.{ℕ, ◌-◌, ◌*◌, ◌^◌, Bool, true, false}
 use Rattle.apfloat_model.specs.declared.kinds.NonfiniteBehavior.{NonfiniteBehavior}
 use Rattle.apfloat_model.specs.declared.kinds.NonfiniteBehavior.TheVariants.{IEEE754, NanOnly, NanNegativeZero}
@@ -12,7 +12,7 @@ pub record Format : Type 0 where
   pub nonfinite : NonfiniteBehavior
   pub explicit_integer_bit : Bool
   pub tiny_before_rounding : Bool
-  -- whether flags are raised as IEEE 754-2008 7.4 and 7.5 require, instead of as in the built-in formats
+  -- whether flags are raised as IEEE 754-2019 7.4 and 7.5 require, instead of as in the built-in formats
   pub ieee_flags : Bool
 
 -- in quanta: the least value whose significand has all digits, and the greatest finite value

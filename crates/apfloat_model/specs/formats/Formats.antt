@@ -1,4 +1,4 @@
--- The formats of the library that have bits (IEEE 754-2008 3.6, and others in use).
+-- The formats of the library that have bits (IEEE 754-2019 3.6, and others in use).
 use Rattle.std.specs.Prelude.{ℕ, ◌-◌, ◌^◌, ℤ, pos, neg_ℤ, Bool, true, false, ◌-ℤ◌}
 use Rattle.apfloat_model.specs.declared.kinds.NonfiniteBehavior.{NonfiniteBehavior}
 use Rattle.apfloat_model.specs.declared.kinds.NonfiniteBehavior.TheVariants.{IEEE754, NanOnly, NanNegativeZero}

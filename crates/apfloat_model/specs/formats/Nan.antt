@@ -1,4 +1,4 @@
--- NaNs (IEEE 754-2008 6.2), and the results that are NaNs.
+-- NaNs (IEEE 754-2019 6.2), and the results that are NaNs.
 use Rattle.std.specs.Prelude.{ℕ, ◌-◌, ◌/◌, ◌^◌, Bool, false, not, ◌||◌, eqb, bit_and, bit_or, if◌then◌else◌}
 use Rattle.apfloat_model.specs.declared.kinds.NonfiniteBehavior.{NonfiniteBehavior}
 use Rattle.apfloat_model.specs.declared.kinds.NonfiniteBehavior.TheVariants.{IEEE754, NanOnly, NanNegativeZero}

@@ -1,4 +1,4 @@
--- The classes of data (IEEE 754-2008 5.7.2), and tests on one datum.
+-- The classes of data (IEEE 754-2019 5.7.2), and tests on one datum.
 use Rattle.std.specs.Prelude.{ℕ, ◌%◌, ◌^◌, Bool, true, false, ◌&&◌, ltb, leb, eqb, if◌then◌else◌}
 use Rattle.apfloat_model.specs.declared.kinds.Category.{Category}
 use Rattle.apfloat_model.specs.declared.kinds.Category.TheVariants.{Infinity, NaN, Normal, Zero}

@@ -1,4 +1,4 @@
--- The order of data (IEEE 754-2008 5.6.1, 5.11), and minima and maxima (5.3.1; 754-2019 9.6).
+-- The order of data (IEEE 754-2019 5.6.1, 5.11), and minima and maxima (754-2008 5.3.1; 754-2019 9.6).
 use Rattle.std.specs.Prelude.{ℕ, Bool, ◌&&◌, ℤ, pos, Option, Some, None, if◌then◌else◌, ◌≡◌, ◌⊎◌, true, false, ◌≤ℤ◌}
 use Rattle.std.specs.declared.cmp.Ordering.{Ordering}
 use Rattle.std.specs.Ordering.{nat_cmp, int_cmp, ordering_then, is_some_and, is_lt, is_eq}

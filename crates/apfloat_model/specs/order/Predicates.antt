@@ -1,4 +1,4 @@
--- The predicates of a floating-point type, from the category and the sign of its values (IEEE 754-2008 5.7.2), and its
+-- The predicates of a floating-point type, from the category and the sign of its values (IEEE 754-2019 5.7.2), and its
 -- minima and maxima, from its order (5.3.1; 754-2019 9.6). On data they agree with the model:
 -- `proofs/order/PredicatesAgree.antt`.
 use Rattle.std.specs.Prelude.{Bool, true, false, not, ◌&&◌, Option, if◌then◌else◌}

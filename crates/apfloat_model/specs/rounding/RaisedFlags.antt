@@ -1,4 +1,4 @@
--- The flags that a status raises, and which of them are never raised alone (IEEE 754-2008 7.4, 7.5).
+-- The flags that a status raises, and which of them are never raised alone (IEEE 754-2019 7.4, 7.5).
 use Rattle.std.specs.Prelude.{ℕ, ◌<◌, bit_and}
 use Rattle.apfloat_model.specs.rounding.Rounding.{overflow_bit, underflow_bit, inexact_bit}
 

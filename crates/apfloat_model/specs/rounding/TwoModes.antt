@@ -46,7 +46,7 @@ AreBoundsUnlessNan IsExact low high =
 abbrev pub IsOk : ℕ → Type 0
 IsOk status = status ≡ ok_bits
 
--- The results for a zero are exact too: the infinity of a number divided by it (IEEE 754-2008 7.3), and the zero that
+-- The results for a zero are exact too: the infinity of a number divided by it (IEEE 754-2019 7.3), and the zero that
 -- it is converted to, even with another sign.
 abbrev pub IsOkOrOfZero : Datum → ℕ → Type 0
 IsOkOrOfZero operand status = (status ≡ ok_bits) ⊎ (is_zero operand ≡ true)

@@ -1,4 +1,4 @@
--- The parts of a hexadecimal text after its prefix (IEEE 754-2008 5.12.3).
+-- The parts of a hexadecimal text after its prefix (IEEE 754-2019 5.12.3).
 use Rattle.std.specs.Prelude.{ℕ, ℤ, List, length, drop, filter}
 use Rattle.apfloat_model.specs.texts.Digits.{after_run, is_hexadecimal, number}
 use Rattle.apfloat_model.specs.texts.Specials.{mark_of, after_mark}

@@ -1,4 +1,4 @@
--- What a function that reads a text returns (IEEE 754-2008 5.12).
+-- What a function that reads a text returns (IEEE 754-2019 5.12).
 use Rattle.std.specs.Prelude.{ℕ, List, Result, Ok, Err}
 use Rattle.apfloat_model.specs.declared.kinds.Round.{Round}
 use Rattle.apfloat_model.specs.declared.parse_error.ParseError.{ParseError}

@@ -1,4 +1,4 @@
--- The results of reading a text (IEEE 754-2008 5.12).
+-- The results of reading a text (IEEE 754-2019 5.12).
 use Rattle.std.specs.Prelude.{◌≡◌, ℕ, ◌*◌, ◌^◌, ℤ, pos, ◌+ℤ◌, ◌-ℤ◌, Bool, if◌then◌else◌, List, Some}
 use Rattle.apfloat_model.specs.declared.parse_error.Fault.{Fault}
 use Rattle.apfloat_model.specs.declared.kinds.Round.{Round}

@@ -1,4 +1,4 @@
--- The texts of infinities and NaNs (IEEE 754-2008 5.12.1), and the meanings that a text can have.
+-- The texts of infinities and NaNs (IEEE 754-2019 5.12.1), and the meanings that a text can have.
 use Rattle.std.specs.Prelude.{ℕ, ◌-◌, ◌^◌, ℤ, Bool, true, false, ◌&&◌, ◌||◌, not, ltb, eqb, if◌then◌else◌, List, [], ◌∷◌, ◌++◌, length, take, drop, codes, Option, Some, None}
 use Rattle.apfloat_model.specs.declared.marks.Mark.{Mark}
 use Rattle.apfloat_model.specs.declared.marks.Mark.TheVariants.{Unmarked, Plus, Minus}

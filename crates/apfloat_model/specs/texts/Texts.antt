@@ -1,4 +1,4 @@
--- What texts mean (IEEE 754-2008 5.12).
+-- What texts mean (IEEE 754-2019 5.12).
 use Rattle.std.specs.Prelude.{◌≡◌, ◌⊎◌, ℕ, ◌≤◌, ℤ, pos, neg_ℤ, IsTrue, List, [], ◌++◌, length, codes, Some}
 use Rattle.apfloat_model.specs.declared.marks.Mark.{Mark}
 use Rattle.apfloat_model.specs.declared.marks.Mark.TheVariants.{Unmarked, Plus, Minus}

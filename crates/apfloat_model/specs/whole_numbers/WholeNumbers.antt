@@ -1,4 +1,4 @@
--- From integers, and rounding to an integer (IEEE 754-2008 5.4.1 convertFromInt, 5.3.1 and 5.9 roundToIntegral).
+-- From integers, and rounding to an integer (IEEE 754-2019 5.4.1 convertFromInt, 5.3.1 and 5.9 roundToIntegral).
 use Rattle.std.specs.Prelude.{ℕ, ◌+◌, ◌*◌, ◌/◌, ◌%◌, ◌^◌, Bool, false, eqb, ℤ, if◌then◌else◌}
 use Rattle.apfloat_model.specs.declared.kinds.Round.{Round}
 use Rattle.apfloat_model.specs.formats.Format.{Format}

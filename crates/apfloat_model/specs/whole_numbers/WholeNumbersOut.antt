@@ -1,4 +1,4 @@
--- To integers (IEEE 754-2008 5.4.1 convertToInteger, 5.8).
+-- To integers (IEEE 754-2019 5.4.1 convertToInteger, 5.8).
 use Rattle.std.specs.Prelude.{◌≡◌, ℕ, ◌-◌, ◌^◌, Bool, false, not, ◌&&◌, eqb, ℤ, pos, neg_ℤ, int_lt, if◌then◌else◌}
 use Rattle.apfloat_model.specs.declared.kinds.Round.{Round}
 use Rattle.apfloat_model.specs.formats.Format.{Format}

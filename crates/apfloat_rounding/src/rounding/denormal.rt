@@ -14,6 +14,7 @@ ghost use Rattle.apfloat_rounding.specs.Cuts.{IsCut, IsCutFinely};
 
 use super::from_word::odd_for;
 use super::{Cut, word_power};
+use crate::exponents::unit_above;
 use apfloat_model::{ExpInt, Loss};
 use apfloat_words::shift_right;
 
@@ -36,16 +37,6 @@ pub(super) struct Word {
     pub(super) significand: u64,
     pub(super) digits: u32,
     pub(super) unit: ExpInt,
-}
-
-/// The exponent of a unit `places` higher.
-#[inline(always)]
-fn unit_above(unit: ExpInt, places: u32) -> ExpInt
-    requires within { IsWithin unit_bound unit }
-    requires short { places ≤ 128 }
-    ensures { result ≡ unit +ℤ pos places }
-{
-    unit + places as ExpInt
 }
 
 /// A significand with `digits` digits in a word: all of them, or the highest 62.

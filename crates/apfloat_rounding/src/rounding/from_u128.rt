@@ -11,7 +11,8 @@ ghost use Rattle.apfloat_rounding.specs.Cuts.{IsCut, loss_at};
 ghost use Rattle.apfloat_rounding.specs.Shapes.{format_at};
 ghost use Rattle.apfloat_rounding.specs.Stored.{IsStored, GivesAt};
 
-use super::{Cut, Known, deliver_any, full_place, round, split, unit_place};
+use super::{Cut, Known, deliver_any, full_place, round, split};
+use crate::exponents::unit_place;
 use crate::shape::Shape;
 use crate::unpacked::{Unpacked, remade};
 use apfloat_model::{ExpInt, Loss, Round, StatusAnd};

@@ -14,7 +14,8 @@ ghost use Rattle.apfloat_rounding.specs.Shapes.{format_at};
 ghost use Rattle.apfloat_rounding.specs.Stored.{IsStored, GivesAt};
 
 use super::denormal::{Word, cut_at_quantum, whole_quanta};
-use super::{Cut, Known, full_place, low_of_word, round, round_below, unit_place, word_power};
+use super::{Cut, Known, full_place, low_of_word, round, round_below, word_power};
+use crate::exponents::unit_place;
 use crate::shape::Shape;
 use crate::unpacked::{Unpacked, from_few_quanta};
 use apfloat_model::{ExpInt, Loss, Round, Status, StatusAnd};
@@ -134,7 +135,7 @@ fn cut_quarters(precision: u32, significand: u64, unit: ExpInt) -> Cut
 /// Delivers `significand * 2^exponent`, which was rounded to odd and has two digits more than the format keeps, rounded
 /// once.
 #[inline(always)]
-pub fn deliver_word_digits(
+pub fn deliver_counted_word(
     shape: Shape,
     significand: u64,
     exponent: ExpInt,

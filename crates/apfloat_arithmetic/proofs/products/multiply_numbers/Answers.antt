@@ -33,15 +33,15 @@ lowered-last-requires-clause-within c =
 pub lowered-last-requires-clause-short : goal.lowered-last-requires-clause-short
 lowered-last-requires-clause-short c = omega (arith, c.raised_product-product.ensures.moved)
 
-pub deliver_u128_digits-requires-clause-within : goal.deliver_u128_digits-requires-clause-within
-deliver_u128_digits-requires-clause-within c =
+pub deliver_counted_u128-requires-clause-within : goal.deliver_counted_u128-requires-clause-within
+deliver_counted_u128-requires-clause-within c =
     record {
       low = omega (arith, ints, c.lowered-last.ensures.within);
       high = omega (arith, ints, c.lowered-last.ensures.within);
     }
 
 pub returns-clause-stored : goal.returns-clause-stored
-returns-clause-stored c = c.deliver_u128_digits.ensures.stored
+returns-clause-stored c = c.deliver_counted_u128.ensures.stored
 
 pub returns-clause-delivered : goal.returns-clause-delivered
 returns-clause-delivered c =
@@ -54,7 +54,7 @@ returns-clause-delivered c =
     let e = rw q at c.lowered-last.ensures.value in
     let w : to_z w32 (of_z w32 c.lowered-last.result) ≡ c.lowered-last.result =
     to_z-of_z w32 c.lowered-last.result (record { sfits = c.lowered-last.type_inv }) in
-    let g = rw w at c.deliver_u128_digits.ensures.delivered in
+    let g = rw w at c.deliver_counted_u128.ensures.delivered in
     let d = g (quanta_at s.min_exp c.args.x.significand c.args.x.exponent * quanta_at s.min_exp c.args.y.significand
     c.args.y.exponent) (2 ^ (format_at s).scale) (pow_pos (format_at s).scale)
     (raised_product_is s c.args.x.exponent c.args.y.exponent c.product_exponent.result c.lowered-last.result
@@ -63,5 +63,5 @@ returns-clause-delivered c =
     e) in
     subst (λ (b : Bool). IsDelivered (format_at s) c.args.round b
     (quanta_at s.min_exp c.args.x.significand c.args.x.exponent * quanta_at s.min_exp c.args.y.significand
-    c.args.y.exponent) (2 ^ (format_at s).scale) (datum_at s c.deliver_u128_digits.result.value)
-    (bits_of c.deliver_u128_digits.result.status)) c.product_sign.ensures d
+    c.args.y.exponent) (2 ^ (format_at s).scale) (datum_at s c.deliver_counted_u128.result.value)
+    (bits_of c.deliver_counted_u128.result.status)) c.product_sign.ensures d

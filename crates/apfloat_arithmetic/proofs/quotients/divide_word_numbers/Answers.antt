@@ -36,9 +36,9 @@ quotient c =
     c.word_quotient_of.ensures
     ∙ ap (λ (n : ℕ). odd_quotient (n * 2 ^ (c.args.shape.precision + 1)) c.args.y.significand) f
 
-pub deliver_word_digits-requires-clause-fits : goal.deliver_word_digits-requires-clause-fits
-deliver_word_digits-requires-clause-fits c =
-    let state = (goal.at.deliver_word_digits-requires-clause-fits c).After-word_quotient_of in
+pub deliver_counted_word-requires-clause-fits : goal.deliver_counted_word-requires-clause-fits
+deliver_counted_word-requires-clause-fits c =
+    let state = (goal.at.deliver_counted_word-requires-clause-fits c).After-word_quotient_of in
     let s = c.args.shape in
     let b = moved_close c.args.x.significand c.args.y.significand s.precision c.places_up-up.result (close state) in
     let f = odd_quotient_fits c.word_quotient_of.result (c.args.x.significand * 2 ^ c.places_up-up.result)
@@ -47,9 +47,9 @@ deliver_word_digits-requires-clause-fits c =
     let e : c.args.shape.precision + 1 + 1 ≡ c.args.shape.precision + 2 = omega arith in
     rw e at f
 
-pub deliver_word_digits-requires-clause-full : goal.deliver_word_digits-requires-clause-full
-deliver_word_digits-requires-clause-full c =
-    let state = (goal.at.deliver_word_digits-requires-clause-full c).After-word_quotient_of in
+pub deliver_counted_word-requires-clause-full : goal.deliver_counted_word-requires-clause-full
+deliver_counted_word-requires-clause-full c =
+    let state = (goal.at.deliver_counted_word-requires-clause-full c).After-word_quotient_of in
     let s = c.args.shape in
     let b = moved_close c.args.x.significand c.args.y.significand s.precision c.places_up-up.result (close state) in
     odd_quotient_long c.word_quotient_of.result (c.args.x.significand * 2 ^ c.places_up-up.result)
@@ -74,7 +74,7 @@ returns-clause-delivered c =
     let q = subst (λ (k : ℕ). IsRoundedToOdd (2 ^ places) k (m * 2 ^ up * 2 ^ places) n) (sym (quotient state))
     (quotient_to_odd (2 ^ places) (m * 2 ^ up * 2 ^ places) n some (quotient_long (m * 2 ^ up) n places some b.0)) in
     let r = subst (λ (k : ℕ). IsRoundedToOdd (2 ^ places) c.word_quotient_of.result k n) (moved_places m up places) q in
-    let g = rw w at c.deliver_word_digits.ensures.delivered in
+    let g = rw w at c.deliver_counted_word.ensures.delivered in
     let d = g (quanta_at s.min_exp c.args.x.significand c.args.x.exponent * 2 ^ (format_at s).scale)
     (quanta_at s.min_exp c.args.y.significand c.args.y.exponent)
     (quanta_some s c.args.y.significand c.args.y.exponent c.requires.right)
@@ -82,5 +82,5 @@ returns-clause-delivered c =
     c.word_quotient_of.result m n c.requires.left c.requires.right v r) in
     subst (λ (b : Bool). IsDelivered (format_at s) c.args.round b
     (quanta_at s.min_exp c.args.x.significand c.args.x.exponent * 2 ^ (format_at s).scale)
-    (quanta_at s.min_exp c.args.y.significand c.args.y.exponent) (datum_at s c.deliver_word_digits.result.value)
-    (bits_of c.deliver_word_digits.result.status)) c.product_sign.ensures d
+    (quanta_at s.min_exp c.args.y.significand c.args.y.exponent) (datum_at s c.deliver_counted_word.result.value)
+    (bits_of c.deliver_counted_word.result.status)) c.product_sign.ensures d

@@ -23,8 +23,8 @@ cut_below s p low n l e =
 
 pub returns-then-magnitude-quantum-clause-same : goal.returns-then-magnitude-quantum-clause-same
 returns-then-magnitude-quantum-clause-same c = λ n h.
-    lowered c.raised-high.result.significand c.raised-high.result.place (c.args.precision - 1) n
-    c.raised-high.ensures.least (c.raised-high.ensures.same ∙ h)
+    lowered c.moved_up_to-high.result.significand c.moved_up_to-high.result.place (c.args.precision - 1) n
+    c.moved_up_to-high.ensures.least (c.moved_up_to-high.ensures.same ∙ h)
 
 pub returns-else-magnitude-quantum-clause-same : goal.returns-else-magnitude-quantum-clause-same
 returns-else-magnitude-quantum-clause-same c =

@@ -87,7 +87,7 @@ returns-then-less-y-clause-steps c =
 pub loop-rest-smaller : goal.loop-rest-smaller
 loop-rest-smaller c =
     let state = (goal.at.loop-rest-smaller c).After-less_multiple-less in
-    subst (λ (x : ℕ). x < units_of c.loop-rest.rest) (sym c.raised-rest.ensures.same)
+    subst (λ (x : ℕ). x < units_of c.loop-rest.rest) (sym c.moved_up_to-rest.ensures.same)
     (turn_less (units_of c.args.y) (units_of c.loop-rest.rest) (units_of c.less_multiple-less.result)
     (c.less_multiple-less.result.place - c.args.y.place) (divides state) (turn state))
 
@@ -100,14 +100,14 @@ loop-rest-preserved c =
     let k : ℕ = c.less_multiple-less.result.place - c.args.y.place in
     let o = one_digit state in
     let i = c.loop-rest.invariant.counted in
-    let e : count_ones (units_of c.raised-rest.result / units_of c.args.y)
+    let e : count_ones (units_of c.moved_up_to-rest.result / units_of c.args.y)
     ≡ count_ones (units_of c.less_multiple-less.result / units_of c.args.y) =
-    ap (λ (x : ℕ). count_ones (x / units_of c.args.y)) c.raised-rest.ensures.same in
+    ap (λ (x : ℕ). count_ones (x / units_of c.args.y)) c.moved_up_to-rest.ensures.same in
     record {
-      above = c.raised-rest.ensures.least;
-      fits = c.raised-rest.ensures.fits;
-      full = c.raised-rest.ensures.full;
-      left = ap (λ (x : ℕ). x % d) c.raised-rest.ensures.same ∙ sym (turn_rest d r s k (turn state)) ∙
+      above = c.moved_up_to-rest.ensures.least;
+      fits = c.moved_up_to-rest.ensures.fits;
+      full = c.moved_up_to-rest.ensures.full;
+      left = ap (λ (x : ℕ). x % d) c.moved_up_to-rest.ensures.same ∙ sym (turn_rest d r s k (turn state)) ∙
           c.loop-rest.invariant.left;
       counted = omega arith;
     }

@@ -17,10 +17,10 @@ returns-in-Zero-clause-delivered c =
     let z = c.args.z in
     let l = quanta_at s.min_exp x.significand x.exponent in
     let m = quanta_at s.min_exp y.significand y.exponent in
-    let v = datum_at s c.wide_multiply_numbers.result.value in
-    let i = bits_of c.wide_multiply_numbers.result.status in
+    let v = datum_at s c.multiply_numbers_at_every_precision.result.value in
+    let i = bits_of c.multiply_numbers_at_every_precision.result.status in
     same_fused (format_at s) c.args.round (finite x.negative l) (finite y.negative m) (datum_at s z) v
     (finite z.negative 0) v i i (datum_is Zero s z c.in-Zero.is) refl refl
     (product_rounded (format_at s) c.args.round x.negative y.negative z.negative l m v i
     (quanta_some s x.significand x.exponent c.requires.left)
-    (quanta_some s y.significand y.exponent c.requires.right) c.wide_multiply_numbers.ensures.delivered)
+    (quanta_some s y.significand y.exponent c.requires.right) c.multiply_numbers_at_every_precision.ensures.delivered)

@@ -20,23 +20,23 @@ last_exponent-requires c =
       high = omega (arith, ints, c.args.from.parameters, c.requires.operand);
     }
 
-pub deliver_u128_digits-answer-requires-clause-within : goal.deliver_u128_digits-answer-requires-clause-within
-deliver_u128_digits-answer-requires-clause-within c =
+pub deliver_counted_u128-answer-requires-clause-within : goal.deliver_counted_u128-answer-requires-clause-within
+deliver_counted_u128-answer-requires-clause-within c =
     record {
       low = omega (arith, ints, c.last_exponent.ensures.within);
       high = omega (arith, ints, c.last_exponent.ensures.within);
     }
 
-pub deliver_u128_digits-answer-requires-clause-fits : goal.deliver_u128_digits-answer-requires-clause-fits
-deliver_u128_digits-answer-requires-clause-fits c =
+pub deliver_counted_u128-answer-requires-clause-fits : goal.deliver_counted_u128-answer-requires-clause-fits
+deliver_counted_u128-answer-requires-clause-fits c =
     rw c.significand_of.ensures c.requires.operand.fits
 
-pub deliver_u128_digits-answer-requires-clause-full : goal.deliver_u128_digits-answer-requires-clause-full
-deliver_u128_digits-answer-requires-clause-full c =
+pub deliver_counted_u128-answer-requires-clause-full : goal.deliver_counted_u128-answer-requires-clause-full
+deliver_counted_u128-answer-requires-clause-full c =
     rw c.significand_of.ensures c.requires.operand.full
 
 pub returns-clause-stored : goal.returns-clause-stored
-returns-clause-stored c = c.deliver_u128_digits-answer.ensures.stored
+returns-clause-stored c = c.deliver_counted_u128-answer.ensures.stored
 
 pub returns-clause-converted : goal.returns-clause-converted
 returns-clause-converted c =
@@ -45,7 +45,7 @@ returns-clause-converted c =
     let ex = exponent_word s c.args.x.significand c.args.x.exponent c.requires in
     let v = rw ex at c.last_exponent.ensures.value in
     let w = to_z-of_z w32 c.last_exponent.result (record { sfits = c.last_exponent.type_inv }) in
-    let g = rw (w, c.significand_of.ensures) at c.deliver_u128_digits-answer.ensures.delivered in
+    let g = rw (w, c.significand_of.ensures) at c.deliver_counted_u128-answer.ensures.delivered in
     let k = scale_is s in
     let k' = scale_is t in
     let a : ℕ = quanta_at s.min_exp c.args.x.significand c.args.x.exponent in

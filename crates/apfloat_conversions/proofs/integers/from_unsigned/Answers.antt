@@ -6,8 +6,8 @@ use Rattle.apfloat_model.specs.rounding.Standing.{up, down}
 use Rattle.apfloat_rounding.specs.Shapes.{format_at}
 use Rattle.apfloat_conversions.proofs.integers.from_unsigned.Goals as goal
 
-pub deliver_u128_digits-requires-clause-within : goal.deliver_u128_digits-requires-clause-within
-deliver_u128_digits-requires-clause-within c =
+pub deliver_counted_u128-requires-clause-within : goal.deliver_counted_u128-requires-clause-within
+deliver_counted_u128-requires-clause-within c =
     record {
       low = omega (arith, ints, c.aligned_exponent.ensures);
       high = omega (arith, ints, c.aligned_exponent.ensures);
@@ -41,7 +41,7 @@ returns-clause-delivered c =
     let scale = (format_at c.args.shape).scale in
     let count = c.digits-count.result in
     let w = to_z-of_z w32 c.aligned_exponent.result (record { sfits = c.aligned_exponent.type_inv }) in
-    let g = rw w at c.deliver_u128_digits.ensures.delivered in
+    let g = rw w at c.deliver_counted_u128.ensures.delivered in
     let unit : ℤ = c.aligned_exponent.result +ℤ pos scale in
     let a = c.aligned-significand.ensures.value in
     g (c.args.number * 2 ^ scale) 1 (omega arith)

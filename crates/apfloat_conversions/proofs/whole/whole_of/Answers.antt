@@ -28,14 +28,14 @@ pub steps_between-requires-clause-low : goal.steps_between-requires-clause-low
 steps_between-requires-clause-low c =
     record { low = omega (arith, ints); high = omega (arith, ints) }
 
-pub raised-requires-clause-some : goal.raised-requires-clause-some
-raised-requires-clause-some c = omega (arith, c.args.shape.parameters.precision_low)
+pub integer_of-requires-clause-some : goal.integer_of-requires-clause-some
+integer_of-requires-clause-some c = omega (arith, c.args.shape.parameters.precision_low)
 
-pub raised-requires-clause-fits : goal.raised-requires-clause-fits
-raised-requires-clause-fits c = c.requires.operand.fits
+pub integer_of-requires-clause-fits : goal.integer_of-requires-clause-fits
+integer_of-requires-clause-fits c = c.requires.operand.fits
 
-pub raised-requires-clause-near : goal.raised-requires-clause-near
-raised-requires-clause-near c =
+pub integer_of-requires-clause-near : goal.integer_of-requires-clause-near
+integer_of-requires-clause-near c =
     omega (
       arith,
       ints,
@@ -68,7 +68,7 @@ returns-then-exponent-ge0 c =
     v k c.requires.whole in
     let p = pow_pos (format_at s).scale in
     record {
-      magnitude_is = c.raised.ensures ∙
+      magnitude_is = c.integer_of.ensures ∙
           sym (whole_exactly c.args.round c.args.x.negative (c.args.x.significand * 2 ^ c.steps_between.result) a
           (2 ^ (format_at s).scale) p e);
       exact_is =

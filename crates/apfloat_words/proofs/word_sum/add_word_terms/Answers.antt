@@ -65,9 +65,9 @@ returns-clause-exponent c =
     let h = of_high (λ (t : Term). IsWithin exponent_bound t.exponent) high c.in_order_of_exponents.result.low
     c.args.x c.args.y c.in_order_of_exponents.ensures.same c.requires.x c.requires.y in
     let eh : to_z w32 (of_z w32 high.exponent) ≡ high.exponent = omega (arith, ints, h.low, h.high) in
-    let w : to_z w32 (of_z w32 c.moved_exponent.result) ≡ c.moved_exponent.result =
-    to_z-of_z w32 c.moved_exponent.result (record { sfits = c.moved_exponent.type_inv }) in
-    let e = rw eh at c.moved_exponent.ensures in
+    let w : to_z w32 (of_z w32 c.word_exponent.result) ≡ c.word_exponent.result =
+    to_z-of_z w32 c.word_exponent.result (record { sfits = c.word_exponent.type_inv }) in
+    let e = rw eh at c.word_exponent.ensures in
     rw w (greater_first high c.in_order_of_exponents.result.low c.args.x c.args.y _
     c.in_order_of_exponents.ensures.same c.in_order_of_exponents.ensures.order e)
 
@@ -85,12 +85,12 @@ returns-clause-rounded c = λ base lx ly.
     of_low (λ (t : Term). (base +ℤ pos 62) ≤ℤ t.exponent) high low c.args.x c.args.y same lx ly in
     let eh : to_z w32 (of_z w32 high.exponent) ≡ high.exponent = omega (arith, ints, h.low, h.high) in
     let el : to_z w32 (of_z w32 low.exponent) ≡ low.exponent = omega (arith, ints, l.low, l.high) in
-    let w : to_z w32 (of_z w32 c.moved_exponent.result) ≡ c.moved_exponent.result =
-    to_z-of_z w32 c.moved_exponent.result (record { sfits = c.moved_exponent.type_inv }) in
-    let e = rw eh at c.moved_exponent.ensures in
+    let w : to_z w32 (of_z w32 c.word_exponent.result) ≡ c.word_exponent.result =
+    to_z-of_z w32 c.word_exponent.result (record { sfits = c.word_exponent.type_inv }) in
+    let e = rw eh at c.word_exponent.ensures in
     let g : (low.exponent +ℤ pos gap) ≡ high.exponent =
     let k = rw (eh, el) at c.steps_between.ensures in omega (arith, ints, k) in
-    let t = total_to_odd base high.exponent low.exponent c.moved_exponent.result high.negative low.negative _
+    let t = total_to_odd base high.exponent low.exponent c.word_exponent.result high.negative low.negative _
     c.combine-total.result.flipped (2 ^ 60) 62 high.significand low.significand (62 - c.args.precision) gap
     c.combine-total.result.significand b (omega arith) g e (unlike_false high.negative low.negative)
     (unlike_true high.negative low.negative)
@@ -98,4 +98,4 @@ returns-clause-rounded c = λ base lx ly.
     (rw (c.moved_up.ensures, c.moved_up-2.ensures) at c.combine-total.ensures.apart) in
     rw (w, c.either.ensures)
     (ordered_to_odd (λ (t : Term). counted base t.negative t.exponent t.significand) (2 ^ 60) base high low c.args.x
-    c.args.y _ c.moved_exponent.result c.combine-total.result.significand same t)
+    c.args.y _ c.word_exponent.result c.combine-total.result.significand same t)

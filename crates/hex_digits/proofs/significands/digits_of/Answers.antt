@@ -12,34 +12,34 @@ use Rattle.hex_digits.proofs.significands.digits_of.Goals as goal
 
 pub significand-all-requires-clause-within : goal.significand-all-requires-clause-within
 significand-all-requires-clause-within g c =
-    let same = to_z-of_z w32 c.lowered.result (record { sfits = c.lowered.type_inv }) in
+    let same = to_z-of_z w32 c.exponent_below.result (record { sfits = c.exponent_below.type_inv }) in
     let within = c.first_exponent-exponent.ensures.within in
     let digits = c.PRECISION-precision.ensures in
     let few = g.S.Semantics.lawful.parameters.precision_high in
     rw same (record {
-      low = omega (arith, ints, c.lowered.ensures.place, digits, few, within.low, within.high);
-      high = omega (arith, ints, c.lowered.ensures.place, digits, few, within.low, within.high);
+      low = omega (arith, ints, c.exponent_below.ensures.place, digits, few, within.low, within.high);
+      high = omega (arith, ints, c.exponent_below.ensures.place, digits, few, within.low, within.high);
     })
 
 pub significand-all-requires-clause-last : goal.significand-all-requires-clause-last
 significand-all-requires-clause-last g c =
-    let same = to_z-of_z w32 c.lowered.result (record { sfits = c.lowered.type_inv }) in
+    let same = to_z-of_z w32 c.exponent_below.result (record { sfits = c.exponent_below.type_inv }) in
     let within = c.first_exponent-exponent.ensures.within in
     rw same (last_place_of (format_of g.S.Semantics) (quanta_of c.args.x) c.first_exponent-exponent.result
-    c.lowered.result g.S.Semantics.lawful.parameters.precision_low c.first_exponent-exponent.ensures.first
-    (omega (arith, ints, c.lowered.ensures.place, c.PRECISION-precision.ensures, within.low, within.high)))
+    c.exponent_below.result g.S.Semantics.lawful.parameters.precision_low c.first_exponent-exponent.ensures.first
+    (omega (arith, ints, c.exponent_below.ensures.place, c.PRECISION-precision.ensures, within.low, within.high)))
 
 wide_is : (g : Over) → (state : After-significand-all g)
     → IsWide (format_of g.S.Semantics) (quanta_of state.args.x)
     (state.significand-all.result * 2 ^ (125 - state.PRECISION-precision.result)) state.first_exponent-exponent.result
 wide_is g c =
-    let last = to_z-of_z w32 c.lowered.result (record { sfits = c.lowered.type_inv }) in
+    let last = to_z-of_z w32 c.exponent_below.result (record { sfits = c.exponent_below.type_inv }) in
     let within = c.first_exponent-exponent.ensures.within in
     widened (format_of g.S.Semantics) (quanta_of c.args.x) c.significand-all.result
     (c.significand-all.result * 2 ^ (125 - c.PRECISION-precision.result)) c.first_exponent-exponent.result
-    c.lowered.result g.S.Semantics.lawful.parameters.precision_low g.S.Semantics.lawful.parameters.precision_high
+    c.exponent_below.result g.S.Semantics.lawful.parameters.precision_low g.S.Semantics.lawful.parameters.precision_high
     c.first_exponent-exponent.ensures.first
-    (omega (arith, ints, c.lowered.ensures.place, c.PRECISION-precision.ensures, within.low, within.high))
+    (omega (arith, ints, c.exponent_below.ensures.place, c.PRECISION-precision.ensures, within.low, within.high))
     (rw last at c.significand-all.ensures.is)
     (ap (λ (p : ℕ). c.significand-all.result * 2 ^ (125 - p)) c.PRECISION-precision.ensures)
 

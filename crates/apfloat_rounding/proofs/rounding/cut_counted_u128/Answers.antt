@@ -3,7 +3,7 @@ use Rattle.std.proofs.lemmas.Int.{ints, to_z-of_z}
 use borrow.Author.Differences.{fits_in}
 use Rattle.apfloat_model.specs.rounding.Standing.{up, down}
 use Rattle.apfloat_rounding.proofs.CutRests.{IsSplit, split_fits, split_full, cut_off}
-use Rattle.apfloat_rounding.proofs.rounding.cut_u128_digits.Goals as goal
+use Rattle.apfloat_rounding.proofs.rounding.cut_counted_u128.Goals as goal
 
 pub returns-clause-fits : goal.returns-clause-fits
 returns-clause-fits c =

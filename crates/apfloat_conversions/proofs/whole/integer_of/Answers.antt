@@ -1,6 +1,6 @@
 use Rattle.std.proofs.Common.{ℕ, ◌*◌, ◌<◌, ◌^◌, sym, subst}
 use Rattle.apfloat_conversions.proofs.Wholes.{shifted_within}
-use Rattle.apfloat_conversions.proofs.whole.raised.Goals as goal
+use Rattle.apfloat_conversions.proofs.whole.integer_of.Goals as goal
 
 pub overflow_mul-result : goal.overflow_mul-result
 overflow_mul-result c = record {

@@ -7,8 +7,8 @@ use Rattle.apfloat_rounding.proofs.FineCuts.{all_kept}
 use Rattle.apfloat_model.specs.declared.loss.Loss.TheVariants.{ExactlyZero}
 use Rattle.apfloat_model.specs.rounding.Standing.{StandsFor, up, down}
 use Rattle.apfloat_rounding.specs.Shapes.{format_at}
-use Rattle.apfloat_rounding.proofs.rounding.deliver_u128_digits.Goals.{After-unit_place-unit}
-use Rattle.apfloat_rounding.proofs.rounding.deliver_u128_digits.Goals as goal
+use Rattle.apfloat_rounding.proofs.rounding.deliver_counted_u128.Goals.{After-unit_place-unit}
+use Rattle.apfloat_rounding.proofs.rounding.deliver_counted_u128.Goals as goal
 
 -- the unit, counted from the quantum
 in_quanta : (c : After-unit_place-unit) (amount parts : ℕ)
@@ -28,8 +28,9 @@ in_quanta c amount parts h =
 pub returns-then-unit-digits-clause-delivered : goal.returns-then-unit-digits-clause-delivered
 returns-then-unit-digits-clause-delivered c = λ amount parts u h.
     let g = in_quanta (goal.at.returns-then-unit-digits-clause-delivered c).After-unit_place-unit amount parts h in
-    c.round.ensures.delivered amount parts u (c.cut_u128_digits-cut.ensures.cut amount parts u g)
-    (λ r. all_kept c.args.shape.precision c.cut_u128_digits-cut.result amount parts c.cut_u128_digits-cut.ensures.full)
+    c.round.ensures.delivered amount parts u (c.cut_counted_u128-cut.ensures.cut amount parts u g)
+    (λ r. all_kept c.args.shape.precision c.cut_counted_u128-cut.result amount parts
+    c.cut_counted_u128-cut.ensures.full)
 
 pub cut_at_quantum-cut-requires-clause-fine : goal.cut_at_quantum-cut-requires-clause-fine
 cut_at_quantum-cut-requires-clause-fine c =

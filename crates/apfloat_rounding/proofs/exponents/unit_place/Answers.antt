@@ -1,5 +1,5 @@
 use Rattle.std.proofs.Common.{rules}
-use Rattle.apfloat_rounding.proofs.rounding.unit_place.Goals as goal
+use Rattle.apfloat_rounding.proofs.exponents.unit_place.Goals as goal
 
 pub returns-clause-value : goal.returns-clause-value
 returns-clause-value c = search rules steps 500000

@@ -3,7 +3,7 @@ use Rattle.std.proofs.lemmas.Int.{to_z-of_z}
 use Rattle.apfloat_model.specs.rounding.RoundingToOdd.{IsRoundedToOdd}
 use Rattle.apfloat_model.specs.rounding.Standing.{up, down}
 use Rattle.apfloat_rounding.proofs.FineCuts.{all_kept}
-use Rattle.apfloat_rounding.proofs.rounding.from_word.deliver_word_digits.Goals as goal
+use Rattle.apfloat_rounding.proofs.rounding.from_word.deliver_counted_word.Goals as goal
 
 pub returns-then-unit-geminus2-clause-delivered : goal.returns-then-unit-geminus2-clause-delivered
 returns-then-unit-geminus2-clause-delivered c = λ amount parts u h.
