@@ -9,7 +9,7 @@ ghost use Rattle.apfloat_format_of.specs.Operands.{IsOperand, IsTerm, IsAmount, 
 ghost use Rattle.apfloat_format_of.specs.FormatOf.{IsFusedSumOf, IsSumWithInfinity};
 
 use crate::operands::{Operand, signals};
-use crate::results::{deliver_total, infinity_in, nan_in};
+use crate::results::{deliver_total_in, infinity_in, nan_in};
 use crate::sums::add_to_infinity;
 use crate::totals::fused_sum_of;
 use apfloat_arithmetic::products::product_sign;
@@ -38,7 +38,7 @@ fn multiply_add_numbers(
         (number y.negative m t) addend) result }
 {
     match z {
-        Operand::Number(addend) => deliver_total(
+        Operand::Number(addend) => deliver_total_in(
             into,
             fused_sum_of(x, y, addend),
             product_sign(x.negative, y.negative),

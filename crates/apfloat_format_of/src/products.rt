@@ -8,7 +8,7 @@ ghost use Rattle.apfloat_format_of.specs.Operands.{IsOperand, IsTerm, IsAmount, 
 ghost use Rattle.apfloat_format_of.specs.FormatOf.{IsProductOf, IsNumberByInfinity};
 
 use crate::operands::{Operand, signals};
-use crate::results::{deliver_total, infinity_in, nan_in};
+use crate::results::{deliver_total_in, infinity_in, nan_in};
 use crate::totals::product_of;
 use apfloat_arithmetic::products::product_sign;
 use apfloat_model::{Round, StatusAnd};
@@ -28,7 +28,7 @@ fn multiply_numbers(into: Shape, x: Term, y: Term, round: Round) -> StatusAnd<Un
         (number y.negative n t)) result }
 {
     let total = product_of(x, y);
-    deliver_total(into, total, total.negative, total.negative, round)
+    deliver_total_in(into, total, total.negative, total.negative, round)
 }
 
 /// The product, with that sign, of a number and an infinity: invalid if the number is zero.

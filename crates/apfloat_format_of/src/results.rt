@@ -8,10 +8,9 @@ ghost use Rattle.apfloat_rounding.specs.Stored.{IsStored, datum_at, GivesAt};
 ghost use Rattle.apfloat_format_of.specs.Operands.{IsTotal};
 ghost use Rattle.apfloat_format_of.specs.FormatOf.{IsNan, IsInfinity, IsRounded};
 
-use apfloat_arithmetic::sums::{sign_of_odd_total, sign_of_zero};
+use apfloat_arithmetic::sums;
 use apfloat_model::{NonfiniteBehavior, Round, Status, StatusAnd};
 use apfloat_rounding::nans::status_of;
-use apfloat_rounding::rounding::from_u128::deliver_u128;
 use apfloat_rounding::shape::Shape;
 use apfloat_rounding::unpacked::{Unpacked, infinity_of};
 use apfloat_words::U128Total;
@@ -19,7 +18,7 @@ use apfloat_words::U128Total;
 /// Delivers a total of two numbers with these signs, rounded once. An exact zero has the sign that the mode gives it
 /// (IEEE 754-2019 6.3).
 #[inline(always)]
-pub(crate) fn deliver_total(
+pub(crate) fn deliver_total_in(
     into: Shape,
     total: U128Total,
     left: bool,
@@ -32,9 +31,7 @@ pub(crate) fn deliver_total(
         → GivesAt into (IsRounded (format_at into) round (zero_sum_sign round left right) exact
         places) result }
 {
-    let of_zero = sign_of_zero(round, left, right);
-    let negative = sign_of_odd_total(total.significand, total.negative, of_zero);
-    deliver_u128(into, total.significand, total.exponent, round, negative)
+    sums::deliver_total(into, total, left, right, round)
 }
 
 /// An infinity, as conversion delivers it: exact, or the NaN in its place with INEXACT.

@@ -8,7 +8,7 @@ ghost use Rattle.apfloat_format_of.specs.Operands.{IsOperand, IsTerm, IsAmount, 
 ghost use Rattle.apfloat_format_of.specs.FormatOf.{IsSumOf};
 
 use crate::operands::{Operand, negated, signals};
-use crate::results::{deliver_total, infinity_in, nan_in};
+use crate::results::{deliver_total_in, infinity_in, nan_in};
 use crate::totals::sum_of;
 use apfloat_model::{Round, StatusAnd};
 use apfloat_rounding::nans::invalid;
@@ -27,7 +27,7 @@ fn add_to_number(into: Shape, x: Term, y: Operand, round: Round) -> StatusAnd<Un
 {
     match y {
         Operand::Number(other) => {
-            deliver_total(into, sum_of(x, other), x.negative, other.negative, round)
+            deliver_total_in(into, sum_of(x, other), x.negative, other.negative, round)
         }
         Operand::Infinity(negative) => infinity_in(into, negative),
         Operand::Nan(nan) => nan_in(into, nan.value, nan.signaling),
