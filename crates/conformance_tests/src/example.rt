@@ -1,4 +1,4 @@
-//! The examples in the README and in the page for callers.
+//! The examples in the page for callers, `crates/rustc_apfloat/CALLING.md`.
 
 ghost use Rattle.std.specs.Prelude.{◌-◌, ◌^◌, pos, negsuc, true, false, refl};
 ghost use Rattle.rustc_apfloat.specs.declared.ieee.NonfiniteBehavior.TheVariants.{IEEE754};
