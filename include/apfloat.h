@@ -247,6 +247,68 @@ uint32_t apfloat_error_text(uint32_t error, apfloat_text *text);
 /* The version of the library: 1,000,000 times its major number, plus 1,000 times the minor one, plus the patch. */
 uint32_t apfloat_version(void);
 
+/* ---- operations of IEEE 754-2019
+ *
+ * Pairs of doubles do not have them. An unknown code of a predicate, of a minimum or maximum, or of an operation is
+ * APFLOAT_NO_SUCH_OPERATION. */
+
+/* `number` is 1 if the predicate holds of x and y, else 0 (5.6.1, 5.11). The only flag is APFLOAT_INVALID_OP: raised if
+ * an operand is a signaling NaN, and, with APFLOAT_SIGNALING, if it is any NaN. */
+#define APFLOAT_IS_EQUAL UINT32_C(0)
+#define APFLOAT_IS_NOT_EQUAL UINT32_C(1)
+#define APFLOAT_IS_GREATER UINT32_C(2)
+#define APFLOAT_IS_GREATER_EQUAL UINT32_C(3)
+#define APFLOAT_IS_LESS UINT32_C(4)
+#define APFLOAT_IS_LESS_EQUAL UINT32_C(5)
+#define APFLOAT_IS_NOT_GREATER UINT32_C(6)
+#define APFLOAT_IS_LESS_UNORDERED UINT32_C(7)
+#define APFLOAT_IS_NOT_LESS UINT32_C(8)
+#define APFLOAT_IS_GREATER_UNORDERED UINT32_C(9)
+#define APFLOAT_IS_UNORDERED UINT32_C(10)
+#define APFLOAT_IS_ORDERED UINT32_C(11)
+#define APFLOAT_QUIET UINT32_C(0)
+#define APFLOAT_SIGNALING UINT32_C(1)
+uint32_t apfloat_compare_predicate(uint32_t format, uint32_t predicate, uint32_t on_nan, apfloat_halves x,
+                                   apfloat_halves y, apfloat_answer *answer);
+
+/* `number` is APFLOAT_LESS, APFLOAT_EQUAL or APFLOAT_GREATER: the place of x beside y in the total order (5.10), in
+ * which -0 is below +0, negative NaNs are below all numbers, and positive ones above. totalOrder holds if it is not
+ * APFLOAT_GREATER. No flag is raised. */
+uint32_t apfloat_total_order(uint32_t format, apfloat_halves x, apfloat_halves y, apfloat_answer *answer);
+
+/* The minimum or maximum of x and y, with -0 below +0 (9.6). Of a NaN and a number it is the number if `prefers_number`
+ * is not 0, as in minimumNumber, and otherwise a quiet NaN; of two NaNs the first one, quiet. APFLOAT_INVALID_OP is
+ * raised if an operand is a signaling NaN. */
+#define APFLOAT_MINIMUM UINT32_C(0)
+#define APFLOAT_MAXIMUM UINT32_C(1)
+#define APFLOAT_MINIMUM_MAGNITUDE UINT32_C(2)
+#define APFLOAT_MAXIMUM_MAGNITUDE UINT32_C(3)
+uint32_t apfloat_extremum(uint32_t format, uint32_t which, uint32_t prefers_number, apfloat_halves x,
+                          apfloat_halves y, apfloat_answer *answer);
+
+/* The exponent of the highest binary digit of x, as a value (5.3.3, logB), rounded once. A zero gives the negative
+ * infinity, or the NaN in its place, with APFLOAT_DIV_BY_ZERO, and an infinity the positive one. */
+uint32_t apfloat_log_b(uint32_t format, uint32_t mode, apfloat_halves x, apfloat_answer *answer);
+
+/* The value of apfloat_scalbn, with its flags (5.3.3, scaleB). */
+uint32_t apfloat_scale_b(uint32_t format, uint32_t mode, apfloat_halves x, int32_t power, apfloat_answer *answer);
+
+/* The value of apfloat_round_to_integral, without APFLOAT_INEXACT (5.9). */
+uint32_t apfloat_integral(uint32_t format, uint32_t mode, apfloat_halves x, apfloat_answer *answer);
+
+/* An operation on values of `format`, rounded once to the format `target`, with the flags of that rounding (5.4.1,
+ * formatOf): x + y, x - y, x * y, x / y, x * y + z or the square root of x. Operands that it does not take are ignored.
+ * The errors are those of both formats, of the mode, and of the operation, in this order; the rule of flags is that of
+ * `target`. */
+#define APFLOAT_SUM_TO UINT32_C(0)
+#define APFLOAT_DIFFERENCE_TO UINT32_C(1)
+#define APFLOAT_PRODUCT_TO UINT32_C(2)
+#define APFLOAT_QUOTIENT_TO UINT32_C(3)
+#define APFLOAT_FUSED_SUM_TO UINT32_C(4)
+#define APFLOAT_ROOT_TO UINT32_C(5)
+uint32_t apfloat_to_format(uint32_t operation, uint32_t format, uint32_t mode, uint32_t target, apfloat_halves x,
+                           apfloat_halves y, apfloat_halves z, apfloat_answer *answer);
+
 /* ---- arrays
  *
  * An array is the bytes of its values, one after another, each with its lowest byte first. A value takes the bytes of

@@ -938,6 +938,122 @@ value<F> next_down(const value<F> &x, gather &with) {
     return with(next_down(x));
 }
 
+// ---- operations of IEEE 754-2019, which pairs of doubles do not have
+
+/// A comparison predicate (IEEE 754-2019 5.6.1, 5.11).
+enum class predicate : std::uint32_t {
+    equal = APFLOAT_IS_EQUAL,
+    not_equal = APFLOAT_IS_NOT_EQUAL,
+    greater = APFLOAT_IS_GREATER,
+    greater_equal = APFLOAT_IS_GREATER_EQUAL,
+    less = APFLOAT_IS_LESS,
+    less_equal = APFLOAT_IS_LESS_EQUAL,
+    not_greater = APFLOAT_IS_NOT_GREATER,
+    less_unordered = APFLOAT_IS_LESS_UNORDERED,
+    not_less = APFLOAT_IS_NOT_LESS,
+    greater_unordered = APFLOAT_IS_GREATER_UNORDERED,
+    unordered = APFLOAT_IS_UNORDERED,
+    ordered = APFLOAT_IS_ORDERED
+};
+/// The NaNs that make a comparison an invalid operation: signaling ones, or all.
+enum class on_nan : std::uint32_t { quiet = APFLOAT_QUIET, signaling = APFLOAT_SIGNALING };
+
+/// Whether a predicate holds; the only flag is that of an invalid operation.
+template <class F>
+result<bool> holds(predicate asked, on_nan invalid, const value<F> &x, const value<F> &y) {
+    const auto answer =
+        detail::answer_of(apfloat_compare_predicate, F::code, static_cast<std::uint32_t>(asked),
+                          static_cast<std::uint32_t>(invalid), x.halves(), y.halves());
+    return {answer.number == 1, flags::of_code(answer.status)};
+}
+
+/// The order in the total order (IEEE 754-2019 5.10), which is never `unordered`.
+template <class F>
+order total_order(const value<F> &x, const value<F> &y) {
+    return static_cast<order>(detail::answer_of(apfloat_total_order, F::code, x.halves(), y.halves()).number);
+}
+
+/// A minimum or a maximum (IEEE 754-2019 9.6).
+enum class extremum : std::uint32_t {
+    minimum = APFLOAT_MINIMUM,
+    maximum = APFLOAT_MAXIMUM,
+    minimum_magnitude = APFLOAT_MINIMUM_MAGNITUDE,
+    maximum_magnitude = APFLOAT_MAXIMUM_MAGNITUDE
+};
+
+/// The minimum or maximum, with its flag; a quiet NaN if an operand is a NaN.
+template <class F>
+result<value<F>> extremum_of(extremum which, const value<F> &x, const value<F> &y) {
+    const std::uint32_t prefers_number = 0;
+    return detail::result_of<F>(detail::answer_of(apfloat_extremum, F::code, static_cast<std::uint32_t>(which),
+                                                  prefers_number, x.halves(), y.halves()));
+}
+/// The same, but of a NaN and a number the number.
+template <class F>
+result<value<F>> extremum_number_of(extremum which, const value<F> &x, const value<F> &y) {
+    const std::uint32_t prefers_number = 1;
+    return detail::result_of<F>(detail::answer_of(apfloat_extremum, F::code, static_cast<std::uint32_t>(which),
+                                                  prefers_number, x.halves(), y.halves()));
+}
+
+/// The exponent of the highest binary digit as a value (IEEE 754-2019 5.3.3, logB), rounded once.
+template <class F>
+result<value<F>> log_b(const value<F> &x, rounding mode = rounding::nearest_even) {
+    return detail::result_of<F>(detail::answer_of(apfloat_log_b, F::code, detail::code_of(mode), x.halves()));
+}
+
+/// x times 2 to the power of `power`, rounded once, with its flags (IEEE 754-2019 5.3.3, scaleB).
+template <class F>
+result<value<F>> scale_b(const value<F> &x, std::int32_t power, rounding mode = rounding::nearest_even) {
+    return detail::result_of<F>(
+        detail::answer_of(apfloat_scale_b, F::code, detail::code_of(mode), x.halves(), power));
+}
+
+/// The value rounded to an integral value, without the flag of inexact results (IEEE 754-2019 5.9).
+template <class F>
+result<value<F>> integral(const value<F> &x, rounding mode) {
+    return detail::result_of<F>(detail::answer_of(apfloat_integral, F::code, detail::code_of(mode), x.halves()));
+}
+
+namespace detail {
+
+template <class T, class F>
+result<value<T>> to_format(std::uint32_t operation, rounding mode, const value<F> &x, const value<F> &y = {},
+                           const value<F> &z = {}) {
+    return result_of<T>(answer_of(apfloat_to_format, operation, F::code, code_of(mode), T::code, x.halves(),
+                                  y.halves(), z.halves()));
+}
+
+} // namespace detail
+
+/// x + y in the format T, rounded once (IEEE 754-2019 5.4.1, formatOf), and the like:
+/// add_to<binary32>(x, y, rounding::nearest_even).
+template <class T, class F>
+result<value<T>> add_to(const value<F> &x, const value<F> &y, rounding mode = rounding::nearest_even) {
+    return detail::to_format<T>(APFLOAT_SUM_TO, mode, x, y);
+}
+template <class T, class F>
+result<value<T>> sub_to(const value<F> &x, const value<F> &y, rounding mode = rounding::nearest_even) {
+    return detail::to_format<T>(APFLOAT_DIFFERENCE_TO, mode, x, y);
+}
+template <class T, class F>
+result<value<T>> mul_to(const value<F> &x, const value<F> &y, rounding mode = rounding::nearest_even) {
+    return detail::to_format<T>(APFLOAT_PRODUCT_TO, mode, x, y);
+}
+template <class T, class F>
+result<value<T>> div_to(const value<F> &x, const value<F> &y, rounding mode = rounding::nearest_even) {
+    return detail::to_format<T>(APFLOAT_QUOTIENT_TO, mode, x, y);
+}
+template <class T, class F>
+result<value<T>> fma_to(const value<F> &x, const value<F> &y, const value<F> &z,
+                        rounding mode = rounding::nearest_even) {
+    return detail::to_format<T>(APFLOAT_FUSED_SUM_TO, mode, x, y, z);
+}
+template <class T, class F>
+result<value<T>> sqrt_to(const value<F> &x, rounding mode = rounding::nearest_even) {
+    return detail::to_format<T>(APFLOAT_ROOT_TO, mode, x);
+}
+
 // ---- conversions
 
 /// The value in another format, rounded once: convert<binary16>(x). The rule of the format `To` decides the flags.

@@ -196,14 +196,17 @@ def _parameters() -> dict[str, list[Any]]:
     return {
         **dict.fromkeys(('add', 'sub', 'mul', 'div'), [code, code, _Halves, _Halves, answer]),
         'fma': [code, code, _Halves, _Halves, _Halves, answer],
-        **dict.fromkeys(('sqrt', 'from_i128', 'round_to_integral', 'frexp'), [code, code, _Halves, answer]),
-        **dict.fromkeys(('rem', 'mod', 'compare', 'copy_sign', 'min', 'max', 'minimum', 'maximum'),
+        **dict.fromkeys(('sqrt', 'from_i128', 'round_to_integral', 'frexp', 'log_b', 'integral'),
+                        [code, code, _Halves, answer]),
+        **dict.fromkeys(('rem', 'mod', 'compare', 'copy_sign', 'min', 'max', 'minimum', 'maximum', 'total_order'),
                         [code, _Halves, _Halves, answer]),
         **dict.fromkeys(('ilogb', 'next_up', 'next_down', 'classify', 'is_negative'), [code, _Halves, answer]),
         **dict.fromkeys(('qnan', 'snan'), [code, code, _Halves, answer]),
         'convert': [code, code, code, _Halves, answer],
         'to_i128': [code, code, _Halves, code, answer],
-        'scalbn': [code, code, _Halves, power, answer],
+        **dict.fromkeys(('scalbn', 'scale_b'), [code, code, _Halves, power, answer]),
+        **dict.fromkeys(('compare_predicate', 'extremum'), [code, code, code, _Halves, _Halves, answer]),
+        'to_format': [code, code, code, code, _Halves, _Halves, _Halves, answer],
         **dict.fromkeys(('parse', 'parse_decimal'), [code, code, *text, answer]),
         'shortest': [code, _Halves, ctypes.POINTER(_Text)],
         'error_text': [code, ctypes.POINTER(_Text)],
@@ -729,6 +732,16 @@ class _Arithmetic(Generic[_Operand]):
         return self._with('copy_sign', sign)
 
 
+# The predicates of IEEE 754-2019 (tables 5.1 to 5.3), in the order of their codes.
+_PREDICATES = ('equal', 'not equal', 'greater', 'greater equal', 'less', 'less equal', 'not greater',
+               'less unordered', 'not less', 'greater unordered', 'unordered', 'ordered')
+
+# The minima and maxima of IEEE 754-2019 (9.6), in the order of their codes.
+_EXTREMA = ('minimum', 'maximum', 'minimum magnitude', 'maximum magnitude')
+
+# The operations whose result may be of another format, with how many operands they take, in the order of their codes.
+_TO_FORMAT = {'add': 2, 'sub': 2, 'mul': 2, 'div': 2, 'fma': 3, 'sqrt': 1}
+
 # The operations whose functions take no mode, since their results are exact.
 _WITHOUT_MODE = ('rem', 'mod', 'copy_sign', 'min', 'max', 'minimum', 'maximum')
 
@@ -856,6 +869,102 @@ class Value(_Arithmetic[Number]):
         (True, True, False, False)
         """
         return self._asked('is_negative', _halves(self.bits)).number == 1
+
+    def _beside(self, other: Number) -> Value:
+        """Another operand, as a value of this format."""
+        operand = self._operand(other)
+        if operand is NotImplemented:
+            raise TypeError(f'{other!r} is no operand of {self.format}')
+        return operand
+
+    def holds(self, predicate: str, other: Number, signaling: bool = False) -> bool:
+        """Whether a predicate holds of self and another value (IEEE 754-2019 5.6.1, 5.11).
+
+        It is one of equal, not equal, greater, greater equal, less, less equal, not greater, less unordered, not less,
+        greater unordered, unordered and ordered. INVALID_OP is raised for a signaling NaN, and, if asked, for any NaN.
+
+        >>> half(1).holds('less', 2), half('nan').holds('less unordered', 1)
+        (True, True)
+        >>> with Context() as context:
+        ...     half('nan').holds('less', 1), half('nan').holds('less', 1, signaling=True)
+        (False, False)
+        >>> context.invalid_op
+        True
+        """
+        if predicate not in _PREDICATES:
+            raise ValueError(f'{predicate!r} is no predicate: {", ".join(_PREDICATES)}')
+        answer = self._asked('compare_predicate', _PREDICATES.index(predicate), int(signaling), _halves(self.bits),
+                             _halves(self._beside(other).bits))
+        return answer.number == 1
+
+    def total_order(self, other: Number) -> int:
+        """-1, 0 or 1: the place of self beside another value in the total order (IEEE 754-2019 5.10).
+
+        >>> half('-0.0').total_order(0), half('nan').total_order(half('inf')), half('-nan').total_order(1)
+        (-1, 1, -1)
+        """
+        return self._asked('total_order', _halves(self.bits), _halves(self._beside(other).bits)).number
+
+    def extremum(self, which: str, other: Number, prefers_number: bool = False) -> Value:
+        """The minimum, maximum, minimum magnitude or maximum magnitude, with its flag (IEEE 754-2019 9.6).
+
+        Of a NaN and a number it is a quiet NaN, or, if asked, the number.
+
+        >>> half(1).extremum('maximum magnitude', -2), half('nan').extremum('minimum', 1)
+        (half('-2.0'), half('nan'))
+        >>> half('nan').extremum('minimum', 1, prefers_number=True)
+        half('1.0')
+        """
+        if which not in _EXTREMA:
+            raise ValueError(f'{which!r} is none of {", ".join(_EXTREMA)}')
+        return self._made('extremum', _EXTREMA.index(which), int(prefers_number), _halves(self.bits),
+                          _halves(self._beside(other).bits))
+
+    def log_b(self) -> Value:
+        """The exponent of the highest binary digit, as a value (IEEE 754-2019 5.3.3, logB).
+
+        >>> half(10).log_b(), half(0).log_b()
+        (half('3.0'), half('-inf'))
+        """
+        return self._made('log_b', context().mode, _halves(self.bits))
+
+    def scale_b(self, power: int) -> Value:
+        """self times 2 to the power of `power`, rounded once, with its flags (IEEE 754-2019 5.3.3, scaleB).
+
+        >>> half(3).scale_b(-25)
+        half('1e-7')
+        """
+        try:
+            power = operator.index(power)
+        except TypeError:
+            raise TypeError(f'scale_b takes an integer, and not {power!r}') from None
+        clamped = max(-1 << 31, min(power, (1 << 31) - 1))
+        return self._made('scale_b', context().mode, _halves(self.bits), clamped)
+
+    def integral(self) -> Value:
+        """The integral value that the mode picks, without INEXACT (IEEE 754-2019 5.9).
+
+        >>> with Context() as context:
+        ...     half(2.5).integral()
+        half('2.0')
+        >>> context.inexact
+        False
+        """
+        return self._made('integral', context().mode, _halves(self.bits))
+
+    def to_format(self, operation: str, target: Format, *others: Number) -> Value:
+        """add, sub, mul, div, fma or sqrt of self and others, rounded once to another format (IEEE 754-2019 5.4.1).
+
+        >>> double(1).to_format('add', single, double('0x1p-24') + double('0x1p-60'))
+        single('1.0000001')
+        """
+        if _TO_FORMAT.get(operation) != len(others) + 1:
+            raise ValueError(f'{operation!r} is none of {", ".join(_TO_FORMAT)}, or takes other operands')
+        values = [self, *(self._beside(other) for other in others), self, self][:3]
+        code = list(_TO_FORMAT).index(operation)
+        answer = _call('to_format', code, self.format.code, context().mode, target.code,
+                       *(_halves(value.bits) for value in values))
+        return Value(target, _whole(answer.bits))
 
     def fmin(self, other: Number) -> Value:
         """The lesser of two values, a number rather than a NaN, like fmin() in C (IEEE 754-2008 5.3.1, minNum).

@@ -543,6 +543,63 @@ class SignTests(unittest.TestCase):
         self.assertEqual(set(compared), {*methods, 'qnan', 'snan', 'is_negative'})
         self.assertTrue(all(count > 50 for count in compared.values()), compared)
 
+    def test_rows_of_operations(self):
+        # The stored rows of the operations of IEEE 754-2019 (docs/VECTORS.md), in the formats that have bits.
+        modes = {'even': apfloat.NEAREST_EVEN, 'up': apfloat.UPWARD, 'down': apfloat.DOWNWARD,
+                 'zero': apfloat.TOWARD_ZERO, 'away': apfloat.NEAREST_AWAY, '-': apfloat.NEAREST_EVEN}
+        orders = {'Less': -1, 'Equal': 0, 'Greater': 1}
+        compared = collections.Counter()
+
+        def format_of(word):
+            name, *rules = word.split('+')
+            format = getattr(apfloat, name, None)
+            if not isinstance(format, apfloat.Format):
+                return None
+            for rule in rules:
+                format = getattr(format, rule)
+            return format
+
+        def found_and_wanted(call, x, others, target, wanted):
+            kind, _, predicate = call.removeprefix('compare_').partition('_')
+            of, name = call.removesuffix('_number_of').removesuffix('_of'), call.replace('_', ' ')
+            if call.startswith('compare_'):
+                return x.holds(predicate.replace('_', ' '), *others, signaling=kind == 'signaling'), wanted == 'true'
+            if call == 'total_cmp':
+                return x.total_order(*others), orders[wanted]
+            if call.endswith('_of') and call != 'class_of':
+                return x.extremum(of.replace('_', ' '), *others, 'number' in name).bits, int(wanted, 16)
+            if call.endswith('_to'):
+                operation = {'mul_add_to': 'fma'}.get(call, call.removesuffix('_to'))
+                return x.to_format(operation, target, *others).bits, int(wanted, 16)
+            return getattr(x, {'round_to_integral_in': 'integral'}.get(call, call))().bits, int(wanted, 16)
+
+        with open(os.path.join(HERE, '..', 'crates', 'check_vectors', 'stdin'), encoding='utf-8') as file:
+            rows = [line.rstrip('\n').split('\t') for line in file]
+        for call, words, mode, operands, wanted, flags, _ in (row for row in rows if len(row) == 7):
+            if not (call.startswith('compare_') or call.endswith(('_of', '_to')) and call != 'class_of'
+                    or call in ('total_cmp', 'log_b', 'scale_b', 'round_to_integral_in')):
+                continue
+            source, *targets = [format_of(word) for word in words.split('>')]
+            if source is None or None in targets:
+                continue
+            with Context(mode=modes[mode]) as context:
+                if call == 'scale_b':
+                    bits, power = operands.split()
+                    found, wanted = source.from_bits(int(bits, 16)).scale_b(int(power)).bits, int(wanted, 16)
+                else:
+                    x, *others = [source.from_bits(int(bits, 16)) for bits in operands.split()]
+                    found, wanted = found_and_wanted(call, x, others, targets[0] if targets else None, wanted)
+            raised = sum(Flags[flag] for flag in flags.split('|')) if flags != '-' else 0
+            self.assertEqual((found, context.flags), (wanted, raised), (call, words, mode, operands))
+            compared[call] += 1
+        self.assertEqual(len(compared), 22 + 8 + 6 + 4)
+        with self.assertRaises(ValueError):
+            apfloat.half(1).holds('lesser', 2)
+        with self.assertRaises(ValueError):
+            apfloat.half(1).to_format('sqrt', apfloat.single, 1)
+        with self.assertRaises(apfloat.Refused):
+            apfloat.double_pair(1).log_b()
+
     def test_powers(self):
         self.assertEqual(apfloat.half(3).ldexp(True), 6)
         self.assertEqual(apfloat.half(3).ldexp(-10**30).bits, 0)

@@ -85,9 +85,48 @@ MAKES(qnan, a->format, 0, a->x)
 MAKES(snan, a->format, 0, a->x)
 MAKES(parse, a->format, a->mode, (const uint8_t *)a->text, strlen(a->text))
 
+/* The operations of IEEE 754-2019: those of a function, with the code that a name stands for. */
+#define MAKES_BY(name, function, ...) \
+    static uint32_t make_##name(const struct arguments *a, apfloat_answer *answer) { \
+        return apfloat_##function(__VA_ARGS__, answer); \
+    }
+#define COMPARES(name, code) \
+    MAKES_BY(quiet_##name, compare_predicate, a->format, code, APFLOAT_QUIET, a->x, a->y) \
+    MAKES_BY(signaling_##name, compare_predicate, a->format, code, APFLOAT_SIGNALING, a->x, a->y)
+#define TAKES(name, code) \
+    MAKES_BY(name##_of, extremum, a->format, code, 0, a->x, a->y) \
+    MAKES_BY(name##_number_of, extremum, a->format, code, 1, a->x, a->y)
+
+COMPARES(equal, APFLOAT_IS_EQUAL)
+COMPARES(not_equal, APFLOAT_IS_NOT_EQUAL)
+COMPARES(greater, APFLOAT_IS_GREATER)
+COMPARES(greater_equal, APFLOAT_IS_GREATER_EQUAL)
+COMPARES(less, APFLOAT_IS_LESS)
+COMPARES(less_equal, APFLOAT_IS_LESS_EQUAL)
+COMPARES(not_greater, APFLOAT_IS_NOT_GREATER)
+COMPARES(less_unordered, APFLOAT_IS_LESS_UNORDERED)
+COMPARES(not_less, APFLOAT_IS_NOT_LESS)
+COMPARES(greater_unordered, APFLOAT_IS_GREATER_UNORDERED)
+MAKES_BY(quiet_unordered, compare_predicate, a->format, APFLOAT_IS_UNORDERED, APFLOAT_QUIET, a->x, a->y)
+MAKES_BY(quiet_ordered, compare_predicate, a->format, APFLOAT_IS_ORDERED, APFLOAT_QUIET, a->x, a->y)
+TAKES(minimum, APFLOAT_MINIMUM)
+TAKES(maximum, APFLOAT_MAXIMUM)
+TAKES(minimum_magnitude, APFLOAT_MINIMUM_MAGNITUDE)
+TAKES(maximum_magnitude, APFLOAT_MAXIMUM_MAGNITUDE)
+MAKES(total_order, a->format, a->x, a->y)
+MAKES(log_b, a->format, a->mode, a->x)
+MAKES(scale_b, a->format, a->mode, a->x, a->power)
+MAKES(integral, a->format, a->mode, a->x)
+MAKES_BY(add_to, to_format, APFLOAT_SUM_TO, a->format, a->mode, a->to, a->x, a->y, a->z)
+MAKES_BY(sub_to, to_format, APFLOAT_DIFFERENCE_TO, a->format, a->mode, a->to, a->x, a->y, a->z)
+MAKES_BY(mul_to, to_format, APFLOAT_PRODUCT_TO, a->format, a->mode, a->to, a->x, a->y, a->z)
+MAKES_BY(div_to, to_format, APFLOAT_QUOTIENT_TO, a->format, a->mode, a->to, a->x, a->y, a->z)
+MAKES_BY(mul_add_to, to_format, APFLOAT_FUSED_SUM_TO, a->format, a->mode, a->to, a->x, a->y, a->z)
+MAKES_BY(sqrt_to, to_format, APFLOAT_ROOT_TO, a->format, a->mode, a->to, a->x, a->y, a->z)
+
 /* The operands of a call, by letters: x, y and z are bits, l is a payload or None, n is an integer, w a width, p a power,
  * and t a text. Its value: b for bits, n for an integer in the bits, e for an exponent, o for an order, q for a
- * question's answer. And the name of its extra result, if it has one. */
+ * question's answer, h for whether a predicate holds. And the name of its extra result, if it has one. */
 static const struct call {
     const char *name, *operands;
     char value;
@@ -133,7 +172,47 @@ static const struct call {
              {"maximum", "xy", 'b', make_maximum, NULL},
              {"qnan", "l", 'b', make_qnan, NULL},
              {"snan", "l", 'b', make_snan, NULL},
-             {"from_str_r", "t", 'b', make_parse, NULL}};
+             {"from_str_r", "t", 'b', make_parse, NULL},
+             {"compare_quiet_equal", "xy", 'h', make_quiet_equal, NULL},
+             {"compare_quiet_not_equal", "xy", 'h', make_quiet_not_equal, NULL},
+             {"compare_quiet_greater", "xy", 'h', make_quiet_greater, NULL},
+             {"compare_quiet_greater_equal", "xy", 'h', make_quiet_greater_equal, NULL},
+             {"compare_quiet_less", "xy", 'h', make_quiet_less, NULL},
+             {"compare_quiet_less_equal", "xy", 'h', make_quiet_less_equal, NULL},
+             {"compare_quiet_not_greater", "xy", 'h', make_quiet_not_greater, NULL},
+             {"compare_quiet_less_unordered", "xy", 'h', make_quiet_less_unordered, NULL},
+             {"compare_quiet_not_less", "xy", 'h', make_quiet_not_less, NULL},
+             {"compare_quiet_greater_unordered", "xy", 'h', make_quiet_greater_unordered, NULL},
+             {"compare_quiet_unordered", "xy", 'h', make_quiet_unordered, NULL},
+             {"compare_quiet_ordered", "xy", 'h', make_quiet_ordered, NULL},
+             {"compare_signaling_equal", "xy", 'h', make_signaling_equal, NULL},
+             {"compare_signaling_not_equal", "xy", 'h', make_signaling_not_equal, NULL},
+             {"compare_signaling_greater", "xy", 'h', make_signaling_greater, NULL},
+             {"compare_signaling_greater_equal", "xy", 'h', make_signaling_greater_equal, NULL},
+             {"compare_signaling_less", "xy", 'h', make_signaling_less, NULL},
+             {"compare_signaling_less_equal", "xy", 'h', make_signaling_less_equal, NULL},
+             {"compare_signaling_not_greater", "xy", 'h', make_signaling_not_greater, NULL},
+             {"compare_signaling_less_unordered", "xy", 'h', make_signaling_less_unordered, NULL},
+             {"compare_signaling_not_less", "xy", 'h', make_signaling_not_less, NULL},
+             {"compare_signaling_greater_unordered", "xy", 'h', make_signaling_greater_unordered, NULL},
+             {"minimum_of", "xy", 'b', make_minimum_of, NULL},
+             {"maximum_of", "xy", 'b', make_maximum_of, NULL},
+             {"minimum_magnitude_of", "xy", 'b', make_minimum_magnitude_of, NULL},
+             {"maximum_magnitude_of", "xy", 'b', make_maximum_magnitude_of, NULL},
+             {"minimum_number_of", "xy", 'b', make_minimum_number_of, NULL},
+             {"maximum_number_of", "xy", 'b', make_maximum_number_of, NULL},
+             {"minimum_magnitude_number_of", "xy", 'b', make_minimum_magnitude_number_of, NULL},
+             {"maximum_magnitude_number_of", "xy", 'b', make_maximum_magnitude_number_of, NULL},
+             {"total_cmp", "xy", 'o', make_total_order, NULL},
+             {"log_b", "x", 'b', make_log_b, NULL},
+             {"scale_b", "xp", 'b', make_scale_b, NULL},
+             {"round_to_integral_in", "x", 'b', make_integral, NULL},
+             {"add_to", "xy", 'b', make_add_to, NULL},
+             {"sub_to", "xy", 'b', make_sub_to, NULL},
+             {"mul_to", "xy", 'b', make_mul_to, NULL},
+             {"div_to", "xy", 'b', make_div_to, NULL},
+             {"mul_add_to", "xyz", 'b', make_mul_add_to, NULL},
+             {"sqrt_to", "x", 'b', make_sqrt_to, NULL}};
 
 static unsigned agreeing[COUNT(calls)];
 
@@ -183,6 +262,7 @@ static bool read_expected(char *columns[], const struct call *call, struct expec
             e->answer.number = strcmp(said, "true") == 0 ? 1 : (int32_t)strtol(said, NULL, 10);
     }
     if (value == 'e') e->answer.number = (int32_t)strtol(columns[VALUE], NULL, 10);
+    if (value == 'h') e->answer.number = strcmp(columns[VALUE], "true") == 0;
     if (value == 'o') e->answer.number = (int32_t)code_of(orders, COUNT(orders), columns[VALUE]);
     if (value == 'q') {
         uint32_t yes = code_of(questions, COUNT(questions), columns[CALL]);
@@ -424,7 +504,15 @@ static unsigned refusals(void) {
         {apfloat_neg(0, one, &answer), APFLOAT_UNKNOWN_FORMAT},
         {apfloat_minimum(11, one, one, &answer), APFLOAT_UNKNOWN_FORMAT},
         {apfloat_qnan(APFLOAT_E4M3FN | APFLOAT_IEEE_FLAGS, 0, one, &answer), APFLOAT_UNKNOWN_FORMAT},
-        {apfloat_is_negative(APFLOAT_DOUBLE | APFLOAT_TINY_BEFORE_ROUNDING, one, &answer), APFLOAT_UNKNOWN_FORMAT}};
+        {apfloat_is_negative(APFLOAT_DOUBLE | APFLOAT_TINY_BEFORE_ROUNDING, one, &answer), APFLOAT_UNKNOWN_FORMAT},
+        {apfloat_compare_predicate(APFLOAT_HALF, 12, APFLOAT_QUIET, one, one, &answer), APFLOAT_NO_SUCH_OPERATION},
+        {apfloat_compare_predicate(APFLOAT_HALF, APFLOAT_IS_LESS, 2, one, one, &answer), APFLOAT_NO_SUCH_OPERATION},
+        {apfloat_extremum(APFLOAT_DOUBLE_PAIR, APFLOAT_MINIMUM, 0, one, one, &answer), APFLOAT_NO_SUCH_OPERATION},
+        {apfloat_extremum(APFLOAT_HALF, 4, 0, one, one, &answer), APFLOAT_NO_SUCH_OPERATION},
+        {apfloat_log_b(APFLOAT_HALF, 5, one, &answer), APFLOAT_UNKNOWN_MODE},
+        {apfloat_to_format(6, APFLOAT_HALF, 5, 0, one, one, one, &answer), APFLOAT_UNKNOWN_FORMAT},
+        {apfloat_to_format(6, APFLOAT_HALF, 5, APFLOAT_SINGLE, one, one, one, &answer), APFLOAT_UNKNOWN_MODE},
+        {apfloat_to_format(6, APFLOAT_HALF, 0, APFLOAT_SINGLE, one, one, one, &answer), APFLOAT_NO_SUCH_OPERATION}};
     unsigned count = 0;
     for (size_t i = 0; i < COUNT(codes); i++)
         if (codes[i][0] == codes[i][1] && memcmp(&answer, &before, sizeof answer) == 0) count++;

@@ -8,3 +8,4 @@ pub mod ElementCalls
 pub mod ArraysOnce
 pub mod ParsedOnce
 pub mod FlaglessOnce
+pub mod IeeeOnce

@@ -6,3 +6,4 @@ pub mod Arrays
 pub mod Decimals
 pub mod About
 pub mod OneAnswer
+pub mod IeeeCalls
