@@ -4,7 +4,7 @@
  *
  * A function on values takes them as their bits, with a code for the format and, if it rounds, one for the rounding
  * mode, and writes its result through a pointer. It returns APFLOAT_ANSWERED, or the code of the first error, in the
- * order in which these codes are listed; on an error, *answer is unchanged.
+ * order in which these codes are listed, unless the function says another; on an error, *answer is unchanged.
  *
  * The library never allocates, keeps no state between calls, and calls no functions outside itself other than memcpy
  * and memset, which compilers call everywhere, and one more: the proved one the compiler's own division of 128-bit
@@ -108,6 +108,9 @@ typedef struct apfloat_answer {
 #define APFLOAT_REFUSED_TEXT UINT32_C(5)      /* the text has no meaning */
 #define APFLOAT_WRONG_LENGTH UINT32_C(6)      /* of an array */
 #define APFLOAT_UNKNOWN_ERROR UINT32_C(7)     /* of a code: apfloat_error_text alone returns it */
+#define APFLOAT_UNKNOWN_MACHINE UINT32_C(8)
+#define APFLOAT_WIDE_OPERAND UINT32_C(9)      /* bits at or above the width of its format are set */
+#define APFLOAT_LACKING_OPERATION UINT32_C(10) /* the machine does not have the operation */
 
 /* Operations on two values, rounded once: x + y, x - y, x * y, x / y. */
 uint32_t apfloat_add(uint32_t format, uint32_t mode, apfloat_halves x, apfloat_halves y, apfloat_answer *answer);
@@ -308,6 +311,52 @@ uint32_t apfloat_integral(uint32_t format, uint32_t mode, apfloat_halves x, apfl
 #define APFLOAT_ROOT_TO UINT32_C(5)
 uint32_t apfloat_to_format(uint32_t operation, uint32_t format, uint32_t mode, uint32_t target, apfloat_halves x,
                            apfloat_halves y, apfloat_halves z, apfloat_answer *answer);
+
+/* ---- machines
+ *
+ * What a processor delivers where IEEE 754 leaves a choice or is not followed: the NaN, its sign and its payload, the
+ * integer of an invalid conversion, minima and maxima, and when a result is tiny. docs/MACHINES.md has the rules of
+ * each machine, and what to call for each instruction. */
+#define APFLOAT_MACHINE_X86 UINT32_C(1)             /* SSE, AVX, AVX-512 */
+#define APFLOAT_MACHINE_X87 UINT32_C(2)
+#define APFLOAT_MACHINE_ARM UINT32_C(3)             /* AArch64 with FPCR.DN and FPCR.AH clear */
+#define APFLOAT_MACHINE_ARM_DEFAULT_NAN UINT32_C(4) /* with FPCR.DN set */
+#define APFLOAT_MACHINE_ARM_ALTERNATE UINT32_C(5)   /* with FPCR.AH set */
+#define APFLOAT_MACHINE_RISC_V UINT32_C(6)
+#define APFLOAT_MACHINE_POWER UINT32_C(7)
+#define APFLOAT_MACHINE_S390X UINT32_C(8)
+
+/* The operations: those of apfloat_map_array, APFLOAT_ADD to APFLOAT_SQRT, and these. */
+#define APFLOAT_ROUND_TO_INTEGRAL UINT32_C(9) /* with APFLOAT_INEXACT */
+#define APFLOAT_INTEGRAL UINT32_C(10)         /* without it */
+#define APFLOAT_CONVERT UINT32_C(11)          /* to the format `to` */
+#define APFLOAT_TO_U128 UINT32_C(12)          /* to an unsigned integer of `to` binary digits, 1 to 128 */
+#define APFLOAT_TO_I128 UINT32_C(13)          /* to a signed one, 2 to 128 */
+#define APFLOAT_LEAST UINT32_C(14)            /* the minimum by the rule `to` */
+#define APFLOAT_GREATEST UINT32_C(15)         /* the maximum */
+
+/* Rules of minima and maxima, which differ for NaNs and zeros: `x < y ? x : y`, for which any NaN is invalid; the same,
+ * if only a signaling NaN is; the first NaN; minNum (IEEE 754-2008 5.3.1); minimumNumber and minimum (IEEE 754-2019
+ * 9.6). */
+#define APFLOAT_RULE_SECOND UINT32_C(1)
+#define APFLOAT_RULE_SECOND_QUIETLY UINT32_C(2)
+#define APFLOAT_RULE_FIRST_NAN UINT32_C(3)
+#define APFLOAT_RULE_NUMBER_2008 UINT32_C(4)
+#define APFLOAT_RULE_NUMBER_2019 UINT32_C(5)
+#define APFLOAT_RULE_PROPAGATED UINT32_C(6)
+
+/* What the machine delivers for an operation on x, y and z, in the machine's order. Operands that the operation does
+ * not take are ignored, and so is `to` where no operation above mentions it. `bits` is the result, and `number` is 0.
+ * The formats have infinities. The flags are those of IEEE 754: with APFLOAT_IEEE_FLAGS tininess is detected as the
+ * code says, and otherwise as the machine does it. In a conversion, the code `to` counts.
+ *
+ * The errors, in this order: APFLOAT_UNKNOWN_FORMAT and APFLOAT_UNKNOWN_MODE; APFLOAT_NO_SUCH_OPERATION for a format
+ * without infinities, for an unknown operation or rule, and for a conversion to a format without infinities, and
+ * APFLOAT_UNKNOWN_FORMAT for one to an unknown format; APFLOAT_UNKNOWN_MACHINE; APFLOAT_WIDE_OPERAND if an operand has
+ * bits at or above the width of its format, which other functions ignore; APFLOAT_WRONG_WIDTH; and
+ * APFLOAT_LACKING_OPERATION for fused sums and unsigned integers of APFLOAT_MACHINE_X87. */
+uint32_t apfloat_machine(uint32_t machine, uint32_t operation, uint32_t format, uint32_t mode, uint32_t to,
+                         apfloat_halves x, apfloat_halves y, apfloat_halves z, apfloat_answer *answer);
 
 /* ---- arrays
  *

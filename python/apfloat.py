@@ -76,9 +76,9 @@ import sys
 from typing import Any, Callable, Generic, Iterable, Iterator, Self, Sequence, TypeVar, Union, overload
 
 __all__ = [
-    'Array', 'Context', 'DOWNWARD', 'Flags', 'Format', 'Mask', 'NEAREST_AWAY', 'NEAREST_EVEN', 'Refused', 'Rounding',
-    'TOWARD_ZERO', 'UPWARD', 'Value', 'bfloat', 'bfloat16', 'context', 'double', 'double_pair', 'e4m3fn', 'e4m3fnuz',
-    'e5m2', 'float8_e4m3fn', 'float8_e4m3fnuz', 'float8_e5m2', 'half', 'quad', 'single', 'x87',
+    'Array', 'Context', 'DOWNWARD', 'Flags', 'Format', 'Machine', 'Mask', 'NEAREST_AWAY', 'NEAREST_EVEN', 'Refused',
+    'Rounding', 'TOWARD_ZERO', 'UPWARD', 'Value', 'bfloat', 'bfloat16', 'context', 'double', 'double_pair', 'e4m3fn',
+    'e4m3fnuz', 'e5m2', 'float8_e4m3fn', 'float8_e4m3fnuz', 'float8_e5m2', 'half', 'machine', 'quad', 'single', 'x87',
 ]
 
 
@@ -207,6 +207,7 @@ def _parameters() -> dict[str, list[Any]]:
         **dict.fromkeys(('scalbn', 'scale_b'), [code, code, _Halves, power, answer]),
         **dict.fromkeys(('compare_predicate', 'extremum'), [code, code, code, _Halves, _Halves, answer]),
         'to_format': [code, code, code, code, _Halves, _Halves, _Halves, answer],
+        'machine': [code, code, code, code, code, _Halves, _Halves, _Halves, answer],
         **dict.fromkeys(('parse', 'parse_decimal'), [code, code, *text, answer]),
         'shortest': [code, _Halves, ctypes.POINTER(_Text)],
         'error_text': [code, ctypes.POINTER(_Text)],
@@ -1170,6 +1171,96 @@ class Value(_Arithmetic[Number]):
         # Python makes no text of an integer with so many digits as those of `quad`.
         size = decimal.Decimal(abs(numerator) * 5**places).scaleb(-places, decimal.Context(_MOST_DIGITS))
         return format(size.copy_negate() if self.is_negative else size, spec)
+
+
+# The machines, the operations on values of a format with how many operands they take, and the rules of minima, each in
+# the order of their codes, which begin at 1.
+_MACHINES = ('x86', 'x87', 'arm', 'arm default nan', 'arm alternate', 'risc-v', 'power', 's390x')
+_OF_MACHINES = {'add': 2, 'sub': 2, 'mul': 2, 'div': 2, 'remainder': 2, 'fmod': 2, 'fma': 3, 'sqrt': 1,
+                'round_to_integral': 1, 'integral': 1}
+_RULES = ('second', 'second quietly', 'first nan', 'number 2008', 'number 2019', 'propagated')
+_CONVERT, _TO_U128, _TO_I128, _LEAST, _GREATEST = 11, 12, 13, 14, 15
+
+
+class Machine:
+    """A processor, with what it delivers where IEEE 754 leaves a choice or is not followed (docs/MACHINES.md).
+
+    Operations add their flags to those of the context, those of IEEE 754, and round in its mode. Values have a format
+    with infinities. What the machine does not have is refused.
+
+    >>> x, y = half.from_bits(0x7e01), half.from_bits(0x7d02)
+    >>> [hex(machine(name).delivers('add', x, y).bits) for name in ('x86', 'arm', 'risc-v')]
+    ['0x7e01', '0x7f02', '0x7e00']
+    >>> [machine(name).to_integer(half('nan'), 8) for name in ('x86', 'arm', 'risc-v')]
+    [-128, 0, 127]
+    >>> machine('x87').delivers('fma', x87(1), x87(1), x87(1))
+    Traceback (most recent call last):
+    ...
+    apfloat.Refused: the machine does not have the operation
+    """
+
+    name: str
+
+    def __init__(self, name: str) -> None:
+        if name not in _MACHINES:
+            raise ValueError(f'{name!r} is no machine: {", ".join(_MACHINES)}')
+        self.name = name
+
+    def __repr__(self) -> str:
+        return f'machine({self.name!r})'
+
+    def _answer(self, operation: int, to: int, *values: Value) -> _Answer:
+        x, y, z = [*values, *values, *values][:3]
+        if not x.format == y.format == z.format:
+            raise TypeError(f'operands of {x.format}, {y.format} and {z.format}: convert them to one format')
+        return _call('machine', _MACHINES.index(self.name) + 1, operation, x.format.code, context().mode, to,
+                     _halves(x.bits), _halves(y.bits), _halves(z.bits))
+
+    def delivers(self, operation: str, *values: Value) -> Value:
+        """add, sub, mul, div, remainder, fmod, fma, sqrt, round_to_integral or integral (without INEXACT)."""
+        if _OF_MACHINES.get(operation) != len(values):
+            raise ValueError(f'{operation!r} is none of {", ".join(_OF_MACHINES)}, or takes other operands')
+        answer = self._answer(list(_OF_MACHINES).index(operation) + 1, 0, *values)
+        return Value(values[0].format, _whole(answer.bits))
+
+    def convert(self, x: Value, to: Format) -> Value:
+        """The value in another format.
+
+        >>> hex(machine('arm').convert(single.from_bits(0xffc02000), half).bits)
+        '0xfe01'
+        """
+        return Value(to, _whole(self._answer(_CONVERT, to.code, x).bits))
+
+    def to_integer(self, x: Value, width: int, signed: bool = True) -> int:
+        """The value as an integer of that many binary digits."""
+        answer = self._answer(_TO_I128 if signed else _TO_U128, width, x)
+        return _signed(answer.bits) if signed else _whole(answer.bits)
+
+    def least(self, rule: str, x: Value, y: Value) -> Value:
+        """The lesser of two values, by a rule.
+
+        It is one of second, second quietly, first nan, number 2008, number 2019 and propagated.
+
+        >>> machine('x86').least('second', half('0.0'), half('-0.0'))
+        half('-0.0')
+        >>> machine('arm').least('number 2008', half('nan'), half(1))
+        half('1.0')
+        """
+        return self._extreme(_LEAST, rule, x, y)
+
+    def greatest(self, rule: str, x: Value, y: Value) -> Value:
+        """The greater of two values, by a rule."""
+        return self._extreme(_GREATEST, rule, x, y)
+
+    def _extreme(self, operation: int, rule: str, x: Value, y: Value) -> Value:
+        if rule not in _RULES:
+            raise ValueError(f'{rule!r} is no rule: {", ".join(_RULES)}')
+        return Value(x.format, _whole(self._answer(operation, _RULES.index(rule) + 1, x, y).bits))
+
+
+def machine(name: str) -> Machine:
+    """The machine x86, x87, arm, arm default nan, arm alternate, risc-v, power or s390x."""
+    return Machine(name)
 
 
 # A fill and an alignment, a sign, and a width after a 0 if zeros are to fill it.

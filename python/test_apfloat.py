@@ -543,6 +543,40 @@ class SignTests(unittest.TestCase):
         self.assertEqual(set(compared), {*methods, 'qnan', 'snan', 'is_negative'})
         self.assertTrue(all(count > 50 for count in compared.values()), compared)
 
+    def test_machines(self):
+        # The NaNs of two operands as the manuals have them, and the integers of invalid conversions (docs/MACHINES.md).
+        quiet, signaling = apfloat.single.from_bits(0x7fc00001), apfloat.single.from_bits(0xffa00002)
+        sums = {'x86': 0x7fc00001, 'x87': 0x7fc00001, 'arm': 0xffe00002, 'arm default nan': 0x7fc00000,
+                'arm alternate': 0x7fc00001, 'risc-v': 0x7fc00000, 'power': 0x7fc00001, 's390x': 0xffe00002}
+        invalid = {'x86': (-1 << 31, (1 << 32) - 1), 'arm': ((1 << 31) - 1, (1 << 32) - 1),
+                   'risc-v': ((1 << 31) - 1, (1 << 32) - 1), 's390x': ((1 << 31) - 1, (1 << 32) - 1)}
+        infinity = apfloat.single('inf')
+        for name, bits in sums.items():
+            with Context() as context:
+                self.assertEqual(apfloat.machine(name).delivers('add', quiet, signaling).bits, bits, name)
+            self.assertEqual(context.flags, Flags.INVALID_OP, name)
+        for name, integers in invalid.items():
+            machine = apfloat.machine(name)
+            with Context() as context:
+                found = machine.to_integer(infinity, 32), machine.to_integer(infinity, 32, signed=False)
+            self.assertEqual(found, integers, name)
+            self.assertEqual(context.inexact, name == 's390x', name)
+        # (1 - 2^-10) * (1 + 2^-10) * 2^-14 is 2^-14 - 2^-34: tiny, and no more when it is rounded to 11 digits.
+        for name, is_tiny in (('arm', True), ('x86', False)):
+            with Context() as context:
+                product = apfloat.machine(name).delivers('mul', apfloat.half.from_bits(0x3bfe),
+                                                         apfloat.half.from_bits(0x0401))
+            self.assertEqual((product.bits, context.underflow, context.inexact), (0x0400, is_tiny, True), name)
+        with self.assertRaises(apfloat.Refused) as caught:
+            apfloat.machine('x87').to_integer(infinity, 32, signed=False)
+        self.assertEqual(caught.exception.code, 10)
+        with self.assertRaises(apfloat.Refused):
+            apfloat.machine('arm').delivers('add', apfloat.e4m3fn(1), apfloat.e4m3fn(1))
+        with self.assertRaises(ValueError):
+            apfloat.machine('mips')
+        with self.assertRaises(ValueError):
+            apfloat.machine('arm').delivers('sqrt', infinity, infinity)
+
     def test_rows_of_operations(self):
         # The stored rows of the operations of IEEE 754-2019 (docs/VECTORS.md), in the formats that have bits.
         modes = {'even': apfloat.NEAREST_EVEN, 'up': apfloat.UPWARD, 'down': apfloat.DOWNWARD,
@@ -809,8 +843,9 @@ class ArrayTests(unittest.TestCase):
         # The texts that include/apfloat.h has for the codes.
         texts = ['unknown format', 'unknown rounding mode', 'the format does not have the operation',
                  'an integer cannot have this width', 'the text was refused', 'wrong length of an array',
-                 'unknown error code', 'code 8']
-        self.assertEqual([str(apfloat.Refused(code)) for code in range(1, 9)], texts)
+                 'unknown error code', 'unknown machine', 'an operand is wider than its format',
+                 'the machine does not have the operation', 'code 11']
+        self.assertEqual([str(apfloat.Refused(code)) for code in range(1, 12)], texts)
         again = pickle.loads(pickle.dumps(apfloat.Refused(5)))
         self.assertEqual((str(again), again.code), ('the text was refused', 5))
 

@@ -101,6 +101,17 @@ static apfloat_halves draw_value(uint32_t format, apfloat_halves before) {
     }
 }
 
+/* The bits without those at and above the width of the format; once in sixteen times with them. */
+static apfloat_halves within(uint32_t format, apfloat_halves bits) {
+    uint32_t known = format & 0xff;
+    if (below(16) == 0 || known == 0 || known > 10 || bits_of[known] == 128) return bits;
+    uint32_t width = bits_of[known];
+    if (width <= 64) bits.high = 0;
+    if (width < 64) bits.low &= (UINT64_C(1) << width) - 1;
+    if (width > 64) bits.high &= (UINT64_C(1) << (width - 64)) - 1;
+    return bits;
+}
+
 static size_t put(char *text, const char *part) {
     size_t length = strlen(part);
     memcpy(text, part, length);
@@ -168,7 +179,7 @@ static const char *const names[] = {
     "next_down", "compare", "classify", "parse",  "parse_decimal", "shortest", "is_negative",   "neg",
     "abs",       "copy_sign", "min",  "max",      "minimum", "maximum", "qnan",  "snan",          "error_text",
     "version",   "compare_predicate", "total_order", "extremum", "log_b", "scale_b", "integral", "to_format",
-    "convert_array", "map_array"};
+    "machine",   "convert_array", "map_array"};
 #define KINDS (sizeof names / sizeof names[0])
 
 static void call_on_arrays(uint32_t kind) {
@@ -273,7 +284,14 @@ static void call(size_t kind) {
     case 40: CALL(apfloat_scale_b, format, mode, x, power); break;
     case 41: CALL(apfloat_integral, format, mode, x); break;
     case 42: CALL(apfloat_to_format, below(7), format, mode, to, x, y, z); break;
-    default: call_on_arrays((uint32_t)kind - 43); break;
+    case 43: {
+        uint32_t operation = below(17);
+        uint32_t made_to = operation == APFLOAT_CONVERT ? to : operation < APFLOAT_LEAST ? width : below(8);
+        CALL(apfloat_machine, below(10), operation, format, mode, made_to, within(format, x), within(format, y),
+             within(format, z));
+        break;
+    }
+    default: call_on_arrays((uint32_t)kind - 44); break;
     }
 }
 

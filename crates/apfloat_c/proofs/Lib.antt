@@ -9,3 +9,6 @@ pub mod ArraysOnce
 pub mod ParsedOnce
 pub mod FlaglessOnce
 pub mod IeeeOnce
+pub mod MachineFormats
+pub mod MachineAnswers
+pub mod MachineOnce

@@ -20,6 +20,7 @@ use Rattle.apfloat_c.specs.Decimals.{KnownReading, IsParsed, IsShortestWritten}
 use Rattle.apfloat_c.specs.FlaglessCalls.{IsFlaglessReply}
 use Rattle.apfloat_c.specs.IeeeCalls.{IsIeeeReply, IsInAnotherReply}
 use Rattle.apfloat_c.specs.KnownCalls.{known_call}
+use Rattle.apfloat_c.specs.MachineCalls.{IsMachineReply, MachineRequest}
 
 -- two results with the same number of 128 bits, the same flags, and the same extra number
 pub record SameAnswer (first second : Answer) : Type 0 where
@@ -72,6 +73,13 @@ IsInAnotherReplyOnce =
     (old first second : Answer) (code other : ℕ)
     → IsInAnotherReply format target mode call old first code
     → IsInAnotherReply format target mode call old second other
+    → (code ≡ other) × SameAnswer first second
+
+-- what a machine delivers
+abbrev pub IsMachineReplyOnce : Type 0
+IsMachineReplyOnce =
+    (known : Result MachineRequest ℕ) (old first second : Answer) (code other : ℕ)
+    → IsMachineReply known old first code → IsMachineReply known old second other
     → (code ≡ other) × SameAnswer first second
 
 -- the text for a code

@@ -21,6 +21,8 @@ mod flagless_call;
 mod ieee_answers;
 mod ieee_call;
 mod ieee_operations;
+mod machine_call;
+mod machine_operations;
 mod maps;
 mod one_answer;
 mod operations;

@@ -2,7 +2,7 @@
 
 ghost use Rattle.apfloat_c.specs.OneAnswer.{IsConvertedArrayOnce, IsMappedArrayOnce, IsParsedOnce, IsReplyOnce};
 ghost use Rattle.apfloat_c.specs.OneAnswer.{IsErrorTextOnce, IsFlaglessReplyOnce, IsTextOnce};
-ghost use Rattle.apfloat_c.specs.OneAnswer.{IsIeeeReplyOnce, IsInAnotherReplyOnce};
+ghost use Rattle.apfloat_c.specs.OneAnswer.{IsIeeeReplyOnce, IsInAnotherReplyOnce, IsMachineReplyOnce};
 
 use apfloat_format_of::theorems::operations_have_one_answer;
 
@@ -14,6 +14,7 @@ pub fn one_answer()
     ensures flagless { IsFlaglessReplyOnce }
     ensures ieee { IsIeeeReplyOnce }
     ensures in_another { IsInAnotherReplyOnce }
+    ensures machine { IsMachineReplyOnce }
     ensures error { IsErrorTextOnce }
     ensures converted { IsConvertedArrayOnce }
     ensures mapped { IsMappedArrayOnce }
