@@ -4,7 +4,7 @@
  *
  * A function on values takes them as their bits, with a code for the format and, if it rounds, one for the rounding
  * mode, and writes its result through a pointer. It returns APFLOAT_ANSWERED, or the code of the first error, in the
- * order in which these codes are listed; on an error, *answer is unchanged.
+ * order in which these codes are listed, unless the function says another; on an error, *answer is unchanged.
  *
  * The library never allocates, keeps no state between calls, and calls no functions outside itself other than memcpy
  * and memset, which compilers call everywhere, and one more: the proved one the compiler's own division of 128-bit
@@ -108,6 +108,9 @@ typedef struct apfloat_answer {
 #define APFLOAT_REFUSED_TEXT UINT32_C(5)      /* the text has no meaning */
 #define APFLOAT_WRONG_LENGTH UINT32_C(6)      /* of an array */
 #define APFLOAT_UNKNOWN_ERROR UINT32_C(7)     /* of a code: apfloat_error_text alone returns it */
+#define APFLOAT_UNKNOWN_MACHINE UINT32_C(8)
+#define APFLOAT_WIDE_OPERAND UINT32_C(9)      /* bits at or above the width of its format are set */
+#define APFLOAT_LACKING_OPERATION UINT32_C(10) /* the machine does not have the operation */
 
 /* Operations on two values, rounded once: x + y, x - y, x * y, x / y. */
 uint32_t apfloat_add(uint32_t format, uint32_t mode, apfloat_halves x, apfloat_halves y, apfloat_answer *answer);
@@ -246,6 +249,114 @@ uint32_t apfloat_error_text(uint32_t error, apfloat_text *text);
 
 /* The version of the library: 1,000,000 times its major number, plus 1,000 times the minor one, plus the patch. */
 uint32_t apfloat_version(void);
+
+/* ---- operations of IEEE 754-2019
+ *
+ * Pairs of doubles do not have them. An unknown code of a predicate, of a minimum or maximum, or of an operation is
+ * APFLOAT_NO_SUCH_OPERATION. */
+
+/* `number` is 1 if the predicate holds of x and y, else 0 (5.6.1, 5.11). The only flag is APFLOAT_INVALID_OP: raised if
+ * an operand is a signaling NaN, and, with APFLOAT_SIGNALING, if it is any NaN. */
+#define APFLOAT_IS_EQUAL UINT32_C(0)
+#define APFLOAT_IS_NOT_EQUAL UINT32_C(1)
+#define APFLOAT_IS_GREATER UINT32_C(2)
+#define APFLOAT_IS_GREATER_EQUAL UINT32_C(3)
+#define APFLOAT_IS_LESS UINT32_C(4)
+#define APFLOAT_IS_LESS_EQUAL UINT32_C(5)
+#define APFLOAT_IS_NOT_GREATER UINT32_C(6)
+#define APFLOAT_IS_LESS_UNORDERED UINT32_C(7)
+#define APFLOAT_IS_NOT_LESS UINT32_C(8)
+#define APFLOAT_IS_GREATER_UNORDERED UINT32_C(9)
+#define APFLOAT_IS_UNORDERED UINT32_C(10)
+#define APFLOAT_IS_ORDERED UINT32_C(11)
+#define APFLOAT_QUIET UINT32_C(0)
+#define APFLOAT_SIGNALING UINT32_C(1)
+uint32_t apfloat_compare_predicate(uint32_t format, uint32_t predicate, uint32_t on_nan, apfloat_halves x,
+                                   apfloat_halves y, apfloat_answer *answer);
+
+/* `number` is APFLOAT_LESS, APFLOAT_EQUAL or APFLOAT_GREATER: the place of x beside y in the total order (5.10), in
+ * which -0 is below +0, negative NaNs are below all numbers, and positive ones above. totalOrder holds if it is not
+ * APFLOAT_GREATER. No flag is raised. */
+uint32_t apfloat_total_order(uint32_t format, apfloat_halves x, apfloat_halves y, apfloat_answer *answer);
+
+/* The minimum or maximum of x and y, with -0 below +0 (9.6). Of a NaN and a number it is the number if `prefers_number`
+ * is not 0, as in minimumNumber, and otherwise a quiet NaN; of two NaNs the first one, quiet. APFLOAT_INVALID_OP is
+ * raised if an operand is a signaling NaN. */
+#define APFLOAT_MINIMUM UINT32_C(0)
+#define APFLOAT_MAXIMUM UINT32_C(1)
+#define APFLOAT_MINIMUM_MAGNITUDE UINT32_C(2)
+#define APFLOAT_MAXIMUM_MAGNITUDE UINT32_C(3)
+uint32_t apfloat_extremum(uint32_t format, uint32_t which, uint32_t prefers_number, apfloat_halves x,
+                          apfloat_halves y, apfloat_answer *answer);
+
+/* The exponent of the highest binary digit of x, as a value (5.3.3, logB), rounded once. A zero gives the negative
+ * infinity, or the NaN in its place, with APFLOAT_DIV_BY_ZERO, and an infinity the positive one. */
+uint32_t apfloat_log_b(uint32_t format, uint32_t mode, apfloat_halves x, apfloat_answer *answer);
+
+/* The value of apfloat_scalbn, with its flags (5.3.3, scaleB). */
+uint32_t apfloat_scale_b(uint32_t format, uint32_t mode, apfloat_halves x, int32_t power, apfloat_answer *answer);
+
+/* The value of apfloat_round_to_integral, without APFLOAT_INEXACT (5.9). */
+uint32_t apfloat_integral(uint32_t format, uint32_t mode, apfloat_halves x, apfloat_answer *answer);
+
+/* An operation on values of `format`, rounded once to the format `target`, with the flags of that rounding (5.4.1,
+ * formatOf): x + y, x - y, x * y, x / y, x * y + z or the square root of x. Operands that it does not take are ignored.
+ * The errors are those of both formats, of the mode, and of the operation, in this order; the rule of flags is that of
+ * `target`. */
+#define APFLOAT_SUM_TO UINT32_C(0)
+#define APFLOAT_DIFFERENCE_TO UINT32_C(1)
+#define APFLOAT_PRODUCT_TO UINT32_C(2)
+#define APFLOAT_QUOTIENT_TO UINT32_C(3)
+#define APFLOAT_FUSED_SUM_TO UINT32_C(4)
+#define APFLOAT_ROOT_TO UINT32_C(5)
+uint32_t apfloat_to_format(uint32_t operation, uint32_t format, uint32_t mode, uint32_t target, apfloat_halves x,
+                           apfloat_halves y, apfloat_halves z, apfloat_answer *answer);
+
+/* ---- machines
+ *
+ * What a processor delivers where IEEE 754 leaves a choice or is not followed: the NaN, its sign and its payload, the
+ * integer of an invalid conversion, minima and maxima, and when a result is tiny. docs/MACHINES.md has the rules of
+ * each machine, and what to call for each instruction. */
+#define APFLOAT_MACHINE_X86 UINT32_C(1)             /* SSE, AVX, AVX-512 */
+#define APFLOAT_MACHINE_X87 UINT32_C(2)
+#define APFLOAT_MACHINE_ARM UINT32_C(3)             /* AArch64 with FPCR.DN and FPCR.AH clear */
+#define APFLOAT_MACHINE_ARM_DEFAULT_NAN UINT32_C(4) /* with FPCR.DN set */
+#define APFLOAT_MACHINE_ARM_ALTERNATE UINT32_C(5)   /* with FPCR.AH set */
+#define APFLOAT_MACHINE_RISC_V UINT32_C(6)
+#define APFLOAT_MACHINE_POWER UINT32_C(7)
+#define APFLOAT_MACHINE_S390X UINT32_C(8)
+
+/* The operations: those of apfloat_map_array, APFLOAT_ADD to APFLOAT_SQRT, and these. */
+#define APFLOAT_ROUND_TO_INTEGRAL UINT32_C(9) /* with APFLOAT_INEXACT */
+#define APFLOAT_INTEGRAL UINT32_C(10)         /* without it */
+#define APFLOAT_CONVERT UINT32_C(11)          /* to the format `to` */
+#define APFLOAT_TO_U128 UINT32_C(12)          /* to an unsigned integer of `to` binary digits, 1 to 128 */
+#define APFLOAT_TO_I128 UINT32_C(13)          /* to a signed one, 2 to 128 */
+#define APFLOAT_LEAST UINT32_C(14)            /* the minimum by the rule `to` */
+#define APFLOAT_GREATEST UINT32_C(15)         /* the maximum */
+
+/* Rules of minima and maxima, which differ for NaNs and zeros: `x < y ? x : y`, for which any NaN is invalid; the same,
+ * if only a signaling NaN is; the first NaN; minNum (IEEE 754-2008 5.3.1); minimumNumber and minimum (IEEE 754-2019
+ * 9.6). */
+#define APFLOAT_RULE_SECOND UINT32_C(1)
+#define APFLOAT_RULE_SECOND_QUIETLY UINT32_C(2)
+#define APFLOAT_RULE_FIRST_NAN UINT32_C(3)
+#define APFLOAT_RULE_NUMBER_2008 UINT32_C(4)
+#define APFLOAT_RULE_NUMBER_2019 UINT32_C(5)
+#define APFLOAT_RULE_PROPAGATED UINT32_C(6)
+
+/* What the machine delivers for an operation on x, y and z, in the machine's order. Operands that the operation does
+ * not take are ignored, and so is `to` where no operation above mentions it. `bits` is the result, and `number` is 0.
+ * The formats have infinities. The flags are those of IEEE 754: with APFLOAT_IEEE_FLAGS tininess is detected as the
+ * code says, and otherwise as the machine does it. In a conversion, the code `to` counts.
+ *
+ * The errors, in this order: APFLOAT_UNKNOWN_FORMAT and APFLOAT_UNKNOWN_MODE; APFLOAT_NO_SUCH_OPERATION for a format
+ * without infinities, for an unknown operation or rule, and for a conversion to a format without infinities, and
+ * APFLOAT_UNKNOWN_FORMAT for one to an unknown format; APFLOAT_UNKNOWN_MACHINE; APFLOAT_WIDE_OPERAND if an operand has
+ * bits at or above the width of its format, which other functions ignore; APFLOAT_WRONG_WIDTH; and
+ * APFLOAT_LACKING_OPERATION for fused sums and unsigned integers of APFLOAT_MACHINE_X87. */
+uint32_t apfloat_machine(uint32_t machine, uint32_t operation, uint32_t format, uint32_t mode, uint32_t to,
+                         apfloat_halves x, apfloat_halves y, apfloat_halves z, apfloat_answer *answer);
 
 /* ---- arrays
  *

@@ -135,7 +135,10 @@ enum class errc : std::uint32_t {
     no_such_operation = APFLOAT_NO_SUCH_OPERATION,
     wrong_width = APFLOAT_WRONG_WIDTH,
     refused_text = APFLOAT_REFUSED_TEXT,
-    wrong_length = APFLOAT_WRONG_LENGTH
+    wrong_length = APFLOAT_WRONG_LENGTH,
+    unknown_machine = APFLOAT_UNKNOWN_MACHINE,
+    wide_operand = APFLOAT_WIDE_OPERAND,
+    lacking_operation = APFLOAT_LACKING_OPERATION
 };
 
 /// An error in words: those of apfloat_error_text.
@@ -147,6 +150,9 @@ constexpr const char *message(errc error) {
     case errc::wrong_width: return "an integer cannot have this width";
     case errc::refused_text: return "the text was refused";
     case errc::wrong_length: return "wrong length of an array";
+    case errc::unknown_machine: return "unknown machine";
+    case errc::wide_operand: return "an operand is wider than its format";
+    case errc::lacking_operation: return "the machine does not have the operation";
     }
     return "unknown error code";
 }
@@ -938,6 +944,122 @@ value<F> next_down(const value<F> &x, gather &with) {
     return with(next_down(x));
 }
 
+// ---- operations of IEEE 754-2019, which pairs of doubles do not have
+
+/// A comparison predicate (IEEE 754-2019 5.6.1, 5.11).
+enum class predicate : std::uint32_t {
+    equal = APFLOAT_IS_EQUAL,
+    not_equal = APFLOAT_IS_NOT_EQUAL,
+    greater = APFLOAT_IS_GREATER,
+    greater_equal = APFLOAT_IS_GREATER_EQUAL,
+    less = APFLOAT_IS_LESS,
+    less_equal = APFLOAT_IS_LESS_EQUAL,
+    not_greater = APFLOAT_IS_NOT_GREATER,
+    less_unordered = APFLOAT_IS_LESS_UNORDERED,
+    not_less = APFLOAT_IS_NOT_LESS,
+    greater_unordered = APFLOAT_IS_GREATER_UNORDERED,
+    unordered = APFLOAT_IS_UNORDERED,
+    ordered = APFLOAT_IS_ORDERED
+};
+/// The NaNs that make a comparison an invalid operation: signaling ones, or all.
+enum class on_nan : std::uint32_t { quiet = APFLOAT_QUIET, signaling = APFLOAT_SIGNALING };
+
+/// Whether a predicate holds; the only flag is that of an invalid operation.
+template <class F>
+result<bool> holds(predicate asked, on_nan invalid, const value<F> &x, const value<F> &y) {
+    const auto answer =
+        detail::answer_of(apfloat_compare_predicate, F::code, static_cast<std::uint32_t>(asked),
+                          static_cast<std::uint32_t>(invalid), x.halves(), y.halves());
+    return {answer.number == 1, flags::of_code(answer.status)};
+}
+
+/// The order in the total order (IEEE 754-2019 5.10), which is never `unordered`.
+template <class F>
+order total_order(const value<F> &x, const value<F> &y) {
+    return static_cast<order>(detail::answer_of(apfloat_total_order, F::code, x.halves(), y.halves()).number);
+}
+
+/// A minimum or a maximum (IEEE 754-2019 9.6).
+enum class extremum : std::uint32_t {
+    minimum = APFLOAT_MINIMUM,
+    maximum = APFLOAT_MAXIMUM,
+    minimum_magnitude = APFLOAT_MINIMUM_MAGNITUDE,
+    maximum_magnitude = APFLOAT_MAXIMUM_MAGNITUDE
+};
+
+/// The minimum or maximum, with its flag; a quiet NaN if an operand is a NaN.
+template <class F>
+result<value<F>> extremum_of(extremum which, const value<F> &x, const value<F> &y) {
+    const std::uint32_t prefers_number = 0;
+    return detail::result_of<F>(detail::answer_of(apfloat_extremum, F::code, static_cast<std::uint32_t>(which),
+                                                  prefers_number, x.halves(), y.halves()));
+}
+/// The same, but of a NaN and a number the number.
+template <class F>
+result<value<F>> extremum_number_of(extremum which, const value<F> &x, const value<F> &y) {
+    const std::uint32_t prefers_number = 1;
+    return detail::result_of<F>(detail::answer_of(apfloat_extremum, F::code, static_cast<std::uint32_t>(which),
+                                                  prefers_number, x.halves(), y.halves()));
+}
+
+/// The exponent of the highest binary digit as a value (IEEE 754-2019 5.3.3, logB), rounded once.
+template <class F>
+result<value<F>> log_b(const value<F> &x, rounding mode = rounding::nearest_even) {
+    return detail::result_of<F>(detail::answer_of(apfloat_log_b, F::code, detail::code_of(mode), x.halves()));
+}
+
+/// x times 2 to the power of `power`, rounded once, with its flags (IEEE 754-2019 5.3.3, scaleB).
+template <class F>
+result<value<F>> scale_b(const value<F> &x, std::int32_t power, rounding mode = rounding::nearest_even) {
+    return detail::result_of<F>(
+        detail::answer_of(apfloat_scale_b, F::code, detail::code_of(mode), x.halves(), power));
+}
+
+/// The value rounded to an integral value, without the flag of inexact results (IEEE 754-2019 5.9).
+template <class F>
+result<value<F>> integral(const value<F> &x, rounding mode) {
+    return detail::result_of<F>(detail::answer_of(apfloat_integral, F::code, detail::code_of(mode), x.halves()));
+}
+
+namespace detail {
+
+template <class T, class F>
+result<value<T>> to_format(std::uint32_t operation, rounding mode, const value<F> &x, const value<F> &y = {},
+                           const value<F> &z = {}) {
+    return result_of<T>(answer_of(apfloat_to_format, operation, F::code, code_of(mode), T::code, x.halves(),
+                                  y.halves(), z.halves()));
+}
+
+} // namespace detail
+
+/// x + y in the format T, rounded once (IEEE 754-2019 5.4.1, formatOf), and the like:
+/// add_to<binary32>(x, y, rounding::nearest_even).
+template <class T, class F>
+result<value<T>> add_to(const value<F> &x, const value<F> &y, rounding mode = rounding::nearest_even) {
+    return detail::to_format<T>(APFLOAT_SUM_TO, mode, x, y);
+}
+template <class T, class F>
+result<value<T>> sub_to(const value<F> &x, const value<F> &y, rounding mode = rounding::nearest_even) {
+    return detail::to_format<T>(APFLOAT_DIFFERENCE_TO, mode, x, y);
+}
+template <class T, class F>
+result<value<T>> mul_to(const value<F> &x, const value<F> &y, rounding mode = rounding::nearest_even) {
+    return detail::to_format<T>(APFLOAT_PRODUCT_TO, mode, x, y);
+}
+template <class T, class F>
+result<value<T>> div_to(const value<F> &x, const value<F> &y, rounding mode = rounding::nearest_even) {
+    return detail::to_format<T>(APFLOAT_QUOTIENT_TO, mode, x, y);
+}
+template <class T, class F>
+result<value<T>> fma_to(const value<F> &x, const value<F> &y, const value<F> &z,
+                        rounding mode = rounding::nearest_even) {
+    return detail::to_format<T>(APFLOAT_FUSED_SUM_TO, mode, x, y, z);
+}
+template <class T, class F>
+result<value<T>> sqrt_to(const value<F> &x, rounding mode = rounding::nearest_even) {
+    return detail::to_format<T>(APFLOAT_ROOT_TO, mode, x);
+}
+
 // ---- conversions
 
 /// The value in another format, rounded once: convert<binary16>(x). The rule of the format `To` decides the flags.
@@ -1020,6 +1142,102 @@ I to_integer(const value<F> &x, gather &with) {
     const auto made = to_integer<I>(x, with.mode());
     with.raise(made.status);
     return made.value;
+}
+
+// ---- machines, which have the formats with infinities (docs/MACHINES.md)
+
+/// A machine.
+enum class machine : std::uint32_t {
+    x86 = APFLOAT_MACHINE_X86,
+    x87 = APFLOAT_MACHINE_X87,
+    arm = APFLOAT_MACHINE_ARM,
+    arm_default_nan = APFLOAT_MACHINE_ARM_DEFAULT_NAN,
+    arm_alternate = APFLOAT_MACHINE_ARM_ALTERNATE,
+    risc_v = APFLOAT_MACHINE_RISC_V,
+    power = APFLOAT_MACHINE_POWER,
+    s390x = APFLOAT_MACHINE_S390X
+};
+
+/// An operation of a machine whose result is of the format of its operands.
+enum class machine_operation : std::uint32_t {
+    add = APFLOAT_ADD,
+    sub = APFLOAT_SUB,
+    mul = APFLOAT_MUL,
+    div = APFLOAT_DIV,
+    rem = APFLOAT_REM,
+    mod = APFLOAT_MOD,
+    fma = APFLOAT_FMA,
+    sqrt = APFLOAT_SQRT,
+    round_to_integral = APFLOAT_ROUND_TO_INTEGRAL,
+    integral = APFLOAT_INTEGRAL
+};
+
+/// What a minimum or a maximum of a machine is if an operand is a NaN, or both are zeros.
+enum class minimum_rule : std::uint32_t {
+    second = APFLOAT_RULE_SECOND,
+    second_quietly = APFLOAT_RULE_SECOND_QUIETLY,
+    first_nan = APFLOAT_RULE_FIRST_NAN,
+    number_2008 = APFLOAT_RULE_NUMBER_2008,
+    number_2019 = APFLOAT_RULE_NUMBER_2019,
+    propagated = APFLOAT_RULE_PROPAGATED
+};
+
+namespace detail {
+
+template <class F>
+expected<apfloat_answer> delivered(machine on, std::uint32_t operation, rounding mode, std::uint32_t to,
+                                   const value<F> &x, const value<F> &y, const value<F> &z) {
+    static_assert(F::has_infinity && !F::is_pair, "machines have the formats with infinities");
+    apfloat_answer answer = {{0, 0}, 0, 0};
+    const std::uint32_t code = apfloat_machine(static_cast<std::uint32_t>(on), operation, F::code, code_of(mode), to,
+                                               x.halves(), y.halves(), z.halves(), &answer);
+    if (code != APFLOAT_ANSWERED) return static_cast<errc>(code);
+    return answer;
+}
+
+template <class F>
+expected<result<value<F>>> as_value(const expected<apfloat_answer> &answer) {
+    if (!answer) return answer.error();
+    return result_of<F>(*answer);
+}
+
+} // namespace detail
+
+/// What a machine delivers: on_machine(machine::arm, machine_operation::add, rounding::nearest_even, x, y). Operands
+/// that the operation does not take are ignored. The error is lacking_operation if the machine does not have it.
+template <class F>
+expected<result<value<F>>> on_machine(machine on, machine_operation operation, rounding mode, const value<F> &x,
+                                      const value<F> &y = {}, const value<F> &z = {}) {
+    const std::uint32_t to = 0;
+    return detail::as_value<F>(detail::delivered(on, static_cast<std::uint32_t>(operation), mode, to, x, y, z));
+}
+
+/// The value in another format, as a machine converts it.
+template <class To, class F>
+expected<result<value<To>>> convert_on(machine on, const value<F> &x, rounding mode = rounding::nearest_even) {
+    static_assert(To::has_infinity && !To::is_pair, "machines have the formats with infinities");
+    return detail::as_value<To>(detail::delivered(on, APFLOAT_CONVERT, mode, To::code, x, x, x));
+}
+
+/// The lesser and the greater of two values of a machine, by a rule.
+template <class F>
+expected<result<value<F>>> least_on(machine on, minimum_rule rule, const value<F> &x, const value<F> &y) {
+    return detail::as_value<F>(detail::delivered(on, APFLOAT_LEAST, rounding::nearest_even,
+                                                 static_cast<std::uint32_t>(rule), x, y, y));
+}
+template <class F>
+expected<result<value<F>>> greatest_on(machine on, minimum_rule rule, const value<F> &x, const value<F> &y) {
+    return detail::as_value<F>(detail::delivered(on, APFLOAT_GREATEST, rounding::nearest_even,
+                                                 static_cast<std::uint32_t>(rule), x, y, y));
+}
+
+/// The value rounded to an integer, as a machine does it.
+template <class I, class F, std::enable_if_t<detail::is_integer<I>, int> = 0>
+expected<result<I>> to_integer_on(machine on, const value<F> &x, rounding mode) {
+    const std::uint32_t operation = detail::is_signed<I> ? APFLOAT_TO_I128 : APFLOAT_TO_U128;
+    const auto answer = detail::delivered(on, operation, mode, std::uint32_t{8 * sizeof(I)}, x, x, x);
+    if (!answer) return answer.error();
+    return result<I>{detail::integer_of<I>(answer->bits), flags::of_code(answer->status)};
 }
 
 // ---- texts

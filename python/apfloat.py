@@ -76,9 +76,9 @@ import sys
 from typing import Any, Callable, Generic, Iterable, Iterator, Self, Sequence, TypeVar, Union, overload
 
 __all__ = [
-    'Array', 'Context', 'DOWNWARD', 'Flags', 'Format', 'Mask', 'NEAREST_AWAY', 'NEAREST_EVEN', 'Refused', 'Rounding',
-    'TOWARD_ZERO', 'UPWARD', 'Value', 'bfloat', 'bfloat16', 'context', 'double', 'double_pair', 'e4m3fn', 'e4m3fnuz',
-    'e5m2', 'float8_e4m3fn', 'float8_e4m3fnuz', 'float8_e5m2', 'half', 'quad', 'single', 'x87',
+    'Array', 'Context', 'DOWNWARD', 'Flags', 'Format', 'Machine', 'Mask', 'NEAREST_AWAY', 'NEAREST_EVEN', 'Refused',
+    'Rounding', 'TOWARD_ZERO', 'UPWARD', 'Value', 'bfloat', 'bfloat16', 'context', 'double', 'double_pair', 'e4m3fn',
+    'e4m3fnuz', 'e5m2', 'float8_e4m3fn', 'float8_e4m3fnuz', 'float8_e5m2', 'half', 'machine', 'quad', 'single', 'x87',
 ]
 
 
@@ -196,14 +196,18 @@ def _parameters() -> dict[str, list[Any]]:
     return {
         **dict.fromkeys(('add', 'sub', 'mul', 'div'), [code, code, _Halves, _Halves, answer]),
         'fma': [code, code, _Halves, _Halves, _Halves, answer],
-        **dict.fromkeys(('sqrt', 'from_i128', 'round_to_integral', 'frexp'), [code, code, _Halves, answer]),
-        **dict.fromkeys(('rem', 'mod', 'compare', 'copy_sign', 'min', 'max', 'minimum', 'maximum'),
+        **dict.fromkeys(('sqrt', 'from_i128', 'round_to_integral', 'frexp', 'log_b', 'integral'),
+                        [code, code, _Halves, answer]),
+        **dict.fromkeys(('rem', 'mod', 'compare', 'copy_sign', 'min', 'max', 'minimum', 'maximum', 'total_order'),
                         [code, _Halves, _Halves, answer]),
         **dict.fromkeys(('ilogb', 'next_up', 'next_down', 'classify', 'is_negative'), [code, _Halves, answer]),
         **dict.fromkeys(('qnan', 'snan'), [code, code, _Halves, answer]),
         'convert': [code, code, code, _Halves, answer],
         'to_i128': [code, code, _Halves, code, answer],
-        'scalbn': [code, code, _Halves, power, answer],
+        **dict.fromkeys(('scalbn', 'scale_b'), [code, code, _Halves, power, answer]),
+        **dict.fromkeys(('compare_predicate', 'extremum'), [code, code, code, _Halves, _Halves, answer]),
+        'to_format': [code, code, code, code, _Halves, _Halves, _Halves, answer],
+        'machine': [code, code, code, code, code, _Halves, _Halves, _Halves, answer],
         **dict.fromkeys(('parse', 'parse_decimal'), [code, code, *text, answer]),
         'shortest': [code, _Halves, ctypes.POINTER(_Text)],
         'error_text': [code, ctypes.POINTER(_Text)],
@@ -729,6 +733,16 @@ class _Arithmetic(Generic[_Operand]):
         return self._with('copy_sign', sign)
 
 
+# The predicates of IEEE 754-2019 (tables 5.1 to 5.3), in the order of their codes.
+_PREDICATES = ('equal', 'not equal', 'greater', 'greater equal', 'less', 'less equal', 'not greater',
+               'less unordered', 'not less', 'greater unordered', 'unordered', 'ordered')
+
+# The minima and maxima of IEEE 754-2019 (9.6), in the order of their codes.
+_EXTREMA = ('minimum', 'maximum', 'minimum magnitude', 'maximum magnitude')
+
+# The operations whose result may be of another format, with how many operands they take, in the order of their codes.
+_TO_FORMAT = {'add': 2, 'sub': 2, 'mul': 2, 'div': 2, 'fma': 3, 'sqrt': 1}
+
 # The operations whose functions take no mode, since their results are exact.
 _WITHOUT_MODE = ('rem', 'mod', 'copy_sign', 'min', 'max', 'minimum', 'maximum')
 
@@ -856,6 +870,102 @@ class Value(_Arithmetic[Number]):
         (True, True, False, False)
         """
         return self._asked('is_negative', _halves(self.bits)).number == 1
+
+    def _beside(self, other: Number) -> Value:
+        """Another operand, as a value of this format."""
+        operand = self._operand(other)
+        if operand is NotImplemented:
+            raise TypeError(f'{other!r} is no operand of {self.format}')
+        return operand
+
+    def holds(self, predicate: str, other: Number, signaling: bool = False) -> bool:
+        """Whether a predicate holds of self and another value (IEEE 754-2019 5.6.1, 5.11).
+
+        It is one of equal, not equal, greater, greater equal, less, less equal, not greater, less unordered, not less,
+        greater unordered, unordered and ordered. INVALID_OP is raised for a signaling NaN, and, if asked, for any NaN.
+
+        >>> half(1).holds('less', 2), half('nan').holds('less unordered', 1)
+        (True, True)
+        >>> with Context() as context:
+        ...     half('nan').holds('less', 1), half('nan').holds('less', 1, signaling=True)
+        (False, False)
+        >>> context.invalid_op
+        True
+        """
+        if predicate not in _PREDICATES:
+            raise ValueError(f'{predicate!r} is no predicate: {", ".join(_PREDICATES)}')
+        answer = self._asked('compare_predicate', _PREDICATES.index(predicate), int(signaling), _halves(self.bits),
+                             _halves(self._beside(other).bits))
+        return answer.number == 1
+
+    def total_order(self, other: Number) -> int:
+        """-1, 0 or 1: the place of self beside another value in the total order (IEEE 754-2019 5.10).
+
+        >>> half('-0.0').total_order(0), half('nan').total_order(half('inf')), half('-nan').total_order(1)
+        (-1, 1, -1)
+        """
+        return self._asked('total_order', _halves(self.bits), _halves(self._beside(other).bits)).number
+
+    def extremum(self, which: str, other: Number, prefers_number: bool = False) -> Value:
+        """The minimum, maximum, minimum magnitude or maximum magnitude, with its flag (IEEE 754-2019 9.6).
+
+        Of a NaN and a number it is a quiet NaN, or, if asked, the number.
+
+        >>> half(1).extremum('maximum magnitude', -2), half('nan').extremum('minimum', 1)
+        (half('-2.0'), half('nan'))
+        >>> half('nan').extremum('minimum', 1, prefers_number=True)
+        half('1.0')
+        """
+        if which not in _EXTREMA:
+            raise ValueError(f'{which!r} is none of {", ".join(_EXTREMA)}')
+        return self._made('extremum', _EXTREMA.index(which), int(prefers_number), _halves(self.bits),
+                          _halves(self._beside(other).bits))
+
+    def log_b(self) -> Value:
+        """The exponent of the highest binary digit, as a value (IEEE 754-2019 5.3.3, logB).
+
+        >>> half(10).log_b(), half(0).log_b()
+        (half('3.0'), half('-inf'))
+        """
+        return self._made('log_b', context().mode, _halves(self.bits))
+
+    def scale_b(self, power: int) -> Value:
+        """self times 2 to the power of `power`, rounded once, with its flags (IEEE 754-2019 5.3.3, scaleB).
+
+        >>> half(3).scale_b(-25)
+        half('1e-7')
+        """
+        try:
+            power = operator.index(power)
+        except TypeError:
+            raise TypeError(f'scale_b takes an integer, and not {power!r}') from None
+        clamped = max(-1 << 31, min(power, (1 << 31) - 1))
+        return self._made('scale_b', context().mode, _halves(self.bits), clamped)
+
+    def integral(self) -> Value:
+        """The integral value that the mode picks, without INEXACT (IEEE 754-2019 5.9).
+
+        >>> with Context() as context:
+        ...     half(2.5).integral()
+        half('2.0')
+        >>> context.inexact
+        False
+        """
+        return self._made('integral', context().mode, _halves(self.bits))
+
+    def to_format(self, operation: str, target: Format, *others: Number) -> Value:
+        """add, sub, mul, div, fma or sqrt of self and others, rounded once to another format (IEEE 754-2019 5.4.1).
+
+        >>> double(1).to_format('add', single, double('0x1p-24') + double('0x1p-60'))
+        single('1.0000001')
+        """
+        if _TO_FORMAT.get(operation) != len(others) + 1:
+            raise ValueError(f'{operation!r} is none of {", ".join(_TO_FORMAT)}, or takes other operands')
+        values = [self, *(self._beside(other) for other in others), self, self][:3]
+        code = list(_TO_FORMAT).index(operation)
+        answer = _call('to_format', code, self.format.code, context().mode, target.code,
+                       *(_halves(value.bits) for value in values))
+        return Value(target, _whole(answer.bits))
 
     def fmin(self, other: Number) -> Value:
         """The lesser of two values, a number rather than a NaN, like fmin() in C (IEEE 754-2008 5.3.1, minNum).
@@ -1061,6 +1171,96 @@ class Value(_Arithmetic[Number]):
         # Python makes no text of an integer with so many digits as those of `quad`.
         size = decimal.Decimal(abs(numerator) * 5**places).scaleb(-places, decimal.Context(_MOST_DIGITS))
         return format(size.copy_negate() if self.is_negative else size, spec)
+
+
+# The machines, the operations on values of a format with how many operands they take, and the rules of minima, each in
+# the order of their codes, which begin at 1.
+_MACHINES = ('x86', 'x87', 'arm', 'arm default nan', 'arm alternate', 'risc-v', 'power', 's390x')
+_OF_MACHINES = {'add': 2, 'sub': 2, 'mul': 2, 'div': 2, 'remainder': 2, 'fmod': 2, 'fma': 3, 'sqrt': 1,
+                'round_to_integral': 1, 'integral': 1}
+_RULES = ('second', 'second quietly', 'first nan', 'number 2008', 'number 2019', 'propagated')
+_CONVERT, _TO_U128, _TO_I128, _LEAST, _GREATEST = 11, 12, 13, 14, 15
+
+
+class Machine:
+    """A processor, with what it delivers where IEEE 754 leaves a choice or is not followed (docs/MACHINES.md).
+
+    Operations add their flags to those of the context, those of IEEE 754, and round in its mode. Values have a format
+    with infinities. What the machine does not have is refused.
+
+    >>> x, y = half.from_bits(0x7e01), half.from_bits(0x7d02)
+    >>> [hex(machine(name).delivers('add', x, y).bits) for name in ('x86', 'arm', 'risc-v')]
+    ['0x7e01', '0x7f02', '0x7e00']
+    >>> [machine(name).to_integer(half('nan'), 8) for name in ('x86', 'arm', 'risc-v')]
+    [-128, 0, 127]
+    >>> machine('x87').delivers('fma', x87(1), x87(1), x87(1))
+    Traceback (most recent call last):
+    ...
+    apfloat.Refused: the machine does not have the operation
+    """
+
+    name: str
+
+    def __init__(self, name: str) -> None:
+        if name not in _MACHINES:
+            raise ValueError(f'{name!r} is no machine: {", ".join(_MACHINES)}')
+        self.name = name
+
+    def __repr__(self) -> str:
+        return f'machine({self.name!r})'
+
+    def _answer(self, operation: int, to: int, *values: Value) -> _Answer:
+        x, y, z = [*values, *values, *values][:3]
+        if not x.format == y.format == z.format:
+            raise TypeError(f'operands of {x.format}, {y.format} and {z.format}: convert them to one format')
+        return _call('machine', _MACHINES.index(self.name) + 1, operation, x.format.code, context().mode, to,
+                     _halves(x.bits), _halves(y.bits), _halves(z.bits))
+
+    def delivers(self, operation: str, *values: Value) -> Value:
+        """add, sub, mul, div, remainder, fmod, fma, sqrt, round_to_integral or integral (without INEXACT)."""
+        if _OF_MACHINES.get(operation) != len(values):
+            raise ValueError(f'{operation!r} is none of {", ".join(_OF_MACHINES)}, or takes other operands')
+        answer = self._answer(list(_OF_MACHINES).index(operation) + 1, 0, *values)
+        return Value(values[0].format, _whole(answer.bits))
+
+    def convert(self, x: Value, to: Format) -> Value:
+        """The value in another format.
+
+        >>> hex(machine('arm').convert(single.from_bits(0xffc02000), half).bits)
+        '0xfe01'
+        """
+        return Value(to, _whole(self._answer(_CONVERT, to.code, x).bits))
+
+    def to_integer(self, x: Value, width: int, signed: bool = True) -> int:
+        """The value as an integer of that many binary digits."""
+        answer = self._answer(_TO_I128 if signed else _TO_U128, width, x)
+        return _signed(answer.bits) if signed else _whole(answer.bits)
+
+    def least(self, rule: str, x: Value, y: Value) -> Value:
+        """The lesser of two values, by a rule.
+
+        It is one of second, second quietly, first nan, number 2008, number 2019 and propagated.
+
+        >>> machine('x86').least('second', half('0.0'), half('-0.0'))
+        half('-0.0')
+        >>> machine('arm').least('number 2008', half('nan'), half(1))
+        half('1.0')
+        """
+        return self._extreme(_LEAST, rule, x, y)
+
+    def greatest(self, rule: str, x: Value, y: Value) -> Value:
+        """The greater of two values, by a rule."""
+        return self._extreme(_GREATEST, rule, x, y)
+
+    def _extreme(self, operation: int, rule: str, x: Value, y: Value) -> Value:
+        if rule not in _RULES:
+            raise ValueError(f'{rule!r} is no rule: {", ".join(_RULES)}')
+        return Value(x.format, _whole(self._answer(operation, _RULES.index(rule) + 1, x, y).bits))
+
+
+def machine(name: str) -> Machine:
+    """The machine x86, x87, arm, arm default nan, arm alternate, risc-v, power or s390x."""
+    return Machine(name)
 
 
 # A fill and an alignment, a sign, and a width after a 0 if zeros are to fill it.

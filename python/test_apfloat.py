@@ -543,6 +543,97 @@ class SignTests(unittest.TestCase):
         self.assertEqual(set(compared), {*methods, 'qnan', 'snan', 'is_negative'})
         self.assertTrue(all(count > 50 for count in compared.values()), compared)
 
+    def test_machines(self):
+        # The NaNs of two operands as the manuals have them, and the integers of invalid conversions (docs/MACHINES.md).
+        quiet, signaling = apfloat.single.from_bits(0x7fc00001), apfloat.single.from_bits(0xffa00002)
+        sums = {'x86': 0x7fc00001, 'x87': 0x7fc00001, 'arm': 0xffe00002, 'arm default nan': 0x7fc00000,
+                'arm alternate': 0x7fc00001, 'risc-v': 0x7fc00000, 'power': 0x7fc00001, 's390x': 0xffe00002}
+        invalid = {'x86': (-1 << 31, (1 << 32) - 1), 'arm': ((1 << 31) - 1, (1 << 32) - 1),
+                   'risc-v': ((1 << 31) - 1, (1 << 32) - 1), 's390x': ((1 << 31) - 1, (1 << 32) - 1)}
+        infinity = apfloat.single('inf')
+        for name, bits in sums.items():
+            with Context() as context:
+                self.assertEqual(apfloat.machine(name).delivers('add', quiet, signaling).bits, bits, name)
+            self.assertEqual(context.flags, Flags.INVALID_OP, name)
+        for name, integers in invalid.items():
+            machine = apfloat.machine(name)
+            with Context() as context:
+                found = machine.to_integer(infinity, 32), machine.to_integer(infinity, 32, signed=False)
+            self.assertEqual(found, integers, name)
+            self.assertEqual(context.inexact, name == 's390x', name)
+        # (1 - 2^-10) * (1 + 2^-10) * 2^-14 is 2^-14 - 2^-34: tiny, and no more when it is rounded to 11 digits.
+        for name, is_tiny in (('arm', True), ('x86', False)):
+            with Context() as context:
+                product = apfloat.machine(name).delivers('mul', apfloat.half.from_bits(0x3bfe),
+                                                         apfloat.half.from_bits(0x0401))
+            self.assertEqual((product.bits, context.underflow, context.inexact), (0x0400, is_tiny, True), name)
+        with self.assertRaises(apfloat.Refused) as caught:
+            apfloat.machine('x87').to_integer(infinity, 32, signed=False)
+        self.assertEqual(caught.exception.code, 10)
+        with self.assertRaises(apfloat.Refused):
+            apfloat.machine('arm').delivers('add', apfloat.e4m3fn(1), apfloat.e4m3fn(1))
+        with self.assertRaises(ValueError):
+            apfloat.machine('mips')
+        with self.assertRaises(ValueError):
+            apfloat.machine('arm').delivers('sqrt', infinity, infinity)
+
+    def test_rows_of_operations(self):
+        # The stored rows of the operations of IEEE 754-2019 (docs/VECTORS.md), in the formats that have bits.
+        modes = {'even': apfloat.NEAREST_EVEN, 'up': apfloat.UPWARD, 'down': apfloat.DOWNWARD,
+                 'zero': apfloat.TOWARD_ZERO, 'away': apfloat.NEAREST_AWAY, '-': apfloat.NEAREST_EVEN}
+        orders = {'Less': -1, 'Equal': 0, 'Greater': 1}
+        compared = collections.Counter()
+
+        def format_of(word):
+            name, *rules = word.split('+')
+            format = getattr(apfloat, name, None)
+            if not isinstance(format, apfloat.Format):
+                return None
+            for rule in rules:
+                format = getattr(format, rule)
+            return format
+
+        def found_and_wanted(call, x, others, target, wanted):
+            kind, _, predicate = call.removeprefix('compare_').partition('_')
+            of, name = call.removesuffix('_number_of').removesuffix('_of'), call.replace('_', ' ')
+            if call.startswith('compare_'):
+                return x.holds(predicate.replace('_', ' '), *others, signaling=kind == 'signaling'), wanted == 'true'
+            if call == 'total_cmp':
+                return x.total_order(*others), orders[wanted]
+            if call.endswith('_of') and call != 'class_of':
+                return x.extremum(of.replace('_', ' '), *others, 'number' in name).bits, int(wanted, 16)
+            if call.endswith('_to'):
+                operation = {'mul_add_to': 'fma'}.get(call, call.removesuffix('_to'))
+                return x.to_format(operation, target, *others).bits, int(wanted, 16)
+            return getattr(x, {'round_to_integral_in': 'integral'}.get(call, call))().bits, int(wanted, 16)
+
+        with open(os.path.join(HERE, '..', 'crates', 'check_vectors', 'stdin'), encoding='utf-8') as file:
+            rows = [line.rstrip('\n').split('\t') for line in file]
+        for call, words, mode, operands, wanted, flags, _ in (row for row in rows if len(row) == 7):
+            if not (call.startswith('compare_') or call.endswith(('_of', '_to')) and call != 'class_of'
+                    or call in ('total_cmp', 'log_b', 'scale_b', 'round_to_integral_in')):
+                continue
+            source, *targets = [format_of(word) for word in words.split('>')]
+            if source is None or None in targets:
+                continue
+            with Context(mode=modes[mode]) as context:
+                if call == 'scale_b':
+                    bits, power = operands.split()
+                    found, wanted = source.from_bits(int(bits, 16)).scale_b(int(power)).bits, int(wanted, 16)
+                else:
+                    x, *others = [source.from_bits(int(bits, 16)) for bits in operands.split()]
+                    found, wanted = found_and_wanted(call, x, others, targets[0] if targets else None, wanted)
+            raised = sum(Flags[flag] for flag in flags.split('|')) if flags != '-' else 0
+            self.assertEqual((found, context.flags), (wanted, raised), (call, words, mode, operands))
+            compared[call] += 1
+        self.assertEqual(len(compared), 22 + 8 + 6 + 4)
+        with self.assertRaises(ValueError):
+            apfloat.half(1).holds('lesser', 2)
+        with self.assertRaises(ValueError):
+            apfloat.half(1).to_format('sqrt', apfloat.single, 1)
+        with self.assertRaises(apfloat.Refused):
+            apfloat.double_pair(1).log_b()
+
     def test_powers(self):
         self.assertEqual(apfloat.half(3).ldexp(True), 6)
         self.assertEqual(apfloat.half(3).ldexp(-10**30).bits, 0)
@@ -752,8 +843,9 @@ class ArrayTests(unittest.TestCase):
         # The texts that include/apfloat.h has for the codes.
         texts = ['unknown format', 'unknown rounding mode', 'the format does not have the operation',
                  'an integer cannot have this width', 'the text was refused', 'wrong length of an array',
-                 'unknown error code', 'code 8']
-        self.assertEqual([str(apfloat.Refused(code)) for code in range(1, 9)], texts)
+                 'unknown error code', 'unknown machine', 'an operand is wider than its format',
+                 'the machine does not have the operation', 'code 11']
+        self.assertEqual([str(apfloat.Refused(code)) for code in range(1, 12)], texts)
         again = pickle.loads(pickle.dumps(apfloat.Refused(5)))
         self.assertEqual((str(again), again.code), ('the text was refused', 5))
 

@@ -101,6 +101,17 @@ static apfloat_halves draw_value(uint32_t format, apfloat_halves before) {
     }
 }
 
+/* The bits without those at and above the width of the format; once in sixteen times with them. */
+static apfloat_halves within(uint32_t format, apfloat_halves bits) {
+    uint32_t known = format & 0xff;
+    if (below(16) == 0 || known == 0 || known > 10 || bits_of[known] == 128) return bits;
+    uint32_t width = bits_of[known];
+    if (width <= 64) bits.high = 0;
+    if (width < 64) bits.low &= (UINT64_C(1) << width) - 1;
+    if (width > 64) bits.high &= (UINT64_C(1) << (width - 64)) - 1;
+    return bits;
+}
+
 static size_t put(char *text, const char *part) {
     size_t length = strlen(part);
     memcpy(text, part, length);
@@ -164,10 +175,11 @@ static void note_text(uint32_t code, const apfloat_text *text) {
 
 static const char *const names[] = {
     "add",       "sub",   "mul",     "div",       "rem",     "mod",      "fma",   "sqrt",          "convert",
-    "from_u128", "from_i128", "to_u128", "to_i128", "integral", "scalbn", "ilogb", "frexp",         "next_up",
+    "from_u128", "from_i128", "to_u128", "to_i128", "round_to_integral", "scalbn", "ilogb", "frexp",         "next_up",
     "next_down", "compare", "classify", "parse",  "parse_decimal", "shortest", "is_negative",   "neg",
     "abs",       "copy_sign", "min",  "max",      "minimum", "maximum", "qnan",  "snan",          "error_text",
-    "version",   "convert_array", "map_array"};
+    "version",   "compare_predicate", "total_order", "extremum", "log_b", "scale_b", "integral", "to_format",
+    "machine",   "convert_array", "map_array"};
 #define KINDS (sizeof names / sizeof names[0])
 
 static void call_on_arrays(uint32_t kind) {
@@ -265,7 +277,21 @@ static void call(size_t kind) {
         add_bytes(&version, sizeof version);
         break;
     }
-    default: call_on_arrays((uint32_t)kind - 36); break;
+    case 36: CALL(apfloat_compare_predicate, format, below(13), below(3), x, y); break;
+    case 37: CALL(apfloat_total_order, format, x, y); break;
+    case 38: CALL(apfloat_extremum, format, below(5), below(3), x, y); break;
+    case 39: CALL(apfloat_log_b, format, mode, x); break;
+    case 40: CALL(apfloat_scale_b, format, mode, x, power); break;
+    case 41: CALL(apfloat_integral, format, mode, x); break;
+    case 42: CALL(apfloat_to_format, below(7), format, mode, to, x, y, z); break;
+    case 43: {
+        uint32_t operation = below(17);
+        uint32_t made_to = operation == APFLOAT_CONVERT ? to : operation < APFLOAT_LEAST ? width : below(8);
+        CALL(apfloat_machine, below(10), operation, format, mode, made_to, within(format, x), within(format, y),
+             within(format, z));
+        break;
+    }
+    default: call_on_arrays((uint32_t)kind - 44); break;
     }
 }
 

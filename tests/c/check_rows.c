@@ -85,9 +85,48 @@ MAKES(qnan, a->format, 0, a->x)
 MAKES(snan, a->format, 0, a->x)
 MAKES(parse, a->format, a->mode, (const uint8_t *)a->text, strlen(a->text))
 
+/* The operations of IEEE 754-2019: those of a function, with the code that a name stands for. */
+#define MAKES_BY(name, function, ...) \
+    static uint32_t make_##name(const struct arguments *a, apfloat_answer *answer) { \
+        return apfloat_##function(__VA_ARGS__, answer); \
+    }
+#define COMPARES(name, code) \
+    MAKES_BY(quiet_##name, compare_predicate, a->format, code, APFLOAT_QUIET, a->x, a->y) \
+    MAKES_BY(signaling_##name, compare_predicate, a->format, code, APFLOAT_SIGNALING, a->x, a->y)
+#define TAKES(name, code) \
+    MAKES_BY(name##_of, extremum, a->format, code, 0, a->x, a->y) \
+    MAKES_BY(name##_number_of, extremum, a->format, code, 1, a->x, a->y)
+
+COMPARES(equal, APFLOAT_IS_EQUAL)
+COMPARES(not_equal, APFLOAT_IS_NOT_EQUAL)
+COMPARES(greater, APFLOAT_IS_GREATER)
+COMPARES(greater_equal, APFLOAT_IS_GREATER_EQUAL)
+COMPARES(less, APFLOAT_IS_LESS)
+COMPARES(less_equal, APFLOAT_IS_LESS_EQUAL)
+COMPARES(not_greater, APFLOAT_IS_NOT_GREATER)
+COMPARES(less_unordered, APFLOAT_IS_LESS_UNORDERED)
+COMPARES(not_less, APFLOAT_IS_NOT_LESS)
+COMPARES(greater_unordered, APFLOAT_IS_GREATER_UNORDERED)
+MAKES_BY(quiet_unordered, compare_predicate, a->format, APFLOAT_IS_UNORDERED, APFLOAT_QUIET, a->x, a->y)
+MAKES_BY(quiet_ordered, compare_predicate, a->format, APFLOAT_IS_ORDERED, APFLOAT_QUIET, a->x, a->y)
+TAKES(minimum, APFLOAT_MINIMUM)
+TAKES(maximum, APFLOAT_MAXIMUM)
+TAKES(minimum_magnitude, APFLOAT_MINIMUM_MAGNITUDE)
+TAKES(maximum_magnitude, APFLOAT_MAXIMUM_MAGNITUDE)
+MAKES(total_order, a->format, a->x, a->y)
+MAKES(log_b, a->format, a->mode, a->x)
+MAKES(scale_b, a->format, a->mode, a->x, a->power)
+MAKES(integral, a->format, a->mode, a->x)
+MAKES_BY(add_to, to_format, APFLOAT_SUM_TO, a->format, a->mode, a->to, a->x, a->y, a->z)
+MAKES_BY(sub_to, to_format, APFLOAT_DIFFERENCE_TO, a->format, a->mode, a->to, a->x, a->y, a->z)
+MAKES_BY(mul_to, to_format, APFLOAT_PRODUCT_TO, a->format, a->mode, a->to, a->x, a->y, a->z)
+MAKES_BY(div_to, to_format, APFLOAT_QUOTIENT_TO, a->format, a->mode, a->to, a->x, a->y, a->z)
+MAKES_BY(mul_add_to, to_format, APFLOAT_FUSED_SUM_TO, a->format, a->mode, a->to, a->x, a->y, a->z)
+MAKES_BY(sqrt_to, to_format, APFLOAT_ROOT_TO, a->format, a->mode, a->to, a->x, a->y, a->z)
+
 /* The operands of a call, by letters: x, y and z are bits, l is a payload or None, n is an integer, w a width, p a power,
  * and t a text. Its value: b for bits, n for an integer in the bits, e for an exponent, o for an order, q for a
- * question's answer. And the name of its extra result, if it has one. */
+ * question's answer, h for whether a predicate holds. And the name of its extra result, if it has one. */
 static const struct call {
     const char *name, *operands;
     char value;
@@ -133,7 +172,47 @@ static const struct call {
              {"maximum", "xy", 'b', make_maximum, NULL},
              {"qnan", "l", 'b', make_qnan, NULL},
              {"snan", "l", 'b', make_snan, NULL},
-             {"from_str_r", "t", 'b', make_parse, NULL}};
+             {"from_str_r", "t", 'b', make_parse, NULL},
+             {"compare_quiet_equal", "xy", 'h', make_quiet_equal, NULL},
+             {"compare_quiet_not_equal", "xy", 'h', make_quiet_not_equal, NULL},
+             {"compare_quiet_greater", "xy", 'h', make_quiet_greater, NULL},
+             {"compare_quiet_greater_equal", "xy", 'h', make_quiet_greater_equal, NULL},
+             {"compare_quiet_less", "xy", 'h', make_quiet_less, NULL},
+             {"compare_quiet_less_equal", "xy", 'h', make_quiet_less_equal, NULL},
+             {"compare_quiet_not_greater", "xy", 'h', make_quiet_not_greater, NULL},
+             {"compare_quiet_less_unordered", "xy", 'h', make_quiet_less_unordered, NULL},
+             {"compare_quiet_not_less", "xy", 'h', make_quiet_not_less, NULL},
+             {"compare_quiet_greater_unordered", "xy", 'h', make_quiet_greater_unordered, NULL},
+             {"compare_quiet_unordered", "xy", 'h', make_quiet_unordered, NULL},
+             {"compare_quiet_ordered", "xy", 'h', make_quiet_ordered, NULL},
+             {"compare_signaling_equal", "xy", 'h', make_signaling_equal, NULL},
+             {"compare_signaling_not_equal", "xy", 'h', make_signaling_not_equal, NULL},
+             {"compare_signaling_greater", "xy", 'h', make_signaling_greater, NULL},
+             {"compare_signaling_greater_equal", "xy", 'h', make_signaling_greater_equal, NULL},
+             {"compare_signaling_less", "xy", 'h', make_signaling_less, NULL},
+             {"compare_signaling_less_equal", "xy", 'h', make_signaling_less_equal, NULL},
+             {"compare_signaling_not_greater", "xy", 'h', make_signaling_not_greater, NULL},
+             {"compare_signaling_less_unordered", "xy", 'h', make_signaling_less_unordered, NULL},
+             {"compare_signaling_not_less", "xy", 'h', make_signaling_not_less, NULL},
+             {"compare_signaling_greater_unordered", "xy", 'h', make_signaling_greater_unordered, NULL},
+             {"minimum_of", "xy", 'b', make_minimum_of, NULL},
+             {"maximum_of", "xy", 'b', make_maximum_of, NULL},
+             {"minimum_magnitude_of", "xy", 'b', make_minimum_magnitude_of, NULL},
+             {"maximum_magnitude_of", "xy", 'b', make_maximum_magnitude_of, NULL},
+             {"minimum_number_of", "xy", 'b', make_minimum_number_of, NULL},
+             {"maximum_number_of", "xy", 'b', make_maximum_number_of, NULL},
+             {"minimum_magnitude_number_of", "xy", 'b', make_minimum_magnitude_number_of, NULL},
+             {"maximum_magnitude_number_of", "xy", 'b', make_maximum_magnitude_number_of, NULL},
+             {"total_cmp", "xy", 'o', make_total_order, NULL},
+             {"log_b", "x", 'b', make_log_b, NULL},
+             {"scale_b", "xp", 'b', make_scale_b, NULL},
+             {"round_to_integral_in", "x", 'b', make_integral, NULL},
+             {"add_to", "xy", 'b', make_add_to, NULL},
+             {"sub_to", "xy", 'b', make_sub_to, NULL},
+             {"mul_to", "xy", 'b', make_mul_to, NULL},
+             {"div_to", "xy", 'b', make_div_to, NULL},
+             {"mul_add_to", "xyz", 'b', make_mul_add_to, NULL},
+             {"sqrt_to", "x", 'b', make_sqrt_to, NULL}};
 
 static unsigned agreeing[COUNT(calls)];
 
@@ -183,6 +262,7 @@ static bool read_expected(char *columns[], const struct call *call, struct expec
             e->answer.number = strcmp(said, "true") == 0 ? 1 : (int32_t)strtol(said, NULL, 10);
     }
     if (value == 'e') e->answer.number = (int32_t)strtol(columns[VALUE], NULL, 10);
+    if (value == 'h') e->answer.number = strcmp(columns[VALUE], "true") == 0;
     if (value == 'o') e->answer.number = (int32_t)code_of(orders, COUNT(orders), columns[VALUE]);
     if (value == 'q') {
         uint32_t yes = code_of(questions, COUNT(questions), columns[CALL]);
@@ -401,9 +481,12 @@ static bool check(char *columns[]) {
     return true;
 }
 
+#define MACHINE(machine, operation, format, mode, to, x) \
+    apfloat_machine(machine, operation, format, mode, to, x, x, x, &answer)
+
 /* The errors that no row has, each of which leaves the answer as it was. */
 static unsigned refusals(void) {
-    const apfloat_halves one = {1, 0};
+    const apfloat_halves one = {1, 0}, wide = {UINT64_C(0x10000), 0}, past_x87 = {1, UINT64_C(0x10000)};
     apfloat_answer answer = before;
     const uint32_t codes[][2] = {
         {apfloat_add(0, APFLOAT_NEAREST_EVEN, one, one, &answer), APFLOAT_UNKNOWN_FORMAT},
@@ -424,7 +507,33 @@ static unsigned refusals(void) {
         {apfloat_neg(0, one, &answer), APFLOAT_UNKNOWN_FORMAT},
         {apfloat_minimum(11, one, one, &answer), APFLOAT_UNKNOWN_FORMAT},
         {apfloat_qnan(APFLOAT_E4M3FN | APFLOAT_IEEE_FLAGS, 0, one, &answer), APFLOAT_UNKNOWN_FORMAT},
-        {apfloat_is_negative(APFLOAT_DOUBLE | APFLOAT_TINY_BEFORE_ROUNDING, one, &answer), APFLOAT_UNKNOWN_FORMAT}};
+        {apfloat_is_negative(APFLOAT_DOUBLE | APFLOAT_TINY_BEFORE_ROUNDING, one, &answer), APFLOAT_UNKNOWN_FORMAT},
+        {apfloat_compare_predicate(APFLOAT_HALF, 12, APFLOAT_QUIET, one, one, &answer), APFLOAT_NO_SUCH_OPERATION},
+        {apfloat_compare_predicate(APFLOAT_HALF, APFLOAT_IS_LESS, 2, one, one, &answer), APFLOAT_NO_SUCH_OPERATION},
+        {apfloat_extremum(APFLOAT_DOUBLE_PAIR, APFLOAT_MINIMUM, 0, one, one, &answer), APFLOAT_NO_SUCH_OPERATION},
+        {apfloat_extremum(APFLOAT_HALF, 4, 0, one, one, &answer), APFLOAT_NO_SUCH_OPERATION},
+        {apfloat_log_b(APFLOAT_HALF, 5, one, &answer), APFLOAT_UNKNOWN_MODE},
+        {apfloat_to_format(6, APFLOAT_HALF, 5, 0, one, one, one, &answer), APFLOAT_UNKNOWN_FORMAT},
+        {apfloat_to_format(6, APFLOAT_HALF, 5, APFLOAT_SINGLE, one, one, one, &answer), APFLOAT_UNKNOWN_MODE},
+        {apfloat_to_format(6, APFLOAT_HALF, 0, APFLOAT_SINGLE, one, one, one, &answer), APFLOAT_NO_SUCH_OPERATION},
+        {MACHINE(0, 0, 0, 5, 0, one), APFLOAT_UNKNOWN_FORMAT},
+        {MACHINE(0, 0, APFLOAT_HALF, 5, 0, one), APFLOAT_UNKNOWN_MODE},
+        {MACHINE(0, APFLOAT_ADD, APFLOAT_DOUBLE_PAIR, 0, 0, one), APFLOAT_NO_SUCH_OPERATION},
+        {MACHINE(0, APFLOAT_CONVERT, APFLOAT_E4M3FN, 0, 0, one), APFLOAT_NO_SUCH_OPERATION},
+        {MACHINE(0, 0, APFLOAT_HALF, 0, 0, one), APFLOAT_NO_SUCH_OPERATION},
+        {MACHINE(0, 16, APFLOAT_HALF, 0, 0, one), APFLOAT_NO_SUCH_OPERATION},
+        {MACHINE(0, APFLOAT_LEAST, APFLOAT_HALF, 0, 0, one), APFLOAT_NO_SUCH_OPERATION},
+        {MACHINE(0, APFLOAT_GREATEST, APFLOAT_HALF, 0, 7, one), APFLOAT_NO_SUCH_OPERATION},
+        {MACHINE(0, APFLOAT_CONVERT, APFLOAT_HALF, 0, 0, one), APFLOAT_UNKNOWN_FORMAT},
+        {MACHINE(0, APFLOAT_CONVERT, APFLOAT_HALF, 0, APFLOAT_E4M3FNUZ, one), APFLOAT_NO_SUCH_OPERATION},
+        {MACHINE(0, APFLOAT_TO_U128, APFLOAT_HALF, 0, 0, wide), APFLOAT_UNKNOWN_MACHINE},
+        {MACHINE(9, APFLOAT_ADD, APFLOAT_HALF, 0, 0, one), APFLOAT_UNKNOWN_MACHINE},
+        {MACHINE(APFLOAT_MACHINE_X87, APFLOAT_FMA, APFLOAT_HALF, 0, 0, wide), APFLOAT_WIDE_OPERAND},
+        {MACHINE(APFLOAT_MACHINE_X86, APFLOAT_ADD, APFLOAT_X87, 0, 0, past_x87), APFLOAT_WIDE_OPERAND},
+        {MACHINE(APFLOAT_MACHINE_X87, APFLOAT_TO_U128, APFLOAT_HALF, 0, 129, one), APFLOAT_WRONG_WIDTH},
+        {MACHINE(APFLOAT_MACHINE_ARM, APFLOAT_TO_I128, APFLOAT_HALF, 0, 1, one), APFLOAT_WRONG_WIDTH},
+        {MACHINE(APFLOAT_MACHINE_X87, APFLOAT_TO_U128, APFLOAT_X87, 0, 32, one), APFLOAT_LACKING_OPERATION},
+        {MACHINE(APFLOAT_MACHINE_X87, APFLOAT_FMA, APFLOAT_X87, 0, 0, one), APFLOAT_LACKING_OPERATION}};
     unsigned count = 0;
     for (size_t i = 0; i < COUNT(codes); i++)
         if (codes[i][0] == codes[i][1] && memcmp(&answer, &before, sizeof answer) == 0) count++;
@@ -477,7 +586,10 @@ static unsigned error_texts(void) {
                                         "an integer cannot have this width",
                                         "the text was refused",
                                         "wrong length of an array",
-                                        "unknown error code"};
+                                        "unknown error code",
+                                        "unknown machine",
+                                        "an operand is wider than its format",
+                                        "the machine does not have the operation"};
     unsigned count = 0;
     for (uint32_t error = 0; error <= COUNT(texts); error++) {
         apfloat_text text, wanted;
@@ -492,6 +604,95 @@ static unsigned error_texts(void) {
         uint32_t code = apfloat_error_text(error, &text);
         if (code == (is_known ? APFLOAT_ANSWERED : APFLOAT_UNKNOWN_ERROR) && memcmp(&text, &wanted, sizeof text) == 0)
             count++;
+    }
+    return count;
+}
+
+/* What machines deliver, to nearest, in binary32 unless the row has another format. Those of X86 and X87 are results of
+ * a processor (evidence/processor/machines.c); the others follow from the tables of docs/MACHINES.md by hand. */
+#define X86 APFLOAT_MACHINE_X86
+#define X87 APFLOAT_MACHINE_X87
+#define ARM APFLOAT_MACHINE_ARM
+#define ARM_DEFAULT APFLOAT_MACHINE_ARM_DEFAULT_NAN
+#define ARM_ALTERNATE APFLOAT_MACHINE_ARM_ALTERNATE
+#define RISC_V APFLOAT_MACHINE_RISC_V
+#define POWER APFLOAT_MACHINE_POWER
+#define S390X APFLOAT_MACHINE_S390X
+static const struct {
+    uint32_t machine, operation, format, to;
+    apfloat_halves x, y, z, bits;
+    uint32_t status;
+} on_machines[] = {
+    /* two NaNs, of which one is signaling; an invalid sum */
+    {X86, APFLOAT_ADD, 2, 0, {0x7fc00001, 0}, {0x7f800003, 0}, {0, 0}, {0x7fc00001, 0}, 0x01},
+    {ARM, APFLOAT_ADD, 2, 0, {0x7fc00001, 0}, {0x7f800003, 0}, {0, 0}, {0x7fc00003, 0}, 0x01},
+    {ARM_DEFAULT, APFLOAT_ADD, 2, 0, {0x3f800000, 0}, {0xff800004, 0}, {0, 0}, {0x7fc00000, 0}, 0x01},
+    {ARM_ALTERNATE, APFLOAT_ADD, 2, 0, {0x7fc00001, 0}, {0x7f800003, 0}, {0, 0}, {0x7fc00001, 0}, 0x01},
+    {RISC_V, APFLOAT_ADD, 2, 0, {0x3f800000, 0}, {0x7f800003, 0}, {0, 0}, {0x7fc00000, 0}, 0x01},
+    {POWER, APFLOAT_ADD, 2, 0, {0xffc00002, 0}, {0x7f800003, 0}, {0, 0}, {0xffc00002, 0}, 0x01},
+    {S390X, APFLOAT_ADD, 2, 0, {0x7fc00001, 0}, {0xff800004, 0}, {0, 0}, {0xffc00004, 0}, 0x01},
+    {X86, APFLOAT_SUB, 2, 0, {0x7f800000, 0}, {0x7f800000, 0}, {0, 0}, {0xffc00000, 0}, 0x01},
+    {ARM, APFLOAT_SUB, 2, 0, {0x7f800000, 0}, {0x7f800000, 0}, {0, 0}, {0x7fc00000, 0}, 0x01},
+    {X87, APFLOAT_ADD, 9, 0, {UINT64_C(0xc000000000000001), 0x7fff}, {UINT64_C(0x8000000000000003), 0x7fff}, {0, 0},
+     {UINT64_C(0xc000000000000001), 0x7fff}, 0x01},
+    {X87, APFLOAT_ADD, 9, 0, {UINT64_C(0x4000000000000000), 0x3fff}, {UINT64_C(0x8000000000000000), 0x3fff}, {0, 0},
+     {UINT64_C(0xc000000000000000), 0xffff}, 0x01},
+    /* the other operations on values */
+    {X86, APFLOAT_MUL, 2, 0, {0, 0}, {0x7f800000, 0}, {0, 0}, {0xffc00000, 0}, 0x01},
+    {X86, APFLOAT_DIV, 2, 0, {0x3f800000, 0}, {0, 0}, {0, 0}, {0x7f800000, 0}, 0x02},
+    {S390X, APFLOAT_REM, 2, 0, {0x3f800000, 0}, {0, 0}, {0, 0}, {0x7fc00000, 0}, 0x01},
+    {S390X, APFLOAT_MOD, 2, 0, {0xffc00002, 0}, {0x7f800003, 0}, {0, 0}, {0x7fc00003, 0}, 0x01},
+    {X86, APFLOAT_FMA, 2, 0, {0x7f800000, 0}, {0, 0}, {0x7fc00001, 0}, {0x7fc00001, 0}, 0x00},
+    {ARM, APFLOAT_FMA, 2, 0, {0x7f800000, 0}, {0, 0}, {0x7fc00001, 0}, {0x7fc00000, 0}, 0x01},
+    {ARM, APFLOAT_FMA, 2, 0, {0x7fc00001, 0}, {0x3f800000, 0}, {0xffc00002, 0}, {0xffc00002, 0}, 0x00},
+    {POWER, APFLOAT_FMA, 2, 0, {0x3f800000, 0}, {0xffc00002, 0}, {0x7fc00001, 0}, {0x7fc00001, 0}, 0x00},
+    {X86, APFLOAT_SQRT, 2, 0, {0xbf800000, 0}, {0, 0}, {0, 0}, {0xffc00000, 0}, 0x01},
+    {RISC_V, APFLOAT_ROUND_TO_INTEGRAL, 2, 0, {0x3fc00000, 0}, {0, 0}, {0, 0}, {0x40000000, 0}, 0x10},
+    {RISC_V, APFLOAT_INTEGRAL, 2, 0, {0x3fc00000, 0}, {0, 0}, {0, 0}, {0x40000000, 0}, 0x00},
+    {RISC_V, APFLOAT_INTEGRAL, 2, 0, {0xff800004, 0}, {0, 0}, {0, 0}, {0x7fc00000, 0}, 0x01},
+    {ARM, APFLOAT_CONVERT, 3, 2, {UINT64_C(0xfff8000020000000), 0}, {0, 0}, {0, 0}, {0xffc00001, 0}, 0x00},
+    {RISC_V, APFLOAT_CONVERT, 3, 2, {UINT64_C(0x7ff4000000000000), 0}, {0, 0}, {0, 0}, {0x7fc00000, 0}, 0x01},
+    /* integers: NaNs, out of range, and to nearest */
+    {X86, APFLOAT_TO_I128, 2, 32, {0x7fc00001, 0}, {0, 0}, {0, 0},
+     {UINT64_C(0xffffffff80000000), UINT64_MAX}, 0x01},
+    {ARM, APFLOAT_TO_I128, 2, 32, {0xffc00002, 0}, {0, 0}, {0, 0}, {0, 0}, 0x01},
+    {RISC_V, APFLOAT_TO_I128, 2, 32, {0xffc00002, 0}, {0, 0}, {0, 0}, {0x7fffffff, 0}, 0x01},
+    {S390X, APFLOAT_TO_I128, 2, 32, {0x7f800000, 0}, {0, 0}, {0, 0}, {0x7fffffff, 0}, 0x11},
+    {X86, APFLOAT_TO_U128, 2, 32, {0xbf800000, 0}, {0, 0}, {0, 0}, {0xffffffff, 0}, 0x01},
+    {ARM, APFLOAT_TO_U128, 2, 32, {0xbf800000, 0}, {0, 0}, {0, 0}, {0, 0}, 0x01},
+    {X86, APFLOAT_TO_I128, 2, 32, {0x3fc00000, 0}, {0, 0}, {0, 0}, {2, 0}, 0x10},
+    /* minima and maxima */
+    {X86, APFLOAT_LEAST, 2, APFLOAT_RULE_SECOND, {0, 0}, {0x80000000, 0}, {0, 0}, {0x80000000, 0}, 0x00},
+    {X86, APFLOAT_GREATEST, 2, APFLOAT_RULE_SECOND, {0x7fc00001, 0}, {0x3f800000, 0}, {0, 0}, {0x3f800000, 0}, 0x01},
+    {POWER, APFLOAT_LEAST, 2, APFLOAT_RULE_SECOND_QUIETLY, {0x3f800000, 0}, {0x7fc00001, 0}, {0, 0},
+     {0x7fc00001, 0}, 0x00},
+    {POWER, APFLOAT_GREATEST, 2, APFLOAT_RULE_FIRST_NAN, {0x80000000, 0}, {0, 0}, {0, 0}, {0, 0}, 0x00},
+    {ARM, APFLOAT_LEAST, 2, APFLOAT_RULE_NUMBER_2008, {0x7fc00001, 0}, {0x3f800000, 0}, {0, 0}, {0x3f800000, 0}, 0x00},
+    {RISC_V, APFLOAT_LEAST, 2, APFLOAT_RULE_NUMBER_2019, {0x7f800003, 0}, {0x3f800000, 0}, {0, 0},
+     {0x3f800000, 0}, 0x01},
+    {ARM, APFLOAT_GREATEST, 2, APFLOAT_RULE_PROPAGATED, {0x3f800000, 0}, {0x7fc00001, 0}, {0, 0},
+     {0x7fc00001, 0}, 0x00},
+    /* 2^-14 - 2^-34 in binary16: tiny, and no more when it is rounded to 11 digits. The code's rule comes first. */
+    {ARM, APFLOAT_MUL, 1, 0, {0x3bfe, 0}, {0x0401, 0}, {0, 0}, {0x0400, 0}, 0x18},
+    {X86, APFLOAT_MUL, 1, 0, {0x3bfe, 0}, {0x0401, 0}, {0, 0}, {0x0400, 0}, 0x10},
+    {ARM, APFLOAT_MUL, 1 | APFLOAT_IEEE_FLAGS, 0, {0x3bfe, 0}, {0x0401, 0}, {0, 0}, {0x0400, 0}, 0x10},
+    {X86, APFLOAT_MUL, 1 | APFLOAT_IEEE_FLAGS | APFLOAT_TINY_BEFORE_ROUNDING, 0, {0x3bfe, 0}, {0x0401, 0}, {0, 0},
+     {0x0400, 0}, 0x18}};
+
+/* How many of them agree. */
+static unsigned machines(void) {
+    unsigned count = 0;
+    for (size_t i = 0; i < COUNT(on_machines); i++) {
+        apfloat_answer answer = before;
+        uint32_t code = apfloat_machine(on_machines[i].machine, on_machines[i].operation, on_machines[i].format,
+                                        APFLOAT_NEAREST_EVEN, on_machines[i].to, on_machines[i].x, on_machines[i].y,
+                                        on_machines[i].z, &answer);
+        if (code == APFLOAT_ANSWERED && answer.bits.low == on_machines[i].bits.low &&
+            answer.bits.high == on_machines[i].bits.high && answer.status == on_machines[i].status &&
+            answer.number == 0)
+            count++;
+        else
+            printf("machines: row %u differs\n", (unsigned)i);
     }
     return count;
 }
@@ -519,6 +720,7 @@ int main(void) {
     printf("%u errors agree\n", refusals());
     printf("1 + 1 %s\n", adds_ones() ? "agrees" : "differs");
     printf("%u formats' negative NaNs agree\n", negative_nans());
+    printf("%u answers of machines agree\n", machines());
     printf("%u texts of errors agree, and version %u\n", error_texts(), apfloat_version());
     printf("%u errors of arrays agree\n", array_refusals());
     printf("%u conversions that saturate agree\n", saturated());

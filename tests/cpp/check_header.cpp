@@ -241,8 +241,8 @@ void check_errors() {
     CHECK(!refused && !refused.has_value() && refused.error() == errc::refused_text);
     CHECK(refused.value_or({number(2.0), {}}).value == number(2.0));
     CHECK(std::string(message(errc::refused_text)) == "the text was refused");
-    // One more than the codes of errors is that of a number which is no code.
-    for (std::uint32_t code = APFLOAT_UNKNOWN_FORMAT; code <= APFLOAT_UNKNOWN_ERROR; code++) {
+    // The code of a number that is no code has a text too.
+    for (std::uint32_t code = APFLOAT_UNKNOWN_FORMAT; code <= APFLOAT_LACKING_OPERATION; code++) {
         apfloat_text text = {{0}, 0};
         CHECK(apfloat_error_text(code, &text) == APFLOAT_ANSWERED);
         CHECK(std::string(message(static_cast<errc>(code))) == text.bytes);
@@ -373,6 +373,25 @@ void check_missing_arrays() {
           errc::no_such_operation);
 }
 
+// What machines deliver, as the tables of docs/MACHINES.md have it.
+void check_machines() {
+    const auto quiet = single::from_bits(0x7fc00001), signaling = single::from_bits(0x7f800003), one = single(1.0f);
+    const auto even = rounding::nearest_even;
+    const auto on_x86 = on_machine(machine::x86, machine_operation::add, even, quiet, signaling);
+    CHECK(on_x86 && on_x86->value.bits() == 0x7fc00001 && on_x86->status == flag::invalid_op);
+    CHECK(on_machine(machine::arm, machine_operation::add, even, quiet, signaling)->value.bits() == 0x7fc00003);
+    CHECK(on_machine(machine::risc_v, machine_operation::sqrt, even, quiet)->value.bits() == 0x7fc00000);
+    CHECK(on_machine(machine::x87, machine_operation::fma, even, one, one, one).error() == errc::lacking_operation);
+    CHECK(convert_on<binary32>(machine::arm, number::from_bits(0xfff8000020000000))->value.bits() == 0xffc00001);
+    CHECK(least_on(machine::x86, minimum_rule::second, quiet, one)->value.bits() == one.bits());
+    CHECK(greatest_on(machine::arm, minimum_rule::propagated, one, quiet)->value.bits() == quiet.bits());
+    const auto least = to_integer_on<std::int32_t>(machine::x86, quiet, even);
+    CHECK(least && least->value == INT32_MIN && least->status == flag::invalid_op);
+    CHECK(to_integer_on<std::uint64_t>(machine::arm, quiet, even)->value == 0);
+    CHECK(to_integer_on<std::uint8_t>(machine::x87, one, even).error() == errc::lacking_operation);
+    CHECK(on_machine(static_cast<machine>(9), machine_operation::add, even, one, one).error() == errc::unknown_machine);
+}
+
 } // namespace
 
 // With an argument, a call with a mode that is none of the enumerators.
@@ -401,6 +420,7 @@ int main(int count, char **) {
     check_hashes();
     check_arrays();
     check_missing_arrays();
+    check_machines();
     std::cout << checks - failures << " checks hold, " << failures << " fail\n";
     return failures == 0 ? 0 : 1;
 }

@@ -8,3 +8,7 @@ pub mod ElementCalls
 pub mod ArraysOnce
 pub mod ParsedOnce
 pub mod FlaglessOnce
+pub mod IeeeOnce
+pub mod MachineFormats
+pub mod MachineAnswers
+pub mod MachineOnce

@@ -13,7 +13,7 @@ use Rattle.formats_at_run_time.specs.declared.BuiltInFormat.{BuiltInFormat}
 use Rattle.formats_at_run_time.specs.BuiltIns.{constants_in, known_format}
 use Rattle.formats_at_run_time.specs.ValueKinds.{value_of}
 use Rattle.apfloat_c.specs.declared.decimals.DecimalText.{DecimalText}
-use Rattle.apfloat_c.specs.About.{IsTold, error_text, unknown_error}
+use Rattle.apfloat_c.specs.About.{IsTold, error_text, greatest_code}
 use Rattle.apfloat_c.specs.Decimals.{IsShortestWritten, IsText, IsValueText}
 use Rattle.apfloat_c.specs.OneAnswer.{IsErrorTextOnce}
 
@@ -84,4 +84,4 @@ told_once false written old a b code other x y = (x.0 ∙ sym y.0, x.1 ∙ sym y
 -- two texts for a code are equal
 pub error_text_once : IsErrorTextOnce
 error_text_once error old a b code other x y =
-    told_once (nat_le error unknown_error) (error_text error) old a b code other x y
+    told_once (nat_le error greatest_code) (error_text error) old a b code other x y

@@ -1,5 +1,6 @@
 -- What calls leave, and the exponents of fractions.
 use Rattle.std.proofs.Common.{◌≡◌, ℕ, Bool, true, false, List, None, Option, Some, refl, subst}
+use Rattle.std.proofs.Math.Path.{subst₂}
 use Rattle.std.proofs.lemmas.Bool.{and_right, false≢true, true≢false}
 use Rattle.std.specs.Char.{is_ascii}
 use Rattle.apfloat_model.specs.declared.parse_error.Fault.{Fault}
@@ -67,6 +68,12 @@ pub left_in_pairs : (mode : Round) (call : ExportedCall) (old new : Answer) (cod
 left_in_pairs mode (FusedSum x y z) old new code left = absurd left.1
 left_in_pairs mode (Conversion x target) old new code left = absurd left.1
 left_in_pairs mode call old new code left = left
+
+-- of three equal data, a property of the ones is one of the others
+pub replaced : {x y z a b d : Datum} (Holds : Datum → Datum → Datum → Type 0) → x ≡ a → y ≡ b → z ≡ d
+    → Holds x y z → Holds a b d
+replaced {x} {y} {z} {a} {b} {d} Holds x_is y_is z_is holds =
+    subst (λ t. Holds a b t) z_is (subst₂ (λ t u. Holds t u z) x_is y_is holds)
 
 -- ---- fractions
 

@@ -5,10 +5,14 @@ use Rattle.apfloat_c.specs.ArrayCalls.{wrong_length}
 use Rattle.apfloat_c.specs.Decimals.{IsText}
 use Rattle.apfloat_c.specs.KnownCalls.{answered, no_such_operation, refused_text, unknown_format, unknown_mode}
 use Rattle.apfloat_c.specs.KnownCalls.{wrong_width}
+use Rattle.apfloat_c.specs.MachineCalls.{lacking_operation, unknown_machine, wide_operand}
 
--- the error for a number that no export returns; it is the greatest code
+-- the error for a number that no export returns
 abbrev pub unknown_error : ℕ
 unknown_error = 7
+
+abbrev pub greatest_code : ℕ
+greatest_code = lacking_operation
 
 abbrev pub error_text : ℕ → List ℕ
 error_text error =
@@ -19,6 +23,9 @@ error_text error =
     else if error == wrong_width then codes "an integer cannot have this width"
     else if error == refused_text then codes "the text was refused"
     else if error == wrong_length then codes "wrong length of an array"
+    else if error == unknown_machine then codes "unknown machine"
+    else if error == wide_operand then codes "an operand is wider than its format"
+    else if error == lacking_operation then codes "the machine does not have the operation"
     else codes "unknown error code"
 
 -- the code 0 and the text of a code, or the error and the previous contents
@@ -27,7 +34,7 @@ IsTold true written old new code = (code ≡ answered) × IsText written new
 IsTold false written old new code = (code ≡ unknown_error) × (new ≡ old)
 
 abbrev pub IsErrorText : ℕ → DecimalText → DecimalText → ℕ → Type 0
-IsErrorText error old new code = IsTold (nat_le error unknown_error) (error_text error) old new code
+IsErrorText error old new code = IsTold (nat_le error greatest_code) (error_text error) old new code
 
 -- 0.1.0
 abbrev pub version : ℕ

@@ -4,5 +4,7 @@ pub mod FlaglessCalls
 pub mod ArrayCalls
 pub mod Arrays
 pub mod Decimals
+pub mod IeeeCalls
+pub mod MachineCalls
 pub mod About
 pub mod OneAnswer

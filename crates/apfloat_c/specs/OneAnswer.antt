@@ -11,12 +11,16 @@ use Rattle.apfloat_c.specs.declared.data.Answer.{Answer}
 use Rattle.apfloat_c.specs.declared.decimals.DecimalText.{DecimalText}
 use Rattle.apfloat_c.specs.declared.exported_call.ExportedCall.{ExportedCall}
 use Rattle.apfloat_c.specs.declared.flagless_call.FlaglessCall.{FlaglessCall}
+use Rattle.apfloat_c.specs.declared.ieee_call.IeeeCall.{IeeeCall}
+use Rattle.apfloat_c.specs.declared.ieee_call.InAnotherCall.{InAnotherCall}
 use Rattle.apfloat_c.specs.About.{IsErrorText}
 use Rattle.apfloat_c.specs.Answers.{IsReturned, whole}
 use Rattle.apfloat_c.specs.Arrays.{IsConvertedArray, IsMappedArray}
 use Rattle.apfloat_c.specs.Decimals.{KnownReading, IsParsed, IsShortestWritten}
 use Rattle.apfloat_c.specs.FlaglessCalls.{IsFlaglessReply}
+use Rattle.apfloat_c.specs.IeeeCalls.{IsIeeeReply, IsInAnotherReply}
 use Rattle.apfloat_c.specs.KnownCalls.{known_call}
+use Rattle.apfloat_c.specs.MachineCalls.{IsMachineReply, MachineRequest}
 
 -- two results with the same number of 128 bits, the same flags, and the same extra number
 pub record SameAnswer (first second : Answer) : Type 0 where
@@ -52,6 +56,30 @@ abbrev pub IsFlaglessReplyOnce : Type 0
 IsFlaglessReplyOnce =
     (format : Option FlaggedKind) (call : FlaglessCall) (old first second : Answer) (code other : ℕ)
     → IsFlaglessReply format call old first code → IsFlaglessReply format call old second other
+    → (code ≡ other) × SameAnswer first second
+
+-- an operation of IEEE 754-2019 that `Float` lacks
+abbrev pub IsIeeeReplyOnce : Type 0
+IsIeeeReplyOnce =
+    (format : Option FlaggedKind) (mode : Option Round) (call : Option IeeeCall) (old first second : Answer)
+    (code other : ℕ)
+    → IsIeeeReply format mode call old first code → IsIeeeReply format mode call old second other
+    → (code ≡ other) × SameAnswer first second
+
+-- an operation whose result is of another format
+abbrev pub IsInAnotherReplyOnce : Type 0
+IsInAnotherReplyOnce =
+    (format target : Option FlaggedKind) (mode : Option Round) (call : Option InAnotherCall)
+    (old first second : Answer) (code other : ℕ)
+    → IsInAnotherReply format target mode call old first code
+    → IsInAnotherReply format target mode call old second other
+    → (code ≡ other) × SameAnswer first second
+
+-- what a machine delivers
+abbrev pub IsMachineReplyOnce : Type 0
+IsMachineReplyOnce =
+    (known : Result MachineRequest ℕ) (old first second : Answer) (code other : ℕ)
+    → IsMachineReply known old first code → IsMachineReply known old second other
     → (code ≡ other) × SameAnswer first second
 
 -- the text for a code

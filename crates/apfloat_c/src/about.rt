@@ -4,7 +4,7 @@ ghost use Rattle.std.specs.Prelude.{◌≡◌, ◌<◌, length};
 ghost use Rattle.apfloat_c.specs.About.{IsErrorText, error_text, version};
 ghost use Rattle.apfloat_c.specs.Decimals.{IsText};
 
-use crate::codes::{ANSWERED, UNKNOWN_ERROR};
+use crate::codes::{ANSWERED, LACKING_OPERATION, UNKNOWN_ERROR};
 use crate::decimals::DecimalText;
 use apfloat_decimals::formatting::CAPACITY;
 
@@ -16,7 +16,7 @@ const VERSION: u32 = 1_000;
 pub extern "C" fn apfloat_error_text(error: u32, text: &mut DecimalText) -> u32
     ensures { IsErrorText error text.old text.new result }
 {
-    if error > UNKNOWN_ERROR {
+    if error > LACKING_OPERATION {
         return UNKNOWN_ERROR;
     }
     *text = text_of(error_text(error));
@@ -44,6 +44,9 @@ fn error_text(error: u32) -> &'static str
         4 => "an integer cannot have this width",
         5 => "the text was refused",
         6 => "wrong length of an array",
+        8 => "unknown machine",
+        9 => "an operand is wider than its format",
+        10 => "the machine does not have the operation",
         _ => "unknown error code",
     }
 }

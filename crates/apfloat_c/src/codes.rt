@@ -27,8 +27,17 @@ pub const REFUSED_TEXT: u32 = 5;
 /// The error for arrays whose lengths do not match.
 pub const WRONG_LENGTH: u32 = 6;
 
-/// The error for a number that no export returns, and the greatest code.
+/// The error for a number that no export returns.
 pub const UNKNOWN_ERROR: u32 = 7;
+
+/// The error for a code that is not that of a machine.
+pub const UNKNOWN_MACHINE: u32 = 8;
+
+/// The error for an operand with bits at or above the width of its format.
+pub const WIDE_OPERAND: u32 = 9;
+
+/// The error for an operation that the machine does not have, and the greatest code.
+pub const LACKING_OPERATION: u32 = 10;
 
 /// The mode of calls that take no mode.
 pub const NEAREST_EVEN: u32 = 0;

@@ -2,6 +2,9 @@
 
 ghost use Rattle.apfloat_c.specs.OneAnswer.{IsConvertedArrayOnce, IsMappedArrayOnce, IsParsedOnce, IsReplyOnce};
 ghost use Rattle.apfloat_c.specs.OneAnswer.{IsErrorTextOnce, IsFlaglessReplyOnce, IsTextOnce};
+ghost use Rattle.apfloat_c.specs.OneAnswer.{IsIeeeReplyOnce, IsInAnotherReplyOnce, IsMachineReplyOnce};
+
+use apfloat_format_of::theorems::operations_have_one_answer;
 
 /// The contract of each export allows one code and one result, text or array.
 pub fn one_answer()
@@ -9,7 +12,12 @@ pub fn one_answer()
     ensures parsed { IsParsedOnce }
     ensures text { IsTextOnce }
     ensures flagless { IsFlaglessReplyOnce }
+    ensures ieee { IsIeeeReplyOnce }
+    ensures in_another { IsInAnotherReplyOnce }
+    ensures machine { IsMachineReplyOnce }
     ensures error { IsErrorTextOnce }
     ensures converted { IsConvertedArrayOnce }
     ensures mapped { IsMappedArrayOnce }
-{}
+{
+    operations_have_one_answer();
+}

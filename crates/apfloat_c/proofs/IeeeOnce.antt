@@ -1,0 +1,133 @@
+-- An operation of IEEE 754-2019 leaves one code and one result.
+use Rattle.std.proofs.Common.{Bool, true, false, Some, None, sym, ap, ◌∙◌}
+use Rattle.rustc_apfloat.specs.declared.Round.{Round}
+use Rattle.rustc_apfloat.specs.declared.StatusAnd.{StatusAnd}
+use Rattle.rustc_apfloat.specs.Datum.{Datum}
+use Rattle.rustc_apfloat.specs.Determined.{Determines}
+use Rattle.rustc_apfloat.specs.Exponents.{IsExactInverse}
+use Rattle.rustc_apfloat.specs.Flags.{bits_of}
+use Rattle.rustc_apfloat.specs.Lawful.{Constants, format_with}
+use Rattle.apfloat_model.proofs.Determined.{gives_once, same_answer}
+use Rattle.apfloat_comparisons.specs.declared.extrema.Extremum.{Extremum}
+use Rattle.apfloat_comparisons.proofs.OneAnswer.{compared_once}
+use Rattle.apfloat_comparisons.proofs.IntegralOnce.{rounded_to_integral_once}
+use Rattle.apfloat_comparisons.proofs.Logarithms.{log_b_once, scaled_once}
+use Rattle.apfloat_format_of.specs.Theorems.{HasOneSum, HasOneDifference, HasOneProduct, HasOneQuotient}
+use Rattle.apfloat_format_of.specs.Theorems.{HasOneFusedSum, HasOneRoot}
+use Rattle.formats_at_run_time.specs.declared.FlaggedKind.TheVariants.{OfFormat, Pairs}
+use Rattle.formats_at_run_time.specs.BuiltIns.{constants_in}
+use Rattle.formats_at_run_time.specs.FlaggedKinds.{flagged_constants, format_without_rule}
+use Rattle.formats_at_run_time.specs.Relations.{in_format}
+use Rattle.formats_at_run_time.specs.ValueKinds.{value_of}
+use Rattle.apfloat_c.specs.declared.ieee_call.IeeeCall.{IeeeCall}
+use Rattle.apfloat_c.specs.declared.ieee_call.IeeeCall.TheVariants.{Predicated, TotalOrder, ExtremumOf}
+use Rattle.apfloat_c.specs.declared.ieee_call.IeeeCall.TheVariants.{LogB, ScaleB, Integral}
+use Rattle.apfloat_c.specs.declared.ieee_call.InAnotherCall.{InAnotherCall}
+use Rattle.apfloat_c.specs.declared.ieee_call.InAnotherCall.TheVariants.{SumTo, DifferenceTo, ProductTo}
+use Rattle.apfloat_c.specs.declared.ieee_call.InAnotherCall.TheVariants.{QuotientTo, FusedSumTo, RootTo}
+use Rattle.apfloat_c.specs.Answers.{IsValue, one_if}
+use Rattle.apfloat_c.specs.IeeeCalls.{IsExtremumBy, IsIeeeAnswer, IsInAnotherFormat, IsTruth}
+use Rattle.apfloat_c.specs.OneAnswer.{IsIeeeReplyOnce, IsInAnotherReplyOnce}
+use Rattle.apfloat_c.proofs.ExportsOnce.{HasLaw, OnceAnswer, format_determined, format_law, given_once, unchanged}
+use Rattle.apfloat_c.proofs.ExportsOnce.{value_once}
+
+-- if a relation has one truth value with one status, it leaves one result
+truth_once : (Holds : StatusAnd Bool → Type 0) → Determines Holds → OnceAnswer (IsTruth Holds)
+truth_once Holds determines a b x y =
+    let same = determines x.given y.given x.holds y.holds in
+    record {
+      bits = x.bits_are ∙ sym y.bits_are;
+      status = x.status_is ∙ ap (λ (d : StatusAnd Bool). bits_of d.status) same ∙ sym y.status_is;
+      number = x.number_is ∙ ap (λ (d : StatusAnd Bool). one_if d.value) same ∙ sym y.number_is;
+    }
+
+-- a minimum or a maximum has one value and one status
+extremum_once : (prefers_number : Bool) (c : Constants) (which : Extremum) (x y : Datum)
+    → Determines (IsExtremumBy prefers_number c which x y)
+extremum_once true c which x y answer other h k =
+    same_answer answer other (h.value_is ∙ sym k.value_is) (h.status_is ∙ sym k.status_is)
+extremum_once false c which x y answer other h k =
+    same_answer answer other (h.value_is ∙ sym k.value_is) (h.status_is ∙ sym k.status_is)
+
+module _ (c : Constants) (has : HasLaw c) (mode : Round) where
+  -- if a relation has one value with one status in the format, it leaves one result
+  pub in_format_once : (Holds : StatusAnd Datum → Type 0) → Determines Holds → OnceAnswer (IsValue (in_format c) Holds)
+  in_format_once Holds determines =
+      value_once (in_format c) (IsExactInverse (format_with c)) mode c.precision c.bits has.wide
+      (format_determined c has mode) Holds determines
+
+  ieee_answer_once : (call : IeeeCall) → OnceAnswer (IsIeeeAnswer c mode call)
+  ieee_answer_once (Predicated predicate on_nan x y) =
+      truth_once _ (compared_once (format_with c) predicate on_nan (value_of c x) (value_of c y))
+  ieee_answer_once (TotalOrder x y) = given_once _
+  ieee_answer_once (ExtremumOf which prefers_number x y) =
+      in_format_once _ (extremum_once prefers_number c which (value_of c x) (value_of c y))
+  ieee_answer_once (LogB x) = in_format_once _ (log_b_once (format_with c) mode (value_of c x))
+  ieee_answer_once (ScaleB x power) = in_format_once _ (scaled_once (format_with c) mode (value_of c x) power)
+  ieee_answer_once (Integral x) = in_format_once _ (rounded_to_integral_once (format_with c) mode (value_of c x))
+
+-- each operation whose result is of another format has one value and one status
+pub record EachHasOne : Type 0 where
+  pub sum : HasOneSum
+  pub difference : HasOneDifference
+  pub product : HasOneProduct
+  pub quotient : HasOneQuotient
+  pub fused_sum : HasOneFusedSum
+  pub root : HasOneRoot
+
+-- the result in a lawful format of a call on values of another
+in_another_once : EachHasOne → (from c : Constants) (has : HasLaw c) (mode : Round) (call : InAnotherCall)
+    → OnceAnswer (IsInAnotherFormat from c mode call)
+in_another_once one from c has mode (SumTo x y) =
+    let f = format_with from in
+    in_format_once c has mode _
+    (gives_once _ (one.sum f f (format_with c) mode (value_of from x) (value_of from y)))
+in_another_once one from c has mode (DifferenceTo x y) =
+    let f = format_with from in
+    in_format_once c has mode _
+    (gives_once _ (one.difference f f (format_with c) mode (value_of from x) (value_of from y)))
+in_another_once one from c has mode (ProductTo x y) =
+    let f = format_with from in
+    in_format_once c has mode _
+    (gives_once _ (one.product f f (format_with c) mode (value_of from x) (value_of from y)))
+in_another_once one from c has mode (QuotientTo x y) =
+    let f = format_with from in
+    in_format_once c has mode _
+    (gives_once _ (one.quotient f f (format_with c) mode (value_of from x) (value_of from y)))
+in_another_once one from c has mode (FusedSumTo x y z) =
+    let f = format_with from in
+    in_format_once c has mode _
+    (gives_once _
+    (one.fused_sum f f f (format_with c) mode (value_of from x) (value_of from y) (value_of from z)))
+in_another_once one from c has mode (RootTo x) =
+    in_format_once c has mode _ (gives_once _ (one.root (format_with from) (format_with c) mode (value_of from x)))
+
+-- two replies to the same arguments are the same
+pub ieee_reply_once : IsIeeeReplyOnce
+ieee_reply_once None mode call old a b code other x y = (x.0 ∙ sym y.0, unchanged old a b x.1 y.1)
+ieee_reply_once (Some (OfFormat f)) None call old a b code other x y = (x.0 ∙ sym y.0, unchanged old a b x.1 y.1)
+ieee_reply_once (Some Pairs) None call old a b code other x y = (x.0 ∙ sym y.0, unchanged old a b x.1 y.1)
+ieee_reply_once (Some Pairs) (Some mode) call old a b code other x y =
+    (x.0 ∙ sym y.0, unchanged old a b x.1 y.1)
+ieee_reply_once (Some (OfFormat f)) (Some mode) None old a b code other x y =
+    (x.0 ∙ sym y.0, unchanged old a b x.1 y.1)
+ieee_reply_once (Some (OfFormat f)) (Some mode) (Some call) old a b code other x y =
+    (x.0 ∙ sym y.0, ieee_answer_once (flagged_constants f) (format_law f) mode call a b x.1 y.1)
+
+pub in_another_reply_once : EachHasOne → IsInAnotherReplyOnce
+in_another_reply_once one None target mode call old a b code other x y =
+    (x.0 ∙ sym y.0, unchanged old a b x.1 y.1)
+in_another_reply_once one (Some kind) None mode call old a b code other x y =
+    (x.0 ∙ sym y.0, unchanged old a b x.1 y.1)
+in_another_reply_once one (Some kind) (Some target) None call old a b code other x y =
+    (x.0 ∙ sym y.0, unchanged old a b x.1 y.1)
+in_another_reply_once one (Some kind) (Some target) (Some mode) None old a b code other x y =
+    (x.0 ∙ sym y.0, unchanged old a b x.1 y.1)
+in_another_reply_once one (Some Pairs) (Some target) (Some mode) (Some call) old a b code other x y =
+    (x.0 ∙ sym y.0, unchanged old a b x.1 y.1)
+in_another_reply_once one (Some (OfFormat f)) (Some Pairs) (Some mode) (Some call) old a b code other x y =
+    (x.0 ∙ sym y.0, unchanged old a b x.1 y.1)
+in_another_reply_once one (Some (OfFormat f)) (Some (OfFormat g)) (Some mode) (Some call) old a b code other x y = (
+  x.0 ∙ sym y.0,
+  in_another_once one (constants_in (format_without_rule f)) (flagged_constants g) (format_law g) mode call a b x.1 y.1,
+)

@@ -1,0 +1,282 @@
+//! The operations of machines, by which the contract of their export names them, and the codes of machines, operations
+//! and rules of minima.
+
+ghost use Rattle.std.specs.Prelude.{◌≡◌, ◌&&◌};
+ghost use Rattle.formats_at_run_time.specs.FlaggedKinds.{flagged_constants};
+ghost use Rattle.formats_at_run_time.specs.ValueKinds.{of_format};
+ghost use Rattle.apfloat_c.specs.MachineCalls.{call_fits, conversion_call, fits, format_on, greatest_by};
+ghost use Rattle.apfloat_c.specs.MachineCalls.{is_tiny_before, least_by, machine_call, machine_coded, machine_format};
+ghost use Rattle.apfloat_c.specs.MachineCalls.{machine_operation, operands_fit, operation_call, rule_coded};
+ghost use Rattle.apfloat_c.specs.MachineCalls.{width_of};
+
+use crate::codes::{NO_SUCH_OPERATION, UNKNOWN_FORMAT};
+use apfloat_machines::{Machine, MinimumRule};
+use formats_at_run_time::{
+    Arithmetic, BuiltInKind, FillsInFormat, FlaggedFormat, FlaggedKind, IeeeFormat,
+};
+
+/// The code of conversions to another format.
+const CONVERSION: u32 = 11;
+
+/// What a machine is asked for on values of a format; they are given by their bits.
+#[derive(Clone, Copy)]
+pub enum MachineCall {
+    /// An operation whose result is an integer, or of the same format.
+    Operation(MachineOperation),
+    /// A value in another format.
+    Conversion(u128, MachineFormat),
+}
+
+/// An operation of a machine on values of a format, whose result is an integer, or of the same format.
+#[derive(Clone, Copy)]
+pub enum MachineOperation {
+    /// An operation on two values.
+    OfTwo(Arithmetic, u128, u128),
+    /// The product of the first two values plus the third, rounded once.
+    FusedSum(u128, u128, u128),
+    /// The square root of a value.
+    SquareRoot(u128),
+    /// A value rounded to an integral value, with INEXACT (5.9, roundToIntegralExact).
+    IntegralExact(u128),
+    /// A value rounded to an integral value, without INEXACT (5.9).
+    Integral(u128),
+    /// A value as an integer of that many binary digits.
+    ToUnsigned(u128, u32),
+    /// A value as an integer of that many binary digits, in two's complement.
+    ToSigned(u128, u32),
+    /// The lesser of two values, by a rule.
+    Least(MinimumRule, u128, u128),
+    /// The greater of two values, by a rule.
+    Greatest(MinimumRule, u128, u128),
+}
+
+/// A format with infinities, as its code names it.
+#[derive(Clone, Copy)]
+pub struct MachineFormat {
+    /// The format.
+    pub format: IeeeFormat,
+    /// Whether a result is tiny by its exact magnitude, if the code has a rule of flags; otherwise the machine says it.
+    pub tiny_before: Option<bool>,
+}
+
+impl MachineFormat {
+    /// The format of this kind, if it has infinities.
+    pub fn of(kind: FlaggedKind) -> Option<MachineFormat>
+        ensures { result ≡ machine_format kind }
+    {
+        match kind {
+            FlaggedKind::Pairs => None,
+            FlaggedKind::OfFormat(FlaggedFormat::BuiltIn(format)) => {
+                match IeeeFormat::of(BuiltInKind::OfFormat(format)) {
+                    None => None,
+                    Some(format) => Some(MachineFormat {
+                        format,
+                        tiny_before: None,
+                    }),
+                }
+            }
+            FlaggedKind::OfFormat(FlaggedFormat::AfterRounding(format)) => Some(MachineFormat {
+                format,
+                tiny_before: Some(false),
+            }),
+            FlaggedKind::OfFormat(FlaggedFormat::BeforeRounding(format)) => Some(MachineFormat {
+                format,
+                tiny_before: Some(true),
+            }),
+        }
+    }
+
+    /// Makes a call that fills a lent place, in the format with its rule of flags on a machine.
+    #[inline(always)]
+    pub fn fill<C: FillsInFormat>(
+        self,
+        machine: Machine,
+        call: C,
+        place: &mut C::Place,
+    ) -> C::Output
+        ensures { C.gives call (of_format (flagged_constants (format_on machine self)))
+            place.old place.new result }
+    {
+        self.on(machine).fill(call, place)
+    }
+
+    /// The format with its rule of flags on a machine.
+    fn on(self, machine: Machine) -> FlaggedFormat
+        ensures { result ≡ format_on machine self }
+    {
+        if self.is_tiny_before(machine) {
+            FlaggedFormat::BeforeRounding(self.format)
+        } else {
+            FlaggedFormat::AfterRounding(self.format)
+        }
+    }
+
+    /// Whether a result is tiny by its exact magnitude on a machine.
+    fn is_tiny_before(self, machine: Machine) -> bool
+        ensures { result ≡ is_tiny_before machine self.tiny_before }
+    {
+        match self.tiny_before {
+            None => machine.tiny_before_rounding(),
+            Some(tiny_before) => tiny_before,
+        }
+    }
+}
+
+/// The machine of this code, if there is one.
+pub fn machine_coded(code: u32) -> Option<Machine>
+    ensures { result ≡ machine_coded code }
+{
+    match code {
+        1 => Some(Machine::X86),
+        2 => Some(Machine::X87),
+        3 => Some(Machine::Arm),
+        4 => Some(Machine::ArmDefaultNan),
+        5 => Some(Machine::ArmAlternate),
+        6 => Some(Machine::RiscV),
+        7 => Some(Machine::Power),
+        8 => Some(Machine::S390x),
+        _ => None,
+    }
+}
+
+/// The rule of minima of this code, if there is one.
+pub fn rule_coded(code: u32) -> Option<MinimumRule>
+    ensures { result ≡ rule_coded code }
+{
+    match code {
+        1 => Some(MinimumRule::Second),
+        2 => Some(MinimumRule::SecondQuietly),
+        3 => Some(MinimumRule::FirstNan),
+        4 => Some(MinimumRule::Number2008),
+        5 => Some(MinimumRule::Number2019),
+        6 => Some(MinimumRule::Propagated),
+        _ => None,
+    }
+}
+
+/// What this code asks for on values, of which it takes the first ones, or the error: `to` is the code of the format of
+/// a conversion, the binary digits of an integer, or the code of a rule of minima.
+pub fn machine_call(code: u32, to: u32, x: u128, y: u128, z: u128) -> Result<MachineCall, u32>
+    ensures { result ≡ machine_call code to x y z }
+{
+    if code == CONVERSION {
+        conversion_call(FlaggedKind::coded(to), x)
+    } else {
+        operation_call(machine_operation(code, to, x, y, z))
+    }
+}
+
+/// The call that makes an operation, if it is known.
+fn operation_call(operation: Option<MachineOperation>) -> Result<MachineCall, u32>
+    ensures { result ≡ operation_call operation }
+{
+    match operation {
+        None => Err(NO_SUCH_OPERATION),
+        Some(operation) => Ok(MachineCall::Operation(operation)),
+    }
+}
+
+/// The operation of this code, if there is one.
+fn machine_operation(code: u32, to: u32, x: u128, y: u128, z: u128) -> Option<MachineOperation>
+    ensures { result ≡ machine_operation code to x y z }
+{
+    match code {
+        1 => Some(MachineOperation::OfTwo(Arithmetic::Sum, x, y)),
+        2 => Some(MachineOperation::OfTwo(Arithmetic::Difference, x, y)),
+        3 => Some(MachineOperation::OfTwo(Arithmetic::Product, x, y)),
+        4 => Some(MachineOperation::OfTwo(Arithmetic::Quotient, x, y)),
+        5 => Some(MachineOperation::OfTwo(Arithmetic::NearestRemainder, x, y)),
+        6 => Some(MachineOperation::OfTwo(Arithmetic::TruncatedRemainder, x, y)),
+        7 => Some(MachineOperation::FusedSum(x, y, z)),
+        8 => Some(MachineOperation::SquareRoot(x)),
+        9 => Some(MachineOperation::IntegralExact(x)),
+        10 => Some(MachineOperation::Integral(x)),
+        12 => Some(MachineOperation::ToUnsigned(x, to)),
+        13 => Some(MachineOperation::ToSigned(x, to)),
+        14 => least_by(rule_coded(to), x, y),
+        15 => greatest_by(rule_coded(to), x, y),
+        _ => None,
+    }
+}
+
+/// The lesser of two values by a rule, if it is known.
+fn least_by(rule: Option<MinimumRule>, x: u128, y: u128) -> Option<MachineOperation>
+    ensures { result ≡ least_by rule x y }
+{
+    match rule {
+        None => None,
+        Some(rule) => Some(MachineOperation::Least(rule, x, y)),
+    }
+}
+
+/// The greater of two values by a rule, if it is known.
+fn greatest_by(rule: Option<MinimumRule>, x: u128, y: u128) -> Option<MachineOperation>
+    ensures { result ≡ greatest_by rule x y }
+{
+    match rule {
+        None => None,
+        Some(rule) => Some(MachineOperation::Greatest(rule, x, y)),
+    }
+}
+
+/// The conversion of a value to a kind, which may be unknown.
+fn conversion_call(target: Option<FlaggedKind>, x: u128) -> Result<MachineCall, u32>
+    ensures { result ≡ conversion_call target x }
+{
+    let Some(target) = target else {
+        return Err(UNKNOWN_FORMAT);
+    };
+    match MachineFormat::of(target) {
+        None => Err(NO_SUCH_OPERATION),
+        Some(target) => Ok(MachineCall::Conversion(x, target)),
+    }
+}
+
+/// Whether the operands of a call have no bits at or above the width of the format.
+pub fn call_fits(format: IeeeFormat, call: MachineCall) -> bool
+    ensures { result ≡ call_fits (width_of format) call }
+{
+    match call {
+        MachineCall::Operation(operation) => operands_fit(format, operation),
+        MachineCall::Conversion(x, _) => fits(format, x),
+    }
+}
+
+/// Whether the operands of an operation have no bits at or above the width of the format.
+fn operands_fit(format: IeeeFormat, operation: MachineOperation) -> bool
+    ensures { result ≡ operands_fit (width_of format) operation }
+{
+    match operation {
+        MachineOperation::OfTwo(_, x, y) => both_fit(format, x, y),
+        MachineOperation::FusedSum(x, y, z) => fits(format, x) && both_fit(format, y, z),
+        MachineOperation::SquareRoot(x) => fits(format, x),
+        MachineOperation::IntegralExact(x) => fits(format, x),
+        MachineOperation::Integral(x) => fits(format, x),
+        MachineOperation::ToUnsigned(x, _) => fits(format, x),
+        MachineOperation::ToSigned(x, _) => fits(format, x),
+        MachineOperation::Least(_, x, y) => both_fit(format, x, y),
+        MachineOperation::Greatest(_, x, y) => both_fit(format, x, y),
+    }
+}
+
+/// Whether neither has bits at or above the width of the format.
+fn both_fit(format: IeeeFormat, x: u128, y: u128) -> bool
+    ensures { result ≡ (fits (width_of format) x && fits (width_of format) y) }
+{
+    fits(format, x) && fits(format, y)
+}
+
+/// Whether the bits are those of a value of the format, with nothing above them.
+fn fits(format: IeeeFormat, bits: u128) -> bool
+    ensures { result ≡ fits (width_of format) bits }
+{
+    match format {
+        IeeeFormat::Half => bits < 1 << 16,
+        IeeeFormat::Single => bits < 1 << 32,
+        IeeeFormat::Double => bits < 1 << 64,
+        IeeeFormat::Quad => true,
+        IeeeFormat::BFloat => bits < 1 << 16,
+        IeeeFormat::E5M2 => bits < 1 << 8,
+        IeeeFormat::X87 => bits < 1 << 80,
+    }
+}

@@ -1,0 +1,477 @@
+//! What machines deliver, and the export that makes it.
+
+ghost use Rattle.std.specs.Prelude.{◌≡◌, ◌<◌, ◌≤◌};
+ghost use Rattle.apfloat_model.specs.declared.kinds.NonfiniteBehavior.TheVariants.{IEEE754};
+ghost use Rattle.rustc_apfloat.specs.Flags.{Gives};
+ghost use Rattle.rustc_apfloat.specs.FlaggedTypes.{constants_of, format_of};
+ghost use Rattle.rustc_apfloat.specs.Lawful.{format_with};
+ghost use Rattle.apfloat_machines.specs.Machines.{has_unsigned};
+ghost use Rattle.apfloat_machines.specs.Operations.{IsOffered};
+ghost use Rattle.apfloat_machines.specs.WholeNumbers.{IsMachineSigned, IsMachineUnsigned};
+ghost use Rattle.formats_at_run_time.specs.FlaggedKinds.{flagged_constants, flagged_kind_coded};
+ghost use Rattle.formats_at_run_time.specs.Modes.{mode_coded};
+ghost use Rattle.formats_at_run_time.specs.ValueKinds.{of_format, value_of};
+ghost use Rattle.apfloat_c.specs.declared.machine_call.MachineOperation.TheVariants.{OfTwo, FusedSum, SquareRoot};
+ghost use Rattle.apfloat_c.specs.declared.machine_call.MachineOperation.TheVariants.{IntegralExact, Integral};
+ghost use Rattle.apfloat_c.specs.declared.machine_call.MachineOperation.TheVariants.{ToUnsigned, ToSigned};
+ghost use Rattle.apfloat_c.specs.declared.machine_call.MachineOperation.TheVariants.{Least, Greatest};
+ghost use Rattle.apfloat_c.specs.Answers.{IsLeftBy, whole};
+ghost use Rattle.apfloat_c.specs.MachineCalls.{IsMachineAnswer, IsMachineCallAnswer, IsMachineConverted};
+ghost use Rattle.apfloat_c.specs.MachineCalls.{IsMachineConvertedFrom, IsMachineLeft, IsMachineLeftIn};
+ghost use Rattle.apfloat_c.specs.MachineCalls.{IsMachineReply, call_fault, format_on, known_machine_call};
+ghost use Rattle.apfloat_c.specs.MachineCalls.{machine_call, machine_coded};
+
+use crate::codes::{
+    ANSWERED, LACKING_OPERATION, NO_SUCH_OPERATION, UNKNOWN_FORMAT, UNKNOWN_MACHINE, UNKNOWN_MODE,
+    WIDE_OPERAND, WRONG_WIDTH, is_width,
+};
+use crate::data::{Answer, Halves};
+use crate::ieee_answers::{value, written};
+use crate::machine_call::{
+    MachineCall, MachineFormat, MachineOperation, call_fits, machine_call, machine_coded,
+};
+use apfloat_comparisons::round_to_integral_in;
+use apfloat_machines::{
+    Machine, MinimumRule, greatest, least, settled, settled_conversion, settled_fused,
+    settled_signed, settled_unary, settled_unsigned,
+};
+use formats_at_run_time::{Arithmetic, FillsInFormat, FlaggedFormat, FlaggedKind, mode_coded};
+use rustc_apfloat::ieee::{Flagged, IeeeFloat};
+use rustc_apfloat::{Float, FloatConvert, Round, StatusAnd};
+use std::marker::PhantomData;
+
+/// An operation of a machine.
+#[derive(Clone, Copy)]
+struct OnMachine {
+    machine: Machine,
+    round: Round,
+    operation: MachineOperation,
+}
+
+impl FillsInFormat for OnMachine {
+    type Place = Answer;
+
+    type Output = u32;
+
+    ghost gives = { λ it kind old new code.
+        IsMachineLeftIn kind it.machine it.round it.operation old new code };
+
+    #[inline(always)]
+    fn fill_in_format<S: Flagged>(self, answer: &mut Answer) -> u32 {
+        let OnMachine {
+            machine,
+            round,
+            operation,
+        } = self;
+        match operation {
+            MachineOperation::OfTwo(arithmetic, x, y) => {
+                of_two::<S>(answer, machine, round, arithmetic, x, y);
+                ANSWERED
+            }
+            MachineOperation::FusedSum(x, y, z) => {
+                fused_sum::<S>(answer, machine, round, x, y, z)
+            }
+            MachineOperation::SquareRoot(x) => {
+                root::<S>(answer, machine, round, x);
+                ANSWERED
+            }
+            MachineOperation::IntegralExact(x) => {
+                integral_exact::<S>(answer, machine, round, x);
+                ANSWERED
+            }
+            MachineOperation::Integral(x) => {
+                integral::<S>(answer, machine, round, x);
+                ANSWERED
+            }
+            MachineOperation::ToUnsigned(x, width) => {
+                to_unsigned::<S>(answer, machine, round, x, width)
+            }
+            MachineOperation::ToSigned(x, width) => {
+                to_signed::<S>(answer, machine, round, x, width)
+            }
+            MachineOperation::Least(rule, x, y) => {
+                lesser::<S>(answer, machine, round, rule, x, y);
+                ANSWERED
+            }
+            MachineOperation::Greatest(rule, x, y) => {
+                greater::<S>(answer, machine, round, rule, x, y);
+                ANSWERED
+            }
+        }
+    }
+}
+
+/// An operation on two values.
+#[inline(never)]
+fn of_two<S: Flagged>(
+    answer: &mut Answer,
+    machine: Machine,
+    round: Round,
+    arithmetic: Arithmetic,
+    x: u128,
+    y: u128,
+)
+    requires { S.PRECISION < S.BITS }
+    ensures { (format_of S.Flagged).nonfinite ≡ IEEE754
+        → IsMachineAnswer (constants_of S.Flagged) machine round (OfTwo arithmetic x y) answer.new }
+{
+    let (x, y) = (value::<S>(x), value::<S>(y));
+    *answer = written(settled(machine, x, y, arithmetic.answer(x, y, round)));
+}
+
+/// A product plus a third value, rounded once.
+#[inline(never)]
+fn fused_sum<S: Flagged>(
+    answer: &mut Answer,
+    machine: Machine,
+    round: Round,
+    x: u128,
+    y: u128,
+    z: u128,
+) -> u32
+    requires { S.PRECISION < S.BITS }
+    ensures { (format_of S.Flagged).nonfinite ≡ IEEE754
+        → IsMachineLeft (constants_of S.Flagged) machine round (FusedSum x y z)
+        answer.old answer.new result }
+{
+    let (x, y, z) = (value::<S>(x), value::<S>(y), value::<S>(z));
+    match settled_fused(machine, x, y, z, x.wide_mul_add_r(y, z, round)) {
+        None => LACKING_OPERATION,
+        Some(sum) => {
+            *answer = written(sum);
+            ANSWERED
+        }
+    }
+}
+
+/// The square root of a value.
+#[inline(never)]
+fn root<S: Flagged>(answer: &mut Answer, machine: Machine, round: Round, x: u128)
+    requires { S.PRECISION < S.BITS }
+    ensures { (format_of S.Flagged).nonfinite ≡ IEEE754
+        → IsMachineAnswer (constants_of S.Flagged) machine round (SquareRoot x) answer.new }
+{
+    let x = value::<S>(x);
+    *answer = written(settled_unary(machine, x, x.sqrt_r(round)));
+}
+
+/// A value rounded to an integral value, with INEXACT.
+#[inline(never)]
+fn integral_exact<S: Flagged>(answer: &mut Answer, machine: Machine, round: Round, x: u128)
+    requires { S.PRECISION < S.BITS }
+    ensures { (format_of S.Flagged).nonfinite ≡ IEEE754
+        → IsMachineAnswer (constants_of S.Flagged) machine round (IntegralExact x) answer.new }
+{
+    let x = value::<S>(x);
+    *answer = written(settled_unary(machine, x, x.round_to_integral(round)));
+}
+
+/// A value rounded to an integral value, without INEXACT.
+#[inline(never)]
+fn integral<S: Flagged>(answer: &mut Answer, machine: Machine, round: Round, x: u128)
+    requires { S.PRECISION < S.BITS }
+    ensures { (format_of S.Flagged).nonfinite ≡ IEEE754
+        → IsMachineAnswer (constants_of S.Flagged) machine round (Integral x) answer.new }
+{
+    let x = value::<S>(x);
+    *answer = written(settled_unary(machine, x, round_to_integral_in(x, round)));
+}
+
+/// A value as an integer.
+#[inline(never)]
+fn to_unsigned<S: Flagged>(
+    answer: &mut Answer,
+    machine: Machine,
+    round: Round,
+    x: u128,
+    width: u32,
+) -> u32
+    requires { S.PRECISION < S.BITS }
+    ensures { IsMachineLeft (constants_of S.Flagged) machine round (ToUnsigned x width)
+        answer.old answer.new result }
+{
+    if !is_width(1, width) {
+        return WRONG_WIDTH;
+    }
+    match unsigned_integer::<S>(machine, round, x, width as usize) {
+        None => LACKING_OPERATION,
+        Some(integer) => {
+            *answer = Answer::of(integer.value, integer.status, 0);
+            ANSWERED
+        }
+    }
+}
+
+/// The integer, if the machine has unsigned ones.
+fn unsigned_integer<S: Flagged>(
+    machine: Machine,
+    round: Round,
+    x: u128,
+    width: usize,
+) -> Option<StatusAnd<u128>>
+    requires bits { S.PRECISION < S.BITS }
+    requires low { 1 ≤ width }
+    requires high { width ≤ 128 }
+    ensures { let c = constants_of S.Flagged in
+        let says = IsMachineUnsigned (format_with c) machine round width (value_of c x) in
+        IsOffered (has_unsigned machine) (λ given. Gives says given) result }
+{
+    let x = value::<S>(x);
+    let mut is_exact = false;
+    let plain = x.to_u128_r(width, round, &mut is_exact);
+    settled_unsigned(machine, x, width, plain)
+}
+
+/// A value as a signed integer.
+#[inline(never)]
+fn to_signed<S: Flagged>(
+    answer: &mut Answer,
+    machine: Machine,
+    round: Round,
+    x: u128,
+    width: u32,
+) -> u32
+    requires { S.PRECISION < S.BITS }
+    ensures { IsMachineLeft (constants_of S.Flagged) machine round (ToSigned x width)
+        answer.old answer.new result }
+{
+    if !is_width(2, width) {
+        return WRONG_WIDTH;
+    }
+    let integer = signed_integer::<S>(machine, round, x, width as usize);
+    *answer = Answer::of(integer.value.cast_unsigned(), integer.status, 0);
+    ANSWERED
+}
+
+/// The signed integer.
+fn signed_integer<S: Flagged>(
+    machine: Machine,
+    round: Round,
+    x: u128,
+    width: usize,
+) -> StatusAnd<i128>
+    requires bits { S.PRECISION < S.BITS }
+    requires low { 2 ≤ width }
+    requires high { width ≤ 128 }
+    ensures { let c = constants_of S.Flagged in
+        Gives (IsMachineSigned (format_with c) machine round width (value_of c x)) result }
+{
+    let x = value::<S>(x);
+    let mut is_exact = false;
+    let plain = x.to_i128_r(width, round, &mut is_exact);
+    settled_signed(machine, x, width, plain)
+}
+
+/// The lesser of two values, by a rule.
+#[inline(never)]
+fn lesser<S: Flagged>(
+    answer: &mut Answer,
+    machine: Machine,
+    round: Round,
+    rule: MinimumRule,
+    x: u128,
+    y: u128,
+)
+    requires { S.PRECISION < S.BITS }
+    ensures { IsMachineAnswer (constants_of S.Flagged) machine round (Least rule x y) answer.new }
+{
+    let (x, y) = (value::<S>(x), value::<S>(y));
+    *answer = written(least(rule, machine, x, y));
+}
+
+/// The greater of two values, by a rule.
+#[inline(never)]
+fn greater<S: Flagged>(
+    answer: &mut Answer,
+    machine: Machine,
+    round: Round,
+    rule: MinimumRule,
+    x: u128,
+    y: u128,
+)
+    requires { S.PRECISION < S.BITS }
+    ensures { IsMachineAnswer (constants_of S.Flagged) machine round (Greatest rule x y)
+        answer.new }
+{
+    let (x, y) = (value::<S>(x), value::<S>(y));
+    *answer = written(greatest(rule, machine, x, y));
+}
+
+/// A conversion, from any format to a known one.
+#[derive(Clone, Copy)]
+struct ConversionTo {
+    target: MachineFormat,
+    machine: Machine,
+    round: Round,
+    x: u128,
+}
+
+impl FillsInFormat for ConversionTo {
+    type Place = Answer;
+
+    type Output = ();
+
+    ghost gives = { λ it kind old new _.
+        let target = of_format (flagged_constants (format_on it.machine it.target)) in
+        IsMachineConvertedFrom kind it.machine it.round it.x target new };
+
+    #[inline(always)]
+    fn fill_in_format<S: Flagged>(self, answer: &mut Answer) {
+        let ConversionTo {
+            target,
+            machine,
+            round,
+            x,
+        } = self;
+        let source = PhantomData;
+        target.fill(
+            machine,
+            ConversionOf::<S> {
+                source,
+                machine,
+                round,
+                x,
+            },
+            answer,
+        );
+    }
+}
+
+/// The conversion of a value of the format `S`.
+#[derive(Drop)]
+struct ConversionOf<S: Flagged> {
+    source: PhantomData<S>,
+    machine: Machine,
+    round: Round,
+    x: u128,
+    ghost has_bits: { S.PRECISION < S.BITS },
+}
+
+impl<S: Flagged> FillsInFormat for ConversionOf<S> {
+    type Place = Answer;
+
+    type Output = ();
+
+    ghost gives = { λ it kind old new _. let c = constants_of S.Flagged in
+        IsMachineConverted c it.machine it.round (value_of c it.x) kind new };
+
+    #[inline(always)]
+    fn fill_in_format<T: Flagged>(self, answer: &mut Answer) {
+        converted::<S, T>(answer, self.machine, self.round, self.x)
+    }
+}
+
+/// A value of the format `S` in the format `T`.
+#[inline(never)]
+fn converted<S: Flagged, T: Flagged>(answer: &mut Answer, machine: Machine, round: Round, x: u128)
+    requires source { S.PRECISION < S.BITS }
+    requires target { T.PRECISION < T.BITS }
+    ensures { let c = constants_of S.Flagged in
+        IsMachineConverted c machine round (value_of c x) (of_format (constants_of T.Flagged))
+        answer.new }
+{
+    let x = value::<S>(x);
+    let mut loses_info = false;
+    let plain: StatusAnd<IeeeFloat<T>> = x.convert_r(round, &mut loses_info);
+    *answer = written(settled_conversion(machine, x, plain));
+}
+
+/// Makes a call on a machine, and returns 0 or the code of the first error; on an error the answer is left unchanged.
+#[inline(always)]
+fn reply(
+    format: Option<FlaggedKind>,
+    mode: Option<Round>,
+    call: Result<MachineCall, u32>,
+    machine: Option<Machine>,
+    answer: &mut Answer,
+) -> u32
+    ensures { IsMachineReply (known_machine_call format mode call machine)
+        answer.old answer.new result }
+{
+    let Some(kind) = format else {
+        return UNKNOWN_FORMAT;
+    };
+    let Some(round) = mode else {
+        return UNKNOWN_MODE;
+    };
+    let Some(format) = MachineFormat::of(kind) else {
+        return NO_SUCH_OPERATION;
+    };
+    let call = match call {
+        Ok(call) => call,
+        Err(fault) => return fault,
+    };
+    let Some(machine) = machine else {
+        return UNKNOWN_MACHINE;
+    };
+    if !call_fits(format.format, call) {
+        return WIDE_OPERAND;
+    }
+    made(machine, format, round, call, answer)
+}
+
+/// Makes a call whose operands fit, and returns 0, or the error for a width that no integer may have, or for an
+/// operation that the machine does not have.
+#[inline(always)]
+fn made(
+    machine: Machine,
+    format: MachineFormat,
+    round: Round,
+    call: MachineCall,
+    answer: &mut Answer,
+) -> u32
+    ensures { IsLeftBy (call_fault machine call) (IsMachineCallAnswer machine format round call)
+        answer.old answer.new result }
+{
+    match call {
+        MachineCall::Operation(operation) => format.fill(
+            machine,
+            OnMachine {
+                machine,
+                round,
+                operation,
+            },
+            answer,
+        ),
+        MachineCall::Conversion(x, target) => {
+            let source = FlaggedFormat::AfterRounding(format.format).built_in();
+            source.fill(
+                ConversionTo {
+                    target,
+                    machine,
+                    round,
+                    x,
+                },
+                answer,
+            );
+            ANSWERED
+        }
+    }
+}
+
+/// What a machine delivers for an operation on values of a format, NaNs and flags included (`docs/MACHINES.md`). `to`
+/// is the format of a conversion, the width of an integer, or the rule of a minimum or a maximum.
+#[unsafe(no_mangle)]
+pub extern "C" fn apfloat_machine(
+    machine: u32,
+    operation: u32,
+    format: u32,
+    mode: u32,
+    to: u32,
+    x: Halves,
+    y: Halves,
+    z: Halves,
+    answer: &mut Answer,
+) -> u32
+    ensures { let call = machine_call operation to (whole x) (whole y) (whole z) in
+        IsMachineReply (known_machine_call (flagged_kind_coded format) (mode_coded mode) call
+        (machine_coded machine)) answer.old answer.new result }
+{
+    reply(
+        FlaggedKind::coded(format),
+        mode_coded(mode),
+        machine_call(operation, to, x.number(), y.number(), z.number()),
+        machine_coded(machine),
+        answer,
+    )
+}

@@ -1,0 +1,456 @@
+/* The interface of Berkeley SoftFloat 3e, made of calls of libapfloat. README.md here says how to build it. */
+#include "softfloat.h"
+
+#include "apfloat.h"
+
+/* ---- which NaNs and which integers: one of the ways in which SoftFloat is built */
+
+#if defined(SOFTFLOAT_ARM_VFPV2)
+#define WAY APFLOAT_MACHINE_ARM
+#define WAY_OF_EXTF80 APFLOAT_MACHINE_ARM
+#define TININESS softfloat_tininess_beforeRounding
+#elif defined(SOFTFLOAT_ARM_VFPV2_DEFAULTNAN)
+#define WAY APFLOAT_MACHINE_ARM_DEFAULT_NAN
+#define WAY_OF_EXTF80 APFLOAT_MACHINE_ARM_DEFAULT_NAN
+#define TININESS softfloat_tininess_beforeRounding
+#elif defined(SOFTFLOAT_8086)
+#define WAY APFLOAT_MACHINE_X87
+#define WAY_OF_EXTF80 APFLOAT_MACHINE_X87
+#define TININESS softfloat_tininess_afterRounding
+#elif defined(SOFTFLOAT_RISCV)
+#define WAY APFLOAT_MACHINE_RISC_V
+#define WAY_OF_EXTF80 APFLOAT_MACHINE_RISC_V
+#define TININESS softfloat_tininess_afterRounding
+#else /* 8086-SSE */
+#define WAY APFLOAT_MACHINE_X86
+#define WAY_OF_EXTF80 APFLOAT_MACHINE_X87
+#define TININESS softfloat_tininess_afterRounding
+#endif
+
+/* ---- the state of a thread */
+
+THREAD_LOCAL uint_fast8_t softfloat_detectTininess = TININESS;
+THREAD_LOCAL uint_fast8_t softfloat_roundingMode = softfloat_round_near_even;
+THREAD_LOCAL uint_fast8_t softfloat_exceptionFlags = 0;
+THREAD_LOCAL uint_fast8_t extF80_roundingPrecision = 80;
+
+void softfloat_raiseFlags(uint_fast8_t flags) {
+    softfloat_exceptionFlags |= flags;
+}
+
+static void raise_status(uint32_t status) {
+    uint_fast8_t flags = 0;
+    if (status & APFLOAT_INEXACT) flags |= softfloat_flag_inexact;
+    if (status & APFLOAT_UNDERFLOW) flags |= softfloat_flag_underflow;
+    if (status & APFLOAT_OVERFLOW) flags |= softfloat_flag_overflow;
+    if (status & APFLOAT_DIV_BY_ZERO) flags |= softfloat_flag_infinite;
+    if (status & APFLOAT_INVALID_OP) flags |= softfloat_flag_invalid;
+    if (flags) softfloat_raiseFlags(flags);
+}
+
+/* The result, with its flags raised. */
+static apfloat_halves raised(apfloat_answer answer) {
+    raise_status(answer.status);
+    return answer.bits;
+}
+
+/* ---- values as halves */
+
+#if defined(__BYTE_ORDER__) && __BYTE_ORDER__ == __ORDER_BIG_ENDIAN__
+enum { LOW = 1, HIGH = 0 };
+#else
+enum { LOW = 0, HIGH = 1 };
+#endif
+
+#define CODE_f16 APFLOAT_HALF
+#define CODE_f32 APFLOAT_SINGLE
+#define CODE_f64 APFLOAT_DOUBLE
+#define CODE_extF80 APFLOAT_X87
+#define CODE_f128 APFLOAT_QUAD
+
+static apfloat_halves of_low(uint64_t low) {
+    const apfloat_halves halves = {low, 0};
+    return halves;
+}
+
+static apfloat_halves of_f16(float16_t a) {
+    return of_low(a.v);
+}
+static apfloat_halves of_f32(float32_t a) {
+    return of_low(a.v);
+}
+static apfloat_halves of_f64(float64_t a) {
+    return of_low(a.v);
+}
+static apfloat_halves of_extF80(extFloat80_t a) {
+    const apfloat_halves halves = {a.signif, a.signExp};
+    return halves;
+}
+static apfloat_halves of_f128(float128_t a) {
+    const apfloat_halves halves = {a.v[LOW], a.v[HIGH]};
+    return halves;
+}
+
+static float16_t as_f16(apfloat_halves bits) {
+    const float16_t a = {(uint16_t)bits.low};
+    return a;
+}
+static float32_t as_f32(apfloat_halves bits) {
+    const float32_t a = {(uint32_t)bits.low};
+    return a;
+}
+static float64_t as_f64(apfloat_halves bits) {
+    const float64_t a = {bits.low};
+    return a;
+}
+static extFloat80_t as_extF80(apfloat_halves bits) {
+    extFloat80_t a;
+    a.signif = bits.low;
+    a.signExp = (uint16_t)bits.high;
+    return a;
+}
+static float128_t as_f128(apfloat_halves bits) {
+    float128_t a;
+    a.v[LOW] = bits.low;
+    a.v[HIGH] = bits.high;
+    return a;
+}
+
+/* ---- calls of the library */
+
+/* The format with the flags of IEEE 754 and the tininess of the thread. */
+static uint32_t ruled(uint32_t format) {
+    const bool is_before = softfloat_detectTininess == softfloat_tininess_beforeRounding;
+    return format | APFLOAT_IEEE_FLAGS | (is_before ? APFLOAT_TINY_BEFORE_ROUNDING : 0);
+}
+
+/* A mode of the library. Rounding to odd begins with truncation. */
+static uint32_t direction(uint_fast8_t mode) {
+    switch (mode) {
+    case softfloat_round_minMag:
+    case softfloat_round_odd: return APFLOAT_TOWARD_ZERO;
+    case softfloat_round_min: return APFLOAT_DOWNWARD;
+    case softfloat_round_max: return APFLOAT_UPWARD;
+    case softfloat_round_near_maxMag: return APFLOAT_NEAREST_AWAY;
+    default: return APFLOAT_NEAREST_EVEN;
+    }
+}
+
+/* The x87 unit has no unsigned integers and no fused sums. What SoftFloat has in their place is as in SSE: integers,
+ * and the default NaN, the only one that a fused sum of numbers and infinities gives. */
+static uint32_t machine_for(uint32_t operation, uint32_t format) {
+    const uint32_t machine = format == APFLOAT_X87 ? WAY_OF_EXTF80 : WAY;
+    const bool is_lacking = operation == APFLOAT_TO_U128 || operation == APFLOAT_FMA;
+    return machine == APFLOAT_MACHINE_X87 && is_lacking ? APFLOAT_MACHINE_X86 : machine;
+}
+
+/* No call is refused: formats, operations and widths are known, and no value has bits above its width. */
+static apfloat_answer delivered(uint32_t operation, uint32_t format, uint32_t mode, uint32_t to, apfloat_halves x,
+                                apfloat_halves y, apfloat_halves z) {
+    apfloat_answer answer = {{0, 0}, 0, 0};
+    apfloat_machine(machine_for(operation, format), operation, ruled(format), mode, to, x, y, z, &answer);
+    return answer;
+}
+
+/* A truncated result with an odd last digit, in the mode that asks for it, unless it is exact. The lowest bit is the
+ * last digit in every format, and the largest value has an odd one. */
+static apfloat_answer odd_if_asked(apfloat_answer answer, uint_fast8_t mode) {
+    if (mode == softfloat_round_odd && (answer.status & APFLOAT_INEXACT)) answer.bits.low |= 1;
+    return answer;
+}
+
+static int32_t class_of(uint32_t format, apfloat_halves x) {
+    apfloat_answer answer = {{0, 0}, 0, 0};
+    apfloat_classify(format, x, &answer);
+    return answer.number;
+}
+
+static bool is_nan(uint32_t format, apfloat_halves x) {
+    const int32_t code = class_of(format, x);
+    return code == APFLOAT_SIGNALING_NAN || code == APFLOAT_QUIET_NAN;
+}
+
+/* ---- extFloat80_t with 53 or 24 digits */
+
+/* A result with fewer digits than extFloat80_t has, and with its exponents, is rounded to odd in all 64 digits, and
+ * then once more, which is rounding once: 64 digits are at least two more. The second rounding is a conversion to a
+ * format of so many digits. Before it, a result near the greatest or the least exponents of extFloat80_t is multiplied
+ * by the power of two that takes these to those of the format, and any other by one that takes it near 1; afterwards,
+ * by the inverse. These products are exact. */
+static apfloat_answer narrowed(apfloat_answer odd, uint32_t format) {
+    const int32_t end = format == APFLOAT_DOUBLE ? 16383 - 1023 : 16383 - 127, margin = 64;
+    const uint_fast8_t mode = softfloat_roundingMode;
+    apfloat_answer exponent = {{0, 0}, 0, 0}, scaled = exponent, narrow = exponent, wide = exponent, result = exponent;
+    int32_t power;
+    apfloat_ilogb(APFLOAT_X87, odd.bits, &exponent);
+    power = exponent.number >= 16383 - margin ? -end : exponent.number <= -16382 + margin ? end : -exponent.number;
+    apfloat_scalbn(APFLOAT_X87, APFLOAT_NEAREST_EVEN, odd.bits, power, &scaled);
+    apfloat_convert(APFLOAT_X87, direction(mode), ruled(format), scaled.bits, &narrow);
+    narrow = odd_if_asked(narrow, mode);
+    apfloat_convert(format, APFLOAT_NEAREST_EVEN, APFLOAT_X87, narrow.bits, &wide);
+    apfloat_scalbn(APFLOAT_X87, APFLOAT_NEAREST_EVEN, wide.bits, -power, &result);
+    result.status = narrow.status | (odd.status & (APFLOAT_OVERFLOW | APFLOAT_INEXACT));
+    return result;
+}
+
+static bool is_nonzero_number(apfloat_answer truncated) {
+    switch (class_of(APFLOAT_X87, truncated.bits)) {
+    case APFLOAT_NEGATIVE_NORMAL:
+    case APFLOAT_NEGATIVE_SUBNORMAL:
+    case APFLOAT_POSITIVE_SUBNORMAL:
+    case APFLOAT_POSITIVE_NORMAL: return true;
+    default: return truncated.status & APFLOAT_INEXACT; /* a zero that is no zero when it is rounded to odd */
+    }
+}
+
+/* ---- operations */
+
+/* A sum, a difference, a product, a quotient, a remainder or a square root in the mode of the thread. */
+static apfloat_halves computed(uint32_t operation, uint32_t format, apfloat_halves x, apfloat_halves y) {
+    const uint_fast8_t mode = softfloat_roundingMode, digits = extF80_roundingPrecision;
+    if (format == APFLOAT_X87 && operation != APFLOAT_REM && (digits == 64 || digits == 32)) {
+        const apfloat_answer truncated = delivered(operation, format, APFLOAT_TOWARD_ZERO, 0, x, y, y);
+        if (is_nonzero_number(truncated)) {
+            const apfloat_answer odd = odd_if_asked(truncated, softfloat_round_odd);
+            return raised(narrowed(odd, digits == 64 ? APFLOAT_DOUBLE : APFLOAT_SINGLE));
+        }
+    }
+    return raised(odd_if_asked(delivered(operation, format, direction(mode), 0, x, y, y), mode));
+}
+
+/* A product plus a third value. SoftFloat takes the NaN of the two factors, that of an invalid product among them, and
+ * then that of this NaN and the third value, on every machine. */
+static apfloat_halves fused(uint32_t format, apfloat_halves x, apfloat_halves y, apfloat_halves z) {
+    const uint_fast8_t mode = softfloat_roundingMode;
+    apfloat_answer product, sum;
+    if (!is_nan(format, x) && !is_nan(format, y) && !is_nan(format, z))
+        return raised(odd_if_asked(delivered(APFLOAT_FMA, format, direction(mode), 0, x, y, z), mode));
+    product = delivered(APFLOAT_MUL, format, APFLOAT_TOWARD_ZERO, 0, x, y, y);
+    if (!is_nan(format, product.bits)) product.status = 0; /* the third value is the NaN */
+    if (!is_nan(format, z)) return raised(product);
+    sum = delivered(APFLOAT_ADD, format, APFLOAT_TOWARD_ZERO, 0, product.bits, z, z);
+    sum.status |= product.status;
+    return raised(sum);
+}
+
+static apfloat_halves converted(uint32_t format, uint32_t to, apfloat_halves x) {
+    const uint_fast8_t mode = softfloat_roundingMode;
+    return raised(odd_if_asked(delivered(APFLOAT_CONVERT, format, direction(mode), ruled(to), x, x, x), mode));
+}
+
+static apfloat_halves of_unsigned(uint32_t format, uint64_t n) {
+    const uint_fast8_t mode = softfloat_roundingMode;
+    apfloat_answer answer = {{0, 0}, 0, 0};
+    apfloat_from_u128(ruled(format), direction(mode), of_low(n), &answer);
+    return raised(odd_if_asked(answer, mode));
+}
+
+static apfloat_halves of_signed(uint32_t format, int64_t n) {
+    const apfloat_halves number = {(uint64_t)n, n < 0 ? UINT64_MAX : 0};
+    const uint_fast8_t mode = softfloat_roundingMode;
+    apfloat_answer answer = {{0, 0}, 0, 0};
+    apfloat_from_i128(ruled(format), direction(mode), number, &answer);
+    return raised(odd_if_asked(answer, mode));
+}
+
+/* The direction in which a value is rounded to an integer. To odd, that is away from zero if the value lies between two
+ * integers of which the one nearer to zero is even. */
+static uint32_t direction_to_integer(uint32_t format, apfloat_halves x, uint_fast8_t mode) {
+    apfloat_answer truncated = {{0, 0}, 0, 0}, sign = {{0, 0}, 0, 0};
+    if (mode != softfloat_round_odd) return direction(mode);
+    apfloat_to_i128(format, APFLOAT_TOWARD_ZERO, x, 128, &truncated);
+    if (truncated.status != APFLOAT_INEXACT || (truncated.bits.low & 1)) return APFLOAT_TOWARD_ZERO;
+    apfloat_is_negative(format, x, &sign);
+    return sign.number ? APFLOAT_DOWNWARD : APFLOAT_UPWARD;
+}
+
+static apfloat_halves integral(uint32_t format, apfloat_halves x, uint_fast8_t mode, bool exact) {
+    const uint32_t operation = exact ? APFLOAT_ROUND_TO_INTEGRAL : APFLOAT_INTEGRAL;
+    return raised(delivered(operation, format, direction_to_integer(format, x, mode), 0, x, x, x));
+}
+
+/* The value as an integer of `width` bits, in the lowest bits. */
+static uint64_t integer(uint32_t operation, uint32_t format, apfloat_halves x, uint32_t width, uint_fast8_t mode,
+                        bool exact) {
+    apfloat_answer answer = delivered(operation, format, direction_to_integer(format, x, mode), width, x, x, x);
+    if (!exact) answer.status &= ~APFLOAT_INEXACT;
+    return raised(answer).low;
+}
+
+static bool compared(uint32_t format, uint32_t predicate, uint32_t on_nan, apfloat_halves x, apfloat_halves y) {
+    apfloat_answer answer = {{0, 0}, 0, 0};
+    apfloat_compare_predicate(format, predicate, on_nan, x, y, &answer);
+    raise_status(answer.status);
+    return answer.number;
+}
+
+/* ---- the functions of a format F of type T, and those of its pointers */
+
+#define OF_TWO(F, T, NAME, OPERATION) \
+    T F##_##NAME(T a, T b) { \
+        return as_##F(computed(OPERATION, CODE_##F, of_##F(a), of_##F(b))); \
+    }
+#define COMPARISON(F, T, NAME, PREDICATE, ON_NAN) \
+    bool F##_##NAME(T a, T b) { \
+        return compared(CODE_##F, PREDICATE, ON_NAN, of_##F(a), of_##F(b)); \
+    }
+#define TO_INTEGER(F, T, I, RETURNED, INTEGER, OPERATION, WIDTH) \
+    RETURNED F##_to_##I(T a, uint_fast8_t mode, bool exact) { \
+        return (INTEGER)integer(OPERATION, CODE_##F, of_##F(a), WIDTH, mode, exact); \
+    } \
+    RETURNED F##_to_##I##_r_minMag(T a, bool exact) { \
+        return F##_to_##I(a, softfloat_round_minMag, exact); \
+    }
+#define OF_FORMAT(F, T) \
+    T ui32_to_##F(uint32_t n) { \
+        return as_##F(of_unsigned(CODE_##F, n)); \
+    } \
+    T ui64_to_##F(uint64_t n) { \
+        return as_##F(of_unsigned(CODE_##F, n)); \
+    } \
+    T i32_to_##F(int32_t n) { \
+        return as_##F(of_signed(CODE_##F, n)); \
+    } \
+    T i64_to_##F(int64_t n) { \
+        return as_##F(of_signed(CODE_##F, n)); \
+    } \
+    TO_INTEGER(F, T, ui32, uint_fast32_t, uint32_t, APFLOAT_TO_U128, 32) \
+    TO_INTEGER(F, T, ui64, uint_fast64_t, uint64_t, APFLOAT_TO_U128, 64) \
+    TO_INTEGER(F, T, i32, int_fast32_t, int32_t, APFLOAT_TO_I128, 32) \
+    TO_INTEGER(F, T, i64, int_fast64_t, int64_t, APFLOAT_TO_I128, 64) \
+    T F##_roundToInt(T a, uint_fast8_t mode, bool exact) { \
+        return as_##F(integral(CODE_##F, of_##F(a), mode, exact)); \
+    } \
+    OF_TWO(F, T, add, APFLOAT_ADD) \
+    OF_TWO(F, T, sub, APFLOAT_SUB) \
+    OF_TWO(F, T, mul, APFLOAT_MUL) \
+    OF_TWO(F, T, div, APFLOAT_DIV) \
+    OF_TWO(F, T, rem, APFLOAT_REM) \
+    T F##_sqrt(T a) { \
+        return as_##F(computed(APFLOAT_SQRT, CODE_##F, of_##F(a), of_##F(a))); \
+    } \
+    COMPARISON(F, T, eq, APFLOAT_IS_EQUAL, APFLOAT_QUIET) \
+    COMPARISON(F, T, le, APFLOAT_IS_LESS_EQUAL, APFLOAT_SIGNALING) \
+    COMPARISON(F, T, lt, APFLOAT_IS_LESS, APFLOAT_SIGNALING) \
+    COMPARISON(F, T, eq_signaling, APFLOAT_IS_EQUAL, APFLOAT_SIGNALING) \
+    COMPARISON(F, T, le_quiet, APFLOAT_IS_LESS_EQUAL, APFLOAT_QUIET) \
+    COMPARISON(F, T, lt_quiet, APFLOAT_IS_LESS, APFLOAT_QUIET) \
+    bool F##_isSignalingNaN(T a) { \
+        return class_of(CODE_##F, of_##F(a)) == APFLOAT_SIGNALING_NAN; \
+    }
+#define FUSED(F, T) \
+    T F##_mulAdd(T a, T b, T c) { \
+        return as_##F(fused(CODE_##F, of_##F(a), of_##F(b), of_##F(c))); \
+    }
+
+OF_FORMAT(f16, float16_t)
+OF_FORMAT(f32, float32_t)
+OF_FORMAT(f64, float64_t)
+OF_FORMAT(extF80, extFloat80_t)
+OF_FORMAT(f128, float128_t)
+FUSED(f16, float16_t)
+FUSED(f32, float32_t)
+FUSED(f64, float64_t)
+FUSED(f128, float128_t)
+
+/* ---- conversions between formats */
+
+#define TO_FORMAT(F, T, G, U) \
+    U F##_to_##G(T a) { \
+        return as_##G(converted(CODE_##F, CODE_##G, of_##F(a))); \
+    }
+
+TO_FORMAT(f16, float16_t, f32, float32_t)
+TO_FORMAT(f16, float16_t, f64, float64_t)
+TO_FORMAT(f16, float16_t, extF80, extFloat80_t)
+TO_FORMAT(f16, float16_t, f128, float128_t)
+TO_FORMAT(f32, float32_t, f16, float16_t)
+TO_FORMAT(f32, float32_t, f64, float64_t)
+TO_FORMAT(f32, float32_t, extF80, extFloat80_t)
+TO_FORMAT(f32, float32_t, f128, float128_t)
+TO_FORMAT(f64, float64_t, f16, float16_t)
+TO_FORMAT(f64, float64_t, f32, float32_t)
+TO_FORMAT(f64, float64_t, extF80, extFloat80_t)
+TO_FORMAT(f64, float64_t, f128, float128_t)
+TO_FORMAT(extF80, extFloat80_t, f16, float16_t)
+TO_FORMAT(extF80, extFloat80_t, f32, float32_t)
+TO_FORMAT(extF80, extFloat80_t, f64, float64_t)
+TO_FORMAT(extF80, extFloat80_t, f128, float128_t)
+TO_FORMAT(f128, float128_t, f16, float16_t)
+TO_FORMAT(f128, float128_t, f32, float32_t)
+TO_FORMAT(f128, float128_t, f64, float64_t)
+TO_FORMAT(f128, float128_t, extF80, extFloat80_t)
+
+/* ---- by pointers */
+
+#define OF_TWO_BY_POINTERS(F, T, NAME) \
+    void F##M_##NAME(const T *a, const T *b, T *z) { \
+        *z = F##_##NAME(*a, *b); \
+    }
+#define COMPARISON_BY_POINTERS(F, T, NAME) \
+    bool F##M_##NAME(const T *a, const T *b) { \
+        return F##_##NAME(*a, *b); \
+    }
+#define TO_INTEGER_BY_POINTER(F, T, I, RETURNED) \
+    RETURNED F##M_to_##I(const T *a, uint_fast8_t mode, bool exact) { \
+        return F##_to_##I(*a, mode, exact); \
+    } \
+    RETURNED F##M_to_##I##_r_minMag(const T *a, bool exact) { \
+        return F##_to_##I##_r_minMag(*a, exact); \
+    }
+#define TO_POINTER(F, T, G, U) \
+    void F##_to_##G##M(T a, U *z) { \
+        *z = F##_to_##G(a); \
+    }
+#define OF_POINTER(F, T, G, U) \
+    U F##M_to_##G(const T *a) { \
+        return F##_to_##G(*a); \
+    }
+#define BY_POINTERS(F, T) \
+    TO_POINTER(ui32, uint32_t, F, T) \
+    TO_POINTER(ui64, uint64_t, F, T) \
+    TO_POINTER(i32, int32_t, F, T) \
+    TO_POINTER(i64, int64_t, F, T) \
+    TO_POINTER(f16, float16_t, F, T) \
+    TO_POINTER(f32, float32_t, F, T) \
+    TO_POINTER(f64, float64_t, F, T) \
+    OF_POINTER(F, T, f16, float16_t) \
+    OF_POINTER(F, T, f32, float32_t) \
+    OF_POINTER(F, T, f64, float64_t) \
+    TO_INTEGER_BY_POINTER(F, T, ui32, uint_fast32_t) \
+    TO_INTEGER_BY_POINTER(F, T, ui64, uint_fast64_t) \
+    TO_INTEGER_BY_POINTER(F, T, i32, int_fast32_t) \
+    TO_INTEGER_BY_POINTER(F, T, i64, int_fast64_t) \
+    void F##M_roundToInt(const T *a, uint_fast8_t mode, bool exact, T *z) { \
+        *z = F##_roundToInt(*a, mode, exact); \
+    } \
+    OF_TWO_BY_POINTERS(F, T, add) \
+    OF_TWO_BY_POINTERS(F, T, sub) \
+    OF_TWO_BY_POINTERS(F, T, mul) \
+    OF_TWO_BY_POINTERS(F, T, div) \
+    OF_TWO_BY_POINTERS(F, T, rem) \
+    void F##M_sqrt(const T *a, T *z) { \
+        *z = F##_sqrt(*a); \
+    } \
+    COMPARISON_BY_POINTERS(F, T, eq) \
+    COMPARISON_BY_POINTERS(F, T, le) \
+    COMPARISON_BY_POINTERS(F, T, lt) \
+    COMPARISON_BY_POINTERS(F, T, eq_signaling) \
+    COMPARISON_BY_POINTERS(F, T, le_quiet) \
+    COMPARISON_BY_POINTERS(F, T, lt_quiet) \
+    bool F##M_isSignalingNaN(const T *a) { \
+        return F##_isSignalingNaN(*a); \
+    }
+
+BY_POINTERS(extF80, extFloat80_t)
+BY_POINTERS(f128, float128_t)
+
+void f128M_mulAdd(const float128_t *a, const float128_t *b, const float128_t *c, float128_t *z) {
+    *z = f128_mulAdd(*a, *b, *c);
+}
+void extF80M_to_f128M(const extFloat80_t *a, float128_t *z) {
+    *z = extF80_to_f128(*a);
+}
+void f128M_to_extF80M(const float128_t *a, extFloat80_t *z) {
+    *z = f128_to_extF80(*a);
+}

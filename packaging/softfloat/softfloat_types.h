@@ -1,0 +1,37 @@
+/* The types of values in the interface of Berkeley SoftFloat 3e. */
+#ifndef softfloat_types_h
+#define softfloat_types_h 1
+
+#include <stdint.h>
+
+typedef struct {
+    uint16_t v;
+} float16_t;
+
+typedef struct {
+    uint32_t v;
+} float32_t;
+
+typedef struct {
+    uint64_t v;
+} float64_t;
+
+/* As memory has it: the lower half first on a processor that stores the lowest byte first. */
+typedef struct {
+    uint64_t v[2];
+} float128_t;
+
+#if defined(__BYTE_ORDER__) && __BYTE_ORDER__ == __ORDER_BIG_ENDIAN__
+struct extFloat80M {
+    uint16_t signExp;
+    uint64_t signif;
+};
+#else
+struct extFloat80M {
+    uint64_t signif;
+    uint16_t signExp;
+};
+#endif
+typedef struct extFloat80M extFloat80_t;
+
+#endif
