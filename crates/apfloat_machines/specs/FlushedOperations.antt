@@ -1,5 +1,5 @@
--- The operations of a machine that flushes tiny results to zero. The exact result of numbers is rounded once, or flushed;
--- the result of other operands is that of the operation without flushing, since it is never tiny.
+-- The operations of a machine that flushes tiny results to zero. The exact result of numbers is rounded once or is
+-- flushed; the result of other operands is that of the operation without flushing, since it is never tiny.
 use Rattle.std.specs.Prelude.{ℕ, ◌*◌, ◌^◌, Bool, eqb, ◌+ℤ◌, if◌then◌else◌}
 use Rattle.std.specs.Bool.{MatchBool}
 use Rattle.apfloat_model.specs.declared.kinds.Round.{Round}
