@@ -65,8 +65,8 @@ tiny_after precision mode negative m amount parts pick d h picked low =
     ⊎_elim
     (λ (q : (2 ^ precision - 1) * parts < 2 * amount).
     rw (lt-leb (2 * amount) ((2 ^ precision - 1) * parts) q, lt-ltb (2 * amount) (2 ^ precision * parts) less)
-    (not_taken (takes_above mode negative (2 * amount - (2 ^ precision - 1) * parts) (2 ^ precision * parts - 2 * amount)
-    true)
+    (not_taken
+    (takes_above mode negative (2 * amount - (2 ^ precision - 1) * parts) (2 ^ precision * parts - 2 * amount) true)
     (λ t.
     let s : pick ≡ m + 1 =
     near_pick precision mode negative m amount parts pick (2 * amount - (2 ^ precision - 1) * parts)

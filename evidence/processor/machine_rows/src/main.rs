@@ -574,7 +574,8 @@ fn unit(tally: &mut Tally, draw: &mut Draw, count: u64) {
                 let mut loses_info = false;
                 let converted: StatusAnd<$Type> = x.convert_r(round, &mut loses_info);
                 let answer = settled_conversion(Machine::X87, x, converted);
-                (here, Outcome { value: answer.value.to_bits(), flags: flags_of(answer.status) }, format!("{control:x} {a:x}"))
+                let ours = Outcome { value: answer.value.to_bits(), flags: flags_of(answer.status) };
+                (here, ours, format!("{control:x} {a:x}"))
             });
         };
     }
@@ -619,7 +620,8 @@ fn unit(tally: &mut Tally, draw: &mut Draw, count: u64) {
                 let mut is_exact = false;
                 let converted = x.to_i128_r($width, round(mode), &mut is_exact);
                 let answer = settled_signed(Machine::X87, x, $width, converted);
-                (here, Outcome { value: answer.value as u128, flags: flags_of(answer.status) }, format!("{control:x} {a:x}"))
+                let ours = Outcome { value: answer.value as u128, flags: flags_of(answer.status) };
+                (here, ours, format!("{control:x} {a:x}"))
             });
         };
     }
