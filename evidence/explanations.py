@@ -1,5 +1,5 @@
 #!/usr/bin/env python3
-"""Explains computations, as the program `explain` does: one command on each line of standard input.
+"""Explains computations, as the program `explain` does: one command on each line of standard input, `--machine` too.
 
     python3 evidence/explanations.py < tests/explanations/commands
 
@@ -12,8 +12,8 @@ from fractions import Fraction
 from math import isqrt
 
 from exact import arithmetic, bits, decimals, remainders, roots, status, texts
-from exact.data import Finite, Infinite, is_signaling
-from exact.formats import PROGRAM_FORMATS
+from exact.data import Finite, Infinite, NaN, is_signaling, qnan, quieted
+from exact.formats import PROGRAM_FORMATS, with_ieee_flags
 from exact.rounding import Mode
 
 FORMATS = {format.name: format for format in PROGRAM_FORMATS}
@@ -45,6 +45,26 @@ TIES = {
     Mode.EVEN: "Of two as near, the even one is taken,",
     Mode.AWAY: "Of two as near, the greater magnitude is taken,",
 }
+# What a machine takes of several NaNs, the sign of its default NaN, whether tininess is detected before rounding, the
+# order in a fused sum, and whether the default takes the place of a quiet and of a signaling NaN that is added to an
+# infinity times a zero, and whether that is invalid with a quiet one (docs/MACHINES.md).
+MACHINES = {
+    "x86": ("first", True, False, "ABC", False, False, False),
+    "x87": ("greater", True, False, None, False, False, False),
+    "arm": ("signaling", False, True, "CAB", True, False, True),
+    "arm-default-nan": ("default", False, True, "CAB", True, True, True),
+    "arm-alternate": ("first", True, False, "ABC", False, False, False),
+    "riscv": ("default", False, False, "ABC", True, True, True),
+    "power": ("first", False, True, "ACB", False, False, True),
+    "s390x": ("signaling", False, True, "ABC", True, True, True),
+}
+CHOICES = {
+    "first": "The first NaN is taken, quieted.",
+    "signaling": "The first signaling NaN is taken, else the first NaN, quieted.",
+    "greater": "The quiet one of two NaNs is taken, else the greater, else the positive one.\n"
+    "Bits that the unit does not take give the default NaN.",
+    "default": "A result that is a NaN is the default NaN.",
+}
 CLAUSES = {
     status.INVALID_OP: "INVALID_OP: no number results, or an operand is a signaling NaN (7.2)",
     status.DIV_BY_ZERO: "DIV_BY_ZERO: a nonzero number divided by zero (7.3)",
@@ -75,17 +95,23 @@ def coloured(line):
 
 def explained(words):
     """The lines of a command's explanation."""
+    machine = None
+    if words[0] == "--machine":
+        machine, words = words[1], words[2:]
     format = FORMATS[words[0]]
     if len(words) == 2:
         return given(format, words[0], words[1])
     name, operation = OPERATIONS[words[1]]
     mode = Mode(words[2])
     data = [operand(format, word)[0] for word in words[3:]]
-    lines = [f"{words[0]} {name}, {RULES[mode]}", ""]
+    lines = [f"{words[0]} {name}, {RULES[mode]}" + (f", on {machine}" if machine else ""), ""]
     for label, word in zip("ABC", words[3:]):
         lines += given(format, label, word)
     value, flags = computed(format, words[1], operation, data, mode)
     lines += ["", *placed(format, words[1], operation, data, mode, value, flags)]
+    if machine:
+        reason, value, flags = on_machine(machine, format, words[1], operation, data, mode)
+        lines += reason
     lines += shown(format, "result", value)
     raised = [text for flag, text in CLAUSES.items() if flags & flag] or ["none"]
     return lines + [("flags   " if i == 0 else "        ") + text for i, text in enumerate(raised)]
@@ -98,6 +124,49 @@ def computed(format, word, operation, data, mode):
     if word == "mod":
         return remainders.truncated_remainder(format, *data)
     return operation(format, *data, mode)
+
+
+def on_machine(machine, format, word, operation, data, mode):
+    """Why a NaN results, in lines, and the value and the flags as the machine gives them."""
+    choice, negative, before, order, drops_quiet, drops_signaling, flags_quiet = MACHINES[machine]
+    value, flags = computed(with_ieee_flags(format)[before], word, operation, data, mode)
+    if not isinstance(value, NaN):
+        return [], value, flags
+    nans = [x for x in data if isinstance(x, NaN)]
+    default = qnan(format, negative=negative)
+    if not nans:
+        return ["No operand is a NaN: the result is the default NaN.", ""], default, flags
+    signaling = [x for x in nans if is_signaling(format, x)]
+    flags = status.INVALID_OP if signaling else status.OK
+    reason = CHOICES[choice]
+    if word == "fma":
+        invalid = any(isinstance(x, Infinite) for x in data[:2]) and any(
+            isinstance(x, Finite) and x.quanta == 0 for x in data[:2]
+        )
+        if invalid and flags_quiet:
+            flags = status.INVALID_OP
+        if invalid and (drops_signaling if signaling else drops_quiet):
+            line = "An infinity times a zero: the default NaN takes the place of C."
+            return [line, ""], default, flags
+        reason += f" Order: {', '.join(order)}."
+        data = [data["ABC".index(name)] for name in order]
+    return [*reason.split("\n"), ""], taken(choice, format, data, default), flags
+
+
+def taken(choice, format, data, default):
+    """The NaN that a machine makes of operands."""
+    nans = [x for x in data if isinstance(x, NaN)]
+    signaling = [x for x in nans if is_signaling(format, x)]
+    if choice == "default":
+        return default
+    if choice == "first":
+        return quieted(format, nans[0])
+    if choice == "signaling":
+        return quieted(format, (signaling or nans)[0])
+    if any(is_signaling(format, quieted(format, x)) for x in nans):
+        return default
+    quiet = [x for x in nans if not is_signaling(format, x)]
+    return quieted(format, max(quiet or nans, key=lambda x: (x.significand, not x.negative)))
 
 
 def operand(format, word):

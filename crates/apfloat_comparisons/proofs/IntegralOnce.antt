@@ -1,14 +1,26 @@
--- The rounding to an integral datum without INEXACT has one answer.
-use Rattle.std.proofs.Common.{sym, ap, ◌∙◌}
-use Rattle.apfloat_model.specs.rounding.Rounding.{inexact_bit}
-use Rattle.apfloat_model.proofs.Once.{round_to_integral_once}
-use Rattle.apfloat_model.proofs.Determined.{same_answer}
-use Rattle.apfloat_comparisons.specs.StatusFlags.{lowered}
-use Rattle.apfloat_comparisons.specs.WholeNumbers.{IsRoundedToIntegralOnce}
+-- Roundings to integral data and conversions to integers have one answer.
+use Rattle.std.proofs.Common.{sym, ◌∙◌}
+use Rattle.apfloat_model.specs.declared.kinds.Round.{Round}
+use Rattle.apfloat_model.specs.formats.Format.{Format}
+use Rattle.apfloat_model.specs.formats.Datum.{Datum, finite, infinite, nan}
+use Rattle.apfloat_model.proofs.Once.{Once, answer_once}
+use Rattle.apfloat_model.proofs.Determined.{gives_once, same_answer}
+use Rattle.apfloat_comparisons.specs.WholeNumbers.{IsRoundedToIntegral, IsRoundedToIntegralOnce}
+use Rattle.apfloat_comparisons.specs.WholeNumbers.{IsConvertedExactlyOnce, IsConvertedOnce}
+
+pub integral_once : (f : Format) (mode : Round) (x : Datum) → Once (IsRoundedToIntegral f mode x)
+integral_once f mode (nan b s) = answer_once _ _
+integral_once f mode (infinite b) = answer_once _ _
+integral_once f mode (finite b n) = answer_once _ _
 
 pub rounded_to_integral_once : IsRoundedToIntegralOnce
 rounded_to_integral_once f mode x answer other h k =
-    let e =
-    round_to_integral_once f mode x answer.value other.value h.exact_status k.exact_status h.is_rounded
-    k.is_rounded in
-    same_answer answer other e.0 (h.status_is ∙ ap (λ s. lowered s inexact_bit) e.1 ∙ sym k.status_is)
+    gives_once (IsRoundedToIntegral f mode x) (integral_once f mode x) answer other h k
+
+pub converted_exactly_once : IsConvertedExactlyOnce
+converted_exactly_once whole answer other h k =
+    same_answer answer other (h.number_is ∙ sym k.number_is) (h.status_is ∙ sym k.status_is)
+
+pub converted_once : IsConvertedOnce
+converted_once f mode low high x answer other h k =
+    same_answer answer other (h.number_is ∙ sym k.number_is) (h.status_is ∙ sym k.status_is)

@@ -7,3 +7,5 @@ pub mod OneFormat
 pub mod QuietNans
 pub mod Logarithms
 pub mod IntegralOnce
+pub mod WithoutInexact
+pub mod RaisedFlags

@@ -8,3 +8,4 @@ pub mod StatusFlags
 pub mod Extrema
 pub mod Exponents
 pub mod WholeNumbers
+pub mod RaisedFlags

@@ -79,8 +79,8 @@ pub fn is_canonical<S: Flagged>(_x: IeeeFloat<S>) -> bool
 
 /// Whether the bits are the canonical encoding of the value that `from_bits` reads from them, with no bit at or above
 /// `BITS` (5.7.2, isCanonical). Only formats with an explicit integer bit have others below 2^BITS: pseudo-denormals,
-/// and unnormals, numbers whose integer bit is 0 above the least exponent. With that bit 0, the greatest exponent
-/// encodes NaNs of their own, so those patterns count as canonical.
+/// and unnormals, numbers whose integer bit is 0 above the least exponent. At the greatest exponent each pattern with
+/// that bit 0, the pseudo-infinity too, is read as a NaN of its own and written as it was, so it counts as canonical.
 pub fn is_canonical_encoding<S: Flagged>(bits: u128) -> bool
     requires { S.PRECISION < S.BITS }
     ensures { IsTrue result

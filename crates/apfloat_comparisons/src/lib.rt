@@ -41,10 +41,10 @@ pub use status_flags::{
     lower_flags, raise_flags, restore_flags, save_all_flags, test_flags, test_saved_flags,
 };
 pub use theorems::{
-    comparisons_between_have_one_answer, comparisons_have_one_answer,
-    integer_logarithms_have_one_answer, integral_roundings_have_one_answer,
-    logarithms_have_one_answer, one_format_agrees, scalings_agree, scalings_have_one_answer,
-    total_order_is_total,
+    comparisons_between_have_one_answer, comparisons_have_one_answer, flags_go_together,
+    integer_conversions_have_one_answer, integer_logarithms_have_one_answer,
+    integral_roundings_have_one_answer, logarithms_have_one_answer, one_format_agrees,
+    scalings_agree, scalings_have_one_answer, total_order_is_total,
 };
 pub use total_orders::{total_cmp, total_order, total_order_mag};
 pub use two_formats::{compare_between, relation_between};

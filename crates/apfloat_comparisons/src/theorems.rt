@@ -6,7 +6,9 @@ ghost use Rattle.apfloat_comparisons.specs.Exponents.{IsLogBOnce, IsIntegerLogBO
 ghost use Rattle.apfloat_comparisons.specs.Exponents.{IsScaledOnce, IsScaledAlike};
 ghost use Rattle.apfloat_comparisons.specs.TotalOrder.{IsTotal};
 ghost use Rattle.apfloat_comparisons.specs.TwoFormats.{IsComparedBetweenOnce, IsOrderOfOneFormat};
-ghost use Rattle.apfloat_comparisons.specs.WholeNumbers.{IsRoundedToIntegralOnce};
+ghost use Rattle.apfloat_comparisons.specs.RaisedFlags.{RaiseTogether};
+ghost use Rattle.apfloat_comparisons.specs.WholeNumbers.{IsRoundedToIntegralOnce, IsConvertedOnce};
+ghost use Rattle.apfloat_comparisons.specs.WholeNumbers.{IsConvertedExactlyOnce};
 
 /// A comparison has one result and one status.
 pub fn comparisons_have_one_answer()
@@ -51,4 +53,15 @@ pub fn scalings_agree()
 /// Rounding to an integral value without INEXACT has one result and one status.
 pub fn integral_roundings_have_one_answer()
     ensures { IsRoundedToIntegralOnce }
+{}
+
+/// A conversion to an integer has one integer and one status, with INEXACT and without it.
+pub fn integer_conversions_have_one_answer()
+    ensures exact { IsConvertedExactlyOnce }
+    ensures quiet { IsConvertedOnce }
+{}
+
+/// Each operation raises OVERFLOW and UNDERFLOW only together with INEXACT.
+pub fn flags_go_together()
+    ensures { (f : Format) → RaiseTogether f }
 {}

@@ -7,8 +7,8 @@ ghost use Rattle.std.specs.Prelude.{◌≡◌, ◌^◌, ◌<◌, ◌≤◌, pos}
 ghost use Rattle.apfloat_model.specs.rounding.Flags.{Gives, bits_of};
 ghost use Rattle.apfloat_model.specs.whole_numbers.WholeNumbersOut.{to_unsigned, to_signed};
 ghost use Rattle.apfloat_ieee.specs.FlaggedTypes.{format_of};
-ghost use Rattle.apfloat_comparisons.specs.WholeNumbers.{IsRoundedToIntegral, IsConvertedToInteger};
-ghost use Rattle.apfloat_comparisons.specs.WholeNumbers.{IsConvertedToIntegerExactly};
+ghost use Rattle.apfloat_comparisons.specs.WholeNumbers.{IsRoundedToIntegral, IsConvertedToSigned};
+ghost use Rattle.apfloat_comparisons.specs.WholeNumbers.{IsConvertedToUnsigned, IsConvertedToIntegerExactly};
 
 use crate::status_flags::lower_flags;
 use apfloat_base::{Float, Round, Status, StatusAnd};
@@ -32,8 +32,7 @@ pub fn round_to_integral_in<S: Flagged>(x: IeeeFloat<S>, mode: Round) -> StatusA
 pub fn convert_to_signed<S: Flagged>(x: IeeeFloat<S>, width: usize, mode: Round) -> StatusAnd<i128>
     requires low { 2 ≤ width }
     requires high { width ≤ 128 }
-    ensures { let answer = to_signed (format_of S.Flagged) mode width x in
-        IsConvertedToInteger answer result.value (bits_of result.status) }
+    ensures { Gives (IsConvertedToSigned (format_of S.Flagged) mode width x) result }
 {
     let exact = convert_to_signed_exact(x, width, mode);
     lower_flags(exact.status, Status::INEXACT).and(exact.value)
@@ -66,8 +65,7 @@ pub fn convert_to_unsigned<S: Flagged>(
 ) -> StatusAnd<u128>
     requires low { 1 ≤ width }
     requires high { width ≤ 128 }
-    ensures answer { let answer = to_unsigned (format_of S.Flagged) mode width x in
-        IsConvertedToInteger answer (pos result.value) (bits_of result.status) }
+    ensures answer { Gives (IsConvertedToUnsigned (format_of S.Flagged) mode width x) result }
     ensures fits { result.value < 2 ^ width }
 {
     let exact = convert_to_unsigned_exact(x, width, mode);

@@ -1,5 +1,5 @@
 -- Each operation of a machine has one answer.
-use Rattle.std.proofs.Common.{ℕ, Bool, false, ap, sym, ◌∙◌, ◌||◌}
+use Rattle.std.proofs.Common.{ℕ, Bool, false, sym, ◌∙◌, ◌||◌}
 use Rattle.std.specs.Bool.{MatchBool}
 use Rattle.apfloat_model.specs.declared.kinds.Round.{Round}
 use Rattle.apfloat_model.specs.formats.Format.{Format}
@@ -17,9 +17,8 @@ use Rattle.apfloat_model.proofs.Once.{Once, answer_once, sum_once, difference_on
 use Rattle.apfloat_model.proofs.Determined.{same_answer, gives_once}
 use Rattle.apfloat_model.proofs.general.Choices.{match_case}
 use Rattle.apfloat_model.specs.whole_numbers.WholeNumbers.{IsRoundToIntegral}
-use Rattle.apfloat_model.specs.rounding.Rounding.{inexact_bit}
-use Rattle.apfloat_comparisons.specs.StatusFlags.{lowered}
 use Rattle.apfloat_comparisons.specs.WholeNumbers.{IsRoundedToIntegral}
+use Rattle.apfloat_comparisons.proofs.IntegralOnce.{integral_once}
 use Rattle.apfloat_machines.specs.declared.machine.Machine.{Machine}
 use Rattle.apfloat_machines.specs.Invalid.{is_invalid_sum, is_invalid_difference, is_invalid_product, is_invalid_quotient, is_invalid_remainder, is_invalid_root, is_invalid_fused}
 use Rattle.apfloat_machines.specs.Operations.{is_nan_of_three, IsOfTwo}
@@ -31,11 +30,6 @@ of_two_once : (f : Format) (machine : Machine) (x y : Datum) (invalid : Bool) (S
 of_two_once f machine x y invalid Says once =
     match_case Once (is_nan x || is_nan y) (IsAnswer _ _) (λ v s. MatchBool invalid (IsAnswer _ _ v s) (Says v s))
     (answer_once _ _) (match_case Once invalid (IsAnswer _ _) Says (answer_once _ _) once)
-
-integral_once : (f : Format) (mode : Round) (x : Datum) → Once (IsRoundedToIntegral f mode x)
-integral_once f mode x v w r s h k =
-    let e = round_to_integral_once f mode x v w h.exact_status k.exact_status h.is_rounded k.is_rounded in
-    (e.0, h.status_is ∙ ap (λ t. lowered t inexact_bit) e.1 ∙ sym k.status_is)
 
 pub operations_once : (f : Format) (machine : Machine) → HaveOneAnswer f machine
 operations_once f machine =

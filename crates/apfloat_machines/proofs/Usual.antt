@@ -20,8 +20,6 @@ use Rattle.apfloat_model.specs.arithmetic.Remainders.{IsRemainder, rest_of}
 use Rattle.apfloat_model.specs.arithmetic.Roots.{IsRoot, IsRootOfNumber, IsRootOfInfinity}
 use Rattle.apfloat_model.specs.arithmetic.FusedSums.{IsFusedSum}
 use Rattle.apfloat_model.specs.whole_numbers.WholeNumbers.{IsRoundToIntegral, whole_quanta}
-use Rattle.apfloat_model.specs.rounding.Rounding.{inexact_bit}
-use Rattle.apfloat_comparisons.specs.StatusFlags.{lowered}
 use Rattle.apfloat_comparisons.specs.WholeNumbers.{IsRoundedToIntegral}
 use Rattle.apfloat_machines.specs.Invalid.{is_invalid_sum, is_invalid_difference, is_invalid_product, is_invalid_quotient, is_invalid_remainder, is_invalid_root, is_invalid_fused}
 use Rattle.apfloat_machines.specs.Operations.{is_signaling_of_two, is_nan_of_three}
@@ -258,24 +256,15 @@ exact_usual f mode (finite b n) value status h =
     is_of value (signed_quanta f.nonfinite b (whole_quanta f mode b n)) false h.value_is
     (quanta_number f.nonfinite b (whole_quanta f mode b n))
 
--- the flags of a NaN have no INEXACT
-lowered_invalid : (test : Bool) → lowered (invalid_if test) inexact_bit ≡ invalid_if test
-lowered_invalid true = refl
-lowered_invalid false = refl
-
-lowered_usual : (nans invalid : Bool) (value : Datum) (status : ℕ)
-    → MatchBool nans ((is_nan value ≡ true) × (status ≡ invalid_if invalid)) (is_nan value ≡ false)
-    → MatchBool nans ((is_nan value ≡ true) × (lowered status inexact_bit ≡ invalid_if invalid)) (is_nan value ≡ false)
-lowered_usual true invalid value status h =
-    (h.0, ap (λ s. lowered s inexact_bit) h.1 ∙ lowered_invalid invalid)
-lowered_usual false invalid value status h = h
-
 pub integral_usual : (f : Format) (mode : Round) (x value : Datum) (status : ℕ)
     → IsRoundedToIntegral f mode x value status → IsUsual f x x false value status
-integral_usual f mode x value status h =
-    rw h.status_is
-    (lowered_usual (is_nan x || is_nan x) (is_signaling_of_two f x x) value h.exact_status
-    (exact_usual f mode x value h.exact_status h.is_rounded))
+integral_usual f mode (nan b s) value status h =
+    let k = of_nan _ _ _ value status h in
+    (k.0, k.1 ∙ ap (λ (test : Bool). invalid_if test) (same_or (is_signaling f s)))
+integral_usual f mode (infinite b) value status h = of_number (infinite b) ok_bits value status refl h
+integral_usual f mode (finite b n) value status h =
+    is_of value (signed_quanta f.nonfinite b (whole_quanta f mode b n)) false h.value_is
+    (quanta_number f.nonfinite b (whole_quanta f mode b n))
 
 -- ---- fused sums
 

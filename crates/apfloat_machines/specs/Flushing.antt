@@ -1,9 +1,11 @@
 -- Denormal operands and results that are flushed to zero, which IEEE 754 does not have.
-use Rattle.std.specs.Prelude.{ℕ, ◌+◌, Bool, not, ◌&&◌, ◌||◌, if◌then◌else◌}
+use Rattle.std.specs.Prelude.{◌≡◌, ℕ, ◌+◌, Bool, not, ◌&&◌, ◌||◌, ltb, if◌then◌else◌}
+use Rattle.apfloat_model.specs.declared.kinds.Round.{Round}
 use Rattle.apfloat_model.specs.formats.Format.{Format}
 use Rattle.apfloat_model.specs.formats.Datum.{Datum}
 use Rattle.apfloat_model.specs.formats.Constants.{zero_datum}
-use Rattle.apfloat_model.specs.rounding.Rounding.{underflow_bit, inexact_bit}
+use Rattle.apfloat_model.specs.rounding.Rounding.{underflow_bit, inexact_bit, signed_quanta, IsPick, is_tiny}
+use Rattle.apfloat_model.specs.rounding.Rounding.{delivered_value, delivered_status}
 use Rattle.apfloat_model.specs.rounding.Answer.{IsAnswer}
 use Rattle.apfloat_model.specs.order.Classes.{is_nan, is_denormal}
 use Rattle.apfloat_model.specs.arithmetic.Signs.{copy_sign}
@@ -38,3 +40,22 @@ abbrev pub IsFlushed : Format → Flush → Datum → ℕ → Datum → ℕ → 
 IsFlushed f flush given flags value status =
     IsAnswer (if is_flushed f given flags then zero_like f given else given)
     (if is_flushed f given flags then flush_flags flush else flags) value status
+
+-- ---- from the exact result
+
+-- Whether the magnitude amount / parts quanta with that sign is flushed: it is not zero, and it is tiny by the rule of
+-- the format (7.5), also if it is exact.
+abbrev pub flushes : Format → Round → Bool → ℕ → ℕ → ℕ → Bool
+flushes f mode negative amount parts pick = ltb 0 amount && is_tiny f mode negative amount parts pick
+
+-- the magnitude with that sign: rounded once, or the zero of that sign with the flags of flushing
+pub record IsRoundedOrFlushed (f : Format) (flush : Flush) (mode : Round) (negative : Bool) (amount parts : ℕ)
+    (value : Datum) (status : ℕ) : Type 0 where
+  pub pick : ℕ
+  pub is_pick : IsPick f.precision mode negative amount parts pick
+  pub value_is : value
+      ≡ (if flushes f mode negative amount parts pick then signed_quanta f.nonfinite negative 0
+      else delivered_value f mode negative pick)
+  pub status_is : status
+      ≡ (if flushes f mode negative amount parts pick then flush_flags flush
+      else delivered_status f mode negative amount parts pick)

@@ -7,3 +7,4 @@ pub mod WholeNumbers
 pub mod Minima
 pub mod Flushing
 pub mod Theorems
+pub mod FlushedOperations

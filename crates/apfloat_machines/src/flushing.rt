@@ -5,6 +5,7 @@ ghost use Rattle.apfloat_model.specs.rounding.Flags.{Gives, bits_of};
 ghost use Rattle.apfloat_ieee.specs.FlaggedTypes.{format_of};
 ghost use Rattle.apfloat_machines.specs.Flushing.{IsFlushed, flush_flags, has_denormal};
 ghost use Rattle.apfloat_machines.specs.Flushing.{without_denormal, zero_like};
+ghost use Rattle.apfloat_machines.specs.FlushedOperations.{AreFlushed};
 
 use apfloat_base::{Float, Status, StatusAnd};
 use apfloat_comparisons::{raise_flags, test_flags};
@@ -19,13 +20,28 @@ pub enum Flush {
     Arm,
 }
 
-/// The answer of an operation, where tiny results are flushed: a result that is tiny is the zero of its sign, even if
-/// it is exact; any other is unchanged.
+/// The answer of an operation, where tiny results are flushed: a result that is tiny, exact or not, is the zero of its
+/// sign, and any other is unchanged. So the exact result is either flushed or rounded once, as `IsFlushedSum` and the
+/// definitions beside it say of sums, differences, products, quotients, fused sums and conversions.
 ///
-/// The answer is one of a format with the flags of IEEE 754, `IeeeFlags<S>` or `IeeeFlags<TinyBefore<S>>`, whose rule
-/// of tininess is the machine's: an inexact one is tiny exactly if it raises UNDERFLOW.
+/// Tiny is what the format calls tiny: in `IeeeFlags<S>`, below the smallest normalized number after rounding with an
+/// unbounded exponent, as on x86; in `IeeeFlags<TinyBefore<S>>`, below it before rounding, as on AArch64.
 #[inline]
 pub fn flushed<S: Flagged>(flush: Flush, answer: StatusAnd<IeeeFloat<S>>) -> StatusAnd<IeeeFloat<S>>
+    ensures answer { Gives (IsFlushed (format_of S.Flagged) flush answer.value
+        (bits_of answer.status)) result }
+    ensures operations { AreFlushed (format_of S.Flagged) flush answer result }
+{
+    zero_if_tiny(flush, answer)
+}
+
+/// The answer, or the zero of its sign with the flags of flushing. A tiny result that is inexact has raised UNDERFLOW,
+/// and one that is exact is denormal or zero.
+#[inline]
+fn zero_if_tiny<S: Flagged>(
+    flush: Flush,
+    answer: StatusAnd<IeeeFloat<S>>,
+) -> StatusAnd<IeeeFloat<S>>
     ensures { Gives (IsFlushed (format_of S.Flagged) flush answer.value (bits_of answer.status))
         result }
 {

@@ -11,14 +11,15 @@ ghost use Rattle.rustc_apfloat.specs.Types.{format_of};
 ghost use Rattle.apfloat_decimals.specs.ShortestSearch.{IsWithinQuad};
 
 use crate::explanation::{
-    Between, Exact, Explanation, Meaning, Operand, Place, Reading, Shown, Side, Widths,
+    Between, Exact, Explanation, Meaning, NanSource, Operand, Place, Reading, Shown, Side, Widths,
 };
+use crate::on_machine::{nan_source, on_machine};
 use crate::question::{Operation, Question};
 use apfloat_decimals::{read_decimal, shortest};
 use commands::bits_of;
 use custom_formats::Vast;
 use formats_at_run_time::InFormat;
-use rustc_apfloat::ieee::{IeeeFloat, Semantics};
+use rustc_apfloat::ieee::{Flagged, IeeeFloat, Semantics};
 use rustc_apfloat::{Category, ExpInt, Flags, Float, FloatConvert, Round, Status, StatusAnd};
 
 /// A computation in a format that is chosen while the program runs.
@@ -52,13 +53,7 @@ fn explained<'a, S: Semantics>(question: Question<'a>) -> Result<Explanation, &'
     requires within { IsWithinQuad (format_of S.Semantics) }
 {
     match values_of::<S>(question.operands) {
-        Ok(operands) => Ok(explanation(
-            question.operation,
-            question.round,
-            operands[0],
-            operands[1],
-            operands[2],
-        )),
+        Ok(operands) => Ok(explanation(question, operands[0], operands[1], operands[2])),
         Err(word) => Err(word),
     }
 }
@@ -131,8 +126,7 @@ fn number_of<S: Semantics>(text: &str, reading: Reading) -> Option<Given<S>>
 
 /// What is shown of a computation.
 fn explanation<S: Semantics>(
-    operation: Operation,
-    round: Round,
+    question: Question,
     first: Given<S>,
     second: Given<S>,
     third: Given<S>,
@@ -141,16 +135,25 @@ fn explanation<S: Semantics>(
     requires within { IsWithinQuad (format_of S.Semantics) }
 {
     let (x, y, z) = (first.value, second.value, third.value);
-    let StatusAnd { value, status } = computed(operation, x, y, z, round);
-    let place = place(operation, x, y, z, value, status);
+    let (operation, round) = (question.operation, question.round);
+    let plain = computed(operation, x, y, z, round);
+    let place = place(operation, x, y, z, plain.value, plain.status);
+    let (answer, nan_source) = match question.machine {
+        None => (plain, None),
+        Some((machine, _)) => (
+            on_machine(machine, operation, x, y, z, round),
+            nan_source(machine, operation, x, y, z, plain.value),
+        ),
+    };
     let a = operand(first);
     let b = operand(second);
     let c = operand(third);
     Explanation {
         widths: widths::<S>(),
         operands: [a, b, c],
-        result: shown(value),
-        status,
+        result: shown(answer.value),
+        status: answer.status,
+        nan_source,
         place,
     }
 }
@@ -165,7 +168,7 @@ fn widths<S: Semantics>() -> Widths {
 }
 
 /// An operation on values of a format.
-fn computed<S: Semantics>(
+pub fn computed<S: Flagged>(
     operation: Operation,
     x: IeeeFloat<S>,
     y: IeeeFloat<S>,

@@ -118,6 +118,17 @@ pub enum Place {
     Beyond(Exact),
 }
 
+/// The operand that a machine makes the NaN of its result from.
+#[derive(Clone, Copy, Debug)]
+pub enum NanSource {
+    /// No operand is a NaN, so that the result is the default NaN.
+    NoNan,
+    /// The default NaN takes the place of a NaN that is added to the product of an infinity and a zero.
+    InvalidProduct,
+    /// An operand that is a NaN, as the machine chooses.
+    Operands,
+}
+
 /// A computation.
 #[derive(Clone, Copy, Debug)]
 pub struct Explanation {
@@ -129,6 +140,8 @@ pub struct Explanation {
     pub result: Shown,
     /// Its flags.
     pub status: Status,
+    /// Where its NaN comes from, if a machine gives it and it is one.
+    pub nan_source: Option<NanSource>,
     /// Where the exact result is.
     pub place: Place,
 }

@@ -1,5 +1,6 @@
 //! Explains a computation: `explain FORMAT OP MODE A [B [C]]` shows the operands, the two neighbours of the exact
-//! result, its place between them, which of them the mode picks, and the flags; `explain FORMAT A` shows a value.
+//! result, its place between them, which of them the mode picks, and the flags; `explain FORMAT A` shows a value. With
+//! `--machine NAME` the result and the flags are those of a machine.
 //!
 //! `HELP` explains the arguments.
 //!
@@ -9,6 +10,7 @@
 
 mod compute;
 mod explanation;
+mod on_machine;
 mod picture;
 mod question;
 mod run;

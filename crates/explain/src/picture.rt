@@ -1,10 +1,11 @@
 //! Writes an explanation, in lines of at most 80 columns.
 
 use crate::explanation::{
-    Between, Exact, Explanation, Meaning, Operand, Place, Reading, Shown, Side, Widths,
+    Between, Exact, Explanation, Meaning, NanSource, Operand, Place, Reading, Shown, Side, Widths,
 };
 use crate::question::{Operation, Question};
 use apfloat_decimals::Decimal;
+use apfloat_machines::{FusedOrder, Machine, NanChoice};
 use formats_at_run_time::Arithmetic;
 use rustc_apfloat::{Flags, Round, Status};
 use std::io;
@@ -25,9 +26,16 @@ pub fn write_explanation<W: Write>(
         return write_operand(widths, question.format_word, &explanation.operands[0], out);
     }
     let (format, operation) = (question.format_word, name_of(question.operation));
-    writeln!(out, "{format} {operation}, {}\n", rule_of(question.round))?;
+    write!(out, "{format} {operation}, {}", rule_of(question.round))?;
+    match question.machine {
+        Some((_, name)) => writeln!(out, ", on {name}\n")?,
+        None => writeln!(out, "\n")?,
+    }
     write_operands(widths, question.operation.operand_count(), explanation, out)?;
     write_place(widths, question.round, &explanation.place, in_colour, out)?;
+    if let (Some((machine, _)), Some(source)) = (question.machine, explanation.nan_source) {
+        write_nan_source(machine, question.operation, source, out)?;
+    }
     write_shown(widths, "result", &explanation.result, out)?;
     write_flags(explanation.status, in_colour, out)
 }
@@ -184,6 +192,53 @@ fn write_meaning<W: Write>(shown: &Shown, out: &mut W) -> io::Result<()> {
         Meaning::Infinity => write!(out, "{sign}infinity"),
         Meaning::QuietNan => write!(out, "not a number"),
         Meaning::SignalingNan => write!(out, "not a number, which raises INVALID_OP"),
+    }
+}
+
+/// Writes where the NaN of a machine's result comes from.
+fn write_nan_source<W: Write>(
+    machine: Machine,
+    operation: Operation,
+    source: NanSource,
+    out: &mut W,
+) -> io::Result<()> {
+    match source {
+        NanSource::NoNan => writeln!(out, "No operand is a NaN: the result is the default NaN.\n"),
+        NanSource::InvalidProduct => writeln!(
+            out,
+            "An infinity times a zero: the default NaN takes the place of C.\n"
+        ),
+        NanSource::Operands => {
+            write!(out, "{}", choice_of(machine.nan_choice()))?;
+            match operation {
+                Operation::FusedSum => writeln!(out, " Order: {}.\n", order_of(machine)),
+                _ => writeln!(out, "\n"),
+            }
+        }
+    }
+}
+
+/// The rule by which a NaN is chosen.
+fn choice_of(choice: NanChoice) -> &'static str {
+    match choice {
+        NanChoice::First => "The first NaN is taken, quieted.",
+        NanChoice::SignalingFirst => {
+            "The first signaling NaN is taken, else the first NaN, quieted."
+        }
+        NanChoice::Greater => {
+            "The quiet one of two NaNs is taken, else the greater, else the positive one.\n\
+             Bits that the unit does not take give the default NaN."
+        }
+        NanChoice::AlwaysDefault => "A result that is a NaN is the default NaN.",
+    }
+}
+
+/// The order in which the operands of a fused sum are looked at.
+fn order_of(machine: Machine) -> &'static str {
+    match machine.fused_order() {
+        FusedOrder::FactorsFirst => "A, B, C",
+        FusedOrder::AddendFirst => "C, A, B",
+        FusedOrder::AddendSecond => "A, C, B",
     }
 }
 

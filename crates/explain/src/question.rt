@@ -1,11 +1,12 @@
 //! The question that the words of a command line ask.
 
-use formats_at_run_time::{Arithmetic, BuiltInFormat, BuiltInKind, mode_named};
+use apfloat_machines::Machine;
+use formats_at_run_time::{Arithmetic, BuiltInFormat, BuiltInKind, IeeeFormat, mode_named};
 use rustc_apfloat::Round;
 
 /// The help; `packaging/manual` makes the man page and the completions of it.
 pub const HELP: &str = "\
-usage: explain FORMAT OP MODE A [B [C]]
+usage: explain [--machine NAME] FORMAT OP MODE A [B [C]]
        explain FORMAT A
        explain --help | --version
 
@@ -29,6 +30,10 @@ are ten, and 1e5d is 100000. Any other word of hexadecimal digits is bits if
 the format has that many: 10, 1e5, 3c0d, and 0x10d, where 10d would be ten. If
 a word could have been either, the output says how it was read.
 
+--machine NAME  shows the result as a machine gives it, with its NaN and its
+                flags: x86 x87 arm arm-default-nan arm-alternate riscv power
+                s390x; in a format with infinities
+
 --help, -h  writes this text
 --version   writes the name and the version of the program
 
@@ -38,13 +43,41 @@ not enough memory for them, and 1 if a write fails.
     explain half add even 3c01 1000
     explain double add even 0.1 0.2
     explain half 3c00
+    explain --machine arm single add even 7fc00001 ff800002
 ";
 
 /// The words of the operations.
 pub static OPERATIONS: &[&str] = &["add", "sub", "mul", "div", "rem", "mod", "fma", "sqrt"];
 
 /// The options.
-pub static OPTIONS: &[&str] = &["--help", "-h", "--version"];
+pub static OPTIONS: &[&str] = &["--help", "-h", "--machine", "--version"];
+
+/// The words of the machines.
+pub static MACHINES: &[&str] = &[
+    "x86",
+    "x87",
+    "arm",
+    "arm-default-nan",
+    "arm-alternate",
+    "riscv",
+    "power",
+    "s390x",
+];
+
+/// The machine of this name.
+fn machine_named(word: &str) -> Option<Machine> {
+    match word {
+        "x86" => Some(Machine::X86),
+        "x87" => Some(Machine::X87),
+        "arm" => Some(Machine::Arm),
+        "arm-default-nan" => Some(Machine::ArmDefaultNan),
+        "arm-alternate" => Some(Machine::ArmAlternate),
+        "riscv" => Some(Machine::RiscV),
+        "power" => Some(Machine::Power),
+        "s390x" => Some(Machine::S390x),
+        _ => None,
+    }
+}
 
 /// The computation that is explained.
 #[derive(Clone, Copy, Debug)]
@@ -88,6 +121,8 @@ impl Operation {
 /// A question: what is to be explained.
 #[derive(Clone, Copy)]
 pub struct Question<'a> {
+    /// The machine and its word, if the result is to be that of a machine.
+    pub machine: Option<(Machine, &'a str)>,
     /// The word of the format.
     pub format_word: &'a str,
     /// The format.
@@ -117,16 +152,39 @@ pub enum Fault<'a> {
     Mode(&'a str),
     /// This is not a value of the format.
     Value(&'a str),
+    /// No machine has this name.
+    Machine(&'a str),
+    /// The machine of this name has no fused sums, or the format has no infinities.
+    Lacks(&'a str),
 }
 
 impl<'a> Question<'a> {
     /// The question that these words ask, or the first fault.
     pub fn named(words: &'a [String]) -> Result<Question<'a>, Fault<'a>> {
-        if let [word, ..] = words
-            && word.as_str().starts_with('-')
-        {
-            return Err(Fault::Option(word.as_str()));
+        let [word, rest @ ..] = words else {
+            return Err(Fault::TooFew);
+        };
+        if word.as_str() != "--machine" {
+            return if word.as_str().starts_with('-') {
+                Err(Fault::Option(word.as_str()))
+            } else {
+                Question::asked(None, words)
+            };
         }
+        let [name, rest @ ..] = rest else {
+            return Err(Fault::TooFew);
+        };
+        match machine_named(name.as_str()) {
+            Some(machine) => Question::asked(Some((machine, name.as_str())), rest),
+            None => Err(Fault::Machine(name.as_str())),
+        }
+    }
+
+    /// The question that the words after the options ask, or the first fault.
+    fn asked(
+        machine: Option<(Machine, &'a str)>,
+        words: &'a [String],
+    ) -> Result<Question<'a>, Fault<'a>> {
         if words.len() < 2 || words.len() == 3 {
             return Err(Fault::TooFew);
         }
@@ -136,6 +194,7 @@ impl<'a> Question<'a> {
         };
         if words.len() == 2 {
             return Ok(Question {
+                machine,
                 format_word,
                 format,
                 operation: Operation::Value,
@@ -149,6 +208,11 @@ impl<'a> Question<'a> {
         let Some(round) = mode_named(words[2].as_str()) else {
             return Err(Fault::Mode(words[2].as_str()));
         };
+        if let Some((known, name)) = machine
+            && is_lacking(known, format, operation)
+        {
+            return Err(Fault::Lacks(name));
+        }
         let operands = &words[3..];
         if operands.len() < operation.operand_count() {
             return Err(Fault::TooFew);
@@ -157,6 +221,7 @@ impl<'a> Question<'a> {
             return Err(Fault::TooMany);
         }
         Ok(Question {
+            machine,
             format_word,
             format,
             operation,
@@ -164,4 +229,10 @@ impl<'a> Question<'a> {
             operands,
         })
     }
+}
+
+/// Whether no result of a machine is known: in a format without infinities, and of a fused sum if it has none.
+fn is_lacking(machine: Machine, format: BuiltInFormat, operation: Operation) -> bool {
+    let is_fused = matches!(operation, Operation::FusedSum);
+    IeeeFormat::of(BuiltInKind::OfFormat(format)).is_none() || (is_fused && !machine.has_fused())
 }

@@ -2,7 +2,7 @@
 
 use crate::compute::Computation;
 use crate::picture::write_explanation;
-use crate::question::{Fault, HELP, OPERATIONS, OPTIONS, Question};
+use crate::question::{Fault, HELP, MACHINES, OPERATIONS, OPTIONS, Question};
 use commands::{About, FORMATS, MODES, WrongWord, suggested, write_fault};
 use std::io;
 use std::io::{ErrorKind, Write};
@@ -84,6 +84,17 @@ fn refuse<V: Write>(fault: Fault, err: &mut V) -> io::Result<u8> {
             write!(err, "explain: no mode '{word}' (even up down zero away)")?;
             suggest(word, MODES, err)?;
         }
+        Fault::Machine(word) => {
+            write!(
+                err,
+                "explain: no machine '{word}' (x86 x87 arm arm-default-nan arm-alternate riscv power s390x)"
+            )?;
+            suggest(word, MACHINES, err)?;
+        }
+        Fault::Lacks(word) => writeln!(
+            err,
+            "explain: no such operation on '{word}' (x87 has no fma; the format needs infinities)"
+        )?,
         Fault::Value(word) => writeln!(
             err,
             "explain: no value '{word}' of the format (hexadecimal bits, or a number such as 0.1)"

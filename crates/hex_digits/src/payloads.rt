@@ -38,7 +38,8 @@ fn payload<S: Semantics>(x: IeeeFloat<S>) -> u128
 /// Adds a payload, unless it is 0.
 fn push_payload(line: &mut Line, payload: u128)
     requires { length line.old ≤ 5 }
-    ensures { (rest : List ℕ) × IsPayloadText payload rest × (line.new ≡ line.old ++ rest) }
+    ensures text { (rest : List ℕ) × IsPayloadText payload rest × (line.new ≡ line.old ++ rest) }
+    ensures room { length line.new ≤ 45 }
 {
     if payload == 0 {
         return;
@@ -51,7 +52,8 @@ fn push_payload(line: &mut Line, payload: u128)
 /// The text of a value with its payload.
 fn full_line<S: Semantics>(x: IeeeFloat<S>) -> Line
     requires { S.PRECISION < S.BITS }
-    ensures { IsFullText (format_of S.Semantics) x result }
+    ensures text { IsFullText (format_of S.Semantics) x result }
+    ensures room { length result ≤ 45 }
 {
     match x.category() {
         Category::Infinity => line_of(x),
@@ -73,7 +75,7 @@ fn full_line<S: Semantics>(x: IeeeFloat<S>) -> Line
 ///
 /// # Errors
 ///
-/// `NoRoom` if the text is longer than the buffer, which then is unchanged.
+/// `NoRoom` if the text is longer than the buffer, which then is unchanged. 45 bytes have room for every text.
 pub fn write_hex_with_payload<S: Semantics>(
     x: IeeeFloat<S>,
     buffer: &mut [u8],
@@ -82,6 +84,16 @@ pub fn write_hex_with_payload<S: Semantics>(
     ensures { IsFullyWritten (format_of S.Semantics) x buffer.old buffer.new result }
 {
     put(&full_line(x), buffer)
+}
+
+/// How many bytes the text of `write_hex_with_payload` has, at most 45. Only for a format with bits.
+pub fn hex_length_with_payload<S: Semantics>(x: IeeeFloat<S>) -> usize
+    requires { S.PRECISION < S.BITS }
+    ensures length { (text : List ℕ) × IsFullText (format_of S.Semantics) x text
+        × (result ≡ length text) }
+    ensures few { result ≤ 45 }
+{
+    full_line(x).length()
 }
 
 /// The text of a value with its payload is the only one.

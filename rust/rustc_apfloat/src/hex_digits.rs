@@ -64,3 +64,13 @@ pub fn write_hex_with_payload<S: Semantics>(x: IeeeFloat<S>, buffer: &mut [u8]) 
     assert!(S::BITS > S::PRECISION, "a format without bits");
     library::write_hex_with_payload(x.plain(), buffer)
 }
+
+/// How many bytes the text of `write_hex_with_payload` has, at most 45.
+///
+/// # Panics
+///
+/// In a format without bits.
+pub fn hex_length_with_payload<S: Semantics>(x: IeeeFloat<S>) -> usize {
+    assert!(S::BITS > S::PRECISION, "a format without bits");
+    library::hex_length_with_payload(x.plain())
+}

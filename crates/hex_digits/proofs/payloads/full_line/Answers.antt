@@ -4,21 +4,21 @@ use Rattle.apfloat_ieee.specs.Types.{format_of}
 use Rattle.hex_digits.proofs.NanPayloads.{full_of, other_category}
 use Rattle.hex_digits.proofs.payloads.full_line.Goals as goal
 
-pub returns-in-Infinity : goal.returns-in-Infinity
-returns-in-Infinity g c =
+pub returns-in-Infinity-clause-text : goal.returns-in-Infinity-clause-text
+returns-in-Infinity-clause-text g c =
     full_of (format_of g.S.Semantics) c.args.x c.line_of.result
     (other_category (format_of g.S.Semantics) c.args.x Infinity
     (cc (c.category.ensures.category, c.in-Infinity.is)) refl)
     c.line_of.ensures.text
 
-pub returns-in-Zero : goal.returns-in-Zero
-returns-in-Zero g c =
+pub returns-in-Zero-clause-text : goal.returns-in-Zero-clause-text
+returns-in-Zero-clause-text g c =
     full_of (format_of g.S.Semantics) c.args.x c.line_of-in-Zero.result
     (other_category (format_of g.S.Semantics) c.args.x Zero (cc (c.category.ensures.category, c.in-Zero.is)) refl)
     c.line_of-in-Zero.ensures.text
 
-pub returns-in-Normal : goal.returns-in-Normal
-returns-in-Normal g c =
+pub returns-in-Normal-clause-text : goal.returns-in-Normal-clause-text
+returns-in-Normal-clause-text g c =
     full_of (format_of g.S.Semantics) c.args.x c.line_of-in-Normal.result
     (other_category (format_of g.S.Semantics) c.args.x Normal (cc (c.category.ensures.category, c.in-Normal.is)) refl)
     c.line_of-in-Normal.ensures.text
