@@ -2,6 +2,7 @@
 
 ghost use Rattle.std.specs.Prelude.{◌<◌};
 
+use apfloat_base::Float;
 use apfloat_decimals::{read_decimal, read_decimal_ascii};
 use apfloat_formats::{DoubleS, Semantics, SingleS};
 use apfloat_ieee::{Flagged, IeeeFlags, IeeeFloat, TinyBefore};
@@ -117,16 +118,41 @@ fn rules_of_flags(rt: HostRuntime) {
     let tiny = Status::UNDERFLOW.union(inexact);
 
     let zero = Round::TowardZero;
-    check_single(&rt, read_decimal::<SingleS>("1e39", zero), 0x7f7f_ffff, inexact);
-    check_single(&rt, read_decimal::<IeeeFlags<SingleS>>("1e39", zero), 0x7f7f_ffff, past);
+    check_single(
+        &rt,
+        read_decimal::<SingleS>("1e39", zero),
+        0x7f7f_ffff,
+        inexact,
+    );
+    check_single(
+        &rt,
+        read_decimal::<IeeeFlags<SingleS>>("1e39", zero),
+        0x7f7f_ffff,
+        past,
+    );
 
     let even = Round::NearestTiesToEven;
     let below = "1.1754943087833335782e-38";
-    check_single(&rt, read_decimal::<SingleS>(below, even), 0x0080_0000, inexact);
-    check_single(&rt, read_decimal::<IeeeFlags<SingleS>>(below, even), 0x0080_0000, tiny);
+    check_single(
+        &rt,
+        read_decimal::<SingleS>(below, even),
+        0x0080_0000,
+        inexact,
+    );
+    check_single(
+        &rt,
+        read_decimal::<IeeeFlags<SingleS>>(below, even),
+        0x0080_0000,
+        tiny,
+    );
 
     let nearer = "1.1754943227963182215e-38";
-    check_single(&rt, read_decimal::<IeeeFlags<SingleS>>(nearer, even), 0x0080_0000, inexact);
+    check_single(
+        &rt,
+        read_decimal::<IeeeFlags<SingleS>>(nearer, even),
+        0x0080_0000,
+        inexact,
+    );
     check_single(
         &rt,
         read_decimal::<IeeeFlags<TinyBefore<SingleS>>>(nearer, even),
