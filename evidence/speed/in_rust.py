@@ -24,7 +24,7 @@ sys.path.insert(0, str(HERE))
 
 import compare  # noqa: E402
 
-FORMATS = ("half", "single", "double", "x87", "quad")
+FORMATS = ("half", "single", "double", "x87", "quad", "dd")
 SPEED = ROOT / "docs" / "SPEED.md"
 BEGIN, END = "<!-- made by evidence/speed/in_rust.py -->", "<!-- end -->"
 MANIFEST = """[package]

@@ -1,17 +1,21 @@
 -- Integers of a given number of binary digits, and the ends of their range.
-use Rattle.std.proofs.Common.{◌≡◌, ℕ, ◌+◌, ◌-◌, ◌*◌, ◌/◌, ◌^◌, ◌<◌, ◌≤◌, Bool, true, false, cond, ◌&&◌, eqb, sym, refl, ap, ◌∙◌, arith, pos, neg_ℤ, ◌≤ℤ◌, int_lt}
+use Rattle.std.proofs.Common.{◌≡◌, ℕ, ◌+◌, ◌-◌, ◌*◌, ◌/◌, ◌^◌, ◌<◌, ◌≤◌, Bool, true, false, cond, ◌&&◌, eqb, sym, refl, ap, ◌∙◌, subst, ⊎_elim, arith, pos, neg_ℤ, ◌≤ℤ◌, int_lt}
+use Rattle.std.proofs.Math.Bool.{and-true}
 use Rattle.std.proofs.Math.Nat.{div-eq_of_lt-le}
 use Rattle.std.proofs.lemmas.Nat.{pow-add, pow_pos}
 use Rattle.std.proofs.lemmas.Int.{ints}
-use Rattle.std.proofs.lemmas.Bool.{ne_eqb}
+use Rattle.std.proofs.lemmas.Bool.{cases_lt, ne_eqb}
 use Rattle.apfloat_model.specs.declared.kinds.Round.{Round}
 use Rattle.apfloat_model.specs.formats.Format.{Format}
 use Rattle.apfloat_model.specs.formats.Datum.{finite}
 use Rattle.apfloat_model.specs.arithmetic.Exact.{signed}
 use Rattle.apfloat_model.specs.whole_numbers.WholeNumbers.{whole_pick, whole_quanta, inexact_unless}
-use Rattle.apfloat_model.specs.whole_numbers.WholeNumbersOut.{IsToUnsigned, ranged, exact_or_not}
+use Rattle.apfloat_model.specs.rounding.Flags.{bits_of}
+use Rattle.apfloat_model.specs.whole_numbers.WholeNumbersOut.{IsToUnsigned, to_unsigned, ranged, exact_or_not}
 use Rattle.apfloat_model.proofs.general.Choices.{no_zero}
 use Rattle.apfloat_model.proofs.whole_numbers.SignedTests.{less_so, less_not}
+use Rattle.apfloat_conversions.specs.declared.integers.Unsigned.{Unsigned}
+use Rattle.apfloat_conversions.specs.Results.{GivesWhole, IsLimited}
 
 -- the same integer, also without a sign
 pub same_number : (m n : ℕ) → pos m ≡ pos n → m ≡ n
@@ -86,3 +90,21 @@ out_of_range format mode width b n number st exact p h m t x =
     let z : eqb n 0 ≡ false = ne_eqb n 0 (λ e. omega (arith, e, p)) in
     let r = ranged_out width b (whole_pick mode b n (2 ^ format.scale)) (eqb (whole_quanta format mode b n) n) h in
     rw (z, r) (record { number_is = ap pos m; status_is = t; is_exact_is = x })
+
+-- the picked integer within the end of the range on the side of the sign is the result
+pub limited_unsigned : (format : Format) (mode : Round) (width : ℕ) (negative : Bool) (n : ℕ) (whole : Unsigned)
+    → 0 < n → IsLimited format mode negative n (limit width negative) whole
+    → GivesWhole (to_unsigned format mode width (finite negative n)) whole
+limited_unsigned format mode width b n whole p h =
+    ⊎_elim
+    (λ (l : limit width b < whole_pick mode b n (2 ^ format.scale)).
+    let i = h.past l in
+    out_of_range format mode width b n whole.answer.value (bits_of whole.answer.status) whole.is_exact p l
+    (same_number _ _ i.number_is) i.status_is i.is_exact_is)
+    (λ (l : whole_pick mode b n (2 ^ format.scale) ≤ limit width b).
+    let i = h.within l in
+    let e : whole.answer.value ≡ whole_pick mode b n (2 ^ format.scale) = same_number _ _ i.number_is in
+    let x : whole.is_exact ≡ eqb (whole_quanta format mode b n) n = i.is_exact_is ∙ and-true _ in
+    in_range format mode width b n whole.answer.value (bits_of whole.answer.status) whole.is_exact p e x
+    (subst (λ (k : ℕ). k ≤ limit width b) (sym e) l) (i.status_is ∙ ap (λ (y : Bool). inexact_unless y) (sym x)))
+    (cases_lt (limit width b) (whole_pick mode b n (2 ^ format.scale)))

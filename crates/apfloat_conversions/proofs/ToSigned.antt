@@ -1,5 +1,5 @@
 -- Conversion to signed integers, from the unsigned integer of the magnitude.
-use Rattle.std.proofs.Common.{◌≡◌, ℕ, ◌+◌, ◌-◌, ◌*◌, ◌/◌, ◌%◌, ◌^◌, ◌<◌, ◌≤◌, Bool, true, false, cond, ◌&&◌, eqb, sym, refl, ap, ◌∙◌, subst, ⊎_elim, arith, ℤ, pos, neg_ℤ, ◌≤ℤ◌, int_lt}
+use Rattle.std.proofs.Common.{◌≡◌, ℕ, ◌+◌, ◌-◌, ◌*◌, ◌/◌, ◌%◌, ◌^◌, ◌<◌, ◌≤◌, Bool, true, false, not, cond, ◌&&◌, eqb, sym, refl, ap, ◌∙◌, subst, ⊎_elim, arith, ℤ, pos, neg_ℤ, ◌≤ℤ◌, int_lt}
 use Rattle.std.proofs.Math.Bool.{and-true, and-false}
 use Rattle.std.proofs.Math.Nat.{pow-le-pow_right}
 use Rattle.std.proofs.lemmas.Nat.{pow_pos}
@@ -11,17 +11,22 @@ use Rattle.apfloat_model.specs.declared.kinds.Round.{Round}
 use Rattle.apfloat_model.specs.declared.kinds.Round.TheVariants.{NearestTiesToEven, TowardPositive, TowardNegative, TowardZero, NearestTiesToAway}
 use Rattle.apfloat_model.specs.formats.Format.{Format}
 use Rattle.apfloat_model.specs.formats.Datum.{Datum, finite, infinite, nan}
+use Rattle.apfloat_model.specs.arithmetic.Exact.{signed}
 use Rattle.apfloat_model.specs.order.Classes.{is_negative, category_of}
 use Rattle.apfloat_model.specs.whole_numbers.SignedWholes.{IsNegatedWhole}
 use Rattle.apfloat_model.specs.order.Predicates.{is_zero_category}
 use Rattle.apfloat_model.specs.rounding.Negation.{swapped, negated, negated_nan, negated_zero}
+use Rattle.apfloat_model.specs.rounding.Flags.{bits_of}
 use Rattle.apfloat_model.specs.rounding.Rounding.{takes_above}
 use Rattle.apfloat_model.specs.whole_numbers.WholeNumbers.{whole_pick, whole_quanta, inexact_unless}
 use Rattle.apfloat_model.specs.whole_numbers.WholeNumbersOut.{IsToUnsigned, IsToSigned, IsWhole, Whole, ranged, exact_or_not, invalid_whole}
 use Rattle.apfloat_model.proofs.general.Powers.{two_pos, twice_half}
 use Rattle.apfloat_model.proofs.whole_numbers.SignedTests.{less_so, less_not}
 use Rattle.apfloat_model.proofs.arithmetic.Signs.{no_sign}
-use Rattle.apfloat_conversions.proofs.Limits.{ranged_in, ranged_out}
+use Rattle.apfloat_conversions.specs.declared.integers.Unsigned.{Unsigned}
+use Rattle.apfloat_conversions.specs.Results.{IsLimited}
+use Rattle.apfloat_conversions.specs.Wholes.{signed_limit}
+use Rattle.apfloat_conversions.proofs.Limits.{limited_unsigned, ranged_in, ranged_out, same_number}
 use Rattle.apfloat_conversions.proofs.Wholes.{whole_exactly}
 
 -- ---- of a value without a minus sign: one binary digit less
@@ -231,3 +236,48 @@ to_signed_below format mode width (finite true n) number st exact value status i
     let z : eqb n 0 ≡ false = ne_eqb n 0 e in
     minus_number format mode width n number st exact value status is_exact z w (rw z at h) (rw z at g))
     (cases_eq n 0)
+
+-- ---- of a value of either sign, by the magnitude within the end of the range on its side
+
+-- a nonzero number
+pub limited_signed : (format : Format) (mode : Round) (width : ℕ) (negative : Bool) (n : ℕ) (whole : Unsigned) → 0 < n
+    → IsLimited format mode negative n (signed_limit width negative) whole
+    → IsToSigned format mode width (finite negative n) (signed negative whole.answer.value)
+    (bits_of whole.answer.status) whole.is_exact
+limited_signed format mode width false n whole p h =
+    to_signed_above format mode width (finite false n) whole.answer.value (bits_of whole.answer.status) whole.is_exact
+    refl (limited_unsigned format mode (width - 1) false n whole p h)
+limited_signed format mode width true n whole p h =
+    let z : eqb n 0 ≡ false = ne_eqb n 0 (λ e. omega (arith, e, p)) in
+    ⊎_elim
+    (λ (l : 2 ^ (width - 1) < whole_pick mode true n (2 ^ format.scale)).
+    let i = h.past l in
+    minus_past format mode width n _ _ _ l (ap (λ (j : ℕ). neg_ℤ (pos j)) (same_number _ _ i.number_is)) i.status_is
+    i.is_exact_is)
+    (λ (l : whole_pick mode true n (2 ^ format.scale) ≤ 2 ^ (width - 1)).
+    let i = h.within l in
+    minus_within format mode width n _ _ _ z l (ap (λ (j : ℕ). neg_ℤ (pos j)) (same_number _ _ i.number_is))
+    i.status_is (i.is_exact_is ∙ and-true _))
+    (cases_lt (2 ^ (width - 1)) (whole_pick mode true n (2 ^ format.scale)))
+
+-- a zero is converted to 0, which is not exact if the zero has a minus sign
+pub zero_signed : (format : Format) (mode : Round) (width : ℕ) (negative : Bool)
+    → IsToSigned format mode width (finite negative 0) (pos 0) 0 (not negative)
+zero_signed format mode width true = minus_zero format mode width (pos 0) 0 false refl refl refl
+zero_signed format mode width false =
+    rw (
+      no_whole mode false format.scale,
+      no_quanta format.scale,
+      zero_ranged (neg_ℤ (pos (2 ^ (width - 1)))) (pos (2 ^ (width - 1) - 1)) (exact_or_not (pos 0) true false)
+          (omega (arith, ints)) (omega (arith, ints)),
+    )
+    (record { number_is = refl; status_is = refl; is_exact_is = refl })
+
+-- an infinity is replaced by the end of the range on its side
+pub infinite_signed : (format : Format) (mode : Round) (width number : ℕ) (negative : Bool)
+    → number ≡ signed_limit width negative
+    → IsToSigned format mode width (infinite negative) (signed negative number) 1 false
+infinite_signed format mode width number true e =
+    record { number_is = ap (λ (j : ℕ). neg_ℤ (pos j)) e; status_is = refl; is_exact_is = refl }
+infinite_signed format mode width number false e =
+    record { number_is = ap (λ (j : ℕ). pos j) e; status_is = refl; is_exact_is = refl }

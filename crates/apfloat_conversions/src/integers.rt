@@ -4,10 +4,12 @@ ghost use Rattle.std.specs.Prelude.{◌≡◌, ◌-◌, ◌*◌, ◌^◌, ◌<�
 ghost use Rattle.apfloat_model.specs.formats.Datum.{finite};
 ghost use Rattle.apfloat_model.specs.rounding.Flags.{bits_of};
 ghost use Rattle.apfloat_model.specs.whole_numbers.WholeNumbers.{IsFromUnsigned, inexact_unless};
-ghost use Rattle.apfloat_model.specs.whole_numbers.WholeNumbersOut.{invalid_whole, to_unsigned};
+ghost use Rattle.apfloat_model.specs.arithmetic.Exact.{signed};
+ghost use Rattle.apfloat_model.specs.whole_numbers.WholeNumbersOut.{invalid_whole, to_signed, to_unsigned};
 ghost use Rattle.apfloat_rounding.specs.Shapes.{format_at};
-ghost use Rattle.apfloat_rounding.specs.Stored.{IsStored, IsNormal, datum_at, number_of, GivesAt};
-ghost use Rattle.apfloat_conversions.specs.Results.{GivesWhole};
+ghost use Rattle.apfloat_rounding.specs.Stored.{IsStored, IsNormal, datum_at, number_of, quanta_of, GivesAt};
+ghost use Rattle.apfloat_conversions.specs.Results.{GivesSigned, GivesWhole, IsLimited};
+ghost use Rattle.apfloat_conversions.specs.Wholes.{signed_limit};
 
 use crate::whole::{Whole, whole_of};
 use apfloat_model::{Category, Round, Status, StatusAnd};
@@ -15,7 +17,7 @@ use apfloat_rounding::exponents::aligned_exponent;
 use apfloat_rounding::rounding::deliver_counted_u128;
 use apfloat_rounding::shape::Shape;
 use apfloat_rounding::unpacked::{Unpacked, zero_of};
-use apfloat_words::digits;
+use apfloat_words::{digits, power_of_two};
 
 /// An integer of `count` digits, shifted up until it has 128.
 #[inline(always)]
@@ -61,6 +63,15 @@ pub struct Unsigned {
     pub is_exact: bool,
 }
 
+/// The signed integer that a value was converted to, and whether it equals the value.
+#[derive(Clone, Copy, Debug)]
+pub struct Signed {
+    /// The integer, with its status.
+    pub answer: StatusAnd<i128>,
+    /// Whether the integer equals the value; false for -0.
+    pub is_exact: bool,
+}
+
 /// The status of an integer in range.
 #[inline(always)]
 pub fn status_of(exact: bool) -> Status
@@ -101,17 +112,41 @@ fn limit_of(width: u32, negative: bool) -> u128
     if negative { 0 } else { greatest(width) }
 }
 
-/// A nonzero number as an integer of `width` binary digits.
+/// The greatest magnitude of a signed integer of `width` binary digits with this sign.
 #[inline(always)]
-fn number_to_unsigned(shape: Shape, x: Unpacked, width: u32, round: Round) -> Unsigned
-    requires normal { IsNormal shape x }
+fn signed_limit(width: u32, negative: bool) -> u128
     requires low { 1 ≤ width }
     requires high { width ≤ 128 }
-    ensures whole { GivesWhole (to_unsigned (format_at shape) round width (number_of shape x))
-        result }
-    ensures fits { result.answer.value < 2 ^ width }
+    ensures value { result ≡ signed_limit width negative }
+    ensures fits { result ≤ signed_limit 128 negative }
 {
-    let limit = limit_of(width, x.negative);
+    let end = power_of_two(width - 1);
+    if negative { end } else { end - 1 }
+}
+
+/// The integer of that magnitude with this sign.
+#[inline(always)]
+fn with_sign(negative: bool, magnitude: u128) -> i128
+    requires { magnitude ≤ signed_limit 128 negative }
+    ensures { result ≡ signed negative magnitude }
+{
+    if !negative {
+        magnitude as i128
+    } else if magnitude == 1 << 127 {
+        i128::MIN
+    } else {
+        -(magnitude as i128)
+    }
+}
+
+/// The magnitude of a nonzero number rounded to an integer, if that is at most `limit`, and else the limit, with
+/// `INVALID_OP`.
+#[inline(always)]
+fn magnitude_within(shape: Shape, x: Unpacked, limit: u128, round: Round) -> Unsigned
+    requires { IsNormal shape x }
+    ensures limited { IsLimited (format_at shape) round x.negative (quanta_of shape x) limit result }
+    ensures fits { result.answer.value ≤ limit }
+{
     match whole_of(shape, x, round) {
         None => out_of_range(limit),
         Some(whole) => {
@@ -124,6 +159,38 @@ fn number_to_unsigned(shape: Shape, x: Unpacked, width: u32, round: Round) -> Un
                 }
             }
         }
+    }
+}
+
+/// A nonzero number as an integer of `width` binary digits.
+#[inline(always)]
+fn number_to_unsigned(shape: Shape, x: Unpacked, width: u32, round: Round) -> Unsigned
+    requires normal { IsNormal shape x }
+    requires low { 1 ≤ width }
+    requires high { width ≤ 128 }
+    ensures whole { GivesWhole (to_unsigned (format_at shape) round width (number_of shape x))
+        result }
+    ensures fits { result.answer.value < 2 ^ width }
+{
+    magnitude_within(shape, x, limit_of(width, x.negative), round)
+}
+
+/// A nonzero number as a signed integer of `width` binary digits. Both signs take the same way, since a processor cannot
+/// foresee them.
+#[inline(always)]
+fn number_to_signed(shape: Shape, x: Unpacked, width: u32, round: Round) -> Signed
+    requires normal { IsNormal shape x }
+    requires low { 1 ≤ width }
+    requires high { width ≤ 128 }
+    ensures { GivesSigned (to_signed (format_at shape) round width (number_of shape x)) result }
+{
+    let magnitude = magnitude_within(shape, x, signed_limit(width, x.negative), round);
+    Signed {
+        answer: magnitude
+            .answer
+            .status
+            .and(with_sign(x.negative, magnitude.answer.value)),
+        is_exact: magnitude.is_exact,
     }
 }
 
@@ -180,5 +247,68 @@ pub fn to_unsigned(shape: Shape, x: Unpacked, width: u32, round: Round) -> Unsig
     match x.category {
         Category::Normal => number_to_unsigned(shape, x, width, round),
         _ => other_to_unsigned(shape, x, width, round),
+    }
+}
+
+/// The result for a value out of the range of signed integers: the nearer end of the range, with `INVALID_OP`.
+#[inline(always)]
+fn signed_out_of_range(number: i128) -> Signed
+    ensures { GivesSigned (invalid_whole number) result }
+{
+    Signed {
+        answer: Status::INVALID_OP.and(number),
+        is_exact: false,
+    }
+}
+
+/// Converts any value to a signed integer, out of line, as `any_to_unsigned`.
+#[cold]
+#[inline(never)]
+fn any_to_signed(shape: Shape, x: Unpacked, width: u32, round: Round) -> Signed
+    requires stored { IsStored shape x }
+    requires low { 1 ≤ width }
+    requires high { width ≤ 128 }
+    ensures { GivesSigned (to_signed (format_at shape) round width (datum_at shape x)) result }
+{
+    match x.category {
+        Category::Normal => number_to_signed(shape, x, width, round),
+        Category::Zero => Signed {
+            answer: Status::OK.and(0),
+            is_exact: !x.negative,
+        },
+        Category::Infinity => {
+            let limit = signed_limit(width, x.negative);
+            signed_out_of_range(with_sign(x.negative, limit))
+        }
+        Category::NaN => signed_out_of_range(0),
+    }
+}
+
+/// The result of `any_to_signed`, rebuilt from its fields, as that of `any_to_unsigned`.
+#[inline(always)]
+fn other_to_signed(shape: Shape, x: Unpacked, width: u32, round: Round) -> Signed
+    requires stored { IsStored shape x }
+    requires low { 1 ≤ width }
+    requires high { width ≤ 128 }
+    ensures { GivesSigned (to_signed (format_at shape) round width (datum_at shape x)) result }
+{
+    let whole = any_to_signed(shape.remade(), x.remade(), width, round);
+    Signed {
+        answer: whole.answer.status.and(whole.answer.value),
+        is_exact: whole.is_exact,
+    }
+}
+
+/// A value as a signed integer of `width` binary digits, in two's complement.
+#[inline(always)]
+pub fn to_signed(shape: Shape, x: Unpacked, width: u32, round: Round) -> Signed
+    requires stored { IsStored shape x }
+    requires low { 1 ≤ width }
+    requires high { width ≤ 128 }
+    ensures { GivesSigned (to_signed (format_at shape) round width (datum_at shape x)) result }
+{
+    match x.category {
+        Category::Normal => number_to_signed(shape, x, width, round),
+        _ => other_to_signed(shape, x, width, round),
     }
 }

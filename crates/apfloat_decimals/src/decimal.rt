@@ -5,12 +5,12 @@ ghost use Rattle.apfloat_model.specs.formats.Formats.{quad_constants, bfloat_con
 ghost use Rattle.apfloat_model.specs.formats.Formats.{e4m3fn_constants, e4m3fnuz_constants, x87_constants};
 ghost use Rattle.apfloat_model.specs.formats.Lawful.{format_with};
 ghost use Rattle.apfloat_model.specs.rounding.Flags.{Gives};
-ghost use Rattle.apfloat_ieee.specs.Types.{format_of};
+ghost use Rattle.apfloat_ieee.specs.FlaggedTypes.{format_of};
 ghost use Rattle.apfloat_decimals.specs.Decimals.{IsDecimalDelivery, HasQuadExponents};
 
 use crate::scaling::{nearest, scaled};
 use apfloat_base::{ExpInt, Round, StatusAnd};
-use apfloat_ieee::{IeeeFloat, Semantics, deliver};
+use apfloat_ieee::{Flagged, IeeeFloat, deliver};
 use apfloat_model::Loss;
 
 /// The number `digits * 10^exponent`, with a sign.
@@ -28,9 +28,9 @@ pub struct Decimal {
 ///
 /// The exponents of the format are within those of `Quad`, as in each built-in format; the decimal may have any
 /// exponent. A zero keeps its sign if the format has signed zeros.
-pub fn from_decimal<S: Semantics>(decimal: Decimal, round: Round) -> StatusAnd<IeeeFloat<S>>
-    requires { HasQuadExponents (format_of S.Semantics) }
-    ensures { Gives (IsDecimalDelivery (format_of S.Semantics) round decimal.negative
+pub fn from_decimal<S: Flagged>(decimal: Decimal, round: Round) -> StatusAnd<IeeeFloat<S>>
+    requires { HasQuadExponents (format_of S.Flagged) }
+    ensures { Gives (IsDecimalDelivery (format_of S.Flagged) round decimal.negative
         decimal.digits decimal.exponent) result }
 {
     if decimal.digits == 0 {

@@ -39,7 +39,7 @@ use apfloat_arithmetic::inverses::exact_inverse;
 use apfloat_arithmetic::order::{compare_magnitudes, is_same};
 use apfloat_arithmetic::remainders::nearest_remainder;
 use apfloat_base::{Category, ExpInt, Float, PRODUCT_LIMIT, ParseError, Round, StatusAnd};
-use apfloat_conversions::integers::{from_unsigned, to_unsigned};
+use apfloat_conversions::integers::{from_unsigned, to_signed, to_unsigned};
 use apfloat_conversions::integral::{is_integer, round_to_integral};
 use apfloat_conversions::neighbours::next_up;
 use apfloat_conversions::scaling::{fraction_of, ilogb, scaled};
@@ -281,6 +281,14 @@ impl<S: Flagged> Float for IeeeFloat<S> {
             → other ≡ result }
     {
         encode::<S>(self)
+    }
+
+    #[inline(always)]
+    fn to_i128_r(self, width: usize, round: Round, is_exact: &mut bool) -> StatusAnd<i128> {
+        let whole = to_signed(shape_of::<S>(), self.unpacked(), width as u32, round);
+        *is_exact = whole.is_exact;
+        // Rebuilt from its fields, as in `to_u128_r`.
+        whole.answer.status.and(whole.answer.value)
     }
 
     #[inline(always)]

@@ -7,6 +7,8 @@
 //!
 //! The operands come from a generator of random integers. Only the safety of these functions is proved.
 //!
+//! `HELP` explains the arguments.
+//!
 //! The exit status is 0, or 2 for other arguments, and 1 if a write fails or there is not enough memory.
 #![tactic(auto)]
 
@@ -23,61 +25,55 @@ mod operands;
 mod operation;
 mod pairs;
 mod report;
+mod subject;
 mod task;
 mod wide_numbers;
 
 use crate::growth::print_growth;
 use crate::report::{print_checksums, print_times};
-use std::env::Env;
+use crate::subject::{HELP, Subject, wrong_word};
+use commands::{About, words_of_system};
+use std::io;
+use std::io::Write;
 use std::process::ExitCode;
 use std::rt::Clock;
-use std::{env, io};
+
+const PROGRAM: &str = "bench";
 
 fn main(rt: HostRuntime) -> ExitCode {
-    match answer(&rt) {
+    match answer(
+        &rt,
+        words_of_system(&rt),
+        &mut rt.stdout(),
+        &mut rt.stderr(),
+    ) {
         Ok(status) => ExitCode::from(status),
         Err(_) => ExitCode::from(1),
     }
 }
 
 /// The exit status.
-fn answer(rt: &(impl Env + Clock + Print + Eprint + AllocGlobal)) -> io::Result<u8> {
-    let words = words_of_system(rt)?;
-    match subject_of(words.as_slice()) {
+fn answer<R: Clock + Print + AllocGlobal, W: Write, V: Write>(
+    rt: &R,
+    given: io::Result<Vec<String>>,
+    out: &mut W,
+    err: &mut V,
+) -> io::Result<u8> {
+    let words = given?;
+    if let Some(about) = About::among(words.as_slice()) {
+        about.answer(PROGRAM, HELP, out)?;
+        return Ok(0);
+    }
+    match Subject::named(words.as_slice()) {
         Some(Subject::Checksums) => print_checksums(rt)?,
         Some(Subject::Times) => print_times(rt)?,
         Some(Subject::Growth) => print_growth(rt)?,
         None => {
-            eprintln!(rt; "usage: bench [time | growth]")?;
+            if let Some(wrong) = wrong_word(words.as_slice()) {
+                wrong.write(PROGRAM, err)?;
+            }
             return Ok(2);
         }
     }
     Ok(0)
-}
-
-/// What is printed.
-#[derive(Clone, Copy)]
-enum Subject {
-    Checksums,
-    Times,
-    Growth,
-}
-
-/// What the arguments ask for, or `None` if they are unknown.
-fn subject_of(words: &[String]) -> Option<Subject> {
-    match words {
-        [] => Some(Subject::Checksums),
-        [word] => match word.as_str() {
-            "time" => Some(Subject::Times),
-            "growth" => Some(Subject::Growth),
-            _ => None,
-        },
-        _ => None,
-    }
-}
-
-/// The words without the program's own name.
-fn words_of_system(rt: &(impl Env + AllocGlobal)) -> io::Result<Vec<String>> {
-    let words = env::args(rt)?.skip(1).collect(rt.alloc())?;
-    Ok(words)
 }

@@ -2,9 +2,11 @@
 
 ghost use Rattle.std.specs.Prelude.{◌<◌};
 
+use apfloat_base::Float;
 use apfloat_decimals::{read_decimal, read_decimal_ascii};
-use apfloat_formats::{DoubleS, Semantics};
-use apfloat_model::{Flags, ParseError, Round, Status};
+use apfloat_formats::{DoubleS, Semantics, SingleS};
+use apfloat_ieee::{Flagged, IeeeFlags, IeeeFloat, TinyBefore};
+use apfloat_model::{Flags, ParseError, Round, Status, StatusAnd};
 use std::process::Abort;
 
 /// Half of the least double: 752 digits.
@@ -89,4 +91,72 @@ fn refused_bytes(rt: HostRuntime) {
     check_refused_bytes(&rt, b"\xff", "Invalid character in significand");
     check_refused_bytes(&rt, b"-1.5\x80", "Invalid character in significand");
     check_refused_bytes(&rt, b"1e\xc35", "Invalid character in exponent");
+}
+
+/// Asserts that a single was read with the given bits and status.
+fn check_single<S: Flagged>(
+    rt: &impl Abort,
+    answer: Result<StatusAnd<IeeeFloat<S>>, ParseError>,
+    bits: u128,
+    status: Status,
+)
+    requires { S.PRECISION < S.BITS }
+{
+    assert!(rt; answer.is_ok());
+    if let Ok(answer) = answer {
+        assert_eq!(rt; answer.value.to_bits(), bits);
+        assert_eq!(rt; answer.status, status);
+    }
+}
+
+/// Past the largest single, and below the smallest normal one by less than half a quantum: the first of these is tiny
+/// with an unbounded exponent, the second only before it is rounded. By fractions in Python.
+#[test]
+fn rules_of_flags(rt: HostRuntime) {
+    let inexact = Status::INEXACT;
+    let past = Status::OVERFLOW.union(inexact);
+    let tiny = Status::UNDERFLOW.union(inexact);
+
+    let zero = Round::TowardZero;
+    check_single(
+        &rt,
+        read_decimal::<SingleS>("1e39", zero),
+        0x7f7f_ffff,
+        inexact,
+    );
+    check_single(
+        &rt,
+        read_decimal::<IeeeFlags<SingleS>>("1e39", zero),
+        0x7f7f_ffff,
+        past,
+    );
+
+    let even = Round::NearestTiesToEven;
+    let below = "1.1754943087833335782e-38";
+    check_single(
+        &rt,
+        read_decimal::<SingleS>(below, even),
+        0x0080_0000,
+        inexact,
+    );
+    check_single(
+        &rt,
+        read_decimal::<IeeeFlags<SingleS>>(below, even),
+        0x0080_0000,
+        tiny,
+    );
+
+    let nearer = "1.1754943227963182215e-38";
+    check_single(
+        &rt,
+        read_decimal::<IeeeFlags<SingleS>>(nearer, even),
+        0x0080_0000,
+        inexact,
+    );
+    check_single(
+        &rt,
+        read_decimal::<IeeeFlags<TinyBefore<SingleS>>>(nearer, even),
+        0x0080_0000,
+        tiny,
+    );
 }

@@ -395,16 +395,7 @@ macro_rules! by_the_library {
         #[inline]
         fn to_i128_r(self, width: usize, round: Round, is_exact: &mut bool) -> StatusAnd<i128> {
             assert!((2..=128).contains(&width), "no signed integer has a width of {width}");
-            // The magnitude by the library, in one conversion for both signs: a processor cannot foresee the sign.
-            let negative = self.value.negative;
-            let (digits, mode) = if negative { (width, -round) } else { (width - 1, round) };
-            let magnitude = answered(self.inner().abs().to_u128_r(digits, mode, is_exact));
-            let greatest = 1 << (width - 1);
-            let is_past = magnitude.value > greatest;
-            *is_exact &= !is_past && !(negative && self.is_zero());
-            let status = if is_past { Status::INVALID_OP } else { magnitude.status };
-            let whole = if is_past { greatest } else { magnitude.value } as i128;
-            status.and(if negative { whole.wrapping_neg() } else { whole })
+            answered(self.inner().to_i128_r(width, round, is_exact))
         }
 
         #[inline]

@@ -8,7 +8,7 @@ use crate::erased::{apfloat_decimals, apfloat_ieee, pair_operations};
 use crate::far;
 use crate::law::Constants;
 use crate::status::answered;
-use crate::{Category, Decimal, ExpInt, Float, FloatConvert, ParseError, Round, Status, StatusAnd};
+use crate::{Category, Decimal, ExpInt, Float, FloatConvert, ParseError, Round, StatusAnd};
 use core::cmp::Ordering;
 use core::fmt;
 use core::marker::PhantomData;
@@ -524,9 +524,8 @@ impl<S: Semantics> Float for IeeeFloat<S> {
     }
 
     fn from_str_r(s: &str, round: Round) -> Result<StatusAnd<Self>, ParseError> {
-        if LawOfFormat::<S>::HAS_QUAD_EXPONENTS && !S::IEEE_FLAGS {
-            let answer = apfloat_decimals::read_decimal::<PlainS<S>>(s, round)?;
-            return Ok(answered(answer).map(|value| Self::from_unpacked(value.unpacked())));
+        if LawOfFormat::<S>::HAS_QUAD_EXPONENTS {
+            return Ok(Self::answered(apfloat_decimals::read_decimal(s, round)?));
         }
         if let Ok(answer) = Inner::<S>::from_str_r(s, round) {
             return Ok(Self::answered(answer));

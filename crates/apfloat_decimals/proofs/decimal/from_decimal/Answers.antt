@@ -2,7 +2,7 @@ use Rattle.std.proofs.Common.{◌≡◌, ◌^◌, arith, lit<, to_z, of_z, w32}
 use Rattle.std.proofs.lemmas.Int.{to_z-of_z, ints}
 use Rattle.apfloat_model.specs.arithmetic.Exact.{up, down}
 use Rattle.apfloat_model.specs.rounding.Flags.{bits_of}
-use Rattle.apfloat_ieee.specs.Types.{format_of}
+use Rattle.apfloat_ieee.specs.FlaggedTypes.{format_of}
 use Rattle.apfloat_decimals.proofs.cuts.Readings.{none_stand, fine_digits, decimal_delivered}
 use Rattle.apfloat_decimals.proofs.numbers.Values.{power_pos}
 use Rattle.apfloat_decimals.proofs.decimal.from_decimal.Goals as goal
@@ -15,7 +15,7 @@ returns-then-decimal-eq0 g c =
 pub deliver-requires-2-clause-fine : goal.deliver-requires-2-clause-fine
 deliver-requires-2-clause-fine g c =
     let full = rw c.PRECISION.ensures at c.scaled-ratio.ensures.full in
-    fine_digits g.S.Semantics.PRECISION c.scaled-ratio.result.significand _ c.scaled-ratio.result.loss full
+    fine_digits g.S.Flagged.PRECISION c.scaled-ratio.result.significand _ c.scaled-ratio.result.loss full
 
 pub returns : goal.returns
 returns g c =
@@ -28,9 +28,9 @@ returns g c =
     let nearest = rw exact at c.nearest.ensures.nearest in
     let stands = rw near at c.scaled-ratio.ensures.stands in
     let delivered = rw ratio at c.deliver-2.ensures in
-    let law = g.S.Semantics.lawful.parameters.precision_low in
-    decimal_delivered (format_of g.S.Semantics) c.args.round c.args.decimal.negative c.args.decimal.digits
+    let law = g.S.Flagged.lawful.parameters.precision_low in
+    decimal_delivered (format_of g.S.Flagged) c.args.round c.args.decimal.negative c.args.decimal.digits
     c.args.decimal.exponent c.nearest.result c.scaled-ratio.result.significand c.scaled-ratio.result.exponent
     c.scaled-ratio.result.loss c.deliver-2.result.value (bits_of c.deliver-2.result.status) c.requires (omega arith)
-    g.S.Semantics.lawful.parameters.precision_high (omega (arith, c.if-decimal-eq0.false)) (omega arith)
+    g.S.Flagged.lawful.parameters.precision_high (omega (arith, c.if-decimal-eq0.false)) (omega arith)
     nearest stands delivered

@@ -3,7 +3,7 @@ use Rattle.std.proofs.Common.{length, drop, pos, ◌-ℤ◌}
 use Rattle.apfloat_model.specs.texts.Literals.{exponent_number}
 use Rattle.std.proofs.lemmas.Int.{to_z-of_z}
 use Rattle.apfloat_model.specs.rounding.Flags.{bits_of}
-use Rattle.apfloat_ieee.specs.Types.{format_of}
+use Rattle.apfloat_ieee.specs.FlaggedTypes.{format_of}
 use Rattle.apfloat_hex_texts.proofs.FaultsRead.{exponent_fits}
 use Rattle.apfloat_hex_texts.proofs.Scanning.{refused_by}
 use Rattle.apfloat_decimals.proofs.spelled.SpelledTexts.{first_digits, fraction_digits, body_spelled, body_faulted}
@@ -32,7 +32,7 @@ returns g c =
     let e = c.in_ok-exponent.ensures in
     let exponent = to_z-of_z w128 c.in_ok-exponent.exponent (exponent_fits c.in_ok-exponent.exponent e.1) in
     let unit = to_z-of_z w128 c.unit_of-unit.result (record { sfits = c.unit_of-unit.type_inv }) in
-    body_spelled (format_of g.S.Semantics) c.args.round c.args.negative c.args.body.now whole
+    body_spelled (format_of g.S.Flagged) c.args.round c.args.negative c.args.body.now whole
     c.split_digits.result.1.now fraction tail c.has_some.result c.value_of.result.value
     (bits_of c.value_of.result.status) c.split_digits.ensures.digits c.split_digits.ensures.rest
     c.split_fraction.ensures.digits c.split_fraction.ensures.rest c.has_some.ensures e.2
