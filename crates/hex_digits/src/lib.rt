@@ -17,4 +17,5 @@ mod written;
 pub use payloads::{full_hex_once, full_text_reads_back, write_hex_with_payload};
 pub use reading_back::text_reads_back;
 pub use rounded::{MOST_DIGITS, rounded_hex_once, write_hex_rounded};
+pub use significands::{Aligned, digits_of};
 pub use written::{HexError, hex_length, hex_once, write_hex};
