@@ -15,7 +15,7 @@ from struct import pack, unpack
 
 from exact.bits import decoded, encoded
 from exact.conversions import convert
-from exact.data import Finite, Infinite, NaN, is_nan, is_signaling, qnan
+from exact.data import Finite, Infinite, is_nan, is_signaling, qnan
 from exact.formats import E4M3FN, E5M2, HALF, SINGLE
 from exact.rounding import Mode, delivered, overflows
 from exact.status import INEXACT, INVALID_OP, OK, OVERFLOW, UNDERFLOW
@@ -125,6 +125,50 @@ class Scales:
         return value, status, status != OK
 
 
+class Unsigned:
+    """The numbers of `e4m3fn` that are not below zero, and its NaN."""
+
+    name = "UE4M3"
+    bits = 7
+
+    @cached_property
+    def points(self):
+        """The numbers in order, with what is past them."""
+        return Elements("", 8, 4, -6).points
+
+    @cached_property
+    def count(self):
+        """How many of them are numbers."""
+        return 127
+
+    def store(self, source, x, mode):
+        """The code, the flags, and whether information is lost."""
+        if is_nan(x):
+            status = INVALID_OP if is_signaling(source, x) else OK
+            return 127, status, source.payload_mask != 0
+        if isinstance(x, Infinite):
+            return 127, INVALID_OP if x.negative else INEXACT, True
+        if x.negative:
+            return (0, INEXACT, True) if x.quanta == 0 else (127, INVALID_OP, True)
+        index, is_exact = pick(self.points, mode, False, Fraction(x.quanta, 1 << source.scale))
+        if index > 126:
+            leads = overflows(mode, False)
+            return 127 if leads else 126, OVERFLOW | INEXACT if leads else INEXACT, True
+        if is_exact:
+            return index, OK, False
+        return index, UNDERFLOW | INEXACT if index < 8 else INEXACT, True
+
+    def load(self, target, code, mode):
+        """The value in another format."""
+        if code == 127:
+            return convert(E4M3FN, target, decoded(E4M3FN, code), mode)
+        if code == 0:
+            return convert(HALF, target, Finite(False, 0), mode)
+        quanta = self.points[code] * (1 << target.scale)
+        value, status = delivered(target, mode, False, quanta.numerator, quanta.denominator)
+        return value, status, status != OK
+
+
 def pick(points, mode, negative, exact):
     """Where the point is that the mode takes, and whether it is the value itself."""
     below = bisect_right(points, exact) - 1
@@ -151,6 +195,7 @@ FORMATS = (
     Elements("E2M3FN", 6, 4, 0),
     Elements("E3M2FN", 6, 3, -2),
     Scales(),
+    Unsigned(),
 )
 
 
@@ -172,9 +217,9 @@ def singles_of(form):
         wanted = [points[code] for code in near] + [points[code] * Fraction(3, 2) for code in near]
         signs = (0,)
     else:
-        shown = points[: form.count + 2]
+        shown = points[: form.count + 2] if form.count < 64 else [*points[:18], *points[120:130]]
         wanted = [*shown[1:], *((a + b) / 2 for a, b in zip(shown, shown[1:]))]
-        signs = (0, 1)
+        signs = (0,) if isinstance(form, Unsigned) else (0, 1)
     around = {bits + step for x in set(wanted) for bits in (single_bits(x),) for step in (-1, 0, 1)}
     around |= {0, 1, 0x00400000, 0x7F7FFFFF, 0x7F800000, 0x7F800001, 0x7FC00000}
     found = [sign << 31 | bits for bits in sorted(around) for sign in signs]

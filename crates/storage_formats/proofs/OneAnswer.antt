@@ -1,6 +1,6 @@
 -- Conversions into storage formats have one answer.
 use Rattle.std.proofs.Common.{◌≡◌, ℕ, zero, suc, ◌+◌, ◌-◌, ◌*◌, ◌%◌, ◌^◌, ◌<◌, ◌≤◌, Bool, true, false, cond, not, eqb, leb}
-use Rattle.std.proofs.Common.{sym, refl, ap, ◌∙◌, subst, inl, inr, ⊎_elim, arith}
+use Rattle.std.proofs.Common.{sym, refl, ap, ◌∙◌, subst, inl, inr, ⊎_elim, arith, lit≤}
 use Rattle.std.proofs.Math.Nat.{mul-le-mul_right, pow-le-pow_right, mod-eq_of_lt, add-mul-mod_self_right}
 use Rattle.std.proofs.lemmas.Bool.{cases_lt, le-leb, lt-leb, ne_eqb, MatchBool-at_false}
 use Rattle.std.proofs.lemmas.Nat.{pow_pos}
@@ -10,13 +10,19 @@ use Rattle.apfloat_model.specs.formats.Format.{Format}
 use Rattle.apfloat_model.specs.order.Classes.{is_negative, quanta_of}
 use Rattle.apfloat_model.specs.rounding.Rounding.{delivered_status, ok_bits}
 use Rattle.apfloat_model.proofs.general.Powers.{two_pos, twice_half}
+use Rattle.apfloat_model.specs.arithmetic.Conversions.{IsConversion}
+use Rattle.apfloat_model.specs.bits.Interchange.{IsInterchange}
+use Rattle.apfloat_model.specs.bits.Layout.{IsEncodedBy}
+use Rattle.apfloat_model.proofs.Once.{conversion_once}
+use Rattle.apfloat_model.proofs.bits.EncodedOnce.{encoded_once}
 use Rattle.apfloat_model.proofs.rounding.Picks.{pick_unique}
 use Rattle.storage_formats.specs.Codes.{datum_of, is_negative_code, magnitude_of, point}
 use Rattle.storage_formats.specs.Conversions.{IsGiven, IsInto, IsStoredNumber, saturated_value}
-use Rattle.storage_formats.specs.Laws.{IsIntoOnce, IsScaleOnce}
+use Rattle.storage_formats.specs.Laws.{IsIntoOnce, IsScaleOnce, IsUnsignedOnce}
 use Rattle.storage_formats.specs.Scales.{IsCode, IsPickedCode, IsPickedScale, IsDeliveredScale, IsScale, IsScaleOf}
 use Rattle.storage_formats.specs.Scales.{delivered_code, picked_code, scale_format, scale_status}
 use Rattle.storage_formats.specs.Storage.{Constants, IsLawful, format_with}
+use Rattle.storage_formats.specs.Unsigned.{IsUnsigned, signed_format, signed_layout, unsigned_datum}
 use Rattle.storage_formats.proofs.Points.{one_number}
 
 -- the same code, flags and loss
@@ -182,3 +188,48 @@ scale_once f mode (finite false (suc n)) code other status flags loses lost x y 
     scale_number_once f mode (suc n) code other status flags loses lost
     (MatchBool-at_false _ (IsScaleOf f mode (suc n) code status loses) some x)
     (MatchBool-at_false _ (IsScaleOf f mode (suc n) other flags lost) some y)
+
+-- ---- without a sign
+
+interchange : IsInterchange signed_format signed_layout
+interchange = record {
+  precise = lit≤ tt;
+  some = lit≤ tt;
+  bits = refl;
+  within = lit≤ tt;
+  span = refl;
+  explicit = refl;
+}
+
+unsigned_encoded : (code : ℕ) → code < 128 → IsEncodedBy signed_format signed_layout code (unsigned_datum code)
+unsigned_encoded code l = record { below = omega (arith, l); canonical = refl; is = refl }
+
+unsigned_code_once : (code other : ℕ) → code < 128 → other < 128 → unsigned_datum code ≡ unsigned_datum other
+    → code ≡ other
+unsigned_code_once code other l k e =
+    encoded_once signed_format signed_layout (unsigned_datum other) code other interchange
+    (subst (λ (x : Datum). IsEncodedBy signed_format signed_layout code x) e (unsigned_encoded code l))
+    (unsigned_encoded other k)
+
+unsigned_number_once : (f : Format) (mode : Round) (x : Datum) (code other status flags : ℕ) (loses lost : Bool)
+    → code < 128 → other < 128 → IsConversion f signed_format mode x (unsigned_datum code) status loses
+    → IsConversion f signed_format mode x (unsigned_datum other) flags lost
+    → AreSame code status loses other flags lost
+unsigned_number_once f mode x code other status flags loses lost l k h j =
+    let same = conversion_once f signed_format mode x (unsigned_datum code) (unsigned_datum other) status flags loses
+    lost h j in
+    (unsigned_code_once code other l k same.0, same.1, same.2)
+
+pub unsigned_once : IsUnsignedOnce
+unsigned_once f mode (nan b s) code other status flags loses lost l k x y =
+    scale_code_once _ _ _ code other status flags loses lost x y
+unsigned_once f mode (infinite b) code other status flags loses lost l k x y =
+    scale_code_once _ _ _ code other status flags loses lost x y
+unsigned_once f mode (finite false n) code other status flags loses lost l k x y =
+    unsigned_number_once f mode (finite false n) code other status flags loses lost l k x y
+unsigned_once f mode (finite true zero) code other status flags loses lost l k x y =
+    scale_code_once _ _ _ code other status flags loses lost x y
+unsigned_once f mode (finite true (suc n)) code other status flags loses lost l k x y =
+    let some : eqb (suc n) 0 ≡ false = ne_eqb (suc n) 0 (λ e. omega (arith, e)) in
+    scale_code_once _ _ _ code other status flags loses lost
+    (MatchBool-at_false _ _ some x) (MatchBool-at_false _ _ some y)

@@ -7,6 +7,7 @@ use Rattle.storage_formats.specs.Codes.{point}
 use Rattle.storage_formats.specs.Conversions.{IsInto}
 use Rattle.storage_formats.specs.Scales.{IsScale}
 use Rattle.storage_formats.specs.Storage.{Constants, IsLawful}
+use Rattle.storage_formats.specs.Unsigned.{IsUnsigned}
 
 -- the point with the greater number is the greater one
 abbrev pub AreCodesInOrder : Type 0
@@ -23,4 +24,11 @@ abbrev pub IsScaleOnce : Type 0
 IsScaleOnce =
     (f : Format) (mode : Round) (x : Datum) (code other status flags : ℕ) (loses lost : Bool)
     → IsScale f mode x code status loses → IsScale f mode x other flags lost
+    → (code ≡ other) × (status ≡ flags) × (loses ≡ lost)
+
+-- codes are below 2 ^ 7
+abbrev pub IsUnsignedOnce : Type 0
+IsUnsignedOnce =
+    (f : Format) (mode : Round) (x : Datum) (code other status flags : ℕ) (loses lost : Bool)
+    → code < 128 → other < 128 → IsUnsigned f mode x code status loses → IsUnsigned f mode x other flags lost
     → (code ≡ other) × (status ≡ flags) × (loses ≡ lost)

@@ -2,7 +2,7 @@
 
 ghost use Rattle.std.specs.Prelude.{◌≡◌, ℕ, ◌+◌, ◌*◌, ◌^◌, ◌<◌, ◌≤◌, pos, neg_ℤ, ◌+ℤ◌, ◌-ℤ◌, ◌≤ℤ◌, eqb, false};
 ghost use Rattle.std.specs.Prelude.{if◌then◌else◌};
-ghost use Rattle.apfloat_model.specs.arithmetic.Conversions.{IsConversion};
+ghost use Rattle.apfloat_model.specs.arithmetic.Conversions.{IsConversion, IsExactlyConverted};
 ghost use Rattle.apfloat_model.specs.order.Classes.{quanta_of};
 ghost use Rattle.apfloat_model.specs.rounding.Bounds.{IsWithin};
 ghost use Rattle.apfloat_model.specs.rounding.Flags.{Gives, bits_of};
@@ -206,8 +206,10 @@ impl E8M0FNU {
         round: Round,
         loses_info: &mut bool,
     ) -> StatusAnd<IeeeFloat<T>>
-        ensures { IsConversion scale_format (flagged_format_of T.Flagged) round (scale_of self)
-            result.value (bits_of result.status) loses_info.new }
+        ensures converted { IsConversion scale_format (flagged_format_of T.Flagged) round
+            (scale_of self) result.value (bits_of result.status) loses_info.new }
+        ensures exact { IsExactlyConverted scale_format (flagged_format_of T.Flagged)
+            (scale_of self) result.value (bits_of result.status) loses_info.new }
     {
         if self.code == NAN {
             *loses_info = false;

@@ -1,7 +1,7 @@
 //! Conversions of the values of a storage format to any format.
 
 ghost use Rattle.std.specs.Prelude.{◌≡◌, ◌≢◌, ◌-◌, ◌*◌, ◌^◌, ◌<◌, ◌≤◌, pos, ◌-ℤ◌};
-ghost use Rattle.apfloat_model.specs.arithmetic.Conversions.{IsConversion, IsKept, loses_zero_sign};
+ghost use Rattle.apfloat_model.specs.arithmetic.Conversions.{IsConversion, IsExactlyConverted, IsKept, loses_zero_sign};
 ghost use Rattle.apfloat_model.specs.formats.Datum.{finite};
 ghost use Rattle.apfloat_model.specs.rounding.Bounds.{IsWithin};
 ghost use Rattle.apfloat_model.specs.rounding.Flags.{bits_of};
@@ -74,8 +74,11 @@ impl<F: StorageFormat> StoredFloat<F> {
         round: Round,
         loses_info: &mut bool,
     ) -> StatusAnd<IeeeFloat<T>>
-        ensures { let c = constants_of F.StorageFormat in IsConversion (format_with c)
+        ensures converted { let c = constants_of F.StorageFormat in IsConversion (format_with c)
             (format_of T.Flagged) round (datum_of c self) result.value (bits_of result.status)
+            loses_info.new }
+        ensures exact { let c = constants_of F.StorageFormat in IsExactlyConverted (format_with c)
+            (format_of T.Flagged) (datum_of c self) result.value (bits_of result.status)
             loses_info.new }
     {
         let negative = self.is_negative();

@@ -1,7 +1,7 @@
 //! Scales of NVFP4: the numbers of `Float8E4M3FN` without a sign, in 7 bits.
 
 ghost use Rattle.std.specs.Prelude.{◌≡◌, ◌%◌, ◌<◌, eqb, true, false};
-ghost use Rattle.apfloat_model.specs.arithmetic.Conversions.{IsConversion};
+ghost use Rattle.apfloat_model.specs.arithmetic.Conversions.{IsConversion, IsExactlyConverted};
 ghost use Rattle.apfloat_model.specs.order.Classes.{is_finite, is_negative};
 ghost use Rattle.apfloat_model.specs.rounding.Flags.{bits_of};
 ghost use Rattle.apfloat_ieee.specs.FlaggedTypes.{format_of as flagged_format_of};
@@ -131,13 +131,15 @@ impl UE4M3 {
         }
     }
 
-    /// The value in another format, rounded once, as that of `Float8E4M3FN` is converted.
+    /// The value in another format, rounded once, as that of `Float8E4M3FN` is converted; so is the NaN.
     pub fn convert_r<T: Flagged>(
         self,
         round: Round,
         loses_info: &mut bool,
     ) -> StatusAnd<IeeeFloat<T>>
-        ensures { IsConversion signed_format (flagged_format_of T.Flagged) round
+        ensures converted { IsConversion signed_format (flagged_format_of T.Flagged) round
+            (unsigned_datum self) result.value (bits_of result.status) loses_info.new }
+        ensures exact { IsExactlyConverted signed_format (flagged_format_of T.Flagged)
             (unsigned_datum self) result.value (bits_of result.status) loses_info.new }
     {
         Float8E4M3FN::from_bits(u128::from(self.code)).convert_r(round, loses_info)

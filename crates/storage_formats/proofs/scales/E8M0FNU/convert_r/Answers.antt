@@ -3,14 +3,15 @@ use Rattle.std.proofs.lemmas.Int.{ints, to_z-of_z}
 use Rattle.std.proofs.lemmas.Nat.{pow_pos}
 use Rattle.apfloat_model.specs.arithmetic.Conversions.{IsConversion}
 use Rattle.apfloat_model.specs.rounding.Flags.{bits_of}
+use Rattle.apfloat_model.proofs.arithmetic.ExactConversions.{exactly_converted}
 use Rattle.apfloat_ieee.specs.FlaggedTypes.{format_of}
 use Rattle.storage_formats.specs.Scales.{scale_format, scale_of}
 use Rattle.storage_formats.proofs.Converted.{scale_converted}
 use Rattle.storage_formats.proofs.StoredNumbers.{point_in_quanta}
 use Rattle.storage_formats.proofs.scales.E8M0FNU.convert_r.Goals as goal
 
-pub returns : goal.returns
-returns g c =
+pub returns-clause-converted : goal.returns-clause-converted
+returns-clause-converted g c =
     let f = format_of g.T.Flagged in
     let code = c.self.inside.code in
     let is : c.args.self ≡ code = omega (arith, c.self.view_is) in
@@ -26,3 +27,8 @@ returns g c =
     (point_in_quanta (2 ^ code) 1 code 127 f.scale c.exponent_of.result
     (c.exponent_of.result +ℤ pos f.scale) one (omega (arith, ints, at)) refl))
     c.ne.ensures)
+
+pub returns-clause-exact : goal.returns-clause-exact
+returns-clause-exact g c =
+    exactly_converted scale_format (format_of g.T.Flagged) c.args.round (scale_of c.args.self)
+    c.deliver-answer.result.value (bits_of c.deliver-answer.result.status) c.ne.result (returns-clause-converted g c)
