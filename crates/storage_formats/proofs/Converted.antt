@@ -1,12 +1,12 @@
 -- What a code means, in another format.
-use Rattle.std.proofs.Common.{◌≡◌, ℕ, ◌+◌, ◌-◌, ◌*◌, ◌/◌, ◌^◌, ◌<◌, Bool, true, false, not, eqb, sym, refl, ap, ◌∙◌, subst, arith}
+use Rattle.std.proofs.Common.{◌≡◌, ℕ, ◌-◌, ◌*◌, ◌/◌, ◌^◌, ◌<◌, Bool, false, not, eqb, sym, refl, ap, ◌∙◌, subst, arith}
 use Rattle.std.specs.Bool.{MatchBool}
 use Rattle.std.proofs.lemmas.Bool.{eq-eqb, ne_eqb}
 use Rattle.std.proofs.lemmas.Nat.{pow_pos}
 use Rattle.apfloat_model.specs.declared.kinds.NonfiniteBehavior.{NonfiniteBehavior}
 use Rattle.apfloat_model.specs.declared.kinds.NonfiniteBehavior.TheVariants.{IEEE754, NanOnly, NanNegativeZero}
 use Rattle.apfloat_model.specs.declared.kinds.Round.{Round}
-use Rattle.apfloat_model.specs.arithmetic.Conversions.{IsConversion, IsConverted, IsConvertedNumber, IsKept, converted_nan}
+use Rattle.apfloat_model.specs.arithmetic.Conversions.{IsConversion, IsConvertedNumber, IsKept, converted_nan}
 use Rattle.apfloat_model.specs.arithmetic.Conversions.{loses_zero_sign}
 use Rattle.apfloat_model.specs.formats.Datum.{Datum, finite, nan}
 use Rattle.apfloat_model.specs.formats.Format.{Format}

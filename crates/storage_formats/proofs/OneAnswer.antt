@@ -1,5 +1,6 @@
 -- Conversions into storage formats have one answer.
-use Rattle.std.proofs.Common.{◌≡◌, ℕ, zero, suc, ◌+◌, ◌-◌, ◌*◌, ◌%◌, ◌^◌, ◌<◌, ◌≤◌, Bool, true, false, cond, not, eqb, leb}
+use Rattle.std.proofs.Common.{◌≡◌, ℕ, zero, suc, ◌+◌, ◌-◌, ◌*◌, ◌%◌, ◌^◌, ◌<◌, ◌≤◌, Bool, true, false, cond}
+use Rattle.std.proofs.Common.{not, eqb, leb}
 use Rattle.std.proofs.Common.{sym, refl, ap, ◌∙◌, subst, inl, inr, ⊎_elim, arith, lit≤}
 use Rattle.std.proofs.Math.Nat.{mul-le-mul_right, pow-le-pow_right, mod-eq_of_lt, add-mul-mod_self_right}
 use Rattle.std.proofs.lemmas.Bool.{cases_lt, le-leb, lt-leb, ne_eqb, MatchBool-at_false}
@@ -16,13 +17,13 @@ use Rattle.apfloat_model.specs.bits.Layout.{IsEncodedBy}
 use Rattle.apfloat_model.proofs.Once.{conversion_once}
 use Rattle.apfloat_model.proofs.bits.EncodedOnce.{encoded_once}
 use Rattle.apfloat_model.proofs.rounding.Picks.{pick_unique}
-use Rattle.storage_formats.specs.Codes.{datum_of, is_negative_code, magnitude_of, point}
-use Rattle.storage_formats.specs.Conversions.{IsGiven, IsInto, IsStoredNumber, saturated_value}
+use Rattle.storage_formats.specs.Codes.{datum_of}
+use Rattle.storage_formats.specs.Conversions.{IsGiven, IsStoredNumber, saturated_value}
 use Rattle.storage_formats.specs.Laws.{IsIntoOnce, IsScaleOnce, IsUnsignedOnce}
-use Rattle.storage_formats.specs.Scales.{IsCode, IsPickedCode, IsPickedScale, IsDeliveredScale, IsScale, IsScaleOf}
+use Rattle.storage_formats.specs.Scales.{IsCode, IsPickedCode, IsPickedScale, IsScaleOf}
 use Rattle.storage_formats.specs.Scales.{delivered_code, picked_code, scale_format, scale_status}
 use Rattle.storage_formats.specs.Storage.{Constants, IsLawful, format_with}
-use Rattle.storage_formats.specs.Unsigned.{IsUnsigned, signed_format, signed_layout, unsigned_datum}
+use Rattle.storage_formats.specs.Unsigned.{signed_format, signed_layout, unsigned_datum}
 use Rattle.storage_formats.proofs.Points.{one_number}
 
 -- the same code, flags and loss

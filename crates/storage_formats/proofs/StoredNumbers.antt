@@ -1,16 +1,14 @@
 -- Codes by their signs and magnitudes, and numbers in the quanta of another format.
-use Rattle.std.proofs.Common.{◌≡◌, ℕ, ◌+◌, ◌-◌, ◌*◌, ◌/◌, ◌%◌, ◌^◌, ◌<◌, ◌≤◌, Bool, true, false, cond, leb}
-use Rattle.std.proofs.Common.{sym, refl, ap, ◌∙◌, ⊎_elim, arith, ℤ, pos, ◌+ℤ◌, ◌-ℤ◌}
+use Rattle.std.proofs.Common.{◌≡◌, ℕ, ◌+◌, ◌-◌, ◌*◌, ◌%◌, ◌^◌, ◌<◌, Bool, true, false, cond, leb}
+use Rattle.std.proofs.Common.{ap, ◌∙◌, arith, ℤ, pos, ◌+ℤ◌, ◌-ℤ◌}
 use Rattle.std.proofs.Math.Nat.{mod-eq_of_lt, add-mul-mod_self_right}
-use Rattle.std.proofs.lemmas.Bool.{cases_lt, le-leb, lt-leb}
+use Rattle.std.proofs.lemmas.Bool.{le-leb, lt-leb}
 use Rattle.std.proofs.lemmas.Int.{ints}
-use Rattle.std.proofs.lemmas.Nat.{pow_pos}
-use Rattle.apfloat_model.specs.formats.Datum.{Datum, finite}
+use Rattle.apfloat_model.specs.formats.Datum.{finite}
 use Rattle.apfloat_model.specs.rounding.Standing.{up, down}
 use Rattle.apfloat_model.proofs.arithmetic.SingleScalings.{scaled_stands}
-use Rattle.apfloat_model.proofs.general.Powers.{twice_half}
-use Rattle.storage_formats.specs.Codes.{datum_of, is_negative_code, magnitude_of, point}
-use Rattle.storage_formats.specs.Storage.{Constants, IsLawful}
+use Rattle.storage_formats.specs.Codes.{datum_of, magnitude_of, point}
+use Rattle.storage_formats.specs.Storage.{Constants}
 
 -- ---- codes
 

@@ -6,7 +6,7 @@ use Rattle.std.proofs.lemmas.Nat.{pow-add, pow_pos}
 use Rattle.apfloat_model.specs.declared.kinds.Round.{Round}
 use Rattle.apfloat_model.specs.declared.loss.Loss.{Loss}
 use Rattle.apfloat_model.specs.declared.loss.Loss.TheVariants.{ExactlyZero}
-use Rattle.apfloat_model.specs.formats.Datum.{Datum, finite}
+use Rattle.apfloat_model.specs.formats.Datum.{finite}
 use Rattle.apfloat_model.specs.formats.Format.{largest}
 use Rattle.apfloat_model.specs.rounding.Enclosure.{IsEnclosed, rounds_up}
 use Rattle.apfloat_model.specs.rounding.Rounding.{IsPick, leads_out}

@@ -1,5 +1,5 @@
 -- The law of a storage format as a test that can be computed: a format with literal constants proves its law by `refl`.
-use Rattle.std.specs.Prelude.{◌≡◌, ◌^◌, ℤ, pos, ◌≤ℤ◌, neg_ℤ, Bool, true, ◌&&◌, leb, ltb}
+use Rattle.std.specs.Prelude.{◌≡◌, ℤ, pos, ◌≤ℤ◌, neg_ℤ, Bool, true, ◌&&◌, leb, ltb}
 use Rattle.std.proofs.Common.{subst, sym, T}
 use Rattle.std.proofs.lemmas.Bool.{and_parts, leb-true, ltb-true}
 use lib.Signed.{le_z, le_z_yes}

@@ -11,7 +11,8 @@ ghost use Rattle.apfloat_model.specs.rounding.Standing.{up, down};
 ghost use Rattle.apfloat_ieee.specs.FlaggedTypes.{format_of as flagged_format_of};
 ghost use Rattle.apfloat_ieee.specs.Types.{format_of};
 ghost use Rattle.apfloat_decimals.specs.ShortestSearch.{IsPositive};
-ghost use Rattle.storage_formats.specs.Scales.{IsDeliveredScale, IsScale, largest_code, nan_code, scale_format, scale_of};
+ghost use Rattle.storage_formats.specs.Scales.{IsDeliveredScale, IsScale, largest_code, nan_code};
+ghost use Rattle.storage_formats.specs.Scales.{scale_format, scale_of};
 
 use crate::cuts::DIGITS;
 use crate::from_value::{leads_out, status_past};
@@ -153,9 +154,10 @@ impl E8M0FNU {
     /// A value of any format, rounded once, with the flags of that rounding. Ties to even go to the even code.
     ///
     /// Past the largest scale the result is the NaN, with OVERFLOW and INEXACT, where the mode leads past it, and
-    /// otherwise the largest scale, with INEXACT. What is below the least scale becomes that scale, and a zero too, with
-    /// UNDERFLOW and INEXACT. Infinity becomes the NaN, with INEXACT, and what is below zero becomes the NaN, with
-    /// INVALID_OP. A NaN is the NaN, and has INVALID_OP if it is signaling; information is lost if the format has payloads.
+    /// otherwise the largest scale, with INEXACT. What is below the least scale becomes that scale, and so does a zero,
+    /// with UNDERFLOW and INEXACT. Infinity becomes the NaN, with INEXACT, and what is below zero becomes the NaN, with
+    /// INVALID_OP. A NaN is the NaN, and has INVALID_OP if it is signaling; information is lost if the format has
+    /// payloads.
     pub fn from_value<S: Semantics>(
         x: IeeeFloat<S>,
         round: Round,

@@ -1,11 +1,10 @@
-use Rattle.std.proofs.Common.{◌≡◌, ℕ, ◌*◌, ◌^◌, subst, arith, w32}
+use Rattle.std.proofs.Common.{◌*◌, ◌^◌, arith, w32}
 use Rattle.std.proofs.lemmas.Int.{ints, to_z-of_z}
 use Rattle.std.proofs.lemmas.Nat.{pow_pos}
 use Rattle.apfloat_model.specs.order.Classes.{quanta_of}
 use Rattle.apfloat_ieee.specs.Types.{format_of}
 use Rattle.hex_digits.specs.HexTexts.{last_place}
 use Rattle.hex_digits.proofs.Roundings.{exponent_fits}
-use Rattle.storage_formats.specs.Picks.{IsPickedAt}
 use Rattle.storage_formats.specs.Storage.{format_with}
 use Rattle.storage_formats.specs.Types.{constants_of}
 use Rattle.storage_formats.proofs.StoredNumbers.{in_quanta}

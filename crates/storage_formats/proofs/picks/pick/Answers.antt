@@ -1,4 +1,4 @@
-use Rattle.std.proofs.Common.{◌+◌, cond, sym, ap, ◌∙◌, w32}
+use Rattle.std.proofs.Common.{◌+◌, cond, ap, ◌∙◌, w32}
 use Rattle.std.proofs.lemmas.Int.{to_z-of_z}
 use Rattle.storage_formats.proofs.StoredPicks.{picked_at}
 use Rattle.storage_formats.proofs.picks.pick.Goals as goal

@@ -1,9 +1,5 @@
-use Rattle.std.proofs.Common.{sym, subst}
-use Rattle.apfloat_model.specs.arithmetic.Conversions.{IsConversion}
-use Rattle.apfloat_model.specs.formats.Datum.{Datum}
 use Rattle.apfloat_model.specs.rounding.Flags.{bits_of}
 use Rattle.apfloat_ieee.specs.Types.{format_of}
-use Rattle.storage_formats.specs.Unsigned.{signed_format}
 use Rattle.storage_formats.proofs.UnsignedSigns.{sign_converted}
 use Rattle.storage_formats.proofs.unsigned.convert_positive.Goals as goal
 

@@ -1,10 +1,10 @@
-use Rattle.std.proofs.Common.{◌≡◌, ℕ, ◌*◌, ◌^◌, ◌<◌, refl, arith, w32, pos, ◌+ℤ◌}
+use Rattle.std.proofs.Common.{◌*◌, ◌^◌, ◌<◌, refl, arith, w32, pos, ◌+ℤ◌}
 use Rattle.std.proofs.lemmas.Int.{ints, to_z-of_z}
 use Rattle.std.proofs.lemmas.Nat.{pow_pos}
 use Rattle.apfloat_model.specs.rounding.Flags.{bits_of}
 use Rattle.apfloat_model.proofs.arithmetic.ExactConversions.{exactly_converted}
 use Rattle.apfloat_ieee.specs.FlaggedTypes.{format_of}
-use Rattle.storage_formats.specs.Codes.{datum_of, is_negative_code, magnitude_of, point}
+use Rattle.storage_formats.specs.Codes.{datum_of, magnitude_of, point}
 use Rattle.storage_formats.specs.Storage.{format_with}
 use Rattle.storage_formats.specs.Types.{constants_of}
 use Rattle.storage_formats.proofs.Converted.{number_converted, zero_converted}
