@@ -18,13 +18,15 @@ pub(crate) const PLACES: u32 = 31;
 
 /// A positive value: 125 binary digits, the first of which has that exponent.
 #[derive(Clone, Copy)]
-pub(crate) struct Aligned {
+pub struct Aligned {
+    /// The digits, 2^124 at least.
     pub digits: u128,
+    /// The exponent of the first one.
     pub exponent: ExpInt,
 }
 
 /// The digits of a positive value.
-pub(crate) fn digits_of<S: Semantics>(x: IeeeFloat<S>) -> Aligned
+pub fn digits_of<S: Semantics>(x: IeeeFloat<S>) -> Aligned
     requires { IsPositive (format_of S.Semantics) x }
     ensures low { 2 ^ 124 ≤ result.digits }
     ensures high { result.digits < 2 ^ 125 }

@@ -1,0 +1,56 @@
+use Rattle.std.proofs.Common.{◌≡◌, ℕ, ◌*◌, ◌^◌, ◌<◌, refl, arith, w32, pos, ◌+ℤ◌, ◌-ℤ◌}
+use Rattle.std.proofs.Math.Nat.{mul-pos}
+use Rattle.std.proofs.lemmas.Int.{ints, to_z-of_z}
+use Rattle.std.proofs.lemmas.Nat.{pow_pos}
+use Rattle.apfloat_model.specs.rounding.Flags.{bits_of}
+use Rattle.apfloat_model.specs.rounding.Standing.{StandsFor, up, down}
+use Rattle.apfloat_model.proofs.arithmetic.SingleScalings.{down_far}
+use Rattle.storage_formats.proofs.ScalePicks.{below_least, cut_stands, exact_scale, least_delivered, picked_code_is}
+use Rattle.storage_formats.proofs.ScalePicks.{scale_past, scale_within}
+use Rattle.storage_formats.proofs.scales.round_digits.Goals.{After-moved_code-picked}
+use Rattle.storage_formats.proofs.scales.round_digits.Goals as goal
+
+pub returns-then-exponent : goal.returns-then-exponent
+returns-then-exponent c = λ amount parts u h.
+    let e = to_z-of_z w32 c.args.exponent c.ranges.exponent in
+    let small = rw e at c.if-exponent.true in
+    let z = (c.args.exponent -ℤ pos 124) +ℤ pos 127 in
+    let far = down_far z 125 (omega (arith, ints, small)) in
+    least_delivered c.args.mode amount parts c.least.result.value (bits_of c.least.result.status)
+    (below_least c.args.digits amount parts (up z) (down z) c.requires.high u far.1 far.0 h)
+    c.least.ensures.value c.least.ensures.status
+
+-- what the digits but the first one leave
+stands_at : (c : After-moved_code-picked) → (amount parts : ℕ) → 0 < parts
+    → amount * 2 ^ down ((c.args.exponent -ℤ pos 124) +ℤ pos 127)
+    ≡ c.args.digits * (parts * 2 ^ up ((c.args.exponent -ℤ pos 124) +ℤ pos 127))
+    → StandsFor 1 c.shift_right-first.result.loss amount (2 ^ c.code_at-low.result * parts)
+stands_at c amount parts u h =
+    let e = to_z-of_z w32 c.args.exponent c.ranges.exponent in
+    let z = (c.args.exponent -ℤ pos 124) +ℤ pos 127 in
+    cut_stands c.args.digits c.shift_right-first.result.significand amount parts c.code_at-low.result
+    c.shift_right-first.result.loss c.args.exponent z refl (rw e at c.code_at-low.ensures.value) c.requires.low
+    c.requires.high c.shift_right-first.ensures.quotient
+    (c.shift_right-first.ensures.stands (amount * 2 ^ down z) (parts * 2 ^ up z) (mul-pos u (pow_pos (up z))) h)
+
+pub returns-then-picked-from : goal.returns-then-picked-from
+returns-then-picked-from c = λ amount parts u h.
+    let stands = stands_at (goal.at.returns-then-picked-from c).After-moved_code-picked amount parts u h in
+    scale_past c.args.mode amount parts c.moved_code-picked.result c.past.result.value (bits_of c.past.result.status)
+    (picked_code_is c.args.mode amount parts c.code_at-low.result c.moved_code-picked.result
+    c.shift_right-first.result.loss c.moves_up-moves.result u stands c.moves_up-moves.ensures
+    c.moved_code-picked.ensures)
+    (omega (arith, c.from.ensures, c.if-picked-from.true)) c.past.ensures.value c.past.ensures.status
+
+pub returns-else-picked-from : goal.returns-else-picked-from
+returns-else-picked-from c = λ amount parts u h.
+    let stands = stands_at (goal.at.returns-else-picked-from c).After-moved_code-picked amount parts u h in
+    scale_within c.args.mode amount parts c.moved_code-picked.result c.within.result.value
+    (bits_of c.within.result.status) c.is_exact.result
+    (picked_code_is c.args.mode amount parts c.code_at-low.result c.moved_code-picked.result
+    c.shift_right-first.result.loss c.moves_up-moves.result u stands c.moves_up-moves.ensures
+    c.moved_code-picked.ensures)
+    (exact_scale c.args.mode amount parts c.code_at-low.result c.moved_code-picked.result
+    c.shift_right-first.result.loss c.moves_up-moves.result c.is_exact.result u stands c.moves_up-moves.ensures
+    c.moved_code-picked.ensures c.is_exact.ensures.yes c.is_exact.ensures.no)
+    (omega (arith, c.from.ensures, c.if-picked-from.false)) c.within.ensures.value c.within.ensures.status

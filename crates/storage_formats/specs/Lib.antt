@@ -1,0 +1,10 @@
+pub mod Storage
+pub mod Codes
+pub mod Conversions
+pub mod Scales
+pub mod Types
+pub mod Picks
+pub mod Laws
+pub mod Orders
+pub mod Unsigned
+pub mod LawTest

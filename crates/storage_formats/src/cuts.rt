@@ -1,0 +1,72 @@
+//! A number cut once, at the last digit that a precision keeps.
+
+ghost use Rattle.std.specs.Prelude.{◌≡◌, ◌⊎◌, ℕ, ◌+◌, ◌-◌, ◌*◌, ◌^◌, ◌<◌, ◌≤◌, pos, neg_ℤ, ◌≤ℤ◌};
+ghost use Rattle.apfloat_model.specs.rounding.Bounds.{IsWithin, unit_bound, place_bound};
+ghost use Rattle.apfloat_model.specs.rounding.Enclosure.{IsEnclosed};
+ghost use Rattle.apfloat_model.specs.rounding.Standing.{StandsFor, up, down};
+
+use apfloat_base::ExpInt;
+use apfloat_model::Loss;
+use apfloat_words::shift_right;
+
+/// How many digits a number has that is cut.
+pub(crate) const DIGITS: u32 = 125;
+
+/// The digits that are kept, the place of the last of them, and what was cut off below it.
+#[derive(Clone, Copy)]
+pub(crate) struct Kept {
+    pub significand: u128,
+    pub place: u32,
+    pub loss: Loss,
+}
+
+/// The place of the lowest kept digit of a number with `DIGITS` digits at `unit`; places and units are counted from the
+/// quantum.
+fn kept_place(precision: u32, unit: ExpInt) -> u32
+    requires precise { precision ≤ 8 }
+    requires within { IsWithin unit_bound unit }
+    ensures near { result < place_bound }
+    ensures covers { 125 + up unit ≤ result + precision + down unit }
+    ensures reached { (result ≡ 0) ⊎ (125 + up unit ≡ result + precision + down unit) }
+{
+    let top = DIGITS as ExpInt + unit;
+    if top > precision as ExpInt {
+        (top - precision as ExpInt) as u32
+    } else {
+        0
+    }
+}
+
+/// How far the place is above the unit.
+fn steps_up(unit: ExpInt, place: u32) -> u32
+    requires above { unit ≤ℤ pos place }
+    requires near { place ≤ place_bound }
+    requires far { neg_ℤ (pos unit_bound) ≤ℤ unit }
+    ensures { result + up unit ≡ place + down unit }
+{
+    (place as ExpInt - unit) as u32
+}
+
+/// A number with `DIGITS` digits at `unit`, cut to the digits that the precision keeps of it.
+pub(crate) fn cut(precision: u32, digits: u128, unit: ExpInt) -> Kept
+    requires some { 0 < precision }
+    requires precise { precision ≤ 8 }
+    requires low { 2 ^ 124 ≤ digits }
+    requires high { digits < 2 ^ 125 }
+    requires within { IsWithin unit_bound unit }
+    ensures fits { result.significand < 2 ^ precision }
+    ensures full { (result.place ≡ 0) ⊎ (2 ^ (precision - 1) ≤ result.significand) }
+    ensures near { result.place < place_bound }
+    ensures cut { (amount parts : ℕ) → 0 < parts
+        → amount * 2 ^ down unit ≡ digits * (parts * 2 ^ up unit)
+        → IsEnclosed precision (2 ^ (precision - 1)) result.significand result.place amount parts
+        × StandsFor result.significand result.loss amount (2 ^ result.place * parts) }
+{
+    let place = kept_place(precision, unit);
+    let shifted = shift_right(digits, steps_up(unit, place), Loss::ExactlyZero);
+    Kept {
+        significand: shifted.significand,
+        place,
+        loss: shifted.loss,
+    }
+}

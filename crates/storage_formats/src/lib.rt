@@ -1,0 +1,35 @@
+//! Storage formats: values that are only stored and converted. Arithmetic on them is that of another format, into which
+//! they are converted exactly.
+//!
+//! `StoredFloat<F>` is a value in at most 8 bits, all of whose codes are numbers, as the 4- and 6-bit elements of the
+//! Open Compute Project's microscaling formats (`named`): `E2M1FN`, `E2M3FN`, `E3M2FN`. `E8M0FNU` is a scale, a power
+//! of two (`scales`), and `UE4M3` one with a significand (`unsigned`).
+//!
+//! A conversion from any format is rounded once (`picks`): the digits of the value are cut at the last one that the
+//! format keeps there (`cuts`), and the mode moves them or not.
+#![tactic(auto)]
+
+mod cuts;
+mod format;
+mod from_value;
+mod named;
+mod picks;
+#[cfg(test)]
+mod rows;
+mod scales;
+mod stored;
+#[cfg(test)]
+mod tests;
+mod theorems;
+mod to_value;
+mod unsigned;
+
+pub use format::StorageFormat;
+pub use named::{E2M1FN, E2M3FN, E3M2FN};
+pub use scales::E8M0FNU;
+pub use stored::StoredFloat;
+pub use theorems::{
+    codes_are_in_order, conversions_have_one_answer, scales_have_one_answer,
+    unsigned_conversions_have_one_answer,
+};
+pub use unsigned::UE4M3;

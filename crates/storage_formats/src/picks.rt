@@ -1,0 +1,65 @@
+//! The point that is picked for a number.
+
+ghost use Rattle.std.specs.Prelude.{◌≡◌, ℕ, ◌+◌, ◌*◌, ◌^◌, ◌<◌, ◌≤◌, if◌then◌else◌};
+ghost use Rattle.apfloat_model.specs.rounding.Bounds.{IsWithin, unit_bound, place_bound};
+ghost use Rattle.apfloat_model.specs.rounding.Standing.{up, down};
+ghost use Rattle.storage_formats.specs.Codes.{index_of};
+ghost use Rattle.storage_formats.specs.Picks.{IsPickedAt};
+
+use crate::cuts::cut;
+use apfloat_base::{ExpInt, Round};
+use apfloat_rounding::rounding::moves_up;
+use apfloat_words::{is_exact, power_of_two};
+
+/// The number of the point that is picked, and whether the point is the number itself.
+#[derive(Clone, Copy)]
+pub(crate) struct Picked {
+    pub index: u128,
+    pub exact: bool,
+}
+
+/// The number of the point `significand * 2^place`.
+fn index_of(precision: u32, significand: u128, place: u32) -> u128
+    requires some { 0 < precision }
+    requires precise { precision ≤ 8 }
+    requires fits { significand < 2 ^ precision }
+    requires near { place < place_bound }
+    ensures value { result ≡ index_of precision significand place }
+    ensures near { result < 2 ^ 40 }
+{
+    significand + u128::from(place) * power_of_two(precision - 1)
+}
+
+/// The number of the point, or of the next one if the mode moves past it.
+fn moved_index(index: u128, moves: bool) -> u128
+    requires { index < 2 ^ 40 }
+    ensures { result ≡ (if moves then index + 1 else index) }
+{
+    if moves { index + 1 } else { index }
+}
+
+/// The point that is picked for `digits * 2^unit` quanta.
+pub(crate) fn pick(
+    precision: u32,
+    digits: u128,
+    unit: ExpInt,
+    mode: Round,
+    negative: bool,
+) -> Picked
+    requires some { 0 < precision }
+    requires precise { precision ≤ 8 }
+    requires low { 2 ^ 124 ≤ digits }
+    requires high { digits < 2 ^ 125 }
+    requires within { IsWithin unit_bound unit }
+    ensures { (amount parts : ℕ) → 0 < parts
+        → amount * 2 ^ down unit ≡ digits * (parts * 2 ^ up unit)
+        → IsPickedAt precision mode negative amount parts result.index result.exact }
+{
+    let kept = cut(precision, digits, unit);
+    let below = index_of(precision, kept.significand, kept.place);
+    let moves = moves_up(mode, negative, kept.loss, kept.significand % 2 == 1);
+    Picked {
+        index: moved_index(below, moves),
+        exact: is_exact(kept.loss),
+    }
+}

@@ -1,0 +1,230 @@
+//! Scales of blocks (OCP Microscaling Formats 1.0, 5.4): powers of two in 8 bits.
+
+ghost use Rattle.std.specs.Prelude.{◌≡◌, ℕ, ◌+◌, ◌*◌, ◌^◌, ◌<◌, ◌≤◌, pos, neg_ℤ, ◌+ℤ◌, ◌-ℤ◌, ◌≤ℤ◌, eqb, false};
+ghost use Rattle.std.specs.Prelude.{if◌then◌else◌};
+ghost use Rattle.apfloat_model.specs.arithmetic.Conversions.{IsConversion, IsExactlyConverted};
+ghost use Rattle.apfloat_model.specs.order.Classes.{quanta_of};
+ghost use Rattle.apfloat_model.specs.rounding.Bounds.{IsWithin};
+ghost use Rattle.apfloat_model.specs.rounding.Flags.{Gives, bits_of};
+ghost use Rattle.apfloat_model.specs.rounding.Rounding.{leads_out, ok_bits, overflow_bit, underflow_bit, inexact_bit};
+ghost use Rattle.apfloat_model.specs.rounding.Standing.{up, down};
+ghost use Rattle.apfloat_ieee.specs.FlaggedTypes.{format_of as flagged_format_of};
+ghost use Rattle.apfloat_ieee.specs.Types.{format_of};
+ghost use Rattle.apfloat_decimals.specs.ShortestSearch.{IsPositive};
+ghost use Rattle.storage_formats.specs.Scales.{IsDeliveredScale, IsScale, largest_code, nan_code};
+ghost use Rattle.storage_formats.specs.Scales.{scale_format, scale_of};
+
+use crate::cuts::DIGITS;
+use crate::from_value::{leads_out, status_past};
+use crate::to_value::exponent_of;
+use apfloat_base::{Category, ExpInt, Flags, Float, Round, Status, StatusAnd};
+use apfloat_ieee::{Flagged, IeeeFloat, Semantics, deliver};
+use apfloat_model::Loss;
+use apfloat_rounding::rounding::moves_up;
+use apfloat_words::{is_exact, shift_right};
+use hex_digits::digits_of;
+use std::marker::Model;
+
+const NAN: u8 = 255;
+
+const LARGEST: u8 = 254;
+
+/// The negated exponent of the least scale.
+const BIAS: ExpInt = 127;
+
+/// A scale: 2^(code - 127), or the NaN with the code 255. There is no sign, no zero and no infinity.
+#[derive(Clone, Copy)]
+pub struct E8M0FNU {
+    code: u8,
+}
+
+impl Model for E8M0FNU {
+    ghost use Rattle.std.specs.Prelude.{ℕ};
+
+    ghost Value = { ℕ };
+
+    ghost view = { λ x. x.code };
+
+    ghost inverse = { λ code. record { code = code } };
+}
+
+/// The least scale for what is below it.
+fn least() -> StatusAnd<E8M0FNU>
+    ensures value { result.value ≡ 0 }
+    ensures status { bits_of result.status ≡ underflow_bit + inexact_bit }
+{
+    Status::UNDERFLOW
+        .union(Status::INEXACT)
+        .and(E8M0FNU { code: 0 })
+}
+
+/// What is delivered past the largest scale.
+fn past(mode: Round) -> StatusAnd<E8M0FNU>
+    ensures value { result.value ≡ (if leads_out mode false then nan_code else largest_code) }
+    ensures status { bits_of result.status
+        ≡ (if leads_out mode false then overflow_bit + inexact_bit else inexact_bit) }
+{
+    let code = if leads_out(mode, false) { NAN } else { LARGEST };
+    status_past(mode, false).and(E8M0FNU { code })
+}
+
+/// The picked scale.
+fn within(picked: u32, exact: bool) -> StatusAnd<E8M0FNU>
+    requires { picked ≤ largest_code }
+    ensures value { result.value ≡ picked }
+    ensures status { bits_of result.status ≡ (if exact then ok_bits else inexact_bit) }
+{
+    let status = if exact { Status::OK } else { Status::INEXACT };
+    status.and(E8M0FNU { code: picked as u8 })
+}
+
+/// The code, or the next one if the mode moves past it.
+fn moved_code(code: u32, moves: bool) -> u32
+    requires { code < 2 ^ 24 }
+    ensures { result ≡ (if moves then code + 1 else code) }
+{
+    if moves { code + 1 } else { code }
+}
+
+/// The code of the scale with an exponent that is not below the least one.
+fn code_at(exponent: ExpInt) -> u32
+    requires least { neg_ℤ (pos 127) ≤ℤ exponent }
+    requires most { exponent ≤ℤ pos (2 ^ 22) }
+    ensures value { pos result ≡ exponent +ℤ pos 127 }
+    ensures near { result < 2 ^ 24 }
+{
+    (exponent + BIAS) as u32
+}
+
+/// A positive number with 125 digits, the first of which has that exponent, rounded once.
+fn round_digits(digits: u128, exponent: ExpInt, mode: Round) -> StatusAnd<E8M0FNU>
+    requires low { 2 ^ 124 ≤ digits }
+    requires high { digits < 2 ^ 125 }
+    requires within { IsWithin (2 ^ 22) exponent }
+    ensures { let unit = (exponent -ℤ pos 124) +ℤ pos 127 in (amount parts : ℕ) → 0 < parts
+        → amount * 2 ^ down unit ≡ digits * (parts * 2 ^ up unit)
+        → Gives (IsDeliveredScale mode amount parts) result }
+{
+    if exponent < -BIAS {
+        return least();
+    }
+    let low = code_at(exponent);
+    let first = shift_right(digits, DIGITS - 1, Loss::ExactlyZero);
+    let moves = moves_up(mode, false, first.loss, low % 2 == 1);
+    let picked = moved_code(low, moves);
+    if picked > u32::from(LARGEST) {
+        past(mode)
+    } else {
+        within(picked, is_exact(first.loss))
+    }
+}
+
+/// A positive value, rounded once.
+fn round_positive<S: Semantics>(x: IeeeFloat<S>, mode: Round) -> StatusAnd<E8M0FNU>
+    requires { IsPositive (format_of S.Semantics) x }
+    ensures { Gives (IsDeliveredScale mode (quanta_of x * 2 ^ 127)
+        (2 ^ (format_of S.Semantics).scale)) result }
+{
+    let number = digits_of(x);
+    round_digits(number.digits, number.exponent, mode)
+}
+
+impl E8M0FNU {
+    /// The scale with that code.
+    pub fn from_bits(bits: u8) -> Self
+        ensures { result ≡ bits }
+    {
+        E8M0FNU { code: bits }
+    }
+
+    /// The code.
+    pub fn to_bits(self) -> u8
+        ensures { result ≡ self }
+    {
+        self.code
+    }
+
+    /// Whether the scale is the NaN.
+    pub fn is_nan(self) -> bool
+        ensures { result ≡ eqb self nan_code }
+    {
+        self.code == NAN
+    }
+
+    /// A value of any format, rounded once, with the flags of that rounding. Ties to even go to the even code.
+    ///
+    /// Past the largest scale the result is the NaN, with OVERFLOW and INEXACT, where the mode leads past it, and
+    /// otherwise the largest scale, with INEXACT. What is below the least scale becomes that scale, and so does a zero,
+    /// with UNDERFLOW and INEXACT. Infinity becomes the NaN, with INEXACT, and what is below zero becomes the NaN, with
+    /// INVALID_OP. A NaN is the NaN, and has INVALID_OP if it is signaling; information is lost if the format has
+    /// payloads.
+    pub fn from_value<S: Semantics>(
+        x: IeeeFloat<S>,
+        round: Round,
+        loses_info: &mut bool,
+    ) -> StatusAnd<Self>
+        ensures { IsScale (format_of S.Semantics) round x result.value (bits_of result.status)
+            loses_info.new }
+    {
+        match x.category() {
+            Category::NaN => {
+                *loses_info = S::NAN_PAYLOAD_MASK != 0;
+                let status = if x.is_signaling() {
+                    Status::INVALID_OP
+                } else {
+                    Status::OK
+                };
+                status.and(E8M0FNU { code: NAN })
+            }
+            Category::Infinity => {
+                *loses_info = true;
+                let status = if x.is_negative() {
+                    Status::INVALID_OP
+                } else {
+                    Status::INEXACT
+                };
+                status.and(E8M0FNU { code: NAN })
+            }
+            Category::Zero => {
+                *loses_info = true;
+                least()
+            }
+            Category::Normal => {
+                if x.is_negative() {
+                    *loses_info = true;
+                    return Status::INVALID_OP.and(E8M0FNU { code: NAN });
+                }
+                let answer = round_positive(x, round);
+                *loses_info = answer.status != Status::OK;
+                answer
+            }
+        }
+    }
+
+    /// The scale in another format, rounded once, as the value of any format is converted. A format that has the number
+    /// has it with status OK; the NaN becomes a quiet NaN without a payload.
+    pub fn convert_r<T: Flagged>(
+        self,
+        round: Round,
+        loses_info: &mut bool,
+    ) -> StatusAnd<IeeeFloat<T>>
+        ensures converted { IsConversion scale_format (flagged_format_of T.Flagged) round
+            (scale_of self) result.value (bits_of result.status) loses_info.new }
+        ensures exact { IsExactlyConverted scale_format (flagged_format_of T.Flagged)
+            (scale_of self) result.value (bits_of result.status) loses_info.new }
+    {
+        if self.code == NAN {
+            *loses_info = false;
+            return Status::OK.and(IeeeFloat::qnan(None));
+        }
+        let answer = deliver::<T>(
+            1,
+            exponent_of(self.code, BIAS),
+            Loss::ExactlyZero,
+            round,
+            false,
+        );
+        *loses_info = answer.status != Status::OK;
+        answer
+    }
+}
