@@ -116,7 +116,7 @@ two_places true coarse finer h = omega (arith, h)
 two_places false coarse finer h = h
 
 -- what is delivered for the odd point is delivered for the magnitude
-delivered_once_more : (f g : Format) (mode : Round) (negative : Bool) (amount parts point : ℕ) (value : Datum)
+pub delivered_once_more : (f g : Format) (mode : Round) (negative : Bool) (amount parts point : ℕ) (value : Datum)
     (status : ℕ) → 3 ≤ g.precision → HasRoomFor g f → AgreesAtEven (f.precision - 1) amount parts point
     → IsDelivered g mode negative (point * 2 ^ g.scale) (2 ^ f.scale) value status
     → IsDelivered g mode negative (amount * 2 ^ g.scale) (parts * 2 ^ f.scale) value status

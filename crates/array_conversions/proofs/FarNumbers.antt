@@ -115,7 +115,7 @@ little_by from precision biased trailing scale some low far =
     omega arith
 
 -- the quantum of a format is 2 ^ -scale
-scale_is : (c : Constants) → AreParameters c.precision c.min_exp c.max_exp
+pub scale_is : (c : Constants) → AreParameters c.precision c.min_exp c.max_exp
     → pos (format_with c).scale ≡ pos (c.precision - 1) -ℤ c.min_exp
 scale_is c are = omega (arith, ints, are.precision_low, are.min_exp_high)
 

@@ -5,3 +5,5 @@ pub mod Places
 pub mod WidthBounds
 pub mod PlacesOnce
 pub mod OneBlock
+pub mod TabledResults
+pub mod ShortSources

@@ -8,3 +8,5 @@ pub mod OneBlock
 pub mod Widths
 pub mod Calls
 pub mod Words
+pub mod Tables
+pub mod ShortSources

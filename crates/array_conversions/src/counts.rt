@@ -14,6 +14,14 @@ pub struct Outcome {
     pub is_nan: bool,
 }
 
+impl Outcome {
+    /// That of a conversion without flags, whose value is no NaN.
+    pub(crate) const EXACT: Outcome = Outcome {
+        status: Status::OK,
+        is_nan: false,
+    };
+}
+
 /// The number of values, and of those whose conversion raised a flag or gave a NaN.
 #[derive(Clone, Copy, Debug, PartialEq, Eq)]
 pub struct Counts {

@@ -4,6 +4,7 @@
 mod array;
 mod block_call;
 mod blocks;
+mod byte_sources;
 mod bytes;
 mod conversion;
 mod converted;
@@ -11,6 +12,8 @@ mod counts;
 mod far_numbers;
 mod one_value;
 mod saturation;
+mod short_sources;
+mod tables;
 mod widths;
 
 pub use array::ArrayConversion;

@@ -38,7 +38,7 @@ pub fn convert_value<S: Flagged, T: Flagged>(
 
 /// Converts the value that these bits encode.
 #[inline(always)]
-fn convert_bits<S: Flagged, T: Flagged>(
+pub fn convert_bits<S: Flagged, T: Flagged>(
     far: &Option<FarAnswers>,
     overflow: Overflow,
     round: Round,
