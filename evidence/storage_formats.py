@@ -234,7 +234,15 @@ def rows_of(form):
         assert all(a[2] == answers[0][2] for a in answers)
         codes = ", ".join(str(a[0]) for a in answers)
         flags = ", ".join(str(a[1]) for a in answers)
-        yield f"    (0x{bits:x}, [{codes}], [{flags}], {str(answers[0][2]).lower()}),"
+        parts = (f"0x{bits:x}", f"[{codes}]", f"[{flags}]", str(answers[0][2]).lower())
+        yield laid_out("(", parts, ")")
+
+
+def laid_out(start, parts, end):
+    """An entry of a table, in a line if that is short."""
+    if len(", ".join(parts)) <= 60:
+        return f"    {start}{', '.join(parts)}{end},"
+    return "\n".join([f"    {start}", *(f"        {part}," for part in parts), f"    {end},"])
 
 
 # ---- checksums of all values
@@ -279,14 +287,14 @@ def main():
     for form in FORMATS:
         lines = []
         for source, step in ((E4M3FN, 1), (E5M2, 1), (HALF, 7)):
-            sums = ", ".join(f"0x{into(source, form, mode, step):x}" for mode in MODES)
-            lines.append(f"    [{sums}],")
+            sums = [f"0x{into(source, form, mode, step):x}" for mode in MODES]
+            lines.append(laid_out("[", sums, "]"))
         table(f"INTO_{form.name}", "Checksums", lines)
     for form in FORMATS:
         lines = []
         for target in (HALF, SINGLE, E4M3FN, E5M2):
-            sums = ", ".join(f"0x{out_of(form, target, mode):x}" for mode in MODES)
-            lines.append(f"    [{sums}],")
+            sums = [f"0x{out_of(form, target, mode):x}" for mode in MODES]
+            lines.append(laid_out("[", sums, "]"))
         table(f"OUT_OF_{form.name}", "Checksums", lines)
 
 
