@@ -3,8 +3,8 @@
     python3 evidence/storage_formats.py | diff - crates/storage_formats/src/rows.rt
 
 Each code is decoded to a fraction by its fields. A value is looked up between its neighbours in the list
-of these fractions, which goes on for one binade past the largest number, since a pick there decides the
-overflow. What comes out is rounded by the model.
+of these fractions, which goes on past the largest number, since a pick there decides the overflow. What comes
+out is rounded by the model.
 """
 
 from bisect import bisect_right
@@ -35,7 +35,7 @@ class Elements:
     least_exponent: int
 
     def magnitude(self, fields):
-        """The number with these bits below the sign; also past the width."""
+        """The number with these bits below the sign, of which there may be more than the format has."""
         written = self.precision - 1
         field, digits = fields >> written, fields & (1 << written) - 1
         last = Fraction(2) ** (self.least_exponent - written)
@@ -48,7 +48,7 @@ class Elements:
 
     @cached_property
     def points(self):
-        """The numbers in order, and those of two more exponents."""
+        """The numbers in order, and those of four more exponents."""
         return [self.magnitude(m) for m in range(self.count + (2 << self.precision))]
 
     def value(self, code):
@@ -203,7 +203,7 @@ FORMATS = (
 
 
 def single_bits(exact):
-    """The bits of the single that a fraction is."""
+    """The bits of the single that equals a fraction."""
     (bits,) = unpack("<I", pack("<f", float(exact)))
     assert Fraction(*float(exact).as_integer_ratio()) == exact
     return bits
@@ -254,7 +254,7 @@ def extended(checksum, bits, status, loses):
 
 
 def into(source, form, mode, step):
-    """Each code of the source that a multiple of the step is, stored."""
+    """Each code of the source that is a multiple of the step, stored."""
     checksum = 0
     for bits in range(0, 1 << source.bits, step):
         checksum = extended(checksum, *form.store(source, decoded(source, bits), mode))
