@@ -3,7 +3,9 @@ pub mod CutDecimals
 pub mod Cuts
 pub mod DecimalTexts
 pub mod Decimals
+pub mod EightDigits
 pub mod ExactDecimals
+pub mod Intervals
 pub mod LeadingDigits
 pub mod OneReading
 pub mod Parsing

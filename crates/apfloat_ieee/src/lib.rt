@@ -24,5 +24,5 @@ pub mod wide;
 
 pub use apfloat_base::NonfiniteBehavior;
 pub use flagged::{Flagged, IeeeFlags, TinyBefore};
-pub use ieee_float::{IeeeFloat, deliver};
+pub use ieee_float::{IeeeFloat, Number, deliver};
 pub use semantics::Semantics;

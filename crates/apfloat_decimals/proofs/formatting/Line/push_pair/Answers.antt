@@ -1,0 +1,14 @@
+use Rattle.std.proofs.Common.{◌≡◌, ◌+◌, ◌*◌, ◌++◌, ◌∷◌, List, ℕ, [], ap, ◌∙◌, true, refl, arith}
+use Rattle.apfloat_decimals.specs.declared.formatting.TheConstants.{PAIRS}
+use Rattle.apfloat_decimals.proofs.spelled.LastDigits.{are_pairs, pair_at, pair_joined}
+use Rattle.apfloat_decimals.proofs.formatting.Line.push_pair.Goals as goal
+
+table : are_pairs 0 PAIRS ≡ true
+unfolding are_pairs
+table = refl
+
+pub returns : goal.returns
+returns c =
+    let p = pair_at 0 PAIRS c.args.number table (omega (arith, c.requires.few)) in
+    c.push-2.ensures ∙ ap (λ (x : List ℕ). x ++ (_ ∷ [])) c.push.ensures
+    ∙ pair_joined c.args.number _ _ c.args.self.now c.requires.few p.0 p.1

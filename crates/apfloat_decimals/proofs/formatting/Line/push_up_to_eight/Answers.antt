@@ -1,0 +1,14 @@
+use Rattle.std.proofs.Common.{◌≡◌, ◌+◌, ◌%◌, ◌++◌, List, ℕ, ap, ◌∙◌, arith}
+use Rattle.apfloat_decimals.specs.Texts.{last_digits}
+use Rattle.apfloat_decimals.proofs.spelled.LastDigits.{number_joined, room_joined}
+use Rattle.apfloat_decimals.proofs.formatting.Line.push_up_to_eight.Goals as goal
+
+pub push_four-requires-clause-room : goal.push_four-requires-clause-room
+push_four-requires-clause-room c =
+    rw c.push_up_to_four.ensures
+    (room_joined 4 c.args.number c.args.self.now (omega arith) (omega arith) c.requires.room)
+
+pub returns : goal.returns
+returns c =
+    c.push_four.ensures ∙ ap (λ (x : List ℕ). x ++ last_digits 4 (c.args.number % 10000)) c.push_up_to_four-2.ensures
+    ∙ number_joined 4 c.args.number c.args.self.now (omega arith) (omega arith)
