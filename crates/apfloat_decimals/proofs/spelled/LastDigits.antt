@@ -1,5 +1,6 @@
 -- Digits that are written several at a time.
-use Rattle.std.proofs.Common.{◌≡◌, ℕ, zero, suc, ◌+◌, ◌*◌, ◌/◌, ◌%◌, ◌^◌, ◌<◌, ◌≤◌, List, [], ◌∷◌, ◌++◌, length, sym, ap, ◌∙◌}
+use Rattle.std.proofs.Common.{◌≡◌, ℕ, zero, suc, ◌+◌, ◌*◌, ◌/◌, ◌%◌, ◌^◌, ◌<◌, ◌≤◌, List, [], ◌∷◌, ◌++◌, length}
+use Rattle.std.proofs.Common.{sym, ap, ◌∙◌}
 use Rattle.std.proofs.Common.{Bool, true, false, eqb, get_or, arith, lit<, refl}
 use Rattle.std.specs.Prelude.{◌&&◌}
 use Rattle.std.proofs.lemmas.Bool.{and_parts, eqb-true}
@@ -15,6 +16,9 @@ use Rattle.apfloat_decimals.proofs.spelled.WrittenNumbers.{length_more, single}
 append_none : (text : List ℕ) → text ++ [] ≡ text
 append_none [] = refl
 append_none (c ∷ text) = ap (λ (x : List ℕ). c ∷ x) (append_none text)
+
+over_one : (n : ℕ) → n / 10 ^ 0 ≡ n
+over_one n = let one : 10 ^ 0 ≡ 1 = omega arith in ap (λ (k : ℕ). n / k) one ∙ omega arith
 
 ten_suc : (count : ℕ) → 10 ^ suc count ≡ 10 * 10 ^ count
 ten_suc count = let e : suc count ≡ count + 1 = omega arith in
@@ -37,7 +41,7 @@ pub decimal_split : (count n : ℕ) → 10 ^ count ≤ n → n < 2 ^ 128
     → decimal n ≡ decimal (n / 10 ^ count) ++ last_digits count n
 unfolding last_digits
 decimal_split zero n some few =
-    let one : n / 10 ^ 0 ≡ n = omega arith in
+    let one : n / 10 ^ 0 ≡ n = over_one n in
     sym (append_none (decimal (n / 10 ^ 0)) ∙ ap (λ (k : ℕ). decimal k) one)
 decimal_split (suc count) n some few =
     let ten : 10 ^ suc count ≡ 10 * 10 ^ count = ten_suc count in
@@ -55,7 +59,7 @@ pub last_split : (first second n : ℕ) → last_digits (first + second) n
     ≡ last_digits first (n / 10 ^ second) ++ last_digits second n
 unfolding last_digits
 last_split first zero n =
-    let one : n / 10 ^ 0 ≡ n = omega arith in
+    let one : n / 10 ^ 0 ≡ n = over_one n in
     let none : first + 0 ≡ first = omega arith in
     ap (λ (k : ℕ). last_digits k n) none ∙ sym (append_none (last_digits first (n / 10 ^ 0))
     ∙ ap (λ (k : ℕ). last_digits first k) one)
@@ -81,7 +85,8 @@ last_within (suc count) n =
     parts : (n count : ℕ) → n % 10 ^ suc count ≡ 10 * (n / 10 % 10 ^ count) + n % 10
     parts n count =
         let ten : 10 ^ suc count ≡ 10 * 10 ^ count = ten_suc count in
-        let upper : 10 ^ count * (n / 10 / 10 ^ count) + n / 10 % 10 ^ count ≡ n / 10 = div-add-mod (n / 10) (10 ^ count) in
+        let upper : 10 ^ count * (n / 10 / 10 ^ count) + n / 10 % 10 ^ count ≡ n / 10 =
+        div-add-mod (n / 10) (10 ^ count) in
         let rest : n / 10 % 10 ^ count < 10 ^ count = mod-lt (n / 10) (power_pos 10 count (lit< tt)) in
         let less : 10 * (n / 10 % 10 ^ count) + n % 10 < 10 * 10 ^ count = omega (arith, rest) in
         let all : n ≡ n / 10 / 10 ^ count * (10 * 10 ^ count) + (10 * (n / 10 % 10 ^ count) + n % 10) =
