@@ -4,3 +4,4 @@ pub mod Cases
 pub mod Once
 pub mod RootDeliveries
 mod RootExponents
+mod RaisedFlags
