@@ -1,8 +1,8 @@
-mod Points
-mod StoredPicks
-mod StoredNumbers
-mod ScalePicks
-mod OneAnswer
-mod CodesCompared
-mod Converted
-mod UnsignedSigns
+pub mod Points
+pub mod StoredPicks
+pub mod StoredNumbers
+pub mod ScalePicks
+pub mod OneAnswer
+pub mod CodesCompared
+pub mod Converted
+pub mod UnsignedSigns
