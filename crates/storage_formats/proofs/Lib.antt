@@ -6,3 +6,10 @@ pub mod OneAnswer
 pub mod CodesCompared
 pub mod Converted
 pub mod UnsignedSigns
+pub mod CodePicks
+pub mod ProjectedPicks
+pub mod ProjectedCodes
+pub mod ProjectedValues
+pub mod ProjectedOnce
+pub mod NarrowCodes
+pub mod ProjectedOrder
