@@ -5,11 +5,12 @@ use Rattle.rustc_apfloat.specs.Digits.{same}
 use Rattle.rustc_apfloat.specs.Lawful.{Constants, IsLawful}
 use Rattle.rustc_apfloat.proofs.LawTest.{lawful_from_test}
 use Rattle.rustc_apfloat.specs.Formats.{half_constants, single_constants, double_constants, quad_constants, bfloat_constants, e5m2_constants, e4m3fn_constants, e4m3fnuz_constants, x87_constants}
-use Rattle.formats_at_run_time.specs.ValueKinds.{Kind, of_format, of_pairs}
+use Rattle.finite_theory.specs.Formats.{e3m2fn_constants}
+use Rattle.formats_at_run_time.specs.ValueKinds.{Kind, of_finite, of_format, of_pairs}
 use Rattle.formats_at_run_time.specs.declared.built_in.BuiltInFormat.{BuiltInFormat}
 use Rattle.formats_at_run_time.specs.declared.built_in.BuiltInFormat.TheVariants.{Half, Single, Double, Quad, BFloat, E5M2, E4M3FN, E4M3FNUZ, X87}
 use Rattle.formats_at_run_time.specs.declared.built_in.BuiltInKind.{BuiltInKind}
-use Rattle.formats_at_run_time.specs.declared.built_in.BuiltInKind.TheVariants.{OfFormat, Pairs}
+use Rattle.formats_at_run_time.specs.declared.built_in.BuiltInKind.TheVariants.{E3M2FN, OfFormat, Pairs}
 
 -- a lawful format, whose values have more bits than digits
 pub record KnownFormat : Type 0 where
@@ -37,6 +38,7 @@ constants_in format = (known_format format).constants
 abbrev pub kind_of : BuiltInKind → Kind
 kind_of (OfFormat format) = of_format (constants_in format)
 kind_of Pairs = of_pairs
+kind_of E3M2FN = of_finite 6 e3m2fn_constants
 
 -- a kind of values, its word and its code
 pub record KindRow : Type 0 where
@@ -59,6 +61,7 @@ kinds =
     ∷ row (OfFormat E4M3FNUZ) (codes "e4m3fnuz") 8
     ∷ row (OfFormat X87) (codes "x87") 9
     ∷ row Pairs (codes "dd") 10
+    ∷ row E3M2FN (codes "e3m2fn") 20
     ∷ []
 
 -- the kinds of the rows, in order
@@ -80,3 +83,4 @@ kind_coded code = first_kind (λ (row : KindRow). code == row.code) kinds
 abbrev pub format_in : BuiltInKind → Option BuiltInFormat
 format_in (OfFormat format) = Some format
 format_in Pairs = None
+format_in E3M2FN = None

@@ -2,12 +2,14 @@
 use Rattle.std.specs.Prelude.{Bool, false, true, nat_le}
 use Rattle.rustc_apfloat.specs.Products.{product_limit}
 use Rattle.rustc_apfloat.specs.FusedSums.{fused_limit}
-use Rattle.formats_at_run_time.specs.ValueKinds.{Kind, of_format, of_pairs}
+use Rattle.formats_at_run_time.specs.ValueKinds.{Kind, of_finite, of_format, of_pairs}
 
 abbrev pub multiplies : Kind → Bool
 multiplies (of_format c) = nat_le c.precision product_limit
+multiplies (of_finite bits c) = true
 multiplies of_pairs = true
 
 abbrev pub fuses : Kind → Bool
 fuses (of_format c) = nat_le c.precision fused_limit
+fuses (of_finite bits c) = true
 fuses of_pairs = false

@@ -25,6 +25,9 @@ use Rattle.rustc_apfloat.specs.Nan.{is_signaling_nan}
 use Rattle.rustc_apfloat.specs.Parsing.{IsRead}
 use Rattle.rustc_apfloat.specs.Layout.{IsEncodedBy, datum_of}
 use Rattle.rustc_apfloat.specs.Lawful.{Constants, format_with, layout_with}
+use Rattle.finite_theory.specs.Formats.{codes_of}
+use Rattle.finite_theory.specs.Settled.{IsSettled, IsSettledNextDown, IsSettledReading, IsSettledValue}
+use Rattle.finite_theory.specs.Types.{IsCodeOf, value_of_bits}
 use Rattle.rustc_apfloat.specs.Pairs.{Pair, pair_category, pair_of, IsPairEncodedBy}
 use Rattle.rustc_apfloat.specs.PairSums.{IsPairSum, IsPairDifference}
 use Rattle.rustc_apfloat.specs.PairProducts.{IsPairProduct}
@@ -123,6 +126,40 @@ in_format c =
       denormal = is_denormal (format_with c);
       signals = is_signaling_nan (format_with c);
       reads = λ text mode answer. IsRead (format_with c) mode text answer;
+    }
+
+-- the relations of a format that has only numbers
+abbrev pub in_finite : ℕ → Constants → Relations Datum
+in_finite bits c =
+    let f = format_with c in
+    record {
+      value_of_bits = value_of_bits (codes_of bits c);
+      writes_bits = λ x written. IsCodeOf (codes_of bits c) written x;
+      adds = λ x y mode answer. Gives (IsSettled (IsSum f mode x y) f) answer;
+      subtracts = λ x y mode answer. Gives (IsSettled (IsDifference f mode x y) f) answer;
+      multiplies = λ x y mode answer. Gives (IsSettled (IsProduct f mode x y) f) answer;
+      divides = λ x y mode answer. Gives (IsSettled (IsQuotient f mode x y) f) answer;
+      leaves_nearest = λ x y answer. Gives (IsSettled (IsNearestRemainder f x y) f) answer;
+      leaves = λ x y answer. Gives (IsSettled (IsTruncatedRemainder f x y) f) answer;
+      converts_unsigned = λ number mode answer. Gives (IsSettled (IsFromUnsigned f mode number) f) answer;
+      converts_signed = λ number mode answer. Gives (IsSettled (IsFromSigned f mode number) f) answer;
+      converts_to_unsigned = λ x width mode answer exact.
+          IsToUnsigned f mode width x answer.value (bits_of answer.status) exact;
+      converts_to_signed = λ x width mode answer exact.
+          IsToSigned f mode width x answer.value (bits_of answer.status) exact;
+      rounds_to_integral = λ x mode answer. Gives (IsSettled (IsRoundToIntegral f mode x) f) answer;
+      takes_root = λ x mode answer. Gives (IsSettled (IsRoot f mode x) f) answer;
+      scales = λ x places mode value. IsSettledValue (IsScaling f mode x places) f value;
+      has_fraction = λ x mode value exponent. IsFrexp f x value exponent;
+      has_exponent = λ x exponent. IsIlogb f x exponent;
+      steps_up = λ x answer. Gives (IsSettled (IsNextUp f x) f) answer;
+      steps_down = λ x answer. Gives (IsSettledNextDown f x) answer;
+      order = compared;
+      category = category_of;
+      sign = is_negative;
+      denormal = is_denormal f;
+      signals = is_signaling_nan f;
+      reads = λ text mode answer. IsSettledReading f mode text answer;
     }
 
 -- the relations of pairs of doubles

@@ -5,7 +5,8 @@ ghost use Rattle.formats_at_run_time.specs.ValueKinds.{of_format};
 ghost use Rattle.formats_at_run_time.specs.BuiltIns.{all_kinds, constants_in, format_in, kind_coded, kind_named, kind_of};
 
 use crate::flagged::{FillsInFormat, WritesInFormat};
-use crate::in_kind::{InFormat, InKind};
+use crate::in_kind::{InEveryKind, InFormat};
+use finite_formats::Float6E3M2FNS;
 use rustc_apfloat::ieee::{
     BFloatS, DoubleS, Float8E4M3FNS, Float8E4M3FNUZS, Float8E5M2S, HalfS, QuadS, SingleS,
     X87DoubleExtendedS,
@@ -31,7 +32,11 @@ macro_rules! each_format {
 
 macro_rules! all_kinds {
     (() $($name:ident $semantics:ident $word:literal $code:literal,)*) => {
-        [$(BuiltInKind::OfFormat(BuiltInFormat::$name),)* BuiltInKind::Pairs]
+        [
+            $(BuiltInKind::OfFormat(BuiltInFormat::$name),)*
+            BuiltInKind::Pairs,
+            BuiltInKind::E3M2FN,
+        ]
     };
 }
 
@@ -66,6 +71,7 @@ macro_rules! kind_of_word {
         match $of {
             $($word => Some(BuiltInKind::OfFormat(BuiltInFormat::$name)),)*
             "dd" => Some(BuiltInKind::Pairs),
+            "e3m2fn" => Some(BuiltInKind::E3M2FN),
             _ => None,
         }
     };
@@ -76,6 +82,7 @@ macro_rules! word_of_kind {
         match $kind {
             $(BuiltInKind::OfFormat(BuiltInFormat::$name) => $word,)*
             BuiltInKind::Pairs => "dd",
+            BuiltInKind::E3M2FN => "e3m2fn",
         }
     };
 }
@@ -85,6 +92,7 @@ macro_rules! kind_of_code {
         match $of {
             $($code => Some(BuiltInKind::OfFormat(BuiltInFormat::$name)),)*
             10 => Some(BuiltInKind::Pairs),
+            20 => Some(BuiltInKind::E3M2FN),
             _ => None,
         }
     };
@@ -120,6 +128,8 @@ pub enum BuiltInKind {
     OfFormat(BuiltInFormat),
     /// Pairs of doubles.
     Pairs,
+    /// Six bits, three of them the exponent, without infinities and NaNs.
+    E3M2FN,
 }
 
 /// All built-in kinds of values, in the order of their codes.
@@ -158,13 +168,14 @@ impl BuiltInFormat {
 
 impl BuiltInKind {
     /// Makes a call at the type of the kind.
-    pub fn run<C: InKind>(self, call: C) -> C::Output
+    pub fn run<C: InEveryKind>(self, call: C) -> C::Output
         requires { C.can call (kind_of self) }
         ensures { C.gives call (kind_of self) result }
     {
         match self {
             BuiltInKind::OfFormat(format) => format.run(call),
             BuiltInKind::Pairs => call.in_pairs(),
+            BuiltInKind::E3M2FN => call.in_finite::<Float6E3M2FNS>(),
         }
     }
 
@@ -190,13 +201,14 @@ impl BuiltInKind {
         each_format!(kind_of_code(code))
     }
 
-    /// The format of the kind; `None` for pairs.
+    /// The format of the kind; `None` for pairs and for kinds that have only numbers.
     pub fn format(self) -> Option<BuiltInFormat>
         ensures { result ≡ format_in self }
     {
         match self {
             BuiltInKind::OfFormat(format) => Some(format),
             BuiltInKind::Pairs => None,
+            BuiltInKind::E3M2FN => None,
         }
     }
 }

@@ -2,8 +2,9 @@
 
 ghost use Rattle.std.specs.Prelude.{⊤, ◌<◌};
 ghost use Rattle.rustc_apfloat.specs.Types.{constants_of};
-ghost use Rattle.formats_at_run_time.specs.ValueKinds.{Kind, of_format, of_pairs};
+ghost use Rattle.formats_at_run_time.specs.ValueKinds.{Kind, of_finite, of_format, of_pairs};
 
+use finite_formats::FiniteFormat;
 use rustc_apfloat::ieee::Semantics;
 
 /// A call that can be made in every format with bits.
@@ -24,10 +25,19 @@ pub trait InFormat {
         ensures { gives self (of_format (constants_of S.Semantics)) result };
 }
 
-/// A call that can be made for every kind of values.
+/// A call that can be made in every format with bits and for pairs of doubles: for each kind of values that commands
+/// have.
 pub trait InKind: InFormat {
     /// Makes the call for pairs of doubles.
     fn in_pairs(self) -> Self::Output
         requires { Self.can self of_pairs }
         ensures { Self.gives self of_pairs result };
+}
+
+/// A call that can be made for every built-in kind of values.
+pub trait InEveryKind: InKind {
+    /// Makes the call in the format `F`, which has only numbers.
+    fn in_finite<F: FiniteFormat>(self) -> Self::Output
+        requires { Self.can self (of_finite F.CODE_BITS (constants_of F.Semantics)) }
+        ensures { Self.gives self (of_finite F.CODE_BITS (constants_of F.Semantics)) result };
 }

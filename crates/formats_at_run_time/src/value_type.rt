@@ -8,8 +8,11 @@ ghost use Rattle.rustc_apfloat.specs.Flags.{Gives};
 ghost use Rattle.rustc_apfloat.specs.PairRoots.{IsPairRoot};
 ghost use Rattle.rustc_apfloat.specs.Roots.{IsRoot};
 ghost use Rattle.formats_at_run_time.specs.TextReadings.{ReadsTexts};
-ghost use Rattle.formats_at_run_time.specs.TextsRead.{format_reads, pairs_read};
+ghost use Rattle.rustc_apfloat.specs.Types.{constants_of as constants_in, format_of as format_in};
+ghost use Rattle.finite_theory.specs.Settled.{IsSettled};
+ghost use Rattle.formats_at_run_time.specs.TextsRead.{finite_reads, format_reads, pairs_read};
 
+use finite_formats::{FiniteFloat, FiniteFormat};
 use rustc_apfloat::ieee::{Flagged, IeeeFloat};
 use rustc_apfloat::ppc::{DoubleDouble, FallbackS};
 use rustc_apfloat::{Float, ParseError, Round, StatusAnd};
@@ -63,6 +66,33 @@ impl<S: Flagged> ValueType for IeeeFloat<S> {
     #[inline(always)]
     fn from_ascii_r(text: &[u8], round: Round) -> Result<StatusAnd<Self>, ParseError> {
         IeeeFloat::<S>::from_ascii_r(text, round)
+    }
+}
+
+impl<F: FiniteFormat> ValueType for FiniteFloat<F> {
+    ghost takes_root = { λ x mode answer. Gives (IsSettled (IsRoot (format_in F.Semantics) mode x)
+        (format_in F.Semantics)) answer };
+
+    ghost reads_texts = { finite_reads F.CODE_BITS (constants_in F.Semantics) };
+
+    #[inline(always)]
+    fn wide_mul_r(self, rhs: Self, round: Round) -> StatusAnd<Self> {
+        self.wide_mul_r(rhs, round)
+    }
+
+    #[inline(always)]
+    fn sqrt_r(self, round: Round) -> StatusAnd<Self> {
+        self.sqrt_r(round)
+    }
+
+    #[inline(always)]
+    fn sqrt(self) -> StatusAnd<Self> {
+        self.sqrt()
+    }
+
+    #[inline(always)]
+    fn from_ascii_r(text: &[u8], round: Round) -> Result<StatusAnd<Self>, ParseError> {
+        FiniteFloat::<F>::from_ascii_r(text, round)
     }
 }
 
