@@ -1,8 +1,14 @@
-mod Points
-mod StoredPicks
-mod StoredNumbers
+pub mod Points
+pub mod StoredPicks
+pub mod StoredNumbers
 mod ScalePicks
-mod OneAnswer
+pub mod OneAnswer
 mod CodesCompared
 mod Converted
 mod UnsignedSigns
+mod RandomCounts
+mod MovesScaled
+mod RestLosses
+mod ModePicks
+mod ModesOnce
+mod QuotientPicks

@@ -1,13 +1,13 @@
 //! A number cut once, at the last digit that a precision keeps.
 
-ghost use Rattle.std.specs.Prelude.{◌≡◌, ◌⊎◌, ℕ, ◌+◌, ◌-◌, ◌*◌, ◌^◌, ◌<◌, ◌≤◌, pos, neg_ℤ, ◌≤ℤ◌};
+ghost use Rattle.std.specs.Prelude.{◌≡◌, ◌⊎◌, ℕ, ◌+◌, ◌-◌, ◌*◌, ◌/◌, ◌%◌, ◌^◌, ◌<◌, ◌≤◌, pos, neg_ℤ, ◌≤ℤ◌};
 ghost use Rattle.apfloat_model.specs.rounding.Bounds.{IsWithin, unit_bound, place_bound};
 ghost use Rattle.apfloat_model.specs.rounding.Enclosure.{IsEnclosed};
 ghost use Rattle.apfloat_model.specs.rounding.Standing.{StandsFor, up, down};
 
 use apfloat_base::ExpInt;
 use apfloat_model::Loss;
-use apfloat_words::shift_right;
+use apfloat_words::{low_digits, shift_right};
 
 /// How many digits a number has that is cut.
 pub(crate) const DIGITS: u32 = 125;
@@ -68,5 +68,84 @@ pub(crate) fn cut(precision: u32, digits: u128, unit: ExpInt) -> Kept
         significand: shifted.significand,
         place,
         loss: shifted.loss,
+    }
+}
+
+/// A number cut once, and how many of its digits were cut off.
+#[derive(Clone, Copy)]
+pub(crate) struct Cut {
+    pub significand: u128,
+    pub place: u32,
+    pub places: u32,
+    pub loss: Loss,
+}
+
+/// The place of the lowest kept digit of a number with that many digits at `unit`.
+fn kept_place_of(precision: u32, count: u32, unit: ExpInt) -> u32
+    requires precise { precision ≤ 8 }
+    requires short { count ≤ 128 }
+    requires within { IsWithin unit_bound unit }
+    ensures near { result < place_bound }
+    ensures covers { count + up unit ≤ result + precision + down unit }
+    ensures reached { (result ≡ 0) ⊎ (count + up unit ≡ result + precision + down unit) }
+{
+    let top = count as ExpInt + unit;
+    if top > precision as ExpInt {
+        (top - precision as ExpInt) as u32
+    } else {
+        0
+    }
+}
+
+/// A number with `count` digits at `unit`, below which `loss` was lost, cut to the digits that the precision keeps of
+/// it. There are more digits than the precision keeps, so that it is cut only once.
+pub(crate) fn cut_number(
+    precision: u32,
+    number: u128,
+    count: u32,
+    unit: ExpInt,
+    loss: Loss,
+) -> Cut
+    requires some { 0 < precision }
+    requires precise { precision ≤ 8 }
+    requires long { 9 ≤ count }
+    requires short { count ≤ 128 }
+    requires low { 2 ^ (count - 1) ≤ number }
+    requires high { number < 2 ^ count }
+    requires within { IsWithin unit_bound unit }
+    ensures fits { result.significand < 2 ^ precision }
+    ensures full { (result.place ≡ 0) ⊎ (2 ^ (precision - 1) ≤ result.significand) }
+    ensures near { result.place < place_bound }
+    ensures places { result.places + up unit ≡ result.place + down unit }
+    ensures quotient { result.significand ≡ number / 2 ^ result.places }
+    ensures rest { StandsFor number loss number 1
+        → StandsFor result.significand result.loss number (2 ^ result.places * 1) }
+    ensures cut { (amount parts : ℕ) → 0 < parts
+        → StandsFor number loss (amount * 2 ^ down unit) (parts * 2 ^ up unit)
+        → IsEnclosed precision (2 ^ (precision - 1)) result.significand result.place amount parts
+        × StandsFor result.significand result.loss amount (2 ^ result.place * parts) }
+{
+    let place = kept_place_of(precision, count, unit);
+    let places = steps_up(unit, place);
+    let shifted = shift_right(number, places, loss);
+    Cut {
+        significand: shifted.significand,
+        place,
+        places,
+        loss: shifted.loss,
+    }
+}
+
+/// Of 2^digits parts of the lowest kept digit, how many whole ones the rest is that was cut off.
+pub(crate) fn parts_of_rest(number: u128, places: u32, digits: u32) -> u64
+    requires few { digits ≤ 32 }
+    ensures value { result ≡ 2 ^ digits * (number % 2 ^ places) / 2 ^ places }
+    ensures below { result < 2 ^ digits }
+{
+    if places <= digits {
+        (low_digits(number, places) as u64) << (digits - places)
+    } else {
+        let shifted = shift_right(number, places - digits, Loss::ExactlyZero);
+        low_digits(shifted.significand, digits) as u64
     }
 }
