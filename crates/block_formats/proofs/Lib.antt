@@ -1,0 +1,14 @@
+mod SameFractions
+mod Quotients
+mod Products
+mod Places
+mod Greatest
+mod GridTops
+mod ExactProducts
+mod ScaleCodes
+mod ElementMembers
+mod ElementsOnce
+mod ExactBlocks
+mod KeptBlocks
+mod KeptLists
+mod PackedDigits

@@ -1,0 +1,64 @@
+-- Digits of one number to several bases.
+use Rattle.std.proofs.Common.{◌≡◌, ℕ, zero, suc, ◌+◌, ◌*◌, ◌^◌, ◌<◌, ◌≤◌, refl, sym, ap, ◌∙◌, ⊎_elim, arith}
+use Rattle.std.proofs.Common.{List, [], ◌∷◌, ◌++◌, length}
+use Rattle.std.specs.Prelude.{All}
+use Rattle.std.proofs.Math.Nat.{eq_of_mul-eq-mul_right, mul-le-mul_left}
+use Rattle.std.proofs.lemmas.Bool.{cases_lt}
+use Rattle.std.proofs.lemmas.Nat.{pow-add, pow_pos}
+use Rattle.block_formats.specs.Laws.{ArePackedOnce}
+use Rattle.block_formats.specs.Layouts.{ArePacked, number_of_digits}
+
+-- digits after others
+pub number_append : (bits : ℕ) (xs ys : List ℕ) → number_of_digits bits (xs ++ ys)
+    ≡ number_of_digits bits xs + 2 ^ (bits * length xs) * number_of_digits bits ys
+number_append bits [] ys =
+    let one : 2 ^ (bits * 0) ≡ 1 = let z : bits * 0 ≡ 0 = omega arith in ap (λ (n : ℕ). 2 ^ n) z in
+    rw one (omega arith)
+number_append bits (x ∷ xs) ys =
+    let rest = number_append bits xs ys in
+    let a : ℕ = number_of_digits bits xs in
+    let b : ℕ = number_of_digits bits ys in
+    let places : bits * length (x ∷ xs) ≡ bits + bits * length xs = omega arith in
+    let power : 2 ^ (bits * length (x ∷ xs)) ≡ 2 ^ bits * 2 ^ (bits * length xs) =
+    ap (λ (n : ℕ). 2 ^ n) places ∙ pow-add 2 bits (bits * length xs) in
+    ap (λ (n : ℕ). x + 2 ^ bits * n) rest
+    ∙ (let z : x + 2 ^ bits * (a + 2 ^ (bits * length xs) * b) ≡ x + 2 ^ bits * a + 2 ^ bits * 2 ^ (bits * length xs) * b =
+    omega arith in z)
+    ∙ ap (λ (n : ℕ). x + 2 ^ bits * a + n * b) (sym power)
+
+-- the lowest digit and the others are those of one number
+apart : (base x y a b : ℕ) → x < base → y < base → x + base * a ≡ y + base * b → (x ≡ y) × (a ≡ b)
+apart base x y a b l k e =
+    ⊎_elim
+    (λ (q : a < b).
+    let more : base * (a + 1) ≤ base * b = mul-le-mul_left base (omega (arith, q)) in
+    absurd (omega (arith, e, l, more)))
+    (λ (q : b ≤ a).
+    ⊎_elim
+    (λ (r : b < a).
+    let more : base * (b + 1) ≤ base * a = mul-le-mul_left base (omega (arith, r)) in
+    absurd (omega (arith, e, k, more)))
+    (λ (r : a ≤ b).
+    let same : a ≡ b = omega (arith, q, r) in
+    let times : base * a ≡ base * b = ap (λ (n : ℕ). base * n) same in
+    (omega (arith, e, times), same))
+    (cases_lt b a))
+    (cases_lt a b)
+
+pub digits_once : (bits : ℕ) (xs ys : List ℕ) → length xs ≡ length ys → All (λ x. x < 2 ^ bits) xs
+    → All (λ y. y < 2 ^ bits) ys → number_of_digits bits xs ≡ number_of_digits bits ys → xs ≡ ys
+digits_once bits [] [] size p q e = refl
+digits_once bits [] (y ∷ ys) size p q e = absurd (omega (arith, size))
+digits_once bits (x ∷ xs) [] size p q e = absurd (omega (arith, size))
+digits_once bits (x ∷ xs) (y ∷ ys) size p q e =
+    let both = apart (2 ^ bits) x y (number_of_digits bits xs) (number_of_digits bits ys) p.0 q.0 e in
+    ap (λ n. n ∷ xs) both.0
+    ∙ ap (λ zs. y ∷ zs) (digits_once bits xs ys (omega (arith, size)) p.1 q.1 both.1)
+
+pub packed_once : ArePackedOnce
+packed_once bits codes others bytes some x y =
+    let one = x.same_bits in
+    let other = y.same_bits in
+    let times : length codes * bits ≡ length others * bits = omega (arith, one, other) in
+    digits_once bits codes others (eq_of_mul-eq-mul_right bits some (length codes) (length others) times) x.codes_fit
+    y.codes_fit (sym x.same_number ∙ y.same_number)
