@@ -12,3 +12,6 @@ mod ExactBlocks
 mod KeptBlocks
 mod KeptLists
 mod PackedDigits
+mod Halves
+mod Powers
+mod Fractions
