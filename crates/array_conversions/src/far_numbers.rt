@@ -81,7 +81,7 @@ fn with_overflow<T: Flagged>(
 {
     match overflow {
         Overflow::Rounded => rounded,
-        Overflow::Saturated => {
+        Overflow::Saturated | Overflow::Finite(_) => {
             if rounded.is_finite() {
                 rounded
             } else {
