@@ -1,10 +1,14 @@
 -- The numbers of the element formats.
-use Rattle.std.proofs.Common.{◌≡◌, ℕ, ◌+◌, ◌-◌, ◌*◌, ◌^◌, ◌<◌, ◌≤◌, Bool, true, refl, sym, ap, ◌∙◌, arith, lit≤}
+use Rattle.std.proofs.Common.{◌≡◌, ℕ, ◌+◌, ◌-◌, ◌*◌, ◌^◌, ◌<◌, ◌≤◌, Bool, true, false, zero, suc, eqb, refl, sym, ap, ◌∙◌}
+use Rattle.std.proofs.Common.{arith, if◌then◌else◌}
 use Rattle.std.proofs.Common.{pos}
 use Rattle.std.proofs.lemmas.Nat.{mod_below, pow_pos}
 use Rattle.apfloat_model.specs.bits.Interchange.{IsInterchange}
 use Rattle.apfloat_model.specs.formats.Datum.{finite}
-use Rattle.apfloat_model.specs.formats.Format.{largest}
+use Rattle.apfloat_model.specs.formats.Format.{Format, largest}
+use Rattle.apfloat_model.proofs.general.Powers.{twice_half}
+use Rattle.apfloat_model.proofs.rounding.Neighbours.{multiple_on_grid}
+use Rattle.std.proofs.lemmas.Bool.{ne_eqb}
 use Rattle.apfloat_model.specs.formats.Formats.{e4m3fn_constants, e5m2_constants}
 use Rattle.apfloat_model.specs.formats.Lawful.{format_with, layout_with}
 use Rattle.apfloat_model.specs.order.Classes.{is_finite, is_negative, quanta_of}
@@ -50,11 +54,30 @@ e2m3fn_law = lawful_from_test _ refl
 pub e2m1fn_law : IsLawful e2m1fn
 e2m1fn_law = lawful_from_test _ refl
 
+-- ---- formats of 8 bits: a finite code is an implied number
+
+-- Of a biased exponent and a trailing significand. `below` says that it is not past the largest number.
+implied_member : (f : Format) (biased trailing : ℕ) → 0 < f.precision → trailing < 2 ^ (f.precision - 1)
+    → (2 ^ (f.precision - 1) + trailing) * 2 ^ (biased - 1) ≤ largest f → trailing ≤ largest f
+    → let q : ℕ = if eqb biased 0 then trailing else (2 ^ (f.precision - 1) + trailing) * 2 ^ (biased - 1) in
+    IsOnGrid f.precision q × (q ≤ largest f)
+implied_member f zero trailing some fits top low =
+    let double : 2 * 2 ^ (f.precision - 1) ≡ 2 ^ f.precision = twice_half f.precision some in
+    (record { significand = trailing; place = 0; fits = omega (arith, fits, double); is = omega arith }, low)
+implied_member f (suc biased) trailing some fits top low =
+    let double : 2 * 2 ^ (f.precision - 1) ≡ 2 ^ f.precision = twice_half f.precision some in
+    let off : eqb (suc biased) 0 ≡ false = ne_eqb (suc biased) 0 (λ e. omega (arith, e)) in
+    rw off (multiple_on_grid f.precision (2 ^ (f.precision - 1) + trailing) (suc biased - 1)
+    (omega (arith, fits, double)), top)
+
+-- UNPROVED: `ieee_number` and `nan_only_number` from `implied_member`. With code < 256 its fields are
+-- biased ≡ code / 2 ^ (precision - 1) % 2 ^ exp_bits and trailing ≡ code % 2 ^ (precision - 1) (`fields_of` of the
+-- layout). For e5m2, finite means biased < 31 (`has_all_ones` is false, or the datum is an infinity or a NaN), and
+-- `ieee_within` of apfloat_model/proofs/formats/Ranges.antt is the bound; for e4m3fn `nan_only_within`. Otherwise: a
+-- test by computing over all 256 codes, `list_all (λ code. leb (quanta_of (datum code)) (largest f)) (range 256)`, whose
+-- proof is `refl`, for the bound alone; the grid comes from `implied_member` as here.
 -- ---- all of them
 
--- UNPROVED for the formats of 8 bits: from `fields_within` and `ieee_within`, `nan_only_within` of
--- apfloat_model/proofs/formats/Ranges.antt with `multiple_on_grid`; the datum of a code is `implied_number` where it is
--- finite, of a trailing significand below 2 ^ (precision - 1).
 pub element_number : (element : ElementFormat) (code : ℕ) → code < 2 ^ width element
     → is_finite (element_datum element code) ≡ true
     → IsElementNumber element (quanta_of (element_datum element code))

@@ -30,6 +30,7 @@ use Rattle.block_formats.specs.Laws.{IsExactlyScaled, IsShort, HasScaleOfSingles
 use Rattle.block_formats.specs.Magnitudes.{are_finite, greatest_magnitude}
 use Rattle.block_formats.specs.MxBlocks.{IsScaled}
 use Rattle.block_formats.specs.MxScales.{IsBlockScale, IsScaleOfNumber}
+use Rattle.block_formats.proofs.Places.{all_first, all_rest}
 use Rattle.block_formats.proofs.ElementMembers.{IsElementNumber, element_number}
 use Rattle.block_formats.proofs.ExactProducts.{HasProducts, exact_product}
 use Rattle.block_formats.proofs.Quotients.{sign_over_positive}
@@ -183,8 +184,8 @@ singles_below : (values : List Datum) → All (λ x. IsMember (format_with singl
 singles_below [] h f = lit≤ tt
 singles_below (x ∷ values) h f =
     let p = and_parts (is_finite x) (are_finite values) f in
-    let rest = singles_below values h.1 p.1 in
-    max_below (quanta_of x) (greatest_magnitude values) (single_below x h.0 p.0) rest
+    let rest = singles_below values (all_rest x values h) p.1 in
+    max_below (quanta_of x) (greatest_magnitude values) (single_below x (all_first x values h) p.0) rest
   where
     single_below : (x : Datum) → IsMember (format_with single_constants) x → is_finite x ≡ true → quanta_of x < 2 ^ 277
     single_below (finite b n) m f =

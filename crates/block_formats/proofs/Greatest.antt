@@ -1,11 +1,15 @@
 -- The greatest magnitude of a block.
 use Rattle.std.proofs.Common.{◌≡◌, ℕ, zero, suc, ◌+◌, ◌*◌, ◌^◌, ◌<◌, ◌≤◌, max, Bool, true, ◌&&◌, refl, sym, ap, ◌∙◌}
-use Rattle.std.proofs.Common.{⊎_elim, arith, List, [], ◌∷◌, ◌++◌, length, take, map, Some}
+use Rattle.std.proofs.Common.{⊎_elim, arith, false, ltb, pos, List, [], ◌∷◌, ◌++◌, length, take, Some}
 use Rattle.std.specs.Prelude.{slice_get}
 use Rattle.std.proofs.Math.Nat.{mul-le-mul_right}
-use Rattle.std.proofs.lemmas.Bool.{and_parts, cases_lt}
-use Rattle.apfloat_model.specs.formats.Datum.{Datum}
+use Rattle.std.proofs.lemmas.Bool.{and_parts, cases_lt, lt-ltb, le-ltb}
+use Rattle.apfloat_model.specs.formats.Datum.{Datum, finite}
+use Rattle.std.specs.declared.cmp.Ordering.TheVariants.{Less, Equal, Greater}
+use Rattle.std.specs.Cmp.{int_cmp_is}
+use Rattle.std.proofs.lemmas.Int.{ints}
 use Rattle.apfloat_model.specs.order.Classes.{is_finite, quanta_of}
+use Rattle.apfloat_model.specs.order.Order.{is_below}
 use Rattle.block_formats.specs.Magnitudes.{are_finite, greatest_magnitude}
 use Rattle.block_formats.proofs.Places.{some_same}
 
@@ -84,3 +88,17 @@ greatest_proportional u v (x ∷ xs) (y ∷ ys) h =
     ∙ ap (λ n. max n (greatest_magnitude xs * u)) first
     ∙ ap (λ n. max (quanta_of y * v) n) rest
     ∙ sym (max_times (quanta_of y) (greatest_magnitude ys) v)
+
+-- the order of two values that are not below zero is that of their quanta
+pub below_is : (m n : ℕ) → is_below (finite false m) (finite false n) ≡ ltb m n
+below_is m n =
+    ⊎_elim
+    (λ (l : m < n). rw (int_cmp_is (pos m) (pos n) Less (omega (arith, ints, l)), lt-ltb m n l) refl)
+    (λ (l : n ≤ m).
+    ⊎_elim
+    (λ (k : n < m). rw (int_cmp_is (pos m) (pos n) Greater (omega (arith, ints, k)), le-ltb m n l) refl)
+    (λ (k : m ≤ n).
+    let e : m ≡ n = omega (arith, l, k) in
+    rw (int_cmp_is (pos m) (pos n) Equal (ap (λ (z : ℕ). pos z) e), le-ltb m n l) refl)
+    (cases_lt n m))
+    (cases_lt m n)

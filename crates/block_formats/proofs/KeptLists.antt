@@ -5,6 +5,7 @@ use Rattle.std.specs.Prelude.{slice_get, All}
 use Rattle.std.proofs.Math.Nat.{eq_of_mul-eq-mul_right, mul-le-mul_right, mul-pos}
 use Rattle.std.proofs.lemmas.Bool.{cases_lt, eq-eqb, MatchBool-at_true}
 use Rattle.std.proofs.lemmas.Nat.{pow_pos}
+use Rattle.std.proofs.lemmas.List.{length-map}
 use Rattle.std.proofs.lemmas.Option.{slice_get-map, slice_get_within}
 use Rattle.std.specs.Option.{option_map}
 use Rattle.apfloat_model.specs.formats.Datum.{Datum, finite}
@@ -29,7 +30,7 @@ use Rattle.block_formats.proofs.Greatest.{AreProportional, at_most_greatest, gre
 use Rattle.block_formats.proofs.Greatest.{max_left, max_right}
 use Rattle.block_formats.proofs.KeptBlocks.{exactly_quantized, lowered, moved_within, same_quotient, same_value}
 use Rattle.block_formats.proofs.KeptBlocks.{top_place, tops}
-use Rattle.block_formats.proofs.Places.{some_same}
+use Rattle.block_formats.proofs.Places.{all_at, all_first, all_rest, some_same}
 
 -- an item at each place below the length
 item_at : {X : Type 0} → (xs : List X) (i : ℕ) → i < length xs → (x : X) × (slice_get xs i ≡ Some x)
@@ -53,7 +54,7 @@ proportional : (element : ElementFormat) (f : Format) (scale : ℕ) (codes : Lis
     → AreProportional (2 ^ ((format_of_element element).scale + 127)) (2 ^ scale * 2 ^ f.scale) values
     (map (element_datum element) codes)
 proportional element f scale codes values h = record {
-  same_size = h.same_size ∙ sym (length_map (element_datum element) codes);
+  same_size = h.same_size ∙ sym (length-map codes (element_datum element));
   each = λ i x y at_value at_number.
       let size = h.same_size in
       let below : i < length codes = omega (arith, slice_get_within values i x at_value, size) in
@@ -156,8 +157,8 @@ greatest_is : (element : ElementFormat) (codes : List ℕ) → All (λ code. cod
     → (greatest_number element codes ≡ 0) ⊎ IsElementNumber element (greatest_number element codes)
 greatest_is element [] narrow number = inl refl
 greatest_is element (code ∷ codes) narrow number =
-    let first = element_number element code narrow.0 (number 0 code refl) in
-    let rest = greatest_is element codes narrow.1 (λ place c e. number (suc place) c e) in
+    let first = element_number element code (all_first code codes narrow) (number 0 code refl) in
+    let rest = greatest_is element codes (all_rest code codes narrow) (λ place c e. number (suc place) c e) in
     let m : ℕ = quanta_of (element_datum element code) in
     let n : ℕ = greatest_number element codes in
     ⊎_elim
@@ -171,6 +172,16 @@ greatest_is element (code ∷ codes) narrow number =
     let e : max m n ≡ m = max_left m n l in
     inr (subst (λ (k : ℕ). IsElementNumber element k) (sym e) first))
     (cases_lt m n)
+
+-- each code of a block with values is that of a number
+numbers_at : (element : ElementFormat) (f : Format) (scale : ℕ) (codes : List ℕ) (values : List Datum)
+    → AreValuesOf element f scale codes values
+    → (place code : ℕ) → slice_get codes place ≡ Some code → is_finite (element_datum element code) ≡ true
+numbers_at element f scale codes values are place code e =
+    let size = are.same_size in
+    let in_codes = slice_get_within codes place code e in
+    let item = item_at values place (omega (arith, size, in_codes)) in
+    ap is_finite (are.each place code item.0 e item.1).element_is
 
 -- the new scale in both cases
 any_scale : (element : ElementFormat) (f : Format) (scale lower : ℕ) (codes : List ℕ) (values : List Datum)
@@ -186,11 +197,7 @@ any_scale element f scale lower codes values below narrow are room h =
     (λ (l : greatest < 1). zero_scale element f scale lower codes values (omega (arith, l)) are h)
     (λ (l : 1 ≤ greatest). new_scale element f scale lower codes values below l m.within m.on_grid are room h)
     (cases_lt greatest 1))
-    (greatest_is element codes narrow (λ place code e.
-    let size = are.same_size in
-    let in_codes = slice_get_within codes place code e in
-    let item = item_at values place (omega (arith, size, in_codes)) in
-    ap is_finite (are.each place code item.0 e item.1).element_is))
+    (greatest_is element codes narrow (numbers_at element f scale codes values are))
 
 pub keeps_values : KeepsValues
 keeps_values element f mode scale codes again values block below narrow are room h =
@@ -207,7 +214,7 @@ keeps_values element f mode scale codes again values block below narrow are room
           let old = item_at codes place (omega (arith, slice_get_within values place x at_value, sizes)) in
           let v = are.each place old.0 x old.1 at_value in
           let q = places.each place x code flags.0 at_value at_again flags.1 in
-          let narrow_at = All-at codes place old.0 narrow old.1 in
+          let narrow_at = all_at codes place old.0 narrow old.1 in
           record {
             negative = v.negative;
             number = v.number * 2 ^ (scale - lower);
@@ -217,7 +224,6 @@ keeps_values element f mode scale codes again values block below narrow are room
             same = same_value v.quanta v.number (format_of_element element).scale scale lower f.scale new.not_above v.same;
           };
     }
--- `All-at`: what holds of all holds of the item at a place (std/lemmas/List/Quantifiers.md has its name)
 
 -- in the top binade nothing moves: deep is 0 by `exponent_between`; at the least scale, scale - lower is 0
 still : (element : ElementFormat) (f : Format) (scale lower : ℕ) (codes : List ℕ) (values : List Datum)
@@ -248,8 +254,76 @@ still element f scale lower codes values below some within are top h =
     place_is E2M3FN = refl
     place_is E2M1FN = refl
 
--- Then `lower ≡ scale` in both cases (at scale 0: `any_scale`'s `not_above`, or `lowered`, whose code is 0 - deep). The
--- numbers do not move, so `moved_code` with `within` from `element_number` gives the same datum for both codes, and
--- `element_once` the same code; `same_list` ends it. UNPROVED: this last step.
+-- at the least scale nothing moves either: the new scale is not above it
+least_still : (element : ElementFormat) (f : Format) (scale lower : ℕ) (codes : List ℕ) (values : List Datum)
+    → scale ≡ 0 → All (λ code. code < 2 ^ width element) codes → AreValuesOf element f scale codes values
+    → IsBlockScale element f (greatest_magnitude values) lower → lower ≡ scale
+least_still element f scale lower codes values least narrow are h =
+    ⊎_elim
+    (λ (z : greatest_number element codes ≡ 0).
+    let new = zero_scale element f scale lower codes values z are h in
+    let l = new.not_above in
+    omega (arith, l, least))
+    (λ (m : IsElementNumber element (greatest_number element codes)).
+    ⊎_elim
+    (λ (l : greatest_number element codes < 1).
+    let new = zero_scale element f scale lower codes values (omega (arith, l)) are h in
+    let k = new.not_above in
+    omega (arith, k, least))
+    (λ (l : 1 ≤ greatest_number element codes).
+    let e = greatest_proportional (2 ^ ((format_of_element element).scale + 127)) (2 ^ scale * 2 ^ f.scale) values
+    (map (element_datum element) codes) (proportional element f scale codes values are) in
+    let x = lowered element f (greatest_magnitude values) (greatest_number element codes) scale lower l m.within
+    (omega (arith, least)) (e ∙ omega arith) h in
+    let is = x.code_is in
+    omega (arith, is, least))
+    (cases_lt (greatest_number element codes) 1))
+    (greatest_is element codes narrow (numbers_at element f scale codes values are))
+
+-- the new code of a number that does not move
+same_code : (element : ElementFormat) (f : Format) (mode : Round) (scale lower code again status : ℕ) (x : Datum)
+    → lower ≡ scale → code < 2 ^ width element → again < 2 ^ width element → (v : IsValueOf element f scale code x)
+    → IsQuotientBy element f mode (2 ^ lower) (2 ^ 127) x again status → again ≡ code
+same_code element f mode scale lower code again status x same narrow narrow' v h =
+    let member = element_number element code narrow (ap is_finite v.element_is) in
+    let number : quanta_of (element_datum element code) ≡ v.number = ap quanta_of v.element_is in
+    let grid = subst (λ (n : ℕ). IsOnGrid (format_of_element element).precision n) number member.on_grid in
+    let within = member.within in
+    let none : scale - lower ≡ 0 = omega (arith, same) in
+    let still : v.number * 2 ^ (scale - lower) ≡ v.number = ap (λ (n : ℕ). v.number * 2 ^ n) none ∙ omega arith in
+    let moved = moved_code element f mode scale lower code again status x (omega (arith, same)) v grid
+    (omega (arith, still, number, within)) h in
+    element_once element again code narrow' narrow
+    (moved ∙ ap (λ (n : ℕ). finite v.negative n) still ∙ sym v.element_is)
+
 pub keeps_codes : KeepsCodes
-keeps_codes = ?
+keeps_codes element f mode scale codes again values block below narrow narrow' are room h =
+    let counted = h.elements in
+    let places = counted.in_places in
+    let lower : ℕ = block.scale in
+    let same : lower ≡ scale = ⊎_elim (top_case room) (λ (z : scale ≡ 0).
+    least_still element f scale lower codes values z narrow are h.scale_is) room in
+    let size = are.same_size in
+    let same_size = places.same_size in (
+      same_list again codes (same_size ∙ size)
+          (λ i a b at_again at_code.
+          let item = item_at values i (omega (arith, slice_get_within codes i b at_code, size)) in
+          let flags = item_at counted.flags i
+          (omega (arith, slice_get_within codes i b at_code, size, places.flags_size)) in
+          same_code element f mode scale lower b a flags.0 item.0 same (all_at codes i b narrow at_code)
+          (all_at again i a narrow' at_again) (are.each i b item.0 at_code item.1)
+          (places.each i item.0 a flags.0 item.1 at_again flags.1)),
+      same,
+    )
+  where
+    -- in the top binade the greatest number is not 0
+    top_case : IsInTopBinade element codes ⊎ (scale ≡ 0) → IsInTopBinade element codes → block.scale ≡ scale
+    top_case room top =
+        let some : 0 < greatest_number element codes =
+        let p = pow_pos ((format_of_element element).span + ((format_of_element element).precision - 1)) in
+        omega (arith, top, p) in
+        ⊎_elim
+        (λ (z : greatest_number element codes ≡ 0). absurd (omega (arith, z, some)))
+        (λ (m : IsElementNumber element (greatest_number element codes)).
+        still element f scale block.scale codes values below some m.within are top h.scale_is)
+        (greatest_is element codes narrow (numbers_at element f scale codes values are))

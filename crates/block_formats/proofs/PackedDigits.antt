@@ -7,6 +7,7 @@ use Rattle.std.proofs.lemmas.Bool.{cases_lt}
 use Rattle.std.proofs.lemmas.Nat.{pow-add, pow_pos}
 use Rattle.block_formats.specs.Laws.{ArePackedOnce}
 use Rattle.block_formats.specs.Layouts.{ArePacked, number_of_digits}
+use Rattle.block_formats.proofs.Places.{all_first, all_rest}
 
 -- digits after others
 pub number_append : (bits : ℕ) (xs ys : List ℕ) → number_of_digits bits (xs ++ ys)
@@ -51,9 +52,11 @@ digits_once bits [] [] size p q e = refl
 digits_once bits [] (y ∷ ys) size p q e = absurd (omega (arith, size))
 digits_once bits (x ∷ xs) [] size p q e = absurd (omega (arith, size))
 digits_once bits (x ∷ xs) (y ∷ ys) size p q e =
-    let both = apart (2 ^ bits) x y (number_of_digits bits xs) (number_of_digits bits ys) p.0 q.0 e in
+    let both = apart (2 ^ bits) x y (number_of_digits bits xs) (number_of_digits bits ys) (all_first x xs p)
+    (all_first y ys q) e in
     ap (λ n. n ∷ xs) both.0
-    ∙ ap (λ zs. y ∷ zs) (digits_once bits xs ys (omega (arith, size)) p.1 q.1 both.1)
+    ∙ ap (λ zs. y ∷ zs) (digits_once bits xs ys (omega (arith, size)) (all_rest x xs p) (all_rest y ys q)
+    both.1)
 
 pub packed_once : ArePackedOnce
 packed_once bits codes others bytes some x y =

@@ -1,7 +1,7 @@
 -- One more element is written in its place.
 use Rattle.std.proofs.Common.{◌≡◌, ℕ, zero, suc, ◌+◌, ◌-◌, ◌<◌, ◌≤◌, Bool, true, false, cond, refl, sym, ap, ◌∙◌, subst}
 use Rattle.std.proofs.Common.{⊎_elim, arith, List, [], ◌∷◌, ◌++◌, length, Some}
-use Rattle.std.specs.Prelude.{slice_get, slice_set, unwrap_or}
+use Rattle.std.specs.Prelude.{All, slice_get, slice_set, unwrap_or}
 use Rattle.std.proofs.lemmas.Bool.{cases_lt}
 use Rattle.std.proofs.lemmas.List.{length_push}
 use Rattle.std.proofs.lemmas.Option.{slice_get_within}
@@ -31,6 +31,19 @@ length_set (x ∷ xs) (suc i) y = ap suc (length_set xs i y)
 
 pub some_same : {X : Type 0} → (a b : X) → Some a ≡ Some b → a ≡ b
 some_same a b e = ap (λ o. unwrap_or o a) e
+
+-- ---- what holds of all
+
+pub all_first : {X : Type 0} {P : X → Type 0} → (x : X) (xs : List X) → All P (x ∷ xs) → P x
+all_first x xs h = h 0 x (omega arith)
+
+pub all_rest : {X : Type 0} {P : X → Type 0} → (x : X) (xs : List X) → All P (x ∷ xs) → All P xs
+all_rest x xs h = λ k d l. h (suc k) d (omega (arith, l))
+
+pub all_at : {X : Type 0} {P : X → Type 0} → (xs : List X) (i : ℕ) (x : X) → All P xs → slice_get xs i ≡ Some x → P x
+all_at [] i x h e = cc
+all_at {X} {P} (y ∷ xs) zero x h e = subst P (some_same y x e) (all_first y xs h)
+all_at (y ∷ xs) (suc i) x h e = all_at xs i x (all_rest y xs h) e
 
 -- ---- the elements before a place
 
