@@ -15,3 +15,4 @@ mod PackedDigits
 mod Halves
 mod Powers
 mod Fractions
+mod Counted

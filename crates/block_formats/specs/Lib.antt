@@ -6,3 +6,4 @@ pub mod MxBlocks
 pub mod Nvfp4
 pub mod Layouts
 pub mod Laws
+pub mod MxArrays

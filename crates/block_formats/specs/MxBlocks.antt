@@ -13,7 +13,7 @@ use Rattle.storage_formats.specs.Scales.{nan_code, scale_format, scale_of}
 use Rattle.block_formats.specs.declared.counts.Counts.{Counts}
 use Rattle.block_formats.specs.declared.elements.ElementFormat.{ElementFormat}
 use Rattle.block_formats.specs.declared.errors.BlockError.{BlockError}
-use Rattle.block_formats.specs.declared.errors.BlockError.TheVariants.{Empty, Lengths, CodeTooWide, TensorScale}
+use Rattle.block_formats.specs.declared.errors.BlockError.TheVariants.{Empty, Lengths, Uneven, CodeTooWide, TensorScale}
 use Rattle.block_formats.specs.declared.mx.Block.{Block}
 use Rattle.block_formats.specs.Elements.{IsQuotientBy, element_datum, format_of_element, width}
 use Rattle.block_formats.specs.Magnitudes.{are_finite, greatest_magnitude}
@@ -49,6 +49,7 @@ IsQuantized element f mode values before after (Ok block) =
     (0 < length values) × (length before ≡ length values) × IsBlock element f mode values after block
 IsQuantized element f mode values before after (Err Empty) = (length values ≡ 0) × (after ≡ before)
 IsQuantized element f mode values before after (Err Lengths) = (length before ≢ length values) × (after ≡ before)
+IsQuantized element f mode values before after (Err Uneven) = ⊥
 IsQuantized element f mode values before after (Err CodeTooWide) = ⊥
 IsQuantized element f mode values before after (Err TensorScale) = ⊥
 
@@ -69,6 +70,7 @@ IsDequantized element g mode scale codes before after (Ok counts) =
 IsDequantized element g mode scale codes before after (Err Empty) = (length codes ≡ 0) × (after ≡ before)
 IsDequantized element g mode scale codes before after (Err Lengths) =
     (length before ≢ length codes) × (after ≡ before)
+IsDequantized element g mode scale codes before after (Err Uneven) = ⊥
 IsDequantized element g mode scale codes before after (Err CodeTooWide) =
     SomeIndex codes (λ place code. 2 ^ width element ≤ code) × (after ≡ before)
 IsDequantized element g mode scale codes before after (Err TensorScale) = ⊥

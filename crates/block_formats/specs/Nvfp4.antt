@@ -18,7 +18,7 @@ use Rattle.storage_formats.specs.Conversions.{saturated_value}
 use Rattle.block_formats.specs.declared.counts.Counts.{Counts}
 use Rattle.block_formats.specs.declared.elements.ElementFormat.TheVariants.{E2M1FN, E4M3FN}
 use Rattle.block_formats.specs.declared.errors.BlockError.{BlockError}
-use Rattle.block_formats.specs.declared.errors.BlockError.TheVariants.{Empty, Lengths, CodeTooWide, TensorScale}
+use Rattle.block_formats.specs.declared.errors.BlockError.TheVariants.{Empty, Lengths, Uneven, CodeTooWide, TensorScale}
 use Rattle.block_formats.specs.declared.mx.Block.{Block}
 use Rattle.block_formats.specs.Elements.{IsElement, IsQuotientBy, element_datum, format_of_element}
 use Rattle.block_formats.specs.Magnitudes.{are_finite, greatest_magnitude}
@@ -103,6 +103,7 @@ IsNvQuantized f mode tensor values before after (Ok block) =
     (IsNvBlockOfNan values after block)
 IsNvQuantized f mode tensor values before after (Err Empty) = (length values ≡ 0) × (after ≡ before)
 IsNvQuantized f mode tensor values before after (Err Lengths) = (length before ≢ length values) × (after ≡ before)
+IsNvQuantized f mode tensor values before after (Err Uneven) = ⊥
 IsNvQuantized f mode tensor values before after (Err CodeTooWide) = ⊥
 IsNvQuantized f mode tensor values before after (Err TensorScale) = (is_positive tensor ≡ false) × (after ≡ before)
 
@@ -129,6 +130,7 @@ IsNvDequantized g mode tensor scale codes before after (Ok counts) =
 IsNvDequantized g mode tensor scale codes before after (Err Empty) = (length codes ≡ 0) × (after ≡ before)
 IsNvDequantized g mode tensor scale codes before after (Err Lengths) =
     (length before ≢ length codes) × (after ≡ before)
+IsNvDequantized g mode tensor scale codes before after (Err Uneven) = ⊥
 IsNvDequantized g mode tensor scale codes before after (Err CodeTooWide) =
     SomeIndex codes (λ place code. 16 ≤ code) × (after ≡ before)
 IsNvDequantized g mode tensor scale codes before after (Err TensorScale) =

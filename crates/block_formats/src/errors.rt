@@ -5,8 +5,10 @@
 pub enum BlockError {
     /// The block has no elements.
     Empty,
-    /// There are not as many codes as values.
+    /// There are not as many codes as values, or not as many scales as blocks.
     Lengths,
+    /// The values do not fill the last block.
+    Uneven,
     /// A code has more bits than the element format.
     CodeTooWide,
     /// The scale of the tensor is not a positive number.

@@ -9,6 +9,7 @@
 //! Codes stand one in a byte, in its lowest bits, until a layout packs them.
 #![tactic(auto)]
 
+mod arrays;
 mod counts;
 mod elements;
 mod errors;
@@ -23,6 +24,7 @@ mod rows;
 mod tests;
 mod theorems;
 
+pub use arrays::{ArrayCounts, quantize_blocks};
 pub use counts::Counts;
 pub use elements::ElementFormat;
 pub use errors::{BlockError, LayoutError};

@@ -9,7 +9,7 @@ ghost use Rattle.apfloat_model.specs.order.Classes.{quanta_of};
 ghost use Rattle.storage_formats.specs.Scales.{largest_code, scale_format};
 ghost use Rattle.block_formats.specs.Elements.{IsQuotientBy, width};
 ghost use Rattle.block_formats.specs.Magnitudes.{are_finite};
-ghost use Rattle.block_formats.specs.MxBlocks.{IsDequantized, IsQuantized, IsScaled};
+ghost use Rattle.block_formats.specs.MxBlocks.{IsBlock, IsDequantized, IsQuantized, IsScaled};
 ghost use Rattle.block_formats.specs.Places.{AreCounted};
 
 use crate::counts::Counts;
@@ -69,6 +69,33 @@ pub(crate) fn write_zeros(codes: &mut [u8])
     codes.fill(0);
 }
 
+/// A block with as many codes as values.
+pub(crate) fn quantize_some<S: Semantics>(
+    element: ElementFormat,
+    values: &[IeeeFloat<S>],
+    round: Round,
+    codes: &mut [u8],
+) -> Block
+    requires { length codes.old ≡ length values.now }
+    ensures { IsBlock element (format_of S.Semantics) round values.now codes.new result }
+{
+    if !are_finite(values) {
+        write_zeros(codes);
+        return Block {
+            scale: NAN_SCALE,
+            counts: Counts::NONE,
+            is_finite: false,
+        };
+    }
+    let scale = scale_for(element, greatest_of(values));
+    let counts = write_quotients(element, values, power_of(scale), round, codes);
+    Block {
+        scale,
+        counts,
+        is_finite: true,
+    }
+}
+
 /// Quantizes a block: chooses its scale, and writes the code of each value, in the lowest bits of a byte.
 ///
 /// The scale is 2 to the power of the greatest exponent of the values less that of the largest number of the element
@@ -94,21 +121,7 @@ pub fn quantize_block<S: Semantics>(
     if codes.len() != values.len() {
         return Err(BlockError::Lengths);
     }
-    if !are_finite(values) {
-        write_zeros(codes);
-        return Ok(Block {
-            scale: NAN_SCALE,
-            counts: Counts::NONE,
-            is_finite: false,
-        });
-    }
-    let scale = scale_for(element, greatest_of(values));
-    let counts = write_quotients(element, values, power_of(scale), round, codes);
-    Ok(Block {
-        scale,
-        counts,
-        is_finite: true,
-    })
+    Ok(quantize_some(element, values, round, codes))
 }
 
 /// Whether each code has only that many bits.
