@@ -28,7 +28,8 @@ pub record IsSaturatedConversion (f g : Format) (mode : Round) (x value : Datum)
   pub is_conversion : IsConversion f g mode x rounded status loses_info
   pub value_is : value ≡ saturated g x rounded
 
--- Only finite values: an infinity becomes the largest value of its sign, and a NaN is kept or becomes the largest value.
+-- Only finite values: an infinity becomes the largest value of its sign, and a NaN is kept or becomes the largest
+-- value.
 abbrev pub IsFiniteNan : FiniteNan → Format → Format → Round → Bool → ℕ → Datum → ℕ → Bool → Type 0
 IsFiniteNan Kept f g mode b s value status loses_info = IsConversion f g mode (nan b s) value status loses_info
 IsFiniteNan Largest f g mode b s value status loses_info =

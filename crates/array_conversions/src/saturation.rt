@@ -28,8 +28,9 @@ pub enum Overflow {
     Rounded,
     /// The largest value of its sign, in every mode.
     Saturated,
-    /// The same, and an infinity becomes the largest value of its sign too, with INEXACT; a NaN that becomes the largest
-    /// value has INVALID_OP. This is the saturating conversion of the OCP's 8-bit formats and of PTX (`satfinite`).
+    /// The same, and an infinity becomes the largest value of its sign too, with INEXACT; a NaN that becomes the
+    /// largest value has INVALID_OP. This is the saturating conversion of the OCP's 8-bit formats and of PTX
+    /// (`satfinite`).
     Finite(FiniteNan),
 }
 

@@ -1,17 +1,14 @@
 -- The numbers of the element formats.
-use Rattle.std.proofs.Common.{◌≡◌, ℕ, ◌+◌, ◌-◌, ◌*◌, ◌^◌, ◌<◌, ◌≤◌, Bool, true, false, zero, suc, eqb, refl, sym, ap, ◌∙◌}
-use Rattle.std.proofs.Common.{arith, if◌then◌else◌}
-use Rattle.std.proofs.Common.{pos}
+use Rattle.std.proofs.Common.{◌≡◌, ℕ, ◌+◌, ◌-◌, ◌*◌, ◌^◌, ◌<◌, ◌≤◌, true, false, zero, suc, eqb, refl}
+use Rattle.std.proofs.Common.{arith}
 use Rattle.std.proofs.lemmas.Nat.{mod_below, pow_pos}
-use Rattle.apfloat_model.specs.bits.Interchange.{IsInterchange}
-use Rattle.apfloat_model.specs.formats.Datum.{finite}
+
 use Rattle.apfloat_model.specs.formats.Format.{Format, largest}
 use Rattle.apfloat_model.proofs.general.Powers.{twice_half}
 use Rattle.apfloat_model.proofs.rounding.Neighbours.{multiple_on_grid}
 use Rattle.std.proofs.lemmas.Bool.{ne_eqb}
-use Rattle.apfloat_model.specs.formats.Formats.{e4m3fn_constants, e5m2_constants}
-use Rattle.apfloat_model.specs.formats.Lawful.{format_with, layout_with}
-use Rattle.apfloat_model.specs.order.Classes.{is_finite, is_negative, quanta_of}
+
+use Rattle.apfloat_model.specs.order.Classes.{is_finite, quanta_of}
 use Rattle.apfloat_model.specs.rounding.Grid.{IsOnGrid}
 use Rattle.storage_formats.specs.Codes.{largest_index, magnitude_of, point}
 use Rattle.storage_formats.specs.LawTest.{lawful_from_test}
@@ -74,8 +71,8 @@ implied_member f (suc biased) trailing some fits top low =
 -- biased ≡ code / 2 ^ (precision - 1) % 2 ^ exp_bits and trailing ≡ code % 2 ^ (precision - 1) (`fields_of` of the
 -- layout). For e5m2, finite means biased < 31 (`has_all_ones` is false, or the datum is an infinity or a NaN), and
 -- `ieee_within` of apfloat_model/proofs/formats/Ranges.antt is the bound; for e4m3fn `nan_only_within`. Otherwise: a
--- test by computing over all 256 codes, `list_all (λ code. leb (quanta_of (datum code)) (largest f)) (range 256)`, whose
--- proof is `refl`, for the bound alone; the grid comes from `implied_member` as here.
+-- test by computing over all 256 codes, `list_all (λ code. leb (quanta_of (datum code)) (largest f)) (range 256)`,
+-- whose proof is `refl`, for the bound alone; the grid comes from `implied_member` as here.
 -- ---- all of them
 
 pub element_number : (element : ElementFormat) (code : ℕ) → code < 2 ^ width element

@@ -1,5 +1,5 @@
 -- No two codes of an element format mean one datum.
-use Rattle.std.proofs.Common.{◌≡◌, ℕ, ◌^◌, ◌<◌, refl, sym, subst, arith, lit≤}
+use Rattle.std.proofs.Common.{◌≡◌, ℕ, ◌^◌, ◌<◌, refl, subst, arith}
 use Rattle.apfloat_model.specs.bits.Interchange.{IsInterchange}
 use Rattle.apfloat_model.specs.bits.Layout.{IsEncodedBy}
 use Rattle.apfloat_model.specs.formats.Datum.{Datum}

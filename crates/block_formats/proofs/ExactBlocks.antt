@@ -1,13 +1,13 @@
 -- Blocks that wide formats have exactly.
 use Rattle.std.proofs.Common.{◌≡◌, ℕ, ◌+◌, ◌-◌, ◌*◌, ◌^◌, ◌<◌, ◌≤◌, Bool, true, false, eqb, refl, sym, ap, ◌∙◌, subst}
-use Rattle.std.proofs.Common.{arith, lit≤, ⊎_elim, min, max, List, [], ◌∷◌, pos, ◌+ℤ◌, ◌-ℤ◌}
+use Rattle.std.proofs.Common.{arith, ⊎_elim, min, max, List, [], ◌∷◌, pos, ◌+ℤ◌, ◌-ℤ◌}
 use Rattle.std.specs.Prelude.{All, ◌≤ℤ◌}
 use Rattle.std.specs.Bool.{MatchBool}
 use Rattle.std.proofs.lemmas.Bool.{and_parts, cases_lt, eq-eqb, ne_eqb, MatchBool-at_false, MatchBool-at_true}
 use Rattle.std.proofs.lemmas.Int.{ints}
 use Rattle.std.proofs.lemmas.Nat.{pow-add}
 use Rattle.apfloat_model.specs.declared.kinds.Round.{Round}
-use Rattle.apfloat_model.specs.arithmetic.Exact.{product_sign, up}
+use Rattle.apfloat_model.specs.arithmetic.Exact.{up}
 use Rattle.apfloat_model.specs.formats.Datum.{Datum, finite, infinite, nan}
 use Rattle.apfloat_model.specs.formats.Format.{Format, largest}
 use Rattle.apfloat_model.specs.formats.Formats.{bfloat_constants, double_constants, single_constants}
@@ -31,7 +31,7 @@ use Rattle.block_formats.specs.Magnitudes.{are_finite, greatest_magnitude}
 use Rattle.block_formats.specs.MxBlocks.{IsScaled}
 use Rattle.block_formats.specs.MxScales.{IsBlockScale, IsScaleOfNumber}
 use Rattle.block_formats.proofs.Places.{all_first, all_rest}
-use Rattle.block_formats.proofs.ElementMembers.{IsElementNumber, element_number}
+use Rattle.block_formats.proofs.ElementMembers.{element_number}
 use Rattle.block_formats.proofs.ExactProducts.{HasProducts, exact_product}
 use Rattle.block_formats.proofs.Quotients.{sign_over_positive}
 
@@ -57,7 +57,8 @@ product_is element g mode scale (finite b n) value status some number h =
     let at : scale_of scale ≡ finite false (2 ^ scale) = rw off refl in
     let p = MatchBool-at_false _ (IsProductTo f scale_format g mode (finite b n) (scale_of scale) value status) off h in
     let p' = subst (λ (y : Datum). IsProductTo f scale_format g mode (finite b n) y value status) at p in
-    (b, refl, subst (λ (s : Bool). IsDelivered g mode s (n * 2 ^ scale * 2 ^ g.scale) (2 ^ (f.scale + 127)) value status)
+    (b, refl,
+    subst (λ (s : Bool). IsDelivered g mode s (n * 2 ^ scale * 2 ^ g.scale) (2 ^ (f.scale + 127)) value status)
     (sign_over_positive b) p')
 product_is element g mode scale (infinite b) value status some number h = cc
 product_is element g mode scale (nan b s) value status some number h = cc
@@ -91,7 +92,8 @@ scaled_exactly element g mode scale code value status below narrow number has h 
           let b : 2 ^ (scale + g.scale) ≡ 2 ^ scale * 2 ^ g.scale = pow-add 2 scale g.scale in
           let c : 2 ^ k * 2 ^ (f.scale + 127) ≡ 2 ^ scale * 2 ^ g.scale =
           sym a ∙ ap (λ (n : ℕ). 2 ^ n) places ∙ b in
-          (let z : quanta_of x * 2 ^ k * 2 ^ (f.scale + 127) ≡ quanta_of x * (2 ^ k * 2 ^ (f.scale + 127)) = omega arith in z)
+          (let z : quanta_of x * 2 ^ k * 2 ^ (f.scale + 127) ≡ quanta_of x * (2 ^ k * 2 ^ (f.scale + 127)) =
+          omega arith in z)
           ∙ ap (λ (n : ℕ). quanta_of x * n) c ∙ omega arith;
       status_is = exact.1;
     }

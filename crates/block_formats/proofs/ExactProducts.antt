@@ -1,5 +1,5 @@
 -- A number of a short format, times a power of two, in a wide format.
-use Rattle.std.proofs.Common.{◌≡◌, ℕ, ◌+◌, ◌-◌, ◌*◌, ◌^◌, ◌<◌, ◌≤◌, Bool, sym, refl, ap, ◌∙◌, ⊎_elim, arith}
+use Rattle.std.proofs.Common.{◌≡◌, ℕ, ◌+◌, ◌-◌, ◌*◌, ◌^◌, ◌<◌, ◌≤◌, Bool, sym, ap, ◌∙◌, ⊎_elim, arith}
 use Rattle.std.proofs.Math.Nat.{mul-le-mul_right, mul-le-mul_left, pow-le-pow_right}
 use Rattle.std.proofs.lemmas.Bool.{cases_lt}
 use Rattle.std.proofs.lemmas.Nat.{pow-add, pow_pos}
@@ -51,7 +51,8 @@ top_below p s P S few room =
 
 -- n quanta of 2 ^ -scale, times 2 ^ exponent, in g
 pub exact_product : (g : Format) (mode : Round) (negative : Bool) (precision span scale exponent n : ℕ) (value : Datum)
-    (status : ℕ) → HasProducts g precision span scale exponent → IsOnGrid precision n → n ≤ (2 ^ precision - 1) * 2 ^ span
+    (status : ℕ) → HasProducts g precision span scale exponent → IsOnGrid precision n
+    → n ≤ (2 ^ precision - 1) * 2 ^ span
     → IsDelivered g mode negative (n * 2 ^ exponent * 2 ^ g.scale) (2 ^ scale) value status
     → (value ≡ finite negative (n * 2 ^ (exponent + g.scale - scale))) × (status ≡ 0)
 exact_product g mode negative precision span scale exponent n value status has grid within h =
@@ -67,7 +68,8 @@ exact_product g mode negative precision span scale exponent n value status has g
     let d : 2 ^ exponent * 2 ^ g.scale ≡ 2 ^ k * 2 ^ scale = sym a ∙ ap (λ (x : ℕ). 2 ^ x) places ∙ b in
     (let z : n * 2 ^ exponent * 2 ^ g.scale ≡ n * (2 ^ exponent * 2 ^ g.scale) = omega arith in z)
     ∙ ap (λ (x : ℕ). n * x) d ∙ omega arith in
-    let on : IsOnGrid g.precision point = wider_grid precision g.precision point has.digits (moved_on_grid precision n k grid) in
+    let on : IsOnGrid g.precision point =
+    wider_grid precision g.precision point has.digits (moved_on_grid precision n k grid) in
     let most : largest g ≡ (2 ^ g.precision - 1) * 2 ^ g.span =
     ap (λ (x : NonfiniteBehavior). greatest_significand x g.precision * 2 ^ g.span) kind in
     let moved : n * 2 ^ k ≤ (2 ^ precision - 1) * 2 ^ span * 2 ^ k = mul-le-mul_right (2 ^ k) within in

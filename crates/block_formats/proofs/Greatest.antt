@@ -1,15 +1,22 @@
 -- The greatest magnitude of a block.
-use Rattle.std.proofs.Common.{◌≡◌, ℕ, zero, suc, ◌+◌, ◌*◌, ◌^◌, ◌<◌, ◌≤◌, max, Bool, true, ◌&&◌, refl, sym, ap, ◌∙◌}
+use Rattle.std.proofs.Common.{◌≡◌, ℕ, zero, suc, ◌+◌, ◌*◌, ◌<◌, ◌≤◌, max, true, refl, sym, ap, ◌∙◌}
 use Rattle.std.proofs.Common.{⊎_elim, arith, false, ltb, pos, List, [], ◌∷◌, ◌++◌, length, take, Some}
 use Rattle.std.specs.Prelude.{slice_get}
 use Rattle.std.proofs.Math.Nat.{mul-le-mul_right}
 use Rattle.std.proofs.lemmas.Bool.{and_parts, cases_lt, lt-ltb, le-ltb}
-use Rattle.apfloat_model.specs.formats.Datum.{Datum, finite}
+use Rattle.apfloat_model.specs.formats.Datum.{Datum, finite, infinite, nan}
 use Rattle.std.specs.declared.cmp.Ordering.TheVariants.{Less, Equal, Greater}
 use Rattle.std.specs.Cmp.{int_cmp_is}
 use Rattle.std.proofs.lemmas.Int.{ints}
-use Rattle.apfloat_model.specs.order.Classes.{is_finite, quanta_of}
+use Rattle.apfloat_model.specs.declared.kinds.NonfiniteBehavior.{NonfiniteBehavior}
+use Rattle.apfloat_model.specs.declared.kinds.NonfiniteBehavior.TheVariants.{IEEE754, NanOnly, NanNegativeZero}
+use Rattle.apfloat_model.specs.formats.Format.{Format}
+use Rattle.apfloat_model.specs.formats.Members.{IsMember}
+use Rattle.apfloat_model.specs.order.Classes.{is_finite, is_negative, quanta_of}
 use Rattle.apfloat_model.specs.order.Order.{is_below}
+use Rattle.apfloat_model.specs.rounding.Negation.{negated}
+use Rattle.apfloat_model.specs.rounding.Rounding.{zero_sign}
+use Rattle.apfloat_model.proofs.general.Choices.{not_zero}
 use Rattle.block_formats.specs.Magnitudes.{are_finite, greatest_magnitude}
 use Rattle.block_formats.proofs.Places.{some_same}
 
@@ -88,6 +95,27 @@ greatest_proportional u v (x ∷ xs) (y ∷ ys) h =
     ∙ ap (λ n. max n (greatest_magnitude xs * u)) first
     ∙ ap (λ n. max (quanta_of y * v) n) rest
     ∙ sym (max_times (quanta_of y) (greatest_magnitude ys) v)
+
+-- the absolute value of a nonzero finite datum
+pub finite_magnitude : (kind : NonfiniteBehavior) (x magnitude : Datum) → is_finite x ≡ true → 0 < quanta_of x
+    → magnitude ≡ (if is_negative x then negated kind x else x) → magnitude ≡ finite false (quanta_of x)
+finite_magnitude kind (finite false n) magnitude h some e = e
+finite_magnitude kind (finite true n) magnitude h some e = e ∙ rw (not_zero n some) refl
+finite_magnitude kind (infinite b) magnitude h some e = cc
+finite_magnitude kind (nan b s) magnitude h some e = cc
+
+no_sign : (kind : NonfiniteBehavior) → false ≡ zero_sign kind false
+no_sign IEEE754 = refl
+no_sign NanOnly = refl
+no_sign NanNegativeZero = refl
+
+-- it is a value of the format too
+pub magnitude_member : (f : Format) (x : Datum) → is_finite x ≡ true → IsMember f x
+    → IsMember f (finite false (quanta_of x))
+magnitude_member f (finite b n) h m =
+    record { on_grid = m.on_grid; within = m.within; zero_has = λ z. no_sign f.nonfinite }
+magnitude_member f (infinite b) h m = cc
+magnitude_member f (nan b s) h m = cc
 
 -- the order of two values that are not below zero is that of their quanta
 pub below_is : (m n : ℕ) → is_below (finite false m) (finite false n) ≡ ltb m n

@@ -1,7 +1,7 @@
 -- Points of a grid near the top of a format.
-use Rattle.std.proofs.Common.{◌≡◌, ℕ, zero, suc, ◌+◌, ◌-◌, ◌*◌, ◌%◌, ◌^◌, ◌<◌, ◌≤◌, sym, refl, ap, ◌∙◌, ⊎_elim, arith}
-use Rattle.std.proofs.Math.Nat.{mul-le-mul_right, mul-le-mul_left, mul-pos, lt_of_mul-lt-mul_right, pow-le-pow_right}
-use Rattle.std.proofs.Math.Nat.{eq_of_mul-eq-mul_right, mul-lt-mul_of_pos_right}
+use Rattle.std.proofs.Common.{◌≡◌, ℕ, ◌+◌, ◌-◌, ◌*◌, ◌^◌, ◌<◌, ◌≤◌, sym, ap, ◌∙◌, ⊎_elim, arith}
+use Rattle.std.proofs.Math.Nat.{mul-le-mul_right, mul-le-mul_left, lt_of_mul-lt-mul_right, pow-le-pow_right}
+use Rattle.std.proofs.Math.Nat.{eq_of_mul-eq-mul_right}
 use Rattle.std.proofs.lemmas.Bool.{cases_lt}
 use Rattle.std.proofs.lemmas.Nat.{pow-add, pow_pos}
 use Rattle.apfloat_model.specs.rounding.Grid.{IsOnGrid}
@@ -78,7 +78,8 @@ fifteen_below n k c e none =
     let fifteen : n * 2 ^ (k - c) ≡ 15 = eq_of_mul-eq-mul_right (2 ^ c) (pow_pos c) _ _ top in
     let twice : 2 ^ (k - c) ≡ 2 ^ (k - c - 1) * 2 = let q : k - c ≡ k - c - 1 + 1 = omega (arith, l) in
     ap (λ (z : ℕ). 2 ^ z) q ∙ pow-add 2 (k - c - 1) 1 in
-    let even : n * 2 ^ (k - c - 1) * 2 ≡ 15 = (let z : n * 2 ^ (k - c - 1) * 2 ≡ n * (2 ^ (k - c - 1) * 2) = omega arith in z)
+    let even : n * 2 ^ (k - c - 1) * 2 ≡ 15 =
+    (let z : n * 2 ^ (k - c - 1) * 2 ≡ n * (2 ^ (k - c - 1) * 2) = omega arith in z)
     ∙ ap (λ (z : ℕ). n * z) (sym twice) ∙ fifteen in
     absurd (omega (arith, even)))
     (λ (l : k ≤ c).

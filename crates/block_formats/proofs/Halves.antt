@@ -2,7 +2,6 @@
 use Rattle.std.proofs.Common.{◌≡◌, ℕ, ◌+◌, ◌-◌, ◌*◌, ◌^◌, ◌≤◌, refl, sym, ap, ◌∙◌, arith}
 use Rattle.std.proofs.Math.Nat.{mul-le-mul_right}
 use Rattle.std.proofs.lemmas.Nat.{pow-add, mod_below, pow_pos}
-use Rattle.apfloat_model.specs.formats.Format.{largest}
 use Rattle.apfloat_model.specs.formats.Formats.{half_constants}
 use Rattle.apfloat_model.specs.formats.Lawful.{format_with as library_format}
 use Rattle.apfloat_model.specs.formats.Members.{IsFiniteOf}
@@ -36,7 +35,8 @@ half_member c code law precise quantum room =
     let moved : m * 2 ^ k ≤ (2 ^ c.precision - 1) * 2 ^ f.span * 2 ^ k =
     mul-le-mul_right (2 ^ k) (omega (arith, most, at)) in
     let together : (2 ^ c.precision - 1) * 2 ^ f.span * 2 ^ k ≡ (2 ^ c.precision - 1) * 2 ^ (f.span + k) =
-    (let z : (2 ^ c.precision - 1) * 2 ^ f.span * 2 ^ k ≡ (2 ^ c.precision - 1) * (2 ^ f.span * 2 ^ k) = omega arith in z)
+    (let z : (2 ^ c.precision - 1) * 2 ^ f.span * 2 ^ k ≡ (2 ^ c.precision - 1) * (2 ^ f.span * 2 ^ k) =
+    omega arith in z)
     ∙ ap (λ (n : ℕ). (2 ^ c.precision - 1) * n) (sym (pow-add 2 f.span k)) in
     let top = top_below c.precision (f.span + k) 11 29 precise (omega (arith, room, quantum)) in
     record {

@@ -1,11 +1,11 @@
 -- A block that is dequantized and quantized again.
-use Rattle.std.proofs.Common.{◌≡◌, ◌⊎◌, ℕ, zero, suc, ◌+◌, ◌-◌, ◌*◌, ◌^◌, ◌<◌, ◌≤◌, Bool, true, false, eqb, ltb, refl}
-use Rattle.std.proofs.Common.{sym, ap, ◌∙◌, subst, inl, inr, ⊎_elim, arith, lit≤}
+use Rattle.std.proofs.Common.{◌≡◌, ◌⊎◌, ℕ, ◌+◌, ◌-◌, ◌*◌, ◌^◌, ◌<◌, ◌≤◌, Bool, false, eqb, ltb, refl}
+use Rattle.std.proofs.Common.{sym, ap, ◌∙◌, subst, inl, inr, ⊎_elim, arith}
 use Rattle.std.proofs.Math.Nat.{mul-lt-mul_of_pos_right, pow-le-pow_right}
-use Rattle.std.proofs.lemmas.Bool.{cases_lt, le-ltb, ne_eqb, MatchBool-at_false}
+use Rattle.std.proofs.lemmas.Bool.{le-ltb, ne_eqb, MatchBool-at_false}
 use Rattle.std.proofs.lemmas.Nat.{pow-add, pow_pos}
 use Rattle.apfloat_model.specs.declared.kinds.Round.{Round}
-use Rattle.apfloat_model.specs.formats.Datum.{Datum, finite}
+use Rattle.apfloat_model.specs.formats.Datum.{finite}
 use Rattle.apfloat_model.specs.formats.Format.{Format, largest}
 use Rattle.apfloat_model.specs.formats.Log.{log2}
 use Rattle.apfloat_model.specs.rounding.Grid.{IsOnGrid}
@@ -18,7 +18,7 @@ use Rattle.storage_formats.specs.Conversions.{saturated_value}
 use Rattle.block_formats.specs.declared.elements.ElementFormat.{ElementFormat}
 use Rattle.block_formats.specs.declared.elements.ElementFormat.TheVariants.{E5M2, E4M3FN, E3M2FN, E2M3FN, E2M1FN}
 use Rattle.block_formats.specs.Elements.{IsElement, element_datum, format_of_element, max_exp}
-use Rattle.block_formats.specs.MxScales.{IsBlockScale, IsScaleOfNumber, clamped_code}
+use Rattle.block_formats.specs.MxScales.{IsBlockScale, IsScaleOfNumber}
 use Rattle.block_formats.proofs.GridTops.{below_last, below_top, fifteen_below}
 use Rattle.block_formats.proofs.ScaleCodes.{lower_scale, same_binade}
 
@@ -46,7 +46,9 @@ same_quotient quanta number finest scale lower fine l e =
     let whole : scale ≡ scale - lower + lower = omega (arith, l) in
     let b : 2 ^ scale ≡ 2 ^ (scale - lower) * 2 ^ lower =
     ap (λ (n : ℕ). 2 ^ n) whole ∙ pow-add 2 (scale - lower) lower in
-    let x : quanta * 2 ^ finest * 2 ^ 127 ≡ quanta * 2 ^ (finest + 127) = omega arith ∙ ap (λ (n : ℕ). quanta * n) (sym a) in
+    let regrouped : quanta * 2 ^ finest * 2 ^ 127 ≡ quanta * (2 ^ finest * 2 ^ 127) = omega arith in
+    let x : quanta * 2 ^ finest * 2 ^ 127 ≡ quanta * 2 ^ (finest + 127) =
+    regrouped ∙ ap (λ (n : ℕ). quanta * n) (sym a) in
     x ∙ e ∙ ap (λ (n : ℕ). number * n * 2 ^ fine) b ∙ omega arith
 
 -- the number moved up is the old number at the old scale

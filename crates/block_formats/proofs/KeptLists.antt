@@ -15,14 +15,13 @@ use Rattle.apfloat_model.specs.order.Classes.{is_finite, is_negative, quanta_of}
 use Rattle.apfloat_model.specs.rounding.Grid.{IsOnGrid}
 use Rattle.apfloat_model.proofs.general.Powers.{exponent_below}
 use Rattle.apfloat_odd.proofs.OddPoints.{moved_on_grid}
-use Rattle.storage_formats.specs.Scales.{nan_code, scale_format}
+use Rattle.storage_formats.specs.Scales.{nan_code}
 use Rattle.block_formats.specs.declared.elements.ElementFormat.{ElementFormat}
 use Rattle.block_formats.specs.declared.elements.ElementFormat.TheVariants.{E5M2, E4M3FN, E3M2FN, E2M3FN, E2M1FN}
-use Rattle.block_formats.specs.declared.mx.Block.{Block}
 use Rattle.block_formats.specs.Elements.{IsElement, IsQuotientBy, element_datum, format_of_element, width}
-use Rattle.block_formats.specs.Laws.{AreValuesOf, IsValueOf, HasRoomAbove, IsInTopBinade, KeepsCodes, KeepsValues, greatest_number}
+use Rattle.block_formats.specs.Laws.{AreValuesOf, IsValueOf, HasRoomAbove, IsInTopBinade, KeepsCodes, KeepsValues}
+use Rattle.block_formats.specs.Laws.{greatest_number}
 use Rattle.block_formats.specs.Magnitudes.{greatest_magnitude}
-use Rattle.block_formats.specs.MxBlocks.{IsBlockOfNumbers}
 use Rattle.block_formats.specs.MxScales.{IsBlockScale}
 use Rattle.block_formats.proofs.ElementMembers.{IsElementNumber, element_number}
 use Rattle.block_formats.proofs.ElementsOnce.{element_once}
@@ -221,7 +220,8 @@ keeps_values element f mode scale codes again values block below narrow are room
             quanta = v.quanta;
             element_is = moved_at element f mode scale lower place old.0 code flags.0 codes x new old.1 narrow_at v q;
             value_is = v.value_is;
-            same = same_value v.quanta v.number (format_of_element element).scale scale lower f.scale new.not_above v.same;
+            same = same_value v.quanta v.number (format_of_element element).scale scale lower f.scale new.not_above
+                v.same;
           };
     }
 

@@ -1,12 +1,12 @@
 -- Digits of one number to several bases.
-use Rattle.std.proofs.Common.{◌≡◌, ℕ, zero, suc, ◌+◌, ◌*◌, ◌^◌, ◌<◌, ◌≤◌, refl, sym, ap, ◌∙◌, ⊎_elim, arith}
+use Rattle.std.proofs.Common.{◌≡◌, ℕ, ◌+◌, ◌*◌, ◌^◌, ◌<◌, ◌≤◌, refl, sym, ap, ◌∙◌, ⊎_elim, arith}
 use Rattle.std.proofs.Common.{List, [], ◌∷◌, ◌++◌, length}
 use Rattle.std.specs.Prelude.{All}
 use Rattle.std.proofs.Math.Nat.{eq_of_mul-eq-mul_right, mul-le-mul_left}
 use Rattle.std.proofs.lemmas.Bool.{cases_lt}
-use Rattle.std.proofs.lemmas.Nat.{pow-add, pow_pos}
+use Rattle.std.proofs.lemmas.Nat.{pow-add}
 use Rattle.block_formats.specs.Laws.{ArePackedOnce}
-use Rattle.block_formats.specs.Layouts.{ArePacked, number_of_digits}
+use Rattle.block_formats.specs.Layouts.{number_of_digits}
 use Rattle.block_formats.proofs.Places.{all_first, all_rest}
 
 -- digits after others
@@ -23,8 +23,8 @@ number_append bits (x ∷ xs) ys =
     let power : 2 ^ (bits * length (x ∷ xs)) ≡ 2 ^ bits * 2 ^ (bits * length xs) =
     ap (λ (n : ℕ). 2 ^ n) places ∙ pow-add 2 bits (bits * length xs) in
     ap (λ (n : ℕ). x + 2 ^ bits * n) rest
-    ∙ (let z : x + 2 ^ bits * (a + 2 ^ (bits * length xs) * b) ≡ x + 2 ^ bits * a + 2 ^ bits * 2 ^ (bits * length xs) * b =
-    omega arith in z)
+    ∙ (let z : x + 2 ^ bits * (a + 2 ^ (bits * length xs) * b)
+    ≡ x + 2 ^ bits * a + 2 ^ bits * 2 ^ (bits * length xs) * b = omega arith in z)
     ∙ ap (λ (n : ℕ). x + 2 ^ bits * a + n * b) (sym power)
 
 -- the lowest digit and the others are those of one number

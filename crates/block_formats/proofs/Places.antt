@@ -1,5 +1,5 @@
 -- One more element is written in its place.
-use Rattle.std.proofs.Common.{◌≡◌, ℕ, zero, suc, ◌+◌, ◌-◌, ◌<◌, ◌≤◌, Bool, true, false, cond, refl, sym, ap, ◌∙◌, subst}
+use Rattle.std.proofs.Common.{◌≡◌, ℕ, zero, suc, ◌+◌, ◌<◌, ◌≤◌, Bool, true, false, cond, refl, sym, ap, ◌∙◌, subst}
 use Rattle.std.proofs.Common.{⊎_elim, arith, List, [], ◌∷◌, ◌++◌, length, Some}
 use Rattle.std.specs.Prelude.{All, slice_get, slice_set, unwrap_or}
 use Rattle.std.proofs.lemmas.Bool.{cases_lt}
@@ -7,7 +7,7 @@ use Rattle.std.proofs.lemmas.List.{length_push}
 use Rattle.std.proofs.lemmas.Option.{slice_get_within}
 use Rattle.apfloat_model.proofs.general.ListLaws.{get_left, get_last}
 use Rattle.block_formats.specs.declared.counts.Counts.{Counts}
-use Rattle.block_formats.specs.Places.{AreCounted, AreInPlaces, count_raised, counts_of, is_raised}
+use Rattle.block_formats.specs.Places.{AreCounted, count_raised, counts_of, is_raised}
 
 -- ---- a write to a list
 

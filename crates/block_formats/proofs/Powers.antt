@@ -1,8 +1,7 @@
 -- Scales as numbers of bfloat.
-use Rattle.std.proofs.Common.{◌≡◌, ℕ, ◌+◌, ◌*◌, ◌^◌, ◌≤◌, false, refl, sym, ap, ◌∙◌, arith, lit≤}
+use Rattle.std.proofs.Common.{◌≡◌, ℕ, ◌+◌, ◌-◌, ◌*◌, ◌^◌, ◌≤◌, false, sym, ap, ◌∙◌, arith}
 use Rattle.std.proofs.Math.Nat.{mul-le-mul_right, pow-le-pow_right}
 use Rattle.std.proofs.lemmas.Nat.{pow-add, pow_pos}
-use Rattle.apfloat_model.specs.formats.Format.{largest}
 use Rattle.apfloat_model.specs.formats.Formats.{bfloat_constants}
 use Rattle.apfloat_model.specs.formats.Lawful.{format_with}
 use Rattle.apfloat_model.specs.formats.Members.{IsFiniteOf}

@@ -1,5 +1,5 @@
 -- A quotient of the library as an element of a format of 8 bits: saturated, in any fraction that equals it.
-use Rattle.std.proofs.Common.{◌≡◌, ℕ, zero, suc, ◌+◌, ◌*◌, ◌^◌, ◌<◌, Bool, true, false, cond, eqb, ltb, sym, refl, ap}
+use Rattle.std.proofs.Common.{◌≡◌, ℕ, zero, suc, ◌+◌, ◌*◌, ◌^◌, ◌<◌, Bool, true, false, cond, eqb, ltb, refl, ap}
 use Rattle.std.proofs.Common.{◌∙◌, subst, arith}
 use Rattle.std.proofs.Math.Nat.{mul-pos}
 use Rattle.std.proofs.lemmas.Bool.{ne_eqb, MatchBool-at_false}
@@ -12,11 +12,18 @@ use Rattle.apfloat_model.specs.formats.Datum.{Datum, finite, infinite, nan}
 use Rattle.apfloat_model.specs.formats.Format.{Format, largest, nan_base}
 use Rattle.apfloat_model.specs.order.Classes.{is_finite, is_negative, quanta_of}
 use Rattle.apfloat_model.specs.rounding.Rounding.{IsDelivered, leads_out, past_largest, signed_quanta, zero_sign}
+use Rattle.apfloat_model.specs.rounding.Negation.{negated}
+use Rattle.apfloat_model.proofs.general.Choices.{not_zero}
 use Rattle.apfloat_format_of.specs.FormatOf.{IsQuotientTo}
 use Rattle.block_formats.specs.Elements.{IsElementIn}
 use Rattle.block_formats.proofs.SameFractions.{delivered_across}
 
 -- ---- saturating
+
+-- negating a nonzero number changes its sign
+pub negated_some : (kind : NonfiniteBehavior) (quanta : ℕ) → 0 < quanta
+    → negated kind (finite false quanta) ≡ finite true quanta
+negated_some kind quanta some = rw (not_zero quanta some) refl
 
 past_not_finite : (kind : NonfiniteBehavior) (base : ℕ) (negative : Bool)
     → is_finite (past_largest kind base negative) ≡ false

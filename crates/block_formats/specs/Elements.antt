@@ -1,12 +1,11 @@
 -- Elements of blocks: what their codes mean, and how a quotient becomes one.
-use Rattle.std.specs.Prelude.{◌≡◌, ℕ, ◌+◌, ◌*◌, ◌^◌, ◌<◌, Bool, neg_ℤ, pos}
+use Rattle.std.specs.Prelude.{◌≡◌, ℕ, ◌*◌, ◌^◌, Bool, pos}
 use Rattle.apfloat_model.specs.declared.kinds.Round.{Round}
-use Rattle.apfloat_model.specs.bits.Layout.{Layout}
 use Rattle.apfloat_model.specs.bits.Layout.{datum_of as bits_datum}
 use Rattle.apfloat_model.specs.formats.Datum.{Datum}
 use Rattle.apfloat_model.specs.formats.Format.{Format}
 use Rattle.apfloat_model.specs.formats.Formats.{e4m3fn_constants, e5m2_constants}
-use Rattle.apfloat_model.specs.formats.Lawful.{Constants, format_with, layout_with}
+use Rattle.apfloat_model.specs.formats.Lawful.{format_with, layout_with}
 use Rattle.apfloat_model.specs.order.Classes.{is_negative, quanta_of}
 use Rattle.apfloat_model.specs.rounding.Rounding.{IsPick, delivered_status}
 use Rattle.storage_formats.specs.Codes.{datum_of}

@@ -3,20 +3,20 @@ use Rattle.std.specs.Prelude.{◌≡◌, ◌⊎◌, ℕ, ◌+◌, ◌-◌, ◌*�
 use Rattle.std.specs.Prelude.{Some, All, ⊤}
 use Rattle.apfloat_model.specs.declared.kinds.Round.{Round}
 use Rattle.apfloat_model.specs.formats.Datum.{Datum, finite}
-use Rattle.apfloat_model.specs.formats.Format.{Format, largest, smallest_normalized}
+use Rattle.apfloat_model.specs.formats.Format.{Format}
 use Rattle.apfloat_model.specs.formats.Formats.{bfloat_constants, double_constants, single_constants}
 use Rattle.apfloat_model.specs.formats.Lawful.{format_with}
-use Rattle.apfloat_model.specs.formats.Members.{IsFiniteOf, IsMember}
-use Rattle.apfloat_model.specs.order.Classes.{is_finite, quanta_of}
-use Rattle.apfloat_model.specs.rounding.Rounding.{ok_bits, zero_sign}
+use Rattle.apfloat_model.specs.formats.Members.{IsMember}
+use Rattle.apfloat_model.specs.order.Classes.{is_finite}
+use Rattle.apfloat_model.specs.rounding.Rounding.{ok_bits}
 use Rattle.storage_formats.specs.Scales.{nan_code, scale_format}
 use Rattle.block_formats.specs.declared.elements.ElementFormat.{ElementFormat}
-use Rattle.block_formats.specs.declared.elements.ElementFormat.TheVariants.{E5M2, E4M3FN}
+use Rattle.block_formats.specs.declared.elements.ElementFormat.TheVariants.{E4M3FN}
 use Rattle.block_formats.specs.declared.mx.Block.{Block}
 use Rattle.block_formats.specs.Elements.{element_datum, format_of_element, max_exp, width}
 use Rattle.block_formats.specs.Layouts.{ArePacked}
 use Rattle.block_formats.specs.Magnitudes.{are_finite, greatest_magnitude}
-use Rattle.block_formats.specs.MxBlocks.{IsBlock, IsBlockOfNumbers, IsScaled}
+use Rattle.block_formats.specs.MxBlocks.{IsBlockOfNumbers, IsScaled}
 
 -- ---- out of a block
 

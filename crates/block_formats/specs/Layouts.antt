@@ -1,5 +1,5 @@
--- Codes packed into bytes: the bits of the codes one after another, each from its lowest bit, from the lowest bit of the
--- first byte.
+-- Codes packed into bytes: the bits of the codes one after another, each from its lowest bit, from the lowest bit of
+-- the first byte.
 use Rattle.std.specs.Prelude.{◌≡◌, ◌≢◌, ℕ, ◌+◌, ◌*◌, ◌^◌, ◌<◌, ◌≤◌, List, [], ◌∷◌, length, All, SomeIndex, Result}
 use Rattle.std.specs.Prelude.{Ok, Err}
 use Rattle.block_formats.specs.declared.errors.LayoutError.{LayoutError}

@@ -1,6 +1,6 @@
 -- Arrays of blocks: each block in its place, with its scale in its own.
-use Rattle.std.specs.Prelude.{◌≡◌, ◌≢◌, ℕ, ◌+◌, ◌*◌, ◌<◌, Bool, not, if◌then◌else◌, List, [], ◌∷◌, length, slice_get}
-use Rattle.std.specs.Prelude.{slice_range, Some, Result, Ok, Err, SomeIndex, ◌≤◌, ◌^◌}
+use Rattle.std.specs.Prelude.{◌≡◌, ℕ, ◌+◌, ◌*◌, List, [], ◌∷◌, length, slice_get}
+use Rattle.std.specs.Prelude.{slice_range, Some, Result, Ok, Err}
 use Rattle.apfloat_model.specs.declared.kinds.Round.{Round}
 use Rattle.apfloat_model.specs.formats.Datum.{Datum}
 use Rattle.apfloat_model.specs.formats.Format.{Format}

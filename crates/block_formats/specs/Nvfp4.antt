@@ -1,15 +1,14 @@
 -- Blocks of NVFP4: elements e2m1fn, a scale of e4m3fn for each block, and a single for the whole tensor.
-use Rattle.std.specs.Prelude.{◌≡◌, ◌≢◌, ℕ, ◌+◌, ◌*◌, ◌^◌, ◌<◌, ◌≤◌, Bool, true, false, eqb, if◌then◌else◌, List, length}
+use Rattle.std.specs.Prelude.{◌≡◌, ◌≢◌, ℕ, ◌+◌, ◌*◌, ◌^◌, ◌<◌, ◌≤◌, Bool, true, false, eqb, List, length}
 use Rattle.std.specs.Prelude.{not, ◌&&◌, ltb, replicate, Result, Ok, Err, SomeIndex}
 use Rattle.std.specs.Bool.{MatchBool}
 use Rattle.apfloat_model.specs.declared.kinds.Round.{Round}
 use Rattle.apfloat_model.specs.declared.kinds.Round.TheVariants.{NearestTiesToEven}
-use Rattle.apfloat_model.specs.bits.Layout.{datum_of as bits_datum}
 use Rattle.apfloat_model.specs.arithmetic.Exact.{product_sign}
 use Rattle.apfloat_model.specs.formats.Datum.{Datum, finite, infinite, nan}
 use Rattle.apfloat_model.specs.formats.Format.{Format}
-use Rattle.apfloat_model.specs.formats.Formats.{e4m3fn_constants, single_constants}
-use Rattle.apfloat_model.specs.formats.Lawful.{format_with, layout_with}
+use Rattle.apfloat_model.specs.formats.Formats.{single_constants}
+use Rattle.apfloat_model.specs.formats.Lawful.{format_with}
 use Rattle.apfloat_model.specs.formats.Nan.{qnan}
 use Rattle.apfloat_model.specs.order.Classes.{is_negative, quanta_of}
 use Rattle.apfloat_model.specs.rounding.Answer.{IsAnswer}

@@ -1,6 +1,6 @@
 -- What holds of each element of a block.
 use Rattle.std.specs.Prelude.{◌≡◌, ℕ, ◌+◌, not, ◌==◌, bit_and, Bool, List, length, slice_get, Some}
-use Rattle.std.specs.Prelude.{if◌then◌else◌, [], ◌∷◌}
+use Rattle.std.specs.Prelude.{[], ◌∷◌}
 use Rattle.block_formats.specs.declared.counts.Counts.{Counts}
 
 -- the relation between what is read, what is written and its flags holds in each place

@@ -93,7 +93,8 @@ pub(crate) fn ieee_quotient<T: Semantics, S: Semantics, R: Semantics>(
 ) -> StatusAnd<u8>
     requires bits { T.BITS ≤ 8 }
     requires read { T.PRECISION < T.BITS }
-    requires signed { (negative : Bool) → zero_sign (format_of T.Semantics).nonfinite negative ≡ negative }
+    requires signed { (negative : Bool)
+        → zero_sign (format_of T.Semantics).nonfinite negative ≡ negative }
     requires finite { is_finite x ≡ true }
     requires positive { IsPositive (format_of R.Semantics) y }
     ensures code { let g = format_of T.Semantics in (amount parts : ℕ) → 0 < parts

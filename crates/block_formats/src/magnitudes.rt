@@ -7,7 +7,7 @@ ghost use Rattle.apfloat_model.specs.order.Classes.{is_finite, quanta_of};
 ghost use Rattle.apfloat_ieee.specs.Types.{format_of};
 ghost use Rattle.block_formats.specs.Magnitudes.{are_finite, greatest_magnitude};
 
-use apfloat_base::Float;
+use apfloat_base::{Category, Float};
 use apfloat_ieee::{IeeeFloat, Semantics};
 
 /// Whether no value is an infinity or a NaN.
@@ -25,9 +25,14 @@ pub(crate) fn are_finite<S: Semantics>(values: &[IeeeFloat<S>]) -> bool
 /// The greater of a value that is not below zero and the magnitude of another.
 fn greater<S: Semantics>(greatest: IeeeFloat<S>, x: IeeeFloat<S>) -> IeeeFloat<S>
     requires greatest { greatest ≡ finite false (quanta_of greatest) }
+    requires member { IsMember (format_of S.Semantics) greatest }
     requires finite { is_finite x ≡ true }
-    ensures { result ≡ finite false (max (quanta_of x) (quanta_of greatest)) }
+    ensures value { result ≡ finite false (max (quanta_of x) (quanta_of greatest)) }
+    ensures member { IsMember (format_of S.Semantics) result }
 {
+    if x.category() == Category::Zero {
+        return greatest;
+    }
     let magnitude = x.abs();
     if greatest < magnitude { magnitude } else { greatest }
 }

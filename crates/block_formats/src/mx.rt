@@ -155,7 +155,8 @@ fn scaled<G: Flagged>(
     product_of(element, code, power_of(scale), round)
 }
 
-/// Dequantizes a block: writes the product of each element and the scale, rounded once, with the flags of that rounding.
+/// Dequantizes a block: writes the product of each element and the scale, rounded once, with the flags of that
+/// rounding.
 ///
 /// A block of finite elements is exact in `Double`, and in `Single` if the exponent of the scale plus that of the
 /// largest number of the element format is at most 127, as in each block that was quantized from singles; there it is

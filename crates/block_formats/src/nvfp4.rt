@@ -60,7 +60,8 @@ fn one() -> Single
 fn positive_scale(quotient: Single) -> Single
     requires { quotient ≡ finite false (quanta_of quotient) ⊎ (quotient ≡ infinite false) }
     ensures value { quotient ≡ finite false (quanta_of quotient)
-        → result ≡ finite false (if eqb (quanta_of quotient) 0 then 2 ^ 149 else quanta_of quotient) }
+        → result ≡ finite false (if eqb (quanta_of quotient) 0 then 2 ^ 149
+        else quanta_of quotient) }
     ensures past { quotient ≡ infinite false
         → result ≡ finite false (largest (format_of SingleS.Semantics)) }
 {
@@ -151,9 +152,10 @@ fn write_signs<S: Semantics>(values: &[IeeeFloat<S>], codes: &mut [u8]) -> Count
 /// Quantizes a block of NVFP4: chooses its scale, and writes the code of each value, in the lowest bits of a byte.
 ///
 /// The scale is the greatest magnitude of the block over 6 times that of the tensor, rounded once, and at most the
-/// largest number of `Float8E4M3FN`; where it would be 0, and the block is not zero, it is the least positive number. An
-/// element is the value over the exact product of both scales, rounded once, and the largest number in place of what is
-/// past it; a zero keeps its sign. If a value is an infinity or a NaN, the scale is the NaN, and each code is 0.
+/// largest number of `Float8E4M3FN`; where it would be 0, and the block is not zero, it is the least positive number.
+/// An element is the value over the exact product of both scales, rounded once, and the largest number in place of
+/// what is past it; a zero keeps its sign. If a value is an infinity or a NaN, the scale is the NaN, and each code is
+/// 0.
 ///
 /// # Errors
 ///

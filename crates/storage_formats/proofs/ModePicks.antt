@@ -1,7 +1,7 @@
 -- The point that a mode of conversions picks, from the digits that a cut keeps; what is delivered for it.
 use Rattle.std.proofs.Common.{◌≡◌, ℕ, ◌+◌, ◌-◌, ◌*◌, ◌/◌, ◌%◌, ◌^◌, ◌<◌, ◌≤◌, ◌⊎◌, Bool, true, false, cond, eqb, ltb}
-use Rattle.std.proofs.Common.{sym, refl, ap, ◌∙◌, subst, ⊎_elim, arith}
-use Rattle.std.proofs.Math.Nat.{mul-le-mul_right, mul-pos}
+use Rattle.std.proofs.Common.{sym, ap, ◌∙◌, subst, ⊎_elim, arith}
+use Rattle.std.proofs.Math.Nat.{mul-div_cancel, mul-le-mul_right, mul-pos}
 use Rattle.std.proofs.lemmas.Bool.{cases_lt, eq-eqb, ne_eqb, lt-ltb, le-ltb}
 use Rattle.std.proofs.lemmas.Nat.{pow_pos, div-add-mod', mod_below}
 use Rattle.apfloat_model.specs.declared.loss.Loss.{Loss}
@@ -15,7 +15,6 @@ use Rattle.apfloat_model.proofs.general.Choices.{cond_times, cond_same, off_both
 use Rattle.apfloat_model.proofs.rounding.KeptDigits.{same_unit}
 use Rattle.apfloat_model.proofs.rounding.Losses.{stands_past, stands_to}
 use Rattle.apfloat_model.proofs.rounding.Neighbours.{below_is, above_is_same, above_is_next}
-use Rattle.apfloat_model.proofs.rounding.Picks.{odd_is}
 use Rattle.storage_formats.specs.declared.modes.ConversionRound.{ConversionRound}
 use Rattle.storage_formats.specs.Codes.{datum_of, index_of, largest_index, point}
 use Rattle.storage_formats.specs.ModeConversions.{IsSaturatedBy}
@@ -27,6 +26,12 @@ use Rattle.storage_formats.proofs.Points.{points_in_order}
 use Rattle.storage_formats.proofs.StoredPicks.{exact_cases, largest_point, moved_point, not_greater, tiny_is}
 
 -- ---- the neighbours of an enclosed magnitude
+
+-- the lower neighbour, counted in steps to the upper one, is odd exactly if its significand is
+odd_is : (m c : ℕ) → eqb (m * 2 ^ c / ((m + 1) * 2 ^ c - m * 2 ^ c) % 2) 1 ≡ eqb (m % 2) 1
+odd_is m c =
+    let d : (m + 1) * 2 ^ c - m * 2 ^ c ≡ 2 ^ c = omega arith in
+    ap (λ (x : ℕ). eqb (m * 2 ^ c / x % 2) 1) d ∙ ap (λ (x : ℕ). eqb (x % 2) 1) (mul-div_cancel m (pow_pos c))
 
 -- a magnitude that is a point does not move, and any other moves as the mode takes
 stays : (mode : ConversionRound) (negative odd : Bool) (x y : ℕ) → x ≡ 0 → moves mode negative x y odd ≡ false

@@ -1,16 +1,14 @@
 -- Conversions by the modes of conversions have one answer, and those by the five modes are those of the model.
 use Rattle.std.proofs.Common.{◌≡◌, ℕ, zero, suc, ◌*◌, ◌^◌, ◌<◌, Bool, false, not, eqb, sym, ap, ◌∙◌, arith}
 use Rattle.std.proofs.lemmas.Bool.{ne_eqb, MatchBool-at_false}
-use Rattle.apfloat_model.specs.declared.kinds.Round.{Round}
-use Rattle.apfloat_model.specs.formats.Datum.{Datum, finite, infinite, nan}
+use Rattle.apfloat_model.specs.formats.Datum.{finite, infinite, nan}
 use Rattle.apfloat_model.specs.formats.Format.{Format}
 use Rattle.apfloat_model.specs.rounding.Rounding.{delivered_status, ok_bits}
 use Rattle.apfloat_model.proofs.general.Choices.{match_false}
 use Rattle.apfloat_model.proofs.rounding.Neighbours.{below_unique, above_unique}
 use Rattle.storage_formats.specs.declared.modes.ConversionRound.{ConversionRound}
 use Rattle.storage_formats.specs.declared.modes.ConversionRound.TheVariants.{Ieee}
-use Rattle.storage_formats.specs.declared.modes.NanResult.{NanResult}
-use Rattle.storage_formats.specs.declared.modes.NanResult.TheVariants.{Zero}
+
 use Rattle.storage_formats.specs.Conversions.{IsStoredNumber, saturated_value}
 use Rattle.storage_formats.specs.ModeConversions.{IsStoredBy}
 use Rattle.storage_formats.specs.ModeLaws.{IsIntoByOnce, IsIntoOfModel}

@@ -1,5 +1,5 @@
 -- A common factor of both distances does not change which neighbour a mode of conversions takes.
-use Rattle.std.proofs.Common.{◌≡◌, ℕ, zero, suc, ◌+◌, ◌*◌, ◌/◌, ◌%◌, ◌^◌, ◌<◌, Bool, false, cond, leb, eqb, sym, refl}
+use Rattle.std.proofs.Common.{◌≡◌, ℕ, zero, suc, ◌+◌, ◌*◌, ◌/◌, ◌^◌, ◌<◌, Bool, false, cond, leb, eqb, sym, refl}
 use Rattle.std.proofs.Common.{ap, ◌∙◌, arith}
 use Rattle.std.proofs.Math.Nat.{mul-div-mul_right, mul-pos}
 use Rattle.std.proofs.lemmas.Bool.{eq-eqb, ne_eqb}

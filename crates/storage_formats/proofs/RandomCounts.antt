@@ -1,18 +1,16 @@
 -- How many random numbers take a magnitude to its upper neighbour, and that one which is a point stays.
-use Rattle.std.proofs.Common.{◌≡◌, ℕ, zero, suc, ◌+◌, ◌-◌, ◌*◌, ◌/◌, ◌%◌, ◌^◌, ◌<◌, ◌≤◌, Bool, true, false, cond}
-use Rattle.std.proofs.Common.{eqb, leb, ltb, sym, refl, ap, ◌∙◌, ⊎_elim, arith}
-use Rattle.std.proofs.Math.Nat.{div-lt_iff_lt-mul, mul-lt-mul_of_pos_right, lt_of_mul-lt-mul_right}
+use Rattle.std.proofs.Common.{◌≡◌, ℕ, zero, suc, ◌+◌, ◌-◌, ◌*◌, ◌^◌, ◌<◌, ◌≤◌, Bool, true, false, cond}
+use Rattle.std.proofs.Common.{leb, ltb, sym, refl, ap, ◌∙◌, ⊎_elim, arith}
+use Rattle.std.proofs.Math.Nat.{div-lt_iff_lt-mul, mul-lt-mul_of_pos_right}
 use Rattle.std.proofs.lemmas.Bool.{cases_lt, le-leb, lt-leb, lt-ltb, le-ltb}
 use Rattle.std.proofs.lemmas.Nat.{pow_pos}
-use Rattle.apfloat_model.specs.rounding.Grid.{IsOnGrid, IsBelow, IsAbove}
+use Rattle.apfloat_model.specs.rounding.Grid.{IsBelow, IsAbove}
 use Rattle.apfloat_model.proofs.general.Choices.{cond_same}
-use Rattle.apfloat_model.proofs.rounding.Laws.{exact_below, exact_above, below_le_above}
+use Rattle.apfloat_model.proofs.rounding.Laws.{exact_below, exact_above}
 use Rattle.apfloat_model.proofs.rounding.Neighbours.{below_unique, above_unique}
-use Rattle.storage_formats.specs.declared.modes.ConversionRound.{ConversionRound}
 use Rattle.storage_formats.specs.declared.modes.ConversionRound.TheVariants.{Stochastic}
-use Rattle.storage_formats.specs.declared.modes.RandomDigits.{RandomDigits}
 use Rattle.storage_formats.specs.ModeLaws.{AreRandomNumbersCounted, ArePicksOfModel, StaysExact, count_below}
-use Rattle.storage_formats.specs.Modes.{IsPickBy, next_between, parts_above}
+use Rattle.storage_formats.specs.Modes.{next_between, parts_above}
 
 -- of the numbers below n, those that reach `top` together with `share`
 pub reaching : (top share n : ℕ) → share ≤ top

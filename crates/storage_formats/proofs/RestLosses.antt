@@ -1,5 +1,5 @@
 -- What the loss of a cut says of the rest, and how it decides the mode.
-use Rattle.std.proofs.Common.{◌≡◌, ℕ, ◌+◌, ◌-◌, ◌*◌, ◌/◌, ◌%◌, ◌^◌, ◌<◌, ◌≤◌, Bool, true, false, cond, eqb}
+use Rattle.std.proofs.Common.{◌≡◌, ℕ, ◌+◌, ◌-◌, ◌*◌, ◌/◌, ◌%◌, ◌^◌, ◌<◌, ◌≤◌, Bool, true, false, cond}
 use Rattle.std.proofs.Common.{sym, refl, ap, ◌∙◌, arith, subst, ⊎_elim, leb, not, ◌&&◌}
 use Rattle.std.proofs.Math.Nat.{mul-div_cancel, mul-div-mul_right, mul-lt-mul_of_pos_right, mod-eq_of_lt}
 use Rattle.std.proofs.Math.Nat.{pow-le-pow_right, div-lt_iff_lt-mul}
@@ -35,7 +35,8 @@ some_rest q s u r MoreThanHalf p e h n = let a = h.0 in omega (arith, a, e, p)
 moved : (mode : Round) (negative odd : Bool) (x y : ℕ) (test : Bool) → 0 < x
     → takes_above mode negative x y odd ≡ test → test ≡ moves (Ieee mode) negative x y odd
 moved mode negative odd x y test p e =
-    sym (ap (λ (b : Bool). cond b false (takes_above mode negative x y odd)) (ne_eqb x 0 (λ z. omega (arith, z, p))) ∙ e)
+    sym (ap (λ (b : Bool). cond b false (takes_above mode negative x y odd))
+    (ne_eqb x 0 (λ z. omega (arith, z, p))) ∙ e)
 
 pub loss_moves : (mode : Round) (negative odd : Bool) (q s u r : ℕ) (loss : Loss) → 0 < u → q * u + r ≡ s → r < u
     → StandsFor q loss s u → rounds_up mode negative loss odd ≡ moves (Ieee mode) negative r (u - r) odd

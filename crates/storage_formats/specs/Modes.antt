@@ -1,6 +1,6 @@
--- The modes of conversions: which of its two neighbours a magnitude becomes. Of the five modes of IEEE 754 it is the one
--- of `IsPick`.
-use Rattle.std.specs.Prelude.{◌≡◌, ℕ, ◌+◌, ◌-◌, ◌*◌, ◌/◌, ◌%◌, ◌^◌, Bool, not, leb, eqb, if◌then◌else◌}
+-- The modes of conversions: which of its two neighbours a magnitude becomes. Of the five modes of IEEE 754 it is the
+-- one of `IsPick`.
+use Rattle.std.specs.Prelude.{◌≡◌, ℕ, ◌+◌, ◌-◌, ◌*◌, ◌/◌, ◌%◌, ◌^◌, Bool, not, leb, eqb}
 use Rattle.apfloat_model.specs.declared.kinds.Round.{Round}
 use Rattle.apfloat_model.specs.declared.kinds.Round.TheVariants.{NearestTiesToEven, TowardZero}
 use Rattle.apfloat_model.specs.rounding.Grid.{IsBelow, IsAbove}
@@ -34,8 +34,8 @@ pub record IsPickBy (precision : ℕ) (mode : ConversionRound) (negative : Bool)
   pub is_above : IsAbove precision above amount parts
   pub is : pick ≡ next_between mode negative below above amount parts
 
--- The mode of IEEE 754 that treats a pick past the largest number alike: rounding to odd never leads past it, and random
--- digits lead past it as the modes to nearest do.
+-- The mode of IEEE 754 that treats a pick past the largest number alike: rounding to odd never leads past it, and
+-- random digits lead past it as the modes to nearest do.
 abbrev pub ieee_mode : ConversionRound → Round
 ieee_mode (Ieee mode) = mode
 ieee_mode ToOdd = TowardZero

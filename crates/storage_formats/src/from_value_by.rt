@@ -80,11 +80,11 @@ fn round_positive_by<S: Semantics, F: StorageFormat>(
 }
 
 impl<F: StorageFormat> StoredFloat<F> {
-    /// A value of any format, rounded once in a mode of conversions, with the flags of that rounding; `nans` says what a
-    /// NaN becomes. In a mode of IEEE 754, and with `NanResult::Zero`, it is the conversion of `from_value`.
+    /// A value of any format, rounded once in a mode of conversions, with the flags of that rounding; `nans` says what
+    /// a NaN becomes. In a mode of IEEE 754, and with `NanResult::Zero`, it is the conversion of `from_value`.
     ///
-    /// Past the largest number the result is that number, in each mode: with OVERFLOW and INEXACT for random digits, and
-    /// with INEXACT alone to odd. A value that the format has is unchanged in each mode, with each random number.
+    /// Past the largest number the result is that number, in each mode: with OVERFLOW and INEXACT for random digits,
+    /// and with INEXACT alone to odd. A value that the format has is unchanged in each mode, with each random number.
     pub fn from_value_by<S: Semantics>(
         x: IeeeFloat<S>,
         mode: ConversionRound,

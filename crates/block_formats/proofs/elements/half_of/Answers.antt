@@ -1,6 +1,6 @@
-use Rattle.std.proofs.Common.{◌≡◌, ◌+◌, ◌-◌, ◌*◌, ◌^◌, ◌<◌, ◌≤◌, refl, sym, ap, ◌∙◌, arith}
-use Rattle.apfloat_model.specs.order.Classes.{is_negative, quanta_of}
-use Rattle.storage_formats.specs.Codes.{datum_of, magnitude_of, point}
+use Rattle.std.proofs.Common.{◌-◌, ◌*◌, ◌^◌, refl, ap, ◌∙◌}
+use Rattle.apfloat_model.specs.order.Classes.{quanta_of}
+use Rattle.storage_formats.specs.Codes.{magnitude_of, point}
 use Rattle.storage_formats.specs.Storage.{format_with}
 use Rattle.storage_formats.specs.Types.{constants_of}
 use Rattle.block_formats.proofs.Halves.{half_member, moved_quanta}

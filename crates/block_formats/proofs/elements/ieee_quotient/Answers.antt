@@ -1,4 +1,4 @@
-use Rattle.std.proofs.Common.{◌≡◌, ◌+◌, ◌*◌, ◌^◌, ◌<◌, ◌≤◌, arith}
+use Rattle.std.proofs.Common.{arith}
 use Rattle.apfloat_model.specs.bits.Layout.{datum_of as bits_datum}
 use Rattle.apfloat_model.specs.order.Classes.{is_negative}
 use Rattle.apfloat_model.specs.rounding.Flags.{bits_of}

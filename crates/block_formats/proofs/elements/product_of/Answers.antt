@@ -1,10 +1,10 @@
 -- the names of the goals are guessed: one for each arm
-use Rattle.std.proofs.Common.{◌≡◌, ◌*◌, ◌^◌, ◌<◌, arith, false}
-use Rattle.std.proofs.Math.Nat.{mul-pos}
-use Rattle.std.proofs.lemmas.Nat.{pow_pos}
-use Rattle.apfloat_model.specs.formats.Datum.{finite}
-use Rattle.apfloat_model.specs.order.Classes.{is_negative, quanta_of}
+use Rattle.std.proofs.Common.{arith}
+
+
+use Rattle.apfloat_model.specs.order.Classes.{quanta_of}
 use Rattle.apfloat_model.specs.rounding.Flags.{bits_of}
+use Rattle.apfloat_model.proofs.general.Powers.{both_above_zero}
 use Rattle.apfloat_ieee.specs.FlaggedTypes.{format_of as flagged_format_of}
 use Rattle.apfloat_ieee.specs.Types.{format_of}
 use Rattle.apfloat_format_of.specs.Extended.{seen}

@@ -1,12 +1,12 @@
 use Rattle.std.proofs.Common.{Bool, ap, sym, ◌∙◌}
 use Rattle.apfloat_model.specs.formats.Datum.{finite}
 use Rattle.apfloat_model.specs.formats.Format.{largest}
-use Rattle.apfloat_model.specs.order.Classes.{is_finite}
 use Rattle.apfloat_model.proofs.whole_numbers.SignedNumbers.{largest_some}
 use Rattle.apfloat_ieee.specs.Types.{format_of}
+use Rattle.block_formats.proofs.Quotients.{negated_some}
 use Rattle.block_formats.proofs.elements.saturated.Goals as goal
 
--- as `largest_of_sign` of array_conversions, whose answer has the same form (`negated_some` of its ConversionsBy)
+-- as `largest_of_sign` of array_conversions
 pub returns-then-negative-clause-past : goal.returns-then-negative-clause-past
 returns-then-negative-clause-past g c = λ off.
     c.neg.ensures ∙ ap _ c.largest-largest.ensures

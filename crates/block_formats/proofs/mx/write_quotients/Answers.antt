@@ -1,6 +1,6 @@
-use Rattle.std.proofs.Common.{◌≡◌, ℕ, ◌+◌, ◌*◌, ◌^◌, ◌<◌, ◌≤◌, ap, ◌∙◌, sym, arith, length}
+use Rattle.std.proofs.Common.{ℕ, ◌*◌, ◌^◌, ◌∙◌, arith}
 use Rattle.std.proofs.Math.Nat.{mul-pos}
-use Rattle.std.proofs.lemmas.Nat.{pow-add, pow_pos}
+use Rattle.std.proofs.lemmas.Nat.{pow_pos}
 use Rattle.apfloat_model.specs.order.Classes.{quanta_of}
 use Rattle.apfloat_model.specs.rounding.Flags.{bits_of}
 use Rattle.apfloat_ieee.specs.Types.{format_of}
@@ -31,7 +31,8 @@ loop-index-preserved g c =
     c.loop-index.codes c.loop-index.counts c.with.result x c.quotient_code-answer.result.value
     (bits_of c.quotient_code-answer.result.status) (omega (arith, size, c.loop-index-test.true)) c.index.ensures
     (c.quotient_code-answer.ensures.code (quanta_of x * 2 ^ t.scale * unit) parts (mul-pos (pow_pos f.scale) p)
-    (element_fraction (quanta_of x) (quanta_of c.args.y) t.scale (format_of g.R.Semantics).scale f.scale divisor unit e))
+    (element_fraction (quanta_of x) (quanta_of c.args.y) t.scale (format_of g.R.Semantics).scale
+    f.scale divisor unit e))
     c.with.ensures (c.loop-index.invariant.1 divisor unit p e))
 
 pub returns : goal.returns

@@ -1,6 +1,6 @@
-use Rattle.std.proofs.Common.{◌≡◌, ◌≤◌, arith, w32, pos, ◌-ℤ◌}
-use Rattle.std.proofs.lemmas.Int.{ints, to_z-of_z}
-use Rattle.apfloat_model.proofs.general.Choices.{match_false, match_true}
+use Rattle.std.proofs.Common.{w32}
+use Rattle.std.proofs.lemmas.Int.{to_z-of_z}
+use Rattle.apfloat_model.proofs.general.Choices.{match_false}
 use Rattle.hex_digits.proofs.Roundings.{exponent_fits}
 use Rattle.block_formats.proofs.mx_scales.scale_for.Goals as goal
 
@@ -14,5 +14,5 @@ returns-clause-value g c =
       is_logarithm = c.digits_of.ensures.first;
       code_is = rw (exact, c.max_exp.ensures.value) at c.clamped_code.ensures;
     })
--- `c.if-is_zero.off`: from the test's category, eqb (quanta_of greatest) 0 ≡ false; the positive member is `digits_of`'s
--- condition, from both conditions and the test
+-- `c.if-is_zero.off`: from the test's category, eqb (quanta_of greatest) 0 ≡ false; the positive member is
+-- `digits_of`'s condition, from both conditions and the test

@@ -1,5 +1,5 @@
-use Rattle.std.proofs.Common.{◌≡◌, ◌-◌, ◌+◌, ◌*◌, ◌/◌, ◌%◌, ◌^◌, ◌<◌, sym, ap, ◌∙◌, arith}
-use Rattle.storage_formats.proofs.RestLosses.{few_below, few_parts, many_below, many_parts_at}
+use Rattle.std.proofs.Common.{◌-◌, ◌%◌, ◌^◌, sym, ap, ◌∙◌, arith}
+use Rattle.storage_formats.proofs.RestLosses.{few_below, few_parts, many_parts_at}
 use Rattle.storage_formats.proofs.cuts.parts_of_rest.Goals as goal
 
 -- `<<` on a u64 keeps all digits, since the result has at most 32

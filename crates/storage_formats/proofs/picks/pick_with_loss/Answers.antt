@@ -1,4 +1,4 @@
-use Rattle.std.proofs.Common.{◌+◌, ◌<◌, ◌≤◌, ◌^◌, ℕ, cond, ap, ◌∙◌, w32, arith}
+use Rattle.std.proofs.Common.{◌+◌, ◌<◌, ℕ, cond, ap, ◌∙◌, w32, arith}
 use Rattle.std.proofs.lemmas.Int.{to_z-of_z}
 use Rattle.apfloat_model.proofs.general.Powers.{exponent_below}
 use Rattle.storage_formats.proofs.StoredPicks.{picked_at}

@@ -1,5 +1,5 @@
 -- the names of the goals are guessed
-use Rattle.std.proofs.Common.{◌≡◌, ℕ, ◌+◌, ◌-◌, ◌*◌, ◌/◌, ◌%◌, ◌^◌, ◌<◌, subst, ◌∙◌, arith}
+use Rattle.std.proofs.Common.{◌≡◌, ℕ, ◌-◌, ◌*◌, ◌/◌, ◌%◌, ◌^◌, subst, ◌∙◌, arith}
 use Rattle.std.proofs.lemmas.Nat.{pow_pos, div-add-mod', mod_below}
 use Rattle.apfloat_model.specs.rounding.Standing.{StandsFor}
 use Rattle.storage_formats.proofs.RestLosses.{loss_moves, odd_moves, random_moves}

@@ -1,10 +1,8 @@
-use Rattle.std.proofs.Common.{◌≡◌, ◌+◌, ◌*◌, ◌^◌, ◌<◌, ◌≤◌, refl, arith, ap, true}
+use Rattle.std.proofs.Common.{◌≡◌, ◌+◌, ◌*◌, ◌^◌, ◌<◌, refl, arith, ap, true}
 use Rattle.std.proofs.Math.Nat.{mul-pos}
 use Rattle.std.proofs.lemmas.Nat.{pow_pos}
 use Rattle.apfloat_model.specs.order.Classes.{is_negative, quanta_of}
-use Rattle.apfloat_model.specs.rounding.Flags.{bits_of}
 use Rattle.apfloat_ieee.specs.Types.{format_of}
-use Rattle.storage_formats.specs.Codes.{largest_index}
 use Rattle.storage_formats.specs.Storage.{format_with}
 use Rattle.storage_formats.specs.Types.{constants_of}
 use Rattle.storage_formats.proofs.QuotientPicks.{no_quotient, zero_picked}
