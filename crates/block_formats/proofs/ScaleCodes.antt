@@ -7,9 +7,23 @@ use Rattle.std.proofs.lemmas.Int.{ints}
 use Rattle.std.proofs.lemmas.Bool.{cases_lt}
 use Rattle.std.proofs.lemmas.Nat.{pow-add, pow_pos}
 use Rattle.apfloat_model.specs.arithmetic.Exact.{up}
-use Rattle.apfloat_model.proofs.arithmetic.SingleScalings.{down_far}
+use Rattle.apfloat_model.proofs.arithmetic.SingleScalings.{down_far, up_le}
 use Rattle.apfloat_model.proofs.general.Powers.{exponent_between}
 use Rattle.block_formats.specs.MxScales.{clamped_code}
+
+-- ---- clamping
+
+pub min_left : (a b : ℕ) → a ≤ b → min a b ≡ a
+min_left a b l = grind arith
+
+pub min_right : (a b : ℕ) → b ≤ a → min a b ≡ b
+min_right a b l = grind arith
+
+-- what is not above 0 has nothing above it
+pub up_zero : (z : ℤ) → z ≤ℤ pos 0 → up z ≡ 0
+up_zero z l = let k = up_le z 0 l in omega (arith, k)
+
+-- ---- binades
 
 -- equal numbers in two quanta are in one binade
 pub same_binade : (q m place l a b : ℕ) → q * 2 ^ a ≡ m * 2 ^ b → 2 ^ place ≤ q → q < 2 ^ (place + 1) → 2 ^ l ≤ m
@@ -50,7 +64,4 @@ lower_scale exponent place fine finest max l scale deep e f d most =
     let same : z ≡ pos (scale - deep) = omega (arith, ints, e, f, d, k) in
     ap up same)
     (cases_lt scale deep) in
-    ap (λ (n : ℕ). min n 254) at ∙ min_is (scale - deep) 254 (omega (arith, most))
-  where
-    min_is : (a b : ℕ) → a ≤ b → min a b ≡ a
-    min_is a b l = grind arith
+    ap (λ (n : ℕ). min n 254) at ∙ min_left (scale - deep) 254 (omega (arith, most))

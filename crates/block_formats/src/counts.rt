@@ -1,6 +1,6 @@
 //! How many elements of a block raised each flag.
 
-ghost use Rattle.std.specs.Prelude.{◌≡◌, ◌+◌, ◌≤◌, ◌<◌, ◌^◌, ◌∷◌, [], ◌++◌, List, ℕ, length};
+ghost use Rattle.std.specs.Prelude.{◌≡◌, ◌-◌, ◌<◌, ◌^◌, ◌∷◌, [], ◌++◌, List, ℕ, length};
 ghost use Rattle.apfloat_model.specs.rounding.Flags.{bits_of};
 ghost use Rattle.block_formats.specs.Places.{counts_of};
 

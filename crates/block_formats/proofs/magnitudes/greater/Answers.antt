@@ -1,5 +1,5 @@
 -- the names of the goals are guessed
-use Rattle.std.proofs.Common.{◌≡◌, ℕ, ◌<◌, ◌≤◌, false, ap, ◌∙◌, sym, arith}
+use Rattle.std.proofs.Common.{ℕ, false, ap, ◌∙◌, sym, arith}
 use Rattle.std.proofs.lemmas.Bool.{ltb-true, ltb-false}
 use Rattle.apfloat_model.specs.formats.Datum.{finite}
 use Rattle.apfloat_model.specs.order.Classes.{quanta_of}
