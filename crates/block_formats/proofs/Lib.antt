@@ -16,3 +16,4 @@ mod Halves
 mod Powers
 mod Fractions
 mod Counted
+mod JointScales

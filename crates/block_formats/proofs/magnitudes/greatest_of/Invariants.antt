@@ -1,6 +1,8 @@
 use Rattle.std.proofs.Common.{◌≡◌, take, false}
 use Rattle.apfloat_model.specs.formats.Datum.{finite}
 
+use Rattle.apfloat_model.specs.formats.Members.{IsMember}
+use Rattle.apfloat_ieee.specs.Types.{format_of}
 use Rattle.block_formats.specs.Magnitudes.{greatest_magnitude}
 use Rattle.block_formats.proofs.magnitudes.greatest_of.Given as goal
 
