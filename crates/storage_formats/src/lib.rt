@@ -16,6 +16,8 @@ mod cuts;
 mod format;
 mod from_value;
 mod from_value_by;
+#[cfg(test)]
+mod mode_rows;
 mod modes;
 mod named;
 mod picks;
