@@ -1,6 +1,5 @@
 -- No two codes of an element format mean one datum.
 use Rattle.std.proofs.Common.{◌≡◌, ℕ, ◌^◌, ◌<◌, refl, subst, arith}
-use Rattle.apfloat_model.specs.bits.Interchange.{IsInterchange}
 use Rattle.apfloat_model.specs.bits.Layout.{IsEncodedBy}
 use Rattle.apfloat_model.specs.formats.Datum.{Datum}
 use Rattle.apfloat_model.specs.formats.Formats.{e4m3fn_constants, e5m2_constants}
@@ -11,26 +10,7 @@ use Rattle.block_formats.specs.declared.elements.ElementFormat.{ElementFormat}
 use Rattle.block_formats.specs.declared.elements.ElementFormat.TheVariants.{E5M2, E4M3FN, E3M2FN, E2M3FN, E2M1FN}
 use Rattle.block_formats.specs.Elements.{e2m1fn, e2m3fn, e3m2fn, element_datum, width}
 use Rattle.block_formats.proofs.ElementMembers.{e2m1fn_law, e2m3fn_law, e3m2fn_law}
-
-e4m3fn_interchange : IsInterchange (format_with e4m3fn_constants) (layout_with e4m3fn_constants)
-e4m3fn_interchange = record {
-  precise = lit≤ tt;
-  some = lit≤ tt;
-  bits = refl;
-  within = lit≤ tt;
-  span = refl;
-  explicit = refl;
-}
-
-e5m2_interchange : IsInterchange (format_with e5m2_constants) (layout_with e5m2_constants)
-e5m2_interchange = record {
-  precise = lit≤ tt;
-  some = lit≤ tt;
-  bits = refl;
-  within = lit≤ tt;
-  span = refl;
-  explicit = refl;
-}
+use Rattle.block_formats.proofs.ElementMembers.{e4m3fn_interchange, e5m2_interchange}
 
 e4m3fn_encoded : (code : ℕ) → code < 256
     → IsEncodedBy (format_with e4m3fn_constants) (layout_with e4m3fn_constants) code (element_datum E4M3FN code)

@@ -1,4 +1,5 @@
 -- Products of two short numbers, which double has.
+use Rattle.std.proofs.Common.{lit≤}
 use Rattle.std.proofs.Common.{◌≡◌, ℕ, ◌+◌, ◌-◌, ◌*◌, ◌^◌, ◌<◌, ◌≤◌, false, refl, sym, ap, ◌∙◌, subst, arith}
 use Rattle.std.proofs.Math.Nat.{mul-le-mul_left, mul-le-mul_right}
 use Rattle.std.proofs.lemmas.Nat.{pow-add, pow_pos}

@@ -1,4 +1,5 @@
 -- Scales as numbers of bfloat.
+use Rattle.std.proofs.Common.{lit≤}
 use Rattle.std.proofs.Common.{◌≡◌, ℕ, ◌+◌, ◌-◌, ◌*◌, ◌^◌, ◌≤◌, false, sym, ap, ◌∙◌, arith}
 use Rattle.std.proofs.Math.Nat.{mul-le-mul_right, pow-le-pow_right}
 use Rattle.std.proofs.lemmas.Nat.{pow-add, pow_pos}

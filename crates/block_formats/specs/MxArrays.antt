@@ -1,4 +1,5 @@
 -- Arrays of blocks: each block in its place, with its scale in its own.
+use Rattle.std.specs.Prelude.{if◌then◌else◌}
 use Rattle.std.specs.Prelude.{◌≡◌, ℕ, ◌+◌, ◌*◌, List, [], ◌∷◌, length, slice_get}
 use Rattle.std.specs.Prelude.{slice_range, Some, Result, Ok, Err}
 use Rattle.apfloat_model.specs.declared.kinds.Round.{Round}

@@ -1,4 +1,5 @@
 -- Blocks of NVFP4: elements e2m1fn, a scale of e4m3fn for each block, and a single for the whole tensor.
+use Rattle.std.specs.Prelude.{if◌then◌else◌}
 use Rattle.std.specs.Prelude.{◌≡◌, ◌≢◌, ℕ, ◌+◌, ◌*◌, ◌^◌, ◌<◌, ◌≤◌, Bool, true, false, eqb, List, length}
 use Rattle.std.specs.Prelude.{not, ◌&&◌, ltb, replicate, Result, Ok, Err, SomeIndex}
 use Rattle.std.specs.Bool.{MatchBool}

@@ -1,4 +1,5 @@
 -- What holds of each element of a block.
+use Rattle.std.specs.Prelude.{if◌then◌else◌}
 use Rattle.std.specs.Prelude.{◌≡◌, ℕ, ◌+◌, not, ◌==◌, bit_and, Bool, List, length, slice_get, Some}
 use Rattle.std.specs.Prelude.{[], ◌∷◌}
 use Rattle.block_formats.specs.declared.counts.Counts.{Counts}

@@ -1,5 +1,6 @@
 -- A pick of a mode of conversions by the number of its point; and the same decision for a cut, where nothing may be
 -- left.
+use Rattle.std.specs.Prelude.{if◌then◌else◌}
 use Rattle.std.specs.Prelude.{◌≡◌, ℕ, ◌*◌, Bool, false, eqb}
 use Rattle.storage_formats.specs.declared.modes.ConversionRound.{ConversionRound}
 use Rattle.storage_formats.specs.Codes.{point}
