@@ -1,6 +1,6 @@
 -- Codes packed into bytes: the bits of the codes one after another, each from its lowest bit, from the lowest bit of
 -- the first byte.
-use Rattle.std.specs.Prelude.{◌≡◌, ◌≢◌, ℕ, ◌+◌, ◌*◌, ◌^◌, ◌<◌, ◌≤◌, List, [], ◌∷◌, length, All, SomeIndex, Result}
+use Rattle.std.specs.Prelude.{◌≡◌, ◌≢◌, ℕ, ◌+◌, ◌*◌, ◌^◌, ◌<◌, ◌≤◌, List, [], ◌∷◌, length, All, Any, Result}
 use Rattle.std.specs.Prelude.{Ok, Err}
 use Rattle.block_formats.specs.declared.errors.LayoutError.{LayoutError}
 use Rattle.block_formats.specs.declared.errors.LayoutError.TheVariants.{Groups, Lengths, CodeTooWide}
@@ -25,7 +25,7 @@ IsPackedBy bits group codes before after (Err Groups) =
 IsPackedBy bits group codes before after (Err Lengths) =
     (8 * length before ≢ bits * length codes) × (after ≡ before)
 IsPackedBy bits group codes before after (Err CodeTooWide) =
-    SomeIndex codes (λ place code. 2 ^ bits ≤ code) × (after ≡ before)
+    Any (λ code. 2 ^ bits ≤ code) codes × (after ≡ before)
 
 abbrev pub IsUnpackedBy : ℕ → ℕ → List ℕ → List ℕ → List ℕ → Result ℕ LayoutError → Type 0
 IsUnpackedBy bits group bytes before after (Ok count) = ArePacked bits after bytes × (count ≡ length before)

@@ -1,6 +1,6 @@
 -- Blocks of the OCP's microscaling formats: elements of one format, and one scale for all of them.
 use Rattle.std.specs.Prelude.{◌≡◌, ◌≢◌, ℕ, ◌^◌, ◌<◌, ◌≤◌, true, false, eqb, List, length, replicate}
-use Rattle.std.specs.Prelude.{Result, Ok, Err, SomeIndex}
+use Rattle.std.specs.Prelude.{Result, Ok, Err, Any}
 use Rattle.std.specs.Bool.{MatchBool}
 use Rattle.apfloat_model.specs.declared.kinds.Round.{Round}
 use Rattle.apfloat_model.specs.formats.Datum.{Datum}
@@ -72,5 +72,5 @@ IsDequantized element g mode scale codes before after (Err Lengths) =
     (length before ≢ length codes) × (after ≡ before)
 IsDequantized element g mode scale codes before after (Err Uneven) = ⊥
 IsDequantized element g mode scale codes before after (Err CodeTooWide) =
-    SomeIndex codes (λ place code. 2 ^ width element ≤ code) × (after ≡ before)
+    Any (λ code. 2 ^ width element ≤ code) codes × (after ≡ before)
 IsDequantized element g mode scale codes before after (Err TensorScale) = ⊥

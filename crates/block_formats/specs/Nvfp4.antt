@@ -1,7 +1,7 @@
 -- Blocks of NVFP4: elements e2m1fn, a scale of e4m3fn for each block, and a single for the whole tensor.
 use Rattle.std.specs.Prelude.{if◌then◌else◌}
 use Rattle.std.specs.Prelude.{◌≡◌, ◌≢◌, ℕ, ◌+◌, ◌*◌, ◌^◌, ◌<◌, ◌≤◌, Bool, true, false, eqb, List, length}
-use Rattle.std.specs.Prelude.{not, ◌&&◌, ltb, replicate, Result, Ok, Err, SomeIndex}
+use Rattle.std.specs.Prelude.{not, ◌&&◌, ltb, replicate, Result, Ok, Err, Any}
 use Rattle.std.specs.Bool.{MatchBool}
 use Rattle.apfloat_model.specs.declared.kinds.Round.{Round}
 use Rattle.apfloat_model.specs.declared.kinds.Round.TheVariants.{NearestTiesToEven}
@@ -132,6 +132,6 @@ IsNvDequantized g mode tensor scale codes before after (Err Lengths) =
     (length before ≢ length codes) × (after ≡ before)
 IsNvDequantized g mode tensor scale codes before after (Err Uneven) = ⊥
 IsNvDequantized g mode tensor scale codes before after (Err CodeTooWide) =
-    SomeIndex codes (λ place code. 16 ≤ code) × (after ≡ before)
+    Any (λ code. 16 ≤ code) codes × (after ≡ before)
 IsNvDequantized g mode tensor scale codes before after (Err TensorScale) =
     (is_positive tensor ≡ false) × (after ≡ before)

@@ -1,6 +1,6 @@
 //! Blocks of the microscaling formats (OCP Microscaling Formats 1.0): elements, and one scale that is a power of two.
 
-ghost use Rattle.std.specs.Prelude.{◌≡◌, ℕ, ◌+◌, ◌*◌, ◌^◌, ◌<◌, ◌≤◌, true, false, length, All, SomeIndex, replicate};
+ghost use Rattle.std.specs.Prelude.{◌≡◌, ℕ, ◌+◌, ◌*◌, ◌^◌, ◌<◌, ◌≤◌, true, false, length, All, Any, replicate};
 ghost use Rattle.apfloat_model.specs.rounding.Flags.{bits_of};
 ghost use Rattle.apfloat_ieee.specs.FlaggedTypes.{format_of as flagged_format_of};
 ghost use Rattle.apfloat_ieee.specs.Types.{format_of};
@@ -128,7 +128,7 @@ pub fn quantize_block<S: Semantics>(
 pub(crate) fn are_narrow(bits: u32, codes: &[u8]) -> bool
     requires { bits ≤ 8 }
     ensures yes { result ≡ true → All (λ code. code < 2 ^ bits) codes.now }
-    ensures no { result ≡ false → SomeIndex codes.now (λ place code. 2 ^ bits ≤ code) }
+    ensures no { result ≡ false → Any (λ code. 2 ^ bits ≤ code) codes.now }
 {
     for index in 0..codes.len() {
         if u32::from(codes[index]) >= 1 << bits {
