@@ -31,6 +31,7 @@ impl<F: Float> Composed<F> {
         DoubleFloat::of(self.0, self.1)
     }
 
+    #[inline]
     fn alone(high: F) -> Self {
         Composed(high, F::ZERO)
     }
@@ -110,6 +111,7 @@ impl<F: Float> Composed<F> {
     }
 
     /// Whether the parts' signs differ.
+    #[inline]
     fn is_opposite(self) -> bool {
         self.0.is_negative() != self.1.is_negative()
     }
@@ -248,6 +250,7 @@ where
         self.wide().next_up().map(Self::split)
     }
 
+    #[inline]
     fn from_bits(input: u128) -> Self {
         let part = u128::MAX >> (128 - F::BITS);
         Composed(F::from_bits(input & part), F::from_bits(input >> F::BITS & part))
@@ -261,6 +264,7 @@ where
         Ok(Fallback::from_str_r(s, round)?.map(Self::split))
     }
 
+    #[inline]
     fn to_bits(self) -> u128 {
         self.0.to_bits() | self.1.to_bits() << F::BITS
     }
@@ -269,6 +273,7 @@ where
         self.wide().to_u128_r(width, round, is_exact)
     }
 
+    #[inline]
     fn cmp_abs_normal(self, rhs: Self) -> Ordering {
         self.0.cmp_abs_normal(rhs.0).then_with(|| match self.1.cmp_abs_normal(rhs.1) {
             Ordering::Equal => Ordering::Equal,
@@ -281,26 +286,37 @@ where
         })
     }
 
+    #[inline]
     fn bitwise_eq(self, rhs: Self) -> bool {
         self.0.bitwise_eq(rhs.0) && self.1.bitwise_eq(rhs.1)
     }
 
+    #[inline]
     fn is_negative(self) -> bool {
         self.0.is_negative()
     }
 
+    #[inline]
     fn is_denormal(self) -> bool {
         self.0.is_finite_non_zero() && (self.0.is_denormal() || self.0 != (self.0 + self.1).value)
     }
 
+    #[inline]
     fn is_signaling(self) -> bool {
         self.0.is_signaling()
     }
 
+    #[inline]
     fn category(self) -> Category {
         self.0.category()
     }
 
+    #[inline]
+    fn is_smallest(self) -> bool {
+        self.0.is_smallest() && self.1.is_pos_zero()
+    }
+
+    #[inline]
     fn is_integer(self) -> bool {
         self.0.is_integer() && self.1.is_integer()
     }
@@ -309,14 +325,17 @@ where
         self.wide().get_exact_inverse().map(Self::split)
     }
 
+    #[inline]
     fn ilogb(self) -> ExpInt {
         self.0.ilogb()
     }
 
+    #[inline]
     fn scalbn_r(self, exp: ExpInt, round: Round) -> Self {
         Composed(self.0.scalbn_r(exp, round), self.1.scalbn_r(exp, round))
     }
 
+    #[inline]
     fn frexp_r(self, exp: &mut ExpInt, round: Round) -> Self {
         let high = self.0.frexp_r(exp, round);
         match self.category() {

@@ -14,10 +14,11 @@ use core::ops::Neg;
 
 /// A number as the exact sum of two values.
 ///
-/// Pairs of doubles are the library's. Pairs of another type are composed of that type's calls, in the same way, and of
-/// calls of their wide format, [`FallbackS`], whose flags are those of the built-in formats. Where the wide format is
-/// outside the law of formats, as it is for `Half`, `X87DoubleExtended` and `Quad`, only what does without it compiles:
-/// sums, products, signs, classes, orders, exponents and scaling.
+/// Signs, classes, orders, exponents and scaling are by the parts, and all other calls of pairs of doubles are the
+/// library's. Pairs of another type are composed of that type's calls, in the same way, and of calls of their wide
+/// format, [`FallbackS`], whose flags are those of the built-in formats. Where the wide format is outside the law of
+/// formats, as it is for `Half`, `X87DoubleExtended` and `Quad`, only what does without it compiles: sums, products,
+/// signs, classes, orders, exponents and scaling.
 ///
 /// ```
 /// use rustc_apfloat::{Float, ieee::Single, ppc::DoubleFloat};
@@ -162,6 +163,7 @@ impl<F: FloatConvert<Fallback<F>>> fmt::Display for DoubleFloat<F> {
 }
 
 /// What the composed pair gives, as `AsDouble` has these of the library's.
+#[inline]
 fn pair<F: Float>(value: Composed<F>) -> DoubleFloat<F> {
     value.pair()
 }
@@ -174,6 +176,7 @@ fn option<F: Float>(value: Option<Composed<F>>) -> Option<DoubleFloat<F>> {
     value.map(Composed::pair)
 }
 
+#[inline]
 fn plain<T>(value: T) -> T {
     value
 }
@@ -190,6 +193,19 @@ macro_rules! by_doubles_or_composed {
             }
         }
     )*};
+}
+
+/// Methods that look at the parts, whatever these are: for doubles, what the library does, whose pairs are encoded and
+/// decoded to get there.
+macro_rules! by_parts {
+    ($($shape:ident $returned:ty: $($name:ident($($pair:ident $(: $of:ty)?),*; $($other:ident: $type:ty),*))*;)*) => {
+        $($(
+            #[inline]
+            fn $name($($pair $(: $of)?,)* $($other: $type),*) -> $returned {
+                $shape(Composed::<F>::$name($(Composed::new($pair),)* $($other),*))
+            }
+        )*)*
+    };
 }
 
 impl<F: FloatConvert<Fallback<F>>> Float for DoubleFloat<F>
@@ -219,38 +235,19 @@ where
         StatusAnd<Self>: answer round_to_integral(self; round: Round);
         StatusAnd<Self>: answer next_up(self;);
         StatusAnd<Self>: answer next_down(self;);
-        Self: pair abs(self;);
-        Self: pair copy_sign(self, rhs: Self;);
         StatusAnd<Self>: answer from_i128_r(; input: i128, round: Round);
         StatusAnd<Self>: answer from_u128_r(; input: u128, round: Round);
-        Self: pair min(self, other: Self;);
-        Self: pair max(self, other: Self;);
-        Self: pair minimum(self, other: Self;);
-        Self: pair maximum(self, other: Self;);
-        bool: plain bitwise_eq(self, rhs: Self;);
-        bool: plain is_negative(self;);
-        bool: plain is_normal(self;);
-        bool: plain is_finite(self;);
-        bool: plain is_zero(self;);
-        bool: plain is_denormal(self;);
-        bool: plain is_infinite(self;);
-        bool: plain is_nan(self;);
-        bool: plain is_signaling(self;);
-        Category: plain category(self;);
-        bool: plain is_non_zero(self;);
-        bool: plain is_finite_non_zero(self;);
-        bool: plain is_pos_zero(self;);
-        bool: plain is_neg_zero(self;);
-        bool: plain is_pos_infinity(self;);
-        bool: plain is_neg_infinity(self;);
-        bool: plain is_smallest(self;);
         bool: plain is_smallest_normalized(self;);
         bool: plain is_largest(self;);
-        bool: plain is_integer(self;);
         Option<Self>: option get_exact_inverse(self;);
-        ExpInt: plain ilogb(self;);
-        Self: pair scalbn_r(self; exp: ExpInt, round: Round);
-        Self: pair frexp_r(self; exp: &mut ExpInt, round: Round);
+    }
+
+    by_parts! {
+        pair Self: scalbn_r(self; exp: ExpInt, round: Round) frexp_r(self; exp: &mut ExpInt, round: Round);
+        plain bool: bitwise_eq(self, rhs: Self;) is_negative(self;) is_denormal(self;) is_signaling(self;)
+            is_smallest(self;) is_integer(self;);
+        plain Category: category(self;);
+        plain ExpInt: ilogb(self;);
     }
 
     /// The fused sum of the values of the wide format, split.
@@ -306,9 +303,98 @@ where
             assert!(self.1.is_finite_non_zero());
             assert!(rhs.1.is_finite_non_zero());
         }
-        match F::AS_DOUBLE {
-            Some(double) => double.inner(self).cmp_abs_normal(double.inner(rhs)),
-            None => Composed::new(self).cmp_abs_normal(Composed::new(rhs)),
+        Composed::new(self).cmp_abs_normal(Composed::new(rhs))
+    }
+}
+
+#[cfg(test)]
+mod tests {
+    use super::*;
+
+    /// Doubles of each class, at the ends of their ranges and beside 1.
+    const PARTS: [u128; 22] = [
+        0x0000_0000_0000_0000,
+        0x8000_0000_0000_0000,
+        0x0000_0000_0000_0001,
+        0x8000_0000_0000_0001,
+        0x000f_ffff_ffff_ffff,
+        0x0010_0000_0000_0000,
+        0x8010_0000_0000_0000,
+        0x0360_0000_0000_0000,
+        0x3c90_0000_0000_0000,
+        0xbca0_0000_0000_0000,
+        0x3ff0_0000_0000_0000,
+        0xbff0_0000_0000_0000,
+        0x3ff0_0000_0000_0001,
+        0x7c8f_ffff_ffff_fffe,
+        0x7c90_0000_0000_0000,
+        0x7fef_ffff_ffff_ffff,
+        0xffef_ffff_ffff_ffff,
+        0x7ff0_0000_0000_0000,
+        0xfff0_0000_0000_0000,
+        0x7ff8_0000_0000_0000,
+        0x7ff0_0000_0000_0001,
+        0xfff8_0000_0000_0005,
+    ];
+
+    const MODES: [Round; 5] = [
+        Round::NearestTiesToEven,
+        Round::TowardPositive,
+        Round::TowardNegative,
+        Round::TowardZero,
+        Round::NearestTiesToAway,
+    ];
+
+    /// Each pair of these, and the library's.
+    fn pairs() -> impl Iterator<Item = (DoubleDouble, Inner)> {
+        let all = PARTS.iter().flat_map(|high| PARTS.iter().map(move |low| high | low << 64));
+        all.map(|bits| (DoubleDouble::from_bits(bits), Inner::from_bits(bits)))
+    }
+
+    #[test]
+    fn what_is_done_by_the_parts_is_what_the_library_does() {
+        macro_rules! same {
+            ($x:ident $inner:ident: $($name:ident)*) => {
+                $(assert_eq!($x.$name(), $inner.$name(), "{} {:x}", stringify!($name), $x.to_bits());)*
+            };
+        }
+        for (x, inner) in pairs() {
+            same! { x inner: is_negative is_normal is_finite is_zero is_denormal is_infinite is_nan is_signaling
+            category is_non_zero is_finite_non_zero is_pos_zero is_neg_zero is_pos_infinity is_neg_infinity is_smallest
+            is_integer ilogb to_bits }
+            assert_eq!([(-x).to_bits(), x.abs().to_bits()], [(-inner).to_bits(), inner.abs().to_bits()], "{x:?}");
+            for mode in MODES {
+                for exponent in [-2200, -1075, -17, 0, 1, 61, 2200] {
+                    let scaled = x.scalbn_r(exponent, mode).to_bits();
+                    assert_eq!(scaled, inner.scalbn_r(exponent, mode).to_bits(), "{x:?} {exponent} {mode:?}");
+                }
+                let mut exponents = [0, 0];
+                let [exponent, wanted] = &mut exponents;
+                let fractions = [x.frexp_r(exponent, mode).to_bits(), inner.frexp_r(wanted, mode).to_bits()];
+                assert!(fractions[0] == fractions[1] && exponents[0] == exponents[1], "{x:?} {mode:?}");
+            }
+        }
+    }
+
+    #[test]
+    fn two_pairs_by_their_parts() {
+        for (x, inner) in pairs() {
+            for (y, other) in pairs() {
+                let values = [
+                    (x.copy_sign(y), inner.copy_sign(other)),
+                    (x.min(y), inner.min(other)),
+                    (x.max(y), inner.max(other)),
+                    (x.minimum(y), inner.minimum(other)),
+                    (x.maximum(y), inner.maximum(other)),
+                ];
+                assert!(values.iter().all(|(given, wanted)| given.to_bits() == wanted.to_bits()), "{x:?} {y:?}");
+                assert_eq!(x.bitwise_eq(y), inner.bitwise_eq(other), "{x:?} {y:?}");
+                assert_eq!((x == y, x.partial_cmp(&y)), (inner == other, inner.partial_cmp(&other)), "{x:?} {y:?}");
+                let all_are = |values: [Double; 2]| values.iter().all(|value| value.is_finite_non_zero());
+                if all_are([x.0, y.0]) && (x.0.cmp_abs_normal(y.0).is_ne() || all_are([x.1, y.1])) {
+                    assert_eq!(x.cmp_abs_normal(y), inner.cmp_abs_normal(other), "{x:?} {y:?}");
+                }
+            }
         }
     }
 }
