@@ -34,7 +34,7 @@ use core::ops::Neg;
 /// assert!(third.value.is_normal());
 /// ```
 #[must_use]
-#[derive(Copy, Clone, PartialEq, PartialOrd, Debug)]
+#[derive(Copy, Clone, PartialEq, Debug)]
 pub struct DoubleFloat<F>(F, F);
 
 /// A pair of doubles, IBM's extended double.
@@ -78,6 +78,18 @@ impl<F: Float> Neg for DoubleFloat<F> {
     #[inline]
     fn neg(self) -> Self {
         DoubleFloat(-self.0, if self.1.is_finite_non_zero() { -self.1 } else { self.1 })
+    }
+}
+
+impl<F: PartialOrd> PartialOrd for DoubleFloat<F> {
+    /// The order of the high parts, and on a tie that of the low parts.
+    // A derived one is not inlined where a program uses several calls that compare.
+    #[inline(always)]
+    fn partial_cmp(&self, other: &Self) -> Option<Ordering> {
+        match self.0.partial_cmp(&other.0) {
+            Some(Ordering::Equal) => self.1.partial_cmp(&other.1),
+            unlike => unlike,
+        }
     }
 }
 
