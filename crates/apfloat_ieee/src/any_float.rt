@@ -43,7 +43,6 @@ impl AnyFloat {
     ghost use Rattle.apfloat_model.specs.rounding.Flags.{Gives, bits_of};
     ghost use Rattle.apfloat_model.specs.arithmetic.Conversions.{IsConversion, IsExactlyConverted};
     ghost use Rattle.apfloat_rounding.specs.Shapes.{format_at};
-    ghost use Rattle.apfloat_rounding.specs.Stored.{IsStored};
     ghost use Rattle.apfloat_conversions.specs.Results.{ConvertsAt};
     ghost use Rattle.apfloat_format_of.specs.Extended.{seen};
     ghost use Rattle.apfloat_format_of.specs.FormatOf.{IsSumTo, IsDifferenceTo, IsProductTo, IsQuotientTo, IsFusedSumTo};
@@ -54,7 +53,7 @@ impl AnyFloat {
 
     /// The value converted to the format of a shape.
     #[inline(never)]
-    fn converted(self, into: Shape, round: Round) -> Converted
+    fn converted_into(self, into: Shape, round: Round) -> Converted
         ensures stored { IsStored into result.answer.value }
         ensures converted { ConvertsAt into
             (IsConversion (format_in self) (format_at into) round (datum_in self)) result }
@@ -66,7 +65,7 @@ impl AnyFloat {
 
     /// The value, as an operation that delivers in the format of a shape sees it.
     #[inline(never)]
-    fn operand(self, into: Shape) -> Operand
+    fn operand_for(self, into: Shape) -> Operand
         ensures operand { IsOperand into result }
         ensures is { StandsFor into (seen (format_in self) (format_at into) (datum_in self)) result }
     {
@@ -84,7 +83,7 @@ impl AnyFloat {
         ensures exact { IsExactlyConverted (format_in self) (format_of T.Flagged)
             (datum_in self) result.value (bits_of result.status) loses_info.new }
     {
-        let converted = self.converted(shape_of::<T>(), round);
+        let converted = self.converted_into(shape_of::<T>(), round);
         *loses_info = converted.loses_info;
         IeeeFloat::answered(converted.answer)
     }
@@ -95,7 +94,7 @@ impl AnyFloat {
             (datum_in self) (datum_in rhs)) result }
     {
         let into = shape_of::<T>();
-        IeeeFloat::answered(sums::add(into, self.operand(into), rhs.operand(into), round))
+        IeeeFloat::answered(sums::add(into, self.operand_for(into), rhs.operand_for(into), round))
     }
 
     /// `self - rhs` in the format `T`, rounded once (formatOf-subtraction).
@@ -104,7 +103,7 @@ impl AnyFloat {
             (datum_in self) (datum_in rhs)) result }
     {
         let into = shape_of::<T>();
-        IeeeFloat::answered(sums::subtract(into, self.operand(into), rhs.operand(into), round))
+        IeeeFloat::answered(sums::subtract(into, self.operand_for(into), rhs.operand_for(into), round))
     }
 
     /// `self * rhs` in the format `T`, rounded once (formatOf-multiplication).
@@ -115,8 +114,8 @@ impl AnyFloat {
         let into = shape_of::<T>();
         IeeeFloat::answered(products::multiply(
             into,
-            self.operand(into),
-            rhs.operand(into),
+            self.operand_for(into),
+            rhs.operand_for(into),
             round,
         ))
     }
@@ -129,8 +128,8 @@ impl AnyFloat {
         let into = shape_of::<T>();
         IeeeFloat::answered(quotients::divide(
             into,
-            self.operand(into),
-            rhs.operand(into),
+            self.operand_for(into),
+            rhs.operand_for(into),
             round,
         ))
     }
@@ -141,7 +140,7 @@ impl AnyFloat {
             result }
     {
         let into = shape_of::<T>();
-        IeeeFloat::answered(roots::square_root(into, self.operand(into), round))
+        IeeeFloat::answered(roots::square_root(into, self.operand_for(into), round))
     }
 
     /// `self * multiplicand + addend` in the format `T`, rounded once (formatOf-fusedMultiplyAdd).
@@ -158,9 +157,9 @@ impl AnyFloat {
         let into = shape_of::<T>();
         IeeeFloat::answered(fused::multiply_add(
             into,
-            self.operand(into),
-            multiplicand.operand(into),
-            addend.operand(into),
+            self.operand_for(into),
+            multiplicand.operand_for(into),
+            addend.operand_for(into),
             round,
         ))
     }
