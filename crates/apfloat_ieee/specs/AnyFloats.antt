@@ -1,14 +1,13 @@
--- What a value with its format stands for.
+-- A value together with its format.
 use Rattle.apfloat_model.specs.formats.Format.{Format}
 use Rattle.apfloat_model.specs.formats.Datum.{Datum}
+use Rattle.apfloat_rounding.specs.declared.shape.Shape.{Shape}
 use Rattle.apfloat_rounding.specs.Shapes.{format_at}
-use Rattle.apfloat_rounding.specs.Stored.{datum_at}
-use Rattle.apfloat_ieee.specs.declared.any_float.AnyFloat.{AnyFloat}
 
--- its format
-abbrev pub format_in : AnyFloat → Format
+-- the constants of a format, and a datum of it
+pub record AnyDatum : Type 0 where
+  pub shape : Shape
+  pub datum : Datum
+
+abbrev pub format_in : AnyDatum → Format
 format_in x = format_at x.shape
-
--- its value
-abbrev pub datum_in : AnyFloat → Datum
-datum_in x = datum_at x.shape x.unpacked

@@ -23,8 +23,8 @@ pub mod semantics;
 pub mod sums;
 pub mod wide;
 
-pub use apfloat_base::NonfiniteBehavior;
 pub use any_float::AnyFloat;
+pub use apfloat_base::NonfiniteBehavior;
 pub use flagged::{Flagged, IeeeFlags, TinyBefore};
 pub use ieee_float::{IeeeFloat, deliver};
 pub use semantics::Semantics;
