@@ -61,7 +61,15 @@ fn names_a_read_that_fails(rt: HostRuntime) -> Result<(), Fail> {
             let mut input = BufReader::new(rt.alloc(), Broken { rest, kind: *kind })?;
             let mut out = Vec::new(rt.alloc());
             let mut err = Vec::new(rt.alloc());
-            let answered = check_lines(NoCalls, &rt, "rows", &mut input, Task::rows(), &mut out, &mut err);
+            let answered = check_lines(
+                NoCalls,
+                &rt,
+                "rows",
+                &mut input,
+                Task::rows(),
+                &mut out,
+                &mut err,
+            );
             assert_eq!(rt; answered, *status, "{count}");
             assert_eq!(rt; err.as_slice(), reason.as_bytes(), "{count}");
             let tally = if count == ROWS.len() {

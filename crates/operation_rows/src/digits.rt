@@ -13,8 +13,8 @@ use formats_at_run_time::{FlaggedFormat, InFormat};
 use rustc_apfloat::ieee::{IeeeFloat, Semantics};
 use std::str;
 use vector_lines::{
-    Answered, CallFault, ExtraField, Operand, OperationCall, RowAnswer, RowFormat,
-    StatusField, Text, ValueField, value_of,
+    Answered, CallFault, ExtraField, Operand, OperationCall, RowAnswer, RowFormat, StatusField,
+    Text, ValueField, value_of,
 };
 
 /// What a call on the digits of a value returns in a format, if that is a built-in one with the flags of the built-in

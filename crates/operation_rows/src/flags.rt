@@ -5,7 +5,8 @@ use apfloat_comparisons::{
 };
 use rustc_apfloat::Status;
 use vector_lines::{
-    Answered, CallFault, ExtraField, FlagsCall, Operand, Operands, RowAnswer, StatusField, Text, ValueField,
+    Answered, CallFault, ExtraField, FlagsCall, Operand, Operands, RowAnswer, StatusField, Text,
+    ValueField,
 };
 
 /// What an operation on flags returns: flags in their column, or whether any is raised.

@@ -12,9 +12,8 @@ use apfloat_comparisons::{
 use rustc_apfloat::ieee::{Flagged, IeeeFloat};
 use rustc_apfloat::{Float, Round, StatusAnd};
 use vector_lines::{
-    Answered, CallFault, CallInFormat, ExtraField, GeneralCall, Operand, OperationCall,
-    OrderCall, Returned, RowAnswer, RowFormat, ToIntegerCall, ValueField, mask, shown, two_values,
-    value_of,
+    Answered, CallFault, CallInFormat, ExtraField, GeneralCall, Operand, OperationCall, OrderCall,
+    Returned, RowAnswer, RowFormat, ToIntegerCall, ValueField, mask, shown, two_values, value_of,
 };
 
 /// What an operation returns in a format.

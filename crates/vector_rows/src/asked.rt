@@ -132,14 +132,7 @@ impl<'a> Asked<'a> {
         out: &mut W,
     ) -> io::Result<()> {
         if let Some(round) = self.round {
-            return write_other(
-                self.answer_in(calls, round),
-                value,
-                status,
-                extra,
-                "",
-                out,
-            );
+            return write_other(self.answer_in(calls, round), value, status, extra, "", out);
         }
         for (label, round) in MODES {
             let answer = self.answer_in(calls, *round);

@@ -2,7 +2,7 @@
 
 use crate::asked::Asked;
 use rustc_apfloat::{Flags, Status};
-use vector_lines::{Columns, LineCall, Calls, StatusField, ValueField};
+use vector_lines::{Calls, Columns, LineCall, StatusField, ValueField};
 
 /// What a call returns, if it exists and returns a status.
 pub fn given<M: Calls>(calls: M, call: &LineCall) -> Option<Columns> {

@@ -97,11 +97,7 @@ impl Fpgen {
 
     /// Whether what the library returns agrees with a line; `None` if the line states what is delivered to a trap
     /// handler, or is skipped.
-    pub fn agrees<M: Calls>(
-        self,
-        calls: M,
-        line: &str,
-    ) -> Result<Option<bool>, RowError<'_>> {
+    pub fn agrees<M: Calls>(self, calls: M, line: &str) -> Result<Option<bool>, RowError<'_>> {
         let test = match self.lines.read(line) {
             Ok(Some(test)) => test,
             Ok(None) => return Ok(None),

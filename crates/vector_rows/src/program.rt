@@ -122,15 +122,7 @@ pub fn run<M: Calls, R: Files + Clock + Input + AllocGlobal, W: Write, V: Write>
                 shows_progress: is_terminal,
                 ..task
             };
-            check_reader(
-                calls,
-                rt,
-                "standard input",
-                rt.reader(),
-                task,
-                out,
-                err,
-            )
+            check_reader(calls, rt, "standard input", rt.reader(), task, out, err)
         }
         Ok(Job::Check(task, Some(name))) => {
             let task = Task {
