@@ -351,14 +351,14 @@ uint32_t apfloat_to_format(uint32_t operation, uint32_t format, uint32_t mode, u
 
 /* What the machine delivers for an operation on x, y and z, in the machine's order. Operands that the operation does
  * not take are ignored, and so is `to` where no operation above mentions it. `bits` is the result, and `number` is 0.
- * The formats have infinities. The flags are those of IEEE 754: with APFLOAT_IEEE_FLAGS tininess is detected as the
- * code says, and otherwise as the machine does it. In a conversion, the code `to` counts.
+ * The formats are those that APFLOAT_IEEE_FLAGS can be joined to. The flags are those of IEEE 754: with it, tininess is
+ * detected as the code says, and otherwise as the machine does it. In a conversion, the code `to` counts.
  *
- * The errors, in this order: APFLOAT_UNKNOWN_FORMAT and APFLOAT_UNKNOWN_MODE; APFLOAT_NO_SUCH_OPERATION for a format
- * without infinities, for an unknown operation or rule, and for a conversion to a format without infinities, and
- * APFLOAT_UNKNOWN_FORMAT for one to an unknown format; APFLOAT_UNKNOWN_MACHINE; APFLOAT_WIDE_OPERAND if an operand has
- * bits at or above the width of its format, which other functions ignore; APFLOAT_WRONG_WIDTH; and
- * APFLOAT_LACKING_OPERATION for fused sums and unsigned integers of APFLOAT_MACHINE_X87. */
+ * The errors, in this order: APFLOAT_UNKNOWN_FORMAT and APFLOAT_UNKNOWN_MODE; APFLOAT_NO_SUCH_OPERATION for another
+ * format, for an unknown operation or rule, and for a conversion to another format, and APFLOAT_UNKNOWN_FORMAT for one
+ * to an unknown format; APFLOAT_UNKNOWN_MACHINE; APFLOAT_WIDE_OPERAND if an operand has bits at or above the width of
+ * its format, which other functions ignore; APFLOAT_WRONG_WIDTH; and APFLOAT_LACKING_OPERATION for fused sums and
+ * unsigned integers of APFLOAT_MACHINE_X87. */
 uint32_t apfloat_machine(uint32_t machine, uint32_t operation, uint32_t format, uint32_t mode, uint32_t to,
                          apfloat_halves x, apfloat_halves y, apfloat_halves z, apfloat_answer *answer);
 

@@ -1175,7 +1175,7 @@ I to_integer(const value<F> &x, gather &with) {
     return made.value;
 }
 
-// ---- machines, which have the formats with infinities (docs/MACHINES.md)
+// ---- machines, which have the formats with a choice of flags (docs/MACHINES.md)
 
 /// A machine.
 enum class machine : std::uint32_t {
@@ -1218,7 +1218,7 @@ namespace detail {
 template <class F>
 expected<apfloat_answer> delivered(machine on, std::uint32_t operation, rounding mode, std::uint32_t to,
                                    const value<F> &x, const value<F> &y, const value<F> &z) {
-    static_assert(F::has_infinity && !F::is_pair, "machines have the formats with infinities");
+    static_assert(F::has_ieee_flags, "machines have the formats with a choice of flags");
     apfloat_answer answer = {{0, 0}, 0, 0};
     const std::uint32_t code = apfloat_machine(static_cast<std::uint32_t>(on), operation, F::code, code_of(mode), to,
                                                x.halves(), y.halves(), z.halves(), &answer);
@@ -1246,7 +1246,7 @@ expected<result<value<F>>> on_machine(machine on, machine_operation operation, r
 /// The value in another format, as a machine converts it.
 template <class To, class F>
 expected<result<value<To>>> convert_on(machine on, const value<F> &x, rounding mode = rounding::nearest_even) {
-    static_assert(To::has_infinity && !To::is_pair, "machines have the formats with infinities");
+    static_assert(To::has_ieee_flags, "machines have the formats with a choice of flags");
     return detail::as_value<To>(detail::delivered(on, APFLOAT_CONVERT, mode, To::code, x, x, x));
 }
 

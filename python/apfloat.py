@@ -1,4 +1,4 @@
-"""Software floating point in any of ten formats, correctly rounded, with exact flags.
+"""Software floating point in any of fourteen formats, correctly rounded, with exact flags.
 
 The arithmetic is that of the shared library libapfloat.so, in the folder of this file, or of the file that the
 environment variable APFLOAT_LIBRARY names. `pip install ./python` builds and installs it with this module;
@@ -1198,7 +1198,7 @@ class Machine:
     """A processor, with what it delivers where IEEE 754 leaves a choice or is not followed (docs/MACHINES.md).
 
     Operations add their flags to those of the context, those of IEEE 754, and round in its mode. Values have a format
-    with infinities. What the machine does not have is refused.
+    with a choice of flags, as half has. What the machine does not have is refused.
 
     >>> x, y = half.from_bits(0x7e01), half.from_bits(0x7d02)
     >>> [hex(machine(name).delivers('add', x, y).bits) for name in ('x86', 'arm', 'risc-v')]

@@ -50,7 +50,7 @@ pub enum MachineOperation {
     Greatest(MinimumRule, u128, u128),
 }
 
-/// A format with infinities, as its code names it.
+/// A format with a choice of flags, as its code names it.
 #[derive(Clone, Copy)]
 pub struct MachineFormat {
     /// The format.
@@ -60,7 +60,7 @@ pub struct MachineFormat {
 }
 
 impl MachineFormat {
-    /// The format of this kind, if it has infinities.
+    /// The format of this kind, if it has a choice of flags.
     pub fn of(kind: FlaggedKind) -> Option<MachineFormat>
         ensures { result ≡ machine_format kind }
     {

@@ -13,6 +13,9 @@ const PROGRAM: &str = "explain";
 const FORMAT_WORDS: &str =
     "half single double quad bfloat e5m2 e4m3fn e4m3fnuz x87 e4m3 e5m2fnuz e4m3b11fnuz tf32";
 
+/// The formats that machines have, for messages.
+const MACHINE_FORMATS: &str = "half single double quad bfloat e5m2 x87";
+
 const FAILED: u8 = 1;
 
 const OTHER_WORDS: u8 = 2;
@@ -94,7 +97,7 @@ fn refuse<V: Write>(fault: Fault, err: &mut V) -> io::Result<u8> {
         }
         Fault::Lacks(word) => writeln!(
             err,
-            "explain: no such operation on '{word}' (x87 has no fma; the format needs infinities)"
+            "explain: no such operation on '{word}' (x87 has no fma; the formats are {MACHINE_FORMATS})"
         )?,
         Fault::Value(word) => writeln!(
             err,
