@@ -1,4 +1,4 @@
-/* Compares arrays, which are converted by tables where these pay, with calls on single values, which never are: all
+/* Compares arrays, of which long ones are converted by tables, with calls on single values, which have none: all
  * 2^32 singles to each format of 8 bits, and all values of these formats to every format; values and counts.
  *
  *     cc -O2 -Iinclude evidence/arrays.c libapfloat_c.a -o arrays

@@ -44,7 +44,7 @@ CALL = """    rt.stdout().write_all(b"{mark}\\n")?;
         crate::m{number}::run::run(Ok(words.clone()?), false, &mut rt.stdout(), &mut rt.stderr());
     }}"""
 MARK = "---- the next copy"
-FILES = ["compute", "explanation", "picture", "question", "run"]
+FILES = ["compute", "explanation", "on_machine", "picture", "question", "run"]
 BATCH = 10
 
 COMPUTE = [

@@ -3,8 +3,8 @@
     python3 evidence/storage_formats.py | diff - crates/storage_formats/src/rows.rt
 
 Each code is decoded to a fraction by its fields. A value is looked up between its neighbours in the list
-of these fractions, which goes on for one binade past the largest number, since a pick there decides the
-overflow. What comes out is rounded by the model.
+of these fractions, which goes on past the largest number, since a pick there decides the overflow. What comes
+out is rounded by the model.
 """
 
 from bisect import bisect_right
@@ -35,7 +35,7 @@ class Elements:
     least_exponent: int
 
     def magnitude(self, fields):
-        """The number with these bits below the sign; also past the width."""
+        """The number with these bits below the sign, of which there may be more than the format has."""
         written = self.precision - 1
         field, digits = fields >> written, fields & (1 << written) - 1
         last = Fraction(2) ** (self.least_exponent - written)
@@ -48,7 +48,7 @@ class Elements:
 
     @cached_property
     def points(self):
-        """The numbers in order, and those of two more exponents."""
+        """The numbers in order, and those of four more exponents."""
         return [self.magnitude(m) for m in range(self.count + (2 << self.precision))]
 
     def value(self, code):
@@ -203,7 +203,7 @@ FORMATS = (
 
 
 def single_bits(exact):
-    """The bits of the single that a fraction is."""
+    """The bits of the single that equals a fraction."""
     (bits,) = unpack("<I", pack("<f", float(exact)))
     assert Fraction(*float(exact).as_integer_ratio()) == exact
     return bits
@@ -234,7 +234,15 @@ def rows_of(form):
         assert all(a[2] == answers[0][2] for a in answers)
         codes = ", ".join(str(a[0]) for a in answers)
         flags = ", ".join(str(a[1]) for a in answers)
-        yield f"    (0x{bits:x}, [{codes}], [{flags}], {str(answers[0][2]).lower()}),"
+        parts = (f"0x{bits:x}", f"[{codes}]", f"[{flags}]", str(answers[0][2]).lower())
+        yield laid_out("(", parts, ")")
+
+
+def laid_out(start, parts, end):
+    """An entry of a table, in a line if that is short."""
+    if len(", ".join(parts)) <= 60:
+        return f"    {start}{', '.join(parts)}{end},"
+    return "\n".join([f"    {start}", *(f"        {part}," for part in parts), f"    {end},"])
 
 
 # ---- checksums of all values
@@ -246,7 +254,7 @@ def extended(checksum, bits, status, loses):
 
 
 def into(source, form, mode, step):
-    """Each code of the source that a multiple of the step is, stored."""
+    """Each code of the source that is a multiple of the step, stored."""
     checksum = 0
     for bits in range(0, 1 << source.bits, step):
         checksum = extended(checksum, *form.store(source, decoded(source, bits), mode))
@@ -279,14 +287,14 @@ def main():
     for form in FORMATS:
         lines = []
         for source, step in ((E4M3FN, 1), (E5M2, 1), (HALF, 7)):
-            sums = ", ".join(f"0x{into(source, form, mode, step):x}" for mode in MODES)
-            lines.append(f"    [{sums}],")
+            sums = [f"0x{into(source, form, mode, step):x}" for mode in MODES]
+            lines.append(laid_out("[", sums, "]"))
         table(f"INTO_{form.name}", "Checksums", lines)
     for form in FORMATS:
         lines = []
         for target in (HALF, SINGLE, E4M3FN, E5M2):
-            sums = ", ".join(f"0x{out_of(form, target, mode):x}" for mode in MODES)
-            lines.append(f"    [{sums}],")
+            sums = [f"0x{out_of(form, target, mode):x}" for mode in MODES]
+            lines.append(laid_out("[", sums, "]"))
         table(f"OUT_OF_{form.name}", "Checksums", lines)
 
 

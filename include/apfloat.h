@@ -46,9 +46,9 @@ extern "C" {
 
 /* 128 bits as two 64-bit words: the bits of a value, or an integer.
  *
- * A value of fewer bits is in the lowest ones. Bits at and above the width of its format are ignored, and are 0 in an
- * answer. Pairs of doubles have the high double in `low` and the low one in `high`. A signed integer is in 128-bit
- * two's complement. */
+ * A value of fewer bits is in the lowest ones. Bits at and above the width of its format are 0 in an answer, and are
+ * ignored in an operand; apfloat_machine alone refuses them. Pairs of doubles have the high double in `low` and the low
+ * one in `high`. A signed integer is in 128-bit two's complement. */
 typedef struct apfloat_halves {
     uint64_t low;
     uint64_t high;
@@ -340,8 +340,8 @@ uint32_t apfloat_to_format(uint32_t operation, uint32_t format, uint32_t mode, u
 #define APFLOAT_GREATEST UINT32_C(15)         /* the maximum */
 
 /* Rules of minima and maxima, which differ for NaNs and zeros: `x < y ? x : y`, for which any NaN is invalid; the same,
- * if only a signaling NaN is; the first NaN; minNum (IEEE 754-2008 5.3.1); minimumNumber and minimum (IEEE 754-2019
- * 9.6). */
+ * for which only a signaling NaN is; the first NaN; minNum (IEEE 754-2008 5.3.1); minimumNumber and minimum (both
+ * IEEE 754-2019 9.6). */
 #define APFLOAT_RULE_SECOND UINT32_C(1)
 #define APFLOAT_RULE_SECOND_QUIETLY UINT32_C(2)
 #define APFLOAT_RULE_FIRST_NAN UINT32_C(3)
@@ -352,7 +352,8 @@ uint32_t apfloat_to_format(uint32_t operation, uint32_t format, uint32_t mode, u
 /* What the machine delivers for an operation on x, y and z, in the machine's order. Operands that the operation does
  * not take are ignored, and so is `to` where no operation above mentions it. `bits` is the result, and `number` is 0.
  * The formats are those that APFLOAT_IEEE_FLAGS can be joined to. The flags are those of IEEE 754: with it, tininess is
- * detected as the code says, and otherwise as the machine does it. In a conversion, the code `to` counts.
+ * detected as the code says, and otherwise as the machine does it. In a conversion, the code `to` counts. Nothing is
+ * flushed to zero.
  *
  * The errors, in this order: APFLOAT_UNKNOWN_FORMAT and APFLOAT_UNKNOWN_MODE; APFLOAT_NO_SUCH_OPERATION for another
  * format, for an unknown operation or rule, and for a conversion to another format, and APFLOAT_UNKNOWN_FORMAT for one

@@ -998,6 +998,7 @@ enum class on_nan : std::uint32_t { quiet = APFLOAT_QUIET, signaling = APFLOAT_S
 /// Whether a predicate holds; the only flag is that of an invalid operation.
 template <class F>
 result<bool> holds(predicate asked, on_nan invalid, const value<F> &x, const value<F> &y) {
+    static_assert(!F::is_pair, "pairs of doubles do not have this operation");
     const auto answer =
         detail::answer_of(apfloat_compare_predicate, F::code, static_cast<std::uint32_t>(asked),
                           static_cast<std::uint32_t>(invalid), x.halves(), y.halves());
@@ -1007,6 +1008,7 @@ result<bool> holds(predicate asked, on_nan invalid, const value<F> &x, const val
 /// The order in the total order (IEEE 754-2019 5.10), which is never `unordered`.
 template <class F>
 order total_order(const value<F> &x, const value<F> &y) {
+    static_assert(!F::is_pair, "pairs of doubles do not have this operation");
     return static_cast<order>(detail::answer_of(apfloat_total_order, F::code, x.halves(), y.halves()).number);
 }
 
@@ -1021,6 +1023,7 @@ enum class extremum : std::uint32_t {
 /// The minimum or maximum, with its flag; a quiet NaN if an operand is a NaN.
 template <class F>
 result<value<F>> extremum_of(extremum which, const value<F> &x, const value<F> &y) {
+    static_assert(!F::is_pair, "pairs of doubles do not have this operation");
     const std::uint32_t prefers_number = 0;
     return detail::result_of<F>(detail::answer_of(apfloat_extremum, F::code, static_cast<std::uint32_t>(which),
                                                   prefers_number, x.halves(), y.halves()));
@@ -1028,6 +1031,7 @@ result<value<F>> extremum_of(extremum which, const value<F> &x, const value<F> &
 /// The same, but of a NaN and a number the number.
 template <class F>
 result<value<F>> extremum_number_of(extremum which, const value<F> &x, const value<F> &y) {
+    static_assert(!F::is_pair, "pairs of doubles do not have this operation");
     const std::uint32_t prefers_number = 1;
     return detail::result_of<F>(detail::answer_of(apfloat_extremum, F::code, static_cast<std::uint32_t>(which),
                                                   prefers_number, x.halves(), y.halves()));
@@ -1036,12 +1040,14 @@ result<value<F>> extremum_number_of(extremum which, const value<F> &x, const val
 /// The exponent of the highest binary digit as a value (IEEE 754-2019 5.3.3, logB), rounded once.
 template <class F>
 result<value<F>> log_b(const value<F> &x, rounding mode = rounding::nearest_even) {
+    static_assert(!F::is_pair, "pairs of doubles do not have this operation");
     return detail::result_of<F>(detail::answer_of(apfloat_log_b, F::code, detail::code_of(mode), x.halves()));
 }
 
 /// x times 2 to the power of `power`, rounded once, with its flags (IEEE 754-2019 5.3.3, scaleB).
 template <class F>
 result<value<F>> scale_b(const value<F> &x, std::int32_t power, rounding mode = rounding::nearest_even) {
+    static_assert(!F::is_pair, "pairs of doubles do not have this operation");
     return detail::result_of<F>(
         detail::answer_of(apfloat_scale_b, F::code, detail::code_of(mode), x.halves(), power));
 }
@@ -1049,6 +1055,7 @@ result<value<F>> scale_b(const value<F> &x, std::int32_t power, rounding mode = 
 /// The value rounded to an integral value, without the flag of inexact results (IEEE 754-2019 5.9).
 template <class F>
 result<value<F>> integral(const value<F> &x, rounding mode) {
+    static_assert(!F::is_pair, "pairs of doubles do not have this operation");
     return detail::result_of<F>(detail::answer_of(apfloat_integral, F::code, detail::code_of(mode), x.halves()));
 }
 
@@ -1057,6 +1064,7 @@ namespace detail {
 template <class T, class F>
 result<value<T>> to_format(std::uint32_t operation, rounding mode, const value<F> &x, const value<F> &y = {},
                            const value<F> &z = {}) {
+    static_assert(!T::is_pair && !F::is_pair, "pairs of doubles do not have this operation");
     return result_of<T>(answer_of(apfloat_to_format, operation, F::code, code_of(mode), T::code, x.halves(),
                                   y.halves(), z.halves()));
 }

@@ -1197,8 +1197,8 @@ _CONVERT, _TO_U128, _TO_I128, _LEAST, _GREATEST = 11, 12, 13, 14, 15
 class Machine:
     """A processor, with what it delivers where IEEE 754 leaves a choice or is not followed (docs/MACHINES.md).
 
-    Operations add their flags to those of the context, those of IEEE 754, and round in its mode. Values have a format
-    with a choice of flags, as half has. What the machine does not have is refused.
+    Operations round in the mode of the context, and add the flags of IEEE 754 to its flags. Only formats with a choice
+    of flags have them, as half does; what the machine does not have is refused.
 
     >>> x, y = half.from_bits(0x7e01), half.from_bits(0x7d02)
     >>> [hex(machine(name).delivers('add', x, y).bits) for name in ('x86', 'arm', 'risc-v')]

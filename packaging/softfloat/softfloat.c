@@ -136,8 +136,8 @@ static uint32_t direction(uint_fast8_t mode) {
     }
 }
 
-/* The x87 unit has no unsigned integers and no fused sums. What SoftFloat has in their place is as in SSE: integers,
- * and the default NaN, the only one that a fused sum of numbers and infinities gives. */
+/* The x87 unit has no unsigned integers and no fused sums. SoftFloat has both there, with the integers and the default
+ * NaN of SSE; fused() takes all other NaNs from a product and a sum. */
 static uint32_t machine_for(uint32_t operation, uint32_t format) {
     const uint32_t machine = format == APFLOAT_X87 ? WAY_OF_EXTF80 : WAY;
     const bool is_lacking = operation == APFLOAT_TO_U128 || operation == APFLOAT_FMA;

@@ -58,7 +58,6 @@ void softfloat_raiseFlags(uint_fast8_t flags);
 
 /* A function whose name has an M after that of a format takes values of it, and leaves its result, by pointers. */
 
-
 /* ---- integers as values */
 
 float16_t ui32_to_f16(uint32_t n);

@@ -71,5 +71,9 @@ void use(number x, number y, pair p, value<binary16> h) {
     (void)std::numeric_limits<pair>::epsilon();
 #elif CASE == 25
     (void)(unflagged<binary64>(x) > true);
+#elif CASE == 26
+    (void)log_b(p);
+#elif CASE == 27
+    (void)add_to<binary64>(p, p);
 #endif
 }

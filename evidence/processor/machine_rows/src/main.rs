@@ -2,11 +2,11 @@
 //!
 //!     cargo run --release -- SEED COUNT
 //!
-//! For each operation, COUNT operands are drawn from a seed. Half of them are special: NaNs of both kinds with any
-//! payload, infinities, zeros, denormal numbers, the numbers at the ends of the range; in x87 also bits that the unit
-//! does not take, and pseudo-denormals. SSE takes turns with FTZ and DAZ. The processor has to have FMA, F16C and SSE4;
-//! without AVX-512 there are no unsigned integers. Prints each difference, at most ten of an operation, and how many
-//! rows of each operation agree; the status is 1 if one differs.
+//! For each operation, COUNT rows are drawn from a seed. Half of the operands, in most conversions a quarter, are
+//! special: NaNs of both kinds with any payload, infinities, zeros, denormal numbers, the numbers at the ends of the
+//! range; in x87 also bits that the unit does not take, and pseudo-denormals. SSE takes turns with FTZ and DAZ. The
+//! processor has to have FMA, F16C and SSE4; without AVX-512 there are no unsigned integers. Prints each difference, at
+//! most ten of an operation, and how many rows of each operation agree; the status is 1 if one differs.
 
 use rustc_apfloat::comparisons::{OnNan, Predicate, compare, round_to_integral_in};
 use rustc_apfloat::ieee::{
