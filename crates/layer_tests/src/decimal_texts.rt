@@ -1,12 +1,14 @@
 //! Decimal texts. The bits of the halfway cases are those of Python.
 
 ghost use Rattle.std.specs.Prelude.{◌<◌};
+ghost use Rattle.apfloat_ieee.specs.FlaggedTypes.{format_of};
+ghost use Rattle.apfloat_decimals.specs.Decimals.{HasQuadExponents};
 
 use apfloat_base::Float;
 use apfloat_decimals::{read_decimal, read_decimal_ascii};
 use apfloat_formats::{DoubleS, Semantics, SingleS};
-use apfloat_ieee::{Flagged, IeeeFlags, IeeeFloat, TinyBefore};
-use apfloat_model::{Flags, ParseError, Round, Status, StatusAnd};
+use apfloat_ieee::{Flagged, IeeeFlags, TinyBefore};
+use apfloat_model::{Flags, ParseError, Round, Status};
 use std::process::Abort;
 
 /// Half of the least double: 752 digits.
@@ -93,15 +95,12 @@ fn refused_bytes(rt: HostRuntime) {
     check_refused_bytes(&rt, b"1e\xc35", "Invalid character in exponent");
 }
 
-/// Asserts that a single was read with the given bits and status.
-fn check_single<S: Flagged>(
-    rt: &impl Abort,
-    answer: Result<StatusAnd<IeeeFloat<S>>, ParseError>,
-    bits: u128,
-    status: Status,
-)
-    requires { S.PRECISION < S.BITS }
+/// Asserts that a text is read as a single with the given bits and status.
+fn check_single<S: Flagged>(rt: &impl Abort, text: &str, round: Round, bits: u128, status: Status)
+    requires bits { S.PRECISION < S.BITS }
+    requires exponents { HasQuadExponents (format_of S.Flagged) }
 {
+    let answer = read_decimal::<S>(text, round);
     assert!(rt; answer.is_ok());
     if let Ok(answer) = answer {
         assert_eq!(rt; answer.value.to_bits(), bits);
@@ -118,45 +117,15 @@ fn rules_of_flags(rt: HostRuntime) {
     let tiny = Status::UNDERFLOW.union(inexact);
 
     let zero = Round::TowardZero;
-    check_single(
-        &rt,
-        read_decimal::<SingleS>("1e39", zero),
-        0x7f7f_ffff,
-        inexact,
-    );
-    check_single(
-        &rt,
-        read_decimal::<IeeeFlags<SingleS>>("1e39", zero),
-        0x7f7f_ffff,
-        past,
-    );
+    check_single::<SingleS>(&rt, "1e39", zero, 0x7f7f_ffff, inexact);
+    check_single::<IeeeFlags<SingleS>>(&rt, "1e39", zero, 0x7f7f_ffff, past);
 
     let even = Round::NearestTiesToEven;
     let below = "1.1754943087833335782e-38";
-    check_single(
-        &rt,
-        read_decimal::<SingleS>(below, even),
-        0x0080_0000,
-        inexact,
-    );
-    check_single(
-        &rt,
-        read_decimal::<IeeeFlags<SingleS>>(below, even),
-        0x0080_0000,
-        tiny,
-    );
+    check_single::<SingleS>(&rt, below, even, 0x0080_0000, inexact);
+    check_single::<IeeeFlags<SingleS>>(&rt, below, even, 0x0080_0000, tiny);
 
     let nearer = "1.1754943227963182215e-38";
-    check_single(
-        &rt,
-        read_decimal::<IeeeFlags<SingleS>>(nearer, even),
-        0x0080_0000,
-        inexact,
-    );
-    check_single(
-        &rt,
-        read_decimal::<IeeeFlags<TinyBefore<SingleS>>>(nearer, even),
-        0x0080_0000,
-        tiny,
-    );
+    check_single::<IeeeFlags<SingleS>>(&rt, nearer, even, 0x0080_0000, inexact);
+    check_single::<IeeeFlags<TinyBefore<SingleS>>>(&rt, nearer, even, 0x0080_0000, tiny);
 }
