@@ -399,6 +399,31 @@ void check_machines() {
     CHECK(on_machine(static_cast<machine>(9), machine_operation::add, even, one, one).error() == errc::unknown_machine);
 }
 
+// The operations of IEEE 754-2019; their rows are checked in C and Python.
+void check_operations() {
+    const auto quiet = single::from_bits(0x7fc00001), signaling = single::from_bits(0x7f800003), one = single(1.0f);
+    const auto is_less = holds(predicate::less, on_nan::quiet, quiet, one);
+    CHECK(!is_less.value && is_less.status.none());
+    CHECK(holds(predicate::less, on_nan::signaling, quiet, one).status == flag::invalid_op);
+    CHECK(holds(predicate::unordered, on_nan::quiet, signaling, one).value);
+    CHECK(total_order(single(-0.0f), single(0.0f)) == order::less && total_order(quiet, one) == order::greater);
+    CHECK(extremum_of(extremum::minimum_magnitude, single(-2.0f), one).value.bits() == one.bits());
+    CHECK(extremum_of(extremum::maximum, quiet, one).value.bits() == quiet.bits());
+    CHECK(extremum_number_of(extremum::maximum, quiet, one).value.bits() == one.bits());
+    CHECK(log_b(single(10.0f)).value.bits() == single(3.0f).bits() && log_b(single()).status == flag::div_by_zero);
+    CHECK(scale_b(one, 128).status == (flag::overflow | flag::inexact));
+    const auto whole = integral(single(2.5f), rounding::nearest_even);
+    CHECK(whole.value.bits() == single(2.0f).bits() && whole.status.none());
+    // 1 + 2^-24 + 2^-60 is above the midpoint of 1 and the next single.
+    const number small(0x1p-24 + 0x1p-60);
+    CHECK(add_to<binary32>(number(1.0), small).value.bits() == 0x3f800001);
+    CHECK(sub_to<binary32>(number(1.0), -small).value.bits() == 0x3f800001);
+    CHECK(mul_to<binary32>(number(3.0), number(0.5)).value.bits() == single(1.5f).bits());
+    CHECK(div_to<binary32>(number(3.0), number(2.0)).value.bits() == single(1.5f).bits());
+    CHECK(fma_to<binary32>(number(1.0), number(1.0), small).value.bits() == 0x3f800001);
+    CHECK(sqrt_to<binary32>(number(2.25)).value.bits() == single(1.5f).bits());
+}
+
 } // namespace
 
 // With an argument, a call with a mode that is none of the enumerators.
@@ -432,6 +457,7 @@ int main(int count, char **) {
     check_arrays();
     check_missing_arrays();
     check_machines();
+    check_operations();
     std::cout << checks - failures << " checks hold, " << failures << " fail\n";
     return failures == 0 ? 0 : 1;
 }

@@ -38,6 +38,7 @@ pub const LIBRARY: &[&str] = &[
     "apfloat_augmented",
     "apfloat_machines",
     "hex_digits",
+    "storage_formats",
 ];
 
 /// The crates that the library for C has above those.

@@ -31,6 +31,7 @@ impl<F: Float> Composed<F> {
         DoubleFloat::of(self.0, self.1)
     }
 
+    #[inline]
     fn alone(high: F) -> Self {
         Composed(high, F::ZERO)
     }
@@ -110,6 +111,7 @@ impl<F: Float> Composed<F> {
     }
 
     /// Whether the parts' signs differ.
+    #[inline]
     fn is_opposite(self) -> bool {
         self.0.is_negative() != self.1.is_negative()
     }
@@ -248,6 +250,7 @@ where
         self.wide().next_up().map(Self::split)
     }
 
+    #[inline]
     fn from_bits(input: u128) -> Self {
         let part = u128::MAX >> (128 - F::BITS);
         Composed(F::from_bits(input & part), F::from_bits(input >> F::BITS & part))
@@ -261,6 +264,7 @@ where
         Ok(Fallback::from_str_r(s, round)?.map(Self::split))
     }
 
+    #[inline]
     fn to_bits(self) -> u128 {
         self.0.to_bits() | self.1.to_bits() << F::BITS
     }
@@ -269,6 +273,7 @@ where
         self.wide().to_u128_r(width, round, is_exact)
     }
 
+    #[inline]
     fn cmp_abs_normal(self, rhs: Self) -> Ordering {
         self.0.cmp_abs_normal(rhs.0).then_with(|| match self.1.cmp_abs_normal(rhs.1) {
             Ordering::Equal => Ordering::Equal,
@@ -281,26 +286,37 @@ where
         })
     }
 
+    #[inline]
     fn bitwise_eq(self, rhs: Self) -> bool {
         self.0.bitwise_eq(rhs.0) && self.1.bitwise_eq(rhs.1)
     }
 
+    #[inline]
     fn is_negative(self) -> bool {
         self.0.is_negative()
     }
 
+    #[inline]
     fn is_denormal(self) -> bool {
         self.0.is_finite_non_zero() && (self.0.is_denormal() || self.0 != (self.0 + self.1).value)
     }
 
+    #[inline]
     fn is_signaling(self) -> bool {
         self.0.is_signaling()
     }
 
+    #[inline]
     fn category(self) -> Category {
         self.0.category()
     }
 
+    #[inline]
+    fn is_smallest(self) -> bool {
+        self.0.is_smallest() && self.1.is_pos_zero()
+    }
+
+    #[inline]
     fn is_integer(self) -> bool {
         self.0.is_integer() && self.1.is_integer()
     }
@@ -309,19 +325,120 @@ where
         self.wide().get_exact_inverse().map(Self::split)
     }
 
+    #[inline]
     fn ilogb(self) -> ExpInt {
         self.0.ilogb()
     }
 
+    #[inline]
     fn scalbn_r(self, exp: ExpInt, round: Round) -> Self {
         Composed(self.0.scalbn_r(exp, round), self.1.scalbn_r(exp, round))
     }
 
+    #[inline]
     fn frexp_r(self, exp: &mut ExpInt, round: Round) -> Self {
         let high = self.0.frexp_r(exp, round);
         match self.category() {
             Category::Normal => Composed(high, self.1.scalbn_r(-*exp, round)),
             Category::Zero | Category::Infinity | Category::NaN => Composed(high, self.1),
+        }
+    }
+}
+
+#[cfg(test)]
+mod tests {
+    use crate::doubles::Inner;
+    use crate::erased::apfloat_base::Float as _;
+    use crate::ieee::Double;
+    use crate::ppc::DoubleDouble;
+    use crate::{Float, Round};
+
+    /// Doubles of each class, at the ends of their ranges and beside 1.
+    const PARTS: [u128; 22] = [
+        0x0000_0000_0000_0000,
+        0x8000_0000_0000_0000,
+        0x0000_0000_0000_0001,
+        0x8000_0000_0000_0001,
+        0x000f_ffff_ffff_ffff,
+        0x0010_0000_0000_0000,
+        0x8010_0000_0000_0000,
+        0x0360_0000_0000_0000,
+        0x3c90_0000_0000_0000,
+        0xbca0_0000_0000_0000,
+        0x3ff0_0000_0000_0000,
+        0xbff0_0000_0000_0000,
+        0x3ff0_0000_0000_0001,
+        0x7c8f_ffff_ffff_fffe,
+        0x7c90_0000_0000_0000,
+        0x7fef_ffff_ffff_ffff,
+        0xffef_ffff_ffff_ffff,
+        0x7ff0_0000_0000_0000,
+        0xfff0_0000_0000_0000,
+        0x7ff8_0000_0000_0000,
+        0x7ff0_0000_0000_0001,
+        0xfff8_0000_0000_0005,
+    ];
+
+    const MODES: [Round; 5] = [
+        Round::NearestTiesToEven,
+        Round::TowardPositive,
+        Round::TowardNegative,
+        Round::TowardZero,
+        Round::NearestTiesToAway,
+    ];
+
+    /// Each pair of these, and the library's.
+    fn pairs() -> impl Iterator<Item = (DoubleDouble, Inner)> {
+        let all = PARTS.iter().flat_map(|high| PARTS.iter().map(move |low| high | low << 64));
+        all.map(|bits| (DoubleDouble::from_bits(bits), Inner::from_bits(bits)))
+    }
+
+    #[test]
+    fn what_is_done_by_the_parts_is_what_the_library_does() {
+        macro_rules! same {
+            ($x:ident $inner:ident: $($name:ident)*) => {
+                $(assert_eq!($x.$name(), $inner.$name(), "{} {:x}", stringify!($name), $x.to_bits());)*
+            };
+        }
+        for (x, inner) in pairs() {
+            same! { x inner: is_negative is_normal is_finite is_zero is_denormal is_infinite is_nan is_signaling
+            category is_non_zero is_finite_non_zero is_pos_zero is_neg_zero is_pos_infinity is_neg_infinity is_smallest
+            is_integer ilogb to_bits }
+            assert_eq!([(-x).to_bits(), x.abs().to_bits()], [(-inner).to_bits(), inner.abs().to_bits()], "{x:?}");
+            for mode in MODES {
+                for exponent in [-2200, -1075, -17, 0, 1, 61, 2200] {
+                    let scaled = x.scalbn_r(exponent, mode).to_bits();
+                    assert_eq!(scaled, inner.scalbn_r(exponent, mode).to_bits(), "{x:?} {exponent} {mode:?}");
+                }
+                let mut exponents = [0, 0];
+                let [exponent, wanted] = &mut exponents;
+                let fractions = [x.frexp_r(exponent, mode).to_bits(), inner.frexp_r(wanted, mode).to_bits()];
+                assert!(fractions[0] == fractions[1] && exponents[0] == exponents[1], "{x:?} {mode:?}");
+            }
+        }
+    }
+
+    #[test]
+    fn two_pairs_by_their_parts() {
+        for (x, inner) in pairs() {
+            for (y, other) in pairs() {
+                let values = [
+                    (x.copy_sign(y), inner.copy_sign(other)),
+                    (x.min(y), inner.min(other)),
+                    (x.max(y), inner.max(other)),
+                    (x.minimum(y), inner.minimum(other)),
+                    (x.maximum(y), inner.maximum(other)),
+                ];
+                assert!(values.iter().all(|(given, wanted)| given.to_bits() == wanted.to_bits()), "{x:?} {y:?}");
+                assert_eq!(x.bitwise_eq(y), inner.bitwise_eq(other), "{x:?} {y:?}");
+                assert_eq!((x == y, x.partial_cmp(&y)), (inner == other, inner.partial_cmp(&other)), "{x:?} {y:?}");
+                let all_are = |values: [Double; 2]| values.iter().all(|value| value.is_finite_non_zero());
+                let ((high, low), (other_high, other_low)) = (x.parts(), y.parts());
+                let tie = || high.cmp_abs_normal(other_high).is_eq();
+                if all_are([high, other_high]) && (!tie() || all_are([low, other_low])) {
+                    assert_eq!(x.cmp_abs_normal(y), inner.cmp_abs_normal(other), "{x:?} {y:?}");
+                }
+            }
         }
     }
 }

@@ -9,7 +9,7 @@ use core::str::FromStr;
 
 /// A floating-point type. The operators round to nearest, ties to even; those that assign drop the status.
 ///
-/// The methods with bodies are composed of the others; the types of this crate have their own.
+/// The methods with bodies are composed of the others; the types of this crate have their own where that is faster.
 pub trait Float:
     Copy
     + Default
@@ -87,10 +87,12 @@ pub trait Float:
         (-self).next_up().map(|above| -above)
     }
     /// The value without its sign.
+    #[inline]
     fn abs(self) -> Self {
         if self.is_negative() { -self } else { self }
     }
     /// The value with the sign of `rhs`.
+    #[inline]
     fn copy_sign(self, rhs: Self) -> Self {
         if self.is_negative() == rhs.is_negative() { self } else { -self }
     }
@@ -180,20 +182,24 @@ pub trait Float:
     /// Whether both are the same value: a NaN is the same as itself, and -0 is not the same as +0.
     fn bitwise_eq(self, rhs: Self) -> bool;
     /// The lesser value (IEEE 754-2008, minNum): of a number and a NaN the number.
+    #[inline]
     fn min(self, other: Self) -> Self {
         if self.is_nan() || other < self { other } else { self }
     }
     /// The greater value (IEEE 754-2008, maxNum): of a number and a NaN the number.
+    #[inline]
     fn max(self, other: Self) -> Self {
         if self.is_nan() || self < other { other } else { self }
     }
     /// The lesser value (IEEE 754-2019, minimum): a NaN if one operand is, and -0 is below +0.
+    #[inline]
     fn minimum(self, other: Self) -> Self {
         let are_zeros_apart = self.is_zero() && other.is_zero() && self.is_negative() != other.is_negative();
         let is_other = if are_zeros_apart { other.is_negative() } else { other.is_nan() || other < self };
         if is_other && !self.is_nan() { other } else { self }
     }
     /// The greater value (IEEE 754-2019, maximum): a NaN if one operand is, and -0 is below +0.
+    #[inline]
     fn maximum(self, other: Self) -> Self {
         let are_zeros_apart = self.is_zero() && other.is_zero() && self.is_negative() != other.is_negative();
         let is_other = if are_zeros_apart { self.is_negative() } else { other.is_nan() || self < other };
@@ -203,24 +209,29 @@ pub trait Float:
     /// Whether the sign is minus, for zeros and NaNs too.
     fn is_negative(self) -> bool;
     /// Whether the value is a nonzero number that is not denormal.
+    #[inline]
     fn is_normal(self) -> bool {
         self.is_finite_non_zero() && !self.is_denormal()
     }
     /// Whether the value is a number.
+    #[inline]
     fn is_finite(self) -> bool {
         !self.is_nan() && !self.is_infinite()
     }
     /// Whether the value is +0 or -0.
+    #[inline]
     fn is_zero(self) -> bool {
         self.category() == Category::Zero
     }
     /// Whether the value is denormal.
     fn is_denormal(self) -> bool;
     /// Whether the value is an infinity.
+    #[inline]
     fn is_infinite(self) -> bool {
         self.category() == Category::Infinity
     }
     /// Whether the value is a NaN.
+    #[inline]
     fn is_nan(self) -> bool {
         self.category() == Category::NaN
     }
@@ -229,38 +240,47 @@ pub trait Float:
     /// The category of the value.
     fn category(self) -> Category;
     /// Whether the value is neither +0 nor -0.
+    #[inline]
     fn is_non_zero(self) -> bool {
         !self.is_zero()
     }
     /// Whether the value is a nonzero number.
+    #[inline]
     fn is_finite_non_zero(self) -> bool {
         self.is_finite() && !self.is_zero()
     }
     /// Whether the value is +0.
+    #[inline]
     fn is_pos_zero(self) -> bool {
         self.is_zero() && !self.is_negative()
     }
     /// Whether the value is -0.
+    #[inline]
     fn is_neg_zero(self) -> bool {
         self.is_zero() && self.is_negative()
     }
     /// Whether the value is positive infinity.
+    #[inline]
     fn is_pos_infinity(self) -> bool {
         self.is_infinite() && !self.is_negative()
     }
     /// Whether the value is negative infinity.
+    #[inline]
     fn is_neg_infinity(self) -> bool {
         self.is_infinite() && self.is_negative()
     }
     /// Whether the value has the smallest nonzero magnitude.
+    #[inline]
     fn is_smallest(self) -> bool {
         Self::SMALLEST.copy_sign(self).bitwise_eq(self)
     }
     /// Whether the value has the smallest magnitude that is not denormal.
+    #[inline]
     fn is_smallest_normalized(self) -> bool {
         Self::smallest_normalized().copy_sign(self).bitwise_eq(self)
     }
     /// Whether the value has the greatest finite magnitude.
+    #[inline]
     fn is_largest(self) -> bool {
         Self::largest().copy_sign(self).bitwise_eq(self)
     }
@@ -275,12 +295,14 @@ pub trait Float:
     /// The value times 2 to the power of `exp`.
     fn scalbn_r(self, exp: ExpInt, round: Round) -> Self;
     /// `scalbn_r`, to nearest, ties to even.
+    #[inline]
     fn scalbn(self, exp: ExpInt) -> Self {
         self.scalbn_r(exp, Round::NearestTiesToEven)
     }
     /// The fraction of the value, from 0.5 to below 1 in magnitude, and its exponent in `exp`.
     fn frexp_r(self, exp: &mut ExpInt, round: Round) -> Self;
     /// `frexp_r`, to nearest, ties to even.
+    #[inline]
     fn frexp(self, exp: &mut ExpInt) -> Self {
         self.frexp_r(exp, Round::NearestTiesToEven)
     }
@@ -308,11 +330,8 @@ macro_rules! by_the_library {
             remainders: ieee_rem c_fmod;
             roundings: round_to_integral;
             steps: next_up next_down;
-            values: abs;
-            choices: copy_sign min max minimum maximum;
             questions: is_negative is_normal is_finite is_zero is_denormal is_infinite is_nan is_signaling is_non_zero
-                is_finite_non_zero is_pos_zero is_neg_zero is_pos_infinity is_neg_infinity is_smallest
-                is_smallest_normalized is_largest is_integer;
+                is_finite_non_zero is_pos_zero is_neg_zero is_pos_infinity is_neg_infinity is_integer;
             others: ;
         }
     };
@@ -351,18 +370,6 @@ macro_rules! by_the_library {
         #[inline]
         fn $name(self) -> StatusAnd<Self> {
             Self::answered(self.inner().$name())
-        }
-    )*};
-    (@values $($name:ident)*) => {$(
-        #[inline]
-        fn $name(self) -> Self {
-            Self::of(self.inner().$name())
-        }
-    )*};
-    (@choices $($name:ident)*) => {$(
-        #[inline]
-        fn $name(self, other: Self) -> Self {
-            Self::of(self.inner().$name(other.inner()))
         }
     )*};
     (@questions $($name:ident)*) => {$(

@@ -326,6 +326,24 @@ impl<S: Semantics> IeeeFloat<S> {
         Self::from_unpacked(inner.unpacked())
     }
 
+    /// The value with that sign; where there is no -0, a zero and the NaN have none. The library makes the value anew,
+    /// by its category, which takes longer.
+    #[inline]
+    fn with_sign(self, negative: bool) -> Self {
+        let Unpacked { significand, exponent, category, .. } = self.value;
+        let has_sign = match S::NONFINITE_BEHAVIOR {
+            NonfiniteBehavior::IEEE754 | NonfiniteBehavior::NanOnly => true,
+            NonfiniteBehavior::NanNegativeZero => category == Category::Normal,
+        };
+        Self::from_unpacked(Unpacked { significand, exponent, category, negative: negative && has_sign })
+    }
+
+    /// Whether both are numbers other than zero.
+    #[inline]
+    fn are_normal(self, other: Self) -> bool {
+        self.value.category == Category::Normal && other.value.category == Category::Normal
+    }
+
     #[inline]
     fn answered(answer: apfloat_base::StatusAnd<Inner<S>>) -> StatusAnd<Self> {
         answered(answer).map(Self::of)
@@ -440,6 +458,9 @@ operators!(IeeeFloat);
 impl<S: Semantics> PartialEq for IeeeFloat<S> {
     #[inline]
     fn eq(&self, other: &Self) -> bool {
+        if self.are_normal(*other) {
+            return self.bitwise_eq(*other);
+        }
         self.inner() == other.inner()
     }
 }
@@ -447,7 +468,7 @@ impl<S: Semantics> PartialEq for IeeeFloat<S> {
 impl<S: Semantics> PartialOrd for IeeeFloat<S> {
     #[inline]
     fn partial_cmp(&self, other: &Self) -> Option<Ordering> {
-        if self.value.category != Category::Normal || other.value.category != Category::Normal {
+        if !self.are_normal(*other) {
             return self.inner().partial_cmp(&other.inner());
         }
         // Two numbers: the library's order of magnitudes, where the signs do not decide. This is faster than its order
@@ -465,7 +486,7 @@ impl<S: Semantics> Neg for IeeeFloat<S> {
 
     #[inline]
     fn neg(self) -> Self {
-        Self::of(-self.inner())
+        self.with_sign(!self.value.negative)
     }
 }
 
@@ -518,6 +539,33 @@ impl<S: Semantics> Float for IeeeFloat<S> {
     by_the_library! {}
 
     #[inline]
+    fn abs(self) -> Self {
+        self.with_sign(false)
+    }
+
+    #[inline]
+    fn copy_sign(self, rhs: Self) -> Self {
+        self.with_sign(rhs.value.negative)
+    }
+
+    // The exponent tells most values from these.
+
+    #[inline]
+    fn is_smallest(self) -> bool {
+        self.value.exponent == Self::SMALLEST.value.exponent && self.inner().is_smallest()
+    }
+
+    #[inline]
+    fn is_smallest_normalized(self) -> bool {
+        self.value.exponent == S::MIN_EXP && self.inner().is_smallest_normalized()
+    }
+
+    #[inline]
+    fn is_largest(self) -> bool {
+        self.value.exponent == S::MAX_EXP && self.inner().is_largest()
+    }
+
+    #[inline]
     fn mul_r(self, rhs: Self, round: Round) -> StatusAnd<Self> {
         Self::answered(self.inner().wide_mul_r(rhs.inner(), round))
     }
@@ -561,5 +609,40 @@ impl<S: Semantics, T: Semantics> FloatConvert<IeeeFloat<T>> for IeeeFloat<S> {
     #[inline]
     fn convert_r(self, round: Round, loses_info: &mut bool) -> StatusAnd<IeeeFloat<T>> {
         IeeeFloat::answered(self.inner().convert_r(round, loses_info))
+    }
+}
+
+#[cfg(test)]
+mod tests {
+    use super::*;
+
+    fn each_code_of<S: Semantics>() {
+        let value = |bits| (IeeeFloat::<S>::from_bits(bits), Inner::<S>::from_bits(bits));
+        for i in 0..1 << S::BITS {
+            let (x, inner) = value(i);
+            let values = [(-x, -inner), (x.abs(), inner.abs())];
+            assert!(values.iter().all(|(given, wanted)| given.to_bits() == wanted.to_bits()), "{x:?}");
+            let truths = [x.is_smallest(), x.is_smallest_normalized(), x.is_largest()];
+            assert_eq!(truths, [inner.is_smallest(), inner.is_smallest_normalized(), inner.is_largest()], "{x:?}");
+            for j in 0..1 << S::BITS {
+                let (y, other) = value(j);
+                let values = [
+                    (x.copy_sign(y), inner.copy_sign(other)),
+                    (x.min(y), inner.min(other)),
+                    (x.max(y), inner.max(other)),
+                    (x.minimum(y), inner.minimum(other)),
+                    (x.maximum(y), inner.maximum(other)),
+                ];
+                assert!(values.iter().all(|(given, wanted)| given.to_bits() == wanted.to_bits()), "{x:?} {y:?}");
+                assert_eq!((x == y, x.partial_cmp(&y)), (inner == other, inner.partial_cmp(&other)), "{x:?} {y:?}");
+            }
+        }
+    }
+
+    #[test]
+    fn what_is_done_without_the_library_is_what_it_does() {
+        each_code_of::<Float8E5M2S>();
+        each_code_of::<Float8E4M3FNS>();
+        each_code_of::<Float8E4M3FNUZS>();
     }
 }

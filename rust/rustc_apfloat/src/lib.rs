@@ -44,6 +44,7 @@ pub mod format_of;
 pub mod hex_digits;
 pub mod machines;
 pub mod odd;
+pub mod storage_formats;
 
 pub use erased::apfloat_decimals::{Decimal, DecimalError};
 pub use erased::apfloat_model::{Category, ExpInt, IEK_INF, IEK_NAN, IEK_ZERO, ParseError, Round};

@@ -14,10 +14,11 @@ use core::ops::Neg;
 
 /// A number as the exact sum of two values.
 ///
-/// Pairs of doubles are the library's. Pairs of another type are composed of that type's calls, in the same way, and of
-/// calls of their wide format, [`FallbackS`], whose flags are those of the built-in formats. Where the wide format is
-/// outside the law of formats, as it is for `Half`, `X87DoubleExtended` and `Quad`, only what does without it compiles:
-/// sums, products, signs, classes, orders, exponents and scaling.
+/// Signs, classes, orders, exponents and scaling are by the parts, and all other calls of pairs of doubles are the
+/// library's. Pairs of another type are composed of that type's calls, in the same way, and of calls of their wide
+/// format, [`FallbackS`], whose flags are those of the built-in formats. Where the wide format is outside the law of
+/// formats, as it is for `Half`, `X87DoubleExtended` and `Quad`, only what does without it compiles: sums, products,
+/// signs, classes, orders, exponents and scaling.
 ///
 /// ```
 /// use rustc_apfloat::{Float, ieee::Single, ppc::DoubleFloat};
@@ -162,6 +163,7 @@ impl<F: FloatConvert<Fallback<F>>> fmt::Display for DoubleFloat<F> {
 }
 
 /// What the composed pair gives, as `AsDouble` has these of the library's.
+#[inline]
 fn pair<F: Float>(value: Composed<F>) -> DoubleFloat<F> {
     value.pair()
 }
@@ -174,6 +176,7 @@ fn option<F: Float>(value: Option<Composed<F>>) -> Option<DoubleFloat<F>> {
     value.map(Composed::pair)
 }
 
+#[inline]
 fn plain<T>(value: T) -> T {
     value
 }
@@ -190,6 +193,19 @@ macro_rules! by_doubles_or_composed {
             }
         }
     )*};
+}
+
+/// Methods that look at the parts, whatever these are: for doubles, what the library does, whose pairs are encoded and
+/// decoded to get there.
+macro_rules! by_parts {
+    ($($shape:ident $returned:ty: $($name:ident($($pair:ident $(: $of:ty)?),*; $($other:ident: $type:ty),*))*;)*) => {
+        $($(
+            #[inline]
+            fn $name($($pair $(: $of)?,)* $($other: $type),*) -> $returned {
+                $shape(Composed::<F>::$name($(Composed::new($pair),)* $($other),*))
+            }
+        )*)*
+    };
 }
 
 impl<F: FloatConvert<Fallback<F>>> Float for DoubleFloat<F>
@@ -219,38 +235,19 @@ where
         StatusAnd<Self>: answer round_to_integral(self; round: Round);
         StatusAnd<Self>: answer next_up(self;);
         StatusAnd<Self>: answer next_down(self;);
-        Self: pair abs(self;);
-        Self: pair copy_sign(self, rhs: Self;);
         StatusAnd<Self>: answer from_i128_r(; input: i128, round: Round);
         StatusAnd<Self>: answer from_u128_r(; input: u128, round: Round);
-        Self: pair min(self, other: Self;);
-        Self: pair max(self, other: Self;);
-        Self: pair minimum(self, other: Self;);
-        Self: pair maximum(self, other: Self;);
-        bool: plain bitwise_eq(self, rhs: Self;);
-        bool: plain is_negative(self;);
-        bool: plain is_normal(self;);
-        bool: plain is_finite(self;);
-        bool: plain is_zero(self;);
-        bool: plain is_denormal(self;);
-        bool: plain is_infinite(self;);
-        bool: plain is_nan(self;);
-        bool: plain is_signaling(self;);
-        Category: plain category(self;);
-        bool: plain is_non_zero(self;);
-        bool: plain is_finite_non_zero(self;);
-        bool: plain is_pos_zero(self;);
-        bool: plain is_neg_zero(self;);
-        bool: plain is_pos_infinity(self;);
-        bool: plain is_neg_infinity(self;);
-        bool: plain is_smallest(self;);
         bool: plain is_smallest_normalized(self;);
         bool: plain is_largest(self;);
-        bool: plain is_integer(self;);
         Option<Self>: option get_exact_inverse(self;);
-        ExpInt: plain ilogb(self;);
-        Self: pair scalbn_r(self; exp: ExpInt, round: Round);
-        Self: pair frexp_r(self; exp: &mut ExpInt, round: Round);
+    }
+
+    by_parts! {
+        pair Self: scalbn_r(self; exp: ExpInt, round: Round) frexp_r(self; exp: &mut ExpInt, round: Round);
+        plain bool: bitwise_eq(self, rhs: Self;) is_negative(self;) is_denormal(self;) is_signaling(self;)
+            is_smallest(self;) is_integer(self;);
+        plain Category: category(self;);
+        plain ExpInt: ilogb(self;);
     }
 
     /// The fused sum of the values of the wide format, split.
@@ -306,9 +303,6 @@ where
             assert!(self.1.is_finite_non_zero());
             assert!(rhs.1.is_finite_non_zero());
         }
-        match F::AS_DOUBLE {
-            Some(double) => double.inner(self).cmp_abs_normal(double.inner(rhs)),
-            None => Composed::new(self).cmp_abs_normal(Composed::new(rhs)),
-        }
+        Composed::new(self).cmp_abs_normal(Composed::new(rhs))
     }
 }

@@ -1,10 +1,11 @@
-//! The modules beyond the interface of the crate `rustc_apfloat`: rows of results in another format, of augmented sums
-//! and of rounding to odd, which exact fractions gave, and comparisons, extrema, logarithms and integers against the
-//! arithmetic of `f64`, into which codes of eight bits are decoded exactly.
+//! The modules beyond the interface of the crate `rustc_apfloat`: rows of results in another format, of augmented sums,
+//! of rounding to odd and of storage formats, which exact fractions gave, and comparisons, extrema, logarithms and
+//! integers against the arithmetic of `f64`, into which codes of eight bits are decoded exactly.
 
 use rustc_apfloat::augmented;
 use rustc_apfloat::comparisons::{self, Class, Extremum, OnNan, Predicate};
 use rustc_apfloat::ieee::*;
+use rustc_apfloat::storage_formats::{E2M1FN, E2M3FN, E3M2FN, E8M0FNU, StorageFormat, StoredFloat, UE4M3};
 use rustc_apfloat::{Float, IEK_INF, IEK_NAN, IEK_ZERO, Round, Status, StatusAnd, format_of, odd};
 use std::cmp::Ordering;
 
@@ -415,6 +416,133 @@ fn operations_on_flags() {
     assert_eq!(comparisons::save_all_flags(a), a);
     assert!(comparisons::test_saved_flags(a, b));
     assert_eq!(comparisons::restore_flags(c, a, b | c), Status::INEXACT);
+}
+
+/// What is stored, by its codes.
+trait Stored {
+    /// How many codes there are.
+    const CODES: u128;
+
+    fn store<S: Semantics>(x: IeeeFloat<S>, round: Round) -> (StatusAnd<u128>, bool);
+
+    fn load<T: Semantics>(code: u128, round: Round) -> (StatusAnd<u128>, bool);
+}
+
+macro_rules! stored {
+    ($($type:ident $(<$format:ident>)?: $codes:expr;)*) => {$(
+        impl $(<$format: StorageFormat>)? Stored for $type $(<$format>)? {
+            const CODES: u128 = $codes;
+
+            fn store<S: Semantics>(x: IeeeFloat<S>, round: Round) -> (StatusAnd<u128>, bool) {
+                let mut loses_info = false;
+                (Self::from_value(x, round, &mut loses_info).map(|value| value.to_bits().into()), loses_info)
+            }
+
+            fn load<T: Semantics>(code: u128, round: Round) -> (StatusAnd<u128>, bool) {
+                let mut loses_info = false;
+                let answer = Self::from_bits(code as u8).convert_r::<T>(round, &mut loses_info);
+                (answer.map(|value| value.to_bits()), loses_info)
+            }
+        }
+    )*};
+}
+
+stored! {
+    StoredFloat<F>: 1 << F::BITS;
+    E8M0FNU: 256;
+    UE4M3: 128;
+}
+
+/// A checksum of results in each mode.
+fn checksums(count: u128, step: usize, result: impl Fn(u128, Round) -> (StatusAnd<u128>, bool)) -> [u64; 5] {
+    MODES.map(|mode| {
+        (0..count).step_by(step).fold(0, |checksum: u64, bits| {
+            let (answer, loses_info) = result(bits, mode);
+            let flags = 2 * u64::from(answer.status.bits()) + u64::from(loses_info);
+            checksum.wrapping_mul(1_000_003).wrapping_add(64 * answer.value as u64).wrapping_add(flags)
+        })
+    })
+}
+
+fn into_checksums<S: Semantics, X: Stored>(step: usize) -> [u64; 5] {
+    checksums(1 << S::BITS, step, |bits, mode| X::store(IeeeFloat::<S>::from_bits(bits), mode))
+}
+
+fn out_of_checksums<X: Stored, T: Semantics>() -> [u64; 5] {
+    checksums(X::CODES, 1, X::load::<T>)
+}
+
+/// Rows of singles that are stored: the bits, the codes and the flags in each mode, and whether information is lost.
+/// Tables of checksums of what is stored and of what is loaded have a line for each format and a column for each mode.
+fn check_stored<X: Stored>(name: &str, table: &str) -> usize {
+    if name.contains("_") {
+        let given = if name.starts_with("INTO") {
+            let of_eight_bits = [into_checksums::<Float8E4M3FNS, X>(1), into_checksums::<Float8E5M2S, X>(1)];
+            [&of_eight_bits[..], &[into_checksums::<HalfS, X>(7)]].concat()
+        } else {
+            let wide = [out_of_checksums::<X, HalfS>(), out_of_checksums::<X, SingleS>()];
+            let of_eight_bits = [out_of_checksums::<X, Float8E4M3FNS>(), out_of_checksums::<X, Float8E5M2S>()];
+            [wide, of_eight_bits].concat()
+        };
+        let wanted = rows_of(table, "],[").map(|words| [0, 1, 2, 3, 4].map(|i| number(words[i]) as u64));
+        assert_eq!(given, wanted.collect::<Vec<_>>(), "{name}");
+        return given.len();
+    }
+    rows_of(table, "),(")
+        .map(|words| {
+            let x = Single::from_bits(number(words[0]));
+            for (i, mode) in MODES.into_iter().enumerate() {
+                let (answer, loses_info) = X::store(x, mode);
+                let given = (answer.value, u128::from(answer.status.bits()), loses_info);
+                let wanted = (number(words[1 + i]), number(words[6 + i]), words[11] == "true");
+                assert_eq!(given, wanted, "{name} {mode:?} {words:?}");
+            }
+        })
+        .count()
+}
+
+#[test]
+fn storage_formats() {
+    let tables = tables("storage_formats/src/rows.rt");
+    let count = tables.iter().map(|(name, table)| match name.rsplit('_').next() {
+        Some("E2M1FN") => check_stored::<StoredFloat<E2M1FN>>(name, table),
+        Some("E2M3FN") => check_stored::<StoredFloat<E2M3FN>>(name, table),
+        Some("E3M2FN") => check_stored::<StoredFloat<E3M2FN>>(name, table),
+        Some("E8M0FNU") => check_stored::<E8M0FNU>(name, table),
+        Some("UE4M3") => check_stored::<UE4M3>(name, table),
+        _ => panic!("no table {name} is known here"),
+    });
+    assert_eq!(count.sum::<usize>(), 1196 + 5 * (3 + 4));
+}
+
+/// Both zeros are equal; all other codes are in the order of their numbers.
+#[test]
+fn order_of_stored_values() {
+    let ascending = [0x2f, 0x21, 0x20, 0x00, 0x01, 0x1f].map(StoredFloat::<E3M2FN>::from_bits);
+    for (i, x) in ascending.into_iter().enumerate() {
+        assert_eq!(x.is_negative(), i < 3);
+        for (j, y) in ascending.into_iter().enumerate() {
+            let is_zero = |i| i == 2 || i == 3;
+            let order = if is_zero(i) && is_zero(j) { Ordering::Equal } else { i.cmp(&j) };
+            assert_eq!(x.compare(y), order, "{x:?} {y:?}");
+        }
+    }
+    assert!(E8M0FNU::from_bits(255).is_nan() && !E8M0FNU::from_bits(254).is_nan());
+    assert!(UE4M3::from_bits(127).is_nan() && UE4M3::from_bits(255).is_nan() && !UE4M3::from_bits(126).is_nan());
+    assert_eq!(format!("{:?} {:?}", ascending[0], E8M0FNU::from_bits(127)), "StoredFloat(0x2f) E8M0FNU(0x7f)");
+}
+
+/// The example of the page on storage formats is one of the module's documentation, which is compiled.
+#[test]
+fn example_of_storage_formats() {
+    let here = env!("CARGO_MANIFEST_DIR");
+    let page = std::fs::read_to_string(format!("{here}/../../docs/STORAGE_FORMATS.md")).unwrap();
+    let module = std::fs::read_to_string(format!("{here}/src/storage_formats.rs")).unwrap();
+    let compiled: String =
+        module.lines().map(|line| line.trim_start_matches("//!").trim_start().to_owned() + "\n").collect();
+    let example = page.split("```rust\n").nth(1).unwrap().split("```").next().unwrap();
+    let example: String = example.lines().map(|line| line.trim_start().to_owned() + "\n").collect();
+    assert!(compiled.contains(&example), "{example}");
 }
 
 #[test]
