@@ -13,7 +13,8 @@ usage: explain [--machine NAME] FORMAT OP MODE A [B [C]]
 Shows how an operation in the format FORMAT gets its result, or what the value
 A is.
 
-FORMAT   half single double quad bfloat e5m2 e4m3fn e4m3fnuz x87
+FORMAT   half single double quad bfloat e5m2 e4m3fn e4m3fnuz x87 e4m3
+         e5m2fnuz e4m3b11fnuz tf32
 OP       add sub mul div rem mod   of A and B
          fma                       A times B plus C
          sqrt                      of A

@@ -9,6 +9,10 @@ use std::io::{ErrorKind, Write};
 
 const PROGRAM: &str = "explain";
 
+/// The formats, for messages.
+const FORMAT_WORDS: &str =
+    "half single double quad bfloat e5m2 e4m3fn e4m3fnuz x87 e4m3 e5m2fnuz e4m3b11fnuz tf32";
+
 const FAILED: u8 = 1;
 
 const OTHER_WORDS: u8 = 2;
@@ -67,10 +71,7 @@ fn refuse<V: Write>(fault: Fault, err: &mut V) -> io::Result<u8> {
             wrong.write(PROGRAM, err)?;
         }
         Fault::Format(word) => {
-            write!(
-                err,
-                "explain: no format '{word}' (half single double quad bfloat e5m2 e4m3fn e4m3fnuz x87)"
-            )?;
+            write!(err, "explain: no format '{word}' ({FORMAT_WORDS})")?;
             suggest(word, FORMATS, err)?;
         }
         Fault::Operation(word) => {
