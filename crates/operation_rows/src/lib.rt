@@ -8,13 +8,17 @@ mod digits;
 mod flags;
 mod in_another;
 mod in_one;
+mod odd;
 
 use crate::digits::digits_in;
 use crate::flags::flags_of;
-use crate::in_another::in_another;
+use crate::in_another::{Rounding, in_another, in_fewer_digits};
 use crate::in_one::in_format;
+use crate::odd::in_odd;
 use rustc_apfloat::Round;
-use vector_lines::{Answered, CallFault, Formats, Operands, OperationCall, Quanta, Request};
+use vector_lines::{
+    Answered, CallFault, Formats, Operands, OperationCall, Quanta, Request, RowFormat,
+};
 
 /// The operation of a row, in one mode.
 #[derive(Clone, Copy)]
@@ -38,12 +42,19 @@ pub fn answer_of_operation(formats: Formats, call: OperationCall, request: Reque
         stated: request.stated,
     };
     match (formats, call) {
+        (_, OperationCall::Odd(call)) => in_odd(formats, call, asked),
         (Formats::One(format), OperationCall::WriteDigits | OperationCall::DigitCount) => {
             digits_in(format, asked)
         }
         (Formats::One(format), _) => in_format(format, asked),
         (Formats::Between(source, target), OperationCall::InAnother(call)) => {
-            in_another(source, target, call, asked)
+            if matches!(source, RowFormat::Other(_)) {
+                return Err(CallFault::Support);
+            }
+            in_another(source, target, call, Rounding::In(asked.round), asked)
+        }
+        (Formats::ToFewerDigits(target), OperationCall::InAnother(call)) => {
+            in_fewer_digits(target, call, Rounding::In(asked.round), asked)
         }
         (Formats::OfFlags, OperationCall::OfFlags(call)) => flags_of(call, asked.operands),
         _ => Err(CallFault::Support),

@@ -1,6 +1,7 @@
 //! The formats that the row of a call names.
 
 use crate::call::Call;
+use crate::fewer_digits::FewerDigits;
 use crate::row_format::RowFormat;
 
 /// The formats of a row.
@@ -16,6 +17,8 @@ pub enum Formats {
     ToPairs,
     /// From one format to another.
     Between(RowFormat, RowFormat),
+    /// From `x87` to one of its formats of fewer digits.
+    ToFewerDigits(FewerDigits),
     /// None, for operations on flags.
     OfFlags,
 }
@@ -45,6 +48,12 @@ impl Formats {
             },
             Some(("dd", "fallback")) => Some(Formats::FromPairs),
             Some(("fallback", "dd")) => Some(Formats::ToPairs),
+            Some(("x87", target)) if target.starts_with("x87p") => {
+                match FewerDigits::named(target) {
+                    Some(target) => Some(Formats::ToFewerDigits(target)),
+                    None => None,
+                }
+            }
             Some((source, target)) => Formats::between(source, target),
         }
     }
@@ -54,6 +63,7 @@ impl Formats {
         match self {
             Formats::Pairs | Formats::FromPairs => Some(128),
             Formats::One(format) | Formats::Between(format, _) => format.width(),
+            Formats::ToFewerDigits(_) => Some(80),
             Formats::ToPairs | Formats::OfFlags => None,
         }
     }

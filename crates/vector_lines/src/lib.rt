@@ -9,6 +9,7 @@ mod answer;
 mod call;
 mod call_fault;
 mod columns;
+mod fewer_digits;
 mod form;
 mod formats;
 mod fpgen;
@@ -30,12 +31,13 @@ pub use call::{
 };
 pub use call_fault::CallFault;
 pub use columns::{Columns, LineCall};
+pub use fewer_digits::FewerDigits;
 pub use form::Form;
 pub use formats::Formats;
 pub use fpgen::{Fpgen, FpgenTest};
 pub use operands::{Operand, Operands, any_value, two_values, value_of};
 pub use operations::{
-    FlagsCall, FormatOfCall, GeneralCall, OperationCall, OrderCall, ToIntegerCall,
+    FlagsCall, FormatOfCall, GeneralCall, OddCall, OperationCall, OrderCall, ToIntegerCall,
 };
 pub use quanta::Quanta;
 pub use request::{Answered, Calls, Request};

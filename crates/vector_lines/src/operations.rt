@@ -11,6 +11,8 @@ use apfloat_comparisons::{Extremum, OnNan, Predicate};
 pub enum OperationCall {
     /// The result in another format (5.4.1, formatOf).
     InAnother(FormatOfCall),
+    /// The result rounded to odd.
+    Odd(OddCall),
     /// A comparison predicate (5.6.1, 5.11).
     Comparison(Predicate, OnNan),
     /// A call on two values without a status.
@@ -40,6 +42,21 @@ pub enum FormatOfCall {
     Div,
     Sqrt,
     MulAdd,
+}
+
+/// An operation whose result is rounded to odd.
+#[derive(Clone, Copy)]
+pub enum OddCall {
+    /// Arithmetic in a format, or with the result in another.
+    Arithmetic(FormatOfCall),
+    /// A value of another format.
+    Convert,
+    /// The value as an integral value.
+    RoundToIntegral,
+    FromU128,
+    FromI128,
+    ToU128,
+    ToI128,
 }
 
 /// A call on two values in the total order (5.10).
@@ -90,6 +107,39 @@ static OPERATIONS: &[(&str, OperationCall)] = &[
     ("div_to", OperationCall::InAnother(FormatOfCall::Div)),
     ("sqrt_to", OperationCall::InAnother(FormatOfCall::Sqrt)),
     ("mul_add_to", OperationCall::InAnother(FormatOfCall::MulAdd)),
+    (
+        "add_odd",
+        OperationCall::Odd(OddCall::Arithmetic(FormatOfCall::Add)),
+    ),
+    (
+        "sub_odd",
+        OperationCall::Odd(OddCall::Arithmetic(FormatOfCall::Sub)),
+    ),
+    (
+        "mul_odd",
+        OperationCall::Odd(OddCall::Arithmetic(FormatOfCall::Mul)),
+    ),
+    (
+        "div_odd",
+        OperationCall::Odd(OddCall::Arithmetic(FormatOfCall::Div)),
+    ),
+    (
+        "sqrt_odd",
+        OperationCall::Odd(OddCall::Arithmetic(FormatOfCall::Sqrt)),
+    ),
+    (
+        "mul_add_odd",
+        OperationCall::Odd(OddCall::Arithmetic(FormatOfCall::MulAdd)),
+    ),
+    ("convert_odd", OperationCall::Odd(OddCall::Convert)),
+    (
+        "round_to_odd_integral",
+        OperationCall::Odd(OddCall::RoundToIntegral),
+    ),
+    ("from_u128_odd", OperationCall::Odd(OddCall::FromU128)),
+    ("from_i128_odd", OperationCall::Odd(OddCall::FromI128)),
+    ("to_u128_odd", OperationCall::Odd(OddCall::ToU128)),
+    ("to_i128_odd", OperationCall::Odd(OddCall::ToI128)),
     (
         "compare_quiet_equal",
         OperationCall::Comparison(Predicate::Equal, OnNan::Quiet),
@@ -275,6 +325,7 @@ impl OperationCall {
     pub fn form(self) -> Form {
         match self {
             OperationCall::InAnother(call) => call.form(),
+            OperationCall::Odd(call) => call.form(),
             OperationCall::Comparison(_, _)
             | OperationCall::Order(_)
             | OperationCall::Extremum(_, _) => Form::TwoValues,
@@ -313,6 +364,19 @@ impl FormatOfCall {
             FormatOfCall::Sqrt => Form::OneValue,
             FormatOfCall::MulAdd => Form::ThreeValues,
             _ => Form::TwoValues,
+        }
+    }
+}
+
+impl OddCall {
+    /// The form of its operands.
+    fn form(self) -> Form {
+        match self {
+            OddCall::Arithmetic(call) => call.form(),
+            OddCall::Convert | OddCall::RoundToIntegral => Form::OneValue,
+            OddCall::FromU128 => Form::Unsigned,
+            OddCall::FromI128 => Form::Signed,
+            OddCall::ToU128 | OddCall::ToI128 => Form::ValueAndWidth,
         }
     }
 }
