@@ -73,7 +73,7 @@ pub(crate) fn in_fewer_digits(
 }
 
 /// An operation with its operands.
-#[derive(Clone, Copy)]
+#[derive(Drop)]
 enum Operation {
     Add(AnyFloat, AnyFloat),
     Sub(AnyFloat, AnyFloat),
@@ -125,7 +125,7 @@ impl CallInFormat for InTarget {
     type Output = Answered;
 
     fn made_in<T: Flagged>(self) -> Answered {
-        match rounded::<T>(self.operation, self.rounding) {
+        match rounded::<T>(&self.operation, self.rounding) {
             Some(answer) => Ok(RowAnswer::of(Returned::Rounded(answer), self.stated)),
             None => Err(CallFault::Support),
         }
@@ -144,9 +144,9 @@ impl CallInFormat for InFewerDigits {
 
     /// The result as a value of `x87`. A NaN is that of the operation in `x87`, with all its digits.
     fn made_in<T: Flagged>(self) -> Answered {
-        match rounded::<T>(self.operation, self.rounding) {
+        match rounded::<T>(&self.operation, self.rounding) {
             Some(answer) if answer.value.is_nan() => {
-                let whole = delivered::<X87DoubleExtendedS>(self.operation, Round::TowardZero);
+                let whole = delivered::<X87DoubleExtendedS>(&self.operation, Round::TowardZero);
                 Ok(RowAnswer::of(Returned::Rounded(answer.status.and(whole.value)), None))
             }
             Some(answer) => {
@@ -164,7 +164,10 @@ impl CallInFormat for InFewerDigits {
 /// The result of an operation in the format `T`, if the format has a rounding of this kind: rounding to odd needs the
 /// sign of a result that is truncated to zero, so the format has to have -0.
 #[inline(never)]
-fn rounded<T: Flagged>(operation: Operation, rounding: Rounding) -> Option<StatusAnd<IeeeFloat<T>>> {
+fn rounded<T: Flagged>(
+    operation: &Operation,
+    rounding: Rounding,
+) -> Option<StatusAnd<IeeeFloat<T>>> {
     match rounding {
         Rounding::In(round) => Some(delivered::<T>(operation, round)),
         Rounding::ToOdd if !(-IeeeFloat::<T>::zero()).is_negative() => None,
@@ -177,14 +180,14 @@ fn rounded<T: Flagged>(operation: Operation, rounding: Rounding) -> Option<Statu
 
 /// The result of an operation in the format `T`.
 #[inline(never)]
-fn delivered<T: Flagged>(operation: Operation, round: Round) -> StatusAnd<IeeeFloat<T>> {
+fn delivered<T: Flagged>(operation: &Operation, round: Round) -> StatusAnd<IeeeFloat<T>> {
     match operation {
-        Operation::Add(x, y) => x.add_to::<T>(y, round),
-        Operation::Sub(x, y) => x.sub_to::<T>(y, round),
-        Operation::Mul(x, y) => x.mul_to::<T>(y, round),
-        Operation::Div(x, y) => x.div_to::<T>(y, round),
+        Operation::Add(x, y) => x.add_to::<T>(*y, round),
+        Operation::Sub(x, y) => x.sub_to::<T>(*y, round),
+        Operation::Mul(x, y) => x.mul_to::<T>(*y, round),
+        Operation::Div(x, y) => x.div_to::<T>(*y, round),
         Operation::Sqrt(x) => x.sqrt_to::<T>(round),
-        Operation::MulAdd(x, y, z) => x.mul_add_to::<T>(y, z, round),
+        Operation::MulAdd(x, y, z) => x.mul_add_to::<T>(*y, *z, round),
         Operation::Convert(x) => {
             let mut loses_info = false;
             x.convert_to::<T>(round, &mut loses_info)
