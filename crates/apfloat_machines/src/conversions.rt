@@ -44,9 +44,9 @@ pub fn settled_conversion<S: Flagged, T: Flagged>(
     }
 }
 
-/// Whether the value is a NaN that is not kept.
+/// Whether the value is a NaN that a conversion does not keep: its result is the default NaN of the other format.
 #[inline]
-fn is_lost_nan<S: Flagged>(machine: Machine, x: IeeeFloat<S>) -> bool
+pub fn is_lost_nan<S: Flagged>(machine: Machine, x: IeeeFloat<S>) -> bool
     ensures { result ≡ is_lost_nan (format_of S.Flagged) machine x }
 {
     x.is_nan() && takes_none(machine.nan_choice(), x, x)

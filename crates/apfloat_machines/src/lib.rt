@@ -17,7 +17,7 @@ mod tests;
 mod theorems;
 mod whole_numbers;
 
-pub use conversions::settled_conversion;
+pub use conversions::{is_lost_nan, settled_conversion};
 pub use flushing::{Flush, flushed, has_denormal, without_denormal};
 pub use fused::settled_fused;
 pub use machine::{FusedOrder, Machine, NanChoice, WholeOfNan};

@@ -4,12 +4,17 @@
 //! Only the safety of these functions is proved.
 #![tactic(auto)]
 
+mod compared_between;
 mod digits;
 mod flags;
 mod in_another;
 mod in_one;
 mod odd;
+mod on_machine;
 
+pub use on_machine::answer_on_machine;
+
+use crate::compared_between::compared_between;
 use crate::digits::digits_in;
 use crate::flags::flags_of;
 use crate::in_another::{Rounding, in_another, in_fewer_digits};
@@ -55,6 +60,9 @@ pub fn answer_of_operation(formats: Formats, call: OperationCall, request: Reque
         }
         (Formats::ToFewerDigits(target), OperationCall::InAnother(call)) => {
             in_fewer_digits(target, call, Rounding::In(asked.round), asked)
+        }
+        (Formats::Between(source, target), OperationCall::Comparison(predicate, on_nan)) => {
+            compared_between(source, target, predicate, on_nan, asked)
         }
         (Formats::OfFlags, OperationCall::OfFlags(call)) => flags_of(call, asked.operands),
         _ => Err(CallFault::Support),

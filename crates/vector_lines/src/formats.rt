@@ -2,6 +2,7 @@
 
 use crate::call::Call;
 use crate::fewer_digits::FewerDigits;
+use crate::machine_format::MachineFormat;
 use crate::row_format::RowFormat;
 
 /// The formats of a row.
@@ -19,6 +20,10 @@ pub enum Formats {
     Between(RowFormat, RowFormat),
     /// From `x87` to one of its formats of fewer digits.
     ToFewerDigits(FewerDigits),
+    /// One format on a machine.
+    OnMachine(MachineFormat),
+    /// From one format to another on a machine.
+    BetweenOnMachine(RowFormat, MachineFormat),
     /// None, for operations on flags.
     OfFlags,
 }
@@ -40,6 +45,9 @@ impl Formats {
 
     /// The formats of this word.
     pub fn named(word: &str) -> Option<Formats> {
+        if let Some((formats, machine)) = word.split_once('@') {
+            return Formats::on_machine(formats, machine);
+        }
         match word.split_once('>') {
             None if word == "dd" => Some(Formats::Pairs),
             None => match RowFormat::named(word) {
@@ -62,9 +70,28 @@ impl Formats {
     pub fn width(self) -> Option<usize> {
         match self {
             Formats::Pairs | Formats::FromPairs => Some(128),
-            Formats::One(format) | Formats::Between(format, _) => format.width(),
+            Formats::One(format)
+            | Formats::Between(format, _)
+            | Formats::BetweenOnMachine(format, _) => format.width(),
+            Formats::OnMachine(target) => target.format.width(),
             Formats::ToFewerDigits(_) => Some(80),
             Formats::ToPairs | Formats::OfFlags => None,
+        }
+    }
+
+    /// One format, or from one to another, on the machine of this word.
+    fn on_machine(formats: &str, machine: &str) -> Option<Formats> {
+        let Some((source, target)) = formats.split_once('>') else {
+            return match MachineFormat::named(formats, machine) {
+                Some(target) => Some(Formats::OnMachine(target)),
+                None => None,
+            };
+        };
+        match (RowFormat::named(source), MachineFormat::named(target, machine)) {
+            (Some(RowFormat::BuiltIn(format, rule)), Some(target)) => {
+                Some(Formats::BetweenOnMachine(RowFormat::BuiltIn(format, rule), target))
+            }
+            _ => None,
         }
     }
 

@@ -13,6 +13,7 @@ mod fewer_digits;
 mod form;
 mod formats;
 mod fpgen;
+mod machine_format;
 mod operands;
 mod operations;
 mod quanta;
@@ -35,6 +36,7 @@ pub use fewer_digits::FewerDigits;
 pub use form::Form;
 pub use formats::Formats;
 pub use fpgen::{Fpgen, FpgenTest};
+pub use machine_format::MachineFormat;
 pub use operands::{Operand, Operands, any_value, two_values, value_of};
 pub use operations::{
     FlagsCall, FormatOfCall, GeneralCall, OddCall, OperationCall, OrderCall, ToIntegerCall,

@@ -5,6 +5,7 @@
 use crate::form::Form;
 use crate::table::found;
 use apfloat_comparisons::{Extremum, OnNan, Predicate};
+use apfloat_machines::MinimumRule;
 
 /// An operation of IEEE 754-2019.
 #[derive(Clone, Copy)]
@@ -31,6 +32,8 @@ pub enum OperationCall {
     DigitCount,
     /// An operation on flags (5.7.4).
     OfFlags(FlagsCall),
+    /// On a machine, a minimum, if true, or a maximum by a rule.
+    OnMachine(MinimumRule, bool),
 }
 
 /// An operation whose result is of another format.
@@ -228,6 +231,10 @@ static OPERATIONS: &[(&str, OperationCall)] = &[
         "compare_signaling_greater_unordered",
         OperationCall::Comparison(Predicate::GreaterUnordered, OnNan::Signaling),
     ),
+    (
+        "compare_signaling_unordered",
+        OperationCall::Comparison(Predicate::Unordered, OnNan::Signaling),
+    ),
     ("total_order", OperationCall::Order(OrderCall::TotalOrder)),
     (
         "total_order_mag",
@@ -313,6 +320,54 @@ static OPERATIONS: &[(&str, OperationCall)] = &[
         OperationCall::OfFlags(FlagsCall::TestSaved),
     ),
     ("restore_flags", OperationCall::OfFlags(FlagsCall::Restore)),
+    (
+        "least_second",
+        OperationCall::OnMachine(MinimumRule::Second, true),
+    ),
+    (
+        "least_second_quietly",
+        OperationCall::OnMachine(MinimumRule::SecondQuietly, true),
+    ),
+    (
+        "least_first_nan",
+        OperationCall::OnMachine(MinimumRule::FirstNan, true),
+    ),
+    (
+        "least_number_2008",
+        OperationCall::OnMachine(MinimumRule::Number2008, true),
+    ),
+    (
+        "least_number_2019",
+        OperationCall::OnMachine(MinimumRule::Number2019, true),
+    ),
+    (
+        "least_propagated",
+        OperationCall::OnMachine(MinimumRule::Propagated, true),
+    ),
+    (
+        "greatest_second",
+        OperationCall::OnMachine(MinimumRule::Second, false),
+    ),
+    (
+        "greatest_second_quietly",
+        OperationCall::OnMachine(MinimumRule::SecondQuietly, false),
+    ),
+    (
+        "greatest_first_nan",
+        OperationCall::OnMachine(MinimumRule::FirstNan, false),
+    ),
+    (
+        "greatest_number_2008",
+        OperationCall::OnMachine(MinimumRule::Number2008, false),
+    ),
+    (
+        "greatest_number_2019",
+        OperationCall::OnMachine(MinimumRule::Number2019, false),
+    ),
+    (
+        "greatest_propagated",
+        OperationCall::OnMachine(MinimumRule::Propagated, false),
+    ),
 ];
 
 impl OperationCall {
@@ -328,7 +383,8 @@ impl OperationCall {
             OperationCall::Odd(call) => call.form(),
             OperationCall::Comparison(_, _)
             | OperationCall::Order(_)
-            | OperationCall::Extremum(_, _) => Form::TwoValues,
+            | OperationCall::Extremum(_, _)
+            | OperationCall::OnMachine(_, _) => Form::TwoValues,
             OperationCall::OfOne(_) | OperationCall::DigitCount => Form::OneValue,
             OperationCall::ScaleB => Form::ValueAndExponent,
             OperationCall::ToInteger(_) => Form::ValueAndWidth,
