@@ -15,6 +15,7 @@ from random import Random
 from exact.bits import decoded, encoded
 from exact.data import Finite, number
 from exact.formats import FORMATS
+from exact.odd import delivered_to_odd
 from exact.rounding import Mode, delivered
 
 PAIRS = (
@@ -46,15 +47,7 @@ def rounded(form, mode, exact):
 def to_odd(form, exact):
     """A fraction rounded to odd, with the flags of rounding toward zero."""
     quanta = abs(exact) * (1 << form.scale)
-    step = 1
-    while quanta / step >= 1 << form.precision:
-        step *= 2
-    digits, rest = divmod(quanta, step)
-    if rest and digits % 2 == 0:
-        digits += 1
-    point = min(digits * step, form.largest)
-    _, status = rounded(form, Mode.ZERO, exact)
-    return number(form, exact < 0, int(point)), status
+    return delivered_to_odd(form, exact < 0, quanta.numerator, quanta.denominator)
 
 
 def exact_result(operation, x, y):
