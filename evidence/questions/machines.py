@@ -1,4 +1,4 @@
-"""What machines give: NaNs, integers, minima and maxima, and results flushed to zero; and comparisons of two formats."""
+"""What machines give, and comparisons of two formats."""
 
 from exact import operations, words
 from exact.conversions import convert

@@ -38,7 +38,8 @@ def fewer_digits(choices):
     if choices.random() < 0.3:
         call, mode = choices.choice(list(ARITHMETIC)), "-"
     else:
-        call, mode = choices.choice(["add_to", "sub_to", "mul_to", "div_to", "sqrt_to", "mul_add_to"]), source.mode().value
+        call = choices.choice(["add_to", "sub_to", "mul_to", "div_to", "sqrt_to", "mul_add_to"])
+        mode = source.mode().value
     drawn = " ".join(words.word_of(VALUES["x87"], source.any()) for _ in range(_COUNTS.get(call, 2)))
     return row(call, f"x87>{target}", mode, drawn)
 

@@ -1,5 +1,7 @@
-//! Comparisons of values of two formats. `compare_between` is code of its own for each pair of formats, so rows can name
-//! a few pairs, in which each kind of format is on either side.
+//! Comparisons of values of two formats.
+//!
+//! `compare_between` is code of its own for each pair of formats, so rows can name a few pairs alone: of narrow and wide
+//! formats, with more exponents or more digits on either side, and of those without infinities.
 
 use crate::OperationRequest;
 use apfloat_comparisons::{OnNan, Predicate, compare_between};

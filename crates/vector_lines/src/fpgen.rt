@@ -2,8 +2,8 @@
 //!
 //! The first word is a format and an operation, or two formats and a conversion. It is followed by the rounding mode,
 //! the exceptions that trap, the operands, an arrow, the result, and a letter for each flag. Flags are those that
-//! processors raise. Comparisons and copies round nothing, and may have no mode; the result of a comparison is `<`, `>`,
-//! `=`, or `?` if the operands are unordered.
+//! processors raise. Comparisons and copies round nothing, and may have no mode. The result of a comparison is `<`,
+//! `>`, `=`, or `?` if the operands are unordered.
 
 use crate::columns::{Columns, LineCall, is_nan};
 use crate::row_error::RowError;
