@@ -1,5 +1,5 @@
 -- What a machine makes of a flushed answer is what its definition says of the operation with flushing.
-use Rattle.std.proofs.Common.{◌≡◌, ℕ, Bool, true, false, not, ◌||◌}
+use Rattle.std.proofs.Common.{◌≡◌, ℕ, true, not, ◌||◌}
 use Rattle.std.specs.Bool.{MatchBool}
 use Rattle.apfloat_model.specs.declared.kinds.Round.{Round}
 use Rattle.apfloat_model.specs.declared.kinds.NonfiniteBehavior.TheVariants.{IEEE754}
@@ -87,6 +87,13 @@ conversion_flushed_and_settled f g machine flush mode x value status h =
     (IsFlushedConversion f g flush mode x)
     (λ e. flushed_conversion_status f g flush mode x value status
     (left (is_nan x) (takes_none (nan_choice machine) f x x) e) h) h
+
+pub conversion_is_flushed_and_settled : (f g : Format) (machine : Machine) (flush : Flush) (mode : Round) (x : Datum)
+    (answer result : StatusAnd Datum) → result.value ≡ settled_conversion f g machine x answer.value
+    → result.status ≡ answer.status → Gives (IsFlushedConversion f g flush mode x) answer
+    → Gives (IsFlushedMachineConversion f g machine flush mode x) result
+conversion_is_flushed_and_settled f g machine flush mode x answer result v s h =
+    rw (v, s) (conversion_flushed_and_settled f g machine flush mode x answer.value (bits_of answer.status) h)
 
 -- ---- one answer
 
