@@ -20,7 +20,7 @@ use vector_lines::{
 /// What a call returns on a machine.
 pub fn answer_on_machine(formats: Formats, request: Request) -> Answered {
     match formats {
-        Formats::OnMachine(target) => target.format.run(OnMachine { target, request }),
+        Formats::OnMachine(target) => target.run(OnMachine { target, request }),
         Formats::BetweenOnMachine(source, target) => converted(source, target, request),
         _ => Err(CallFault::Support),
     }
@@ -269,7 +269,7 @@ fn converted(source: RowFormat, target: MachineFormat, request: Request) -> Answ
         machine: target.machine,
     });
     match read {
-        Some(source) => target.format.run(Conversion {
+        Some(source) => target.run(Conversion {
             source,
             target,
             round: request.round,

@@ -73,7 +73,7 @@ impl Formats {
             Formats::One(format)
             | Formats::Between(format, _)
             | Formats::BetweenOnMachine(format, _) => format.width(),
-            Formats::OnMachine(target) => target.format.width(),
+            Formats::OnMachine(target) => Some(target.width()),
             Formats::ToFewerDigits(_) => Some(80),
             Formats::ToPairs | Formats::OfFlags => None,
         }

@@ -1,15 +1,18 @@
 //! Formats as a machine computes in them, as rows name them: `single@x86`, or `single@x86+ftz` where tiny results are
 //! flushed to zero.
 
-use crate::row_format::RowFormat;
+use crate::row_format::CallInFormat;
 use crate::table::found;
 use apfloat_machines::{Flush, Machine};
+use formats_at_run_time::{BuiltInKind, IeeeFormat};
+use rustc_apfloat::ieee::{
+    BFloatS, DoubleS, Float8E5M2S, HalfS, IeeeFlags, QuadS, SingleS, TinyBefore, X87DoubleExtendedS,
+};
 
-/// A format with the machine that computes in it.
+/// A format of IEEE 754's kind, with the machine that computes in it.
 #[derive(Clone, Copy)]
 pub struct MachineFormat {
-    /// The format, which detects tininess as the machine does.
-    pub format: RowFormat,
+    format: IeeeFormat,
     /// The machine.
     pub machine: Machine,
     /// Which flags a result raises that is flushed to zero, if tiny results are.
@@ -35,7 +38,10 @@ impl MachineFormat {
         let Some(machine) = found(MACHINES, name) else {
             return None;
         };
-        let Some(format) = RowFormat::with_ieee_flags(format, machine.tiny_before_rounding()) else {
+        let Some(kind) = BuiltInKind::named(format) else {
+            return None;
+        };
+        let Some(format) = IeeeFormat::of(kind) else {
             return None;
         };
         match (option, machine.flush()) {
@@ -50,6 +56,54 @@ impl MachineFormat {
                 flush: Some(flush),
             }),
             _ => None,
+        }
+    }
+
+    /// The width of the format in bits.
+    pub fn width(self) -> usize {
+        match self.format {
+            IeeeFormat::Half | IeeeFormat::BFloat => 16,
+            IeeeFormat::Single => 32,
+            IeeeFormat::Double => 64,
+            IeeeFormat::Quad => 128,
+            IeeeFormat::E5M2 => 8,
+            IeeeFormat::X87 => 80,
+        }
+    }
+
+    /// Makes a call in the format, which detects tininess as the machine does. There is a copy of the call for these
+    /// formats alone, and not for all that rows name.
+    pub fn run<C: CallInFormat + Drop>(self, call: C) -> C::Output {
+        if self.machine.tiny_before_rounding() {
+            self.run_before_rounding(call)
+        } else {
+            self.run_after_rounding(call)
+        }
+    }
+
+    /// The same with tininess detected after rounding.
+    fn run_after_rounding<C: CallInFormat + Drop>(self, call: C) -> C::Output {
+        match self.format {
+            IeeeFormat::Half => call.made_in::<IeeeFlags<HalfS>>(),
+            IeeeFormat::Single => call.made_in::<IeeeFlags<SingleS>>(),
+            IeeeFormat::Double => call.made_in::<IeeeFlags<DoubleS>>(),
+            IeeeFormat::Quad => call.made_in::<IeeeFlags<QuadS>>(),
+            IeeeFormat::BFloat => call.made_in::<IeeeFlags<BFloatS>>(),
+            IeeeFormat::E5M2 => call.made_in::<IeeeFlags<Float8E5M2S>>(),
+            IeeeFormat::X87 => call.made_in::<IeeeFlags<X87DoubleExtendedS>>(),
+        }
+    }
+
+    /// The same with tininess detected before rounding.
+    fn run_before_rounding<C: CallInFormat + Drop>(self, call: C) -> C::Output {
+        match self.format {
+            IeeeFormat::Half => call.made_in::<IeeeFlags<TinyBefore<HalfS>>>(),
+            IeeeFormat::Single => call.made_in::<IeeeFlags<TinyBefore<SingleS>>>(),
+            IeeeFormat::Double => call.made_in::<IeeeFlags<TinyBefore<DoubleS>>>(),
+            IeeeFormat::Quad => call.made_in::<IeeeFlags<TinyBefore<QuadS>>>(),
+            IeeeFormat::BFloat => call.made_in::<IeeeFlags<TinyBefore<BFloatS>>>(),
+            IeeeFormat::E5M2 => call.made_in::<IeeeFlags<TinyBefore<Float8E5M2S>>>(),
+            IeeeFormat::X87 => call.made_in::<IeeeFlags<TinyBefore<X87DoubleExtendedS>>>(),
         }
     }
 }

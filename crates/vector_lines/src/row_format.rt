@@ -92,22 +92,6 @@ impl RowFormat {
         }
     }
 
-    /// The built-in format of this name with the flags of IEEE 754, and tininess before rounding or after it.
-    pub fn with_ieee_flags(name: &str, tiny_before_rounding: bool) -> Option<RowFormat> {
-        let Some(kind) = BuiltInKind::named(name) else {
-            return None;
-        };
-        match (kind.format(), IeeeFormat::of(kind)) {
-            (Some(format), Some(ieee)) if tiny_before_rounding => {
-                Some(RowFormat::BuiltIn(format, FlaggedFormat::BeforeRounding(ieee)))
-            }
-            (Some(format), Some(ieee)) => {
-                Some(RowFormat::BuiltIn(format, FlaggedFormat::AfterRounding(ieee)))
-            }
-            _ => None,
-        }
-    }
-
     /// Whether the format has the rule of flags of the built-in formats.
     pub fn is_plain(self) -> bool {
         match self {
