@@ -175,8 +175,8 @@ fn number_to_unsigned(shape: Shape, x: Unpacked, width: u32, round: Round) -> Un
     magnitude_within(shape, x, limit_of(width, x.negative), round)
 }
 
-/// A nonzero number as a signed integer of `width` binary digits. Both signs take the same way, since a processor cannot
-/// foresee them.
+/// A nonzero number as a signed integer of `width` binary digits. Both signs take the same path, since a processor
+/// cannot predict the sign.
 #[inline(always)]
 fn number_to_signed(shape: Shape, x: Unpacked, width: u32, round: Round) -> Signed
     requires normal { IsNormal shape x }
