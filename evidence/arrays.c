@@ -1,5 +1,5 @@
 /* Compares arrays, of which long ones are converted by tables, with calls on single values, which have none: all
- * 2^32 singles to e5m2, e4m3fn and e4m3fnuz, and all values of these formats to every format; values and counts.
+ * 2^32 singles to each format of 8 bits, and all values of these formats to every format; values and counts.
  *
  *     cc -O2 -Iinclude evidence/arrays.c libapfloat_c.a -o arrays
  *     arrays [MODE [SATURATING [RULE]]]      0 to 4; 0 or 1; 0, 1 or 3, as in the code of a format
@@ -17,9 +17,11 @@ typedef struct { const char *name; uint32_t code; size_t bytes; int ieee; } form
 static const format formats[] = {
     {"half", APFLOAT_HALF, 2, 1},       {"single", APFLOAT_SINGLE, 4, 1}, {"double", APFLOAT_DOUBLE, 8, 1},
     {"quad", APFLOAT_QUAD, 16, 1},      {"bfloat", APFLOAT_BFLOAT, 2, 1}, {"x87", APFLOAT_X87, 10, 1},
-    {"e5m2", APFLOAT_E5M2, 1, 1},       {"e4m3fn", APFLOAT_E4M3FN, 1, 0}, {"e4m3fnuz", APFLOAT_E4M3FNUZ, 1, 0},
+    {"tf32", APFLOAT_TF32, 4, 0},       {"e5m2", APFLOAT_E5M2, 1, 1},     {"e4m3fn", APFLOAT_E4M3FN, 1, 0},
+    {"e4m3", APFLOAT_E4M3, 1, 0},       {"e4m3fnuz", APFLOAT_E4M3FNUZ, 1, 0},
+    {"e5m2fnuz", APFLOAT_E5M2FNUZ, 1, 0}, {"e4m3b11fnuz", APFLOAT_E4M3B11FNUZ, 1, 0},
 };
-enum { FORMATS = sizeof formats / sizeof *formats, BYTES = 6 };
+enum { FORMATS = sizeof formats / sizeof *formats, BYTES = 7 };
 
 static uint8_t input[4 * MOST], output[16 * MOST];
 static uint64_t wrong;

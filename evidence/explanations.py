@@ -13,10 +13,10 @@ from math import isqrt
 
 from exact import arithmetic, bits, decimals, remainders, roots, status, texts
 from exact.data import Finite, Infinite, NaN, is_signaling, qnan, quieted
-from exact.formats import PROGRAM_FORMATS, with_ieee_flags
+from exact.formats import LATER_FORMATS, PROGRAM_FORMATS, with_ieee_flags
 from exact.rounding import Mode
 
-FORMATS = {format.name: format for format in PROGRAM_FORMATS}
+FORMATS = {format.name: format for format in (*PROGRAM_FORMATS, *LATER_FORMATS)}
 OPERATIONS = {
     "add": ("sum A + B", arithmetic.add),
     "sub": ("difference A - B", arithmetic.subtract),
@@ -218,7 +218,7 @@ def shown(format, label, x):
 
 def headed(format, label, x):
     """The bits and the shortest decimal, in two lines if there are 128 bits."""
-    head = f"{label:<8}{bits.encoded(format, x):0{format.bits // 4}x}"
+    head = f"{label:<7} {bits.encoded(format, x):0{format.hexadecimal_digits}x}"
     if format.bits > 80:
         return [head, f"        {short(format, x)}"]
     return [f"{head} = {short(format, x)}"]

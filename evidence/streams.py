@@ -3,18 +3,18 @@
 
     python3 evidence/streams.py [--saturate] FROM TO MODE < FILE > OTHER
 
-A value is its bits, the lowest byte first; those of x87 take 10 bytes. An unfinished value at the
-end is ignored.
+A value is its bits, the lowest byte first; those of x87 take 10 bytes, and those of tf32 4. An
+unfinished value at the end is ignored.
 """
 
 import sys
 
 from exact.bits import decoded, encoded
 from exact.conversions import convert, convert_saturating
-from exact.formats import PROGRAM_FORMATS
+from exact.formats import LATER_FORMATS, PROGRAM_FORMATS
 from exact.rounding import Mode
 
-_FORMATS = {known.name: known for known in PROGRAM_FORMATS}
+_FORMATS = {known.name: known for known in (*PROGRAM_FORMATS, *LATER_FORMATS)}
 
 
 def main():
@@ -25,11 +25,17 @@ def main():
     mode = Mode(mode)
     conversion = convert_saturating if saturates else convert
     values = sys.stdin.buffer.read()
-    size = source.bits // 8
+    size = bytes_of(source)
     for place in range(0, len(values) - size + 1, size):
-        x = decoded(source, int.from_bytes(values[place:place + size], "little"))
+        x = decoded(source, int.from_bytes(values[place:place + size], "little") % (1 << source.bits))
         y = conversion(source, target, x, mode)[0]
-        sys.stdout.buffer.write(encoded(target, y).to_bytes(target.bits // 8, "little"))
+        sys.stdout.buffer.write(encoded(target, y).to_bytes(bytes_of(target), "little"))
+
+
+def bytes_of(form):
+    """How many bytes a value takes. Three are four."""
+    size = -(-form.bits // 8)
+    return 4 if size == 3 else size
 
 
 if __name__ == "__main__":

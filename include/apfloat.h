@@ -72,6 +72,10 @@ typedef struct apfloat_answer {
 #define APFLOAT_E4M3FNUZ UINT32_C(8)   /* 8 bits without infinities and without -0 */
 #define APFLOAT_X87 UINT32_C(9)        /* the 80 bits of the x87 */
 #define APFLOAT_DOUBLE_PAIR UINT32_C(10) /* pairs of doubles, IBM's extended double */
+#define APFLOAT_E4M3 UINT32_C(16)        /* 8 bits, 4 of them the exponent, with infinities */
+#define APFLOAT_E5M2FNUZ UINT32_C(17)    /* 8 bits, 5 of them the exponent, without infinities and without -0 */
+#define APFLOAT_E4M3B11FNUZ UINT32_C(18) /* 8 bits, 4 of them the exponent, of bias 11, without infinities and -0 */
+#define APFLOAT_TF32 UINT32_C(19)        /* 19 bits: the exponents of binary32 and the digits of binary16 */
 
 /* Joined to the code of a format by |, these choose by which rule its roundings raise APFLOAT_OVERFLOW and
  * APFLOAT_UNDERFLOW. No value depends on the rule. Without them, a result that a mode rounds to the largest value
@@ -79,9 +83,9 @@ typedef struct apfloat_answer {
  * once it is rounded to the format. With the first, APFLOAT_OVERFLOW is raised wherever the result, rounded with an
  * unbounded exponent, is past the largest value (IEEE 754-2019 7.4), and APFLOAT_UNDERFLOW if an inexact result is
  * below the smallest normal number when it is rounded with an unbounded exponent, as x86 and RISC-V have it, or, with
- * both, before it is rounded, as Arm and POWER have it (7.5). APFLOAT_E4M3FN, APFLOAT_E4M3FNUZ and APFLOAT_DOUBLE_PAIR
- * have no such choice. Joined to their codes, or the second without the first, these make an unknown format. In a
- * conversion, the rule of `to` counts. */
+ * both, before it is rounded, as Arm and POWER have it (7.5). APFLOAT_E4M3FN, APFLOAT_E4M3FNUZ, APFLOAT_DOUBLE_PAIR
+ * and the formats after it have no such choice. Joined to their codes, or the second without the first, these make an
+ * unknown format. In a conversion, the rule of `to` counts. */
 #define APFLOAT_IEEE_FLAGS UINT32_C(0x100)
 #define APFLOAT_TINY_BEFORE_ROUNDING UINT32_C(0x200)
 
@@ -347,15 +351,15 @@ uint32_t apfloat_to_format(uint32_t operation, uint32_t format, uint32_t mode, u
 
 /* What the machine delivers for an operation on x, y and z, in the machine's order. Operands that the operation does
  * not take are ignored, and so is `to` where no operation above mentions it. `bits` is the result, and `number` is 0.
- * Only formats with infinities have it. The flags are those of IEEE 754: with APFLOAT_IEEE_FLAGS tininess is detected
- * as the code says, and otherwise as the machine does it. In a conversion, the code `to` counts. Nothing is flushed to
- * zero.
+ * The formats are those that APFLOAT_IEEE_FLAGS can be joined to. The flags are those of IEEE 754: with it, tininess is
+ * detected as the code says, and otherwise as the machine does it. In a conversion, the code `to` counts. Nothing is
+ * flushed to zero.
  *
- * The errors, in this order: APFLOAT_UNKNOWN_FORMAT and APFLOAT_UNKNOWN_MODE; APFLOAT_NO_SUCH_OPERATION for a format
- * without infinities, for an unknown operation or rule, and for a conversion to a format without infinities, and
- * APFLOAT_UNKNOWN_FORMAT for one to an unknown format; APFLOAT_UNKNOWN_MACHINE; APFLOAT_WIDE_OPERAND if an operand has
- * bits at or above the width of its format, which other functions ignore; APFLOAT_WRONG_WIDTH; and
- * APFLOAT_LACKING_OPERATION for fused sums and unsigned integers of APFLOAT_MACHINE_X87. */
+ * The errors, in this order: APFLOAT_UNKNOWN_FORMAT and APFLOAT_UNKNOWN_MODE; APFLOAT_NO_SUCH_OPERATION for another
+ * format, for an unknown operation or rule, and for a conversion to another format, and APFLOAT_UNKNOWN_FORMAT for one
+ * to an unknown format; APFLOAT_UNKNOWN_MACHINE; APFLOAT_WIDE_OPERAND if an operand has bits at or above the width of
+ * its format, which other functions ignore; APFLOAT_WRONG_WIDTH; and APFLOAT_LACKING_OPERATION for fused sums and
+ * unsigned integers of APFLOAT_MACHINE_X87. */
 uint32_t apfloat_machine(uint32_t machine, uint32_t operation, uint32_t format, uint32_t mode, uint32_t to,
                          apfloat_halves x, apfloat_halves y, apfloat_halves z, apfloat_answer *answer);
 
@@ -363,8 +367,9 @@ uint32_t apfloat_machine(uint32_t machine, uint32_t operation, uint32_t format, 
  *
  * An array is the bytes of its values, one after another, each with its lowest byte first. A value takes the bytes of
  * its bits: 1 in the formats of 8 bits, 2 in APFLOAT_HALF and APFLOAT_BFLOAT, 4 in APFLOAT_SINGLE, 8 in APFLOAT_DOUBLE,
- * 10 in APFLOAT_X87, and 16 in APFLOAT_QUAD. A value of APFLOAT_DOUBLE_PAIR takes the 8 bytes of its high double and
- * then the 8 of its low one. Lengths are in bytes. The bytes of `results` after the last result are unchanged. */
+ * 10 in APFLOAT_X87, and 16 in APFLOAT_QUAD. One of APFLOAT_TF32 takes 4: its bits are the lowest 19, and those above
+ * are ignored, and 0 in a result. A value of APFLOAT_DOUBLE_PAIR takes the 8 bytes of its high double and then the 8 of
+ * its low one. Lengths are in bytes. The bytes of `results` after the last result are unchanged. */
 
 /* The result of a call on arrays: of how many values, how many raised each flag, and how many results are NaNs. */
 typedef struct apfloat_array_answer {

@@ -252,6 +252,7 @@ struct binary {
     static constexpr bool is_pair = false, reads_decimals = true, raises_ieee_flags = false;
     static constexpr bool tiny_before_rounding = false;
     static constexpr bool has_infinity = true, has_signaling_nan = true, has_ieee_flags = true;
+    static constexpr bool has_negative_zero = true;
 };
 
 } // namespace detail
@@ -324,7 +325,36 @@ struct e4m3fn : detail::binary<e4m3fn, APFLOAT_E4M3FN, std::uint8_t, 8, 4, -6, 8
 /// 8 bits without infinities and without -0.
 struct e4m3fnuz : detail::binary<e4m3fnuz, APFLOAT_E4M3FNUZ, std::uint8_t, 8, 4, -7, 7> {
     static constexpr bool has_infinity = false, has_signaling_nan = false, has_ieee_flags = false;
+    static constexpr bool has_negative_zero = false;
     static constexpr detail::constants<bits_type> constants = {1, 0x08, 0x7f, 0, 0x80, 0, 0x28, 0x38};
+};
+
+/// 8 bits with 4 of the exponent, and infinities.
+struct e4m3 : detail::binary<e4m3, APFLOAT_E4M3, std::uint8_t, 8, 4, -6, 7> {
+    static constexpr bool has_ieee_flags = false;
+    static constexpr detail::constants<bits_type> constants = {1, 0x08, 0x77, 0x78, 0x7c, 0x7a, 0x20, 0x30};
+};
+
+/// 8 bits with 5 of the exponent, without infinities and without -0.
+struct e5m2fnuz : detail::binary<e5m2fnuz, APFLOAT_E5M2FNUZ, std::uint8_t, 8, 3, -15, 15> {
+    static constexpr bool has_infinity = false, has_signaling_nan = false, has_ieee_flags = false;
+    static constexpr bool has_negative_zero = false;
+    static constexpr detail::constants<bits_type> constants = {1, 0x04, 0x7f, 0, 0x80, 0, 0x38, 0x3c};
+};
+
+/// 8 bits with 4 of the exponent, of bias 11, without infinities and without -0.
+struct e4m3b11fnuz : detail::binary<e4m3b11fnuz, APFLOAT_E4M3B11FNUZ, std::uint8_t, 8, 4, -10, 4> {
+    static constexpr bool has_infinity = false, has_signaling_nan = false, has_ieee_flags = false;
+    static constexpr bool has_negative_zero = false;
+    static constexpr detail::constants<bits_type> constants = {1, 0x08, 0x7f, 0, 0x80, 0, 0x40, 0x50};
+};
+
+/// 19 bits: the exponents of binary32 and the digits of binary16. A value is stored in 32 bits, and its bits are the
+/// lowest of these.
+struct tf32 : detail::binary<tf32, APFLOAT_TF32, std::uint32_t, 19, 11, -126, 127> {
+    static constexpr bool has_ieee_flags = false;
+    static constexpr detail::constants<bits_type> constants = {1,       0x00400, 0x3fbff, 0x3fc00,
+                                                               0x3fe00, 0x3fd00, 0x1d400, 0x1f800};
 };
 
 /// Pairs of doubles, IBM's extended double. The library for C has no fused sum, no conversion to or from a format, and
@@ -434,8 +464,8 @@ constexpr apfloat_halves written(apfloat_halves bits) {
 template <class F>
 constexpr bool is_negative(apfloat_halves bits) {
     constexpr auto sign = sign_of<F>();
-    // e4m3fnuz has its NaN where others have -0, and it has no sign.
-    if constexpr (std::is_same_v<typename F::plain, e4m3fnuz>)
+    // A format without -0 has its NaN there, and it has no sign.
+    if constexpr (!F::has_negative_zero)
         if (bits.low == F::constants.quiet_nan) return false;
     return (bits.low & sign.low) != 0 || (bits.high & sign.high) != 0;
 }
@@ -444,7 +474,7 @@ template <class F>
 constexpr apfloat_halves negated(apfloat_halves bits) {
     constexpr auto sign = sign_of<F>();
     bits = written<F>(bits);
-    if constexpr (std::is_same_v<typename F::plain, e4m3fnuz>)
+    if constexpr (!F::has_negative_zero)
         if (bits.low == 0 || bits.low == F::constants.quiet_nan) return bits;
     // Only a low double that is a nonzero number has a sign that counts.
     if constexpr (F::is_pair)
@@ -507,9 +537,10 @@ public:
                                         int> = 0>
     constexpr explicit value(value<G> x) : bits_(x.bits()) {}
 
-    /// The value with these bits.
+    /// The value with these bits. Those of `tf32` are the lowest 19, and the others are ignored.
     static constexpr value from_bits(bits_type bits) {
         value made;
+        if constexpr (std::is_same_v<typename F::plain, tf32>) bits &= 0x7ffff;
         made.bits_ = bits;
         return made;
     }
@@ -536,8 +567,8 @@ public:
     /// Whether the sign is that of negative values, also of a zero or a NaN.
     constexpr bool sign_bit() const { return detail::is_negative<F>(halves()); }
 
-    /// The value with the opposite sign, also of a zero or a NaN (IEEE 754-2019 5.5.1). The zero and the NaN of
-    /// `e4m3fnuz` have no sign.
+    /// The value with the opposite sign, also of a zero or a NaN (IEEE 754-2019 5.5.1). The zero and the NaN of a
+    /// format without -0 have no sign.
     constexpr value operator-() const { return from_lowest(detail::negated<F>(halves())); }
     constexpr value operator+() const { return *this; }
 
@@ -1152,7 +1183,7 @@ I to_integer(const value<F> &x, gather &with) {
     return made.value;
 }
 
-// ---- machines, which have the formats with infinities (docs/MACHINES.md)
+// ---- machines, which have the formats with a choice of flags (docs/MACHINES.md)
 
 /// A machine.
 enum class machine : std::uint32_t {
@@ -1195,7 +1226,7 @@ namespace detail {
 template <class F>
 expected<apfloat_answer> delivered(machine on, std::uint32_t operation, rounding mode, std::uint32_t to,
                                    const value<F> &x, const value<F> &y, const value<F> &z) {
-    static_assert(F::has_infinity && !F::is_pair, "machines have the formats with infinities");
+    static_assert(F::has_ieee_flags, "machines have the formats with a choice of flags");
     apfloat_answer answer = {{0, 0}, 0, 0};
     const std::uint32_t code = apfloat_machine(static_cast<std::uint32_t>(on), operation, F::code, code_of(mode), to,
                                                x.halves(), y.halves(), z.halves(), &answer);
@@ -1223,7 +1254,7 @@ expected<result<value<F>>> on_machine(machine on, machine_operation operation, r
 /// The value in another format, as a machine converts it.
 template <class To, class F>
 expected<result<value<To>>> convert_on(machine on, const value<F> &x, rounding mode = rounding::nearest_even) {
-    static_assert(To::has_infinity && !To::is_pair, "machines have the formats with infinities");
+    static_assert(To::has_ieee_flags, "machines have the formats with a choice of flags");
     return detail::as_value<To>(detail::delivered(on, APFLOAT_CONVERT, mode, To::code, x, x, x));
 }
 
@@ -1539,7 +1570,10 @@ namespace detail {
 // Values as the bytes of an array, which are not null, not even if there are none.
 template <class F>
 const std::uint8_t *bytes_of(const value<F> *values) {
-    static_assert(8 * sizeof(value<F>) == F::width, "values of this format have padding; apfloat.h has calls on bytes");
+    // Three bytes are four in an array.
+    constexpr int bytes = (F::width + 7) / 8;
+    static_assert(sizeof(value<F>) == (bytes == 3 ? 4 : bytes),
+                  "values of this format have padding; apfloat.h has calls on bytes");
     static constexpr std::uint8_t none = 0;
     return values == nullptr ? &none : reinterpret_cast<const std::uint8_t *>(values);
 }
@@ -1701,6 +1735,22 @@ value<e4m3fn> operator""_e4m3fn() {
 template <char... Letters>
 value<e4m3fnuz> operator""_e4m3fnuz() {
     return detail::literal<e4m3fnuz, Letters...>();
+}
+template <char... Letters>
+value<e4m3> operator""_e4m3() {
+    return detail::literal<e4m3, Letters...>();
+}
+template <char... Letters>
+value<e5m2fnuz> operator""_e5m2fnuz() {
+    return detail::literal<e5m2fnuz, Letters...>();
+}
+template <char... Letters>
+value<e4m3b11fnuz> operator""_e4m3b11fnuz() {
+    return detail::literal<e4m3b11fnuz, Letters...>();
+}
+template <char... Letters>
+value<tf32> operator""_tf32() {
+    return detail::literal<tf32, Letters...>();
 }
 template <char... Letters>
 value<double_pair> operator""_double_pair() {

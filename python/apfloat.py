@@ -1,4 +1,4 @@
-"""Software floating point in any of ten formats, correctly rounded, with exact flags.
+"""Software floating point in any of fourteen formats, correctly rounded, with exact flags.
 
 The arithmetic is that of the shared library libapfloat.so, in the folder of this file, or of the file that the
 environment variable APFLOAT_LIBRARY names. `pip install ./python` builds and installs it with this module;
@@ -32,7 +32,8 @@ half('inf')
 <Flags.DIV_BY_ZERO: 2>
 
 A format raises the flags of IEEE 754-2019 in every mode if it is written half.ieee, with tininess detected before
-rounding if it is written half.ieee.before; e4m3fn, e4m3fnuz and double_pair have no such choice.
+rounding if it is written half.ieee.before; e4m3, tf32, double_pair and the formats without infinities have no such
+choice.
 
 An array has values of one format and any number of axes. It is made of nested lists or of a numpy array, whose numbers
 it rounds once each, and turned into a numpy array of the same numbers:
@@ -77,8 +78,9 @@ from typing import Any, Callable, Generic, Iterable, Iterator, Self, Sequence, T
 
 __all__ = [
     'Array', 'Context', 'DOWNWARD', 'Flags', 'Format', 'Machine', 'Mask', 'NEAREST_AWAY', 'NEAREST_EVEN', 'Refused',
-    'Rounding', 'TOWARD_ZERO', 'UPWARD', 'Value', 'bfloat', 'bfloat16', 'context', 'double', 'double_pair', 'e4m3fn',
-    'e4m3fnuz', 'e5m2', 'float8_e4m3fn', 'float8_e4m3fnuz', 'float8_e5m2', 'half', 'machine', 'quad', 'single', 'x87',
+    'Rounding', 'TOWARD_ZERO', 'UPWARD', 'Value', 'bfloat', 'bfloat16', 'context', 'double', 'double_pair', 'e4m3',
+    'e4m3b11fnuz', 'e4m3fn', 'e4m3fnuz', 'e5m2', 'e5m2fnuz', 'float8_e4m3', 'float8_e4m3b11fnuz', 'float8_e4m3fn',
+    'float8_e4m3fnuz', 'float8_e5m2', 'float8_e5m2fnuz', 'half', 'machine', 'quad', 'single', 'tf32', 'x87',
 ]
 
 
@@ -371,6 +373,7 @@ class Format:
         """
         if hasattr(bits, '__array_interface__'):
             if bits.dtype.kind == 'u' and bits.dtype.itemsize == self._bytes and bits.shape:
+                self._check_width(bits)
                 return Array(self, bits.astype(f'<u{self._bytes}').tobytes(), shape=bits.shape)
             bits = bits.tolist()
         shape, items = _nested(bits)
@@ -380,6 +383,11 @@ class Format:
         if not shape:
             return Value(self, items[0])
         return Array(self, self._joined(items), shape=shape)
+
+    def _check_width(self, bits: Any) -> None:
+        """Refuses a numpy array of integers if one of them has a bit above those of the format."""
+        if self.width < 8 * self._bytes and (bits >> self.width).any():
+            raise ValueError(f'{self.name} has {self.width} bits')
 
     @property
     def largest(self) -> Value:
@@ -415,7 +423,7 @@ class Format:
         """A NaN with a sign and a payload, of which the bits that the format has room for are taken.
 
         A signaling NaN whose payload would be 0 has the highest bit of a payload set. `e4m3fn` has only a quiet NaN of
-        each sign, and `e4m3fnuz` only one NaN.
+        each sign, and the formats without -0 only one NaN.
 
         >>> half.nan(), half.nan(0x12, negative=True), half.nan(signaling=True), half.nan(signaling=True).is_nan
         (half('nan'), half('-nan(0x12)'), half('snan(0x100)'), True)
@@ -481,7 +489,8 @@ class Format:
 
     @property
     def _bytes(self) -> int:
-        return -(-self.width // 8)
+        # Three bytes are four.
+        return 4 if self.width == 19 else -(-self.width // 8)
 
     def _joined(self, values: Iterable[int]) -> bytes:
         """The bytes of values, given by their bits."""
@@ -560,14 +569,15 @@ def _nested(of: Any) -> tuple[tuple[int, ...], list[Any]]:
 # ---- numpy
 
 # The numpy elements that values of a format are, by its code: numbers, or their bits.
-_ELEMENTS = {1: 'f2', 2: 'f4', 3: 'f8', 5: 'u2', 6: 'u1', 7: 'u1', 8: 'u1'}
+_ELEMENTS = {1: 'f2', 2: 'f4', 3: 'f8', 5: 'u2', 6: 'u1', 7: 'u1', 8: 'u1', 16: 'u1', 17: 'u1', 18: 'u1', 19: 'u4'}
 
 
 def _format_of(dtype: Any) -> Format | None:
     """The format of the numbers of a type of numpy or ml_dtypes, if there is one here."""
     return {
         'float16': half, 'float32': single, 'float64': double, 'bfloat16': bfloat, 'float8_e5m2': e5m2,
-        'float8_e4m3fn': e4m3fn, 'float8_e4m3fnuz': e4m3fnuz,
+        'float8_e4m3fn': e4m3fn, 'float8_e4m3fnuz': e4m3fnuz, 'float8_e4m3': e4m3,
+        'float8_e5m2fnuz': e5m2fnuz, 'float8_e4m3b11fnuz': e4m3b11fnuz,
     }.get(dtype.name)
 
 
@@ -582,6 +592,8 @@ def _of_numpy(of: Any, format: Format) -> Array:
     elements = _ELEMENTS.get((source or format).code & _FORMAT_BITS, '')
     if source is None and (elements[:1] != 'u' or of.dtype.newbyteorder('<').str[1:] != elements):
         raise TypeError(f'elements of {of.dtype} are no values of {format}')
+    if source is None:
+        format._check_width(of)
     is_number = elements[:1] == 'f' or source is None
     data = (of.astype('<' + elements, copy=False) if is_number else of).tobytes()
     return Array(format if source is None or source is format._plain else source, data, shape=of.shape)
@@ -996,7 +1008,7 @@ class Value(_Arithmetic[Number]):
         >>> -half(1), -half('nan'), -double_pair(1), -(double_pair(1) / 3)
         (half('-1.0'), half('-nan'), double_pair('-1.0'), double_pair('-0.3333333333333333 + -1.8503717077085944e-17'))
         """
-        if self.format is e4m3fnuz and (self.is_zero or self.is_nan):
+        if self.format in _WITHOUT_NEGATIVE_ZERO and (self.is_zero or self.is_nan):
             return self
         bits = self.bits ^ self.format._sign_bit
         if self.format is double_pair:
@@ -1185,8 +1197,8 @@ _CONVERT, _TO_U128, _TO_I128, _LEAST, _GREATEST = 11, 12, 13, 14, 15
 class Machine:
     """A processor, with what it delivers where IEEE 754 leaves a choice or is not followed (docs/MACHINES.md).
 
-    Operations round in the mode of the context, and add the flags of IEEE 754 to its flags. Only formats with
-    infinities have them; what the machine does not have is refused.
+    Operations round in the mode of the context, and add the flags of IEEE 754 to its flags. Only formats with a choice
+    of flags have them, as half does; what the machine does not have is refused.
 
     >>> x, y = half.from_bits(0x7e01), half.from_bits(0x7d02)
     >>> [hex(machine(name).delivers('add', x, y).bits) for name in ('x86', 'arm', 'risc-v')]
@@ -1654,7 +1666,7 @@ class Array(_Elements, _Arithmetic[Any]):
         return Array(format, format._joined(results), counts, rest.shape)
 
     def __neg__(self) -> Array:
-        if self.format in (e4m3fnuz, double_pair):
+        if self.format in (*_WITHOUT_NEGATIVE_ZERO, double_pair):
             return self._mapped(operator.neg)
         number = int.from_bytes(self._data, 'little') ^ self._repeated(self.format._sign_bit)
         return self._like(number.to_bytes(len(self._data), 'little'), self.shape)
@@ -1663,7 +1675,7 @@ class Array(_Elements, _Arithmetic[Any]):
         return self
 
     def __abs__(self) -> Array:
-        if self.format in (e4m3fnuz, double_pair):
+        if self.format in (*_WITHOUT_NEGATIVE_ZERO, double_pair):
             return self._mapped(abs)
         number = int.from_bytes(self._data, 'little') & self._repeated(self.format._sign_bit - 1)
         return self._like(number.to_bytes(len(self._data), 'little'), self.shape)
@@ -1680,7 +1692,7 @@ class Array(_Elements, _Arithmetic[Any]):
     def _with_signs(self, values: Array, signs: Array) -> Array:
         """The values with the signs of another array of their shape."""
         format = self.format
-        if format._plain in (e4m3fnuz, x87, double_pair):
+        if format._plain in (*_WITHOUT_NEGATIVE_ZERO, x87, double_pair):
             # Some of their values have no sign, or are written with other bits.
             each = (Value(format, value).copy_sign(Value(format, sign)).bits
                     for value, sign in zip(values._patterns(), signs._patterns()))
@@ -1957,10 +1969,11 @@ def _exact_number(of: Any) -> Any:
 def _hexadecimal(value: Value) -> str:
     """The hexadecimal text of a value that is no pair."""
     format = value.format
-    sign = '-' if value.bits >> (format.width - 1) and not (format is e4m3fnuz and value.is_nan) else ''
+    sign = '-' if value.bits >> (format.width - 1) and not (format in _WITHOUT_NEGATIVE_ZERO and value.is_nan) else ''
     kind = value._class()
     if kind in (0, 1):
-        payload = value.bits & (1 << format._precision - 2) - 1 if format not in (e4m3fn, e4m3fnuz) else 0
+        has_payloads = format not in (e4m3fn, *_WITHOUT_NEGATIVE_ZERO)
+        payload = value.bits & (1 << format._precision - 2) - 1 if has_payloads else 0
         return sign + ('snan' if kind == 0 else 'nan') + (f'({payload:#x})' if payload else '')
     if kind in (2, 9):
         return sign + 'inf'
@@ -1988,6 +2001,14 @@ e4m3fn = Format('e4m3fn', 7, 8, 4, 4)
 e4m3fnuz = Format('e4m3fnuz', 8, 8, 4, 4)
 x87 = Format('x87', 9, 80, 64, 15)
 double_pair = Format('double_pair', 10, 128, 106, 11)
+e4m3 = Format('e4m3', 16, 8, 4, 4)
+e5m2fnuz = Format('e5m2fnuz', 17, 8, 3, 5)
+e4m3b11fnuz = Format('e4m3b11fnuz', 18, 8, 4, 4)
+tf32 = Format('tf32', 19, 19, 11, 8)
+
+# The formats without -0, whose NaN is there.
+_WITHOUT_NEGATIVE_ZERO = (e4m3fnuz, e5m2fnuz, e4m3b11fnuz)
 
 # The names that ml_dtypes has for these formats.
 bfloat16, float8_e5m2, float8_e4m3fn, float8_e4m3fnuz = bfloat, e5m2, e4m3fn, e4m3fnuz
+float8_e4m3, float8_e5m2fnuz, float8_e4m3b11fnuz = e4m3, e5m2fnuz, e4m3b11fnuz

@@ -39,13 +39,17 @@ except ImportError:
 HERE = os.path.dirname(os.path.abspath(__file__))
 Fraction = fractions.Fraction
 MODES = list(Rounding)
-SMALL = [apfloat.e5m2, apfloat.e4m3fn, apfloat.e4m3fnuz]
+SMALL = [apfloat.e5m2, apfloat.e4m3fn, apfloat.e4m3fnuz, apfloat.e4m3, apfloat.e5m2fnuz, apfloat.e4m3b11fnuz]
 # Precision, least and greatest exponent of the integer bit.
 LIMITS = {
     'half': (11, -14, 15), 'single': (24, -126, 127), 'double': (53, -1022, 1023), 'quad': (113, -16382, 16383),
     'bfloat': (8, -126, 127), 'e5m2': (3, -14, 15), 'e4m3fn': (4, -6, 8), 'e4m3fnuz': (4, -7, 7),
-    'x87': (64, -16382, 16383),
+    'x87': (64, -16382, 16383), 'e4m3': (4, -6, 7), 'e5m2fnuz': (3, -15, 15), 'e4m3b11fnuz': (4, -10, 4),
+    'tf32': (11, -126, 127),
 }
+# The formats without -0, whose NaN is there, and those without infinities.
+UNSIGNED_ZERO = {apfloat.e4m3fnuz, apfloat.e5m2fnuz, apfloat.e4m3b11fnuz}
+NO_INFINITY = UNSIGNED_ZERO | {apfloat.e4m3fn}
 FORMATS = [getattr(apfloat, name) for name in LIMITS]
 
 
@@ -125,9 +129,9 @@ def number_of_bits(format, bits):
     stored = digits if name == 'x87' else digits - 1
     sign = -1 if bits >> format.width - 1 else 1
     field, significand = bits >> stored & (1 << format.width - 1 - stored) - 1, bits & (1 << stored) - 1
-    if name == 'e4m3fnuz' and bits == 0x80 or name == 'e4m3fn' and bits & 0x7f == 0x7f:
+    if format in UNSIGNED_ZERO and bits == 0x80 or name == 'e4m3fn' and bits & 0x7f == 0x7f:
         return None
-    if name not in ('e4m3fn', 'e4m3fnuz') and field == (1 << format.width - 1 - stored) - 1:
+    if format not in NO_INFINITY and field == (1 << format.width - 1 - stored) - 1:
         return None
     if field and name != 'x87':
         significand |= 1 << stored
@@ -159,7 +163,7 @@ class RoundingTests(unittest.TestCase):
         for value, (wanted, flags) in zip(results, expected):
             for flag in flags:
                 counts[flag.name.lower()] += 1
-            counts['nans'] += wanted is None and format in (apfloat.e4m3fn, apfloat.e4m3fnuz)
+            counts['nans'] += wanted is None and format in NO_INFINITY
             self.assertEqual(number_of(value), wanted)
         self.assertEqual(results.counts, counts)
 
@@ -222,7 +226,7 @@ class RoundingTests(unittest.TestCase):
         for value, (x, y, _) in zip(results, triples):
             exact = x - y * math.floor(x / y)
             self.assertEqual(number_of(value), rounded(format, exact, mode)[0], (x, y, mode))
-            self.assertEqual(value.is_negative, y < 0 and name_of(format) != 'e4m3fnuz' or exact < 0)
+            self.assertEqual(value.is_negative, y < 0 and format not in UNSIGNED_ZERO or exact < 0)
         exact = [x - y * math.floor(x / y) for x, y, _ in triples]
         self.assertEqual(results.counts['inexact'], sum(bool(rounded(format, each, mode)[1]) for each in exact))
         self.assertEqual(results.counts['values'], len(triples))
@@ -273,7 +277,7 @@ class TextTests(unittest.TestCase):
         # So far out, all numbers have the same result.
         far = {'1e99999999999999999999999': '1e6000', '-1e-99999999999999999999999': '-1e-6000',
                '9' * 6000 + '.5': '1e6000', '-0.' + '0' * 6000 + '1': '-1e-6000'}
-        for plain in [format for format in FORMATS if format.code not in (7, 8)]:
+        for plain in [format for format in FORMATS if format.code < 7 or format is apfloat.x87]:
             digits, least, greatest = LIMITS[plain.name]
             edges = [Fraction(2)**least, Fraction(2)**(least + 1 - digits), largest_of(plain),
                      Fraction(2)**(greatest + 1)]
@@ -417,7 +421,7 @@ class SignTests(unittest.TestCase):
         return positive + [bits | 1 << format.width - 1 for bits in positive] + drawn_ones
 
     def is_minus(self, format, bits):
-        return bool(bits >> format.width - 1) and not (format is apfloat.e4m3fnuz and bits == 0x80)
+        return bool(bits >> format.width - 1) and not (format in UNSIGNED_ZERO and bits == 0x80)
 
     def test_signs_of_values(self):
         for format in FORMATS + [apfloat.half.ieee, apfloat.double.ieee.before]:
@@ -428,7 +432,7 @@ class SignTests(unittest.TestCase):
                     self.assertIs(value.is_negative, self.is_minus(format, bits), value)
                     for sign in patterns[::5]:
                         wanted = bits & ~top | sign & top
-                        if format is apfloat.e4m3fnuz:
+                        if format in UNSIGNED_ZERO:
                             # Zero and the NaN have no sign.
                             minus = self.is_minus(format, sign)
                             wanted = bits if bits in (0, 0x80) else bits & 0x7f | minus << 7
@@ -491,7 +495,7 @@ class SignTests(unittest.TestCase):
                 with Context() as context:
                     value = format.nan(payload, negative=negative, signaling=signaling)
                 self.assertEqual(context.flags, Flags.OK)
-                if name == 'e4m3fnuz':
+                if format in UNSIGNED_ZERO:
                     wanted = 0x80
                 elif name == 'e4m3fn':
                     wanted = 0x7f | negative << 7
@@ -735,7 +739,7 @@ class ArrayTests(unittest.TestCase):
             top = 1 << format.width - 1
             patterns = range(0, 2 * top, 1 if format.width == 8 else 51)
             every = format.from_bits(patterns)
-            kept = {0, 0x80} if format is apfloat.e4m3fnuz else set()
+            kept = {0, 0x80} if format in UNSIGNED_ZERO else set()
             negated = [bits if bits in kept else bits ^ top for bits in patterns]
             without = [bits if bits in kept else bits & top - 1 for bits in patterns]
             self.assertEqual([value.bits for value in -every], negated)
@@ -854,6 +858,9 @@ class ArrayTests(unittest.TestCase):
         self.assertIs(apfloat.float8_e5m2, apfloat.e5m2)
         self.assertIs(apfloat.float8_e4m3fn, apfloat.e4m3fn)
         self.assertIs(apfloat.float8_e4m3fnuz, apfloat.e4m3fnuz)
+        self.assertIs(apfloat.float8_e4m3, apfloat.e4m3)
+        self.assertIs(apfloat.float8_e5m2fnuz, apfloat.e5m2fnuz)
+        self.assertIs(apfloat.float8_e4m3b11fnuz, apfloat.e4m3b11fnuz)
 
 
 def integers(xs):
@@ -1057,8 +1064,8 @@ class NumpyTests(unittest.TestCase):
     @unittest.skipUnless(ml_dtypes, 'there is no ml_dtypes')
     def test_ml_dtypes(self):
         for format in SMALL + [apfloat.bfloat]:
-            dtype = numpy.dtype(getattr(ml_dtypes, {'e5m2': 'float8_e5m2', 'e4m3fn': 'float8_e4m3fn', 'bfloat':
-                                                    'bfloat16', 'e4m3fnuz': 'float8_e4m3fnuz'}[format.name]))
+            name = 'bfloat16' if format is apfloat.bfloat else f'float8_{format.name}'
+            dtype = numpy.dtype(getattr(ml_dtypes, name))
             made = numpy.arange(8).reshape(2, 4).astype(dtype)
             xs = format.array(made)
             self.assertEqual(integers(xs), made.astype(int).tolist())

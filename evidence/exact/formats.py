@@ -105,10 +105,17 @@ BFLOAT = Format("bfloat", 16, 8, 8, -126, 127)
 E5M2 = Format("e5m2", 8, 5, 3, -14, 15)
 E4M3FN = Format("e4m3fn", 8, 4, 4, -6, 8, NonFinite.NAN_ONLY)
 E4M3FNUZ = Format("e4m3fnuz", 8, 4, 4, -7, 7, NonFinite.NAN_NEGATIVE_ZERO)
+E4M3 = Format("e4m3", 8, 4, 4, -6, 7)
+E5M2FNUZ = Format("e5m2fnuz", 8, 5, 3, -15, 15, NonFinite.NAN_NEGATIVE_ZERO)
+E4M3B11FNUZ = Format("e4m3b11fnuz", 8, 4, 4, -10, 4, NonFinite.NAN_NEGATIVE_ZERO)
+TF32 = Format("tf32", 19, 8, 11, -126, 127)
 X87 = Format("x87", 80, 15, 64, -16382, 16383, writes_integer_bit=True)
 
 # The formats of the program `vectors`.
 PROGRAM_FORMATS = (HALF, SINGLE, DOUBLE, QUAD, BFLOAT, E5M2, E4M3FN, E4M3FNUZ, X87)
+
+# The formats of the other programs beside them.
+LATER_FORMATS = (E4M3, E5M2FNUZ, E4M3B11FNUZ, TF32)
 
 # The wide formats of pairs of doubles. They have no bits.
 FALLBACK = Format("fallback", 0, 0, 106, -969, 1023)
@@ -137,7 +144,7 @@ def with_ieee_flags(known):
     return after, replace(after, name=f"{after.name}+before", tiny_before_rounding=True)
 
 
-_KNOWN = (*PROGRAM_FORMATS, FALLBACK, FALLBACK_EXTENDED, *OWN_FORMATS)
+_KNOWN = (*PROGRAM_FORMATS, *LATER_FORMATS, FALLBACK, FALLBACK_EXTENDED, *OWN_FORMATS)
 _WITH_IEEE_FLAGS = [
     form for known in _KNOWN if not known.tiny_before_rounding for form in with_ieee_flags(known)
 ]

@@ -16,7 +16,9 @@ static const struct code formats[] = {
     {"half", APFLOAT_HALF},     {"single", APFLOAT_SINGLE}, {"double", APFLOAT_DOUBLE},
     {"quad", APFLOAT_QUAD},     {"bfloat", APFLOAT_BFLOAT}, {"e5m2", APFLOAT_E5M2},
     {"e4m3fn", APFLOAT_E4M3FN}, {"x87", APFLOAT_X87},       {"e4m3fnuz", APFLOAT_E4M3FNUZ},
-    {"dd", APFLOAT_DOUBLE_PAIR}};
+    {"dd", APFLOAT_DOUBLE_PAIR},
+    {"e4m3", APFLOAT_E4M3},     {"tf32", APFLOAT_TF32},     {"e5m2fnuz", APFLOAT_E5M2FNUZ},
+    {"e4m3b11fnuz", APFLOAT_E4M3B11FNUZ}};
 
 static const struct code modes[] = {{"even", APFLOAT_NEAREST_EVEN},
                                     {"up", APFLOAT_UPWARD},

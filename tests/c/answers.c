@@ -36,14 +36,21 @@ static void add_bytes(const void *bytes, size_t length) {
 
 /* ---- operands */
 
-static const uint32_t bits_of[] = {0, 16, 32, 64, 128, 16, 8, 8, 8, 80, 128};
-static const uint32_t exponent_bits_of[] = {0, 5, 8, 11, 15, 8, 5, 4, 4, 15, 11};
+static const uint32_t bits_of[] = {0, 16, 32, 64, 128, 16, 8, 8, 8, 80, 128, 0, 0, 0, 0, 0, 8, 8, 8, 19};
+static const uint32_t exponent_bits_of[] = {0, 5, 8, 11, 15, 8, 5, 4, 4, 15, 11, 0, 0, 0, 0, 0, 4, 5, 4, 8};
+
+/* The code of a format without its rule of flags, or 0. */
+static uint32_t known_format(uint32_t format) {
+    uint32_t code = format & 0xff;
+    return code < sizeof bits_of / sizeof bits_of[0] && bits_of[code] > 0 ? code : 0;
+}
 
 static uint32_t draw_format(void) {
     static const uint32_t flags[] = {0, 0, APFLOAT_IEEE_FLAGS, APFLOAT_IEEE_FLAGS | APFLOAT_TINY_BEFORE_ROUNDING};
     if (below(16) == 0) return (uint32_t)draw() >> below(32);
-    uint32_t format = 1 + below(10);
-    return format == APFLOAT_E4M3FN || format == APFLOAT_E4M3FNUZ || format == APFLOAT_DOUBLE_PAIR
+    uint32_t format = 1 + below(14);
+    if (format > APFLOAT_DOUBLE_PAIR) format += APFLOAT_E4M3 - APFLOAT_DOUBLE_PAIR - 1;
+    return format == APFLOAT_E4M3FN || format == APFLOAT_E4M3FNUZ || format >= APFLOAT_DOUBLE_PAIR
                ? format
                : format | flags[below(4)];
 }
@@ -67,9 +74,9 @@ static apfloat_halves either(apfloat_halves a, apfloat_halves b) {
 }
 
 static apfloat_halves draw_value(uint32_t format, apfloat_halves before) {
-    uint32_t known = format & 0xff, kind = below(12);
+    uint32_t known = known_format(format), kind = below(12);
     apfloat_halves bits = {draw(), draw()};
-    if (known == 0 || known > 10 || kind < 4) return bits;
+    if (known == 0 || kind < 4) return bits;
     uint32_t width = bits_of[known], exponent_bits = exponent_bits_of[known];
     uint32_t digits = known == APFLOAT_DOUBLE_PAIR ? 52 : width - 1 - exponent_bits;
     uint32_t fraction = digits < 64 ? digits : 63;
@@ -187,7 +194,8 @@ static void call_on_arrays(uint32_t kind) {
     size_t lengths[3];
     apfloat_array_answer answer;
     uint32_t format = draw_format(), mode = draw_mode(), to = draw_format(), operation = below(10);
-    uint32_t width = (format & 0xff) <= 10 && (format & 0xff) > 0 ? bits_of[format & 0xff] / 8 : 1;
+    uint32_t known = known_format(format), bytes = (bits_of[known] + 7) / 8;
+    uint32_t width = known == 0 ? 1 : bytes == 3 ? 4 : bytes;
     uint32_t most = below(64 / width + 1);
     apfloat_halves before = {0, 0};
     for (size_t i = 0; i < 3; i++) {

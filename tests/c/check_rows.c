@@ -313,7 +313,7 @@ static const struct code operations[] = {{"add_r", APFLOAT_ADD},       {"sub_r",
 
 /* How many bytes a value takes in an array. */
 static size_t bytes_of(uint32_t format) {
-    static const size_t bytes[] = {0, 2, 4, 8, 16, 2, 1, 1, 1, 10, 16};
+    static const size_t bytes[] = {0, 2, 4, 8, 16, 2, 1, 1, 1, 10, 16, 0, 0, 0, 0, 0, 1, 1, 1, 4};
     return bytes[format & 0xff];
 }
 
@@ -388,7 +388,10 @@ static const struct saturation {
 } saturations[] = {
     {APFLOAT_E4M3FN, {0x38, 0x7e, 0xfe, 0x7f, 0xff, 0x7f, 0x7e, 0x7e, 0x7e}, {9, 6, 0, 3, 0, 1, 3, 0x15, 0}},
     {APFLOAT_E4M3FNUZ, {0x40, 0x7f, 0xff, 0x80, 0x80, 0x80, 0x7f, 0x7f, 0x7f}, {9, 7, 0, 5, 0, 1, 3, 0x15, 0}},
-    {APFLOAT_E5M2, {0x3c, 0x64, 0xe4, 0x7c, 0xfc, 0x7e, 0x5f, 0x5f, 0x7b}, {9, 4, 0, 1, 0, 1, 1, 0x15, 0}}};
+    {APFLOAT_E5M2, {0x3c, 0x64, 0xe4, 0x7c, 0xfc, 0x7e, 0x5f, 0x5f, 0x7b}, {9, 4, 0, 1, 0, 1, 1, 0x15, 0}},
+    {APFLOAT_E4M3, {0x38, 0x77, 0xf7, 0x78, 0xf8, 0x7c, 0x77, 0x77, 0x77}, {9, 5, 0, 5, 0, 1, 1, 0x15, 0}},
+    {APFLOAT_E5M2FNUZ, {0x40, 0x68, 0xe8, 0x80, 0x80, 0x80, 0x63, 0x63, 0x7f}, {9, 6, 0, 1, 0, 1, 3, 0x15, 0}},
+    {APFLOAT_E4M3B11FNUZ, {0x58, 0x7f, 0xff, 0x80, 0x80, 0x80, 0x7f, 0x7f, 0x7f}, {9, 7, 0, 5, 0, 1, 3, 0x15, 0}}};
 
 /* How many of these conversions agree. */
 static unsigned saturated(void) {
@@ -552,6 +555,10 @@ static const struct {
             {APFLOAT_E5M2, {0xff, 0}, {0xfd, 0}},
             {APFLOAT_E4M3FN, {0xff, 0}, {0xff, 0}},
             {APFLOAT_E4M3FNUZ, {0x80, 0}, {0x80, 0}},
+            {APFLOAT_E4M3, {0xfd, 0}, {0xf9, 0}},
+            {APFLOAT_E5M2FNUZ, {0x80, 0}, {0x80, 0}},
+            {APFLOAT_E4M3B11FNUZ, {0x80, 0}, {0x80, 0}},
+            {APFLOAT_TF32, {0x7fe05, 0}, {0x7fc05, 0}},
             {APFLOAT_X87, {UINT64_C(0xc000000000000005), 0xffff}, {UINT64_C(0x8000000000000005), 0xffff}},
             {APFLOAT_DOUBLE_PAIR, {UINT64_C(0xfff8000000000005), 0}, {UINT64_C(0xfff0000000000005), 0}}};
 

@@ -271,7 +271,8 @@ void check_literals() {
     CHECK(0_binary64 == number(0.0) && 00.5_binary64 == number(0.5) && 5._binary64 == number(5.0));
     CHECK(.5_binary64 == number(0.5) && 017.5e0_binary64 == number(17.5) && 1E+2_binary64 == number(100.0));
     CHECK((0.1_binary16).bits() == 0x2e66 && (0.1_bfloat16).bits() == 0x3dcd && (0.1_e5m2).bits() == 0x2e);
-    CHECK((0.1_e4m3fn).bits() == 0x1d && (0.1_e4m3fnuz).bits() == 0x25);
+    CHECK((0.1_e4m3fn).bits() == 0x1d && (0.1_e4m3fnuz).bits() == 0x25 && (0.1_e4m3).bits() == 0x1d);
+    CHECK((0.1_e5m2fnuz).bits() == 0x32 && (0.1_e4m3b11fnuz).bits() == 0x3d && (0.1_tf32).bits() == 0x1ee66);
     CHECK((0.1_x87).bits().low == UINT64_C(0xcccccccccccccccd) && (0.1_x87).bits().high == 0x3ffb);
     CHECK((0.1_binary128).bits().high == UINT64_C(0x3ffb999999999999));
     CHECK((0.1_double_pair).bits().low == number(0.1).bits());
@@ -324,6 +325,12 @@ void check_arrays() {
     CHECK(saturated && saturated->overflow == 2 && saturated->nans == 1);
     CHECK(results[1] == std::numeric_limits<value<e4m3fn>>::max() && results[2] == -results[1]);
     CHECK(convert_array<e4m3fn, binary32>(nullptr, 0, nullptr)->values == 0);
+    // A value of tf32 is the lowest 19 bits of four bytes.
+    std::vector<value<tf32>> rounded(values.size());
+    CHECK(convert_array(values.data(), values.size(), rounded.data())->inexact == 1);
+    for (std::size_t i = 0; i < values.size(); i++)
+        CHECK(rounded[i].bits() == convert<tf32>(values[i]).value.bits());
+    CHECK(value<tf32>::from_bits(0xfff9fc00).bits() == 0x1fc00 && !value<tf32>::from_halves({0x80000, 0}));
     CHECK(convert_array(values.data(), 1, results.data(), static_cast<rounding>(7)).error() == errc::unknown_mode);
 
     const std::vector<number> xs = {1.0, 2.0, 0.0}, ys = {3.0, 0.5, 0.0};
@@ -431,6 +438,10 @@ int main(int count, char **) {
     check_constants<e5m2>();
     check_constants<e4m3fn>();
     check_constants<e4m3fnuz>();
+    check_constants<e4m3>();
+    check_constants<e5m2fnuz>();
+    check_constants<e4m3b11fnuz>();
+    check_constants<tf32>();
     check_constants<ieee<binary64>>();
     check_constants<ieee_tiny_before<x87>>();
     check_constants_of_pairs();

@@ -87,6 +87,10 @@ bool with_format(std::string_view word, Function function) {
     if (name == "e5m2") return with_rule<apfloat::e5m2>(rule, function);
     if (name == "e4m3fn") return with_rule<apfloat::e4m3fn>(rule, function);
     if (name == "e4m3fnuz") return with_rule<apfloat::e4m3fnuz>(rule, function);
+    if (name == "e4m3") return with_rule<apfloat::e4m3>(rule, function);
+    if (name == "e5m2fnuz") return with_rule<apfloat::e5m2fnuz>(rule, function);
+    if (name == "e4m3b11fnuz") return with_rule<apfloat::e4m3b11fnuz>(rule, function);
+    if (name == "tf32") return with_rule<apfloat::tf32>(rule, function);
     if (name == "dd") return with_rule<apfloat::double_pair>(rule, function);
     return false;
 }

@@ -61,7 +61,7 @@ lacking_operation = 10
 
 -- ---- formats
 
--- formats with infinities; a code without a rule of flags leaves tininess to the machine
+-- formats with a choice of flags; a code without a rule of flags leaves tininess to the machine
 abbrev pub machine_format : FlaggedKind → Option MachineFormat
 machine_format (OfFormat (BuiltIn format)) =
     option_map (λ (f : IeeeFormat). record { format = f; tiny_before = None }) (ieee_format_in (OfBuiltIn format))

@@ -14,7 +14,7 @@ pub enum IeeeCall {
     Predicated(Predicate, OnNan, u128, u128),
     /// The order of two values in the total order (5.10).
     TotalOrder(u128, u128),
-    /// A minimum or a maximum of two values; if true, of a NaN and a number the number (9.6).
+    /// A minimum or a maximum of two values; if true, a number rather than a NaN (9.6).
     ExtremumOf(Extremum, bool, u128, u128),
     /// The exponent of a value, as a value (5.3.3, logB).
     LogB(u128),

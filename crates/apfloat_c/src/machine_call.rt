@@ -50,17 +50,17 @@ pub enum MachineOperation {
     Greatest(MinimumRule, u128, u128),
 }
 
-/// A format with infinities, as its code names it.
+/// A format with a choice of flags, as its code names it.
 #[derive(Clone, Copy)]
 pub struct MachineFormat {
     /// The format.
     pub format: IeeeFormat,
-    /// Whether a result is tiny by its exact magnitude, if the code has a rule of flags; otherwise the machine says it.
+    /// Whether a result is tiny by its exact magnitude, if the code has a rule of flags; otherwise the machine decides.
     pub tiny_before: Option<bool>,
 }
 
 impl MachineFormat {
-    /// The format of this kind, if it has infinities.
+    /// The format of this kind, if it has a choice of flags.
     pub fn of(kind: FlaggedKind) -> Option<MachineFormat>
         ensures { result ≡ machine_format kind }
     {
@@ -154,8 +154,8 @@ pub fn rule_coded(code: u32) -> Option<MinimumRule>
     }
 }
 
-/// What this code asks for on values, of which it takes the first ones, or the error: `to` is the code of the format of
-/// a conversion, the binary digits of an integer, or the code of a rule of minima.
+/// What this code asks for, on as many of the values as it takes, or the error: `to` is the code of the format of a
+/// conversion, the binary digits of an integer, or the code of a rule of minima.
 pub fn machine_call(code: u32, to: u32, x: u128, y: u128, z: u128) -> Result<MachineCall, u32>
     ensures { result ≡ machine_call code to x y z }
 {

@@ -1,4 +1,4 @@
--- OVERFLOW and UNDERFLOW are raised only together with INEXACT, by each operation that returns a status.
+-- OVERFLOW and UNDERFLOW are raised only together with INEXACT, by each operation here that returns a status.
 use Rattle.std.specs.Prelude.{ℕ, ℤ, pos}
 use Rattle.apfloat_model.specs.declared.kinds.Round.{Round}
 use Rattle.apfloat_model.specs.formats.Format.{Format}

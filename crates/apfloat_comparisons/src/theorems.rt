@@ -61,7 +61,7 @@ pub fn integer_conversions_have_one_answer()
     ensures quiet { IsConvertedOnce }
 {}
 
-/// Each operation raises OVERFLOW and UNDERFLOW only together with INEXACT.
+/// Each operation of this crate, and scaleB, raises OVERFLOW and UNDERFLOW only together with INEXACT.
 pub fn flags_go_together()
     ensures { (f : Format) → RaiseTogether f }
 {}

@@ -144,8 +144,7 @@ fn with_sign(negative: bool, magnitude: u128) -> i128
 #[inline(always)]
 fn magnitude_within(shape: Shape, x: Unpacked, limit: u128, round: Round) -> Unsigned
     requires { IsNormal shape x }
-    ensures limited { IsLimited (format_at shape) round x.negative (quanta_of shape x) limit
-        result }
+    ensures limited { IsLimited (format_at shape) round x.negative (quanta_of shape x) limit result }
     ensures fits { result.answer.value ≤ limit }
 {
     match whole_of(shape, x, round) {
@@ -176,8 +175,8 @@ fn number_to_unsigned(shape: Shape, x: Unpacked, width: u32, round: Round) -> Un
     magnitude_within(shape, x, limit_of(width, x.negative), round)
 }
 
-/// A nonzero number as a signed integer of `width` binary digits. Both signs take the same way, since a processor
-/// cannot foresee them.
+/// A nonzero number as a signed integer of `width` binary digits. Both signs take the same path, since a processor
+/// cannot predict the sign.
 #[inline(always)]
 fn number_to_signed(shape: Shape, x: Unpacked, width: u32, round: Round) -> Signed
     requires normal { IsNormal shape x }

@@ -3,6 +3,8 @@
 ghost use Rattle.apfloat_model.specs.formats.Formats.{half_constants, single_constants, double_constants};
 ghost use Rattle.apfloat_model.specs.formats.Formats.{quad_constants, bfloat_constants, e5m2_constants};
 ghost use Rattle.apfloat_model.specs.formats.Formats.{e4m3fn_constants, e4m3fnuz_constants, x87_constants};
+ghost use Rattle.apfloat_model.specs.formats.Formats.{e4m3_constants, e5m2fnuz_constants};
+ghost use Rattle.apfloat_model.specs.formats.Formats.{e4m3b11fnuz_constants, tf32_constants};
 ghost use Rattle.apfloat_model.specs.formats.Lawful.{format_with};
 ghost use Rattle.apfloat_model.specs.rounding.Flags.{Gives};
 ghost use Rattle.apfloat_ieee.specs.FlaggedTypes.{format_of};
@@ -61,4 +63,8 @@ pub fn built_in_formats()
     ensures e4m3fn { HasQuadExponents (format_with e4m3fn_constants) }
     ensures e4m3fnuz { HasQuadExponents (format_with e4m3fnuz_constants) }
     ensures x87 { HasQuadExponents (format_with x87_constants) }
+    ensures e4m3 { HasQuadExponents (format_with e4m3_constants) }
+    ensures e5m2fnuz { HasQuadExponents (format_with e5m2fnuz_constants) }
+    ensures e4m3b11fnuz { HasQuadExponents (format_with e4m3b11fnuz_constants) }
+    ensures tf32 { HasQuadExponents (format_with tf32_constants) }
 {}

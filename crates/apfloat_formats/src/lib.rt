@@ -11,7 +11,8 @@ pub use apfloat_ieee::{
 };
 pub use apfloat_model::Loss;
 pub use formats::{
-    BFloat, BFloatS, Double, DoubleS, Float8E4M3FN, Float8E4M3FNS, Float8E4M3FNUZ, Float8E4M3FNUZS,
-    Float8E5M2, Float8E5M2S, Half, HalfS, Quad, QuadS, Single, SingleS, X87DoubleExtended,
-    X87DoubleExtendedS,
+    BFloat, BFloatS, Double, DoubleS, Float8E4M3, Float8E4M3B11FNUZ, Float8E4M3B11FNUZS,
+    Float8E4M3FN, Float8E4M3FNS, Float8E4M3FNUZ, Float8E4M3FNUZS, Float8E4M3S, Float8E5M2,
+    Float8E5M2FNUZ, Float8E5M2FNUZS, Float8E5M2S, FloatTF32, FloatTF32S, Half, HalfS, Quad, QuadS,
+    Single, SingleS, X87DoubleExtended, X87DoubleExtendedS,
 };

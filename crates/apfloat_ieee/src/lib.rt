@@ -5,6 +5,7 @@
 //! of a format that rounding reads; the generic functions only supply the constants of a type.
 #![tactic(auto)]
 
+pub mod any_float;
 mod convert;
 mod debug;
 pub mod flagged;
@@ -22,6 +23,7 @@ pub mod semantics;
 pub mod sums;
 pub mod wide;
 
+pub use any_float::AnyFloat;
 pub use apfloat_base::NonfiniteBehavior;
 pub use flagged::{Flagged, IeeeFlags, TinyBefore};
 pub use ieee_float::{IeeeFloat, deliver};

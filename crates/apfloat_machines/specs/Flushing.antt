@@ -44,7 +44,7 @@ IsFlushed f flush given flags value status =
 -- ---- from the exact result
 
 -- Whether the magnitude amount / parts quanta with that sign is flushed: it is not zero, and it is tiny by the rule of
--- the format (7.5), also if it is exact.
+-- the format (7.5), even if it is exact.
 abbrev pub flushes : Format → Round → Bool → ℕ → ℕ → ℕ → Bool
 flushes f mode negative amount parts pick = ltb 0 amount && is_tiny f mode negative amount parts pick
 

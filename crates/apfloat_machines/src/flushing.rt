@@ -11,7 +11,7 @@ use apfloat_base::{Float, Status, StatusAnd};
 use apfloat_comparisons::{raise_flags, test_flags};
 use apfloat_ieee::{Flagged, IeeeFloat};
 
-/// Which flags a result raises that is flushed to zero.
+/// The flags of a result that is flushed to zero.
 #[derive(Clone, Copy, PartialEq, Eq, Debug)]
 pub enum Flush {
     /// UNDERFLOW and INEXACT: FTZ of SSE and AVX, and AArch64 with FPCR.AH and FPCR.FZ set.

@@ -1,26 +1,32 @@
 -- A value takes at least one byte, at most sixteen, and enough for its bits.
-use Rattle.std.proofs.Common.{ℕ, ◌*◌, ◌<◌, ◌≤◌, Bool, true, false, if◌then◌else◌, ⊎_elim, arith}
-use Rattle.std.proofs.lemmas.Bool.{ltb-true}
+use Rattle.std.proofs.Common.{◌≡◌, ℕ, ◌*◌, ◌<◌, ◌≤◌, ◌==◌, Bool, true, false, if◌then◌else◌, refl, ⊎_elim, arith}
+use Rattle.std.proofs.lemmas.Bool.{ltb-true, eqb-true}
 use Rattle.std.specs.Int.{div_ceil}
 use Rattle.rustc_apfloat.specs.Lawful.{HasBits, HasNoBits}
 use Rattle.formats_at_run_time.specs.declared.built_in.BuiltInFormat.{BuiltInFormat}
 use Rattle.formats_at_run_time.specs.BuiltIns.{KnownFormat, constants_in, known_format}
 use Rattle.array_conversions.specs.declared.widths.Extended.{Extended}
 use Rattle.array_conversions.specs.declared.widths.Extended.TheVariants.{Packed, Padded}
-use Rattle.array_conversions.specs.Widths.{width_of, width_with}
+use Rattle.array_conversions.specs.Widths.{bytes_of, width_of, width_with}
 
 pub record HasRoom (bits width : ℕ) : Type 0 where
   pub least : 1 ≤ width
   pub greatest : width ≤ 16
   pub enough : bits ≤ 8 * width
 
--- the least number of bytes with room for the bits
-in_bytes : (bits : ℕ) → 1 ≤ bits → bits ≤ 128 → HasRoom bits (div_ceil bits 8)
-in_bytes bits some few = record { least = omega arith; greatest = omega arith; enough = omega arith }
+-- the bytes that the bits take have room for them
+in_bytes : (bits : ℕ) → 1 ≤ bits → bits ≤ 128 → HasRoom bits (bytes_of bits)
+in_bytes bits some few = room (div_ceil bits 8 == 3) refl
+  where
+    room : (three : Bool) → (div_ceil bits 8 == 3) ≡ three → HasRoom bits (if three then 4 else div_ceil bits 8)
+    room true e =
+        let is : div_ceil bits 8 ≡ 3 = eqb-true (div_ceil bits 8) 3 e in
+        record { least = omega arith; greatest = omega arith; enough = omega arith }
+    room false e = record { least = omega arith; greatest = omega arith; enough = omega arith }
 
 -- sixteen bytes have room for the bits
 padded : (bits : ℕ) (explicit : Bool) → 1 ≤ bits → bits ≤ 128
-    → HasRoom bits (if explicit then 16 else div_ceil bits 8)
+    → HasRoom bits (if explicit then 16 else bytes_of bits)
 padded bits true some few = record { least = omega arith; greatest = omega arith; enough = omega arith }
 padded bits false some few = in_bytes bits some few
 

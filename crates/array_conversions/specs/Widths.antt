@@ -1,5 +1,5 @@
 -- How many bytes a value takes.
-use Rattle.std.specs.Prelude.{ℕ, if◌then◌else◌}
+use Rattle.std.specs.Prelude.{ℕ, ◌==◌, if◌then◌else◌}
 use Rattle.std.specs.Int.{div_ceil}
 use Rattle.rustc_apfloat.specs.Lawful.{Constants}
 use Rattle.formats_at_run_time.specs.declared.built_in.BuiltInFormat.{BuiltInFormat}
@@ -11,11 +11,14 @@ use Rattle.array_conversions.specs.declared.widths.Widths.{Widths}
 use Rattle.array_conversions.specs.declared.conversion.Conversion.{Conversion}
 use Rattle.array_conversions.specs.declared.array.ArrayConversion.{ArrayConversion}
 
--- how many bytes a value of a format takes: as many as its bits need, except that an extended format can be padded to
--- sixteen
+-- how many bytes so many bits take: the fewest, with four in place of three
+abbrev pub bytes_of : ℕ → ℕ
+bytes_of bits = if div_ceil bits 8 == 3 then 4 else div_ceil bits 8
+
+-- how many bytes a value of a format takes: those of its bits, except that an extended format can be padded to sixteen
 abbrev pub width_with : Constants → Extended → ℕ
-width_with c Packed = div_ceil c.bits 8
-width_with c Padded = if c.explicit_integer_bit then 16 else div_ceil c.bits 8
+width_with c Packed = bytes_of c.bits
+width_with c Padded = if c.explicit_integer_bit then 16 else bytes_of c.bits
 
 abbrev pub width_of : BuiltInFormat → Extended → ℕ
 width_of format extended = width_with (constants_in format) extended

@@ -17,10 +17,10 @@ use rustc_apfloat::ieee::Flagged;
 /// The number of places in a table of all bytes.
 const PLACES: usize = 256;
 
-/// The least number of values for which filling the table pays.
+/// The least number of values for which the table is filled.
 const LEAST_COUNT: usize = 2 * PLACES;
 
-/// Whether a table of all bytes serves and pays.
+/// Whether a table of all bytes has the results, and there are enough values to fill it.
 #[inline(always)]
 pub fn has_byte_table<S: Flagged, T: Flagged>(widths: Widths, count: usize) -> bool
     ensures { IsTrue result → (widths.source ≡ 1) × (widths.target ≡ div_ceil T.BITS 8)

@@ -15,7 +15,7 @@ pub struct Outcome {
 }
 
 impl Outcome {
-    /// That of a conversion without flags, whose value is no NaN.
+    /// The outcome of a conversion that raises no flag and gives no NaN.
     pub(crate) const EXACT: Outcome = Outcome {
         status: Status::OK,
         is_nan: false,

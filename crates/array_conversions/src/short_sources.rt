@@ -143,7 +143,7 @@ impl Semantics for ShortHalfS {
 /// The number of places in the larger table.
 const PLACES: usize = 1 << 14;
 
-/// Whether a table of all values of `Z` serves and pays.
+/// Whether a table of all values of `Z` has the results, and there are enough values to fill it.
 #[inline(always)]
 pub fn has_short_table<S: Flagged, Z: Flagged, T: Flagged>(widths: Widths, count: usize) -> bool
     ensures { IsTrue result → IsShortFor (constants_of S.Flagged) (constants_of Z.Flagged)

@@ -1,5 +1,5 @@
-//! Tables of the results for all values of a format of few bits, filled by the conversion itself. Where an array has
-//! more values than the table, a look-up for each is faster than its conversion.
+//! Tables of the results for all values of a format of few bits, filled by the conversion itself, for arrays of at
+//! least as many values: looking a result up is meant to cost less than converting its value.
 
 ghost use Rattle.std.specs.Prelude.{◌≡◌, ◌*◌, ◌<◌, ◌≤◌, length, slice_get, Some};
 ghost use Rattle.rustc_apfloat.specs.FlaggedTypes.{constants_of};

@@ -2,7 +2,7 @@
 
 ghost use Rattle.std.specs.Prelude.{◌≡◌, ◌≤◌};
 ghost use Rattle.array_conversions.specs.Calls.{at_format};
-ghost use Rattle.array_conversions.specs.Widths.{width_of, width_with};
+ghost use Rattle.array_conversions.specs.Widths.{bytes_of, width_of, width_with};
 
 use formats_at_run_time::{BuiltInFormat, InFormat};
 use rustc_apfloat::ieee::Semantics;
@@ -49,7 +49,15 @@ impl InFormat for WidthCall {
     fn in_format<S: Semantics>(self) -> usize {
         match self.extended {
             Extended::Padded if S::EXPLICIT_INTEGER_BIT => 16,
-            Extended::Packed | Extended::Padded => S::BITS.div_ceil(8),
+            Extended::Packed | Extended::Padded => bytes_of(S::BITS),
         }
     }
+}
+
+/// How many bytes so many bits take: the fewest, with four in place of three, since no processor loads three.
+fn bytes_of(bits: usize) -> usize
+    ensures { result ≡ bytes_of bits }
+{
+    let bytes = bits.div_ceil(8);
+    if bytes == 3 { 4 } else { bytes }
 }

@@ -11,7 +11,7 @@ use crate::numbers::Reads;
 use crate::operand_set::OperandSet;
 use crate::operation::Operation;
 use crate::task::Task;
-use formats_at_run_time::{BuiltInFormat, BuiltInKind};
+use formats_at_run_time::{CommandFormat, CommandKind};
 use rustc_apfloat::ieee::{Double, DoubleS, IeeeFloat, QuadS, Semantics, X87DoubleExtendedS};
 use rustc_apfloat::{Float, Round, StatusAnd};
 use std::alloc::{AllocError, Global};
@@ -137,21 +137,21 @@ fn apart<S: Semantics>(alloc: Global, difference: i32) -> Result<Vec<[IeeeFloat<
     Ok(pairs)
 }
 
-static PRECISIONS: [(BuiltInFormat, u64); 7] = [
-    (BuiltInFormat::E4M3FN, 4),
-    (BuiltInFormat::BFloat, 8),
-    (BuiltInFormat::Half, 11),
-    (BuiltInFormat::Single, 24),
-    (BuiltInFormat::Double, 53),
-    (BuiltInFormat::X87, 64),
-    (BuiltInFormat::Quad, 113),
+static PRECISIONS: [(CommandFormat, u64); 7] = [
+    (CommandFormat::E4M3FN, 4),
+    (CommandFormat::BFloat, 8),
+    (CommandFormat::Half, 11),
+    (CommandFormat::Single, 24),
+    (CommandFormat::Double, 53),
+    (CommandFormat::X87, 64),
+    (CommandFormat::Quad, 113),
 ];
 
 /// Prints a table of the times of quotients, by the precision.
 fn print_quotients(rt: &(impl Clock + Print + AllocGlobal)) -> io::Result<()> {
     println!(rt; "| Quotients in | Precision | Nanoseconds | For each digit |\n|---|---|---|---|")?;
     for (format, precision) in PRECISIONS.iter() {
-        print_quotient(rt, BuiltInKind::OfFormat(*format), *precision)?;
+        print_quotient(rt, CommandKind::OfFormat(*format), *precision)?;
     }
     Ok(())
 }
@@ -159,7 +159,7 @@ fn print_quotients(rt: &(impl Clock + Print + AllocGlobal)) -> io::Result<()> {
 /// Prints the row of a type and its precision.
 fn print_quotient(
     rt: &(impl Clock + Print + AllocGlobal),
-    kind: BuiltInKind,
+    kind: CommandKind,
     precision: u64,
 ) -> io::Result<()> {
     let task = Task {
@@ -174,7 +174,7 @@ fn print_quotient(
     let quotient = Nanoseconds::of_each(known);
     println!(rt;
         "| {} | {precision} | {quotient} | {} |",
-        kind.word(),
+        kind.built_in().word(),
         quotient.part(precision)
     )
 }

@@ -4,7 +4,7 @@ use crate::measure::Measured;
 use crate::numbers::measured_in;
 use crate::pairs::measured_pairs;
 use crate::task::Task;
-use formats_at_run_time::{BuiltInKind, InFormat, InKind};
+use formats_at_run_time::{CommandKind, InFormat, InKind};
 use rustc_apfloat::ieee::Semantics;
 use std::io;
 use std::rt::Clock;
@@ -12,7 +12,7 @@ use std::rt::Clock;
 /// The measurements of an operation on values of a kind, or `None` if the kind does not have it.
 pub fn measured(
     rt: &(impl Clock + AllocGlobal),
-    kind: BuiltInKind,
+    kind: CommandKind,
     task: Task,
 ) -> io::Result<Option<Measured>> {
     kind.run(Measurement { rt, task })

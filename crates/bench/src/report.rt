@@ -5,7 +5,7 @@ use crate::nanoseconds::Nanoseconds;
 use crate::operand_set::OperandSet;
 use crate::operation::{FURTHER_OPERATIONS, OPERATIONS, Operation};
 use crate::task::Task;
-use formats_at_run_time::{BuiltInKind, built_in_kinds};
+use formats_at_run_time::{CommandKind, command_kinds};
 use rustc_apfloat::Round;
 use std::alloc::AllocError;
 use std::io;
@@ -37,7 +37,7 @@ pub fn print_checksums(rt: &(impl Clock + Print + AllocGlobal)) -> io::Result<()
 
 /// Prints the checksums of some operations in all types.
 fn print_sums(rt: &(impl Clock + Print + AllocGlobal), operations: &[Operation]) -> io::Result<()> {
-    for kind in built_in_kinds().iter() {
+    for kind in command_kinds().iter() {
         print_lines(rt, *kind, operations)?;
     }
     Ok(())
@@ -46,7 +46,7 @@ fn print_sums(rt: &(impl Clock + Print + AllocGlobal), operations: &[Operation])
 /// Prints the lines of a type.
 fn print_lines(
     rt: &(impl Clock + Print + AllocGlobal),
-    kind: BuiltInKind,
+    kind: CommandKind,
     operations: &[Operation],
 ) -> io::Result<()> {
     for operation in operations.iter() {
@@ -59,7 +59,7 @@ fn print_lines(
 /// Prints the line of an operation in a type: its checksums for a set of operands.
 fn print_line(
     rt: &(impl Clock + Print + AllocGlobal),
-    kind: BuiltInKind,
+    kind: CommandKind,
     operation: Operation,
     set: OperandSet,
 ) -> io::Result<()> {
@@ -67,7 +67,12 @@ fn print_line(
     if sums.is_empty() {
         return Ok(());
     }
-    print!(rt; "{} {} {}", kind.word(), operation.name(), set.name())?;
+    print!(rt;
+        "{} {} {}",
+        kind.built_in().word(),
+        operation.name(),
+        set.name()
+    )?;
     for sum in sums.iter() {
         print!(rt; " {sum:016x}")?;
     }
@@ -77,7 +82,7 @@ fn print_line(
 /// The checksums of an operation in each mode, or one if it has no mode.
 fn sums_of(
     rt: &(impl Clock + AllocGlobal),
-    kind: BuiltInKind,
+    kind: CommandKind,
     operation: Operation,
     set: OperandSet,
 ) -> io::Result<Vec<u64>> {
@@ -126,7 +131,7 @@ fn print_table(
 ) -> io::Result<()> {
     println!(rt; "Set {}, nanoseconds\n", set.name())?;
     println!(rt; "{head}")?;
-    for kind in built_in_kinds().iter() {
+    for kind in command_kinds().iter() {
         print_row(rt, *kind, set, operations)?;
     }
     println!(rt; "")
@@ -135,11 +140,11 @@ fn print_table(
 /// Prints the row of a type.
 fn print_row(
     rt: &(impl Clock + Print + AllocGlobal),
-    kind: BuiltInKind,
+    kind: CommandKind,
     set: OperandSet,
     operations: &[Operation],
 ) -> io::Result<()> {
-    print!(rt; "| {} |", kind.word())?;
+    print!(rt; "| {} |", kind.built_in().word())?;
     for operation in operations.iter() {
         print_time(rt, kind, *operation, set)?;
     }
@@ -149,7 +154,7 @@ fn print_row(
 /// Prints the time of an operation in a type, or a dash if the type does not have it.
 fn print_time(
     rt: &(impl Clock + Print + AllocGlobal),
-    kind: BuiltInKind,
+    kind: CommandKind,
     operation: Operation,
     set: OperandSet,
 ) -> io::Result<()> {

@@ -1,27 +1,24 @@
 //! Checks files of test vectors: rows of commands with their replies, and of calls with their results.
 //!
-//! Rows come from the named file, or from standard input. The crates `vector_rows` and `operation_rows`, and `--help`,
-//! describe the rows and how they are checked.
+//! Rows come from the named file, or from standard input. The crates `vector_rows`, `call_rows` and `operation_rows`,
+//! and `--help`, describe the rows and how they are checked.
 #![tactic(auto)]
 
+mod all_calls;
+#[cfg(test)]
+mod tests;
+
+use crate::all_calls::AllCalls;
 use commands::words_of_system;
-use operation_rows::OperationRows;
 use std::io::IsTerminal;
 use std::process::ExitCode;
 use vector_rows::run;
-
-#[cfg(test)]
-mod other_files;
-#[cfg(test)]
-mod program;
-#[cfg(test)]
-mod tests;
 
 fn main(rt: HostRuntime) -> ExitCode {
     let mut err = rt.stderr();
     let is_terminal = err.is_terminal();
     ExitCode::from(run(
-        OperationRows,
+        AllCalls,
         &rt,
         words_of_system(&rt),
         is_terminal,

@@ -4,8 +4,9 @@ use Rattle.std.proofs.lemmas.Bool.{lt-leb, le-leb}
 use Rattle.std.proofs.lemmas.List.{get_or-map, length-map}
 use denote.Ref.{Bor}
 use Rattle.rustc_apfloat.specs.declared.Round.{Round}
-use Rattle.formats_at_run_time.specs.declared.built_in.BuiltInKind.{BuiltInKind}
-use Rattle.formats_at_run_time.specs.BuiltIns.{kind_named, kind_of}
+use Rattle.formats_at_run_time.specs.declared.command_kind.CommandKind.{CommandKind}
+use Rattle.formats_at_run_time.specs.BuiltIns.{kind_of}
+use Rattle.formats_at_run_time.specs.CommandKinds.{built_in_kind, command_kind_named}
 use Rattle.formats_at_run_time.specs.ValueKinds.{Kind}
 use Rattle.commands.specs.declared.operation.Operation.{Operation}
 use Rattle.commands.specs.declared.operation.Operation.TheVariants.{OfTwo, FusedSum, WholeNumber, Text}
@@ -101,17 +102,17 @@ calculation_of kind WholeNumber name first second third count e = rw e refl
 calculation_of kind Text name first second third count e = rw e refl
 
 -- a reply to the named operation is the reply to the command
-pub only_named : (format operation mode first second third : List ℕ) (count : ℕ) (kind : BuiltInKind)
+pub only_named : (format operation mode first second third : List ℕ) (count : ℕ) (kind : CommandKind)
     (known : Operation) (round : Round) (reply : Reply)
-    → count ≤ 3 → kind_named format ≡ Some kind → named operation mode count ≡ Ok (known, round)
-    → IsOnly (IsReplyTo (commanded (kind_of kind) round
-    (calculation (kind_of kind) known operation (first ∷ second ∷ third ∷ [])))) reply
+    → count ≤ 3 → command_kind_named format ≡ Some kind → named operation mode count ≡ Ok (known, round)
+    → IsOnly (IsReplyTo (commanded (kind_of (built_in_kind kind)) round
+    (calculation (kind_of (built_in_kind kind)) known operation (first ∷ second ∷ third ∷ [])))) reply
     → IsOnly (IsReplyTo (with_format format operation mode (take count (first ∷ second ∷ third ∷ [])))) reply
 only_named format operation mode first second third count kind known round reply few kind_is names only =
     rw (
       kind_is,
       length-operands count first second third few,
       names,
-      calculation_of (kind_of kind) known operation first second third count
+      calculation_of (kind_of (built_in_kind kind)) known operation first second third count
           (named_count operation mode count known round names),
     ) only

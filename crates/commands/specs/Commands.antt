@@ -9,7 +9,8 @@ use Rattle.rustc_apfloat.specs.Faults.{fault_of, words}
 use Rattle.formats_at_run_time.specs.declared.Arithmetic.{Arithmetic}
 use Rattle.formats_at_run_time.specs.declared.Arithmetic.TheVariants.{Sum, Difference, Product, Quotient, NearestRemainder, TruncatedRemainder}
 use Rattle.formats_at_run_time.specs.ValueKinds.{Kind, bits_in}
-use Rattle.formats_at_run_time.specs.BuiltIns.{kind_named, kind_of}
+use Rattle.formats_at_run_time.specs.BuiltIns.{kind_of}
+use Rattle.formats_at_run_time.specs.CommandKinds.{built_in_kind, command_kind_named}
 use Rattle.formats_at_run_time.specs.Limits.{fuses, multiplies}
 use Rattle.formats_at_run_time.specs.Modes.{mode_named}
 use Rattle.formats_at_run_time.specs.OfTwo.{has_operation}
@@ -164,7 +165,8 @@ with_operation kind operation mode operands =
 
 abbrev pub with_format : List ℕ → List ℕ → List ℕ → List (List ℕ) → Result Command (List ℕ)
 with_format format operation mode operands =
-    ok_or (kind_named format) format >>= λ kind. with_operation (kind_of kind) operation mode operands
+    ok_or (command_kind_named format) format
+    >>= λ kind. with_operation (kind_of (built_in_kind kind)) operation mode operands
 
 -- the command that words give: those after the program's own name
 abbrev pub command_of : List (List ℕ) → Result Command (List ℕ)

@@ -7,7 +7,7 @@ ghost use Rattle.commands.specs.Replies.{IsOnly, IsReply, IsReplyTo, digit_count
 
 use crate::calculation::{Calculation, Operands};
 use crate::words::{ARGUMENTS, named};
-use formats_at_run_time::BuiltInKind;
+use formats_at_run_time::CommandKind;
 use rustc_apfloat::Status;
 
 /// The reply to a command.
@@ -91,7 +91,7 @@ fn answer<'a>(
         (reply_of result) }
     ensures short { digit_count (reply_of result) ≤ 32 }
 {
-    let Some(kind) = BuiltInKind::named(format) else {
+    let Some(kind) = CommandKind::named(format) else {
         return Reply::Refused(format);
     };
     let (known, round) = match named(operation, mode, count) {

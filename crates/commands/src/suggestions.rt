@@ -3,9 +3,21 @@
 ghost use Rattle.std.specs.Prelude.{◌≡◌, Some, None, MatchOption, map};
 ghost use Rattle.commands.specs.Suggestions.{first_near, is_one_edit, is_swap};
 
-/// The formats of the programs, except pairs of doubles.
+/// The formats of the programs other than `vectors`, except pairs of doubles.
 pub static FORMATS: &[&str] = &[
-    "half", "single", "double", "quad", "bfloat", "e5m2", "e4m3fn", "e4m3fnuz", "x87",
+    "half",
+    "single",
+    "double",
+    "quad",
+    "bfloat",
+    "e5m2",
+    "e4m3fn",
+    "e4m3fnuz",
+    "x87",
+    "e4m3",
+    "e5m2fnuz",
+    "e4m3b11fnuz",
+    "tf32",
 ];
 
 /// The rounding modes.

@@ -12,7 +12,8 @@ Converts a stream of values to another format: reads little-endian values of the
 format FROM from standard input, and writes them in the format TO to standard
 output.
 
-FROM, TO  half single double quad bfloat e5m2 e4m3fn e4m3fnuz x87
+FROM, TO  half single double quad bfloat e5m2 e4m3fn e4m3fnuz x87 e4m3
+          e5m2fnuz e4m3b11fnuz tf32
 MODE      even    to the nearest value, ties to even
           up      toward positive
           down    toward negative

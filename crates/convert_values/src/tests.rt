@@ -134,6 +134,18 @@ fn reads_no_padding_and_writes_zeros(rt: HostRuntime) -> Result<(), Fail> {
 }
 
 #[test]
+fn stores_tf32_in_the_lowest_bits_of_four_bytes(rt: HostRuntime) -> Result<(), Fail> {
+    // 1 and 1.0625.
+    let (output, _, status) = answer_to(&rt, "single tf32 even", &SINGLES[..8])?;
+    let wanted = b"\x00\xfc\x01\x00\x40\xfc\x01\x00";
+    assert_eq!(rt; (output.as_slice(), status), (wanted.as_slice(), 0));
+    // 1.0625, with ones above its bits.
+    let (output, _, status) = answer_to(&rt, "tf32 single even", b"\x40\xfc\xf9\xff")?;
+    assert_eq!(rt; (output.as_slice(), status), (&SINGLES[4..8], 0));
+    Ok(())
+}
+
+#[test]
 fn refuses_other_words(rt: HostRuntime) -> Result<(), Fail> {
     for line in [
         "",

@@ -118,7 +118,7 @@ pub enum Place {
     Beyond(Exact),
 }
 
-/// The operand that a machine makes the NaN of its result from.
+/// Where a machine takes the NaN of a result from.
 #[derive(Clone, Copy, Debug)]
 pub enum NanSource {
     /// No operand is a NaN, so that the result is the default NaN.
@@ -140,7 +140,7 @@ pub struct Explanation {
     pub result: Shown,
     /// Its flags.
     pub status: Status,
-    /// Where its NaN comes from, if a machine gives it and it is one.
+    /// Where the NaN comes from, if the result is one that a machine gives.
     pub nan_source: Option<NanSource>,
     /// Where the exact result is.
     pub place: Place,

@@ -114,8 +114,8 @@ fn write_shown<W: Write>(widths: Widths, name: &str, shown: &Shown, out: &mut W)
 
 /// Writes the bits of a value and its shortest decimal, on separate lines if there are 128 bits.
 fn write_head<W: Write>(widths: Widths, name: &str, shown: &Shown, out: &mut W) -> io::Result<()> {
-    write!(out, "{name:<8}")?;
-    write_digits(shown.bits, widths.bits / 4, 4, out)?;
+    write!(out, "{name:<7} ")?;
+    write_digits(shown.bits, widths.bits.div_ceil(4), 4, out)?;
     out.write_all(if widths.bits > 80 {
         b"\n        "
     } else {

@@ -13,7 +13,8 @@ usage: explain [--machine NAME] FORMAT OP MODE A [B [C]]
 Shows how an operation in the format FORMAT gets its result, or what the value
 A is.
 
-FORMAT   half single double quad bfloat e5m2 e4m3fn e4m3fnuz x87
+FORMAT   half single double quad bfloat e5m2 e4m3fn e4m3fnuz x87 e4m3
+         e5m2fnuz e4m3b11fnuz tf32
 OP       add sub mul div rem mod   of A and B
          fma                       A times B plus C
          sqrt                      of A
@@ -32,7 +33,7 @@ a word could have been either, the output says how it was read.
 
 --machine NAME  shows the result as a machine gives it, with its NaN and its
                 flags: x86 x87 arm arm-default-nan arm-alternate riscv power
-                s390x; in a format with infinities
+                s390x; in half single double quad bfloat e5m2 x87
 
 --help, -h  writes this text
 --version   writes the name and the version of the program
@@ -154,7 +155,7 @@ pub enum Fault<'a> {
     Value(&'a str),
     /// No machine has this name.
     Machine(&'a str),
-    /// The machine of this name has no fused sums, or the format has no infinities.
+    /// The machine of this name has no fused sums, or machines do not have the format.
     Lacks(&'a str),
 }
 
@@ -231,7 +232,7 @@ impl<'a> Question<'a> {
     }
 }
 
-/// Whether no result of a machine is known: in a format without infinities, and of a fused sum if it has none.
+/// Whether no result of a machine is known: in a format that machines do not have, and of a fused sum if it has none.
 fn is_lacking(machine: Machine, format: BuiltInFormat, operation: Operation) -> bool {
     let is_fused = matches!(operation, Operation::FusedSum);
     IeeeFormat::of(BuiltInKind::OfFormat(format)).is_none() || (is_fused && !machine.has_fused())

@@ -9,6 +9,13 @@ use std::io::{ErrorKind, Write};
 
 const PROGRAM: &str = "explain";
 
+/// The formats, for messages.
+const FORMAT_WORDS: &str =
+    "half single double quad bfloat e5m2 e4m3fn e4m3fnuz x87 e4m3 e5m2fnuz e4m3b11fnuz tf32";
+
+/// The formats that machines have, for messages.
+const MACHINE_FORMATS: &str = "half single double quad bfloat e5m2 x87";
+
 const FAILED: u8 = 1;
 
 const OTHER_WORDS: u8 = 2;
@@ -67,10 +74,7 @@ fn refuse<V: Write>(fault: Fault, err: &mut V) -> io::Result<u8> {
             wrong.write(PROGRAM, err)?;
         }
         Fault::Format(word) => {
-            write!(
-                err,
-                "explain: no format '{word}' (half single double quad bfloat e5m2 e4m3fn e4m3fnuz x87)"
-            )?;
+            write!(err, "explain: no format '{word}' ({FORMAT_WORDS})")?;
             suggest(word, FORMATS, err)?;
         }
         Fault::Operation(word) => {
@@ -93,7 +97,7 @@ fn refuse<V: Write>(fault: Fault, err: &mut V) -> io::Result<u8> {
         }
         Fault::Lacks(word) => writeln!(
             err,
-            "explain: no such operation on '{word}' (x87 has no fma; the format needs infinities)"
+            "explain: no such operation on '{word}' (x87 has no fma; the formats are {MACHINE_FORMATS})"
         )?,
         Fault::Value(word) => writeln!(
             err,

@@ -1,13 +1,14 @@
 -- The built-in kinds of values, with their words and codes.
-use Rattle.std.specs.Prelude.{◌≡◌, ℕ, ◌==◌, nat_lt, Bool, true, if◌then◌else◌, List, [], ◌∷◌, codes, map, Option, Some, None}
+use Rattle.std.specs.Prelude.{◌≡◌, ℕ, ◌==◌, nat_lt, Bool, true, if◌then◌else◌, List, [], ◌∷◌, codes, Option, Some, None}
 use Rattle.std.proofs.Common.{refl}
 use Rattle.rustc_apfloat.specs.Digits.{same}
 use Rattle.rustc_apfloat.specs.Lawful.{Constants, IsLawful}
 use Rattle.rustc_apfloat.proofs.LawTest.{lawful_from_test}
 use Rattle.rustc_apfloat.specs.Formats.{half_constants, single_constants, double_constants, quad_constants, bfloat_constants, e5m2_constants, e4m3fn_constants, e4m3fnuz_constants, x87_constants}
+use Rattle.rustc_apfloat.specs.Formats.{e4m3_constants, e5m2fnuz_constants, e4m3b11fnuz_constants, tf32_constants}
 use Rattle.formats_at_run_time.specs.ValueKinds.{Kind, of_format, of_pairs}
 use Rattle.formats_at_run_time.specs.declared.built_in.BuiltInFormat.{BuiltInFormat}
-use Rattle.formats_at_run_time.specs.declared.built_in.BuiltInFormat.TheVariants.{Half, Single, Double, Quad, BFloat, E5M2, E4M3FN, E4M3FNUZ, X87}
+use Rattle.formats_at_run_time.specs.declared.built_in.BuiltInFormat.TheVariants.{Half, Single, Double, Quad, BFloat, E5M2, E4M3FN, E4M3FNUZ, X87, E4M3, E5M2FNUZ, E4M3B11FNUZ, TF32}
 use Rattle.formats_at_run_time.specs.declared.built_in.BuiltInKind.{BuiltInKind}
 use Rattle.formats_at_run_time.specs.declared.built_in.BuiltInKind.TheVariants.{OfFormat, Pairs}
 
@@ -30,6 +31,10 @@ known_format E5M2 = known e5m2_constants (lawful_from_test _ refl) refl
 known_format E4M3FN = known e4m3fn_constants (lawful_from_test _ refl) refl
 known_format E4M3FNUZ = known e4m3fnuz_constants (lawful_from_test _ refl) refl
 known_format X87 = known x87_constants (lawful_from_test _ refl) refl
+known_format E4M3 = known e4m3_constants (lawful_from_test _ refl) refl
+known_format E5M2FNUZ = known e5m2fnuz_constants (lawful_from_test _ refl) refl
+known_format E4M3B11FNUZ = known e4m3b11fnuz_constants (lawful_from_test _ refl) refl
+known_format TF32 = known tf32_constants (lawful_from_test _ refl) refl
 
 abbrev pub constants_in : BuiltInFormat → Constants
 constants_in format = (known_format format).constants
@@ -59,11 +64,11 @@ kinds =
     ∷ row (OfFormat E4M3FNUZ) (codes "e4m3fnuz") 8
     ∷ row (OfFormat X87) (codes "x87") 9
     ∷ row Pairs (codes "dd") 10
+    ∷ row (OfFormat E4M3) (codes "e4m3") 16
+    ∷ row (OfFormat E5M2FNUZ) (codes "e5m2fnuz") 17
+    ∷ row (OfFormat E4M3B11FNUZ) (codes "e4m3b11fnuz") 18
+    ∷ row (OfFormat TF32) (codes "tf32") 19
     ∷ []
-
--- the kinds of the rows, in order
-abbrev pub all_kinds : List BuiltInKind
-all_kinds = map (λ (row : KindRow). row.kind) kinds
 
 -- the kind of the first row that passes the test
 abbrev pub first_kind : (KindRow → Bool) → List KindRow → Option BuiltInKind

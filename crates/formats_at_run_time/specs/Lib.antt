@@ -2,6 +2,7 @@ pub mod ValueKinds
 pub mod FormatKinds
 pub mod Limits
 pub mod BuiltIns
+pub mod CommandKinds
 pub mod FlaggedKinds
 pub mod Modes
 pub mod Relations

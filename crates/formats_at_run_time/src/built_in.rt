@@ -2,16 +2,17 @@
 
 ghost use Rattle.std.specs.Prelude.{◌≡◌, Some};
 ghost use Rattle.formats_at_run_time.specs.ValueKinds.{of_format};
-ghost use Rattle.formats_at_run_time.specs.BuiltIns.{all_kinds, constants_in, format_in, kind_coded, kind_named, kind_of};
+ghost use Rattle.formats_at_run_time.specs.BuiltIns.{constants_in, format_in, kind_coded, kind_named, kind_of};
 
 use crate::flagged::{FillsInFormat, WritesInFormat};
 use crate::in_kind::{InFormat, InKind};
 use rustc_apfloat::ieee::{
-    BFloatS, DoubleS, Float8E4M3FNS, Float8E4M3FNUZS, Float8E5M2S, HalfS, QuadS, SingleS,
-    X87DoubleExtendedS,
+    BFloatS, DoubleS, Float8E4M3B11FNUZS, Float8E4M3FNS, Float8E4M3FNUZS, Float8E4M3S,
+    Float8E5M2FNUZS, Float8E5M2S, FloatTF32S, HalfS, QuadS, SingleS, X87DoubleExtendedS,
 };
 
-// Passes each built-in format to the macro named: its variant, the constants of its type, its word and its code.
+// Passes each built-in format to the macro named: its variant, the constants of its type, its word and its code. The
+// code of pairs is 10; 11 to 15 name nothing.
 macro_rules! each_format {
     ($taker:ident($($given:tt)*)) => {
         $taker! {
@@ -25,13 +26,11 @@ macro_rules! each_format {
             E4M3FN Float8E4M3FNS "e4m3fn" 7,
             E4M3FNUZ Float8E4M3FNUZS "e4m3fnuz" 8,
             X87 X87DoubleExtendedS "x87" 9,
+            E4M3 Float8E4M3S "e4m3" 16,
+            E5M2FNUZ Float8E5M2FNUZS "e5m2fnuz" 17,
+            E4M3B11FNUZ Float8E4M3B11FNUZS "e4m3b11fnuz" 18,
+            TF32 FloatTF32S "tf32" 19,
         }
-    };
-}
-
-macro_rules! all_kinds {
-    (() $($name:ident $semantics:ident $word:literal $code:literal,)*) => {
-        [$(BuiltInKind::OfFormat(BuiltInFormat::$name),)* BuiltInKind::Pairs]
     };
 }
 
@@ -111,6 +110,14 @@ pub enum BuiltInFormat {
     E4M3FNUZ,
     /// The extended format of the x87, with an explicit integer bit.
     X87,
+    /// Eight bits, four of them the exponent, with infinities.
+    E4M3,
+    /// Eight bits, five of them the exponent, without infinities and a negative zero.
+    E5M2FNUZ,
+    /// Eight bits, four of them the exponent, of bias 11, without infinities and a negative zero.
+    E4M3B11FNUZ,
+    /// Nineteen bits: the exponents of binary32 and the digits of binary16.
+    TF32,
 }
 
 /// The built-in kinds of values.
@@ -120,13 +127,6 @@ pub enum BuiltInKind {
     OfFormat(BuiltInFormat),
     /// Pairs of doubles.
     Pairs,
-}
-
-/// All built-in kinds of values, in the order of their codes.
-pub fn built_in_kinds() -> &'static [BuiltInKind]
-    ensures { result.now ≡ all_kinds }
-{
-    &each_format!(all_kinds())
 }
 
 impl BuiltInFormat {

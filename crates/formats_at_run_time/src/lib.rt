@@ -4,13 +4,15 @@
 
 mod arithmetic;
 mod built_in;
+mod command_kind;
 mod flagged;
 mod in_kind;
 mod modes;
 mod value_type;
 
 pub use arithmetic::Arithmetic;
-pub use built_in::{BuiltInFormat, BuiltInKind, built_in_kinds};
+pub use built_in::{BuiltInFormat, BuiltInKind};
+pub use command_kind::{CommandFormat, CommandKind, command_kinds};
 pub use flagged::{
     FillsInFormat, FillsInKind, FlaggedFormat, FlaggedKind, IeeeFormat, InFlaggedFormat,
     InFlaggedKind, WritesInFormat,

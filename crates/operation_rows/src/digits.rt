@@ -7,19 +7,19 @@ ghost use Rattle.rustc_apfloat.specs.Lawful.{format_with};
 ghost use Rattle.apfloat_decimals.specs.Decimals.{HasQuadExponents};
 ghost use Rattle.formats_at_run_time.specs.FormatKinds.{IfFormat};
 
-use crate::Answered;
+use crate::OperationRequest;
 use decimal_digits::{Written, digit_count, write_digits};
 use formats_at_run_time::{FlaggedFormat, InFormat};
 use rustc_apfloat::ieee::{IeeeFloat, Semantics};
 use std::str;
 use vector_lines::{
-    CallFault, ExtraField, Operand, OperationCall, OperationRequest, RowAnswer, RowFormat,
-    StatusField, Text, ValueField, value_of,
+    Answered, CallFault, ExtraField, Operand, OperationCall, RowAnswer, RowFormat, StatusField,
+    Text, ValueField, value_of,
 };
 
 /// What a call on the digits of a value returns in a format, if that is a built-in one with the flags of the built-in
 /// formats.
-pub fn digits_in(format: RowFormat, request: OperationRequest) -> Answered {
+pub(crate) fn digits_in(format: RowFormat, request: OperationRequest) -> Answered {
     match format {
         RowFormat::BuiltIn(format, FlaggedFormat::BuiltIn(_)) => {
             format.run(DigitsIn { request })
@@ -51,6 +51,7 @@ impl InFormat for DigitsIn {
 }
 
 /// How many digits a value has.
+#[inline(never)]
 fn counted<S: Semantics>(x: IeeeFloat<S>) -> RowAnswer
     requires { HasQuadExponents (format_of S.Semantics) }
 {
@@ -61,6 +62,7 @@ fn counted<S: Semantics>(x: IeeeFloat<S>) -> RowAnswer
 }
 
 /// As many digits of a value as the row asks for.
+#[inline(never)]
 fn written<S: Semantics>(x: IeeeFloat<S>, request: OperationRequest) -> Answered
     requires { HasQuadExponents (format_of S.Semantics) }
 {

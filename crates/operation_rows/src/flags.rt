@@ -5,11 +5,12 @@ use apfloat_comparisons::{
 };
 use rustc_apfloat::Status;
 use vector_lines::{
-    CallFault, ExtraField, FlagsCall, Operand, Operands, RowAnswer, StatusField, Text, ValueField,
+    Answered, CallFault, ExtraField, FlagsCall, Operand, Operands, RowAnswer, StatusField, Text,
+    ValueField,
 };
 
 /// What an operation on flags returns: flags in their column, or whether any is raised.
-pub fn flags_of(call: FlagsCall, operands: Operands) -> Result<RowAnswer, CallFault> {
+pub fn flags_of(call: FlagsCall, operands: Operands) -> Answered {
     let Operand::Status(flags) = operands.first else {
         return Err(CallFault::Operands);
     };

@@ -1,117 +1,103 @@
 //! Operations on values of one format whose result is of another (5.4.1, formatOf).
 //!
-//! Each pair of formats has its own copy of the code, so operands are of built-in formats only.
+//! The operands carry their format with them, so that there is a copy of the code for each target, and not for each
+//! pair of formats.
 
-use crate::Answered;
-use formats_at_run_time::InFormat;
-use rustc_apfloat::StatusAnd;
-use rustc_apfloat::ieee::{Flagged, IeeeFloat, Semantics};
-use std::marker::PhantomData;
+use crate::OperationRequest;
+use apfloat_ieee::AnyFloat;
+use rustc_apfloat::ieee::{Flagged, IeeeFloat};
+use rustc_apfloat::{Round, StatusAnd};
 use vector_lines::{
-    CallFault, CallInFormat, FormatOfCall, Operands, OperationRequest, Returned, RowAnswer,
-    RowFormat, two_values, value_of,
+    Answered, CallFault, CallInFormat, FormatOfCall, Operands, Quanta, Returned, RowAnswer,
+    RowFormat, any_value,
 };
 
-/// What an operation on values of one format returns in another.
-pub fn in_another(
+/// What an operation on values of a built-in format returns in another.
+pub(crate) fn in_another(
     source: RowFormat,
     target: RowFormat,
     call: FormatOfCall,
     request: OperationRequest,
 ) -> Answered {
-    match source {
-        RowFormat::BuiltIn(source, _) => {
-            source.run(OnBuiltIn {
-                target,
-                call,
-                request,
-            })
-        }
-        RowFormat::Other(_) => Err(CallFault::Support),
+    if matches!(source, RowFormat::Other(_)) {
+        return Err(CallFault::Support);
+    }
+    match operation_of(call, source, request.operands) {
+        Some(operation) => target.run(InTarget {
+            operation,
+            round: request.round,
+            stated: request.stated,
+        }),
+        None => Err(CallFault::Operand),
     }
 }
 
-/// An operation on values of a built-in format.
+/// An operation with its operands.
 #[derive(Drop)]
-struct OnBuiltIn {
-    target: RowFormat,
-    call: FormatOfCall,
-    request: OperationRequest,
+enum Operation {
+    Add(AnyFloat, AnyFloat),
+    Sub(AnyFloat, AnyFloat),
+    Mul(AnyFloat, AnyFloat),
+    Div(AnyFloat, AnyFloat),
+    Sqrt(AnyFloat),
+    MulAdd(AnyFloat, AnyFloat, AnyFloat),
 }
 
-impl InFormat for OnBuiltIn {
-    type Output = Answered;
-
-    fn in_format<S: Semantics>(self) -> Answered {
-        self.target.run(On {
-            source: PhantomData::<S>,
-            call: self.call,
-            request: self.request,
-        })
+/// An operation with its operands, if they are values of the format.
+fn operation_of(call: FormatOfCall, format: RowFormat, operands: Operands) -> Option<Operation> {
+    let Operands {
+        first,
+        second,
+        third,
+    } = operands;
+    let Some(x) = any_value(format, first) else {
+        return None;
+    };
+    if let FormatOfCall::Sqrt = call {
+        return Some(Operation::Sqrt(x));
     }
-}
-
-/// An operation on values of the format `S`.
-#[derive(Drop)]
-struct On<S> {
-    source: PhantomData<S>,
-    call: FormatOfCall,
-    request: OperationRequest,
-}
-
-impl<S: Flagged> CallInFormat for On<S> {
-    type Output = Answered;
-
-    fn made_in<T: Flagged>(self) -> Answered {
-        match computed::<S, T>(self.call, self.request) {
-            Some(answer) => { Ok(RowAnswer::of(Returned::Rounded(answer), self.request.stated)) }
-            None => Err(CallFault::Operand),
-        }
-    }
-}
-
-/// The result in the format `T`, if the operands are values of the format `S`.
-fn computed<S: Flagged, T: Flagged>(
-    call: FormatOfCall,
-    request: OperationRequest,
-) -> Option<StatusAnd<IeeeFloat<T>>> {
-    match call {
-        FormatOfCall::Sqrt => {
-            let Some(x) = value_of::<IeeeFloat<S>>(request.operands.first) else {
-                return None;
-            };
-            Some(x.sqrt_to::<T>(request.round))
-        }
-        FormatOfCall::MulAdd => fused_sum::<S, T>(request),
-        _ => of_two::<S, T>(call, request),
-    }
-}
-
-/// The product plus the third value.
-fn fused_sum<S: Flagged, T: Flagged>(request: OperationRequest) -> Option<StatusAnd<IeeeFloat<T>>> {
-    let Operands { third, .. } = request.operands;
-    match (
-        two_values::<IeeeFloat<S>>(request.operands),
-        value_of::<IeeeFloat<S>>(third),
-    ) {
-        (Some((x, y)), Some(z)) => Some(x.mul_add_to::<T>(y, z, request.round)),
-        _ => None,
-    }
-}
-
-/// The result of an operation on two values.
-fn of_two<S: Flagged, T: Flagged>(
-    call: FormatOfCall,
-    request: OperationRequest,
-) -> Option<StatusAnd<IeeeFloat<T>>> {
-    let Some((x, y)) = two_values::<IeeeFloat<S>>(request.operands) else {
+    let Some(y) = any_value(format, second) else {
         return None;
     };
     match call {
-        FormatOfCall::Add => Some(x.add_to::<T>(y, request.round)),
-        FormatOfCall::Sub => Some(x.sub_to::<T>(y, request.round)),
-        FormatOfCall::Mul => Some(x.mul_to::<T>(y, request.round)),
-        FormatOfCall::Div => Some(x.div_to::<T>(y, request.round)),
-        FormatOfCall::Sqrt | FormatOfCall::MulAdd => None,
+        FormatOfCall::Add => Some(Operation::Add(x, y)),
+        FormatOfCall::Sub => Some(Operation::Sub(x, y)),
+        FormatOfCall::Mul => Some(Operation::Mul(x, y)),
+        FormatOfCall::Div => Some(Operation::Div(x, y)),
+        FormatOfCall::MulAdd => match any_value(format, third) {
+            Some(z) => Some(Operation::MulAdd(x, y, z)),
+            None => None,
+        },
+        FormatOfCall::Sqrt => None,
+    }
+}
+
+/// An operation that delivers in a format.
+#[derive(Drop)]
+struct InTarget {
+    operation: Operation,
+    round: Round,
+    stated: Option<Quanta>,
+}
+
+impl CallInFormat for InTarget {
+    type Output = Answered;
+
+    fn made_in<T: Flagged>(self) -> Answered {
+        let answer = delivered::<T>(self.operation, self.round);
+        Ok(RowAnswer::of(Returned::Rounded(answer), self.stated))
+    }
+}
+
+/// The result of an operation in the format `T`.
+#[inline(never)]
+fn delivered<T: Flagged>(operation: Operation, round: Round) -> StatusAnd<IeeeFloat<T>> {
+    match operation {
+        Operation::Add(x, y) => x.add_to::<T>(y, round),
+        Operation::Sub(x, y) => x.sub_to::<T>(y, round),
+        Operation::Mul(x, y) => x.mul_to::<T>(y, round),
+        Operation::Div(x, y) => x.div_to::<T>(y, round),
+        Operation::Sqrt(x) => x.sqrt_to::<T>(round),
+        Operation::MulAdd(x, y, z) => x.mul_add_to::<T>(y, z, round),
     }
 }

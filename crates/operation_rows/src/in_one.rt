@@ -2,7 +2,7 @@
 
 ghost use Rattle.std.specs.Prelude.{◌≤◌};
 
-use crate::Answered;
+use crate::OperationRequest;
 use apfloat_comparisons::{
     Extremum, class_of, compare, convert_to_signed, convert_to_signed_exact, convert_to_unsigned,
     convert_to_unsigned_exact, extremum_number_of, extremum_of, integer_log_b, is_canonical,
@@ -12,13 +12,12 @@ use apfloat_comparisons::{
 use rustc_apfloat::ieee::{Flagged, IeeeFloat};
 use rustc_apfloat::{Float, Round, StatusAnd};
 use vector_lines::{
-    CallFault, CallInFormat, ExtraField, GeneralCall, Operand, OperationCall, OperationRequest,
-    OrderCall, Returned, RowAnswer, RowFormat, ToIntegerCall, ValueField, mask, shown, two_values,
-    value_of,
+    Answered, CallFault, CallInFormat, ExtraField, GeneralCall, Operand, OperationCall, OrderCall,
+    Returned, RowAnswer, RowFormat, ToIntegerCall, ValueField, mask, shown, two_values, value_of,
 };
 
 /// What an operation returns in a format.
-pub fn in_format(format: RowFormat, request: OperationRequest) -> Answered {
+pub(crate) fn in_format(format: RowFormat, request: OperationRequest) -> Answered {
     format.run(InOne { request })
 }
 
@@ -52,6 +51,7 @@ fn operated<S: Flagged>(request: OperationRequest) -> Answered {
 }
 
 /// What an operation on two values returns.
+#[inline(never)]
 fn of_two<S: Flagged>(request: OperationRequest) -> Answered {
     let Some((x, y)) = two_values::<IeeeFloat<S>>(request.operands) else {
         return Err(CallFault::Operand);
@@ -97,6 +97,7 @@ fn in_total_order<S: Flagged>(call: OrderCall, x: IeeeFloat<S>, y: IeeeFloat<S>)
 }
 
 /// What an operation on one value returns.
+#[inline(never)]
 fn of_one<S: Flagged>(call: GeneralCall, request: OperationRequest) -> Answered {
     let Some(x) = value_of::<IeeeFloat<S>>(request.operands.first) else {
         return Err(CallFault::Operand);
@@ -129,6 +130,7 @@ fn of_encoding<S: Flagged>(operand: Operand) -> Answered {
 }
 
 /// A value times a power of two.
+#[inline(never)]
 fn scaled<S: Flagged>(request: OperationRequest) -> Answered {
     let Operand::Integer(power) = request.operands.second else {
         return Err(CallFault::Operands);
@@ -140,6 +142,7 @@ fn scaled<S: Flagged>(request: OperationRequest) -> Answered {
 }
 
 /// A value as an integer.
+#[inline(never)]
 fn to_integer<S: Flagged>(call: ToIntegerCall, request: OperationRequest) -> Answered {
     let Operand::Integer(width) = request.operands.second else {
         return Err(CallFault::Operands);

@@ -13,34 +13,39 @@ use crate::digits::digits_in;
 use crate::flags::flags_of;
 use crate::in_another::in_another;
 use crate::in_one::in_format;
-use vector_lines::{CallFault, OperationCall, OperationRequest, Operations, RowAnswer, RowFormat};
+use rustc_apfloat::Round;
+use vector_lines::{Answered, CallFault, Formats, Operands, OperationCall, Quanta, Request};
 
-/// What an operation returns, or the fault of the row.
-type Answered = Result<RowAnswer, CallFault>;
-
-/// The rows of operations.
+/// The operation of a row, in one mode.
 #[derive(Clone, Copy)]
-pub struct OperationRows;
+pub(crate) struct OperationRequest {
+    /// The operation.
+    call: OperationCall,
+    /// The mode, which is ignored if the operation takes none.
+    round: Round,
+    /// The operands.
+    operands: Operands,
+    /// The value that the row states, if it is one of a format without bits.
+    stated: Option<Quanta>,
+}
 
-impl Operations for OperationRows {
-    fn in_one(self, format: RowFormat, request: OperationRequest) -> Answered {
-        match request.call {
-            OperationCall::WriteDigits | OperationCall::DigitCount => digits_in(format, request),
-            _ => in_format(format, request),
+/// What an operation returns in its formats.
+pub fn answer_of_operation(formats: Formats, call: OperationCall, request: Request) -> Answered {
+    let asked = OperationRequest {
+        call,
+        round: request.round,
+        operands: request.operands,
+        stated: request.stated,
+    };
+    match (formats, call) {
+        (Formats::One(format), OperationCall::WriteDigits | OperationCall::DigitCount) => {
+            digits_in(format, asked)
         }
-    }
-
-    fn between(self, source: RowFormat, target: RowFormat, request: OperationRequest) -> Answered {
-        match request.call {
-            OperationCall::InAnother(call) => in_another(source, target, call, request),
-            _ => Err(CallFault::Support),
+        (Formats::One(format), _) => in_format(format, asked),
+        (Formats::Between(source, target), OperationCall::InAnother(call)) => {
+            in_another(source, target, call, asked)
         }
-    }
-
-    fn on_flags(self, request: OperationRequest) -> Answered {
-        match request.call {
-            OperationCall::OfFlags(call) => flags_of(call, request.operands),
-            _ => Err(CallFault::Support),
-        }
+        (Formats::OfFlags, OperationCall::OfFlags(call)) => flags_of(call, asked.operands),
+        _ => Err(CallFault::Support),
     }
 }

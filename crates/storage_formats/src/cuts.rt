@@ -9,7 +9,7 @@ use apfloat_base::ExpInt;
 use apfloat_model::Loss;
 use apfloat_words::shift_right;
 
-/// How many digits a number has that is cut.
+/// The number of digits of what is cut.
 pub(crate) const DIGITS: u32 = 125;
 
 /// The digits that are kept, the place of the last of them, and what was cut off below it.

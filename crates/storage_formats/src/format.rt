@@ -8,9 +8,9 @@ use apfloat_base::ExpInt;
 /// A storage format all of whose codes are numbers.
 ///
 /// The bits of a code are, from the top, the sign, the biased exponent, and `PRECISION - 1` bits of the significand.
-/// The exponent 0 is that of the numbers without all digits, and there are no infinities and NaNs. A type gives each
-/// constant twice, for code and for contracts, and proves that they are consistent (`lawful`); if they are literals,
-/// the proof is `lawful_from_test _ refl`.
+/// The biased exponent 0 is that of zero and the denormal numbers, and there are no infinities or NaNs. A type gives
+/// each constant twice, for code and for contracts, and proves that they are consistent (`lawful`); if they are
+/// literals, the proof is `lawful_from_test _ refl`.
 pub trait StorageFormat: Copy {
     /// The width of a code in bits, at most 8.
     const BITS: usize;

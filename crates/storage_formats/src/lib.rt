@@ -1,9 +1,9 @@
 //! Storage formats: values that are only stored and converted. Arithmetic on them is that of another format, into which
 //! they are converted exactly.
 //!
-//! `StoredFloat<F>` is a value in at most 8 bits, all of whose codes are numbers, as the 4- and 6-bit elements of the
-//! Open Compute Project's microscaling formats (`named`): `E2M1FN`, `E2M3FN`, `E3M2FN`. `E8M0FNU` is a scale, a power
-//! of two (`scales`), and `UE4M3` one with a significand (`unsigned`).
+//! `StoredFloat<F>` is a value in at most 8 bits, all of whose codes are numbers, such as the 4- and 6-bit elements of
+//! the Open Compute Project's microscaling formats (`named`): `E2M1FN`, `E2M3FN`, `E3M2FN`. `E8M0FNU` is a scale that
+//! is a power of two (`scales`), and `UE4M3` one with a significand (`unsigned`).
 //!
 //! A conversion from any format is rounded once (`picks`): the digits of the value are cut at the last one that the
 //! format keeps there (`cuts`), and the mode moves them or not.

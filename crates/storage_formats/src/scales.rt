@@ -155,9 +155,9 @@ impl E8M0FNU {
     ///
     /// Past the largest scale the result is the NaN, with OVERFLOW and INEXACT, where the mode leads past it, and
     /// otherwise the largest scale, with INEXACT. What is below the least scale becomes that scale, and so does a zero,
-    /// with UNDERFLOW and INEXACT. Infinity becomes the NaN, with INEXACT, and what is below zero becomes the NaN, with
-    /// INVALID_OP. A NaN is the NaN, and has INVALID_OP if it is signaling; information is lost if the format has
-    /// payloads.
+    /// with UNDERFLOW and INEXACT. +infinity becomes the NaN, with INEXACT, and what is below zero becomes the NaN,
+    /// with INVALID_OP. A NaN becomes the NaN, with INVALID_OP if it is signaling; information is lost if the format
+    /// has payloads.
     pub fn from_value<S: Semantics>(
         x: IeeeFloat<S>,
         round: Round,
@@ -201,8 +201,8 @@ impl E8M0FNU {
         }
     }
 
-    /// The scale in another format, rounded once, as the value of any format is converted. A format that has the number
-    /// has it with status OK; the NaN becomes a quiet NaN without a payload.
+    /// The scale in another format, rounded once, as the value of any format is converted. A number that the format has
+    /// is unchanged, with status OK; the NaN becomes a quiet NaN without a payload.
     pub fn convert_r<T: Flagged>(
         self,
         round: Round,

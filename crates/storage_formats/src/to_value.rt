@@ -68,7 +68,7 @@ pub(crate) fn exponent_of(place: u8, scale: ExpInt) -> ExpInt
 
 impl<F: StorageFormat> StoredFloat<F> {
     /// The value in another format, rounded once (IEEE 754-2019 5.4.2), with the flags of that rounding, as a value of
-    /// any format is converted. A format that has the number has it with status OK.
+    /// any format is converted. A number that the format has is unchanged, with status OK.
     pub fn convert_r<T: Flagged>(
         self,
         round: Round,

@@ -10,10 +10,12 @@ mod call;
 mod call_fault;
 mod columns;
 mod form;
+mod formats;
 mod fpgen;
 mod operands;
 mod operations;
 mod quanta;
+mod request;
 mod row_error;
 mod row_format;
 mod table;
@@ -29,13 +31,14 @@ pub use call::{
 pub use call_fault::CallFault;
 pub use columns::{Columns, LineCall};
 pub use form::Form;
+pub use formats::Formats;
 pub use fpgen::{Fpgen, FpgenTest};
-pub use operands::{Operand, Operands, two_values, value_of};
+pub use operands::{Operand, Operands, any_value, two_values, value_of};
 pub use operations::{
-    FlagsCall, FormatOfCall, GeneralCall, OperationCall, OperationRequest, Operations, OrderCall,
-    ToIntegerCall,
+    FlagsCall, FormatOfCall, GeneralCall, OperationCall, OrderCall, ToIntegerCall,
 };
 pub use quanta::Quanta;
+pub use request::{Answered, Calls, Request};
 pub use row_error::{RowError, bits_error};
 pub use row_format::{CallInFormat, OtherFormat, RowFormat};
 pub use testfloat::TestFloat;

@@ -2,8 +2,11 @@
 
 use crate::answer::status_named;
 use crate::quanta::Quanta;
+use crate::row_format::{CallInFormat, RowFormat};
 use crate::widths::mask;
+use apfloat_ieee::AnyFloat;
 use commands::{bits_of, number_of};
+use rustc_apfloat::ieee::{Flagged, IeeeFloat};
 use rustc_apfloat::{ExpInt, Float, Status};
 
 /// An operand, read without its format.
@@ -191,5 +194,27 @@ pub fn two_values<F: Float>(operands: Operands) -> Option<(F, F)> {
     match (value_of(operands.first), value_of(operands.second)) {
         (Some(x), Some(y)) => Some((x, y)),
         _ => None,
+    }
+}
+
+/// The value of an operand in a format, with that format.
+pub fn any_value(format: RowFormat, operand: Operand) -> Option<AnyFloat> {
+    format.run_plain(WithFormat { operand })
+}
+
+/// The call that reads an operand.
+#[derive(Drop)]
+struct WithFormat {
+    operand: Operand,
+}
+
+impl CallInFormat for WithFormat {
+    type Output = Option<AnyFloat>;
+
+    fn made_in<S: Flagged>(self) -> Option<AnyFloat> {
+        match value_of::<IeeeFloat<S>>(self.operand) {
+            Some(x) => Some(x.with_format()),
+            None => None,
+        }
     }
 }

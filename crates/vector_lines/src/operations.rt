@@ -1,16 +1,10 @@
 //! The operations of IEEE 754-2019 that `Float` lacks, as rows name them.
 //!
-//! A row of one of them is checked by the crate `operation_rows`, behind the trait `Operations`.
+//! The crate `operation_rows` makes the call of such a row.
 
-use crate::answer::RowAnswer;
-use crate::call_fault::CallFault;
 use crate::form::Form;
-use crate::operands::Operands;
-use crate::quanta::Quanta;
-use crate::row_format::RowFormat;
 use crate::table::found;
 use apfloat_comparisons::{Extremum, OnNan, Predicate};
-use rustc_apfloat::Round;
 
 /// An operation of IEEE 754-2019.
 #[derive(Clone, Copy)]
@@ -86,19 +80,6 @@ pub enum FlagsCall {
     SaveAll,
     TestSaved,
     Restore,
-}
-
-/// The operation of a row, in one mode.
-#[derive(Clone, Copy)]
-pub struct OperationRequest {
-    /// The operation.
-    pub call: OperationCall,
-    /// The mode, which is ignored if the operation takes none.
-    pub round: Round,
-    /// The operands.
-    pub operands: Operands,
-    /// The value that the row states, if it is one of a format without bits.
-    pub stated: Option<Quanta>,
 }
 
 // The operations by their names.
@@ -283,23 +264,6 @@ static OPERATIONS: &[(&str, OperationCall)] = &[
     ),
     ("restore_flags", OperationCall::OfFlags(FlagsCall::Restore)),
 ];
-
-/// What checks the rows of operations.
-pub trait Operations: Copy {
-    /// What an operation returns in a format.
-    fn in_one(self, format: RowFormat, request: OperationRequest) -> Result<RowAnswer, CallFault>;
-
-    /// What an operation on values of one format returns in another.
-    fn between(
-        self,
-        source: RowFormat,
-        target: RowFormat,
-        request: OperationRequest,
-    ) -> Result<RowAnswer, CallFault>;
-
-    /// What an operation on flags returns.
-    fn on_flags(self, request: OperationRequest) -> Result<RowAnswer, CallFault>;
-}
 
 impl OperationCall {
     /// The operation of this name.

@@ -11,7 +11,7 @@ use std::alloc::{AllocError, Allocator, Global};
 use std::io::{BufRead, ErrorKind, Write};
 use std::rt::Clock;
 use std::{fmt, io, str};
-use vector_lines::{Operations, RowError};
+use vector_lines::{Calls, RowError};
 
 /// Lines read between two readings of the clock.
 const LINES: u64 = 1024;
@@ -22,8 +22,8 @@ const BYTE_ORDER_MARK: &[u8] = b"\xef\xbb\xbf";
 /// A check in progress.
 #[derive(Drop)]
 pub struct Check<M> {
-    // What checks the rows of operations.
-    operations: M,
+    // What checks the rows of calls.
+    calls: M,
     alloc: Global,
     tally: Tally,
     task: Task,
@@ -99,11 +99,11 @@ fn is_option(word: &str) -> bool {
     word == "--any-nan" || (word.len() > 1 && word.starts_with('-') && !word.starts_with("--"))
 }
 
-impl<M: Operations> Check<M> {
+impl<M: Calls> Check<M> {
     /// A check before the first line.
-    pub fn new(operations: M, task: Task, alloc: Global) -> Check<M> {
+    pub fn new(calls: M, task: Task, alloc: Global) -> Check<M> {
         Check {
-            operations,
+            calls,
             alloc,
             tally: Tally::default(),
             task,
@@ -181,10 +181,10 @@ impl<M: Operations> Check<M> {
         text: &str,
         out: &mut W,
     ) -> Result<(), Failure> {
-        match function.agrees(self.operations, text) {
+        match function.agrees(self.calls, text) {
             Ok(agrees) => {
                 if self.takes_difference(text, agrees, out)? {
-                    function.write_given(self.operations, text, out)?;
+                    function.write_given(self.calls, text, out)?;
                 }
                 Ok(())
             }
@@ -199,10 +199,10 @@ impl<M: Operations> Check<M> {
         text: &str,
         out: &mut W,
     ) -> Result<(), Failure> {
-        match fpgen.agrees(self.operations, text) {
+        match fpgen.agrees(self.calls, text) {
             Ok(Some(agrees)) => {
                 if self.takes_difference(text, agrees, out)? {
-                    fpgen.write_given(self.operations, text, out)?;
+                    fpgen.write_given(self.calls, text, out)?;
                 }
                 Ok(())
             }
@@ -231,10 +231,10 @@ impl<M: Operations> Check<M> {
         text: &str,
         out: &mut W,
     ) -> Result<(), Failure> {
-        match agrees(self.operations, row) {
+        match agrees(self.calls, row) {
             Ok(agrees) => {
                 if self.takes_difference(text, agrees, out)? {
-                    write_answers(self.operations, row, out)?;
+                    write_answers(self.calls, row, out)?;
                 }
                 Ok(())
             }

@@ -2,7 +2,7 @@
 
 use crate::fault::width_of;
 use commands::{agrees, bits_of, run};
-use formats_at_run_time::{BuiltInKind, mode_named};
+use formats_at_run_time::{CommandKind, mode_named};
 use rustc_apfloat::Flags;
 use std::alloc::{AllocError, Global};
 use std::{io, str};
@@ -40,7 +40,7 @@ impl<'a> CommandRow<'a> {
             return Some(RowError::Word("no reply", self.reply, REPLY));
         }
         match self.command.split_once(' ') {
-            Some((format, _)) if BuiltInKind::named(format).is_none() => {
+            Some((format, _)) if CommandKind::named(format).is_none() => {
                 Some(RowError::Word("no format", format, FORMATS))
             }
             Some((_, words)) => mode_fault(words),

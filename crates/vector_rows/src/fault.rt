@@ -1,9 +1,8 @@
 //! The errors of malformed rows of calls.
 
 use crate::call_row::CallRow;
-use crate::formats::Formats;
 use commands::bits_of;
-use vector_lines::{Call, CallFault, Form, Operand, OperationCall, RowError, bits_error};
+use vector_lines::{Call, CallFault, Form, Formats, Operand, OperationCall, RowError, bits_error};
 
 /// The form of a value, for messages.
 const VALUE: &str = "hexadecimal digits, or quanta as `+3q` in a format without bits";

@@ -2,15 +2,15 @@
 
 use crate::asked::Asked;
 use rustc_apfloat::{Flags, Status};
-use vector_lines::{Columns, LineCall, Operations, StatusField, ValueField};
+use vector_lines::{Calls, Columns, LineCall, StatusField, ValueField};
 
 /// What a call returns, if it exists and returns a status.
-pub fn given<M: Operations>(operations: M, call: &LineCall) -> Option<Columns> {
+pub fn given<M: Calls>(calls: M, call: &LineCall) -> Option<Columns> {
     let (format, operands) = (call.format.as_str(), call.operands.as_str());
     let Ok(asked) = Asked::of(call.name, format, call.mode, operands, "-") else {
         return None;
     };
-    let Ok(answer) = asked.answer(operations) else {
+    let Ok(answer) = asked.answer(calls) else {
         return None;
     };
     let StatusField::Flags(status) = answer.status else {

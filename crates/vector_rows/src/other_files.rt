@@ -5,7 +5,7 @@ use crate::summary::Summary;
 use std::alloc::AllocError;
 use std::io;
 use std::io::Write;
-use vector_lines::{Operations, RowError};
+use vector_lines::{Calls, RowError};
 
 /// The function of TestFloat that the lines of a file test, and how it rounds.
 #[derive(Clone, Copy)]
@@ -32,12 +32,12 @@ impl TestFloat {
     }
 
     /// Whether what the library returns agrees with a line.
-    pub fn agrees<M: Operations>(self, operations: M, line: &str) -> Result<bool, RowError<'_>> {
+    pub fn agrees<M: Calls>(self, calls: M, line: &str) -> Result<bool, RowError<'_>> {
         let (call, stated) = match self.lines.read(line) {
             Ok(parts) => parts,
             Err(error) => return Err(error),
         };
-        match given(operations, &call) {
+        match given(calls, &call) {
             Some(given) => Ok(self.lines.agrees(given, stated)),
             None => Err(self.lines.no_call(line)),
         }
@@ -50,16 +50,16 @@ impl TestFloat {
     }
 
     /// Writes the result and the flags that the library returns for a line.
-    pub fn write_given<M: Operations, W: Write>(
+    pub fn write_given<M: Calls, W: Write>(
         self,
-        operations: M,
+        calls: M,
         line: &str,
         out: &mut W,
     ) -> io::Result<()> {
         let Ok((call, _)) = self.lines.read(line) else {
             return Ok(());
         };
-        match given(operations, &call) {
+        match given(calls, &call) {
             Some(given) => self.lines.write_given(given, out),
             None => Ok(()),
         }
@@ -97,17 +97,13 @@ impl Fpgen {
 
     /// Whether what the library returns agrees with a line; `None` if the line states what is delivered to a trap
     /// handler, or is skipped.
-    pub fn agrees<M: Operations>(
-        self,
-        operations: M,
-        line: &str,
-    ) -> Result<Option<bool>, RowError<'_>> {
+    pub fn agrees<M: Calls>(self, calls: M, line: &str) -> Result<Option<bool>, RowError<'_>> {
         let test = match self.lines.read(line) {
             Ok(Some(test)) => test,
             Ok(None) => return Ok(None),
             Err(error) => return Err(error),
         };
-        match given(operations, &test.call) {
+        match given(calls, &test.call) {
             Some(given) => Ok(Some(test.agrees(given))),
             None => Err(vector_lines::Fpgen::no_call(line)),
         }
@@ -122,16 +118,16 @@ impl Fpgen {
     }
 
     /// Writes the bits and the flags that the library returns for a line.
-    pub fn write_given<M: Operations, W: Write>(
+    pub fn write_given<M: Calls, W: Write>(
         self,
-        operations: M,
+        calls: M,
         line: &str,
         out: &mut W,
     ) -> io::Result<()> {
         let Ok(Some(test)) = self.lines.read(line) else {
             return Ok(());
         };
-        match given(operations, &test.call) {
+        match given(calls, &test.call) {
             Some(given) => test.write_given(given, out),
             None => Ok(()),
         }

@@ -7,7 +7,7 @@ use commands::{About, WrongWord, write_fault};
 use std::io::{BufRead, BufReader, BufWriter, ErrorKind, Read, Write};
 use std::rt::{Clock, Files};
 use std::{fs, io};
-use vector_lines::Operations;
+use vector_lines::Calls;
 
 const PROGRAM: &str = "check_vectors";
 
@@ -104,8 +104,8 @@ static OPTIONS_OF_FPGEN: &[&str] = &[
 
 /// Runs the program with the arguments from the system, without its own name. If `err` is a terminal, it is told how
 /// far a long check has come. Returns the exit status.
-pub fn run<M: Operations, R: Files + Clock + Input + AllocGlobal, W: Write, V: Write>(
-    operations: M,
+pub fn run<M: Calls, R: Files + Clock + Input + AllocGlobal, W: Write, V: Write>(
+    calls: M,
     rt: &R,
     given: io::Result<Vec<String>>,
     is_terminal: bool,
@@ -122,22 +122,14 @@ pub fn run<M: Operations, R: Files + Clock + Input + AllocGlobal, W: Write, V: W
                 shows_progress: is_terminal,
                 ..task
             };
-            check_reader(
-                operations,
-                rt,
-                "standard input",
-                rt.reader(),
-                task,
-                out,
-                err,
-            )
+            check_reader(calls, rt, "standard input", rt.reader(), task, out, err)
         }
         Ok(Job::Check(task, Some(name))) => {
             let task = Task {
                 shows_progress: is_terminal,
                 ..task
             };
-            check_file(operations, rt, name, task, out, err)
+            check_file(calls, rt, name, task, out, err)
         }
         Ok(Job::About(about)) => answer(about, out, err),
         Err(wrong) => refuse_word(wrong, err),
@@ -338,8 +330,8 @@ fn answer<W: Write, V: Write>(about: About, out: &mut W, err: &mut V) -> u8 {
 }
 
 /// Checks the lines of a file. Returns the exit status.
-fn check_file<M: Operations, R: Files + Clock + AllocGlobal, W: Write, V: Write>(
-    operations: M,
+fn check_file<M: Calls, R: Files + Clock + AllocGlobal, W: Write, V: Write>(
+    calls: M,
     rt: &R,
     name: &str,
     task: Task,
@@ -347,14 +339,14 @@ fn check_file<M: Operations, R: Files + Clock + AllocGlobal, W: Write, V: Write>
     err: &mut V,
 ) -> u8 {
     match fs::open(rt, name) {
-        Ok(file) => check_reader(operations, rt, name, file, task, out, err),
+        Ok(file) => check_reader(calls, rt, name, file, task, out, err),
         Err(error) => report(name, &Failure::of_input("open", error), err),
     }
 }
 
 /// Checks the lines from a reader; messages call it `name`. Returns the exit status.
-fn check_reader<M: Operations, R: Clock + AllocGlobal, I: Read + Drop, W: Write, V: Write>(
-    operations: M,
+fn check_reader<M: Calls, R: Clock + AllocGlobal, I: Read + Drop, W: Write, V: Write>(
+    calls: M,
     rt: &R,
     name: &str,
     reader: I,
@@ -363,14 +355,14 @@ fn check_reader<M: Operations, R: Clock + AllocGlobal, I: Read + Drop, W: Write,
     err: &mut V,
 ) -> u8 {
     match BufReader::new(rt.alloc(), reader) {
-        Ok(mut input) => check_lines(operations, rt, name, &mut input, task, out, err),
+        Ok(mut input) => check_lines(calls, rt, name, &mut input, task, out, err),
         Err(error) => report(name, &Failure::of_input("open", error), err),
     }
 }
 
 /// Checks the lines of an input; messages call it `name`. Returns the exit status.
-pub fn check_lines<M: Operations, R: Clock + AllocGlobal, B: BufRead, W: Write, V: Write>(
-    operations: M,
+pub fn check_lines<M: Calls, R: Clock + AllocGlobal, B: BufRead, W: Write, V: Write>(
+    calls: M,
     rt: &R,
     name: &str,
     input: &mut B,
@@ -382,7 +374,7 @@ pub fn check_lines<M: Operations, R: Clock + AllocGlobal, B: BufRead, W: Write, 
         Ok(out) => out,
         Err(error) => return report(name, &Failure::from(error), err),
     };
-    let mut check = Check::new(operations, task, rt.alloc());
+    let mut check = Check::new(calls, task, rt.alloc());
     let ended = check.take(input, rt.alloc(), rt, &mut out, err);
     if let Err(Failure::Output(error)) = ended {
         return report(name, &Failure::Output(error), err);
@@ -399,7 +391,7 @@ pub fn check_lines<M: Operations, R: Clock + AllocGlobal, B: BufRead, W: Write, 
 }
 
 /// Writes the counts of a check.
-fn write_counts<M: Operations, W: Write>(check: &Check<M>, out: &mut W) -> io::Result<()> {
+fn write_counts<M: Calls, W: Write>(check: &Check<M>, out: &mut W) -> io::Result<()> {
     check.write_counts(out)?;
     out.flush()
 }

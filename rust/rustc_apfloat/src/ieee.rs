@@ -246,6 +246,20 @@ formats! {
         const NONFINITE_BEHAVIOR: NonfiniteBehavior = NonfiniteBehavior::NanNegativeZero;
         const MIN_EXP: ExpInt = -7;
     }
+    /// Eight bits, four of them the exponent, with infinities.
+    Float8E4M3 = Float8E4M3S(8: 4) {}
+    /// Eight bits, five of them the exponent, without infinities and without a negative zero.
+    Float8E5M2FNUZ = Float8E5M2FNUZS(8: 5) {
+        const NONFINITE_BEHAVIOR: NonfiniteBehavior = NonfiniteBehavior::NanNegativeZero;
+        const MIN_EXP: ExpInt = -15;
+    }
+    /// Eight bits, four of them the exponent, of bias 11, without infinities and without a negative zero.
+    Float8E4M3B11FNUZ = Float8E4M3B11FNUZS(8: 4) {
+        const NONFINITE_BEHAVIOR: NonfiniteBehavior = NonfiniteBehavior::NanNegativeZero;
+        const MIN_EXP: ExpInt = -10;
+    }
+    /// Nineteen bits: the exponents of binary32 and the digits of binary16.
+    FloatTF32 = FloatTF32S(19: 8) {}
     /// The 80 bits of the x87.
     X87DoubleExtended = X87DoubleExtendedS(80: 15) {
         const PRECISION: usize = 64;

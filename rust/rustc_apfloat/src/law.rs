@@ -163,7 +163,8 @@ mod tests {
     use super::*;
     use crate::ieee::{BFloatS, Double, Float8E5M2S, SingleS};
     use crate::ieee::{
-        DoubleS, Float8E4M3FNS, Float8E4M3FNUZS, HalfS, IeeeFlags, QuadS, TinyBefore, X87DoubleExtendedS,
+        DoubleS, Float8E4M3B11FNUZS, Float8E4M3FNS, Float8E4M3FNUZS, Float8E4M3S, Float8E5M2FNUZS, FloatTF32S, HalfS,
+        IeeeFlags, QuadS, TinyBefore, X87DoubleExtendedS,
     };
     use crate::ppc::{FallbackExtendedS, FallbackS};
 
@@ -178,6 +179,10 @@ mod tests {
             Constants::of::<Float8E5M2S>(),
             Constants::of::<Float8E4M3FNS>(),
             Constants::of::<Float8E4M3FNUZS>(),
+            Constants::of::<Float8E4M3S>(),
+            Constants::of::<Float8E5M2FNUZS>(),
+            Constants::of::<Float8E4M3B11FNUZS>(),
+            Constants::of::<FloatTF32S>(),
             Constants::of::<X87DoubleExtendedS>(),
             Constants::of::<FallbackS<Double>>(),
             Constants::of::<FallbackExtendedS<Double>>(),

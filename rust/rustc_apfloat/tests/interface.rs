@@ -77,6 +77,10 @@ fn constants_are_the_values_of_calls() {
     constants::<Float8E5M2>();
     constants::<Float8E4M3FN>();
     constants::<Float8E4M3FNUZ>();
+    constants::<Float8E4M3>();
+    constants::<Float8E5M2FNUZ>();
+    constants::<Float8E4M3B11FNUZ>();
+    constants::<FloatTF32>();
     constants::<X87DoubleExtended>();
     constants::<IeeeFloat<IeeeFlags<TinyBefore<DoubleS>>>>();
     constants::<DoubleDouble>();

@@ -49,5 +49,17 @@ e4m3fn_constants = interchange 8 4 4 NanOnly (pos 8) (neg_ℤ (pos 6)) false
 abbrev pub e4m3fnuz_constants : Constants
 e4m3fnuz_constants = interchange 8 4 4 NanNegativeZero (pos 7) (neg_ℤ (pos 7)) false
 
+abbrev pub e4m3_constants : Constants
+e4m3_constants = interchange 8 4 4 IEEE754 (pos 7) (neg_ℤ (pos 6)) false
+
+abbrev pub e5m2fnuz_constants : Constants
+e5m2fnuz_constants = interchange 8 5 3 NanNegativeZero (pos 15) (neg_ℤ (pos 15)) false
+
+abbrev pub e4m3b11fnuz_constants : Constants
+e4m3b11fnuz_constants = interchange 8 4 4 NanNegativeZero (pos 4) (neg_ℤ (pos 10)) false
+
+abbrev pub tf32_constants : Constants
+tf32_constants = interchange 19 8 11 IEEE754 (pos 127) (neg_ℤ (pos 126)) false
+
 abbrev pub x87_constants : Constants
 x87_constants = interchange 80 15 64 IEEE754 (pos 16383) (neg_ℤ (pos 16382)) true

@@ -7,26 +7,10 @@ use formats_at_run_time::ValueType;
 use rustc_apfloat::{ExpInt, Float, Round, StatusAnd};
 use std::fmt::Debug;
 use vector_lines::{
-    AssigningOperator, Call, CallFault, Constant, ExtraField, IntegerCall, OneValueCall, Operand,
-    Operands, Property, Quanta, Returned, RowAnswer, Text, TextCall, TwoValuesCall, ValueField,
-    WordCall, shown, two_values, value_of,
+    Answered, AssigningOperator, Call, CallFault, Constant, ExtraField, IntegerCall, OneValueCall,
+    Operand, Property, Quanta, Request, Returned, RowAnswer, Text, TextCall, TwoValuesCall,
+    ValueField, WordCall, shown, two_values, value_of,
 };
-
-/// What the call of a row returns, or the fault of the row.
-pub type Answered = Result<RowAnswer, CallFault>;
-
-/// A call that a row asks for, in one mode.
-#[derive(Clone, Copy)]
-pub struct Request {
-    /// The call.
-    pub call: Call,
-    /// The mode, which is ignored if the call takes none.
-    pub round: Round,
-    /// The operands that are not texts.
-    pub operands: Operands,
-    /// The value that the row states, if it is one of a format without bits.
-    pub stated: Option<Quanta>,
-}
 
 /// What a call returns; `text` is its operand if that is a text.
 pub fn of_type<F: ValueType + Magnitudes + Debug>(request: Request, text: &str) -> Answered {
@@ -46,6 +30,7 @@ pub fn of_type<F: ValueType + Magnitudes + Debug>(request: Request, text: &str) 
 }
 
 /// A constant of the type.
+#[inline(never)]
 fn constant_of<F: Float + Debug>(constant: Constant, stated: Option<Quanta>) -> RowAnswer {
     let returned = match constant {
         Constant::Bits => Returned::Field(ValueField::Unsigned(F::BITS as u128)),
@@ -65,6 +50,7 @@ fn constant_of<F: Float + Debug>(constant: Constant, stated: Option<Quanta>) -> 
 }
 
 /// What a call on one value returns.
+#[inline(never)]
 fn of_one_value<F: ValueType + Debug>(call: OneValueCall, request: Request) -> Answered {
     let Some(x) = value_of::<F>(request.operands.first) else {
         return Err(CallFault::Operand);
@@ -104,6 +90,7 @@ fn returned_of<F: ValueType + Debug>(
 }
 
 /// Whether a value has the property.
+#[inline(never)]
 fn has_property<F: Float>(property: Property, operand: Operand) -> Answered {
     let Some(x) = value_of::<F>(operand) else {
         return Err(CallFault::Operand);
@@ -132,6 +119,7 @@ fn has_property<F: Float>(property: Property, operand: Operand) -> Answered {
 }
 
 /// What a call on two values returns.
+#[inline(never)]
 fn of_two_values<F: Magnitudes + Debug>(call: TwoValuesCall, request: Request) -> Answered {
     let Some((x, y)) = two_values::<F>(request.operands) else {
         return Err(CallFault::Operand);
@@ -171,6 +159,7 @@ fn returned_of_two<F: Magnitudes>(
 }
 
 /// The result of a rounding call on two values, if the type has the call.
+#[inline(never)]
 fn computed<F: Float>(call: TwoValuesCall, x: F, y: F, round: Round) -> Option<StatusAnd<F>> {
     match call {
         TwoValuesCall::MulR | TwoValuesCall::Mul if !F::MULTIPLIES => None,
@@ -190,6 +179,7 @@ fn computed<F: Float>(call: TwoValuesCall, x: F, y: F, round: Round) -> Option<S
 }
 
 /// The left operand after an assigning operator.
+#[inline(never)]
 fn assigned<F: Float + Debug>(operator: AssigningOperator, request: Request) -> Answered {
     let Some((x, y)) = two_values::<F>(request.operands) else {
         return Err(CallFault::Operand);
@@ -207,6 +197,7 @@ fn assigned<F: Float + Debug>(operator: AssigningOperator, request: Request) -> 
 }
 
 /// What a call on a value and an integer returns.
+#[inline(never)]
 fn of_value_and_integer<F: Float + Debug>(call: IntegerCall, request: Request) -> Answered {
     let Operand::Integer(integer) = request.operands.second else {
         return Err(CallFault::Operands);
@@ -278,6 +269,7 @@ fn to_signed<F: Float>(call: IntegerCall, x: F, width: usize, round: Round) -> R
 }
 
 /// What a call on an integer or a payload returns.
+#[inline(never)]
 fn of_word<F: Float + Debug>(call: WordCall, request: Request) -> Answered {
     match from_word::<F>(call, request.operands.first, request.round) {
         Some(returned) => Ok(RowAnswer::of(returned, request.stated)),
@@ -307,6 +299,7 @@ fn from_word<F: Float>(call: WordCall, operand: Operand, round: Round) -> Option
 }
 
 /// What a call on a text returns.
+#[inline(never)]
 fn of_text<F: Float + Debug>(
     call: TextCall,
     text: &str,

@@ -7,15 +7,14 @@ ghost use Rattle.apfloat_decimals.specs.ShortestSearch.{IsWithinQuad};
 ghost use Rattle.formats_at_run_time.specs.FormatKinds.{IfFormat};
 ghost use Rattle.rustc_apfloat.specs.Lawful.{format_with};
 
-use crate::of_type::{Answered, Request};
 use apfloat_decimals::{Decimal, exact, read_decimal, rounded, shortest};
 use formats_at_run_time::{FlaggedFormat, InFormat};
 use rustc_apfloat::Round;
 use rustc_apfloat::ieee::{IeeeFloat, Semantics};
 use std::fmt::Write as _;
 use vector_lines::{
-    CallFault, DecimalCall, ExtraField, Operand, Returned, RowAnswer, RowFormat, Text, ValueField,
-    value_of,
+    Answered, CallFault, DecimalCall, ExtraField, Operand, Request, Returned, RowAnswer, RowFormat,
+    Text, ValueField, value_of,
 };
 
 /// What a call of decimals returns in a format, if that is a built-in one with the flags of the built-in formats.
@@ -54,6 +53,7 @@ impl InFormat for InDecimals<'_> {
 }
 
 /// The value of a decimal text.
+#[inline(never)]
 fn read<S: Semantics>(text: &str, round: Round) -> RowAnswer
     requires { IsWithinQuad (format_of S.Semantics) }
 {
@@ -64,6 +64,7 @@ fn read<S: Semantics>(text: &str, round: Round) -> RowAnswer
 }
 
 /// A value as a decimal.
+#[inline(never)]
 fn written<S: Semantics>(call: DecimalCall, request: Request) -> Answered
     requires { IsWithinQuad (format_of S.Semantics) }
 {
