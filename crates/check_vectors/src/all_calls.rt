@@ -1,7 +1,6 @@
 //! The calls of all rows.
 
-use call_rows::answer_of_call;
-use operation_rows::answer_of_operation;
+use call_rows::{answer_of_call, answer_of_operation};
 use vector_lines::{Answered, Call, Calls, Formats, Request};
 
 /// What makes the call of each row.

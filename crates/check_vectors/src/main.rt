@@ -1,7 +1,7 @@
 //! Checks files of test vectors: rows of commands with their replies, and of calls with their results.
 //!
-//! Rows come from the named file, or from standard input. The crates `vector_rows`, `call_rows` and `operation_rows`,
-//! and `--help`, describe the rows and how they are checked.
+//! Rows come from the named file, or from standard input. The crates `vector_lines` and `call_rows`, and
+//! `--help`, describe the rows and how they are checked.
 #![tactic(auto)]
 
 mod all_calls;
@@ -12,7 +12,7 @@ use crate::all_calls::AllCalls;
 use commands::words_of_system;
 use std::io::IsTerminal;
 use std::process::ExitCode;
-use vector_rows::run;
+use vector_lines::run;
 
 fn main(rt: HostRuntime) -> ExitCode {
     let mut err = rt.stderr();

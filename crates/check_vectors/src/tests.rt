@@ -6,8 +6,7 @@ use std::io::{BufReader, ErrorKind, Read, Write};
 use std::rt::Clock;
 use std::test::Fail;
 use std::time::Duration;
-use vector_lines::{Answered, CallFault, Calls, Formats, Request};
-use vector_rows::{Check, Task, check_lines, run};
+use vector_lines::{Answered, CallFault, Calls, Check, Formats, Request, Task, check_lines, run};
 
 /// What makes no call: the rows of these tests are commands.
 #[derive(Clone, Copy)]

@@ -1,23 +1,36 @@
-//! The lines of test vector files, as texts: what the columns of rows mean, and lines of Berkeley TestFloat and of
-//! IBM's FPgen, which are translated into the calls of rows.
+//! The lines of test vector files: what the columns of rows mean, lines of Berkeley TestFloat and of IBM's FPgen, which
+//! are translated into the calls of rows, and the program that checks them.
 //!
-//! A row names a call and a format; operands and results are values, written as bits, or as counts of quanta in a
-//! format without bits. The errors of malformed lines are here too. Only the safety of these functions is proved.
+//! A row is a command of the program `vectors` and its reply, or names a call and a format; operands and results are
+//! values, written as bits, or as counts of quanta in a format without bits. `run` is the program `check_vectors`, given
+//! the arguments from the system and what makes the calls of rows; `docs/VECTORS.md` describes it. Only the safety of
+//! these functions is proved, and that the columns of a row are those of its line.
 #![tactic(auto)]
 
 mod answer;
+mod asked;
 mod call;
 mod call_fault;
+mod call_row;
+mod check;
 mod columns;
+mod command_row;
+mod failure;
+mod fault;
 mod form;
 mod formats;
 mod fpgen;
+mod given;
 mod operands;
 mod operations;
+mod other_files;
+mod program;
 mod quanta;
+mod reading;
 mod request;
 mod row_error;
 mod row_format;
+mod summary;
 mod table;
 mod testfloat;
 mod text;
@@ -29,7 +42,9 @@ pub use call::{
     OneValueCall, Property, TextCall, TwoValuesCall, WordCall,
 };
 pub use call_fault::CallFault;
+pub use check::{Check, Lines, Tally, Task};
 pub use columns::{Columns, LineCall};
+pub use failure::Failure;
 pub use form::Form;
 pub use formats::Formats;
 pub use fpgen::{Fpgen, FpgenTest};
@@ -37,6 +52,7 @@ pub use operands::{Operand, Operands, any_value, two_values, value_of};
 pub use operations::{
     FlagsCall, FormatOfCall, GeneralCall, OperationCall, OrderCall, ToIntegerCall,
 };
+pub use program::{check_lines, run};
 pub use quanta::Quanta;
 pub use request::{Answered, Calls, Request};
 pub use row_error::{RowError, bits_error};

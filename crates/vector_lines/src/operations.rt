@@ -1,6 +1,6 @@
 //! The operations of IEEE 754-2019 that `Float` lacks, as rows name them.
 //!
-//! The crate `operation_rows` makes the call of such a row.
+//! The crate `call_rows` makes the call of such a row.
 
 use crate::form::Form;
 use crate::table::found;

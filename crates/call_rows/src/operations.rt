@@ -1,13 +1,4 @@
-//! Rows of test vectors for the operations of IEEE 754-2019 that `Float` lacks: the operation of a row is made in its
-//! formats, and what it returns is compared with the row by the crate `vector_rows`.
-//!
-//! Only the safety of these functions is proved.
-#![tactic(auto)]
-
-mod digits;
-mod flags;
-mod in_another;
-mod in_one;
+//! The operations of IEEE 754-2019 that `Float` lacks, each in the formats of its row.
 
 use crate::digits::digits_in;
 use crate::flags::flags_of;

@@ -1,12 +1,14 @@
 //! Rows of commands: the reply that the program `vectors` gives is compared with that of the row.
 
+use crate::answer::status_named;
 use crate::fault::width_of;
+use crate::row_error::{RowError, bits_error};
+use crate::widths::mask;
 use commands::{agrees, bits_of, run};
 use formats_at_run_time::{CommandKind, mode_named};
 use rustc_apfloat::Flags;
 use std::alloc::{AllocError, Global};
 use std::{io, str};
-use vector_lines::{RowError, bits_error, mask, status_named};
 
 /// The form of a reply, for messages.
 const REPLY: &str = "bits and flags, as `5f40 OK`, or `refused: ` and a word";

@@ -1,13 +1,18 @@
 //! Checks rows of calls: the call is made, and what it returns is compared with the row.
 
+use crate::call::Call;
+use crate::call_fault::CallFault;
 use crate::call_row::CallRow;
 use crate::fault::takes_mode;
+use crate::formats::Formats;
+use crate::operands::Operands;
+use crate::quanta::Quanta;
 use crate::reading::operands_of;
+use crate::request::{Answered, Calls, Request};
 use formats_at_run_time::mode_named;
 use rustc_apfloat::Round;
 use std::io;
 use std::io::Write;
-use vector_lines::{Answered, Call, CallFault, Calls, Formats, Operands, Quanta, Request};
 
 /// The modes, with the text that follows `given` in messages.
 static MODES: &[(&str, Round)] = &[

@@ -1,8 +1,14 @@
 //! The errors of malformed rows of calls.
 
+use crate::call::Call;
+use crate::call_fault::CallFault;
 use crate::call_row::CallRow;
+use crate::form::Form;
+use crate::formats::Formats;
+use crate::operands::Operand;
+use crate::operations::OperationCall;
+use crate::row_error::{RowError, bits_error};
 use commands::bits_of;
-use vector_lines::{Call, CallFault, Form, Formats, Operand, OperationCall, RowError, bits_error};
 
 /// The form of a value, for messages.
 const VALUE: &str = "hexadecimal digits, or quanta as `+3q` in a format without bits";

@@ -2,12 +2,13 @@
 
 use crate::check::{Check, Lines, Task};
 use crate::failure::Failure;
-use crate::other_files::{Fpgen, TestFloat};
+use crate::fpgen::Fpgen;
+use crate::request::Calls;
+use crate::testfloat::TestFloat;
 use commands::{About, WrongWord, write_fault};
 use std::io::{BufRead, BufReader, BufWriter, ErrorKind, Read, Write};
 use std::rt::{Clock, Files};
 use std::{fs, io};
-use vector_lines::Calls;
 
 const PROGRAM: &str = "check_vectors";
 

@@ -7,7 +7,7 @@ ghost use Rattle.rustc_apfloat.specs.Lawful.{format_with};
 ghost use Rattle.apfloat_decimals.specs.Decimals.{HasQuadExponents};
 ghost use Rattle.formats_at_run_time.specs.FormatKinds.{IfFormat};
 
-use crate::OperationRequest;
+use crate::operations::OperationRequest;
 use decimal_digits::{Written, digit_count, write_digits};
 use formats_at_run_time::{FlaggedFormat, InFormat};
 use rustc_apfloat::ieee::{IeeeFloat, Semantics};

@@ -1,8 +1,10 @@
 //! What the library returns for a line of another program, as numbers.
 
+use crate::answer::{StatusField, ValueField};
 use crate::asked::Asked;
+use crate::columns::{Columns, LineCall};
+use crate::request::Calls;
 use rustc_apfloat::{Flags, Status};
-use vector_lines::{Calls, Columns, LineCall, StatusField, ValueField};
 
 /// What a call returns, if it exists and returns a status.
 pub fn given<M: Calls>(calls: M, call: &LineCall) -> Option<Columns> {

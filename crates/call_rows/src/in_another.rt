@@ -3,7 +3,7 @@
 //! The operands carry their format with them, so that there is a copy of the code for each target, and not for each
 //! pair of formats.
 
-use crate::OperationRequest;
+use crate::operations::OperationRequest;
 use apfloat_ieee::AnyFloat;
 use rustc_apfloat::ieee::{Flagged, IeeeFloat};
 use rustc_apfloat::{Round, StatusAnd};

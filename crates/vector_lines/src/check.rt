@@ -4,14 +4,16 @@ use crate::asked::{agrees, write_answers};
 use crate::call_row::{CallRow, row_of};
 use crate::command_row::CommandRow;
 use crate::failure::Failure;
-use crate::other_files::{Fpgen, TestFloat};
+use crate::fpgen::Fpgen;
+use crate::request::Calls;
+use crate::row_error::RowError;
 use crate::summary::Summary;
+use crate::testfloat::TestFloat;
 use commands::Progress;
 use std::alloc::{AllocError, Allocator, Global};
 use std::io::{BufRead, ErrorKind, Write};
 use std::rt::Clock;
 use std::{fmt, io, str};
-use vector_lines::{Calls, RowError};
 
 /// Lines read between two readings of the clock.
 const LINES: u64 = 1024;
@@ -181,10 +183,10 @@ impl<M: Calls> Check<M> {
         text: &str,
         out: &mut W,
     ) -> Result<(), Failure> {
-        match function.agrees(self.calls, text) {
+        match function.agrees_with(self.calls, text) {
             Ok(agrees) => {
                 if self.takes_difference(text, agrees, out)? {
-                    function.write_given(self.calls, text, out)?;
+                    function.write_returned(self.calls, text, out)?;
                 }
                 Ok(())
             }
@@ -199,10 +201,10 @@ impl<M: Calls> Check<M> {
         text: &str,
         out: &mut W,
     ) -> Result<(), Failure> {
-        match fpgen.agrees(self.calls, text) {
+        match fpgen.agrees_with(self.calls, text) {
             Ok(Some(agrees)) => {
                 if self.takes_difference(text, agrees, out)? {
-                    fpgen.write_given(self.calls, text, out)?;
+                    fpgen.write_returned(self.calls, text, out)?;
                 }
                 Ok(())
             }

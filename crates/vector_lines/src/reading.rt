@@ -1,6 +1,7 @@
 //! The operands of a row, in the form that its call takes.
 
-use vector_lines::{Form, Operand, Operands};
+use crate::form::Form;
+use crate::operands::{Operand, Operands};
 
 /// The operands that a text spells, in this form; one that is a text stays in the row.
 pub fn operands_of(form: Form, text: &str) -> Option<Operands> {

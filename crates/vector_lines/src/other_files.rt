@@ -1,0 +1,87 @@
+//! Lines of other programs, and what the library returns for them.
+
+use crate::fpgen::Fpgen;
+use crate::given::given;
+use crate::request::Calls;
+use crate::row_error::RowError;
+use crate::summary::Summary;
+use crate::testfloat::TestFloat;
+use std::alloc::AllocError;
+use std::io;
+use std::io::Write;
+
+impl TestFloat {
+    /// Whether what the library returns agrees with a line.
+    pub fn agrees_with<M: Calls>(self, calls: M, line: &str) -> Result<bool, RowError<'_>> {
+        let (call, stated) = match self.read(line) {
+            Ok(parts) => parts,
+            Err(error) => return Err(error),
+        };
+        match given(calls, &call) {
+            Some(given) => Ok(self.agrees(given, stated)),
+            None => Err(self.no_call(line)),
+        }
+    }
+
+    /// Counts a line under its call and its format.
+    pub fn count(self, agrees: bool, summary: &mut Summary) -> Result<(), AllocError> {
+        let format = self.format();
+        summary.count(self.call_name(), format.as_str(), agrees)
+    }
+
+    /// Writes the result and the flags that the library returns for a line.
+    pub fn write_returned<M: Calls, W: Write>(
+        self,
+        calls: M,
+        line: &str,
+        out: &mut W,
+    ) -> io::Result<()> {
+        let Ok((call, _)) = self.read(line) else {
+            return Ok(());
+        };
+        match given(calls, &call) {
+            Some(given) => self.write_given(given, out),
+            None => Ok(()),
+        }
+    }
+}
+
+impl Fpgen {
+    /// Whether what the library returns agrees with a line; `None` if the line states what is delivered to a trap
+    /// handler, or is skipped.
+    pub fn agrees_with<M: Calls>(self, calls: M, line: &str) -> Result<Option<bool>, RowError<'_>> {
+        let test = match self.read(line) {
+            Ok(Some(test)) => test,
+            Ok(None) => return Ok(None),
+            Err(error) => return Err(error),
+        };
+        match given(calls, &test.call) {
+            Some(given) => Ok(Some(test.agrees(given))),
+            None => Err(Fpgen::no_call(line)),
+        }
+    }
+
+    /// Counts a line under its call and its format.
+    pub fn count(self, line: &str, agrees: bool, summary: &mut Summary) -> Result<(), AllocError> {
+        match self.call_in(line) {
+            Some((call, format)) => summary.count(call, format, agrees),
+            None => Ok(()),
+        }
+    }
+
+    /// Writes the bits and the flags that the library returns for a line.
+    pub fn write_returned<M: Calls, W: Write>(
+        self,
+        calls: M,
+        line: &str,
+        out: &mut W,
+    ) -> io::Result<()> {
+        let Ok(Some(test)) = self.read(line) else {
+            return Ok(());
+        };
+        match given(calls, &test.call) {
+            Some(given) => test.write_given(given, out),
+            None => Ok(()),
+        }
+    }
+}
