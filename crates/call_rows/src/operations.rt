@@ -11,13 +11,13 @@ use vector_lines::{Answered, CallFault, Formats, Operands, OperationCall, Quanta
 #[derive(Clone, Copy)]
 pub(crate) struct OperationRequest {
     /// The operation.
-    call: OperationCall,
+    pub(crate) call: OperationCall,
     /// The mode, which is ignored if the operation takes none.
-    round: Round,
+    pub(crate) round: Round,
     /// The operands.
-    operands: Operands,
+    pub(crate) operands: Operands,
     /// The value that the row states, if it is one of a format without bits.
-    stated: Option<Quanta>,
+    pub(crate) stated: Option<Quanta>,
 }
 
 /// What an operation returns in its formats.
