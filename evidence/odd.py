@@ -2,17 +2,20 @@
 
     python3 evidence/odd.py | diff - crates/apfloat_odd/src/rows.rt
 
-Each exact result is a fraction. It is rounded to odd here, and once in each mode to the format of the
-second rounding by the model. The operands are drawn from a seed: most are such that the result is near
+Each exact result is a fraction; that of a root is one which compares with all numbers that matter as
+the root does. It is rounded to odd here, and once in each mode to the format of the second rounding by
+the model. The operands are drawn from a seed: most are such that the result is near
 a number or a midpoint of that format, near its least numbers or past its largest.
 """
 
 from fractions import Fraction
+from math import isqrt
 from random import Random
 
 from exact.bits import decoded, encoded
 from exact.data import Finite, number
 from exact.formats import FORMATS
+from exact.odd import delivered_to_odd
 from exact.rounding import Mode, delivered
 
 PAIRS = (
@@ -23,6 +26,9 @@ PAIRS = (
 )
 
 OPERATIONS = ("Sum", "Product", "Quotient")
+
+# Roots are rounded as if they had so many binary places, and a half more if they are inexact.
+ROOT_PLACES = 400
 
 ROWS_OF_EACH = 6
 
@@ -41,15 +47,7 @@ def rounded(form, mode, exact):
 def to_odd(form, exact):
     """A fraction rounded to odd, with the flags of rounding toward zero."""
     quanta = abs(exact) * (1 << form.scale)
-    step = 1
-    while quanta / step >= 1 << form.precision:
-        step *= 2
-    digits, rest = divmod(quanta, step)
-    if rest and digits % 2 == 0:
-        digits += 1
-    point = min(digits * step, form.largest)
-    _, status = rounded(form, Mode.ZERO, exact)
-    return number(form, exact < 0, int(point)), status
+    return delivered_to_odd(form, exact < 0, quanta.numerator, quanta.denominator)
 
 
 def exact_result(operation, x, y):
@@ -57,6 +55,15 @@ def exact_result(operation, x, y):
     if operation == "Sum":
         return x + y
     return x * y if operation == "Product" else x / y
+
+
+def root_of(x):
+    """The square root of a fraction whose denominator is a power of two: itself, or a fraction that no number with
+    fewer than ROOT_PLACES places is between and the root."""
+    square = x * (1 << 2 * ROOT_PLACES)
+    whole = isqrt(square.numerator)
+    exact = Fraction(whole, 1 << ROOT_PLACES)
+    return exact if whole * whole == square.numerator else exact + Fraction(1, 1 << ROOT_PLACES + 1)
 
 
 def near(choices, source, target):
@@ -94,9 +101,18 @@ def operands(choices, source, target, operation):
             return encoded(source, x), encoded(source, y)
 
 
+def radicand(choices, source, target):
+    """Bits of a positive number whose root is inexact, or near a number of the target."""
+    while True:
+        x, _ = rounded(source, Mode.EVEN, near(choices, source, target) ** 2)
+        if isinstance(x, Finite) and x.quanta:
+            return encoded(source, x)
+
+
 def line(source, target, operation, bits):
     """A row."""
-    exact = exact_result(operation, *(value_of(source, word) for word in bits))
+    operands = [value_of(source, word) for word in bits]
+    exact = root_of(operands[0]) if operation == "Root" else exact_result(operation, *operands)
     first = to_odd(source, exact)
     again = [rounded(target, mode, exact) for mode in Mode]
     answers = [(source, *first), *((target, *answer) for answer in again)]
@@ -114,6 +130,7 @@ def line(source, target, operation, bits):
 
 def main():
     choices = Random(754)
+    roots = Random(2019)
     print("//! Results rounded to odd and rounded again, computed by `evidence/odd.py`.")
     print()
     print("use crate::tests::{Operation, Row};")
@@ -124,6 +141,8 @@ def main():
             for _ in range(ROWS_OF_EACH):
                 bits = operands(choices, source, target, operation)
                 rows.append(line(source, target, operation, bits))
+        for _ in range(ROWS_OF_EACH):
+            rows.append(line(source, target, "Root", [radicand(roots, source, target), 0]))
         name = f"{source_name.split('+')[0]}_TO_{target_name.split('+')[0]}".upper()
         print()
         print(f"pub(crate) static {name}: [Row; {len(rows)}] = [")

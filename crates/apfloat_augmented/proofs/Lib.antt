@@ -13,3 +13,4 @@ pub mod OrderedSums
 pub mod ProductCases
 pub mod TinyProducts
 pub mod PayloadsBack
+pub mod RaisedFlags

@@ -9,6 +9,7 @@ use Rattle.apfloat_model.specs.formats.Datum.{Datum, finite}
 use Rattle.apfloat_model.specs.formats.Members.{IsMember}
 use Rattle.apfloat_model.specs.rounding.Rounding.{ok_bits, overflow_bit, underflow_bit, inexact_bit}
 use Rattle.apfloat_model.specs.rounding.Rounding.{past_largest, signed_quanta}
+use Rattle.apfloat_model.specs.rounding.RaisedFlags.{FlagsGoTogether}
 use Rattle.apfloat_model.specs.rounding.Negation.{negated}
 use Rattle.apfloat_model.specs.arithmetic.Exact.{signed, sign_of, magnitude, product_sign}
 use Rattle.apfloat_model.specs.arithmetic.Sums.{IsSum, IsDifference, zero_sum_sign}
@@ -102,3 +103,8 @@ HasOneAugmented Says =
     (f : Format) (x y head other_head tail other_tail : Datum) (status other_status : ℕ)
     → Says f x y head tail status → Says f x y other_head other_tail other_status
     → (head ≡ other_head) × (tail ≡ other_tail) × (status ≡ other_status)
+
+-- OVERFLOW and UNDERFLOW are raised only together with INEXACT
+abbrev pub RaisesTogether : (Format → Datum → Datum → Datum → Datum → ℕ → Type 0) → Type 0
+RaisesTogether Says =
+    (f : Format) (x y head tail : Datum) (status : ℕ) → Says f x y head tail status → FlagsGoTogether status

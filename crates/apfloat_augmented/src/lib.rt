@@ -15,7 +15,7 @@ pub use payloads::{get_payload, set_payload, set_payload_signaling};
 pub use products::augmented_multiply;
 pub use sums::{augmented_add, augmented_subtract};
 pub use theorems::{
-    augmented_differences_have_one_answer, augmented_products_are_exact,
-    augmented_products_have_one_answer, augmented_sums_are_exact, augmented_sums_have_one_answer,
-    payloads_are_kept,
+    augmented_differences_have_one_answer, augmented_flags_go_together,
+    augmented_products_are_exact, augmented_products_have_one_answer, augmented_sums_are_exact,
+    augmented_sums_have_one_answer, payloads_are_kept,
 };

@@ -2,6 +2,7 @@
 
 ghost use Rattle.apfloat_augmented.specs.Augmented.{IsAugmentedSum, IsAugmentedDifference, IsAugmentedProduct};
 ghost use Rattle.apfloat_augmented.specs.Augmented.{HasOneAugmented, IsExactSum, IsExactProduct};
+ghost use Rattle.apfloat_augmented.specs.Augmented.{RaisesTogether};
 ghost use Rattle.apfloat_augmented.specs.Payloads.{ArePayloadsKept};
 
 /// An augmented sum has one head, one tail and one status.
@@ -34,4 +35,11 @@ pub fn augmented_products_are_exact()
 /// The payload of the NaN that `set_payload` or `set_payload_signaling` makes is the one that was set.
 pub fn payloads_are_kept()
     ensures { ArePayloadsKept }
+{}
+
+/// Augmented sums, differences and products raise OVERFLOW and UNDERFLOW only together with INEXACT.
+pub fn augmented_flags_go_together()
+    ensures sum { RaisesTogether IsAugmentedSum }
+    ensures difference { RaisesTogether IsAugmentedDifference }
+    ensures product { RaisesTogether IsAugmentedProduct }
 {}

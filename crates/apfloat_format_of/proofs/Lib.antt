@@ -1,6 +1,7 @@
 mod Exponents
 mod OddTotals
-mod Cases
-mod Once
-mod RootDeliveries
+pub mod Cases
+pub mod Once
+pub mod RootDeliveries
 mod RootExponents
+mod RaisedFlags

@@ -91,7 +91,7 @@ root_pick_unique precision mode square parts p q x y =
     (above_root_unique precision x.above y.above square parts x.is_above y.is_above) ∙
     sym y.is
 
-delivered_root_once : (g : Format) (mode : Round) (square parts : ℕ) → Once (IsDeliveredRoot g mode square parts)
+pub delivered_root_once : (g : Format) (mode : Round) (square parts : ℕ) → Once (IsDeliveredRoot g mode square parts)
 delivered_root_once g mode square parts v w s t x y =
     let e : x.pick ≡ y.pick = root_pick_unique g.precision mode square parts x.pick y.pick x.is_pick y.is_pick in (
       x.value_is ∙ ap (λ (z : ℕ). delivered_value g mode false z) e ∙ sym y.value_is,

@@ -217,7 +217,7 @@ module _ (square parts amount units : ℕ) (agrees : AgreesWithRoot square 4 amo
       else (if b then underflow_bit + inexact_bit else inexact_bit))) (tiny_same g mode pick)
 
   -- what is delivered for the fraction is delivered for the root
-  root_delivered : (g : Format) (mode : Round) (value : Datum) (status : ℕ)
+  pub root_delivered : (g : Format) (mode : Round) (value : Datum) (status : ℕ)
       → IsDelivered g mode false amount (units * parts) value status
       → IsDeliveredRoot g mode square parts value status
   root_delivered g mode value status d = record {

@@ -3,3 +3,4 @@ pub mod Operands
 pub mod FormatOf
 pub mod RootsOf
 pub mod Theorems
+pub mod RaisedFlags

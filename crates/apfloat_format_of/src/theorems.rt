@@ -1,5 +1,7 @@
 //! Theorems about the definitions that the calls cite, as contracts of functions with empty bodies.
 
+ghost use Rattle.apfloat_model.specs.formats.Format.{Format};
+ghost use Rattle.apfloat_format_of.specs.RaisedFlags.{RaiseTogether};
 ghost use Rattle.apfloat_format_of.specs.Theorems.{HasOneSum, HasOneDifference, HasOneProduct, HasOneQuotient};
 ghost use Rattle.apfloat_format_of.specs.Theorems.{HasOneFusedSum, HasOneRoot};
 
@@ -11,4 +13,9 @@ pub fn operations_have_one_answer()
     ensures quotient { HasOneQuotient }
     ensures fused_sum { HasOneFusedSum }
     ensures root { HasOneRoot }
+{}
+
+/// Each operation raises OVERFLOW and UNDERFLOW only together with INEXACT.
+pub fn flags_go_together()
+    ensures { (g : Format) → RaiseTogether g }
 {}

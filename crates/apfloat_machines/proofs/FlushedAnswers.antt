@@ -340,14 +340,14 @@ are_flushed f flush answer result precise k =
 
 -- ---- one answer
 
-sum_with_flush : (f : Format) (flush : Flush) (mode : Round) (x y : Datum) → Once (IsFlushedSum f flush mode x y)
+pub sum_with_flush : (f : Format) (flush : Flush) (mode : Round) (x y : Datum) → Once (IsFlushedSum f flush mode x y)
 sum_with_flush f flush mode (finite b m) (finite c n) = rounded_or_flushed_once f flush mode _ _ _
 sum_with_flush f flush mode (nan b s) y = sum_once f mode (nan b s) y
 sum_with_flush f flush mode (infinite b) y = sum_once f mode (infinite b) y
 sum_with_flush f flush mode (finite b m) (nan c t) = sum_once f mode (finite b m) (nan c t)
 sum_with_flush f flush mode (finite b m) (infinite c) = sum_once f mode (finite b m) (infinite c)
 
-difference_with_flush : (f : Format) (flush : Flush) (mode : Round) (x y : Datum)
+pub difference_with_flush : (f : Format) (flush : Flush) (mode : Round) (x y : Datum)
     → Once (IsFlushedDifference f flush mode x y)
 difference_with_flush f flush mode (nan b s) y = difference_once f mode (nan b s) y
 difference_with_flush f flush mode (finite b m) (nan c t) = difference_once f mode (finite b m) (nan c t)
@@ -361,7 +361,7 @@ difference_with_flush f flush mode (infinite b) (finite c n) =
 difference_with_flush f flush mode (infinite b) (infinite c) =
     sum_with_flush f flush mode (infinite b) (negated f.nonfinite (infinite c))
 
-product_with_flush : (f : Format) (flush : Flush) (mode : Round) (x y : Datum)
+pub product_with_flush : (f : Format) (flush : Flush) (mode : Round) (x y : Datum)
     → Once (IsFlushedProduct f flush mode x y)
 product_with_flush f flush mode (finite b m) (finite c n) = rounded_or_flushed_once f flush mode _ _ _
 product_with_flush f flush mode (nan b s) y = product_once f mode (nan b s) y
@@ -369,7 +369,7 @@ product_with_flush f flush mode (infinite b) y = product_once f mode (infinite b
 product_with_flush f flush mode (finite b m) (nan c t) = product_once f mode (finite b m) (nan c t)
 product_with_flush f flush mode (finite b m) (infinite c) = product_once f mode (finite b m) (infinite c)
 
-quotient_with_flush : (f : Format) (flush : Flush) (mode : Round) (x y : Datum)
+pub quotient_with_flush : (f : Format) (flush : Flush) (mode : Round) (x y : Datum)
     → Once (IsFlushedQuotient f flush mode x y)
 quotient_with_flush f flush mode (finite b m) (finite c n) =
     match_case Once (eqb n 0) (λ v s. MatchBool (eqb m 0) (IsAnswer _ _ v s) (IsAnswer _ _ v s))
@@ -381,7 +381,7 @@ quotient_with_flush f flush mode (infinite b) y = quotient_once f mode (infinite
 quotient_with_flush f flush mode (finite b m) (nan c t) = quotient_once f mode (finite b m) (nan c t)
 quotient_with_flush f flush mode (finite b m) (infinite c) = quotient_once f mode (finite b m) (infinite c)
 
-fused_sum_with_flush : (f : Format) (flush : Flush) (mode : Round) (x y z : Datum)
+pub fused_sum_with_flush : (f : Format) (flush : Flush) (mode : Round) (x y z : Datum)
     → Once (IsFlushedFusedSum f flush mode x y z)
 fused_sum_with_flush f flush mode (finite b l) (finite c m) (finite d n) =
     rounded_or_flushed_once f flush mode _ _ _
@@ -400,7 +400,7 @@ any_loss_once : (f g : Format) (mode : Round) (x : Datum)
 any_loss_once f g mode x v w r s h k =
     let e = conversion_once f g mode x v w r s h.0 k.0 h.1 k.1 in (e.0, e.1)
 
-conversion_with_flush : (f g : Format) (flush : Flush) (mode : Round) (x : Datum)
+pub conversion_with_flush : (f g : Format) (flush : Flush) (mode : Round) (x : Datum)
     → Once (IsFlushedConversion f g flush mode x)
 conversion_with_flush f g flush mode (finite b n) =
     match_case Once (eqb n 0) (IsAnswer _ _) (IsRoundedOrFlushed g flush mode _ _ _) (answer_once _ _)

@@ -5,3 +5,6 @@ pub mod ProductTest
 pub mod TinyPicks
 pub mod Flushes
 pub mod FlushedAnswers
+pub mod FlushedUsual
+pub mod FlushedSettling
+pub mod RaisedFlags

@@ -25,7 +25,7 @@ use Rattle.apfloat_machines.specs.Operations.{is_nan_of_three, IsOfTwo}
 use Rattle.apfloat_machines.specs.Conversions.{is_lost_nan}
 use Rattle.apfloat_machines.specs.Theorems.{HaveOneAnswer, ConversionsHaveOneAnswer, WholeNumbersHaveOneAnswer, FusedSumsHaveOneAnswer}
 
-of_two_once : (f : Format) (machine : Machine) (x y : Datum) (invalid : Bool) (Says : Datum → ℕ → Type 0)
+pub of_two_once : (f : Format) (machine : Machine) (x y : Datum) (invalid : Bool) (Says : Datum → ℕ → Type 0)
     → Once Says → Once (IsOfTwo f machine x y invalid Says)
 of_two_once f machine x y invalid Says once =
     match_case Once (is_nan x || is_nan y) (IsAnswer _ _) (λ v s. MatchBool invalid (IsAnswer _ _ v s) (Says v s))

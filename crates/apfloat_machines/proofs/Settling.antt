@@ -46,7 +46,7 @@ two_cases false true chosen default value flags status Says u h =
     record { value_is = rw u.0 refl; status_is = u.1 }
 two_cases false false chosen default value flags status Says u h = rw u h
 
-of_two : (f : Format) (machine : Machine) (x y : Datum) (invalid : Bool) (Says : Datum → ℕ → Type 0)
+pub of_two : (f : Format) (machine : Machine) (x y : Datum) (invalid : Bool) (Says : Datum → ℕ → Type 0)
     (value : Datum) (status : ℕ) → IsUsual f x y invalid value status → Says value status
     → IsOfTwo f machine x y invalid Says (settled f machine x y value) status
 of_two f machine x y invalid Says value status u h =
@@ -141,7 +141,7 @@ are_settled_of_one f machine x answer result v s e =
 
 -- ---- fused sums
 
-fused_cases : (nans keeps invalid : Bool) (chosen default value : Datum) (flags status : ℕ)
+pub fused_cases : (nans keeps invalid : Bool) (chosen default value : Datum) (flags status : ℕ)
     (Says : Datum → ℕ → Type 0)
     → MatchBool nans (is_nan value ≡ true) (IsUsualNumber invalid value status)
     → Says value status
@@ -186,11 +186,11 @@ conversion_status f g mode (nan b s) value status loses e h = h.status_is
 conversion_status f g mode (infinite b) value status loses e h = cc
 conversion_status f g mode (finite b n) value status loses e h = cc
 
-left : (p q : Bool) → (p && q) ≡ true → p ≡ true
+pub left : (p q : Bool) → (p && q) ≡ true → p ≡ true
 left true q e = refl
 left false q e = e
 
-conversion_cases : (lost : Bool) (default value : Datum) (flags status : ℕ) (Says : Datum → ℕ → Type 0)
+pub conversion_cases : (lost : Bool) (default value : Datum) (flags status : ℕ) (Says : Datum → ℕ → Type 0)
     → (lost ≡ true → status ≡ flags) → Says value status
     → MatchBool lost (IsAnswer default flags (if lost then default else value) status)
     (Says (if lost then default else value) status)

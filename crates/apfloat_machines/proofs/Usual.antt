@@ -45,22 +45,23 @@ IsUsualFused x y z value status =
 
 -- ---- values that are no NaNs
 
-number_if : (test : Bool) (x y : Datum) → is_nan x ≡ false → is_nan y ≡ false → is_nan (if test then x else y) ≡ false
+pub number_if : (test : Bool) (x y : Datum) → is_nan x ≡ false → is_nan y ≡ false
+    → is_nan (if test then x else y) ≡ false
 number_if true x y p q = p
 number_if false x y p q = q
 
-past_number : (kind : NonfiniteBehavior) (base : ℕ) (negative : Bool) → kind ≡ IEEE754
+pub past_number : (kind : NonfiniteBehavior) (base : ℕ) (negative : Bool) → kind ≡ IEEE754
     → is_nan (past_largest kind base negative) ≡ false
 past_number IEEE754 base negative e = refl
 past_number NanOnly base negative e = cc
 past_number NanNegativeZero base negative e = cc
 
-quanta_number : (kind : NonfiniteBehavior) (negative : Bool) (quanta : ℕ)
+pub quanta_number : (kind : NonfiniteBehavior) (negative : Bool) (quanta : ℕ)
     → is_nan (signed_quanta kind negative quanta) ≡ false
 quanta_number kind negative quanta =
     number_if (eqb quanta 0) (finite (zero_sign kind negative) 0) (finite negative quanta) refl refl
 
-value_number : (f : Format) (mode : Round) (negative : Bool) (pick : ℕ) → f.nonfinite ≡ IEEE754
+pub value_number : (f : Format) (mode : Round) (negative : Bool) (pick : ℕ) → f.nonfinite ≡ IEEE754
     → is_nan (delivered_value f mode negative pick) ≡ false
 value_number f mode negative pick e =
     number_if (ltb (largest f) pick)
@@ -70,7 +71,7 @@ value_number f mode negative pick e =
     (past_number f.nonfinite (nan_base f) negative e) refl)
     (quanta_number f.nonfinite negative pick)
 
-is_of : (value given : Datum) (test : Bool) → value ≡ given → is_nan given ≡ test → is_nan value ≡ test
+pub is_of : (value given : Datum) (test : Bool) → value ≡ given → is_nan given ≡ test → is_nan value ≡ test
 is_of value given test e p = ap (λ (v : Datum). is_nan v) e ∙ p
 
 delivered_number : (f : Format) (mode : Round) (negative : Bool) (amount parts : ℕ) (value : Datum) (status : ℕ)
@@ -86,12 +87,12 @@ rest_number kind negative m taken =
 
 -- ---- results given outright
 
-of_nan : (negative : Bool) (significand flags : ℕ) (value : Datum) (status : ℕ)
+pub of_nan : (negative : Bool) (significand flags : ℕ) (value : Datum) (status : ℕ)
     → IsAnswer (nan negative significand) flags value status → (is_nan value ≡ true) × (status ≡ flags)
 of_nan negative significand flags value status h =
     (is_of value (nan negative significand) true h.value_is refl, h.status_is)
 
-of_number : (given : Datum) (flags : ℕ) (value : Datum) (status : ℕ) → is_nan given ≡ false
+pub of_number : (given : Datum) (flags : ℕ) (value : Datum) (status : ℕ) → is_nan given ≡ false
     → IsAnswer given flags value status → is_nan value ≡ false
 of_number given flags value status e h = is_of value given false h.value_is e
 
@@ -130,7 +131,7 @@ zero_finite IEEE754 negative = refl
 zero_finite NanOnly negative = refl
 zero_finite NanNegativeZero negative = refl
 
-negated_finite : (kind : NonfiniteBehavior) (negative : Bool) (quanta : ℕ)
+pub negated_finite : (kind : NonfiniteBehavior) (negative : Bool) (quanta : ℕ)
     → is_finite (negated kind (finite negative quanta)) ≡ true
 negated_finite kind negative quanta =
     finite_if (eqb quanta 0) (negated_zero kind negative) (finite (not negative) quanta) (zero_finite kind negative)

@@ -8,3 +8,5 @@ pub mod Minima
 pub mod Flushing
 pub mod Theorems
 pub mod FlushedOperations
+pub mod FlushedMachines
+pub mod RaisedFlags

@@ -5,6 +5,9 @@ ghost use Rattle.apfloat_model.specs.declared.kinds.Round.{Round};
 ghost use Rattle.apfloat_model.specs.rounding.Flags.{Gives, bits_of};
 ghost use Rattle.apfloat_model.specs.arithmetic.Conversions.{IsConversion};
 ghost use Rattle.apfloat_ieee.specs.FlaggedTypes.{format_of};
+ghost use Rattle.apfloat_machines.specs.declared.flushing.Flush.{Flush};
+ghost use Rattle.apfloat_machines.specs.FlushedMachines.{IsFlushedMachineConversion};
+ghost use Rattle.apfloat_machines.specs.FlushedOperations.{IsFlushedConversion};
 ghost use Rattle.apfloat_machines.specs.Conversions.{IsMachineConversion, is_lost_nan};
 ghost use Rattle.apfloat_machines.specs.Conversions.{settled_conversion};
 
@@ -14,7 +17,8 @@ use apfloat_base::{Float, StatusAnd};
 use apfloat_ieee::{Flagged, IeeeFloat};
 
 /// The answer of the conversion of `x` to another format, as the machine gives it: a NaN keeps its sign and the first
-/// bits of its payload, or is the machine's default NaN. The flags are those of the answer.
+/// bits of its payload, or is the machine's default NaN. The flags are those of the answer, which may have been flushed
+/// (`flushed`).
 #[inline]
 pub fn settled_conversion<S: Flagged, T: Flagged>(
     machine: Machine,
@@ -29,6 +33,9 @@ pub fn settled_conversion<S: Flagged, T: Flagged>(
         (bits_of answer.status) loses
         → Gives (IsMachineConversion (format_of S.Flagged) (format_of T.Flagged) machine mode x)
         result }
+    ensures flushed { let f = format_of S.Flagged in let g = format_of T.Flagged in
+        (flush : Flush) (mode : Round) → Gives (IsFlushedConversion f g flush mode x) answer
+        → Gives (IsFlushedMachineConversion f g machine flush mode x) result }
 {
     if is_lost_nan(machine, x) {
         answer.status.and(default_nan(machine))
@@ -37,9 +44,9 @@ pub fn settled_conversion<S: Flagged, T: Flagged>(
     }
 }
 
-/// Whether the value is a NaN that is not kept.
+/// Whether the value is a NaN that a conversion does not keep: its result is the default NaN of the other format.
 #[inline]
-fn is_lost_nan<S: Flagged>(machine: Machine, x: IeeeFloat<S>) -> bool
+pub fn is_lost_nan<S: Flagged>(machine: Machine, x: IeeeFloat<S>) -> bool
     ensures { result ≡ is_lost_nan (format_of S.Flagged) machine x }
 {
     x.is_nan() && takes_none(machine.nan_choice(), x, x)

@@ -6,6 +6,8 @@ ghost use Rattle.apfloat_model.specs.order.Classes.{is_nan};
 ghost use Rattle.apfloat_model.specs.rounding.Negation.{negated};
 ghost use Rattle.apfloat_ieee.specs.FlaggedTypes.{format_of};
 ghost use Rattle.apfloat_comparisons.specs.Extrema.{quieted_datum};
+ghost use Rattle.apfloat_machines.specs.declared.flushing.Flush.{Flush};
+ghost use Rattle.apfloat_machines.specs.FlushedMachines.{AreFlushedAndSettled};
 ghost use Rattle.apfloat_machines.specs.Nans.{default_nan, machine_nan, nan_of, settled};
 ghost use Rattle.apfloat_machines.specs.Nans.{is_greater, is_unsupported, taken, takes_none};
 ghost use Rattle.apfloat_machines.specs.Operations.{AreSettled, AreSettledOfOne};
@@ -19,7 +21,8 @@ use apfloat_ieee::{Flagged, IeeeFloat};
 /// otherwise unchanged. The flags are those of the answer.
 ///
 /// `x` and `y` are the operands in the machine's order. The operation is a sum, a difference, a product, a quotient or
-/// a remainder of a format with infinities and with bits.
+/// a remainder of a format with infinities and with bits. If the answer was flushed (`flushed`), the result is that of
+/// the machine with flushing (`IsFlushedMachineSum` and the definitions beside it).
 #[inline]
 pub fn settled<S: Flagged>(
     machine: Machine,
@@ -32,6 +35,8 @@ pub fn settled<S: Flagged>(
     ensures status { result.status ≡ answer.status }
     ensures operations { (format_of S.Flagged).nonfinite ≡ IEEE754
         → AreSettled (format_of S.Flagged) machine x y answer result }
+    ensures flushed { (format_of S.Flagged).nonfinite ≡ IEEE754 → (flush : Flush)
+        → AreFlushedAndSettled (format_of S.Flagged) machine flush x y answer result }
 {
     with_nan(machine, x, y, answer)
 }

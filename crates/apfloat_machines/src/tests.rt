@@ -559,6 +559,21 @@ fn flushing(rt: HostRuntime) {
     }
 }
 
+/// On x86 with results flushed: a tiny product, an infinity times a zero, a signaling NaN.
+#[test]
+fn flushed_on_a_machine(rt: HostRuntime) {
+    let rows = [
+        (0x80800000, 0x3f000000, NEG_ZERO, 0x18),
+        (0x7f800000, NEG_ZERO, 0xffc00000, 0x01),
+        (0x7fa00000, 0x00000001, 0x7fe00000, 0x01),
+    ];
+    for (x, y, value, flags) in rows {
+        let (a, b) = (IeeeFloat::<IeeeFlags<SingleS>>::from_bits(x), IeeeFloat::from_bits(y));
+        let answer = settled(Machine::X86, a, b, flushed(Flush::X86, a.wide_mul_r(b, EVEN)));
+        same(&rt, (answer.value.to_bits(), answer.status.bits()), (value, flags), (x, y));
+    }
+}
+
 #[test]
 fn denormal_operands(rt: HostRuntime) {
     let rows = [

@@ -3,7 +3,13 @@
 ghost use Rattle.apfloat_model.specs.formats.Format.{Format};
 ghost use Rattle.apfloat_machines.specs.declared.flushing.Flush.{Flush};
 ghost use Rattle.apfloat_machines.specs.declared.machine.Machine.{Machine};
+ghost use Rattle.apfloat_model.specs.declared.status.StatusAnd.{StatusAnd};
+ghost use Rattle.apfloat_model.specs.formats.Datum.{Datum};
+ghost use Rattle.apfloat_machines.specs.FlushedMachines.{FlushedMachinesHaveOneAnswer};
+ghost use Rattle.apfloat_machines.specs.FlushedMachines.{IsFlushedAndSettledFused};
 ghost use Rattle.apfloat_machines.specs.FlushedOperations.{FlushedHaveOneAnswer};
+ghost use Rattle.apfloat_machines.specs.Operations.{IsSettledFused};
+ghost use Rattle.apfloat_machines.specs.RaisedFlags.{RaiseTogether, RaiseTogetherFlushed};
 ghost use Rattle.apfloat_machines.specs.Theorems.{HaveOneAnswer, FusedSumsHaveOneAnswer};
 ghost use Rattle.apfloat_machines.specs.Theorems.{ConversionsHaveOneAnswer};
 ghost use Rattle.apfloat_machines.specs.Theorems.{WholeNumbersHaveOneAnswer};
@@ -33,4 +39,24 @@ pub fn whole_numbers_have_one_answer()
 /// one value and one status.
 pub fn flushed_operations_have_one_answer()
     ensures { (f : Format) → (flush : Flush) → FlushedHaveOneAnswer f flush }
+{}
+
+/// What `settled_fused` makes of a fused sum that `flushed` has made is that of the machine with flushing.
+pub fn flushed_fused_sums_are_settled()
+    ensures { (f : Format) (machine : Machine) (x y z : Datum) (answer result : StatusAnd Datum)
+        → IsSettledFused f machine x y z answer result
+        → IsFlushedAndSettledFused f machine x y z answer result }
+{}
+
+/// The same operations with the machine's NaNs have one value and one status.
+pub fn flushed_machine_operations_have_one_answer()
+    ensures { (f : Format) (machine : Machine) (flush : Flush)
+        → FlushedMachinesHaveOneAnswer f machine flush }
+{}
+
+/// Each operation of a machine raises OVERFLOW and UNDERFLOW only together with INEXACT, and so does each one that
+/// flushes tiny results with the flags of `Flush::X86`. `Flush::Arm` raises UNDERFLOW alone.
+pub fn flags_go_together()
+    ensures plain { (f : Format) (machine : Machine) → RaiseTogether f machine }
+    ensures flushed { (f : Format) (machine : Machine) → RaiseTogetherFlushed f machine }
 {}

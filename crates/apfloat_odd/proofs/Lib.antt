@@ -9,3 +9,6 @@ pub mod Moved
 pub mod Wholes
 pub mod OddOnce
 pub mod Rooms
+pub mod RootFractions
+pub mod RootsAgain
+pub mod OwnRoots

@@ -3,3 +3,4 @@ pub mod Numbers
 pub mod Wholes
 pub mod Again
 pub mod Rooms
+pub mod Roots

@@ -20,6 +20,9 @@ use apfloat_ieee::{Flagged, IeeeFloat};
 /// The flags are those of this rounding together with those of the first one, except for UNDERFLOW: the first result
 /// is tiny in another format.
 ///
+/// The clause `once` is about exact results that are fractions. It is the same with square roots
+/// (`rounding_roots_again_is_rounding_once`).
+///
 /// A NaN, an infinity and a zero are converted as by `convert_r`: a NaN is quieted, and the infinity or the sign of the
 /// zero is kept if `T` has it, and otherwise lost with INEXACT. Where an exact sum of opposite numbers takes its sign
 /// from the mode (IEEE 754-2019 6.3), that is up to the caller.

@@ -21,7 +21,7 @@ pub use odd::to_odd;
 pub use theorems::{
     formats_have_room, half_has_no_room_for_bfloat, odd_integral_roundings_have_one_answer,
     odd_of_truncated_is_odd, odd_roundings_have_one_answer, rounding_again_is_rounding_once,
-    second_roundings_have_one_answer,
+    rounding_roots_again_is_rounding_once, second_roundings_have_one_answer,
 };
 pub use whole_numbers::{
     from_i128_odd, from_u128_odd, round_to_odd_integral, to_i128_odd, to_u128_odd,

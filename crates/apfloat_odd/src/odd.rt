@@ -25,7 +25,7 @@ use apfloat_ieee::{Flagged, IeeeFloat};
 /// only where the last digit of the largest value is, as in `Float8E4M3FN`, whose next encoding is the NaN.
 ///
 /// An infinity or a NaN is unchanged, and so is any answer without INEXACT. The clause `odd` is about exact results
-/// that are fractions, which roots need not be.
+/// that are fractions, which roots need not be; `rounding_roots_again_is_rounding_once` is about roots.
 pub fn to_odd<S: Flagged>(
     answer: StatusAnd<IeeeFloat<S>>,
     negative: bool,

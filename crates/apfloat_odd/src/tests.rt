@@ -20,6 +20,7 @@ pub(crate) enum Operation {
     Sum,
     Product,
     Quotient,
+    Root,
 }
 
 /// The operands; the values and the flags of the result rounded to odd, and of the result rounded once to the other
@@ -43,6 +44,7 @@ fn truncated<S: Flagged>(
         Operation::Sum => x.add_r(y, Round::TowardZero),
         Operation::Product => x.wide_mul_r(y, Round::TowardZero),
         Operation::Quotient => x.div_r(y, Round::TowardZero),
+        Operation::Root => x.sqrt_r(Round::TowardZero),
     }
 }
 

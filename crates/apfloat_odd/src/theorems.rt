@@ -2,6 +2,7 @@
 
 ghost use Rattle.apfloat_odd.specs.Odd.{IsOddOfTruncated, IsToOddOnce};
 ghost use Rattle.apfloat_odd.specs.Again.{IsRoundedOnce, IsRoundedAgainOnce};
+ghost use Rattle.apfloat_odd.specs.Roots.{IsRootRoundedOnce, IsOwnRootRoundedOnce};
 ghost use Rattle.apfloat_odd.specs.Rooms.{AreRooms, HasNoRoom};
 ghost use Rattle.apfloat_odd.specs.Wholes.{IsOddIntegralOnce};
 
@@ -19,6 +20,14 @@ pub fn odd_roundings_have_one_answer()
 /// once, in value and flags.
 pub fn rounding_again_is_rounding_once()
     ensures { IsRoundedOnce }
+{}
+
+/// The square root of a positive number, rounded toward zero and then to odd (`to_odd`) in a format that has room for
+/// another one, and then to that one, is rounded once, in value and flags: the root of a number of the first format
+/// (`sqrt_r`), and that of a number of any format, delivered in the first one (`sqrt_to`).
+pub fn rounding_roots_again_is_rounding_once()
+    ensures own { IsOwnRootRoundedOnce }
+    ensures in_another { IsRootRoundedOnce }
 {}
 
 /// Which built-in formats have room for others, with each rule of flags.

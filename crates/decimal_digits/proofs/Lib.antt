@@ -3,3 +3,4 @@ pub mod DigitPlaces
 pub mod LongQuotients
 pub mod RoundedTexts
 pub mod ScaledValues
+pub mod OneCount

@@ -1,7 +1,8 @@
 //! How many digits a value has.
 
-ghost use Rattle.std.specs.Prelude.{◌≡◌, ℕ, Bool, true, ◌+◌, ◌^◌, ◌≤◌, ℤ};
+ghost use Rattle.std.specs.Prelude.{◌≡◌, ℕ, Bool, true, ◌+◌, ◌^◌, ◌≤◌, ℤ, Option};
 ghost use Rattle.apfloat_model.specs.declared.kinds.Round.{Round};
+ghost use Rattle.apfloat_model.specs.formats.Datum.{Datum};
 ghost use Rattle.apfloat_model.specs.formats.Format.{Format};
 ghost use Rattle.apfloat_model.specs.order.Classes.{quanta_of};
 ghost use Rattle.apfloat_model.specs.rounding.Bounds.{IsWithin};
@@ -58,4 +59,10 @@ pub fn exact_at_count()
     ensures { (f : Format) (mode : Round) (negative : Bool) (quanta count digits : ℕ) (exponent : ℤ)
         (exact : Bool) → IsDigitCount f quanta count
         → IsRoundedNumber f mode negative quanta count digits exponent exact → exact ≡ true }
+{}
+
+/// A value has one number of digits.
+pub fn digit_count_once()
+    ensures { (f : Format) (x : Datum) (answer other : Option ℕ) → GivesDigitCount f x answer
+        → GivesDigitCount f x other → answer ≡ other }
 {}

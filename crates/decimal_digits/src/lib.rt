@@ -14,5 +14,5 @@ mod fractions;
 mod quotients;
 mod written;
 
-pub use counted::{digit_count, exact_at_count};
+pub use counted::{digit_count, digit_count_once, exact_at_count};
 pub use written::{Written, write_digits, written_once};

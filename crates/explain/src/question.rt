@@ -7,7 +7,7 @@ use rustc_apfloat::Round;
 /// The help; `packaging/manual` makes the man page and the completions of it.
 pub const HELP: &str = "\
 usage: explain [--machine NAME] FORMAT OP MODE A [B [C]]
-       explain FORMAT A
+       explain [--machine NAME] FORMAT A
        explain --help | --version
 
 Shows how an operation in the format FORMAT gets its result, or what the value
@@ -33,7 +33,8 @@ a word could have been either, the output says how it was read.
 
 --machine NAME  shows the result as a machine gives it, with its NaN and its
                 flags: x86 x87 arm arm-default-nan arm-alternate riscv power
-                s390x; in half single double quad bfloat e5m2 x87
+                s390x; in half single double quad bfloat e5m2 x87. A value is
+                the same on each machine
 
 --help, -h  writes this text
 --version   writes the name and the version of the program

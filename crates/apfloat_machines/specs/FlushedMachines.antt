@@ -1,0 +1,83 @@
+-- The operations of a machine that flushes tiny results to zero, with its NaNs: the cases of `IsMachineSum` and the
+-- definitions beside it, in which the exact result is rounded once or is flushed. Operands that are flushed are flushed
+-- before (`without_denormal`).
+use Rattle.std.specs.Prelude.{◌≡◌, ℕ}
+use Rattle.std.specs.Bool.{MatchBool}
+use Rattle.apfloat_model.specs.declared.kinds.Round.{Round}
+use Rattle.apfloat_model.specs.declared.kinds.NonfiniteBehavior.TheVariants.{IEEE754}
+use Rattle.apfloat_model.specs.declared.status.StatusAnd.{StatusAnd}
+use Rattle.apfloat_model.specs.rounding.Flags.{Gives}
+use Rattle.apfloat_model.specs.formats.Format.{Format}
+use Rattle.apfloat_model.specs.formats.Datum.{Datum}
+use Rattle.apfloat_model.specs.formats.Nan.{invalid_bit, invalid_if, is_signaling_nan}
+use Rattle.apfloat_model.specs.rounding.Answer.{IsAnswer}
+use Rattle.apfloat_machines.specs.declared.machine.Machine.{Machine}
+use Rattle.apfloat_machines.specs.declared.flushing.Flush.{Flush}
+use Rattle.apfloat_machines.specs.Nans.{default_nan}
+use Rattle.apfloat_machines.specs.Invalid.{is_invalid_sum, is_invalid_difference, is_invalid_product}
+use Rattle.apfloat_machines.specs.Invalid.{is_invalid_quotient, is_invalid_fused}
+use Rattle.apfloat_machines.specs.Operations.{IsOfTwo, is_nan_of_three, fused_nan, is_invalid_of_nans}
+use Rattle.apfloat_machines.specs.Conversions.{is_lost_nan}
+use Rattle.apfloat_machines.specs.Theorems.{IsOnce}
+use Rattle.apfloat_machines.specs.FlushedOperations.{IsFlushedSum, IsFlushedDifference, IsFlushedProduct}
+use Rattle.apfloat_machines.specs.FlushedOperations.{IsFlushedQuotient, IsFlushedFusedSum, IsFlushedConversion}
+
+abbrev pub IsFlushedMachineSum : Format → Machine → Flush → Round → Datum → Datum → Datum → ℕ → Type 0
+IsFlushedMachineSum f machine flush mode x y value status =
+    IsOfTwo f machine x y (is_invalid_sum x y) (IsFlushedSum f flush mode x y) value status
+
+abbrev pub IsFlushedMachineDifference : Format → Machine → Flush → Round → Datum → Datum → Datum → ℕ → Type 0
+IsFlushedMachineDifference f machine flush mode x y value status =
+    IsOfTwo f machine x y (is_invalid_difference x y) (IsFlushedDifference f flush mode x y) value status
+
+abbrev pub IsFlushedMachineProduct : Format → Machine → Flush → Round → Datum → Datum → Datum → ℕ → Type 0
+IsFlushedMachineProduct f machine flush mode x y value status =
+    IsOfTwo f machine x y (is_invalid_product x y) (IsFlushedProduct f flush mode x y) value status
+
+abbrev pub IsFlushedMachineQuotient : Format → Machine → Flush → Round → Datum → Datum → Datum → ℕ → Type 0
+IsFlushedMachineQuotient f machine flush mode x y value status =
+    IsOfTwo f machine x y (is_invalid_quotient x y) (IsFlushedQuotient f flush mode x y) value status
+
+abbrev pub IsFlushedMachineFusedSum
+    : Format → Machine → Flush → Round → Datum → Datum → Datum → Datum → ℕ → Type 0
+IsFlushedMachineFusedSum f machine flush mode x y z value status =
+    MatchBool (is_nan_of_three x y z)
+    (IsAnswer (fused_nan f machine x y z) (invalid_if (is_invalid_of_nans f machine x y z)) value status)
+    (MatchBool (is_invalid_fused x y z) (IsAnswer (default_nan f machine) invalid_bit value status)
+    (IsFlushedFusedSum f flush mode x y z value status))
+
+-- of a datum of f into g
+abbrev pub IsFlushedMachineConversion : Format → Format → Machine → Flush → Round → Datum → Datum → ℕ → Type 0
+IsFlushedMachineConversion f g machine flush mode x value status =
+    MatchBool (is_lost_nan f machine x)
+    (IsAnswer (default_nan g machine) (invalid_if (is_signaling_nan f x)) value status)
+    (IsFlushedConversion f g flush mode x value status)
+
+-- what `settled` makes of the answer of each operation that `flushed` has made
+pub record AreFlushedAndSettled (f : Format) (machine : Machine) (flush : Flush) (x y : Datum)
+    (answer result : StatusAnd Datum) : Type 0 where
+  pub sum : (mode : Round) → Gives (IsFlushedSum f flush mode x y) answer
+      → Gives (IsFlushedMachineSum f machine flush mode x y) result
+  pub difference : (mode : Round) → Gives (IsFlushedDifference f flush mode x y) answer
+      → Gives (IsFlushedMachineDifference f machine flush mode x y) result
+  pub product : (mode : Round) → Gives (IsFlushedProduct f flush mode x y) answer
+      → Gives (IsFlushedMachineProduct f machine flush mode x y) result
+  pub quotient : (mode : Round) → Gives (IsFlushedQuotient f flush mode x y) answer
+      → Gives (IsFlushedMachineQuotient f machine flush mode x y) result
+
+-- what `settled_fused` makes of a fused sum that `flushed` has made, in a format with infinities
+abbrev pub IsFlushedAndSettledFused
+    : Format → Machine → Datum → Datum → Datum → StatusAnd Datum → StatusAnd Datum → Type 0
+IsFlushedAndSettledFused f machine x y z answer result =
+    f.nonfinite ≡ IEEE754 → (flush : Flush) (mode : Round) → Gives (IsFlushedFusedSum f flush mode x y z) answer
+    → Gives (IsFlushedMachineFusedSum f machine flush mode x y z) result
+
+-- each has one answer
+pub record FlushedMachinesHaveOneAnswer (f : Format) (machine : Machine) (flush : Flush) : Type 0 where
+  pub sum : (mode : Round) (x y : Datum) → IsOnce (IsFlushedMachineSum f machine flush mode x y)
+  pub difference : (mode : Round) (x y : Datum) → IsOnce (IsFlushedMachineDifference f machine flush mode x y)
+  pub product : (mode : Round) (x y : Datum) → IsOnce (IsFlushedMachineProduct f machine flush mode x y)
+  pub quotient : (mode : Round) (x y : Datum) → IsOnce (IsFlushedMachineQuotient f machine flush mode x y)
+  pub fused_sum : (mode : Round) (x y z : Datum) → IsOnce (IsFlushedMachineFusedSum f machine flush mode x y z)
+  pub conversion : (source : Format) (mode : Round) (x : Datum)
+      → IsOnce (IsFlushedMachineConversion source f machine flush mode x)
