@@ -6,3 +6,8 @@ mod OneAnswer
 mod CodesCompared
 mod Converted
 mod UnsignedSigns
+mod RandomCounts
+mod MovesScaled
+mod RestLosses
+mod ModePicks
+mod ModesOnce

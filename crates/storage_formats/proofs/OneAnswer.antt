@@ -51,7 +51,7 @@ code_is half code l =
     (cases_lt code half)
 
 -- no two codes mean one number
-code_once : (c : Constants) (code other : ℕ) (x : Datum) → IsLawful c → code < 2 ^ c.bits → other < 2 ^ c.bits
+pub code_once : (c : Constants) (code other : ℕ) (x : Datum) → IsLawful c → code < 2 ^ c.bits → other < 2 ^ c.bits
     → datum_of c code ≡ x → datum_of c other ≡ x → code ≡ other
 code_once c code other x law l k e f =
     let low = law.precision_low in
@@ -69,7 +69,7 @@ code_once c code other x law l k e f =
 
 -- ---- conversions
 
-given_once : (c : Constants) (given : Datum) (bits : ℕ) (lossy : Bool) (code other status flags : ℕ)
+pub given_once : (c : Constants) (given : Datum) (bits : ℕ) (lossy : Bool) (code other status flags : ℕ)
     (loses lost : Bool) → IsLawful c → code < 2 ^ c.bits → other < 2 ^ c.bits
     → IsGiven c given bits lossy code status loses → IsGiven c given bits lossy other flags lost
     → AreSame code status loses other flags lost

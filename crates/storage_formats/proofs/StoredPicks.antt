@@ -23,12 +23,12 @@ use Rattle.storage_formats.proofs.Points.{at_index, at_next, low_point, points_i
 -- ---- the pick
 
 -- the point after the one below, if the mode moves
-moved_point : (p m c : ℕ) → 0 < p → m < 2 ^ p → (c ≡ 0) ⊎ (2 ^ (p - 1) ≤ m) → (moved : Bool)
+pub moved_point : (p m c : ℕ) → 0 < p → m < 2 ^ p → (c ≡ 0) ⊎ (2 ^ (p - 1) ≤ m) → (moved : Bool)
     → point p (cond moved (index_of p m c + 1) (index_of p m c)) ≡ cond moved (m + 1) m * 2 ^ c
 moved_point p m c some fits full true = at_next p m c some fits full
 moved_point p m c some fits full false = at_index p m c some fits full
 
-exact_cases : (exact : Bool) (a b : ℕ) → (exact ≡ true → a ≡ b) → (exact ≡ false → a ≡ b → ⊥) → exact ≡ eqb a b
+pub exact_cases : (exact : Bool) (a b : ℕ) → (exact ≡ true → a ≡ b) → (exact ≡ false → a ≡ b → ⊥) → exact ≡ eqb a b
 exact_cases true a b when unless = sym (eq-eqb a b (when refl))
 exact_cases false a b when unless = sym (ne_eqb a b (unless refl))
 
@@ -82,7 +82,7 @@ largest_point c law =
 
 -- ---- what is delivered
 
-not_greater : (p i j : ℕ) → 0 < p → i ≤ j → point p i ≤ point p j
+pub not_greater : (p i j : ℕ) → 0 < p → i ≤ j → point p i ≤ point p j
 not_greater p i j some l =
     ⊎_elim
     (λ (k : i < j). let q = points_in_order p i j some k in omega (arith, q))

@@ -8,3 +8,9 @@ pub mod Laws
 pub mod Orders
 pub mod Unsigned
 pub mod LawTest
+pub mod RandomDigits
+pub mod RandomErrors
+pub mod Modes
+pub mod ModeConversions
+pub mod ModeLaws
+pub mod PicksBy

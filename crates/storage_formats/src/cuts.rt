@@ -1,22 +1,23 @@
 //! A number cut once, at the last digit that a precision keeps.
 
-ghost use Rattle.std.specs.Prelude.{◌≡◌, ◌⊎◌, ℕ, ◌+◌, ◌-◌, ◌*◌, ◌^◌, ◌<◌, ◌≤◌, pos, neg_ℤ, ◌≤ℤ◌};
+ghost use Rattle.std.specs.Prelude.{◌≡◌, ◌⊎◌, ℕ, ◌+◌, ◌-◌, ◌*◌, ◌/◌, ◌%◌, ◌^◌, ◌<◌, ◌≤◌, pos, neg_ℤ, ◌≤ℤ◌};
 ghost use Rattle.apfloat_model.specs.rounding.Bounds.{IsWithin, unit_bound, place_bound};
 ghost use Rattle.apfloat_model.specs.rounding.Enclosure.{IsEnclosed};
 ghost use Rattle.apfloat_model.specs.rounding.Standing.{StandsFor, up, down};
 
 use apfloat_base::ExpInt;
 use apfloat_model::Loss;
-use apfloat_words::shift_right;
+use apfloat_words::{low_digits, shift_right};
 
 /// The number of digits of what is cut.
 pub(crate) const DIGITS: u32 = 125;
 
-/// The digits that are kept, the place of the last of them, and what was cut off below it.
+/// The digits that are kept, the place of the last of them, how many were cut off below it, and what they were.
 #[derive(Clone, Copy)]
 pub(crate) struct Kept {
     pub significand: u128,
     pub place: u32,
+    pub places: u32,
     pub loss: Loss,
 }
 
@@ -57,16 +58,35 @@ pub(crate) fn cut(precision: u32, digits: u128, unit: ExpInt) -> Kept
     ensures fits { result.significand < 2 ^ precision }
     ensures full { (result.place ≡ 0) ⊎ (2 ^ (precision - 1) ≤ result.significand) }
     ensures near { result.place < place_bound }
+    ensures places { result.places + up unit ≡ result.place + down unit }
+    ensures quotient { result.significand ≡ digits / 2 ^ result.places }
+    ensures rest { StandsFor result.significand result.loss digits (2 ^ result.places * 1) }
     ensures cut { (amount parts : ℕ) → 0 < parts
         → amount * 2 ^ down unit ≡ digits * (parts * 2 ^ up unit)
         → IsEnclosed precision (2 ^ (precision - 1)) result.significand result.place amount parts
         × StandsFor result.significand result.loss amount (2 ^ result.place * parts) }
 {
     let place = kept_place(precision, unit);
-    let shifted = shift_right(digits, steps_up(unit, place), Loss::ExactlyZero);
+    let places = steps_up(unit, place);
+    let shifted = shift_right(digits, places, Loss::ExactlyZero);
     Kept {
         significand: shifted.significand,
         place,
+        places,
         loss: shifted.loss,
+    }
+}
+
+/// Of 2^digits parts of the lowest kept digit, how many whole ones the rest is that was cut off.
+pub(crate) fn parts_of_rest(number: u128, places: u32, digits: u32) -> u64
+    requires few { digits ≤ 32 }
+    ensures value { result ≡ 2 ^ digits * (number % 2 ^ places) / 2 ^ places }
+    ensures below { result < 2 ^ digits }
+{
+    if places <= digits {
+        (low_digits(number, places) as u64) << (digits - places)
+    } else {
+        let shifted = shift_right(number, places - digits, Loss::ExactlyZero);
+        low_digits(shifted.significand, digits) as u64
     }
 }

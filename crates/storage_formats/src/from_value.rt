@@ -67,7 +67,7 @@ fn status_within(precision: u32, picked: Picked) -> Status
 }
 
 /// The largest number with that sign.
-fn largest_of_sign<F: StorageFormat>(negative: bool) -> StoredFloat<F>
+pub(crate) fn largest_of_sign<F: StorageFormat>(negative: bool) -> StoredFloat<F>
     ensures { let c = constants_of F.StorageFormat in
         datum_of c result ≡ finite negative (largest (format_with c)) }
 {
@@ -75,7 +75,7 @@ fn largest_of_sign<F: StorageFormat>(negative: bool) -> StoredFloat<F>
 }
 
 /// What is delivered past the largest number.
-fn past<F: StorageFormat>(mode: Round, negative: bool) -> StatusAnd<StoredFloat<F>>
+pub(crate) fn past<F: StorageFormat>(mode: Round, negative: bool) -> StatusAnd<StoredFloat<F>>
     ensures value { let c = constants_of F.StorageFormat in
         datum_of c result.value ≡ finite negative (largest (format_with c)) }
     ensures status { bits_of result.status
@@ -85,7 +85,7 @@ fn past<F: StorageFormat>(mode: Round, negative: bool) -> StatusAnd<StoredFloat<
 }
 
 /// What is delivered for a pick within the format.
-fn within<F: StorageFormat>(picked: Picked, negative: bool) -> StatusAnd<StoredFloat<F>>
+pub(crate) fn within<F: StorageFormat>(picked: Picked, negative: bool) -> StatusAnd<StoredFloat<F>>
     requires { picked.index ≤ largest_index (constants_of F.StorageFormat) }
     ensures value { datum_of (constants_of F.StorageFormat) result.value
         ≡ finite negative (point F.PRECISION picked.index) }
@@ -98,7 +98,7 @@ fn within<F: StorageFormat>(picked: Picked, negative: bool) -> StatusAnd<StoredF
 }
 
 /// The value that is delivered for a pick.
-fn deliver_pick<F: StorageFormat>(
+pub(crate) fn deliver_pick<F: StorageFormat>(
     picked: Picked,
     mode: Round,
     negative: bool,

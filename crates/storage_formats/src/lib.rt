@@ -5,6 +5,8 @@
 //! the Open Compute Project's microscaling formats (`named`): `E2M1FN`, `E2M3FN`, `E3M2FN`. `E8M0FNU` is a scale that
 //! is a power of two (`scales`), and `UE4M3` one with a significand (`unsigned`).
 //!
+//! `from_value_by` has two more modes, to odd and with random digits (`modes`).
+//!
 //! A conversion from any format is rounded once (`picks`): the digits of the value are cut at the last one that the
 //! format keeps there (`cuts`), and the mode moves them or not.
 #![tactic(auto)]
@@ -12,6 +14,10 @@
 mod cuts;
 mod format;
 mod from_value;
+mod from_value_by;
+#[cfg(test)]
+mod mode_rows;
+mod modes;
 mod named;
 mod picks;
 #[cfg(test)]
@@ -25,11 +31,13 @@ mod to_value;
 mod unsigned;
 
 pub use format::StorageFormat;
+pub use modes::{ConversionRound, NanResult, RandomDigits, RandomError};
 pub use named::{E2M1FN, E2M3FN, E3M2FN};
 pub use scales::E8M0FNU;
 pub use stored::StoredFloat;
 pub use theorems::{
-    codes_are_in_order, conversions_have_one_answer, scales_have_one_answer,
-    unsigned_conversions_have_one_answer,
+    codes_are_in_order, conversions_by_mode_have_one_answer, conversions_have_one_answer,
+    exact_values_never_move, picks_are_those_of_the_model, random_numbers_are_counted,
+    scales_have_one_answer, unsigned_conversions_have_one_answer,
 };
 pub use unsigned::UE4M3;

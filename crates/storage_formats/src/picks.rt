@@ -1,13 +1,16 @@
 //! The point that is picked for a number.
 
-ghost use Rattle.std.specs.Prelude.{◌≡◌, ℕ, ◌+◌, ◌*◌, ◌^◌, ◌<◌, ◌≤◌, if◌then◌else◌};
+ghost use Rattle.std.specs.Prelude.{◌≡◌, ℕ, ◌+◌, ◌-◌, ◌*◌, ◌/◌, ◌%◌, ◌^◌, ◌<◌, ◌≤◌, eqb, if◌then◌else◌};
 ghost use Rattle.apfloat_model.specs.rounding.Bounds.{IsWithin, unit_bound, place_bound};
-ghost use Rattle.apfloat_model.specs.rounding.Standing.{up, down};
+ghost use Rattle.apfloat_model.specs.rounding.Standing.{StandsFor, up, down};
 ghost use Rattle.storage_formats.specs.Codes.{index_of};
 ghost use Rattle.storage_formats.specs.Picks.{IsPickedAt};
+ghost use Rattle.storage_formats.specs.PicksBy.{IsPickedBy, moves};
 
-use crate::cuts::cut;
+use crate::cuts::{cut, parts_of_rest};
+use crate::modes::ConversionRound;
 use apfloat_base::{ExpInt, Round};
+use apfloat_model::Loss;
 use apfloat_rounding::rounding::moves_up;
 use apfloat_words::{is_exact, power_of_two};
 
@@ -58,6 +61,56 @@ pub(crate) fn pick(
     let kept = cut(precision, digits, unit);
     let below = index_of(precision, kept.significand, kept.place);
     let moves = moves_up(mode, negative, kept.loss, kept.significand % 2 == 1);
+    Picked {
+        index: moved_index(below, moves),
+        exact: is_exact(kept.loss),
+    }
+}
+
+/// Whether the mode takes the point above a number of which `places` digits were cut off with that loss. `odd` says
+/// whether what was kept is odd.
+fn takes_next(
+    mode: ConversionRound,
+    negative: bool,
+    number: u128,
+    places: u32,
+    loss: Loss,
+    odd: bool,
+) -> bool
+    requires { StandsFor (number / 2 ^ places) loss number (2 ^ places * 1) }
+    ensures { result ≡ moves mode negative (number % 2 ^ places) (2 ^ places - number % 2 ^ places)
+        odd }
+{
+    match mode {
+        ConversionRound::Ieee(round) => moves_up(round, negative, loss, odd),
+        ConversionRound::ToOdd => !is_exact(loss) && !odd,
+        ConversionRound::Stochastic(bits) => {
+            parts_of_rest(number, places, bits.digits) + u64::from(bits.random) >= 1 << bits.digits
+        }
+    }
+}
+
+/// The point that is picked for `digits * 2^unit` quanta in a mode of conversions.
+pub(crate) fn pick_by(
+    precision: u32,
+    digits: u128,
+    unit: ExpInt,
+    mode: ConversionRound,
+    negative: bool,
+) -> Picked
+    requires some { 0 < precision }
+    requires precise { precision ≤ 8 }
+    requires low { 2 ^ 124 ≤ digits }
+    requires high { digits < 2 ^ 125 }
+    requires within { IsWithin unit_bound unit }
+    ensures { (amount parts : ℕ) → 0 < parts
+        → amount * 2 ^ down unit ≡ digits * (parts * 2 ^ up unit)
+        → IsPickedBy precision mode negative amount parts result.index result.exact }
+{
+    let kept = cut(precision, digits, unit);
+    let below = index_of(precision, kept.significand, kept.place);
+    let odd = kept.significand % 2 == 1;
+    let moves = takes_next(mode, negative, digits, kept.places, kept.loss, odd);
     Picked {
         index: moved_index(below, moves),
         exact: is_exact(kept.loss),

@@ -2,14 +2,18 @@
 
 ghost use Rattle.std.specs.Prelude.{◌<◌, ◌≤◌, ◌^◌};
 
+use crate::mode_rows::{BY_MODE_E2M1FN, BY_MODE_E2M3FN, BY_MODE_E3M2FN};
 use crate::rows::{
     E2M1FN as E2M1FN_ROWS, E2M3FN as E2M3FN_ROWS, E3M2FN as E3M2FN_ROWS, E8M0FNU as E8M0FNU_ROWS,
     INTO_E2M1FN, INTO_E2M3FN, INTO_E3M2FN, INTO_E8M0FNU, INTO_UE4M3, OUT_OF_E2M1FN, OUT_OF_E2M3FN,
     OUT_OF_E3M2FN, OUT_OF_E8M0FNU, OUT_OF_UE4M3, UE4M3 as UE4M3_ROWS,
 };
-use crate::{E2M1FN, E2M3FN, E3M2FN, E8M0FNU, StorageFormat, StoredFloat, UE4M3};
+use crate::{
+    ConversionRound, E2M1FN, E2M3FN, E3M2FN, E8M0FNU, NanResult, RandomDigits, RandomError,
+    StorageFormat, StoredFloat, UE4M3,
+};
 use apfloat_base::{Flags, Float, Round, StatusAnd};
-use apfloat_formats::{Float8E4M3FNS, Float8E5M2S, HalfS, Single, SingleS};
+use apfloat_formats::{Float8E4M3FNS, Float8E5M2S, Half, HalfS, Single, SingleS};
 use apfloat_ieee::{IeeeFloat, Semantics};
 use apfloat_words::low_digits;
 use std::cmp::Ordering;
@@ -187,4 +191,65 @@ fn order(rt: HostRuntime) {
         assert_eq!(rt; x.compare(y), wanted);
         assert_eq!(rt; y.compare(x), wanted.reverse());
     }
+}
+
+/// To odd, and with random digits and numbers.
+pub(crate) type ModeSums = [u64; 8];
+
+/// The digits and the random numbers of a checksum, after the one to odd.
+static RANDOM: [(u32, u32); 7] = [
+    (1, 0),
+    (1, 1),
+    (3, 2),
+    (8, 0),
+    (8, 77),
+    (8, 255),
+    (32, 0x9e37_79b9),
+];
+
+/// The mode of a checksum.
+fn mode_of(index: usize) -> ConversionRound
+    requires { index < 8 }
+{
+    if index == 0 {
+        return ConversionRound::ToOdd;
+    }
+    let (digits, random) = RANDOM[index - 1];
+    match RandomDigits::new(digits, random) {
+        Ok(bits) => ConversionRound::Stochastic(bits),
+        Err(_) => ConversionRound::ToOdd,
+    }
+}
+
+/// The checksum of each third half. In each second mode a NaN becomes the largest number.
+fn mode_sum<F: StorageFormat>(index: usize) -> u64
+    requires { index < 8 }
+{
+    let mode = mode_of(index);
+    let nans = if index % 2 == 1 {
+        NanResult::Largest
+    } else {
+        NanResult::Zero
+    };
+    let mut checksum = 0;
+    for third in 0..21846u32 {
+        let mut loses_info = false;
+        let x = Half::from_bits(u128::from(3 * third));
+        let got = StoredFloat::<F>::from_value_by(x, mode, nans, &mut loses_info);
+        let code = u128::from(got.value.to_bits());
+        checksum = extended(checksum, code, got.status.bits(), loses_info);
+    }
+    checksum
+}
+
+#[test]
+fn modes(rt: HostRuntime) {
+    for index in 0..8 {
+        assert_eq!(rt; mode_sum::<E2M1FN>(index), BY_MODE_E2M1FN[index], "{index}");
+        assert_eq!(rt; mode_sum::<E2M3FN>(index), BY_MODE_E2M3FN[index], "{index}");
+        assert_eq!(rt; mode_sum::<E3M2FN>(index), BY_MODE_E3M2FN[index], "{index}");
+    }
+    assert_eq!(rt; RandomDigits::new(0, 0).err(), Some(RandomError::DigitCount));
+    assert_eq!(rt; RandomDigits::new(33, 0).err(), Some(RandomError::DigitCount));
+    assert_eq!(rt; RandomDigits::new(3, 8).err(), Some(RandomError::TooWide));
 }

@@ -1,6 +1,8 @@
 //! Theorems about the definitions that the calls cite, as contracts of functions with empty bodies.
 
 ghost use Rattle.storage_formats.specs.Laws.{AreCodesInOrder, IsIntoOnce, IsScaleOnce, IsUnsignedOnce};
+ghost use Rattle.storage_formats.specs.ModeLaws.{ArePicksOfModel, AreRandomNumbersCounted, IsIntoByOnce};
+ghost use Rattle.storage_formats.specs.ModeLaws.{IsIntoOfModel, StaysExact};
 
 /// A conversion into a storage format has one answer.
 pub fn conversions_have_one_answer()
@@ -20,4 +22,26 @@ pub fn unsigned_conversions_have_one_answer()
 /// Of two codes without a sign, the greater one is the greater number.
 pub fn codes_are_in_order()
     ensures { AreCodesInOrder }
+{}
+
+/// Of all random numbers, exactly as many take a value to its upper neighbour as it has parts of the distance above its
+/// lower one.
+pub fn random_numbers_are_counted()
+    ensures { AreRandomNumbersCounted }
+{}
+
+/// A value that the format has is picked as it is, in each mode and with each random number.
+pub fn exact_values_never_move()
+    ensures { StaysExact }
+{}
+
+/// In a mode of IEEE 754 the picks and the conversions are those of the model.
+pub fn picks_are_those_of_the_model()
+    ensures picks { ArePicksOfModel }
+    ensures conversions { IsIntoOfModel }
+{}
+
+/// A conversion by a mode of conversions has one answer.
+pub fn conversions_by_mode_have_one_answer()
+    ensures { IsIntoByOnce }
 {}
