@@ -1,4 +1,5 @@
 pub mod FarTexts
+pub mod LastDigits
 pub mod Lines
 pub mod OneReading
 pub mod ParsedNumbers

@@ -1,9 +1,14 @@
 -- How a decimal is written.
-use Rattle.std.specs.Prelude.{ℕ, ◌+◌, ◌-◌, ◌*◌, ◌/◌, ◌%◌, ◌^◌, ℤ, pos, ◌+ℤ◌, Bool, ◌&&◌, leb, eqb, if◌then◌else◌, List}
-use Rattle.std.specs.Prelude.{[], ◌++◌, length, replicate, codes}
+use Rattle.std.specs.Prelude.{ℕ, zero, suc, ◌∷◌, ◌+◌, ◌-◌, ◌*◌, ◌/◌, ◌%◌, ◌^◌, ℤ, pos, ◌+ℤ◌, Bool, ◌&&◌}
+use Rattle.std.specs.Prelude.{leb, eqb, if◌then◌else◌, List, [], ◌++◌, length, replicate, codes}
 use Rattle.std.specs.Fmt.{decimal, signed_decimal}
 use Rattle.apfloat_model.specs.arithmetic.Exact.{up, down}
 use Rattle.apfloat_decimals.specs.declared.decimal.Decimal.{Decimal}
+
+-- the last digits of n, that many of them
+unfoldable pub last_digits : ℕ → ℕ → List ℕ
+last_digits zero n = []
+last_digits (suc count) n = last_digits count (n / 10) ++ ((48 + n % 10) ∷ [])
 
 -- n with leading zeros, up to that many digits
 abbrev pub padded : ℕ → ℕ → List ℕ

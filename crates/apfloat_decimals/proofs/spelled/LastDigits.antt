@@ -1,0 +1,193 @@
+-- Digits that are written several at a time.
+use Rattle.std.proofs.Common.{◌≡◌, ℕ, zero, suc, ◌+◌, ◌*◌, ◌/◌, ◌%◌, ◌^◌, ◌<◌, ◌≤◌, List, [], ◌∷◌, ◌++◌, length}
+use Rattle.std.proofs.Common.{sym, ap, ◌∙◌}
+use Rattle.std.proofs.Common.{Bool, true, false, eqb, get_or, arith, lit<, refl}
+use Rattle.std.specs.Prelude.{◌&&◌}
+use Rattle.std.proofs.lemmas.Bool.{and_parts, eqb-true}
+use Rattle.std.proofs.Math.Nat.{div-add-mod, div-div-eq-div-mul, div-lt_iff_lt-mul, mod-lt}
+use Rattle.std.proofs.lemmas.Fmt.{decimal_digit, decimal_step_wide}
+use Rattle.std.proofs.lemmas.List.{append_assoc, length-append}
+use Rattle.std.proofs.lemmas.Nat.{mod-mul-add, pow-add}
+use Rattle.std.specs.Fmt.{decimal}
+use Rattle.apfloat_decimals.specs.Texts.{last_digits}
+use Rattle.apfloat_decimals.proofs.numbers.Values.{power_pos}
+use Rattle.apfloat_decimals.proofs.spelled.WrittenNumbers.{length_more, single}
+
+append_none : (text : List ℕ) → text ++ [] ≡ text
+append_none [] = refl
+append_none (c ∷ text) = ap (λ (x : List ℕ). c ∷ x) (append_none text)
+
+over_one : (n : ℕ) → n / 10 ^ 0 ≡ n
+over_one n = let one : 10 ^ 0 ≡ 1 = omega arith in ap (λ (k : ℕ). n / k) one ∙ omega arith
+
+ten_suc : (count : ℕ) → 10 ^ suc count ≡ 10 * 10 ^ count
+ten_suc count = let e : suc count ≡ count + 1 = omega arith in
+    ap (λ (k : ℕ). 10 ^ k) e ∙ pow-add 10 count 1 ∙ omega arith
+
+-- dividing by ten and then by a power of ten divides by the next power
+div_suc : (n count : ℕ) → n / 10 / 10 ^ count ≡ n / 10 ^ suc count
+div_suc n count = div-div-eq-div-mul n 10 (10 ^ count) ∙ ap (λ (k : ℕ). n / k) (sym (ten_suc count))
+
+pub last_length : (count n : ℕ) → length (last_digits count n) ≡ count
+unfolding last_digits
+last_length zero n = omega arith
+last_length (suc count) n =
+    let shorter = last_length count (n / 10) in
+    let more = length_more (last_digits count (n / 10)) (48 + n % 10) in
+    omega (arith, shorter, more)
+
+-- the decimal digits of a number are those before its last ones, and those
+pub decimal_split : (count n : ℕ) → 10 ^ count ≤ n → n < 2 ^ 128
+    → decimal n ≡ decimal (n / 10 ^ count) ++ last_digits count n
+unfolding last_digits
+decimal_split zero n some few =
+    let one : n / 10 ^ 0 ≡ n = over_one n in
+    sym (append_none (decimal (n / 10 ^ 0)) ∙ ap (λ (k : ℕ). decimal k) one)
+decimal_split (suc count) n some few =
+    let ten : 10 ^ suc count ≡ 10 * 10 ^ count = ten_suc count in
+    let one : 1 ≤ 10 ^ count = power_pos 10 count (lit< tt) in
+    let more : 10 ≤ n = omega (arith, ten, one, some) in
+    let least : 10 ^ count ≤ n / 10 = omega (arith, ten, some) in
+    let less : n / 10 < 2 ^ 128 = omega (arith, few) in
+    decimal_step_wide n more (omega (arith, few))
+    ∙ ap (λ (x : List ℕ). x ++ ((48 + n % 10) ∷ [])) (decimal_split count (n / 10) least less)
+    ∙ append_assoc (decimal (n / 10 / 10 ^ count)) (last_digits count (n / 10)) ((48 + n % 10) ∷ [])
+    ∙ ap (λ (k : ℕ). decimal k ++ (last_digits count (n / 10) ++ ((48 + n % 10) ∷ []))) (div_suc n count)
+
+-- the last digits of a number are those of its upper part, and the others
+pub last_split : (first second n : ℕ) → last_digits (first + second) n
+    ≡ last_digits first (n / 10 ^ second) ++ last_digits second n
+unfolding last_digits
+last_split first zero n =
+    let one : n / 10 ^ 0 ≡ n = over_one n in
+    let none : first + 0 ≡ first = omega arith in
+    ap (λ (k : ℕ). last_digits k n) none ∙ sym (append_none (last_digits first (n / 10 ^ 0))
+    ∙ ap (λ (k : ℕ). last_digits first k) one)
+last_split first (suc second) n =
+    let next : first + suc second ≡ suc (first + second) = omega arith in
+    ap (λ (k : ℕ). last_digits k n) next
+    ∙ ap (λ (x : List ℕ). x ++ ((48 + n % 10) ∷ [])) (last_split first second (n / 10))
+    ∙ append_assoc (last_digits first (n / 10 / 10 ^ second)) (last_digits second (n / 10)) ((48 + n % 10) ∷ [])
+    ∙ ap (λ (k : ℕ). last_digits first k ++ (last_digits second (n / 10) ++ ((48 + n % 10) ∷ []))) (div_suc n second)
+
+-- digits above the last ones do not count
+pub last_within : (count n : ℕ) → last_digits count (n % 10 ^ count) ≡ last_digits count n
+unfolding last_digits
+last_within zero n = refl
+last_within (suc count) n =
+    let ten : 10 ^ suc count ≡ 10 * 10 ^ count = ten_suc count in
+    let low : n % 10 ^ suc count % 10 ≡ n % 10 = mod_low n count in
+    let high : n % 10 ^ suc count / 10 ≡ n / 10 % 10 ^ count = mod_high n count in
+    ap (λ (k : ℕ). last_digits count k ++ ((48 + n % 10 ^ suc count % 10) ∷ [])) high
+    ∙ ap (λ (x : List ℕ). x ++ ((48 + n % 10 ^ suc count % 10) ∷ [])) (last_within count (n / 10))
+    ∙ ap (λ (k : ℕ). last_digits count (n / 10) ++ ((48 + k) ∷ [])) low
+  where
+    parts : (n count : ℕ) → n % 10 ^ suc count ≡ 10 * (n / 10 % 10 ^ count) + n % 10
+    parts n count =
+        let ten : 10 ^ suc count ≡ 10 * 10 ^ count = ten_suc count in
+        let upper : 10 ^ count * (n / 10 / 10 ^ count) + n / 10 % 10 ^ count ≡ n / 10 =
+        div-add-mod (n / 10) (10 ^ count) in
+        let rest : n / 10 % 10 ^ count < 10 ^ count = mod-lt (n / 10) (power_pos 10 count (lit< tt)) in
+        let less : 10 * (n / 10 % 10 ^ count) + n % 10 < 10 * 10 ^ count = omega (arith, rest) in
+        let all : n ≡ n / 10 / 10 ^ count * (10 * 10 ^ count) + (10 * (n / 10 % 10 ^ count) + n % 10) =
+        omega (arith, upper) in
+        ap (λ (k : ℕ). n % k) ten ∙ ap (λ (k : ℕ). k % (10 * 10 ^ count)) all
+        ∙ mod-mul-add (n / 10 / 10 ^ count) (10 * 10 ^ count) (10 * (n / 10 % 10 ^ count) + n % 10) less
+
+    mod_low : (n count : ℕ) → n % 10 ^ suc count % 10 ≡ n % 10
+    mod_low n count = let p = parts n count in omega (arith, p)
+
+    mod_high : (n count : ℕ) → n % 10 ^ suc count / 10 ≡ n / 10 % 10 ^ count
+    mod_high n count = let p = parts n count in omega (arith, p)
+
+-- ---- how many digits
+
+-- a number has as many digits as what is left without its last ones, and those
+pub counted_split : (count n : ℕ) → 10 ^ count ≤ n → n < 2 ^ 128
+    → length (decimal n) ≡ length (decimal (n / 10 ^ count)) + count
+counted_split count n some few =
+    let last = last_length count n in
+    let both = length-append (decimal (n / 10 ^ count)) (last_digits count n) in
+    ap (λ (x : List ℕ). length x) (decimal_split count n some few) ∙ omega (arith, both, last)
+
+-- the digits of a number between two powers of ten
+pub counted_between : (count n : ℕ) → 10 ^ count ≤ n → n < 10 * 10 ^ count → n < 2 ^ 128
+    → length (decimal n) ≡ count + 1
+counted_between count n some less few =
+    let ten : 0 < 10 ^ count = power_pos 10 count (lit< tt) in
+    let below : n / 10 ^ count < 10 = (div-lt_iff_lt-mul ten).1 (omega (arith, less)) in
+    let one = single (n / 10 ^ count) below in
+    counted_split count n some few ∙ omega (arith, one)
+
+-- ---- appended to a text
+
+-- appending the upper digits and then the lower ones appends all
+pub last_joined : (first second n : ℕ) (text : List ℕ)
+    → (text ++ last_digits first (n / 10 ^ second)) ++ last_digits second (n % 10 ^ second)
+    ≡ text ++ last_digits (first + second) n
+last_joined first second n text =
+    append_assoc text (last_digits first (n / 10 ^ second)) (last_digits second (n % 10 ^ second))
+    ∙ ap (λ (x : List ℕ). text ++ (last_digits first (n / 10 ^ second) ++ x)) (last_within second n)
+    ∙ ap (λ (x : List ℕ). text ++ x) (sym (last_split first second n))
+
+pub number_joined : (count n : ℕ) (text : List ℕ) → 10 ^ count ≤ n → n < 2 ^ 128
+    → (text ++ decimal (n / 10 ^ count)) ++ last_digits count (n % 10 ^ count) ≡ text ++ decimal n
+number_joined count n text some few =
+    append_assoc text (decimal (n / 10 ^ count)) (last_digits count (n % 10 ^ count))
+    ∙ ap (λ (x : List ℕ). text ++ (decimal (n / 10 ^ count) ++ x)) (last_within count n)
+    ∙ ap (λ (x : List ℕ). text ++ x) (sym (decimal_split count n some few))
+
+-- there is room for the upper digits, and then for the lower ones
+pub room_joined : (count n : ℕ) (text : List ℕ) → 10 ^ count ≤ n → n < 2 ^ 128
+    → length text + length (decimal n) ≤ 64 → length (text ++ decimal (n / 10 ^ count)) + count ≤ 64
+room_joined count n text some few room =
+    let both = length-append text (decimal (n / 10 ^ count)) in
+    let all = counted_split count n some few in
+    omega (arith, both, all, room)
+
+pub upper_room : (count n : ℕ) (text : List ℕ) → 10 ^ count ≤ n → n < 2 ^ 128
+    → length text + length (decimal n) ≤ 64 → length text + length (decimal (n / 10 ^ count)) ≤ 64
+upper_room count n text some few room = let all = counted_split count n some few in omega (arith, all, room)
+
+-- two characters are the digits of a number below 100
+pub pair_joined : (n a b : ℕ) (text : List ℕ) → n < 100 → a ≡ 48 + n / 10 → b ≡ 48 + n % 10
+    → (text ++ (a ∷ [])) ++ (b ∷ []) ≡ text ++ last_digits 2 n
+unfolding last_digits
+pair_joined n a b text few first second =
+    let tens : 48 + n / 10 ≡ 48 + n / 10 % 10 = omega (arith, few) in
+    append_assoc text (a ∷ []) (b ∷ [])
+    ∙ ap (λ (k : ℕ). text ++ (k ∷ b ∷ [])) (first ∙ tens)
+    ∙ ap (λ (k : ℕ). text ++ ((48 + n / 10 % 10) ∷ k ∷ [])) second
+
+-- ---- the table of pairs
+
+unfoldable pub are_pairs : ℕ → List ℕ → Bool
+are_pairs first [] = true
+are_pairs first (a ∷ []) = false
+are_pairs first (a ∷ b ∷ pairs) = eqb a (48 + first / 10) && (eqb b (48 + first % 10) && are_pairs (first + 1) pairs)
+
+pub pair_at : (first : ℕ) (pairs : List ℕ) (i : ℕ) → are_pairs first pairs ≡ true → 2 * i + 1 < length pairs
+    → (get_or pairs (2 * i) 0 ≡ 48 + (first + i) / 10) × (get_or pairs (2 * i + 1) 0 ≡ 48 + (first + i) % 10)
+unfolding are_pairs
+pair_at first [] i e l = absurd (omega (arith, l))
+pair_at first (a ∷ []) i e l = absurd (omega (arith, l))
+pair_at first (a ∷ b ∷ pairs) zero e l =
+    let same : first + 0 ≡ first = omega arith in
+    let p = and_parts _ _ e in
+    let q = and_parts _ _ p.1 in
+    rw same (eqb-true a (48 + first / 10) p.0, eqb-true b (48 + first % 10) q.0)
+pair_at first (a ∷ b ∷ pairs) (suc i) e l =
+    let same : first + suc i ≡ first + 1 + i = omega arith in
+    let two : 2 * suc i ≡ suc (suc (2 * i)) = omega arith in
+    let three : 2 * suc i + 1 ≡ suc (suc (2 * i + 1)) = omega arith in
+    let q = and_parts _ _ ((and_parts _ _ e).1) in
+    let within : 2 * i + 1 < length pairs = omega (arith, l) in
+    rw (same, three, two) (pair_at (first + 1) pairs i q.1 within)
+
+pub pair_is_decimal : (n : ℕ) → 10 ≤ n → n < 100 → last_digits 2 n ≡ decimal n
+unfolding last_digits
+pair_is_decimal n some few =
+    let tens : 48 + n / 10 % 10 ≡ 48 + n / 10 = omega (arith, few) in
+    ap (λ (k : ℕ). k ∷ (48 + n % 10) ∷ []) tens
+    ∙ sym (decimal_step_wide n some (omega (arith, few))
+    ∙ ap (λ (x : List ℕ). x ++ ((48 + n % 10) ∷ [])) (decimal_digit (n / 10) (omega (arith, few))))
