@@ -10,6 +10,7 @@ With -copies instead, the lines of FPgen are comparisons, conversions and copies
 """
 
 import random
+import re
 import sys
 
 from exact import calls
@@ -50,6 +51,8 @@ MODES = {
     "-rnear_maxMag": "away",
     "-rodd": "odd",
 }
+# The endings of functions that round in a mode of their own; those with an x raise the inexact flag.
+ENDING = re.compile("(.*)_(rx?)_(near_even|near_maxMag|minMag|min|max)")
 # What rows call with the mode to odd, and with the fewer digits of an x87.
 TO_ODD = {
     "add_r": "add_odd",
@@ -116,6 +119,11 @@ def answer(call, words, mode, operands):
 def testfloat(function, choices, options):
     """A line of TestFloat for a function."""
     mode = next((MODES[option] for option in options if option in MODES), "even")
+    ending = ENDING.fullmatch(function)
+    if ending:
+        function, mode = ending[1], MODES[f"-r{ending[3]}"]
+    if ending and ending[2] == "rx" or function.endswith("_x"):
+        function, options = function.removesuffix("_x"), [*options, "-exact"]
     suffix = "+ieee+before" if "-tininessbefore" in options else "+ieee"
     source, to, target = function.partition("_to_")
     if not to:
@@ -150,8 +158,6 @@ def testfloat(function, choices, options):
         return f"{hexadecimal(bits, width)} {hexadecimal(int(result, 16), target_width)} {flags:02X}"
     name, width, _ = FLOATS[source]
     operand = hexadecimal(value(choices, source), width)
-    if target.endswith("_r_minMag"):
-        target, mode = target.removesuffix("_r_minMag"), "zero"
     if target in INTEGERS:
         target_width = INTEGERS[target]
         call = "to_i128_r" if target.startswith("i") else "to_u128_r"
