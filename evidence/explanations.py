@@ -52,11 +52,18 @@ MACHINES = {
     "x86": ("first", True, False, "ABC", False, False, False),
     "x87": ("greater", True, False, None, False, False, False),
     "arm": ("signaling", False, True, "CAB", True, False, True),
-    "arm-default-nan": ("default", False, True, "CAB", True, True, True),
-    "arm-alternate": ("first", True, False, "ABC", False, False, False),
-    "riscv": ("default", False, False, "ABC", True, True, True),
+    "arm_default_nan": ("default", False, True, "CAB", True, True, True),
+    "arm_alternate": ("first", True, False, "ABC", False, False, False),
+    "risc_v": ("default", False, False, "ABC", True, True, True),
     "power": ("first", False, True, "ACB", False, False, True),
     "s390x": ("signaling", False, True, "ABC", True, True, True),
+}
+# Other spellings of their words.
+SPELLINGS = {
+    "arm-default-nan": "arm_default_nan",
+    "arm-alternate": "arm_alternate",
+    "risc-v": "risc_v",
+    "riscv": "risc_v",
 }
 CHOICES = {
     "first": "The first NaN is taken, quieted.",
@@ -128,7 +135,9 @@ def computed(format, word, operation, data, mode):
 
 def on_machine(machine, format, word, operation, data, mode):
     """Why a NaN results, in lines, and the value and the flags as the machine gives them."""
-    choice, negative, before, order, drops_quiet, drops_signaling, flags_quiet = MACHINES[machine]
+    choice, negative, before, order, drops_quiet, drops_signaling, flags_quiet = MACHINES[
+        SPELLINGS.get(machine, machine)
+    ]
     value, flags = computed(with_ieee_flags(format)[before], word, operation, data, mode)
     if not isinstance(value, NaN):
         return [], value, flags

@@ -2,13 +2,15 @@
 """Writes lines in the form of other programs' test files, with the results of the model.
 
     python3 evidence/field_files.py testfloat FUNCTION SEED COUNT [OPTION ..]
-    python3 evidence/field_files.py fpgen SEED COUNT [-tininessbefore]
+    python3 evidence/field_files.py fpgen SEED COUNT [-tininessbefore] [-copies]
 
 The first is a function of Berkeley TestFloat, such as `f64_add`, with its options of rounding; the
 second are lines of IBM's FPgen, in its three binary formats. The same words draw the same lines.
+With -copies instead, the lines of FPgen are comparisons, conversions and copies.
 """
 
 import random
+import re
 import sys
 
 from exact import calls
@@ -47,7 +49,33 @@ MODES = {
     "-rmin": "down",
     "-rminMag": "zero",
     "-rnear_maxMag": "away",
+    "-rodd": "odd",
 }
+# The endings of functions that round in a mode of their own; those with an x raise the inexact flag.
+ENDING = re.compile("(.*)_(rx?)_(near_even|near_maxMag|minMag|min|max)")
+# What rows call with the mode to odd, and with the fewer digits of an x87.
+TO_ODD = {
+    "add_r": "add_odd",
+    "sub_r": "sub_odd",
+    "wide_mul_r": "mul_odd",
+    "wide_mul_add_r": "mul_add_odd",
+    "div_r": "div_odd",
+    "sqrt_r": "sqrt_odd",
+    "round_to_integral": "round_to_odd_integral",
+    "convert_r": "convert_odd",
+    "from_u128_r": "from_u128_odd",
+    "from_i128_r": "from_i128_odd",
+    "to_u128_r": "to_u128_odd",
+    "to_i128_r": "to_i128_odd",
+}
+TO_FEWER_DIGITS = {
+    "add_r": "add_to",
+    "sub_r": "sub_to",
+    "wide_mul_r": "mul_to",
+    "div_r": "div_to",
+    "sqrt_r": "sqrt_to",
+}
+FEWER_DIGITS = {"-precision32": "x87p24", "-precision64": "x87p53"}
 # TestFloat has the flags in the reverse order.
 FLAGS = {name: 1 << place for place, name in enumerate(reversed(NAMES))}
 
@@ -82,6 +110,8 @@ def hexadecimal(bits, width):
 
 def answer(call, words, mode, operands):
     """The value and the flags that the model has for a call."""
+    if mode == "odd":
+        call, mode = TO_ODD.get(call, call), "-"
     given = calls.answered(call, words, "-" if call == "ieee_rem" else mode, operands)
     return given.value, numbers(given.flags)
 
@@ -89,6 +119,11 @@ def answer(call, words, mode, operands):
 def testfloat(function, choices, options):
     """A line of TestFloat for a function."""
     mode = next((MODES[option] for option in options if option in MODES), "even")
+    ending = ENDING.fullmatch(function)
+    if ending:
+        function, mode = ending[1], MODES[f"-r{ending[3]}"]
+    if ending and ending[2] == "rx" or function.endswith("_x"):
+        function, options = function.removesuffix("_x"), [*options, "-exact"]
     suffix = "+ieee+before" if "-tininessbefore" in options else "+ieee"
     source, to, target = function.partition("_to_")
     if not to:
@@ -98,7 +133,15 @@ def testfloat(function, choices, options):
             return comparison(COMPARISONS[operation], choices, kind, suffix)
         call, count = OPERATIONS[operation]
         operands = [hexadecimal(value(choices, kind), width) for _ in range(count)]
-        result, flags = answer(call, name + suffix, mode, " ".join(operands).lower())
+        formats = name + suffix
+        fewer = [FEWER_DIGITS[option] for option in options if option in FEWER_DIGITS]
+        if kind == "extF80" and fewer and call in TO_FEWER_DIGITS:
+            formats = f"x87>{fewer[-1]}{suffix}"
+            odd = mode == "odd"
+            called = TO_ODD[call] if odd else TO_FEWER_DIGITS[call]
+            result, flags = answer(called, formats, mode, " ".join(operands).lower())
+        else:
+            result, flags = answer(call, formats, mode, " ".join(operands).lower())
         if call == "round_to_integral" and "-exact" not in options:
             flags &= ~1
         return " ".join([*operands, hexadecimal(int(result, 16), width), f"{flags:02X}"])
@@ -115,8 +158,6 @@ def testfloat(function, choices, options):
         return f"{hexadecimal(bits, width)} {hexadecimal(int(result, 16), target_width)} {flags:02X}"
     name, width, _ = FLOATS[source]
     operand = hexadecimal(value(choices, source), width)
-    if target.endswith("_r_minMag"):
-        target, mode = target.removesuffix("_r_minMag"), "zero"
     if target in INTEGERS:
         target_width = INTEGERS[target]
         call = "to_i128_r" if target.startswith("i") else "to_u128_r"
@@ -189,6 +230,53 @@ def fpgen(choices, options):
     return f"{name}{symbol} {rounding} {texts} -> {stated} {letters}".rstrip()
 
 
+# The relations that a comparison of FPgen states, with the calls that tell whether they hold.
+FPGEN_RELATIONS = {
+    "<": ("compare_quiet_less", "compare_signaling_less"),
+    ">": ("compare_quiet_greater", "compare_signaling_greater"),
+    "=": ("compare_quiet_equal", "compare_signaling_equal"),
+    "?": ("compare_quiet_unordered", "compare_signaling_unordered"),
+}
+FPGEN_COPIES = {"cp": ("copy_sign", 1), "~": ("neg", 1), "A": ("abs", 1), "@": ("copy_sign", 2)}
+
+
+def fpgen_copy(choices, options):
+    """A comparison, a conversion or a copy, as a line of FPgen."""
+    name = choices.choice(sorted(FPGEN_FORMATS))
+    kind = FPGEN_FORMATS[name]
+    form, width, _ = FLOATS[kind]
+    suffix = "+ieee+before" if "-tininessbefore" in options else "+ieee"
+    symbol = choices.choice(["qC", "sC", "cff", *FPGEN_COPIES])
+    mode = choices.choice(sorted(FPGEN_MODES))
+    x, y = value(choices, kind), value(choices, kind)
+    if choices.random() < 0.2:
+        x |= (1 << width - 1) - (1 << FLOATS[kind][2])
+    y = choices.choice([y, y, x, x ^ 1 << width - 1])
+    if symbol == "cff":
+        target_name = choices.choice([known for known in sorted(FPGEN_FORMATS) if known != name])
+        target = FPGEN_FORMATS[target_name]
+        formats = f"{form}{suffix}>{FLOATS[target][0]}{suffix}"
+        result, flags = answer("convert_r", formats, FPGEN_MODES[mode], f"{x:x}")
+        stated = fpgen_number(int(result, 16), target)
+        letters = "".join(letter for flag, letter in FPGEN_FLAGS.items() if flags & flag)
+        return f"{name}{target_name}cff {mode} {fpgen_number(x, kind)} -> {stated} {letters}".rstrip()
+    if symbol in FPGEN_COPIES:
+        call, count = FPGEN_COPIES[symbol]
+        given = [x, y][:count]
+        words = f"{x:x} {x:x}" if symbol == "cp" else " ".join(f"{bits:x}" for bits in given)
+        result = calls.answered(call, form + suffix, "-", words).value
+        texts = " ".join(fpgen_number(bits, kind) for bits in given)
+        return f"{name}{symbol} {texts} -> {fpgen_number(int(result, 16), kind)}"
+    texts = " ".join(fpgen_number(bits, kind) for bits in (x, y))
+    signals = symbol == "sC"
+    for relation, names in FPGEN_RELATIONS.items():
+        given = calls.answered(names[signals], form + suffix, "-", f"{x:x} {y:x}")
+        if given.value == "true":
+            letters = "i" if given.flags == "INVALID_OP" else ""
+            return f"{name}{symbol} {texts} -> {relation} {letters}".rstrip()
+    raise ValueError(texts)
+
+
 def main():
     """Draws lines and writes them."""
     what, *others = sys.argv[1:]
@@ -201,7 +289,7 @@ def main():
         seed, count, *options = others
         choices = random.Random(int(seed))
         for _ in range(int(count)):
-            print(fpgen(choices, options))
+            print((fpgen_copy if "-copies" in options else fpgen)(choices, options))
 
 
 if __name__ == "__main__":

@@ -1186,12 +1186,16 @@ class Value(_Arithmetic[Number]):
 
 
 # The machines, the operations on values of a format with how many operands they take, and the rules of minima, each in
-# the order of their codes, which begin at 1.
-_MACHINES = ('x86', 'x87', 'arm', 'arm default nan', 'arm alternate', 'risc-v', 'power', 's390x')
+# the order of their codes, which begin at 1. A word may have spaces or hyphens in place of its underscores.
+_MACHINES = ('x86', 'x87', 'arm', 'arm_default_nan', 'arm_alternate', 'risc_v', 'power', 's390x')
 _OF_MACHINES = {'add': 2, 'sub': 2, 'mul': 2, 'div': 2, 'remainder': 2, 'fmod': 2, 'fma': 3, 'sqrt': 1,
                 'round_to_integral': 1, 'integral': 1}
-_RULES = ('second', 'second quietly', 'first nan', 'number 2008', 'number 2019', 'propagated')
+_RULES = ('second', 'second_quietly', 'first_nan', 'number_2008', 'number_2019', 'propagated')
 _CONVERT, _TO_U128, _TO_I128, _LEAST, _GREATEST = 11, 12, 13, 14, 15
+
+
+def _with_underscores(words: str) -> str:
+    return words.replace(' ', '_').replace('-', '_')
 
 
 class Machine:
@@ -1201,9 +1205,9 @@ class Machine:
     of flags have them, as half does; what the machine does not have is refused.
 
     >>> x, y = half.from_bits(0x7e01), half.from_bits(0x7d02)
-    >>> [hex(machine(name).delivers('add', x, y).bits) for name in ('x86', 'arm', 'risc-v')]
+    >>> [hex(machine(name).delivers('add', x, y).bits) for name in ('x86', 'arm', 'risc_v')]
     ['0x7e01', '0x7f02', '0x7e00']
-    >>> [machine(name).to_integer(half('nan'), 8) for name in ('x86', 'arm', 'risc-v')]
+    >>> [machine(name).to_integer(half('nan'), 8) for name in ('x86', 'arm', 'risc_v')]
     [-128, 0, 127]
     >>> machine('x87').delivers('fma', x87(1), x87(1), x87(1))
     Traceback (most recent call last):
@@ -1214,9 +1218,10 @@ class Machine:
     name: str
 
     def __init__(self, name: str) -> None:
-        if name not in _MACHINES:
+        word = 'risc_v' if name == 'riscv' else _with_underscores(name)
+        if word not in _MACHINES:
             raise ValueError(f'{name!r} is no machine: {", ".join(_MACHINES)}')
-        self.name = name
+        self.name = word
 
     def __repr__(self) -> str:
         return f'machine({self.name!r})'
@@ -1251,11 +1256,11 @@ class Machine:
     def least(self, rule: str, x: Value, y: Value) -> Value:
         """The lesser of two values, by a rule.
 
-        It is one of second, second quietly, first nan, number 2008, number 2019 and propagated.
+        It is one of second, second_quietly, first_nan, number_2008, number_2019 and propagated.
 
         >>> machine('x86').least('second', half('0.0'), half('-0.0'))
         half('-0.0')
-        >>> machine('arm').least('number 2008', half('nan'), half(1))
+        >>> machine('arm').least('number_2008', half('nan'), half(1))
         half('1.0')
         """
         return self._extreme(_LEAST, rule, x, y)
@@ -1265,13 +1270,14 @@ class Machine:
         return self._extreme(_GREATEST, rule, x, y)
 
     def _extreme(self, operation: int, rule: str, x: Value, y: Value) -> Value:
-        if rule not in _RULES:
+        word = _with_underscores(rule)
+        if word not in _RULES:
             raise ValueError(f'{rule!r} is no rule: {", ".join(_RULES)}')
-        return Value(x.format, _whole(self._answer(operation, _RULES.index(rule) + 1, x, y).bits))
+        return Value(x.format, _whole(self._answer(operation, _RULES.index(word) + 1, x, y).bits))
 
 
 def machine(name: str) -> Machine:
-    """The machine x86, x87, arm, arm default nan, arm alternate, risc-v, power or s390x."""
+    """The machine x86, x87, arm, arm_default_nan, arm_alternate, risc_v, power or s390x."""
     return Machine(name)
 
 

@@ -550,10 +550,10 @@ class SignTests(unittest.TestCase):
     def test_machines(self):
         # The NaNs of two operands as the manuals have them, and the integers of invalid conversions (docs/MACHINES.md).
         quiet, signaling = apfloat.single.from_bits(0x7fc00001), apfloat.single.from_bits(0xffa00002)
-        sums = {'x86': 0x7fc00001, 'x87': 0x7fc00001, 'arm': 0xffe00002, 'arm default nan': 0x7fc00000,
-                'arm alternate': 0x7fc00001, 'risc-v': 0x7fc00000, 'power': 0x7fc00001, 's390x': 0xffe00002}
+        sums = {'x86': 0x7fc00001, 'x87': 0x7fc00001, 'arm': 0xffe00002, 'arm_default_nan': 0x7fc00000,
+                'arm_alternate': 0x7fc00001, 'risc_v': 0x7fc00000, 'power': 0x7fc00001, 's390x': 0xffe00002}
         invalid = {'x86': (-1 << 31, (1 << 32) - 1), 'arm': ((1 << 31) - 1, (1 << 32) - 1),
-                   'risc-v': ((1 << 31) - 1, (1 << 32) - 1), 's390x': ((1 << 31) - 1, (1 << 32) - 1)}
+                   'risc_v': ((1 << 31) - 1, (1 << 32) - 1), 's390x': ((1 << 31) - 1, (1 << 32) - 1)}
         infinity = apfloat.single('inf')
         for name, bits in sums.items():
             with Context() as context:
@@ -576,10 +576,50 @@ class SignTests(unittest.TestCase):
         self.assertEqual(caught.exception.code, 10)
         with self.assertRaises(apfloat.Refused):
             apfloat.machine('arm').delivers('add', apfloat.e4m3fn(1), apfloat.e4m3fn(1))
+        for name in 'arm default nan', 'arm-default-nan', 'risc-v', 'riscv':
+            self.assertIn(repr(apfloat.machine(name)), ("machine('arm_default_nan')", "machine('risc_v')"))
         with self.assertRaises(ValueError):
             apfloat.machine('mips')
         with self.assertRaises(ValueError):
             apfloat.machine('arm').delivers('sqrt', infinity, infinity)
+
+    def test_rows_of_machines(self):
+        # The stored rows of what machines give (docs/VECTORS.md) that are not flushed.
+        modes = {'even': apfloat.NEAREST_EVEN, 'up': apfloat.UPWARD, 'down': apfloat.DOWNWARD,
+                 'zero': apfloat.TOWARD_ZERO, 'away': apfloat.NEAREST_AWAY, '-': apfloat.NEAREST_EVEN}
+        operations = {'add_r': 'add', 'sub_r': 'sub', 'wide_mul_r': 'mul', 'div_r': 'div', 'ieee_rem': 'remainder',
+                      'c_fmod': 'fmod', 'wide_mul_add_r': 'fma', 'sqrt_r': 'sqrt',
+                      'round_to_integral': 'round_to_integral', 'round_to_integral_in': 'integral'}
+        compared = collections.Counter()
+
+        def found_in(machine, call, formats, operands):
+            values = [formats[0].from_bits(int(bits, 16)) for bits in operands.split(' ')]
+            if call in operations:
+                return machine.delivers(operations[call], *values).bits
+            if call == 'convert_r':
+                return machine.convert(*values, formats[1]).bits
+            which, _, rule = call.partition('_')
+            return getattr(machine, which)(rule, *values).bits
+
+        with open(os.path.join(HERE, '..', 'crates', 'check_vectors', 'stdin'), encoding='utf-8') as file:
+            rows = [line.rstrip('\n').split('\t') for line in file if '@' in line and not line.startswith('#')]
+        for call, words, mode, operands, wanted, flags, _ in rows:
+            words, _, name = words.partition('@')
+            if name.endswith('+ftz'):
+                continue
+            machine, formats = apfloat.machine(name), [getattr(apfloat, word) for word in words.split('>')]
+            with Context(mode=modes[mode]) as context:
+                if call in ('to_u128_r', 'to_i128_r'):
+                    bits, width = operands.split(' ')
+                    x, signed = formats[0].from_bits(int(bits, 16)), call == 'to_i128_r'
+                    found, wanted = machine.to_integer(x, int(width), signed), int(wanted)
+                else:
+                    found, wanted = found_in(machine, call, formats, operands), int(wanted, 16)
+            raised = sum(Flags[flag] for flag in flags.split('|'))
+            self.assertEqual((found, context.flags), (wanted, raised), (call, words, name, mode, operands))
+            compared[name] += 1
+        self.assertEqual(len(compared), 8)
+        self.assertGreater(sum(compared.values()), 500)
 
     def test_rows_of_operations(self):
         # The stored rows of the operations of IEEE 754-2019 (docs/VECTORS.md), in the formats that have bits.
@@ -618,7 +658,7 @@ class SignTests(unittest.TestCase):
                     or call in ('total_cmp', 'log_b', 'scale_b', 'round_to_integral_in')):
                 continue
             source, *targets = [format_of(word) for word in words.split('>')]
-            if source is None or None in targets:
+            if source is None or None in targets or targets and call.startswith('compare_'):
                 continue
             with Context(mode=modes[mode]) as context:
                 if call == 'scale_b':

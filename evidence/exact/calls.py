@@ -11,12 +11,16 @@ from exact import (
     data,
     decimals,
     format_of,
+    integers,
+    machines,
+    odd,
     operations,
     remainders,
     status,
     words,
 )
 from exact.data import Finite
+from exact.formats import FEWER_DIGITS
 from exact.pairs import PAIRS, joined, split
 from exact.rounding import Mode
 from exact.texts import ParseError
@@ -131,6 +135,14 @@ def answered(call, kind_word, mode_word, operands):
 
 def answered_in(call, kind_word, mode, operands):
     """The answer in a mode."""
+    if "@" in kind_word:
+        return answered_on_machine(call, kind_word, mode, operands)
+    if call in odd.CALLS:
+        return answered_to_odd(call, kind_word, operands)
+    if kind_word.startswith("x87>x87p"):
+        return answered_in_fewer_digits(format_of.OPERATIONS[call], kind_word, mode, operands)
+    if call in operations.COMPARISONS | operations.UNNAMED and ">" in kind_word:
+        return answered_between(call, *kind_word.split(">"), operands)
     if call in ("convert", "convert_r"):
         return answered_conversion(*kind_word.split(">"), mode, operands)
     if call == "from":
@@ -210,6 +222,90 @@ def answered_in_another(call, source_word, target_word, mode, operands):
     drawn = [words.value_of(source, word) for word in operands.split(" ")]
     operation = format_of.OPERATIONS[call]
     return valued(target, format_of.computed(source.format, target.format, operation, mode, drawn))
+
+
+def answered_between(call, source_word, target_word, operands):
+    """A comparison of values of two formats."""
+    kinds = [_KINDS[word] for word in (source_word, target_word)]
+    x, y = (words.value_of(kind, word) for kind, word in zip(kinds, operands.split(" ")))
+    holds, flags = operations.compared_between(kinds[0].format, kinds[1].format, call, x, y)
+    return Answer(yes_or_no(holds), status.names(flags))
+
+
+def answered_to_odd(call, kind_word, operands):
+    """A call that rounds to odd."""
+    if kind_word.startswith("x87>x87p"):
+        return answered_in_fewer_digits(odd.ARITHMETIC[call], kind_word, odd.ODD, operands)
+    source_word, _, target_word = kind_word.partition(">")
+    source, target = _KINDS[source_word], _KINDS[target_word or source_word]
+    if call.startswith("from_"):
+        integer = int(operands)
+        quanta = abs(integer) << target.format.scale
+        return valued(target, odd.delivered_to_odd(target.format, integer < 0, quanta, 1))
+    word, _, width = operands.partition(" ")
+    if call.startswith("to_"):
+        end = 1 << int(width)
+        ends = (0, end - 1) if call == "to_u128_odd" else (-end // 2, end // 2 - 1)
+        integer, flags = odd.to_integer(source.format, words.value_of(source, word), *ends)
+        return Answer(str(integer), status.names(flags))
+    drawn = [words.value_of(source, word) for word in operands.split(" ")]
+    if call == "round_to_odd_integral":
+        return valued(source, odd.integral(source.format, *drawn))
+    if call == "convert_odd":
+        return valued(target, converted_to_odd(source.format, target.format, *drawn))
+    operation = odd.ARITHMETIC[call]
+    return valued(
+        target, format_of.computed(source.format, target.format, operation, odd.ODD, drawn)
+    )
+
+
+def converted_to_odd(source, target, x):
+    """A value of another format rounded to odd."""
+    if not data.is_nonzero_number(x):
+        return conversions.convert(source, target, x, Mode.ZERO)[:2]
+    return odd.delivered_to_odd(target, x.negative, x.quanta << target.scale, 1 << source.scale)
+
+
+def answered_in_fewer_digits(operation, kind_word, mode, operands):
+    """An operation on values of `x87` whose result has fewer digits, as bits of `x87`."""
+    target = FEWER_DIGITS[kind_word.split(">")[1]]
+    kind = _KINDS["x87" + target.name.removeprefix(target.name.split("+")[0])]
+    drawn = [words.value_of(kind, word) for word in operands.split(" ")]
+    value, flags = format_of.computed(kind.format, target, operation, mode, drawn)
+    if data.is_nan(value):
+        value, _ = format_of.computed(kind.format, kind.format, operation, Mode.EVEN, drawn)
+    elif isinstance(value, Finite):
+        value = Finite(value.negative, value.quanta << kind.format.scale - target.scale)
+    return valued(kind, (value, flags))
+
+
+def answered_on_machine(call, kind_word, mode, operands):
+    """A call on a machine, as in `single@x86` and `double>single@power`."""
+    source_word, _, target_word = kind_word.rpartition(">")
+    form, machine, flushes = machines.on_machine(target_word)
+    kind = _KINDS[form.name]
+    if source_word:
+        source = _KINDS[source_word]
+        x = words.value_of(source, operands)
+        return valued(kind, machines.converted(source.format, form, machine, x, mode, flushes))
+    if call in ("to_u128_r", "to_i128_r"):
+        word, width = operands.split(" ")
+        x = words.value_of(kind, word)
+        signed = call == "to_i128_r"
+        integer, flags = machines.to_integer(form, machine, signed, x, int(width), mode)
+        return Answer(str(integer), status.names(flags))
+    drawn = [words.value_of(kind, word) for word in operands.split(" ")]
+    which, _, rule = call.partition("_")
+    if rule in machines.RULES:
+        return valued(kind, machines.extremum(form, machine, rule, which == "least", *drawn))
+    if call == "round_to_integral_in":
+        result = operations.round_to_integral_in(form, *drawn, mode)
+    else:
+        result = _ROUNDED[call](kind, mode, *drawn)
+    if flushes and len(drawn) > 1:
+        result = machines.flushed(form, machine, result)
+    settle = machines.settled_fused if call == "wide_mul_add_r" else machines.settled
+    return valued(kind, settle(form, machine, drawn, result))
 
 
 def answered_on_flags(call, operands):
@@ -394,7 +490,7 @@ def answered_digit_count(kind, _mode, word):
 
 # Calls with operands that are not all values.
 _ON_WORDS = {
-    **{name: answered_comparison(name) for name in operations.COMPARISONS},
+    **{name: answered_comparison(name) for name in operations.COMPARISONS | operations.UNNAMED},
     **{name: answered_extremum(name) for name in operations.EXTREMA},
     **{
         name: answered_to_integer(name)

@@ -5,6 +5,7 @@ from math import isqrt
 
 from exact.conversions import converted_nan
 from exact.data import Infinite, infinity, invalid, is_nan, is_signaling, number
+from exact.odd import ODD, delivered_to_odd
 from exact.rounding import Mode, delivered
 from exact.status import DIV_BY_ZERO, INEXACT, INVALID_OP, OK
 
@@ -19,6 +20,13 @@ OPERATIONS = {
 }
 
 
+def deliver(format, mode, negative, amount, parts):
+    """A magnitude rounded once, in a mode or to odd."""
+    if mode == ODD:
+        return delivered_to_odd(format, negative, amount, parts)
+    return delivered(format, mode, negative, amount, parts)
+
+
 def value_of(format, x):
     """The number as a fraction."""
     return Fraction(x.signed_quanta, 1 << format.scale)
@@ -28,7 +36,7 @@ def rounded(format, mode, exact, negative_zero):
     """A fraction rounded once."""
     quanta = abs(exact) * (1 << format.scale)
     negative = exact < 0 or exact == 0 and negative_zero
-    return delivered(format, mode, negative, quanta.numerator, quanta.denominator)
+    return deliver(format, mode, negative, quanta.numerator, quanta.denominator)
 
 
 def zero_of_sum(mode, left, right):
@@ -62,8 +70,8 @@ def root_of(target, mode, exact):
     square = exact * (1 << 2 * target.scale + 8)
     root = isqrt(square.numerator // square.denominator)
     if root * root == square:
-        return delivered(target, mode, False, root, 16)
-    return delivered(target, mode, False, 2 * root + 1, 32)
+        return deliver(target, mode, False, root, 16)
+    return deliver(target, mode, False, 2 * root + 1, 32)
 
 
 def computed(source, target, operation, mode, data):

@@ -117,6 +117,10 @@ PROGRAM_FORMATS = (HALF, SINGLE, DOUBLE, QUAD, BFLOAT, E5M2, E4M3FN, E4M3FNUZ, X
 # The formats of the other programs beside them.
 LATER_FORMATS = (E4M3, E5M2FNUZ, E4M3B11FNUZ, TF32)
 
+# What the precision control of an x87 rounds to. Rows write their values as bits of `x87`.
+X87_SINGLE = Format("x87p24", 40, 15, 24, -16382, 16383, writes_integer_bit=True)
+X87_DOUBLE = Format("x87p53", 69, 15, 53, -16382, 16383, writes_integer_bit=True)
+
 # The wide formats of pairs of doubles. They have no bits.
 FALLBACK = Format("fallback", 0, 0, 106, -969, 1023)
 FALLBACK_EXTENDED = Format("fallbackext", 0, 0, 106, -1022, 1023)
@@ -150,3 +154,9 @@ _WITH_IEEE_FLAGS = [
 ]
 
 FORMATS = {known.name: known for known in (*_KNOWN, *_WITH_IEEE_FLAGS)}
+
+FEWER_DIGITS = {
+    known.name: known
+    for base in (X87_SINGLE, X87_DOUBLE)
+    for known in (base, *with_ieee_flags(base))
+}

@@ -35,6 +35,9 @@ COMPARISONS = {
     if not (kind == "signaling" and name in ("ordered", "unordered"))
 }
 
+# A signaling predicate that the standard has no name for.
+UNNAMED = {"compare_signaling_unordered": ((None,), True)}
+
 _EXTREMA = {
     "minimum": (False, -1),
     "maximum": (False, 1),
@@ -71,11 +74,19 @@ def invalid_flag(format, *operands):
 
 def compared(format, name, x, y):
     """Whether a predicate holds, and the flags (5.6.1, 5.11)."""
-    relations, signals = COMPARISONS[name]
-    flags = invalid_flag(format, x, y)
+    return compared_between(format, format, name, x, y)
+
+
+def compared_between(format, other, name, x, y):
+    """The same of operands of two formats, by their exact values."""
+    relations, signals = (COMPARISONS | UNNAMED)[name]
+    flags = invalid_flag(format, x) | invalid_flag(other, y)
     if signals and (is_nan(x) or is_nan(y)):
         flags = INVALID_OP
-    return relation(format, x, y) in relations, flags
+    if is_nan(x) or is_nan(y):
+        return None in relations, flags
+    left, right = exact_value(format, x), exact_value(other, y)
+    return (left > right) - (left < right) in relations, flags
 
 
 def total_key(format, x):

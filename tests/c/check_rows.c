@@ -464,6 +464,8 @@ static bool check(char *columns[]) {
     if (target) {
         *target++ = '\0';
         a.to = format_of(target);
+        /* A comparison of values of two formats. */
+        if (strncmp(columns[CALL], "compare_", 8) == 0) return true;
     }
     a.format = format_of(columns[FORMAT]);
     if (a.format == NO_CODE || a.to == NO_CODE) return true;

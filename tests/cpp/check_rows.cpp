@@ -565,7 +565,8 @@ int main() {
     std::map<std::string, unsigned> agreeing;
     for (std::string line; std::getline(std::cin, line);) {
         auto r = line.empty() || line.front() == '#' ? std::nullopt : row_of(line);
-        if (!r) continue;
+        // A comparison of values of two formats is skipped.
+        if (!r || (!r->target.empty() && r->call.rfind("compare_", 0) == 0)) continue;
         auto found = verdict::skipped;
         rows::with_format(r->format, [&](auto named) {
             using F = typename decltype(named)::format;

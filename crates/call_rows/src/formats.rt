@@ -20,7 +20,10 @@ pub fn answer_of_call(formats: Formats, request: Request, text: &str) -> Answere
         Formats::FromPairs => from::<DoubleDouble, IeeeFloat<FallbackS>>(request),
         Formats::ToPairs => from::<IeeeFloat<FallbackS>, DoubleDouble>(request),
         Formats::Between(source, target) => between(source, target, request),
-        Formats::OfFlags => Err(CallFault::Support),
+        Formats::OnMachine(_)
+        | Formats::BetweenOnMachine(_, _)
+        | Formats::ToFewerDigits(_)
+        | Formats::OfFlags => Err(CallFault::Support),
     }
 }
 

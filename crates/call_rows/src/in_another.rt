@@ -33,8 +33,8 @@ pub(crate) fn in_another(
 }
 
 /// An operation with its operands.
-#[derive(Drop)]
-enum Operation {
+#[derive(Clone, Copy)]
+pub(crate) enum Operation {
     Add(AnyFloat, AnyFloat),
     Sub(AnyFloat, AnyFloat),
     Mul(AnyFloat, AnyFloat),
@@ -44,7 +44,11 @@ enum Operation {
 }
 
 /// An operation with its operands, if they are values of the format.
-fn operation_of(call: FormatOfCall, format: RowFormat, operands: Operands) -> Option<Operation> {
+pub(crate) fn operation_of(
+    call: FormatOfCall,
+    format: RowFormat,
+    operands: Operands,
+) -> Option<Operation> {
     let Operands {
         first,
         second,
@@ -91,7 +95,7 @@ impl CallInFormat for InTarget {
 
 /// The result of an operation in the format `T`.
 #[inline(never)]
-fn delivered<T: Flagged>(operation: Operation, round: Round) -> StatusAnd<IeeeFloat<T>> {
+pub(crate) fn delivered<T: Flagged>(operation: Operation, round: Round) -> StatusAnd<IeeeFloat<T>> {
     match operation {
         Operation::Add(x, y) => x.add_to::<T>(y, round),
         Operation::Sub(x, y) => x.sub_to::<T>(y, round),

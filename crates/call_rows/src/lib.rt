@@ -1,18 +1,23 @@
 //! The calls of rows of test vectors, each in the formats that its row names: those of `Float`, what formats, pairs of
-//! doubles and decimals have beyond them, and the operations of IEEE 754-2019.
+//! doubles and decimals have beyond them, the operations of IEEE 754-2019, rounding to odd, and what machines give.
 //!
 //! Only the safety of these functions is proved.
 #![tactic(auto)]
 
+mod compared_between;
 mod decimals;
 mod digits;
+mod fewer_digits;
 mod flags;
 mod formats;
 mod in_another;
 mod in_one;
 mod magnitudes;
+mod odd;
 mod of_type;
+mod on_machine;
 mod operations;
 
 pub use formats::answer_of_call;
+pub use on_machine::answer_on_machine;
 pub use operations::answer_of_operation;

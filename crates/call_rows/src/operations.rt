@@ -1,9 +1,12 @@
 //! The operations of IEEE 754-2019 that `Float` lacks, each in the formats of its row.
 
+use crate::compared_between::compared_between;
 use crate::digits::digits_in;
+use crate::fewer_digits::in_fewer_digits;
 use crate::flags::flags_of;
 use crate::in_another::in_another;
 use crate::in_one::in_format;
+use crate::odd::in_odd;
 use rustc_apfloat::Round;
 use vector_lines::{Answered, CallFault, Formats, Operands, OperationCall, Quanta, Request};
 
@@ -29,12 +32,19 @@ pub fn answer_of_operation(formats: Formats, call: OperationCall, request: Reque
         stated: request.stated,
     };
     match (formats, call) {
+        (_, OperationCall::Odd(call)) => in_odd(formats, call, asked),
         (Formats::One(format), OperationCall::WriteDigits | OperationCall::DigitCount) => {
             digits_in(format, asked)
         }
         (Formats::One(format), _) => in_format(format, asked),
         (Formats::Between(source, target), OperationCall::InAnother(call)) => {
             in_another(source, target, call, asked)
+        }
+        (Formats::ToFewerDigits(target), OperationCall::InAnother(call)) => {
+            in_fewer_digits(target, call, Some(asked.round), asked.operands)
+        }
+        (Formats::Between(source, target), OperationCall::Comparison(predicate, on_nan)) => {
+            compared_between(source, target, predicate, on_nan, asked.operands)
         }
         (Formats::OfFlags, OperationCall::OfFlags(call)) => flags_of(call, asked.operands),
         _ => Err(CallFault::Support),

@@ -1,6 +1,6 @@
 //! The calls of all rows.
 
-use call_rows::{answer_of_call, answer_of_operation};
+use call_rows::{answer_of_call, answer_of_operation, answer_on_machine};
 use vector_lines::{Answered, Call, Calls, Formats, Request};
 
 /// What makes the call of each row.
@@ -9,8 +9,11 @@ pub struct AllCalls;
 
 impl Calls for AllCalls {
     fn answer(self, formats: Formats, request: Request, text: &str) -> Answered {
-        match request.call {
-            Call::Operation(call) => answer_of_operation(formats, call, request),
+        match (formats, request.call) {
+            (Formats::OnMachine(_) | Formats::BetweenOnMachine(_, _), _) => {
+                answer_on_machine(formats, request)
+            }
+            (_, Call::Operation(call)) => answer_of_operation(formats, call, request),
             _ => answer_of_call(formats, request, text),
         }
     }

@@ -14,6 +14,8 @@ mod seven;
 mod ten;
 mod vast;
 mod written_bit;
+mod x87_double;
+mod x87_single;
 
 pub use broad::{Broad, BroadS};
 pub use deep::{Deep, DeepS};
@@ -26,3 +28,5 @@ pub use seven::{Seven, SevenS};
 pub use ten::{Ten, TenS};
 pub use vast::{Vast, VastS};
 pub use written_bit::{WrittenBit, WrittenBitS};
+pub use x87_double::X87DoubleS;
+pub use x87_single::X87SingleS;

@@ -32,7 +32,7 @@ the format has that many: 10, 1e5, 3c0d, and 0x10d, where 10d would be ten. If
 a word could have been either, the output says how it was read.
 
 --machine NAME  shows the result as a machine gives it, with its NaN and its
-                flags: x86 x87 arm arm-default-nan arm-alternate riscv power
+                flags: x86 x87 arm arm_default_nan arm_alternate risc_v power
                 s390x; in half single double quad bfloat e5m2 x87. A value is
                 the same on each machine
 
@@ -59,26 +59,37 @@ pub static MACHINES: &[&str] = &[
     "x86",
     "x87",
     "arm",
-    "arm-default-nan",
-    "arm-alternate",
-    "riscv",
+    "arm_default_nan",
+    "arm_alternate",
+    "risc_v",
     "power",
     "s390x",
 ];
 
+/// The machines by their words. The last four are other spellings.
+static MACHINES_BY_WORD: &[(&str, Machine)] = &[
+    ("x86", Machine::X86),
+    ("x87", Machine::X87),
+    ("arm", Machine::Arm),
+    ("arm_default_nan", Machine::ArmDefaultNan),
+    ("arm_alternate", Machine::ArmAlternate),
+    ("risc_v", Machine::RiscV),
+    ("power", Machine::Power),
+    ("s390x", Machine::S390x),
+    ("arm-default-nan", Machine::ArmDefaultNan),
+    ("arm-alternate", Machine::ArmAlternate),
+    ("risc-v", Machine::RiscV),
+    ("riscv", Machine::RiscV),
+];
+
 /// The machine of this name.
 fn machine_named(word: &str) -> Option<Machine> {
-    match word {
-        "x86" => Some(Machine::X86),
-        "x87" => Some(Machine::X87),
-        "arm" => Some(Machine::Arm),
-        "arm-default-nan" => Some(Machine::ArmDefaultNan),
-        "arm-alternate" => Some(Machine::ArmAlternate),
-        "riscv" => Some(Machine::RiscV),
-        "power" => Some(Machine::Power),
-        "s390x" => Some(Machine::S390x),
-        _ => None,
+    for (known, machine) in MACHINES_BY_WORD {
+        if *known == word {
+            return Some(*machine);
+        }
     }
+    None
 }
 
 /// The computation that is explained.

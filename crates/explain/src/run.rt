@@ -91,7 +91,7 @@ fn refuse<V: Write>(fault: Fault, err: &mut V) -> io::Result<u8> {
         Fault::Machine(word) => {
             write!(
                 err,
-                "explain: no machine '{word}' (x86 x87 arm arm-default-nan arm-alternate riscv power s390x)"
+                "explain: no machine '{word}' (x86 x87 arm arm_default_nan arm_alternate risc_v power s390x)"
             )?;
             suggest(word, MACHINES, err)?;
         }

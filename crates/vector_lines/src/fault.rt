@@ -5,6 +5,7 @@ use crate::call_fault::CallFault;
 use crate::call_row::CallRow;
 use crate::form::Form;
 use crate::formats::Formats;
+use crate::machine_format::{MACHINE_WORDS, unknown_machine};
 use crate::operands::Operand;
 use crate::operations::OperationCall;
 use crate::row_error::{RowError, bits_error};
@@ -23,10 +24,11 @@ impl<'a> CallRow<'a> {
                 "one that docs/VECTORS.md lists",
             ),
             CallFault::Mode => RowError::Word("no mode of the call", self.mode, modes(self.call)),
-            CallFault::Format => RowError::Word(
-                "no format",
-                self.format,
-                "one that docs/VECTORS.md lists, or SOURCE>TARGET",
+            CallFault::Format => format_error(self.format),
+            CallFault::Support if self.format.contains('@') => RowError::Word(
+                "no such call on the machine",
+                self.call,
+                "a call that the machine has (docs/VECTORS.md)",
             ),
             CallFault::Support => RowError::Word(
                 "no such call here",
@@ -41,9 +43,21 @@ impl<'a> CallRow<'a> {
             CallFault::ValueBits(width) => bits_error("no value of the call", self.value, width),
             CallFault::Operands => operand_error(self.operands, form_of(self.call)),
             CallFault::Operand => {
-                value_error(self.operands, form_of(self.call), width_of(self.format))
+                value_error(self.operands, form_of(self.call), widths_of(self.call, self.format))
             }
         }
+    }
+}
+
+/// The error for a word that names no formats.
+fn format_error(formats: &str) -> RowError<'_> {
+    match unknown_machine(formats) {
+        Some(word) => RowError::Word("no machine", word, MACHINE_WORDS),
+        None => RowError::Word(
+            "no format",
+            formats,
+            "one that docs/VECTORS.md lists, or SOURCE>TARGET",
+        ),
     }
 }
 
@@ -55,6 +69,17 @@ pub fn width_of(formats: &str) -> Option<usize> {
     match Formats::named(formats) {
         Some(formats) => formats.width(),
         None => None,
+    }
+}
+
+/// The widths of the first operand of a call in these formats and of the others, if they have bits.
+fn widths_of(call: &str, formats: &str) -> (Option<usize>, Option<usize>) {
+    match (OperationCall::named(call), Formats::named(formats)) {
+        (Some(OperationCall::Comparison(_, _)), Some(Formats::Between(left, right))) => {
+            (left.width(), right.width())
+        }
+        (_, Some(formats)) => (formats.width(), formats.width()),
+        (_, None) => (None, None),
     }
 }
 
@@ -100,11 +125,17 @@ fn operand_error(operands: &str, form: Form) -> RowError<'_> {
     RowError::Word("no operands of the call", operands, form.description())
 }
 
-/// The error for operands of which one is not a value of a format of this width, or without bits, at that operand.
-fn value_error(operands: &str, form: Form, width: Option<usize>) -> RowError<'_> {
-    let Some(width) = width else {
+/// The error for operands of which one is not a value of a format of these widths (of the first one, and of the others),
+/// or without bits, at that operand.
+fn value_error(
+    operands: &str,
+    form: Form,
+    widths: (Option<usize>, Option<usize>),
+) -> RowError<'_> {
+    let (Some(first), Some(others)) = widths else {
         return RowError::Word("no operands of the call", operands, QUANTA);
     };
+    let mut width = first;
     let mut left = form.value_count();
     for word in operands.split(' ') {
         if left == 0 {
@@ -114,6 +145,7 @@ fn value_error(operands: &str, form: Form, width: Option<usize>) -> RowError<'_>
         if bits_of(word, width).is_none() {
             return bits_error("no operand of the call", word, width);
         }
+        width = others;
     }
     RowError::Word("no operands of the call", operands, form.description())
 }

@@ -1,7 +1,10 @@
 //! The formats that the row of a call names.
 
 use crate::call::Call;
+use crate::fewer_digits::FewerDigits;
+use crate::machine_format::MachineFormat;
 use crate::row_format::RowFormat;
+use formats_at_run_time::{BuiltInFormat, FlaggedFormat};
 
 /// The formats of a row.
 #[derive(Clone, Copy)]
@@ -16,6 +19,12 @@ pub enum Formats {
     ToPairs,
     /// From one format to another.
     Between(RowFormat, RowFormat),
+    /// From `x87` to one of its formats of fewer digits.
+    ToFewerDigits(FewerDigits),
+    /// One format on a machine.
+    OnMachine(MachineFormat),
+    /// From a built-in format to another on a machine.
+    BetweenOnMachine(BuiltInFormat, MachineFormat),
     /// None, for operations on flags.
     OfFlags,
 }
@@ -37,6 +46,9 @@ impl Formats {
 
     /// The formats of this word.
     pub fn named(word: &str) -> Option<Formats> {
+        if let Some((formats, machine)) = word.split_once('@') {
+            return Formats::on_machine(formats, machine);
+        }
         match word.split_once('>') {
             None if word == "dd" => Some(Formats::Pairs),
             None => match RowFormat::named(word) {
@@ -45,6 +57,12 @@ impl Formats {
             },
             Some(("dd", "fallback")) => Some(Formats::FromPairs),
             Some(("fallback", "dd")) => Some(Formats::ToPairs),
+            Some(("x87", target)) if target.starts_with("x87p") => {
+                match FewerDigits::named(target) {
+                    Some(target) => Some(Formats::ToFewerDigits(target)),
+                    None => None,
+                }
+            }
             Some((source, target)) => Formats::between(source, target),
         }
     }
@@ -54,7 +72,26 @@ impl Formats {
         match self {
             Formats::Pairs | Formats::FromPairs => Some(128),
             Formats::One(format) | Formats::Between(format, _) => format.width(),
+            Formats::BetweenOnMachine(format, _) => RowFormat::plain(format).width(),
+            Formats::OnMachine(target) => target.with_flags().width(),
+            Formats::ToFewerDigits(_) => Some(80),
             Formats::ToPairs | Formats::OfFlags => None,
+        }
+    }
+
+    /// One format, or from one to another, on the machine of this word.
+    fn on_machine(formats: &str, machine: &str) -> Option<Formats> {
+        let Some((source, target)) = formats.split_once('>') else {
+            return match MachineFormat::named(formats, machine) {
+                Some(target) => Some(Formats::OnMachine(target)),
+                None => None,
+            };
+        };
+        match (RowFormat::named(source), MachineFormat::named(target, machine)) {
+            (Some(RowFormat::BuiltIn(format, FlaggedFormat::BuiltIn(_))), Some(target)) => {
+                Some(Formats::BetweenOnMachine(format, target))
+            }
+            _ => None,
         }
     }
 

@@ -1,7 +1,9 @@
 //! Lines of test files of IBM's FPgen: `b32+ =0 +1.000000P0 +1.400000P1 -> +1.000000P2`.
 //!
-//! The first word is a format and an operation. It is followed by the rounding mode, the exceptions that trap, the
-//! operands, an arrow, the result, and a letter for each flag. Flags are those that processors raise.
+//! The first word is a format and an operation, or two formats and a conversion. It is followed by the rounding mode,
+//! the exceptions that trap, the operands, an arrow, the result, and a letter for each flag. Flags are those that
+//! processors raise. Comparisons and copies round nothing, and may have no mode. The result of a comparison is `<`,
+//! `>`, `=`, or `?` if the operands are unordered.
 
 use crate::columns::{Columns, LineCall, is_nan};
 use crate::row_error::RowError;
@@ -75,16 +77,54 @@ static FORMATS: &[(&str, BinaryFormat)] = &[
     ),
 ];
 
-/// The operations, each with its call and the number of its operands.
-static OPERATIONS: &[(&str, (&str, usize))] = &[
-    ("+", ("add_r", 2)),
-    ("-", ("sub_r", 2)),
-    ("*", ("wide_mul_r", 2)),
-    ("*+", ("wide_mul_add_r", 3)),
-    ("/", ("div_r", 2)),
-    ("%", ("ieee_rem", 2)),
-    ("V", ("sqrt_r", 1)),
-    ("rfi", ("round_to_integral", 1)),
+/// What kind of operation a line states.
+#[derive(Clone, Copy)]
+enum Kind {
+    /// An operation that rounds in a mode.
+    Rounded,
+    /// An operation without a mode, whose result is a value.
+    Unrounded,
+    /// The copy of a value.
+    Copied,
+    /// A conversion to another format.
+    Converted,
+    /// A comparison; if true, any NaN raises INVALID_OP.
+    Compared(bool),
+}
+
+/// The operations, each with its call, the number of its operands, and its kind.
+static OPERATIONS: &[(&str, (&str, usize, Kind))] = &[
+    ("+", ("add_r", 2, Kind::Rounded)),
+    ("-", ("sub_r", 2, Kind::Rounded)),
+    ("*", ("wide_mul_r", 2, Kind::Rounded)),
+    ("*+", ("wide_mul_add_r", 3, Kind::Rounded)),
+    ("/", ("div_r", 2, Kind::Rounded)),
+    ("%", ("ieee_rem", 2, Kind::Unrounded)),
+    ("V", ("sqrt_r", 1, Kind::Rounded)),
+    ("rfi", ("round_to_integral", 1, Kind::Rounded)),
+    ("cff", ("convert_r", 1, Kind::Converted)),
+    ("cp", ("copy_sign", 1, Kind::Copied)),
+    ("~", ("neg", 1, Kind::Unrounded)),
+    ("A", ("abs", 1, Kind::Unrounded)),
+    ("@", ("copy_sign", 2, Kind::Unrounded)),
+    ("qC", ("compare_quiet_unordered", 2, Kind::Compared(false))),
+    ("sC", ("compare_signaling_unordered", 2, Kind::Compared(true))),
+];
+
+/// The quiet call that tells whether a relation holds.
+static QUIET: &[(&str, &str)] = &[
+    ("<", "compare_quiet_less"),
+    (">", "compare_quiet_greater"),
+    ("=", "compare_quiet_equal"),
+    ("?", "compare_quiet_unordered"),
+];
+
+/// The signaling call that tells whether a relation holds.
+static SIGNALING: &[(&str, &str)] = &[
+    ("<", "compare_signaling_less"),
+    (">", "compare_signaling_greater"),
+    ("=", "compare_signaling_equal"),
+    ("?", "compare_signaling_unordered"),
 ];
 
 /// The rounding modes.
@@ -110,7 +150,8 @@ pub struct Fpgen {
 pub struct FpgenTest {
     /// The call that it asks for.
     pub call: LineCall,
-    format: BinaryFormat,
+    // The format of the result, or none if it is a truth value.
+    format: Option<BinaryFormat>,
     stated: Columns,
 }
 
@@ -156,23 +197,23 @@ impl Fpgen {
             Err(_) if self.skips_unknown => return Ok(None),
             Err(error) => return Err(error),
         };
-        let Some((rounding, words)) = left.split_once(' ') else {
-            return Err(RowError::Word("no line of FPgen", line, LINE));
-        };
+        let (rounding, words) = left.split_once(' ').unwrap_or((left, ""));
         match found(ROUNDINGS, rounding) {
-            None => Err(RowError::Word("no mode", rounding, "=0 > < 0 or =^")),
+            None if operation.rounds() => Err(RowError::Word("no mode", rounding, "=0 > < 0 or =^")),
+            None if has_traps(left) => Ok(None),
+            None => operation.test("-", left, right),
             Some(_) if has_traps(words) => Ok(None),
             Some(mode) => operation.test(mode, words, right),
         }
     }
 
     /// The name of the call of a line, and its format.
-    pub fn call_in(self, line: &str) -> Option<(&'static str, &'static str)> {
-        let Some((name, _, _)) = cut_line(line) else {
+    pub fn call_in(self, line: &str) -> Option<(&'static str, Text)> {
+        let Some((name, _, right)) = cut_line(line) else {
             return None;
         };
         match self.operation_named(name) {
-            Ok(operation) => Some((operation.call, operation.word)),
+            Ok(operation) => Some((operation.call_stating(right), operation.word())),
             Err(_) => None,
         }
     }
@@ -184,26 +225,24 @@ impl Fpgen {
 
     /// The operation of this name, which begins with its format.
     fn operation_named(self, name: &str) -> Result<Operation, RowError<'_>> {
-        let Some((format, operation)) = format_of(name) else {
+        let Some((format, rest)) = format_of(name) else {
             return Err(RowError::Word("no format", name, "b32, b64 or b128"));
         };
+        let (target, operation) = format_of(rest).unwrap_or((format, rest));
         match found(OPERATIONS, operation) {
-            Some((call, operand_count)) => Ok(Operation {
-                format,
-                word: self.word_of(format),
-                call,
-                operand_count,
-            }),
-            None => Err(RowError::Word("no call", name, "+ - * *+ / % V or rfi after the format")),
-        }
-    }
-
-    /// The word in rows of a format.
-    fn word_of(self, format: BinaryFormat) -> &'static str {
-        if self.tiny_before_rounding {
-            format.word_before
-        } else {
-            format.word
+            Some((call, operand_count, kind))
+                if (rest == operation) != matches!(kind, Kind::Converted) =>
+            {
+                Ok(Operation {
+                    format,
+                    target,
+                    tiny_before_rounding: self.tiny_before_rounding,
+                    call,
+                    operand_count,
+                    kind,
+                })
+            }
+            _ => Err(RowError::Word("no call", name, CALLS)),
         }
     }
 }
@@ -216,17 +255,25 @@ impl FpgenTest {
                 || (self.is_nan(given.result) && self.is_nan(self.stated.result)))
     }
 
-    /// Writes the bits and the flags that the library returns.
+    /// Writes the bits and the flags that the library returns, or of a comparison whether its relation holds.
     pub fn write_given<W: Write>(self, given: Columns, out: &mut W) -> io::Result<()> {
         let Columns { result, flags } = given;
-        let digits = self.format.width / 4;
         let letters = letters_of(flags);
-        writeln!(out, "  given: {result:0digits$x} {}", letters.as_str())
+        match self.format {
+            Some(format) => {
+                let digits = format.width / 4;
+                writeln!(out, "  given: {result:0digits$x} {}", letters.as_str())
+            }
+            None => writeln!(out, "  given: {} {}", result != 0, letters.as_str()),
+        }
     }
 
     /// Whether bits are those of a NaN.
     fn is_nan(self, bits: u128) -> bool {
-        is_nan(bits, self.format.width, self.format.infinity)
+        match self.format {
+            Some(format) => is_nan(bits, format.width, format.infinity),
+            None => false,
+        }
     }
 }
 
@@ -249,13 +296,15 @@ fn has_traps(words: &str) -> bool {
     }
 }
 
-/// An operation in a format.
+/// An operation in a format, or from one to another.
 #[derive(Clone, Copy)]
 struct Operation {
     format: BinaryFormat,
-    word: &'static str,
+    target: BinaryFormat,
+    tiny_before_rounding: bool,
     call: &'static str,
     operand_count: usize,
+    kind: Kind,
 }
 
 impl Operation {
@@ -270,31 +319,105 @@ impl Operation {
         if words.split(' ').count() != self.operand_count {
             return Err(RowError::Word("no operands of the call", words, NUMBERS));
         }
-        let stated = match stated_in(right, self.format) {
-            Ok(Some(stated)) => stated,
-            Ok(None) => return Ok(None),
-            Err(error) => return Err(error),
+        let Some(operands) = operands_of(words, self.format) else {
+            return Err(RowError::Word("no operands of the call", words, NUMBERS));
         };
-        match operands_of(words, self.format) {
-            Some(operands) => Ok(Some(FpgenTest {
-                call: self.call_on(mode, operands),
-                format: self.format,
+        if let Some(calls) = self.calls_of_relations() {
+            return self.comparison(calls, operands, right);
+        }
+        match stated_in(right, self.target) {
+            Ok(Some(stated)) => Ok(Some(FpgenTest {
+                call: self.call_on(self.call, mode, operands),
+                format: Some(self.target),
                 stated,
             })),
-            None => Err(RowError::Word("no operands of the call", words, NUMBERS)),
+            Ok(None) => Ok(None),
+            Err(error) => Err(error),
         }
     }
 
-    /// The call on operands, in a mode if it has one.
-    fn call_on(self, mode: &'static str, operands: Text) -> LineCall {
+    /// The calls that tell which relation holds, of a comparison.
+    fn calls_of_relations(self) -> Option<&'static [(&'static str, &'static str)]> {
+        match self.kind {
+            Kind::Compared(true) => Some(SIGNALING),
+            Kind::Compared(false) => Some(QUIET),
+            _ => None,
+        }
+    }
+
+    /// The name of the call whose result a line states.
+    fn call_stating(self, right: &str) -> &'static str {
+        let (relation, _) = right.split_once(' ').unwrap_or((right, ""));
+        match self.calls_of_relations() {
+            Some(calls) => found(calls, relation).unwrap_or(self.call),
+            None => self.call,
+        }
+    }
+
+    /// The test whether the relation that a line states holds.
+    fn comparison<'a>(
+        self,
+        calls: &'static [(&'static str, &'static str)],
+        operands: Text,
+        right: &'a str,
+    ) -> Result<Option<FpgenTest>, RowError<'a>> {
+        let (relation, flags) = right.split_once(' ').unwrap_or((right, ""));
+        if relation == "#" {
+            return Ok(None);
+        }
+        match (found(calls, relation), flags_of(flags)) {
+            (None, _) => Err(RowError::Word("no relation", relation, "< > = or ?")),
+            (_, None) => Err(RowError::Word("no flags", flags, "letters of x u o z i")),
+            (Some(call), Some(flags)) => Ok(Some(FpgenTest {
+                call: self.call_on(call, "-", operands),
+                format: None,
+                stated: Columns { result: 1, flags },
+            })),
+        }
+    }
+
+    /// A call on operands, in a mode if it has one. A copy is the value with its own sign.
+    fn call_on(self, name: &'static str, mode: &'static str, operands: Text) -> LineCall {
         LineCall {
-            name: self.call,
-            format: Text::of(self.word),
-            mode: if self.call == "ieee_rem" { "-" } else { mode },
-            operands,
+            name,
+            format: self.word(),
+            mode: if self.rounds() { mode } else { "-" },
+            operands: match self.kind {
+                Kind::Copied => Text::of_parts(&[operands.as_str(), " ", operands.as_str()]),
+                _ => operands,
+            },
+        }
+    }
+
+    /// Whether its result is rounded in a mode.
+    fn rounds(self) -> bool {
+        matches!(self.kind, Kind::Rounded | Kind::Converted)
+    }
+
+    /// The word in rows of its format, or of its two formats.
+    fn word(self) -> Text {
+        match self.kind {
+            Kind::Converted => Text::of_parts(&[
+                self.word_of(self.format),
+                ">",
+                self.word_of(self.target),
+            ]),
+            _ => Text::of(self.word_of(self.format)),
+        }
+    }
+
+    /// The word in rows of a format.
+    fn word_of(self, format: BinaryFormat) -> &'static str {
+        if self.tiny_before_rounding {
+            format.word_before
+        } else {
+            format.word
         }
     }
 }
+
+/// The operations, for messages.
+const CALLS: &str = "+ - * *+ / % V rfi cp ~ A @ qC or sC after the format, or cff after two";
 
 /// The result and the flags of a line; `None` if there is no result because of a trap.
 fn stated_in(right: &str, format: BinaryFormat) -> Result<Option<Columns>, RowError<'_>> {

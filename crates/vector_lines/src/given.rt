@@ -6,7 +6,7 @@ use crate::columns::{Columns, LineCall};
 use crate::request::Calls;
 use rustc_apfloat::{Flags, Status};
 
-/// What a call returns, if it exists and returns a status.
+/// What a call returns, if it exists; a call without a status raises no flag.
 pub fn given<M: Calls>(calls: M, call: &LineCall) -> Option<Columns> {
     let (format, operands) = (call.format.as_str(), call.operands.as_str());
     let Ok(asked) = Asked::of(call.name, format, call.mode, operands, "-") else {
@@ -15,12 +15,14 @@ pub fn given<M: Calls>(calls: M, call: &LineCall) -> Option<Columns> {
     let Ok(answer) = asked.answer(calls) else {
         return None;
     };
-    let StatusField::Flags(status) = answer.status else {
-        return None;
+    let flags = match answer.status {
+        StatusField::Flags(status) => bits_of_status(status),
+        StatusField::Nothing => 0,
+        StatusField::Refused => return None,
     };
     Some(Columns {
         result: bits_of_field(answer.value)?,
-        flags: bits_of_status(status),
+        flags,
     })
 }
 

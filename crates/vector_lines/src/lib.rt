@@ -17,10 +17,12 @@ mod columns;
 mod command_row;
 mod failure;
 mod fault;
+mod fewer_digits;
 mod form;
 mod formats;
 mod fpgen;
 mod given;
+mod machine_format;
 mod operands;
 mod operations;
 mod other_files;
@@ -45,12 +47,14 @@ pub use call_fault::CallFault;
 pub use check::{Check, Lines, Tally, Task};
 pub use columns::{Columns, LineCall};
 pub use failure::Failure;
+pub use fewer_digits::FewerDigits;
 pub use form::Form;
 pub use formats::Formats;
 pub use fpgen::{Fpgen, FpgenTest};
+pub use machine_format::MachineFormat;
 pub use operands::{Operand, Operands, any_value, two_values, value_of};
 pub use operations::{
-    FlagsCall, FormatOfCall, GeneralCall, OperationCall, OrderCall, ToIntegerCall,
+    FlagsCall, FormatOfCall, GeneralCall, OddCall, OperationCall, OrderCall, ToIntegerCall,
 };
 pub use program::{check_lines, run};
 pub use quanta::Quanta;

@@ -5,12 +5,15 @@
 use crate::form::Form;
 use crate::table::found;
 use apfloat_comparisons::{Extremum, OnNan, Predicate};
+use apfloat_machines::MinimumRule;
 
 /// An operation of IEEE 754-2019.
 #[derive(Clone, Copy)]
 pub enum OperationCall {
     /// The result in another format (5.4.1, formatOf).
     InAnother(FormatOfCall),
+    /// The result rounded to odd.
+    Odd(OddCall),
     /// A comparison predicate (5.6.1, 5.11).
     Comparison(Predicate, OnNan),
     /// A call on two values without a status.
@@ -29,6 +32,8 @@ pub enum OperationCall {
     DigitCount,
     /// An operation on flags (5.7.4).
     OfFlags(FlagsCall),
+    /// On a machine, a minimum, if true, or a maximum by a rule.
+    OnMachine(MinimumRule, bool),
 }
 
 /// An operation whose result is of another format.
@@ -40,6 +45,21 @@ pub enum FormatOfCall {
     Div,
     Sqrt,
     MulAdd,
+}
+
+/// An operation whose result is rounded to odd.
+#[derive(Clone, Copy)]
+pub enum OddCall {
+    /// Arithmetic in a format, or with the result in another.
+    Arithmetic(FormatOfCall),
+    /// A value of another format.
+    Convert,
+    /// The value as an integral value.
+    RoundToIntegral,
+    FromU128,
+    FromI128,
+    ToU128,
+    ToI128,
 }
 
 /// A call on two values in the total order (5.10).
@@ -90,6 +110,39 @@ static OPERATIONS: &[(&str, OperationCall)] = &[
     ("div_to", OperationCall::InAnother(FormatOfCall::Div)),
     ("sqrt_to", OperationCall::InAnother(FormatOfCall::Sqrt)),
     ("mul_add_to", OperationCall::InAnother(FormatOfCall::MulAdd)),
+    (
+        "add_odd",
+        OperationCall::Odd(OddCall::Arithmetic(FormatOfCall::Add)),
+    ),
+    (
+        "sub_odd",
+        OperationCall::Odd(OddCall::Arithmetic(FormatOfCall::Sub)),
+    ),
+    (
+        "mul_odd",
+        OperationCall::Odd(OddCall::Arithmetic(FormatOfCall::Mul)),
+    ),
+    (
+        "div_odd",
+        OperationCall::Odd(OddCall::Arithmetic(FormatOfCall::Div)),
+    ),
+    (
+        "sqrt_odd",
+        OperationCall::Odd(OddCall::Arithmetic(FormatOfCall::Sqrt)),
+    ),
+    (
+        "mul_add_odd",
+        OperationCall::Odd(OddCall::Arithmetic(FormatOfCall::MulAdd)),
+    ),
+    ("convert_odd", OperationCall::Odd(OddCall::Convert)),
+    (
+        "round_to_odd_integral",
+        OperationCall::Odd(OddCall::RoundToIntegral),
+    ),
+    ("from_u128_odd", OperationCall::Odd(OddCall::FromU128)),
+    ("from_i128_odd", OperationCall::Odd(OddCall::FromI128)),
+    ("to_u128_odd", OperationCall::Odd(OddCall::ToU128)),
+    ("to_i128_odd", OperationCall::Odd(OddCall::ToI128)),
     (
         "compare_quiet_equal",
         OperationCall::Comparison(Predicate::Equal, OnNan::Quiet),
@@ -178,6 +231,10 @@ static OPERATIONS: &[(&str, OperationCall)] = &[
         "compare_signaling_greater_unordered",
         OperationCall::Comparison(Predicate::GreaterUnordered, OnNan::Signaling),
     ),
+    (
+        "compare_signaling_unordered",
+        OperationCall::Comparison(Predicate::Unordered, OnNan::Signaling),
+    ),
     ("total_order", OperationCall::Order(OrderCall::TotalOrder)),
     (
         "total_order_mag",
@@ -263,6 +320,54 @@ static OPERATIONS: &[(&str, OperationCall)] = &[
         OperationCall::OfFlags(FlagsCall::TestSaved),
     ),
     ("restore_flags", OperationCall::OfFlags(FlagsCall::Restore)),
+    (
+        "least_second",
+        OperationCall::OnMachine(MinimumRule::Second, true),
+    ),
+    (
+        "least_second_quietly",
+        OperationCall::OnMachine(MinimumRule::SecondQuietly, true),
+    ),
+    (
+        "least_first_nan",
+        OperationCall::OnMachine(MinimumRule::FirstNan, true),
+    ),
+    (
+        "least_number_2008",
+        OperationCall::OnMachine(MinimumRule::Number2008, true),
+    ),
+    (
+        "least_number_2019",
+        OperationCall::OnMachine(MinimumRule::Number2019, true),
+    ),
+    (
+        "least_propagated",
+        OperationCall::OnMachine(MinimumRule::Propagated, true),
+    ),
+    (
+        "greatest_second",
+        OperationCall::OnMachine(MinimumRule::Second, false),
+    ),
+    (
+        "greatest_second_quietly",
+        OperationCall::OnMachine(MinimumRule::SecondQuietly, false),
+    ),
+    (
+        "greatest_first_nan",
+        OperationCall::OnMachine(MinimumRule::FirstNan, false),
+    ),
+    (
+        "greatest_number_2008",
+        OperationCall::OnMachine(MinimumRule::Number2008, false),
+    ),
+    (
+        "greatest_number_2019",
+        OperationCall::OnMachine(MinimumRule::Number2019, false),
+    ),
+    (
+        "greatest_propagated",
+        OperationCall::OnMachine(MinimumRule::Propagated, false),
+    ),
 ];
 
 impl OperationCall {
@@ -275,9 +380,11 @@ impl OperationCall {
     pub fn form(self) -> Form {
         match self {
             OperationCall::InAnother(call) => call.form(),
+            OperationCall::Odd(call) => call.form(),
             OperationCall::Comparison(_, _)
             | OperationCall::Order(_)
-            | OperationCall::Extremum(_, _) => Form::TwoValues,
+            | OperationCall::Extremum(_, _)
+            | OperationCall::OnMachine(_, _) => Form::TwoValues,
             OperationCall::OfOne(_) | OperationCall::DigitCount => Form::OneValue,
             OperationCall::ScaleB => Form::ValueAndExponent,
             OperationCall::ToInteger(_) => Form::ValueAndWidth,
@@ -313,6 +420,19 @@ impl FormatOfCall {
             FormatOfCall::Sqrt => Form::OneValue,
             FormatOfCall::MulAdd => Form::ThreeValues,
             _ => Form::TwoValues,
+        }
+    }
+}
+
+impl OddCall {
+    /// The form of its operands.
+    fn form(self) -> Form {
+        match self {
+            OddCall::Arithmetic(call) => call.form(),
+            OddCall::Convert | OddCall::RoundToIntegral => Form::OneValue,
+            OddCall::FromU128 => Form::Unsigned,
+            OddCall::FromI128 => Form::Signed,
+            OddCall::ToU128 | OddCall::ToI128 => Form::ValueAndWidth,
         }
     }
 }

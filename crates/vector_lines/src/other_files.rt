@@ -64,7 +64,7 @@ impl Fpgen {
     /// Counts a line under its call and its format.
     pub fn count(self, line: &str, agrees: bool, summary: &mut Summary) -> Result<(), AllocError> {
         match self.call_in(line) {
-            Some((call, format)) => summary.count(call, format, agrees),
+            Some((call, format)) => summary.count(call, format.as_str(), agrees),
             None => Ok(()),
         }
     }

@@ -41,13 +41,15 @@ what else it returns.
 FUNCTION is an operation on f16, f32, f64, extF80 or f128, which is one of _add
 _sub _mul _mulAdd _div _rem _sqrt _roundToInt, as in f64_add, a comparison _eq
 _le _lt _eq_signaling _le_quiet _lt_quiet, or a conversion of these to each
-other, from or to ui32, ui64, i32 or i64, as in f64_to_i32; those to integers
-may end in _r_minMag.
+other, from or to ui32, ui64, i32 or i64, as in f64_to_i32. Those to integers,
+and _roundToInt, may end in _r_ROUND or _rx_ROUND, where ROUND is near_even,
+near_maxMag, minMag, min or max, and _roundToInt in _x: x compares the inexact
+flag too.
 
 After --testfloat FUNCTION may follow -rnear_even -rmax -rmin -rminMag
--rnear_maxMag -precision80 -tininessafter -tininessbefore -notexact -exact
---any-nan, and after --fpgen -tininessafter -tininessbefore. After --, the name
-of FILE may begin with -.
+-rnear_maxMag -rodd -precision32 -precision64 -precision80 -tininessafter
+-tininessbefore -notexact -exact --any-nan, and after --fpgen -tininessafter
+-tininessbefore. After --, the name of FILE may begin with -.
 
 Empty lines and comments, which begin with #, are skipped. The program writes
 each row that differs and each malformed line with its number, and at the end
@@ -87,6 +89,9 @@ static OPTIONS_OF_TESTFLOAT: &[&str] = &[
     "-rmin",
     "-rminMag",
     "-rnear_maxMag",
+    "-rodd",
+    "-precision32",
+    "-precision64",
     "-precision80",
     "-tininessafter",
     "-tininessbefore",
@@ -247,18 +252,10 @@ fn option_on_lines(task: Task, words: &[String]) -> NextOption<'_> {
         }
         [word, others @ ..] => match task.lines.with(word.as_str()) {
             Some(lines) => with_lines(task, lines, others),
-            None if task.skips_unknown && is_left_out(word.as_str()) => {
-                with_lines(task, Lines::Unknown, others)
-            }
             None => NextOption::End,
         },
         [] => NextOption::End,
     }
-}
-
-/// Whether a word is an option of TestFloat for calls that the library does not have.
-fn is_left_out(word: &str) -> bool {
-    matches!(word, "-rodd" | "-precision32" | "-precision64")
 }
 
 /// A word after an option that is wrong.

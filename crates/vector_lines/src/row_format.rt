@@ -84,6 +84,11 @@ static OTHER_FORMATS: &[(&str, OtherFormat)] = &[
 ];
 
 impl RowFormat {
+    /// A built-in format with the flags of the built-in formats.
+    pub fn plain(format: BuiltInFormat) -> RowFormat {
+        RowFormat::BuiltIn(format, FlaggedFormat::BuiltIn(format))
+    }
+
     /// The format of this word.
     pub fn named(word: &str) -> Option<RowFormat> {
         match found(OTHER_FORMATS, word) {
@@ -148,9 +153,7 @@ fn built_in_named(word: &str) -> Option<RowFormat> {
         return None;
     };
     match (rule, IeeeFormat::of(kind)) {
-        ("", _) if name == word => {
-            Some(RowFormat::BuiltIn(format, FlaggedFormat::BuiltIn(format)))
-        }
+        ("", _) if name == word => Some(RowFormat::plain(format)),
         ("ieee", Some(ieee)) => {
             Some(RowFormat::BuiltIn(format, FlaggedFormat::AfterRounding(ieee)))
         }

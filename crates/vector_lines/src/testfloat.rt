@@ -65,6 +65,50 @@ static ROUNDINGS: &[(&str, &str)] = &[
     ("-rmin", "down"),
     ("-rminMag", "zero"),
     ("-rnear_maxMag", "away"),
+    ("-rodd", ODD),
+];
+
+/// The endings of functions that round in a mode of their own to integral values and integers: the mode, and whether the
+/// inexact flag is compared.
+static OWN_ROUNDINGS: &[(&str, (&str, bool))] = &[
+    ("_r_near_even", ("even", false)),
+    ("_r_near_maxMag", ("away", false)),
+    ("_r_minMag", ("zero", false)),
+    ("_r_min", ("down", false)),
+    ("_r_max", ("up", false)),
+    ("_rx_near_even", ("even", true)),
+    ("_rx_near_maxMag", ("away", true)),
+    ("_rx_minMag", ("zero", true)),
+    ("_rx_min", ("down", true)),
+    ("_rx_max", ("up", true)),
+];
+
+/// The mode of rounding to odd, for which rows have calls of their own.
+const ODD: &str = "odd";
+
+/// The calls of rows that round to odd, in place of calls that take a mode.
+static ODD_CALLS: &[(&str, &str)] = &[
+    ("add_r", "add_odd"),
+    ("sub_r", "sub_odd"),
+    ("wide_mul_r", "mul_odd"),
+    ("wide_mul_add_r", "mul_add_odd"),
+    ("div_r", "div_odd"),
+    ("sqrt_r", "sqrt_odd"),
+    ("round_to_integral", "round_to_odd_integral"),
+    ("convert_r", "convert_odd"),
+    ("from_u128_r", "from_u128_odd"),
+    ("from_i128_r", "from_i128_odd"),
+    ("to_u128_r", "to_u128_odd"),
+    ("to_i128_r", "to_i128_odd"),
+];
+
+/// The calls that deliver in another format, in place of those whose result an x87 rounds to fewer digits.
+static CALLS_TO_FEWER_DIGITS: &[(&str, &str)] = &[
+    ("add_r", "add_to"),
+    ("sub_r", "sub_to"),
+    ("wide_mul_r", "mul_to"),
+    ("div_r", "div_to"),
+    ("sqrt_r", "sqrt_to"),
 ];
 
 /// The function of TestFloat that the lines of a file test, and how it rounds.
@@ -80,24 +124,23 @@ pub struct TestFloat {
     tiny_before_rounding: bool,
     is_exact: bool,
     any_nan: bool,
+    // The format in which an x87 rounds to fewer digits, if it does.
+    fewer_digits: Option<&'static str>,
 }
 
 impl TestFloat {
     /// The function of this name, with TestFloat's defaults: rounding to nearest, ties to even, tininess detected after
     /// rounding, and the inexact flag not compared for integral values and integers. All bits of a NaN are compared.
     pub fn named(name: &str) -> Option<TestFloat> {
-        if let Some((source, target)) = name.split_once("_to_") {
-            return match target.strip_suffix("_r_minMag") {
-                Some(target) => truncation(found(KINDS, source), found(KINDS, target)),
-                None => conversion(found(KINDS, source), found(KINDS, target)),
-            };
+        if let Some(name) = name.strip_suffix("_x") {
+            return exact_integral(without_ending(name));
         }
-        match name.split_once('_') {
-            Some((format, operation)) => {
-                operation_on(found(KINDS, format), found(OPERATIONS, operation))
+        for (ending, (mode, is_exact)) in OWN_ROUNDINGS {
+            if let Some(name) = name.strip_suffix(ending) {
+                return with_own_rounding(without_ending(name), mode, *is_exact);
             }
-            None => None,
         }
+        without_ending(name)
     }
 
     /// The function that makes a call on `operand_count` operands of a kind.
@@ -116,6 +159,7 @@ impl TestFloat {
             tiny_before_rounding: false,
             is_exact: false,
             any_nan: false,
+            fewer_digits: None,
         }
     }
 
@@ -128,7 +172,9 @@ impl TestFloat {
             "-exact" => changed.is_exact = true,
             "-notexact" => changed.is_exact = false,
             "--any-nan" => changed.any_nan = true,
-            "-precision80" => {}
+            "-precision80" => changed.fewer_digits = None,
+            "-precision64" => changed.fewer_digits = self.of_fewer_digits("x87p53"),
+            "-precision32" => changed.fewer_digits = self.of_fewer_digits("x87p24"),
             _ => return self.rounded(found(ROUNDINGS, option)),
         }
         Some(changed)
@@ -145,9 +191,28 @@ impl TestFloat {
         Some(TestFloat { mode, ..self })
     }
 
+    /// The format of fewer digits, if an x87 rounds results of the function to it.
+    fn of_fewer_digits(self, format: &'static str) -> Option<&'static str> {
+        match (self.operand, found(CALLS_TO_FEWER_DIGITS, self.call)) {
+            (Kind::Float("x87", _, _), Some(_)) => Some(format),
+            _ => None,
+        }
+    }
+
     /// The name of the call that lines ask for.
     pub fn call_name(self) -> &'static str {
-        self.call
+        if self.mode == ODD {
+            return found(ODD_CALLS, self.call).unwrap_or(self.call);
+        }
+        match self.fewer_digits {
+            Some(_) => found(CALLS_TO_FEWER_DIGITS, self.call).unwrap_or(self.call),
+            None => self.call,
+        }
+    }
+
+    /// The mode of the call, or `-` for a call without one.
+    fn mode_word(self) -> &'static str {
+        if self.mode == ODD { "-" } else { self.mode }
     }
 
     /// The call that a line asks for, and the result and the flags that it states.
@@ -255,9 +320,9 @@ impl TestFloat {
     fn call_on(self, operands: &str) -> Option<LineCall> {
         match self.words(operands) {
             Some(words) => Some(LineCall {
-                name: self.call,
+                name: self.call_name(),
                 format: self.format(),
-                mode: self.mode,
+                mode: self.mode_word(),
                 operands: words,
             }),
             None => None,
@@ -271,6 +336,9 @@ impl TestFloat {
         } else {
             "+ieee"
         };
+        if let Some(target) = self.fewer_digits {
+            return Text::of_parts(&["x87>", target, rule]);
+        }
         match (self.operand, self.result) {
             (Kind::Float(source, _, _), Kind::Float(target, _, _)) if self.call == "convert_r" => {
                 Text::of_parts(&[source, ">", target, rule])
@@ -329,19 +397,43 @@ fn is_comparison(call: &str) -> bool {
     call.starts_with("compare_")
 }
 
-/// The function that truncates values of a format to integers of a kind, if both exist.
-fn truncation(source: Option<Kind>, target: Option<Kind>) -> Option<TestFloat> {
-    match (source, target) {
-        (Some(Kind::Float(_, _, _)), Some(Kind::Unsigned(_) | Kind::Signed(_))) => {
-            let Some(function) = conversion(source, target) else {
-                return None;
-            };
-            Some(TestFloat {
-                mode: "zero",
-                has_own_mode: true,
-                ..function
-            })
+/// The function of this name, which has no ending that says how it rounds.
+fn without_ending(name: &str) -> Option<TestFloat> {
+    if let Some((source, target)) = name.split_once("_to_") {
+        return conversion(found(KINDS, source), found(KINDS, target));
+    }
+    match name.split_once('_') {
+        Some((format, operation)) => {
+            operation_on(found(KINDS, format), found(OPERATIONS, operation))
         }
+        None => None,
+    }
+}
+
+/// A function that rounds to an integral value, with the inexact flag compared.
+fn exact_integral(function: Option<TestFloat>) -> Option<TestFloat> {
+    match function {
+        Some(function) if function.call == "round_to_integral" => Some(TestFloat {
+            is_exact: true,
+            ..function
+        }),
+        _ => None,
+    }
+}
+
+/// A function that rounds to integral values or integers, in this mode.
+fn with_own_rounding(
+    function: Option<TestFloat>,
+    mode: &'static str,
+    is_exact: bool,
+) -> Option<TestFloat> {
+    match function {
+        Some(function) if function.is_integral() => Some(TestFloat {
+            mode,
+            has_own_mode: true,
+            is_exact,
+            ..function
+        }),
         _ => None,
     }
 }

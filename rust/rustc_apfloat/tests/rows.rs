@@ -100,9 +100,23 @@ enum Outcome {
     NoCall(&'static str),
 }
 
-/// What the crate has no call for: it multiplies in every format, its `Debug` is the other crate's, it reads the
-/// decimals that the library's `from_str_r` refuses, and it has no commands, which refuse words.
-const WITHOUT_CALL: [&str; 4] = ["MULTIPLIES", "a refused decimal", "a refused word of a command", "debug"];
+/// What is not made here: the crate multiplies in every format, its `Debug` is the other crate's, it reads the decimals
+/// that the library's `from_str_r` refuses, and it has no commands, which refuse words. `tests/beyond.rs` has rows of its
+/// own for results rounded to odd and for comparisons of two formats.
+const WITHOUT_CALL: [&str; 5] =
+    ["MULTIPLIES", "a refused decimal", "a refused word of a command", BEYOND, "debug"];
+
+/// Rows of calls beyond those of `Float`, each in formats of its own.
+const BEYOND: &str = "a row of machines, of rounding to odd or of two formats";
+
+/// Whether a row is one of these.
+fn is_beyond(call: &str, format: &str) -> bool {
+    format.contains('@')
+        || format.contains(">x87p")
+        || call.ends_with("_odd")
+        || call == "round_to_odd_integral"
+        || call.starts_with("compare_") && (format.contains('>') || call == "compare_signaling_unordered")
+}
 
 /// A row of seven columns in one mode.
 #[derive(Clone, Copy)]
@@ -718,6 +732,9 @@ fn conversion(source: &str, target: &str, row: Row<'_>) -> Outcome {
 /// A row of seven columns; `any` for each mode.
 fn call_row(columns: &[&str; 7]) -> Outcome {
     let [call_name, format, mode, operands, value, flags, more] = *columns;
+    if is_beyond(call_name, format) {
+        return Outcome::NoCall(BEYOND);
+    }
     let mut outcome = Outcome::Differs("no such mode".to_owned());
     for (name, round) in MODES {
         if mode != "any" && mode != "-" && mode != name {

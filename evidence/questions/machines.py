@@ -1,0 +1,159 @@
+"""What machines give, and comparisons of two formats."""
+
+from exact import operations, words
+from exact.conversions import convert
+from exact.data import NaN
+from exact.formats import FORMATS
+from exact.machines import MACHINES, RULES
+from exact.values import VALUES
+from questions.operands import Operands, random_bits
+from questions.operations import near_an_integer, row, two
+
+_FORMATS = ("half", "single", "single", "double", "double", "bfloat", "e5m2", "quad", "x87")
+_COUNTS = {
+    "add_r": 2,
+    "sub_r": 2,
+    "wide_mul_r": 2,
+    "div_r": 2,
+    "ieee_rem": 2,
+    "c_fmod": 2,
+    "wide_mul_add_r": 3,
+    "sqrt_r": 1,
+    "round_to_integral": 1,
+    "round_to_integral_in": 1,
+}
+_WITHOUT_MODE = ("ieee_rem", "c_fmod")
+_BETWEEN = (
+    ("half", "single"),
+    ("single", "half"),
+    ("bfloat", "half"),
+    ("double", "x87"),
+    ("x87", "quad"),
+    ("quad", "double"),
+    ("e4m3fn", "half"),
+    ("half", "e4m3fnuz"),
+)
+
+
+def question(choices):
+    """A call without its answer."""
+    return choices.choice(_DRAWN)(choices)
+
+
+def machine_for(choices, name):
+    """A machine, mostly the x87 unit for its own format."""
+    if name == "x87" and choices.random() < 0.8:
+        return "x87"
+    return choices.choice([machine for machine in MACHINES if machine != "x87"])
+
+
+def operand(operands):
+    """The word of a datum: a third are NaNs and other patterns with all bits of the exponent."""
+    choices, form = operands.choices, operands.form
+    if choices.random() < 0.33:
+        top = form.greatest_field << form.precision - 1
+        if form.writes_integer_bit:
+            top = form.greatest_field << form.precision
+        return f"{choices.getrandbits(form.bits) | top:0{form.hexadecimal_digits}x}"
+    if choices.random() < 0.1:
+        return random_bits(choices, form)
+    return words.word_of(VALUES[form.name], operands.any())
+
+
+def arithmetic(choices):
+    """An operation in one format."""
+    name = choices.choice(_FORMATS)
+    machine = machine_for(choices, name)
+    operands = Operands(choices, FORMATS[name])
+    calls = [call for call in _COUNTS if machine != "x87" or call != "wide_mul_add_r"]
+    call = choices.choice(calls)
+    drawn = " ".join(operand(operands) for _ in range(_COUNTS[call]))
+    mode = "-" if call in _WITHOUT_MODE else operands.mode().value
+    return row(call, f"{name}@{machine}", mode, drawn)
+
+
+def invalid_product(choices):
+    """An infinity times a zero, plus a NaN or any number."""
+    name = choices.choice(_FORMATS[:-1])
+    machine = choices.choice([known for known in MACHINES if known != "x87"])
+    operands = Operands(choices, FORMATS[name])
+    kind = VALUES[name]
+    factors = [words.word_of(kind, kind.infinity()), words.word_of(kind, kind.zero())]
+    choices.shuffle(factors)
+    drawn = " ".join([*factors, operand(operands)])
+    return row("wide_mul_add_r", f"{name}@{machine}", operands.mode().value, drawn)
+
+
+def flushed(choices):
+    """A result near the smallest normalized number, flushed if it is tiny."""
+    name = choices.choice(_FORMATS[:-1])
+    machine = choices.choice([known for known, rules in MACHINES.items() if rules.flushed is not None])
+    operands = Operands(choices, FORMATS[name])
+    form, kind = operands.form, VALUES[name]
+    call = choices.choice(["add_r", "sub_r", "wide_mul_r", "div_r", "wide_mul_add_r"])
+    near = operands.signed(operands.near(form.smallest_normalized, 2))
+    one = operands.signed(operands.near(1 << form.scale, 2))
+    data = [near, one, operands.signed(operands.near(1, 1))]
+    if call in ("add_r", "sub_r"):
+        data[1] = operands.signed(operands.near(form.smallest_normalized * choices.choice([1, 2]), 2))
+    drawn = " ".join(words.word_of(kind, x) for x in data[: _COUNTS[call]])
+    return row(call, f"{name}@{machine}+ftz", operands.mode().value, drawn)
+
+
+def extremum(choices):
+    """A minimum or a maximum by a rule."""
+    name = choices.choice(_FORMATS)
+    operands = Operands(choices, FORMATS[name])
+    call = f"{choices.choice(['least', 'greatest'])}_{choices.choice(RULES)}"
+    drawn = two(operands) if choices.random() < 0.5 else f"{operand(operands)} {operand(operands)}"
+    return row(call, f"{name}@{machine_for(choices, name)}", "-", drawn)
+
+
+def to_integer(choices):
+    """A conversion to an integer, often out of range."""
+    name = choices.choice(_FORMATS)
+    machine = machine_for(choices, name)
+    operands = Operands(choices, FORMATS[name])
+    form = operands.form
+    width = choices.choice([8, 16, 32, 32, 64, 64])
+    x = near_an_integer(operands)
+    if choices.random() < 0.5:
+        end = (1 << width - choices.choice([0, 1])) << form.scale
+        x = operands.signed(operands.near(min(end, form.largest), 1))
+    call = "to_i128_r" if machine == "x87" else choices.choice(["to_i128_r", "to_u128_r"])
+    word = operand(operands) if choices.random() < 0.3 else words.word_of(VALUES[name], x)
+    return row(call, f"{name}@{machine}", operands.mode().value, f"{word} {width}")
+
+
+def conversion(choices):
+    """A conversion between formats, often of a NaN."""
+    source = choices.choice((*_FORMATS, "e4m3fn", "e4m3fnuz"))
+    target = choices.choice(_FORMATS)
+    machine = "x87" if "x87" in (source, target) else machine_for(choices, target)
+    operands = Operands(choices, FORMATS[source])
+    formats = f"{source}>{target}@{machine}"
+    return row("convert_r", formats, operands.mode().value, operand(operands))
+
+
+def between(choices):
+    """A comparison of values of two formats, often of the same value or of neighbours."""
+    source, target = choices.choice(_BETWEEN)
+    left, right = Operands(choices, FORMATS[source]), Operands(choices, FORMATS[target])
+    call = choices.choice([*operations.COMPARISONS, *operations.UNNAMED])
+    x = VALUES[source].decoded(int(operand(left), 16))
+    y = VALUES[target].decoded(int(operand(right), 16))
+    if not isinstance(x, NaN) and choices.random() < 0.6:
+        y, _, _ = convert(FORMATS[source], FORMATS[target], x, right.mode())
+    drawn = [words.word_of(VALUES[name], datum) for name, datum in ((source, x), (target, y))]
+    return row(call, f"{source}>{target}", "-", " ".join(drawn))
+
+
+_DRAWN = (
+    *(arithmetic,) * 6,
+    *(invalid_product,) * 2,
+    *(flushed,) * 4,
+    *(extremum,) * 4,
+    *(to_integer,) * 4,
+    *(conversion,) * 3,
+    *(between,) * 5,
+)
