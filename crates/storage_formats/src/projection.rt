@@ -1,0 +1,89 @@
+//! The constants that define a format of IEEE P3109.
+
+ghost use Rattle.std.specs.Prelude.{ℕ, Bool};
+ghost use Rattle.storage_formats.specs.Projections.{IsProjection, projection_with};
+
+/// A format of IEEE P3109: a width and a precision, with or without a sign, with or without infinities.
+///
+/// It has one zero and one NaN. The bits of a code are, from the top, the sign if there is one, the biased exponent,
+/// and `PRECISION - 1` bits of the significand. Half of the exponents are below 1, so 1 is in the middle of the codes
+/// without a sign. A type gives each constant twice, for code and for contracts, and proves that they are consistent
+/// (`lawful`); if they are literals, the proof is `projection_from_test _ refl`.
+pub trait Projection: Copy {
+    /// The width of a code in bits, 3 to 15.
+    const BITS: usize;
+
+    /// The number of binary digits in a significand, at least 1, including the implied integer bit. At least one bit is
+    /// left for the exponent.
+    const PRECISION: usize;
+
+    /// Whether there is a sign. Then the NaN is the code that would be -0; otherwise it is the last code.
+    const SIGNED: bool;
+
+    /// Whether there are infinities: the last code, of each sign, that is no NaN.
+    const EXTENDED: bool;
+
+    ghost BITS: { ℕ };
+
+    ghost PRECISION: { ℕ };
+
+    ghost SIGNED: { Bool };
+
+    ghost EXTENDED: { Bool };
+
+    // The constants obey the rules above. If they are literals, the proof is `projection_from_test _ refl`, with
+    // `projection_from_test` of `storage_formats.specs.ProjectionLawTest`.
+    ghost lawful: { IsProjection (projection_with BITS PRECISION SIGNED EXTENDED) };
+}
+
+// Declares a format of P3109: its documentation, its name, its width, its precision, whether it is signed and extended.
+macro_rules! projection {
+    ($(#[$doc:meta])* $name:ident $bits:literal $precision:literal $signed:ident $extended:ident) => {
+        $(#[$doc])*
+        #[derive(Clone, Copy)]
+        pub struct $name;
+
+        impl Projection for $name {
+            const BITS: usize = $bits;
+
+            const PRECISION: usize = $precision;
+
+            const SIGNED: bool = $signed;
+
+            const EXTENDED: bool = $extended;
+
+            ghost BITS = { $bits };
+
+            ghost PRECISION = { $precision };
+
+            ghost SIGNED = { $signed };
+
+            ghost EXTENDED = { $extended };
+
+            ghost lawful = { projection_from_test _ refl };
+        }
+    };
+}
+
+ghost use Rattle.std.specs.Prelude.{refl, true, false};
+ghost use Rattle.storage_formats.specs.ProjectionLawTest.{projection_from_test};
+
+projection! {
+    /// `binary8p3se`: up to 49152, in steps of at least 2^-17.
+    Binary8P3 8 3 true true
+}
+
+projection! {
+    /// `binary8p4se`: up to 224, in steps of at least 2^-10.
+    Binary8P4 8 4 true true
+}
+
+projection! {
+    /// `binary8p5se`: up to 15, in steps of at least 2^-7.
+    Binary8P5 8 5 true true
+}
+
+projection! {
+    /// `binary8p1uf`: powers of two from 2^-127 to 2^126, zero and a NaN, without a sign.
+    Binary8P1UF 8 1 false false
+}
