@@ -1,6 +1,7 @@
 //! The constants that define a format of IEEE P3109.
 
-ghost use Rattle.std.specs.Prelude.{ℕ, Bool};
+ghost use Rattle.std.specs.Prelude.{ℕ, Bool, refl, true, false};
+ghost use Rattle.storage_formats.specs.ProjectionLawTest.{projection_from_test};
 ghost use Rattle.storage_formats.specs.Projections.{IsProjection, projection_with};
 
 /// A format of IEEE P3109: a width and a precision, with or without a sign, with or without infinities.
@@ -36,54 +37,98 @@ pub trait Projection: Copy {
     ghost lawful: { IsProjection (projection_with BITS PRECISION SIGNED EXTENDED) };
 }
 
-// Declares a format of P3109: its documentation, its name, its width, its precision, whether it is signed and extended.
-macro_rules! projection {
-    ($(#[$doc:meta])* $name:ident $bits:literal $precision:literal $signed:ident $extended:ident) => {
-        $(#[$doc])*
-        #[derive(Clone, Copy)]
-        pub struct $name;
+/// `binary8p3se`: up to 49152, in steps of at least 2^-17.
+#[derive(Clone, Copy)]
+pub struct Binary8P3;
 
-        impl Projection for $name {
-            const BITS: usize = $bits;
+impl Projection for Binary8P3 {
+    const BITS: usize = 8;
 
-            const PRECISION: usize = $precision;
+    const PRECISION: usize = 3;
 
-            const SIGNED: bool = $signed;
+    const SIGNED: bool = true;
 
-            const EXTENDED: bool = $extended;
+    const EXTENDED: bool = true;
 
-            ghost BITS = { $bits };
+    ghost BITS = { 8 };
 
-            ghost PRECISION = { $precision };
+    ghost PRECISION = { 3 };
 
-            ghost SIGNED = { $signed };
+    ghost SIGNED = { true };
 
-            ghost EXTENDED = { $extended };
+    ghost EXTENDED = { true };
 
-            ghost lawful = { projection_from_test _ refl };
-        }
-    };
+    ghost lawful = { projection_from_test _ refl };
 }
 
-ghost use Rattle.std.specs.Prelude.{refl, true, false};
-ghost use Rattle.storage_formats.specs.ProjectionLawTest.{projection_from_test};
+/// `binary8p4se`: up to 224, in steps of at least 2^-10.
+#[derive(Clone, Copy)]
+pub struct Binary8P4;
 
-projection! {
-    /// `binary8p3se`: up to 49152, in steps of at least 2^-17.
-    Binary8P3 8 3 true true
+impl Projection for Binary8P4 {
+    const BITS: usize = 8;
+
+    const PRECISION: usize = 4;
+
+    const SIGNED: bool = true;
+
+    const EXTENDED: bool = true;
+
+    ghost BITS = { 8 };
+
+    ghost PRECISION = { 4 };
+
+    ghost SIGNED = { true };
+
+    ghost EXTENDED = { true };
+
+    ghost lawful = { projection_from_test _ refl };
 }
 
-projection! {
-    /// `binary8p4se`: up to 224, in steps of at least 2^-10.
-    Binary8P4 8 4 true true
+/// `binary8p5se`: up to 15, in steps of at least 2^-7.
+#[derive(Clone, Copy)]
+pub struct Binary8P5;
+
+impl Projection for Binary8P5 {
+    const BITS: usize = 8;
+
+    const PRECISION: usize = 5;
+
+    const SIGNED: bool = true;
+
+    const EXTENDED: bool = true;
+
+    ghost BITS = { 8 };
+
+    ghost PRECISION = { 5 };
+
+    ghost SIGNED = { true };
+
+    ghost EXTENDED = { true };
+
+    ghost lawful = { projection_from_test _ refl };
 }
 
-projection! {
-    /// `binary8p5se`: up to 15, in steps of at least 2^-7.
-    Binary8P5 8 5 true true
-}
+/// `binary8p1uf`: powers of two from 2^-127 to 2^126, zero and a NaN, without a sign.
+#[derive(Clone, Copy)]
+pub struct Binary8P1UF;
 
-projection! {
-    /// `binary8p1uf`: powers of two from 2^-127 to 2^126, zero and a NaN, without a sign.
-    Binary8P1UF 8 1 false false
+impl Projection for Binary8P1UF {
+    const BITS: usize = 8;
+
+    const PRECISION: usize = 1;
+
+    const SIGNED: bool = false;
+
+    const EXTENDED: bool = false;
+
+    ghost BITS = { 8 };
+
+    ghost PRECISION = { 1 };
+
+    ghost SIGNED = { false };
+
+    ghost EXTENDED = { false };
+
+    ghost lawful = { projection_from_test _ refl };
 }
