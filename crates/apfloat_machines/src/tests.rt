@@ -568,9 +568,22 @@ fn flushed_on_a_machine(rt: HostRuntime) {
         (0x7fa00000, 0x00000001, 0x7fe00000, 0x01),
     ];
     for (x, y, value, flags) in rows {
-        let (a, b) = (IeeeFloat::<IeeeFlags<SingleS>>::from_bits(x), IeeeFloat::from_bits(y));
-        let answer = settled(Machine::X86, a, b, flushed(Flush::X86, a.wide_mul_r(b, EVEN)));
-        same(&rt, (answer.value.to_bits(), answer.status.bits()), (value, flags), (x, y));
+        let (a, b) = (
+            IeeeFloat::<IeeeFlags<SingleS>>::from_bits(x),
+            IeeeFloat::from_bits(y),
+        );
+        let answer = settled(
+            Machine::X86,
+            a,
+            b,
+            flushed(Flush::X86, a.wide_mul_r(b, EVEN)),
+        );
+        same(
+            &rt,
+            (answer.value.to_bits(), answer.status.bits()),
+            (value, flags),
+            (x, y),
+        );
     }
 }
 
