@@ -6,3 +6,4 @@ pub mod NarrowCuts
 pub mod Quotients
 pub mod Readings
 pub mod SettledCuts
+pub mod WordCuts

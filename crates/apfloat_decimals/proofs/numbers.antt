@@ -2,3 +2,4 @@ pub mod Bounded
 pub mod DecimalPowers
 pub mod LeadingNumbers
 pub mod Values
+pub mod WordProducts

@@ -1,12 +1,13 @@
 //! The parts of a decimal text.
 
-ghost use Rattle.std.specs.Prelude.{◌≡◌, drop, ◌++◌, not, ◌&&◌, Some, None, MatchResult};
+ghost use Rattle.std.specs.Prelude.{◌≡◌, ◌%◌, ◌^◌, drop, ◌++◌, not, ◌&&◌, Some, None, MatchResult};
 ghost use Rattle.apfloat_model.specs.rounding.Bounds.{IsWithin};
 ghost use Rattle.apfloat_model.specs.texts.Digits.{run, after_run, is_decimal, is_empty};
 ghost use Rattle.apfloat_model.specs.texts.Faults.{begins_literal};
 ghost use Rattle.apfloat_model.specs.texts.Literals.{exponent_number};
 ghost use Rattle.apfloat_hex_texts.specs.Saturation.{IsNear, count_bound, far_bound};
 ghost use Rattle.apfloat_decimals.specs.DecimalTexts.{fraction_in, after_fraction, fault_after};
+ghost use Rattle.apfloat_decimals.specs.LeadingDigits.{number_from};
 
 use apfloat_hex_texts::{is_decimal, signed_number};
 use apfloat_model::parse_error::Fault;
@@ -53,6 +54,39 @@ pub fn split_fraction(rest: &[u8]) -> (&[u8], &[u8])
     match rest {
         [b'.', tail @ ..] => split_digits(tail),
         _ => (&[], rest),
+    }
+}
+
+/// The digits at the start of a text, what follows them, and the number that they spell after the digits of `first`,
+/// as far as one word has room for it.
+#[inline(always)]
+pub fn split_number(text: &[u8], first: u64) -> (&[u8], &[u8], u64)
+    ensures digits { result.0.now ≡ run is_decimal text.now }
+    ensures rest { result.1.now ≡ after_run is_decimal text.now }
+    ensures number { result.2 ≡ number_from first (run is_decimal text.now) % 2 ^ 64 }
+{
+    let mut count = 0;
+    let mut number = first;
+    while count < text.len() && is_decimal(text[count]) {
+        number = number
+            .wrapping_mul(10)
+            .wrapping_add(u64::from(text[count] - b'0'));
+        count += 1;
+    }
+    let (digits, rest) = text.split_at(count);
+    (digits, rest, number)
+}
+
+/// The digits after a dot, if the text begins with one, what follows them, and the number that all digits spell.
+#[inline(always)]
+pub fn split_fraction_number(rest: &[u8], first: u64) -> (&[u8], &[u8], u64)
+    ensures digits { result.0.now ≡ fraction_in rest.now }
+    ensures rest { result.1.now ≡ after_fraction rest.now }
+    ensures number { result.2 ≡ number_from first (fraction_in rest.now) % 2 ^ 64 }
+{
+    match rest {
+        [b'.', tail @ ..] => split_number(tail, first),
+        _ => (&[], rest, first),
     }
 }
 
