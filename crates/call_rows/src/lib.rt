@@ -4,6 +4,7 @@
 //! Only the safety of these functions is proved.
 #![tactic(auto)]
 
+mod all_calls;
 mod decimals;
 mod digits;
 mod flags;
@@ -14,5 +15,4 @@ mod magnitudes;
 mod of_type;
 mod operations;
 
-pub use formats::answer_of_call;
-pub use operations::answer_of_operation;
+pub use all_calls::AllCalls;
