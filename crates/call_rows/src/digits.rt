@@ -7,22 +7,21 @@ ghost use Rattle.rustc_apfloat.specs.Lawful.{format_with};
 ghost use Rattle.apfloat_decimals.specs.Decimals.{HasQuadExponents};
 ghost use Rattle.formats_at_run_time.specs.FormatKinds.{IfFormat};
 
-use crate::operations::OperationRequest;
 use decimal_digits::{Written, digit_count, write_digits};
 use formats_at_run_time::{FlaggedFormat, InFormat};
 use rustc_apfloat::ieee::{IeeeFloat, Semantics};
 use std::str;
 use vector_lines::{
-    Answered, CallFault, ExtraField, Operand, OperationCall, RowAnswer, RowFormat, StatusField,
-    Text, ValueField, value_of,
+    Answered, CallFault, ExtraField, Operand, OperationCall, Request, RowAnswer, RowFormat,
+    StatusField, Text, ValueField, value_of,
 };
 
 /// What a call on the digits of a value returns in a format, if that is a built-in one with the flags of the built-in
 /// formats.
-pub(crate) fn digits_in(format: RowFormat, request: OperationRequest) -> Answered {
+pub(crate) fn digits_in(format: RowFormat, call: OperationCall, request: Request) -> Answered {
     match format {
         RowFormat::BuiltIn(format, FlaggedFormat::BuiltIn(_)) => {
-            format.run(DigitsIn { request })
+            format.run(DigitsIn { call, request })
         }
         _ => Err(CallFault::Support),
     }
@@ -31,7 +30,8 @@ pub(crate) fn digits_in(format: RowFormat, request: OperationRequest) -> Answere
 /// A call on the digits of a value.
 #[derive(Drop)]
 struct DigitsIn {
-    request: OperationRequest,
+    call: OperationCall,
+    request: Request,
 }
 
 impl InFormat for DigitsIn {
@@ -43,7 +43,7 @@ impl InFormat for DigitsIn {
         let Some(x) = value_of::<IeeeFloat<S>>(self.request.operands.first) else {
             return Err(CallFault::Operand);
         };
-        match self.request.call {
+        match self.call {
             OperationCall::WriteDigits => written(x, self.request),
             _ => Ok(counted(x)),
         }
@@ -63,7 +63,7 @@ fn counted<S: Semantics>(x: IeeeFloat<S>) -> RowAnswer
 
 /// As many digits of a value as the row asks for.
 #[inline(never)]
-fn written<S: Semantics>(x: IeeeFloat<S>, request: OperationRequest) -> Answered
+fn written<S: Semantics>(x: IeeeFloat<S>, request: Request) -> Answered
     requires { HasQuadExponents (format_of S.Semantics) }
 {
     let Operand::Integer(count) = request.operands.second else {

@@ -13,7 +13,7 @@ use vector_lines::{
 };
 
 /// What a call returns in its formats; `text` is its operand if that is a text.
-pub fn answer_of_call(formats: Formats, request: Request, text: &str) -> Answered {
+pub(crate) fn answer_of_call(formats: Formats, request: Request, text: &str) -> Answered {
     match formats {
         Formats::Pairs => of_type::<DoubleDouble>(request, text),
         Formats::One(format) => in_one_format(format, request, text),

@@ -3,13 +3,12 @@
 //! The operands carry their format with them, so that there is a copy of the code for each target, and not for each
 //! pair of formats.
 
-use crate::operations::OperationRequest;
 use apfloat_ieee::AnyFloat;
 use rustc_apfloat::ieee::{Flagged, IeeeFloat};
 use rustc_apfloat::{Round, StatusAnd};
 use vector_lines::{
-    Answered, CallFault, CallInFormat, FormatOfCall, Operands, Quanta, Returned, RowAnswer,
-    RowFormat, any_value,
+    Answered, CallFault, CallInFormat, FormatOfCall, Operands, Quanta, Request, Returned,
+    RowAnswer, RowFormat, any_value,
 };
 
 /// What an operation on values of a built-in format returns in another.
@@ -17,7 +16,7 @@ pub(crate) fn in_another(
     source: RowFormat,
     target: RowFormat,
     call: FormatOfCall,
-    request: OperationRequest,
+    request: Request,
 ) -> Answered {
     if matches!(source, RowFormat::Other(_)) {
         return Err(CallFault::Support);

@@ -2,7 +2,6 @@
 
 ghost use Rattle.std.specs.Prelude.{◌≤◌};
 
-use crate::operations::OperationRequest;
 use apfloat_comparisons::{
     Extremum, class_of, compare, convert_to_signed, convert_to_signed_exact, convert_to_unsigned,
     convert_to_unsigned_exact, extremum_number_of, extremum_of, integer_log_b, is_canonical,
@@ -13,31 +12,33 @@ use rustc_apfloat::ieee::{Flagged, IeeeFloat};
 use rustc_apfloat::{Float, Round, StatusAnd};
 use vector_lines::{
     Answered, CallFault, CallInFormat, ExtraField, GeneralCall, Operand, OperationCall, OrderCall,
-    Returned, RowAnswer, RowFormat, ToIntegerCall, ValueField, mask, shown, two_values, value_of,
+    Request, Returned, RowAnswer, RowFormat, ToIntegerCall, ValueField, mask, shown, two_values,
+    value_of,
 };
 
 /// What an operation returns in a format.
-pub(crate) fn in_format(format: RowFormat, request: OperationRequest) -> Answered {
-    format.run(InOne { request })
+pub(crate) fn in_format(format: RowFormat, call: OperationCall, request: Request) -> Answered {
+    format.run(InOne { call, request })
 }
 
 /// An operation in one format.
 #[derive(Drop)]
 struct InOne {
-    request: OperationRequest,
+    call: OperationCall,
+    request: Request,
 }
 
 impl CallInFormat for InOne {
     type Output = Answered;
 
     fn made_in<S: Flagged>(self) -> Answered {
-        operated::<S>(self.request)
+        operated::<S>(self.call, self.request)
     }
 }
 
 /// What an operation returns in the format `S`.
-fn operated<S: Flagged>(request: OperationRequest) -> Answered {
-    match request.call {
+fn operated<S: Flagged>(call: OperationCall, request: Request) -> Answered {
+    match call {
         OperationCall::OfOne(GeneralCall::IsCanonicalEncoding) => {
             of_encoding::<S>(request.operands.first)
         }
@@ -45,18 +46,18 @@ fn operated<S: Flagged>(request: OperationRequest) -> Answered {
         OperationCall::ScaleB => scaled::<S>(request),
         OperationCall::ToInteger(call) => to_integer::<S>(call, request),
         OperationCall::Comparison(_, _) | OperationCall::Order(_) | OperationCall::Extremum(_, _) =>
-            of_two::<S>(request),
+            of_two::<S>(call, request),
         _ => Err(CallFault::Support),
     }
 }
 
 /// What an operation on two values returns.
 #[inline(never)]
-fn of_two<S: Flagged>(request: OperationRequest) -> Answered {
+fn of_two<S: Flagged>(call: OperationCall, request: Request) -> Answered {
     let Some((x, y)) = two_values::<IeeeFloat<S>>(request.operands) else {
         return Err(CallFault::Operand);
     };
-    match request.call {
+    match call {
         OperationCall::Comparison(predicate, on_nan) => {
             let answer = compare(predicate, on_nan, x, y);
             Ok(field::<S>(answer.status.and(ValueField::Truth(answer.value))))
@@ -98,7 +99,7 @@ fn in_total_order<S: Flagged>(call: OrderCall, x: IeeeFloat<S>, y: IeeeFloat<S>)
 
 /// What an operation on one value returns.
 #[inline(never)]
-fn of_one<S: Flagged>(call: GeneralCall, request: OperationRequest) -> Answered {
+fn of_one<S: Flagged>(call: GeneralCall, request: Request) -> Answered {
     let Some(x) = value_of::<IeeeFloat<S>>(request.operands.first) else {
         return Err(CallFault::Operand);
     };
@@ -131,7 +132,7 @@ fn of_encoding<S: Flagged>(operand: Operand) -> Answered {
 
 /// A value times a power of two.
 #[inline(never)]
-fn scaled<S: Flagged>(request: OperationRequest) -> Answered {
+fn scaled<S: Flagged>(request: Request) -> Answered {
     let Operand::Integer(power) = request.operands.second else {
         return Err(CallFault::Operands);
     };
@@ -143,7 +144,7 @@ fn scaled<S: Flagged>(request: OperationRequest) -> Answered {
 
 /// A value as an integer.
 #[inline(never)]
-fn to_integer<S: Flagged>(call: ToIntegerCall, request: OperationRequest) -> Answered {
+fn to_integer<S: Flagged>(call: ToIntegerCall, request: Request) -> Answered {
     let Operand::Integer(width) = request.operands.second else {
         return Err(CallFault::Operands);
     };
@@ -200,7 +201,7 @@ fn signed<S: Flagged>(
 }
 
 /// The columns for a value and its flags.
-fn rounded<S: Flagged>(answer: StatusAnd<IeeeFloat<S>>, request: OperationRequest) -> RowAnswer {
+fn rounded<S: Flagged>(answer: StatusAnd<IeeeFloat<S>>, request: Request) -> RowAnswer {
     RowAnswer::of(Returned::Rounded(answer), request.stated)
 }
 

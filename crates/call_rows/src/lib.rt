@@ -4,6 +4,7 @@
 //! Only the safety of these functions is proved.
 #![tactic(auto)]
 
+mod all_calls;
 mod compared_between;
 mod decimals;
 mod digits;
@@ -18,6 +19,4 @@ mod of_type;
 mod on_machine;
 mod operations;
 
-pub use formats::answer_of_call;
-pub use on_machine::answer_on_machine;
-pub use operations::answer_of_operation;
+pub use all_calls::AllCalls;

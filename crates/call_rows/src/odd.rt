@@ -5,7 +5,6 @@ ghost use Rattle.std.specs.Prelude.{◌≤◌, ◌<◌};
 use crate::fewer_digits::in_fewer_digits;
 use crate::formats::answer_of_call;
 use crate::in_another::in_another;
-use crate::operations::OperationRequest;
 use apfloat_odd::{
     from_i128_odd, from_u128_odd, round_to_odd_integral, to_i128_odd, to_odd, to_u128_odd,
 };
@@ -18,7 +17,7 @@ use vector_lines::{
 };
 
 /// What an operation rounded to odd returns in its formats, of which the target is a built-in one.
-pub(crate) fn in_odd(formats: Formats, call: OddCall, request: OperationRequest) -> Answered {
+pub(crate) fn in_odd(formats: Formats, call: OddCall, request: Request) -> Answered {
     match (formats, call) {
         (Formats::One(format), OddCall::Arithmetic(call)) => {
             arithmetic(format, format, call, request)
@@ -43,9 +42,9 @@ fn arithmetic(
     source: RowFormat,
     target: RowFormat,
     call: FormatOfCall,
-    request: OperationRequest,
+    request: Request,
 ) -> Answered {
-    let truncated = OperationRequest {
+    let truncated = Request {
         round: Round::TowardZero,
         ..request
     };
@@ -56,7 +55,7 @@ fn arithmetic(
 }
 
 /// A conversion between formats, rounded to odd.
-fn converted(source: RowFormat, target: RowFormat, request: OperationRequest) -> Answered {
+fn converted(source: RowFormat, target: RowFormat, request: Request) -> Answered {
     let truncated = Request {
         call: Call::Conversion(ConversionCall::ConvertR),
         round: Round::TowardZero,
@@ -107,7 +106,7 @@ impl InFormat for MadeOdd {
 #[derive(Drop)]
 struct InOdd {
     call: OddCall,
-    request: OperationRequest,
+    request: Request,
 }
 
 impl InFlaggedFormat for InOdd {

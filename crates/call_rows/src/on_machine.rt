@@ -8,7 +8,6 @@ ghost use Rattle.std.specs.Prelude.{◌<◌, ◌≤◌};
 
 use crate::formats::answer_of_call;
 use crate::in_one::in_format;
-use crate::operations::OperationRequest;
 use apfloat_machines::{
     Flush, Machine, MinimumRule, default_nan, flushed, greatest, least, settled,
     settled_conversion, settled_fused, settled_signed, settled_unary, settled_unsigned,
@@ -77,15 +76,9 @@ fn plain_answer(target: MachineFormat, request: Request) -> Answered {
 /// The same of rounding to an integral value without INEXACT.
 fn integral_answer(target: MachineFormat, call: OperationCall, request: Request) -> Answered {
     match call {
-        OperationCall::OfOne(GeneralCall::RoundToIntegralIn) => in_format(
-            target.with_flags(),
-            OperationRequest {
-                call,
-                round: request.round,
-                operands: request.operands,
-                stated: None,
-            },
-        ),
+        OperationCall::OfOne(GeneralCall::RoundToIntegralIn) => {
+            in_format(target.with_flags(), call, request)
+        }
         _ => Err(CallFault::Support),
     }
 }

@@ -7,46 +7,30 @@ use crate::flags::flags_of;
 use crate::in_another::in_another;
 use crate::in_one::in_format;
 use crate::odd::in_odd;
-use rustc_apfloat::Round;
-use vector_lines::{Answered, CallFault, Formats, Operands, OperationCall, Quanta, Request};
-
-/// The operation of a row, in one mode.
-#[derive(Clone, Copy)]
-pub(crate) struct OperationRequest {
-    /// The operation.
-    pub(crate) call: OperationCall,
-    /// The mode, which is ignored if the operation takes none.
-    pub(crate) round: Round,
-    /// The operands.
-    pub(crate) operands: Operands,
-    /// The value that the row states, if it is one of a format without bits.
-    pub(crate) stated: Option<Quanta>,
-}
+use vector_lines::{Answered, CallFault, Formats, OperationCall, Request};
 
 /// What an operation returns in its formats.
-pub fn answer_of_operation(formats: Formats, call: OperationCall, request: Request) -> Answered {
-    let asked = OperationRequest {
-        call,
-        round: request.round,
-        operands: request.operands,
-        stated: request.stated,
-    };
+pub(crate) fn answer_of_operation(
+    formats: Formats,
+    call: OperationCall,
+    request: Request,
+) -> Answered {
     match (formats, call) {
-        (_, OperationCall::Odd(call)) => in_odd(formats, call, asked),
+        (_, OperationCall::Odd(call)) => in_odd(formats, call, request),
         (Formats::One(format), OperationCall::WriteDigits | OperationCall::DigitCount) => {
-            digits_in(format, asked)
+            digits_in(format, call, request)
         }
-        (Formats::One(format), _) => in_format(format, asked),
+        (Formats::One(format), _) => in_format(format, call, request),
         (Formats::Between(source, target), OperationCall::InAnother(call)) => {
-            in_another(source, target, call, asked)
+            in_another(source, target, call, request)
         }
         (Formats::ToFewerDigits(target), OperationCall::InAnother(call)) => {
-            in_fewer_digits(target, call, Some(asked.round), asked.operands)
+            in_fewer_digits(target, call, Some(request.round), request.operands)
         }
         (Formats::Between(source, target), OperationCall::Comparison(predicate, on_nan)) => {
-            compared_between(source, target, predicate, on_nan, asked.operands)
+            compared_between(source, target, predicate, on_nan, request.operands)
         }
-        (Formats::OfFlags, OperationCall::OfFlags(call)) => flags_of(call, asked.operands),
+        (Formats::OfFlags, OperationCall::OfFlags(call)) => flags_of(call, request.operands),
         _ => Err(CallFault::Support),
     }
 }

@@ -4,11 +4,10 @@
 //! `--help`, describe the rows and how they are checked.
 #![tactic(auto)]
 
-mod all_calls;
 #[cfg(test)]
 mod tests;
 
-use crate::all_calls::AllCalls;
+use call_rows::AllCalls;
 use commands::words_of_system;
 use std::io::IsTerminal;
 use std::process::ExitCode;

@@ -1,11 +1,12 @@
 //! The aliases of the formats: a sum in each, from bits to bits, is that of the format with the constants that the
 //! specification gives under its name. So an alias of another format would not be proved.
 
-ghost use Rattle.rustc_apfloat.specs.Formats.{bfloat_constants, double_constants, e4m3fn_constants, e4m3fnuz_constants, e5m2_constants, half_constants, quad_constants, single_constants, x87_constants};
+ghost use Rattle.rustc_apfloat.specs.Formats.{bfloat_constants, double_constants, e4m3_constants, e4m3b11fnuz_constants, e4m3fn_constants, e4m3fnuz_constants, e5m2_constants, e5m2fnuz_constants, half_constants, quad_constants, single_constants, tf32_constants, x87_constants};
 ghost use Rattle.conformance.specs.Aliases.{IsSumOfBits};
 
 use rustc_apfloat::ieee::{
-    BFloat, Double, Float8E4M3FN, Float8E4M3FNUZ, Float8E5M2, Half, Quad, Single, X87DoubleExtended,
+    BFloat, Double, Float8E4M3, Float8E4M3B11FNUZ, Float8E4M3FN, Float8E4M3FNUZ, Float8E5M2,
+    Float8E5M2FNUZ, FloatTF32, Half, Quad, Single, X87DoubleExtended,
 };
 use rustc_apfloat::{Float, Round, StatusAnd};
 
@@ -70,6 +71,38 @@ pub fn float8_e4m3fnuz_sum(x: u128, y: u128, mode: Round) -> StatusAnd<u128>
     ensures { IsSumOfBits e4m3fnuz_constants mode x y result }
 {
     let sum = Float8E4M3FNUZ::from_bits(x).add_r(Float8E4M3FNUZ::from_bits(y), mode);
+    sum.status.and(sum.value.to_bits())
+}
+
+/// A sum in `Float8E4M3`.
+pub fn float8_e4m3_sum(x: u128, y: u128, mode: Round) -> StatusAnd<u128>
+    ensures { IsSumOfBits e4m3_constants mode x y result }
+{
+    let sum = Float8E4M3::from_bits(x).add_r(Float8E4M3::from_bits(y), mode);
+    sum.status.and(sum.value.to_bits())
+}
+
+/// A sum in `Float8E5M2FNUZ`.
+pub fn float8_e5m2fnuz_sum(x: u128, y: u128, mode: Round) -> StatusAnd<u128>
+    ensures { IsSumOfBits e5m2fnuz_constants mode x y result }
+{
+    let sum = Float8E5M2FNUZ::from_bits(x).add_r(Float8E5M2FNUZ::from_bits(y), mode);
+    sum.status.and(sum.value.to_bits())
+}
+
+/// A sum in `Float8E4M3B11FNUZ`.
+pub fn float8_e4m3b11fnuz_sum(x: u128, y: u128, mode: Round) -> StatusAnd<u128>
+    ensures { IsSumOfBits e4m3b11fnuz_constants mode x y result }
+{
+    let sum = Float8E4M3B11FNUZ::from_bits(x).add_r(Float8E4M3B11FNUZ::from_bits(y), mode);
+    sum.status.and(sum.value.to_bits())
+}
+
+/// A sum in `FloatTF32`.
+pub fn float_tf32_sum(x: u128, y: u128, mode: Round) -> StatusAnd<u128>
+    ensures { IsSumOfBits tf32_constants mode x y result }
+{
+    let sum = FloatTF32::from_bits(x).add_r(FloatTF32::from_bits(y), mode);
     sum.status.and(sum.value.to_bits())
 }
 

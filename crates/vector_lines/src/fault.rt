@@ -37,7 +37,7 @@ impl<'a> CallRow<'a> {
             ),
             CallFault::Flags(form) => RowError::Word("no flags of the call", self.status, form),
             CallFault::Extra(form) => {
-                RowError::Word("nothing that the call answers", self.extra, form)
+                RowError::Word("nothing that the call returns", self.extra, form)
             }
             CallFault::Value(form) => RowError::Word("no value of the call", self.value, form),
             CallFault::ValueBits(width) => bits_error("no value of the call", self.value, width),

@@ -38,19 +38,16 @@ mod testfloat;
 mod text;
 mod widths;
 
-pub use answer::{ExtraField, Returned, RowAnswer, StatusField, ValueField, status_named};
+pub use answer::{ExtraField, Returned, RowAnswer, StatusField, ValueField};
 pub use call::{
     AssigningOperator, Call, Constant, ConversionCall, DecimalCall, FormatCall, IntegerCall,
     OneValueCall, Property, TextCall, TwoValuesCall, WordCall,
 };
 pub use call_fault::CallFault;
 pub use check::{Check, Lines, Tally, Task};
-pub use columns::{Columns, LineCall};
 pub use failure::Failure;
 pub use fewer_digits::FewerDigits;
-pub use form::Form;
 pub use formats::Formats;
-pub use fpgen::{Fpgen, FpgenTest};
 pub use machine_format::MachineFormat;
 pub use operands::{Operand, Operands, any_value, two_values, value_of};
 pub use operations::{
@@ -59,8 +56,6 @@ pub use operations::{
 pub use program::{check_lines, run};
 pub use quanta::Quanta;
 pub use request::{Answered, Calls, Request};
-pub use row_error::{RowError, bits_error};
 pub use row_format::{CallInFormat, OtherFormat, RowFormat};
-pub use testfloat::TestFloat;
 pub use text::{Text, shown};
 pub use widths::mask;

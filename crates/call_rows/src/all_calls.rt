@@ -1,6 +1,8 @@
 //! The calls of all rows.
 
-use call_rows::{answer_of_call, answer_of_operation, answer_on_machine};
+use crate::formats::answer_of_call;
+use crate::on_machine::answer_on_machine;
+use crate::operations::answer_of_operation;
 use vector_lines::{Answered, Call, Calls, Formats, Request};
 
 /// What makes the call of each row.
