@@ -31,8 +31,15 @@ pub fn answer_of_operation(formats: Formats, call: OperationCall, request: Reque
         operands: request.operands,
         stated: request.stated,
     };
+    match call {
+        OperationCall::Odd(call) => in_odd(formats, call, asked),
+        _ => in_formats(formats, call, asked),
+    }
+}
+
+/// What an operation that is not rounded to odd returns in its formats.
+fn in_formats(formats: Formats, call: OperationCall, asked: OperationRequest) -> Answered {
     match (formats, call) {
-        (_, OperationCall::Odd(call)) => in_odd(formats, call, asked),
         (Formats::One(format), OperationCall::WriteDigits | OperationCall::DigitCount) => {
             digits_in(format, asked)
         }
