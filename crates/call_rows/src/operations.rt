@@ -15,8 +15,15 @@ pub(crate) fn answer_of_operation(
     call: OperationCall,
     request: Request,
 ) -> Answered {
+    match call {
+        OperationCall::Odd(call) => in_odd(formats, call, request),
+        _ => in_formats(formats, call, request),
+    }
+}
+
+/// What an operation that is not rounded to odd returns in its formats.
+fn in_formats(formats: Formats, call: OperationCall, request: Request) -> Answered {
     match (formats, call) {
-        (_, OperationCall::Odd(call)) => in_odd(formats, call, request),
         (Formats::One(format), OperationCall::WriteDigits | OperationCall::DigitCount) => {
             digits_in(format, call, request)
         }
