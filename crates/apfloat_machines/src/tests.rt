@@ -559,6 +559,17 @@ fn flushing(rt: HostRuntime) {
     }
 }
 
+/// The product of two values on x86, flushed.
+fn product_on_x86<S: Flagged>(x: u128, y: u128) -> (u128, u8)
+    requires { S.PRECISION < S.BITS }
+{
+    let x = IeeeFloat::<S>::from_bits(x);
+    let y = IeeeFloat::<S>::from_bits(y);
+    let product = flushed(Flush::X86, x.wide_mul_r(y, EVEN));
+    let answer = settled(Machine::X86, x, y, product);
+    (answer.value.to_bits(), answer.status.bits())
+}
+
 /// On x86 with results flushed: a tiny product, an infinity times a zero, a signaling NaN.
 #[test]
 fn flushed_on_a_machine(rt: HostRuntime) {
@@ -568,22 +579,8 @@ fn flushed_on_a_machine(rt: HostRuntime) {
         (0x7fa00000, 0x00000001, 0x7fe00000, 0x01),
     ];
     for (x, y, value, flags) in rows {
-        let (a, b) = (
-            IeeeFloat::<IeeeFlags<SingleS>>::from_bits(x),
-            IeeeFloat::from_bits(y),
-        );
-        let answer = settled(
-            Machine::X86,
-            a,
-            b,
-            flushed(Flush::X86, a.wide_mul_r(b, EVEN)),
-        );
-        same(
-            &rt,
-            (answer.value.to_bits(), answer.status.bits()),
-            (value, flags),
-            (x, y),
-        );
+        let got = product_on_x86::<IeeeFlags<SingleS>>(x, y);
+        same(&rt, got, (value, flags), (x, y));
     }
 }
 
