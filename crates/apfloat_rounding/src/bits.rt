@@ -1,6 +1,7 @@
 //! Encoding and decoding. From the top, an encoding has the sign, the biased exponent and the trailing significand.
 
-ghost use Rattle.std.specs.Prelude.{◌≡◌, ℕ, ◌+◌, ◌-◌, ◌*◌, ◌^◌, ◌<◌, ◌≤◌, true, false, if◌then◌else◌};
+ghost use Rattle.std.specs.Prelude.{◌≡◌, ℕ, ◌+◌, ◌-◌, ◌*◌, ◌/◌, ◌%◌, ◌^◌, ◌<◌, ◌≤◌, ltb, ◌&&◌, true, false};
+ghost use Rattle.std.specs.Prelude.{if◌then◌else◌};
 ghost use Rattle.apfloat_model.specs.formats.Format.{largest, smallest_normalized};
 ghost use Rattle.apfloat_model.specs.rounding.Rounding.{zero_sign};
 ghost use Rattle.apfloat_model.specs.bits.Layout.{all_ones, trailing_bits, fields_of, implied_number, implied_datum};
@@ -12,7 +13,7 @@ ghost use Rattle.apfloat_rounding.specs.Stored.{IsStored, IsNormal, IsNan, quant
 ghost use Rattle.apfloat_rounding.specs.Encoded.{layout_at, fields_at};
 
 use crate::shape::Shape;
-use crate::unpacked::{Unpacked, from_quanta, infinity_of, nan_of};
+use crate::unpacked::{Unpacked, from_full_quanta, from_quanta, infinity_of, nan_of};
 use apfloat_model::{Category, NonfiniteBehavior};
 use apfloat_words::{low_digits, power_of_two, steps_between};
 
@@ -31,7 +32,7 @@ pub struct Fields {
     /// Whether the sign bit is set.
     pub negative: bool,
     /// The exponent minus the least one, plus 1; 0 for zeros and denormal values.
-    pub biased_exponent: u128,
+    pub biased_exponent: u32,
     /// The digits of the significand that the encoding contains.
     pub trailing: u128,
 }
@@ -58,6 +59,30 @@ fn ones(width: u32) -> u128
     power_of_two(width) - 1
 }
 
+/// The biased exponent that is all ones.
+#[inline(always)]
+fn greatest_exponent(shape: Shape, widths: Widths) -> u32
+    requires { IsInterchange (format_at shape) (layout_at widths) }
+    ensures { result ≡ all_ones widths.exponent_bits }
+{
+    ones(widths.exponent_bits) as u32
+}
+
+/// The biased exponent in an encoding. Where the encoding fits in one word, it is cut out of that word.
+#[inline(always)]
+fn biased_exponent(shape: Shape, widths: Widths, bits: u128) -> u32
+    requires { IsInterchange (format_at shape) (layout_at widths) }
+    ensures { result ≡ bits / 2 ^ trailing_bits (format_at shape) % 2 ^ widths.exponent_bits }
+{
+    let width = trailing_width(shape);
+    let upper = if widths.bits <= 64 {
+        u128::from(low_digits(bits, 64) as u64 >> width)
+    } else {
+        bits >> width
+    };
+    low_digits(upper, widths.exponent_bits) as u32
+}
+
 /// The fields of an encoding; bits above the sign are ignored.
 #[inline(always)]
 fn split(shape: Shape, widths: Widths, bits: u128) -> Fields
@@ -67,7 +92,7 @@ fn split(shape: Shape, widths: Widths, bits: u128) -> Fields
     let width = trailing_width(shape);
     Fields {
         negative: low_digits(bits >> (widths.bits - 1), 1) == 1,
-        biased_exponent: low_digits(bits >> width, widths.exponent_bits),
+        biased_exponent: biased_exponent(shape, widths, bits),
         trailing: low_digits(bits, width),
     }
 }
@@ -87,8 +112,29 @@ fn join(shape: Shape, widths: Widths, fields: Fields) -> u128
     requires within { AreWithin (format_at shape) (layout_at widths) (fields_at fields) }
     ensures { result ≡ bits_of_fields (format_at shape) (layout_at widths) (fields_at fields) }
 {
-    let upper = (sign_bit(fields.negative) << widths.exponent_bits) | fields.biased_exponent;
+    let upper = (sign_bit(fields.negative) << widths.exponent_bits)
+        | u128::from(fields.biased_exponent);
     (upper << trailing_width(shape)) | fields.trailing
+}
+
+/// A number whose biased exponent implies the integer bit.
+#[inline(always)]
+fn normal_number(shape: Shape, widths: Widths, fields: Fields) -> Unpacked
+    requires interchange { IsInterchange (format_at shape) (layout_at widths) }
+    requires biased { fields.biased_exponent < 2 ^ widths.exponent_bits }
+    requires implies { 0 < fields.biased_exponent }
+    requires trailing { fields.trailing < smallest_normalized (format_at shape) }
+    requires within { (smallest_normalized (format_at shape) + fields.trailing) * 2
+        ^ (fields.biased_exponent - 1) ≤ largest (format_at shape) }
+    ensures stored { IsStored shape result }
+    ensures datum { datum_at shape result ≡ implied_number (format_at shape) (fields_at fields) }
+{
+    from_full_quanta(
+        shape,
+        fields.negative,
+        shape.integer_bit() + fields.trailing,
+        fields.biased_exponent - 1,
+    )
 }
 
 /// A number whose integer bit is implied by its biased exponent.
@@ -108,13 +154,17 @@ fn implied_number(shape: Shape, widths: Widths, fields: Fields) -> Unpacked
     if fields.biased_exponent == 0 {
         from_quanta(shape, fields.negative, fields.trailing, 0)
     } else {
-        from_quanta(
-            shape,
-            fields.negative,
-            shape.integer_bit() + fields.trailing,
-            (fields.biased_exponent - 1) as u32,
-        )
+        normal_number(shape, widths, fields)
     }
+}
+
+/// Whether a biased exponent is neither 0 nor the greatest one, by one comparison.
+#[inline(always)]
+fn is_between(biased_exponent: u32, greatest: u32) -> bool
+    requires { 0 < greatest }
+    ensures { result ≡ ltb 0 biased_exponent && ltb biased_exponent greatest }
+{
+    biased_exponent.wrapping_sub(1) < greatest - 1
 }
 
 /// A value whose integer bit is implied.
@@ -127,10 +177,13 @@ fn implied_value(shape: Shape, widths: Widths, fields: Fields) -> Unpacked
     ensures datum { datum_at shape result
         ≡ implied_datum shape.nonfinite (format_at shape) (layout_at widths) (fields_at fields) }
 {
-    let is_greatest = fields.biased_exponent == ones(widths.exponent_bits);
+    let greatest = greatest_exponent(shape, widths);
+    let is_greatest = fields.biased_exponent == greatest;
     match shape.nonfinite {
         NonfiniteBehavior::IEEE754 => {
-            if !is_greatest {
+            if is_between(fields.biased_exponent, greatest) {
+                normal_number(shape, widths, fields)
+            } else if fields.biased_exponent == 0 {
                 implied_number(shape, widths, fields)
             } else if fields.trailing == 0 {
                 infinity_of(shape, fields.negative)
@@ -168,11 +221,11 @@ fn written_number(shape: Shape, widths: Widths, fields: Fields) -> Unpacked
     if fields.biased_exponent == 0 {
         from_quanta(shape, fields.negative, fields.trailing, 0)
     } else if shape.integer_bit() <= fields.trailing {
-        from_quanta(
+        from_full_quanta(
             shape,
             fields.negative,
             fields.trailing,
-            (fields.biased_exponent - 1) as u32,
+            fields.biased_exponent - 1,
         )
     } else {
         nan_of(shape, fields.negative, fields.trailing)
@@ -189,7 +242,7 @@ fn written_value(shape: Shape, widths: Widths, fields: Fields) -> Unpacked
     ensures datum { datum_at shape result
         ≡ written_datum (format_at shape) (layout_at widths) (fields_at fields) }
 {
-    if fields.biased_exponent != ones(widths.exponent_bits) {
+    if fields.biased_exponent != greatest_exponent(shape, widths) {
         written_number(shape, widths, fields)
     } else if fields.trailing == shape.integer_bit() {
         infinity_of(shape, fields.negative)
@@ -230,7 +283,7 @@ fn fields_of_number(shape: Shape, widths: Widths, x: Unpacked) -> Fields
     }
     Fields {
         negative: x.negative,
-        biased_exponent: u128::from(steps_between(x.exponent, shape.min_exp)) + 1,
+        biased_exponent: steps_between(x.exponent, shape.min_exp) + 1,
         trailing: if shape.explicit_integer_bit {
             x.significand
         } else {
@@ -255,7 +308,7 @@ fn fields_of_nan(shape: Shape, widths: Widths, x: Unpacked) -> Fields
         },
         _ => Fields {
             negative: x.negative,
-            biased_exponent: ones(widths.exponent_bits),
+            biased_exponent: greatest_exponent(shape, widths),
             trailing: x.significand,
         },
     }
@@ -277,7 +330,7 @@ fn fields_of_value(shape: Shape, widths: Widths, x: Unpacked) -> Fields
         },
         Category::Infinity => Fields {
             negative: x.negative,
-            biased_exponent: ones(widths.exponent_bits),
+            biased_exponent: greatest_exponent(shape, widths),
             trailing: if shape.explicit_integer_bit {
                 shape.integer_bit()
             } else {

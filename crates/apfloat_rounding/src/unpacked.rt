@@ -137,6 +137,20 @@ pub fn infinity_of(shape: Shape, negative: bool) -> Unpacked
     }
 }
 
+/// A significand moved up by so many digits, in one word where all digits of the format fit in it.
+#[inline(always)]
+fn moved_up(shape: Shape, significand: u128, places: u32) -> u128
+    requires fits { significand * 2 ^ places < 2 ^ shape.precision }
+    requires short { places < shape.precision }
+    ensures { result ≡ significand * 2 ^ places }
+{
+    if shape.precision <= 64 {
+        u128::from((significand as u64) << places)
+    } else {
+        significand << places
+    }
+}
+
 /// `significand * 2^place` quanta with that sign.
 #[inline(always)]
 pub fn from_quanta(shape: Shape, negative: bool, significand: u128, place: u32) -> Unpacked
@@ -152,7 +166,7 @@ pub fn from_quanta(shape: Shape, negative: bool, significand: u128, place: u32) 
     }
     let shift = shape.precision - digits(significand);
     Unpacked {
-        significand: significand << shift,
+        significand: moved_up(shape, significand, shift),
         exponent: exponent_at(shape.min_exp, place, shift),
         category: Category::Normal,
         negative,

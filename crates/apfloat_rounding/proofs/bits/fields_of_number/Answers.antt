@@ -70,7 +70,9 @@ steps_between-requires-2-clause-low c =
     }
 
 pub overflow_add-result : goal.overflow_add-result
-overflow_add-result c = omega arith
+overflow_add-result c =
+    let o = c.requires.normal.operand in
+    record { fits = omega (arith, ints, c.args.shape.parameters, o, c.steps_between-2.ensures) }
 
 pub overflow_sub-result : goal.overflow_sub-result
 overflow_sub-result c = omega (arith, c.requires.normal.operand.full)
@@ -98,15 +100,15 @@ pub returns-then-shape : goal.returns-then-shape
 returns-then-shape c =
     let d : pos c.steps_between-2.result ≡ c.args.x.exponent -ℤ c.args.shape.min_exp =
     omega (arith, ints, c.requires.normal.operand) in
-    rw c.from.ensures (high c.args.shape c.args.widths c.args.x.negative c.args.x.significand
+    high c.args.shape c.args.widths c.args.x.negative c.args.x.significand
     c.steps_between-2.result _ c.args.x.exponent c.requires.interchange c.requires.normal d
-    (hidden_none _ _ _ c.if-shape.true))
+    (hidden_none _ _ _ c.if-shape.true)
 
 pub returns-else-shape : goal.returns-else-shape
 returns-else-shape c =
     let d : pos c.steps_between-2.result ≡ c.args.x.exponent -ℤ c.args.shape.min_exp =
     omega (arith, ints, c.requires.normal.operand) in
-    rw (c.from.ensures, c.integer_bit.ensures)
+    rw c.integer_bit.ensures
     (high c.args.shape c.args.widths c.args.x.negative c.args.x.significand c.steps_between-2.result _
     c.args.x.exponent c.requires.interchange c.requires.normal d
     (hidden_bit _ _ _ c.if-shape.false))

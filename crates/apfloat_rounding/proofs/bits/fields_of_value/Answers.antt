@@ -27,7 +27,7 @@ returns-then-shape c =
     let l = layout_at c.args.widths in
     let z = rw c.in-Infinity.is at c.requires.stored in
     let h = infinity_fields_of f l c.args.x.negative c.requires.interchange z.kind in
-    rw (c.in-Infinity.is, c.ones.ensures, c.integer_bit.ensures)
+    rw (c.in-Infinity.is, c.greatest_exponent.ensures, c.integer_bit.ensures)
     (subst (λ (x : ℕ). AreFieldsOf f l (fields_with c.args.x.negative (all_ones l.exponent_bits) x)
     (infinite c.args.x.negative)) (written _ _ c.if-shape.true) h)
 
@@ -37,6 +37,6 @@ returns-else-shape c =
     let l = layout_at c.args.widths in
     let z = rw c.in-Infinity.is at c.requires.stored in
     let h = infinity_fields_of f l c.args.x.negative c.requires.interchange z.kind in
-    rw (c.in-Infinity.is, c.ones.ensures)
+    rw (c.in-Infinity.is, c.greatest_exponent.ensures)
     (subst (λ (x : ℕ). AreFieldsOf f l (fields_with c.args.x.negative (all_ones l.exponent_bits) x)
     (infinite c.args.x.negative)) (unwritten _ _ c.if-shape.false) h)

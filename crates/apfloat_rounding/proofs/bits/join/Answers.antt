@@ -27,6 +27,7 @@ returns c =
       c.sign_bit.ensures,
       c.trailing_width.ensures.value,
       a,
+      c.from.ensures,
       or_shifted s e c.args.fields.biased_exponent c.requires.within.biased_exponent,
       b,
       or_shifted (s * 2 ^ e + c.args.fields.biased_exponent) t c.args.fields.trailing c.requires.within.trailing,

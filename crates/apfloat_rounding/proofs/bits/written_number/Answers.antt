@@ -11,22 +11,22 @@ from_quanta-requires-clause-near c = omega arith
 pub from_quanta-requires-clause-fits : goal.from_quanta-requires-clause-fits
 from_quanta-requires-clause-fits c = rw c.requires.explicit at c.requires.within.trailing
 
-pub from_quanta-requires-then-integer_bit-fields-clause-fits :
-    goal.from_quanta-requires-then-integer_bit-fields-clause-fits
-from_quanta-requires-then-integer_bit-fields-clause-fits c = rw c.requires.explicit at c.requires.within.trailing
+pub from_full_quanta-requires-clause-fits :
+    goal.from_full_quanta-requires-clause-fits
+from_full_quanta-requires-clause-fits c = rw c.requires.explicit at c.requires.within.trailing
 
 pub returns-then-fields-eq0-clause-stored : goal.returns-then-fields-eq0-clause-stored
 returns-then-fields-eq0-clause-stored c = c.from_quanta.ensures.stored
 
 pub returns-then-integer_bit-fields-clause-stored : goal.returns-then-integer_bit-fields-clause-stored
-returns-then-integer_bit-fields-clause-stored c = c.from_quanta-then-integer_bit-fields.ensures.stored
+returns-then-integer_bit-fields-clause-stored c = c.from_full_quanta.ensures.stored
 
 pub returns-else-integer_bit-fields-clause-stored : goal.returns-else-integer_bit-fields-clause-stored
 returns-else-integer_bit-fields-clause-stored c = c.nan_of.ensures.stored
 
-pub from_quanta-requires-then-integer_bit-fields-clause-within :
-    goal.from_quanta-requires-then-integer_bit-fields-clause-within
-from_quanta-requires-then-integer_bit-fields-clause-within c =
+pub from_full_quanta-requires-clause-within :
+    goal.from_full_quanta-requires-clause-within
+from_full_quanta-requires-clause-within c =
     let k = explicit_kind c.args.shape.nonfinite c.args.shape.explicit_integer_bit c.requires.interchange.explicit
     c.requires.explicit in
     let w : c.args.fields.trailing < 2 ^ c.args.shape.precision =

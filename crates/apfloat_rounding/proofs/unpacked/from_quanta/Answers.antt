@@ -1,8 +1,8 @@
-use Rattle.std.proofs.Common.{rules, ◌-◌, ◌*◌, ◌%◌, ◌^◌, ◌<◌, sym, arith, to_z, of_z, w32}
+use Rattle.std.proofs.Common.{rules, ◌-◌, ◌*◌, ◌^◌, ◌<◌, sym, arith, to_z, of_z, w32}
 use Rattle.std.proofs.lemmas.Int.{ints, to_z-of_z}
 use Rattle.std.proofs.Math.Nat.{mul-pos}
 use Rattle.std.proofs.lemmas.Nat.{pow_pos}
-use Rattle.apfloat_model.proofs.rounding.KeptDigits.{digits_le, shift_whole}
+use Rattle.apfloat_model.proofs.rounding.KeptDigits.{digits_le, fits_shifted}
 use Rattle.apfloat_model.proofs.rounding.Deliveries.{signed_some}
 use Rattle.apfloat_rounding.proofs.StoredNumbers.{IsMovedUp, moved_up_quanta, moved_up_normal}
 use Rattle.apfloat_rounding.proofs.unpacked.from_quanta.Goals as goal
@@ -11,35 +11,40 @@ pub overflow_sub-shift : goal.overflow_sub-shift
 overflow_sub-shift c =
     digits_le c.args.significand c.digits.result c.args.shape.precision c.requires.fits c.digits.ensures.full
 
-moved_up : (state : goal.After-exponent_at)
+is_moved_up : (state : goal.After-exponent_at)
     → IsMovedUp state.args.shape state.args.significand state.digits.result state.args.place
-    (state.args.significand * 2 ^ (state.args.shape.precision - state.digits.result) % 2 ^ 128)
+    state.moved_up.result
     (to_z w32 (of_z w32 state.exponent_at.result))
-moved_up c =
+is_moved_up c =
     let l = digits_le c.args.significand c.digits.result c.args.shape.precision c.requires.fits
     c.digits.ensures.full in
-    let j = c.args.shape.precision - c.digits.result in
     let e = to_z-of_z w32 c.exponent_at.result (record { sfits = c.exponent_at.type_inv }) in
     record {
       fits = c.requires.fits;
       some = c.if-significand-eq0.false;
       below = c.digits.ensures.below;
       full = c.digits.ensures.full;
-      moved = sym (shift_whole c.args.shape.precision c.args.significand c.digits.result j 0 j 0
-          c.args.shape.parameters.precision_high c.digits.ensures.below (omega arith) (omega arith));
+      moved = c.moved_up.ensures;
       exponent = omega (arith, ints);
       same = omega (arith, ints);
       within = c.requires.within;
     }
 
+pub moved_up-requires-clause-fits : goal.moved_up-requires-clause-fits
+moved_up-requires-clause-fits c =
+    let l = digits_le c.args.significand c.digits.result c.args.shape.precision c.requires.fits
+    c.digits.ensures.full in
+    fits_shifted c.args.significand c.digits.result (c.args.shape.precision - c.digits.result)
+    c.args.shape.precision c.digits.ensures.below (omega (arith, l))
+
 pub returns-clause-stored : goal.returns-clause-stored
 returns-clause-stored c =
-    moved_up_normal c.args.shape c.args.significand c.digits.result c.args.place _ _ (moved_up c)
+    moved_up_normal c.args.shape c.args.significand c.digits.result c.args.place _ _ (is_moved_up c)
 
 pub returns-clause-datum : goal.returns-clause-datum
 returns-clause-datum c =
     let p : 0 < c.args.significand * 2 ^ c.args.place = mul-pos (omega arith) (pow_pos c.args.place) in
-    rw (moved_up_quanta c.args.shape c.args.significand c.digits.result c.args.place _ _ (moved_up c))
+    rw (moved_up_quanta c.args.shape c.args.significand c.digits.result c.args.place _ _ (is_moved_up c))
     (sym (signed_some c.args.shape.nonfinite c.args.negative (c.args.significand * 2 ^ c.args.place) p))
 
 pub returns-then-significand-eq0-clause-datum : goal.returns-then-significand-eq0-clause-datum
