@@ -1,7 +1,7 @@
 //! Operations of IEEE 754-2019 that `Float` lacks, for every format: the 22 comparison predicates (5.6.1, 5.11),
-//! `total_order` (5.10), `class_of` and the other general operations on one value (5.7.2), the operations on flags
-//! (5.7.4), minima and maxima with their flags (9.6), logB with its flags (5.3.3), rounding to integral values without
-//! INEXACT (5.9), and conversions to integers with it and without it (5.8).
+//! `total_order` (5.10), `class_of` and the other general operations on one value (5.7.2), the conformance predicates
+//! (5.7.1), the operations on flags (5.7.4), minima and maxima with their flags (9.6), logB with its flags (5.3.3),
+//! rounding to integral values without INEXACT (5.9), and conversions to integers with it and without it (5.8).
 //!
 //! `<`, `==` and `partial_cmp` of `IeeeFloat` return no status; the predicates here do.
 #![tactic(auto)]
@@ -17,6 +17,7 @@ mod tests;
 mod theorems;
 mod total_orders;
 mod two_formats;
+mod versions;
 mod whole_numbers;
 
 pub use classes::{Class, class_of, is_canonical, is_canonical_encoding, radix};
@@ -48,6 +49,7 @@ pub use theorems::{
 };
 pub use total_orders::{total_cmp, total_order, total_order_mag};
 pub use two_formats::{compare_between, relation_between};
+pub use versions::{is_754_version_1985, is_754_version_2008, is_754_version_2019};
 pub use whole_numbers::{
     convert_to_signed, convert_to_signed_exact, convert_to_unsigned, convert_to_unsigned_exact,
     round_to_integral_in,

@@ -27,6 +27,7 @@ use crate::{ExpInt, Round, Status, StatusAnd};
 use core::cmp::Ordering;
 
 pub use library::{Class, Extremum, OnNan, Predicate, Relations};
+pub use library::{is_754_version_1985, is_754_version_2008, is_754_version_2019};
 
 same_types! { Class, Extremum, OnNan, Predicate }
 
