@@ -82,8 +82,10 @@ def main():
     print("\nuse crate::tests::ModeSums;")
     for form in ELEMENTS:
         try_counts(form)
-        sums = ", ".join(f"0x{checksum(form, mode, i % 2 == 1):x}" for i, mode in enumerate(MODES))
-        print(f"\npub(crate) static BY_MODE_{form.name}: ModeSums = [{sums}];")
+        print(f"\npub(crate) static BY_MODE_{form.name}: ModeSums = [")
+        for i, mode in enumerate(MODES):
+            print(f"    0x{checksum(form, mode, i % 2 == 1):x},")
+        print("];")
 
 
 if __name__ == "__main__":

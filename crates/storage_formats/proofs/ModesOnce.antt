@@ -8,7 +8,6 @@ use Rattle.apfloat_model.proofs.general.Choices.{match_false}
 use Rattle.apfloat_model.proofs.rounding.Neighbours.{below_unique, above_unique}
 use Rattle.storage_formats.specs.declared.modes.ConversionRound.{ConversionRound}
 use Rattle.storage_formats.specs.declared.modes.ConversionRound.TheVariants.{Ieee}
-
 use Rattle.storage_formats.specs.Conversions.{IsStoredNumber, saturated_value}
 use Rattle.storage_formats.specs.ModeConversions.{IsStoredBy}
 use Rattle.storage_formats.specs.ModeLaws.{IsIntoByOnce, IsIntoOfModel}

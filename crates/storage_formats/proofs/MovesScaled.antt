@@ -20,7 +20,7 @@ zero_scaled : (x w : ℕ) → 0 < w → eqb (x * w) 0 ≡ eqb x 0
 zero_scaled zero w p = eq-eqb (0 * w) 0 (omega arith)
 zero_scaled (suc x) w p =
     let some : 0 < suc x * w = mul-pos (omega arith) p in
-    ne_eqb (suc x * w) 0 (λ e. omega (arith, e, some))
+    ne_eqb (suc x * w) 0 (λ e. omega (arith, e, some)) ∙ sym (ne_eqb (suc x) 0 (λ e. omega (arith, e)))
 
 next_scaled : (mode : ConversionRound) (negative odd : Bool) (x y w : ℕ) → 0 < w
     → takes_next mode negative (x * w) (y * w) odd ≡ takes_next mode negative x y odd

@@ -21,12 +21,10 @@ reaching top share (suc n) l =
     ⊎_elim
     (λ (h : share + n < top).
     let test : leb top (share + n) ≡ false = lt-leb top (share + n) h in
-    let sum : share + n - top ≡ share + suc n - top = omega (arith, h) in
-    rw test (before ∙ sum))
+    rw test (omega (arith, before, h)))
     (λ (h : top ≤ share + n).
     let test : leb top (share + n) ≡ true = le-leb top (share + n) h in
-    let sum : 1 + (share + n - top) ≡ share + suc n - top = omega (arith, h) in
-    rw test (ap (λ (x : ℕ). 1 + x) before ∙ sum))
+    rw test (omega (arith, before, h)))
     (cases_lt (share + n) top)
 
 -- tests that agree below n count the same

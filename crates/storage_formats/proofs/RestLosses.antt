@@ -90,7 +90,9 @@ random_moves bits negative odd u r share l fits is =
   where
     no_parts : (digits y : ℕ) → 0 < y → parts_above digits 0 y ≡ 0
     no_parts digits y p =
-        let less : parts_above digits 0 y < 1 = (div-lt_iff_lt-mul (omega (arith, p))).1 (omega (arith, p)) in
+        let some : 0 < 0 + y = omega (arith, p) in
+        let none : 2 ^ digits * 0 < 1 * (0 + y) = omega (arith, p) in
+        let less : parts_above digits 0 y < 1 = (div-lt_iff_lt-mul some).1 none in
         omega (arith, less)
 
 -- ---- random digits: the parts of the rest
@@ -143,10 +145,8 @@ pub few_below : (s places digits rest : ℕ) → digits ≤ 32 → places ≤ di
     → rest * 2 ^ (digits - places) % 2 ^ 64 ≡ s % 2 ^ places * 2 ^ (digits - places)
 few_below s places digits rest few l is =
     let fits = few_fit s places digits l in
-    let top : 2 ^ digits ≤ 2 ^ 64 = pow-le-pow_right two_pos (omega (arith, few)) in
+    let short : digits ≤ 64 = omega (arith, few) in
+    let top : 2 ^ digits ≤ 2 ^ 64 = pow-le-pow_right two_pos short in
     let same : rest * 2 ^ (digits - places) ≡ s % 2 ^ places * 2 ^ (digits - places) =
     ap (λ (n : ℕ). n * 2 ^ (digits - places)) is in
     ap (λ (n : ℕ). n % 2 ^ 64) same ∙ mod-eq_of_lt (omega (arith, fits, top))
-
-pub many_below : (s k digits : ℕ) → s / 2 ^ k % 2 ^ digits < 2 ^ digits
-many_below s k digits = mod_below (s / 2 ^ k) (2 ^ digits) (pow_pos digits)

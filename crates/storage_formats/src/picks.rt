@@ -1,6 +1,7 @@
 //! The point that is picked for a number.
 
-ghost use Rattle.std.specs.Prelude.{◌≡◌, ℕ, ◌+◌, ◌-◌, ◌*◌, ◌/◌, ◌%◌, ◌^◌, ◌<◌, ◌≤◌, eqb, if◌then◌else◌};
+ghost use Rattle.std.specs.Prelude.{◌≡◌, ℕ, ◌+◌, ◌-◌, ◌*◌, ◌/◌, ◌%◌, ◌^◌, ◌<◌, ◌≤◌, not, ◌&&◌, leb, eqb};
+ghost use Rattle.std.specs.Prelude.{if◌then◌else◌};
 ghost use Rattle.apfloat_model.specs.rounding.Bounds.{IsWithin, unit_bound, place_bound};
 ghost use Rattle.apfloat_model.specs.rounding.Standing.{StandsFor, up, down};
 ghost use Rattle.storage_formats.specs.Codes.{index_of};
@@ -8,7 +9,7 @@ ghost use Rattle.storage_formats.specs.Picks.{IsPickedAt, IsPointAt};
 ghost use Rattle.storage_formats.specs.PicksBy.{IsPickedBy, moves};
 
 use crate::cuts::{cut, parts_of_rest};
-use crate::modes::ConversionRound;
+use crate::modes::{ConversionRound, RandomDigits};
 use apfloat_base::{ExpInt, Round};
 use apfloat_model::Loss;
 use apfloat_rounding::rounding::moves_up;
@@ -67,6 +68,20 @@ pub(crate) fn pick(
     }
 }
 
+/// Whether rounding to odd takes the point above what was kept.
+fn odd_takes_next(exact: bool, odd: bool) -> bool
+    ensures { result ≡ (not exact && not odd) }
+{
+    !exact && !odd
+}
+
+/// Whether that many parts and the random number reach the whole together.
+fn reaches_whole(parts: u64, bits: RandomDigits) -> bool
+    ensures { result ≡ leb (2 ^ bits.digits) (parts + bits.random) }
+{
+    u128::from(parts) + u128::from(bits.random) >= power_of_two(bits.digits)
+}
+
 /// Whether the mode takes the point above a number of which `places` digits were cut off with that loss. `odd` says
 /// whether what was kept is odd.
 fn takes_next(
@@ -83,9 +98,9 @@ fn takes_next(
 {
     match mode {
         ConversionRound::Ieee(round) => moves_up(round, negative, loss, odd),
-        ConversionRound::ToOdd => !is_exact(loss) && !odd,
+        ConversionRound::ToOdd => odd_takes_next(is_exact(loss), odd),
         ConversionRound::Stochastic(bits) => {
-            parts_of_rest(number, places, bits.digits) + u64::from(bits.random) >= 1 << bits.digits
+            reaches_whole(parts_of_rest(number, places, bits.digits), bits)
         }
     }
 }

@@ -262,8 +262,14 @@ fn modes(rt: HostRuntime) {
         assert_eq!(rt; mode_sum::<E2M3FN>(index), BY_MODE_E2M3FN[index], "{index}");
         assert_eq!(rt; mode_sum::<E3M2FN>(index), BY_MODE_E3M2FN[index], "{index}");
     }
-    assert_eq!(rt; RandomDigits::new(0, 0).err(), Some(RandomError::DigitCount));
-    assert_eq!(rt; RandomDigits::new(33, 0).err(), Some(RandomError::DigitCount));
+    assert_eq!(rt;
+        RandomDigits::new(0, 0).err(),
+        Some(RandomError::DigitCount)
+    );
+    assert_eq!(rt;
+        RandomDigits::new(33, 0).err(),
+        Some(RandomError::DigitCount)
+    );
     assert_eq!(rt; RandomDigits::new(3, 8).err(), Some(RandomError::TooWide));
 }
 

@@ -1,4 +1,4 @@
-use Rattle.std.proofs.Common.{◌≡◌, ◌+◌, ◌*◌, ◌-◌, ◌%◌, ◌^◌, ℕ, Bool, cond, ap, ◌∙◌, subst, w32, eqb, arith}
+use Rattle.std.proofs.Common.{◌≡◌, ◌+◌, ◌*◌, ◌-◌, ◌%◌, ◌^◌, ℕ, Bool, cond, ap, ◌∙◌, subst, w32, eqb}
 use Rattle.std.proofs.lemmas.Int.{to_z-of_z}
 use Rattle.apfloat_model.specs.rounding.Enclosure.{IsEnclosed}
 use Rattle.apfloat_model.specs.rounding.Standing.{StandsFor, up, down}
@@ -8,8 +8,8 @@ use Rattle.storage_formats.proofs.ModePicks.{picked_by}
 use Rattle.storage_formats.proofs.picks.pick_by.Goals as goal
 
 -- nothing was lost before the cut
-pub takes_next-requires : goal.takes_next-requires
-takes_next-requires c =
+pub takes_next-moves-requires : goal.takes_next-moves-requires
+takes_next-moves-requires c =
     subst (λ (n : ℕ). StandsFor n c.cut-kept.result.loss c.args.digits (2 ^ c.cut-kept.result.places * 1))
     c.cut-kept.ensures.quotient c.cut-kept.ensures.rest
 
