@@ -1,4 +1,4 @@
-use Rattle.std.proofs.Common.{◌≡◌, arith}
+use Rattle.std.proofs.Common.{arith}
 use Rattle.apfloat_decimals.proofs.spelled.LastDigits.{counted_split}
 use Rattle.apfloat_decimals.proofs.formatting.count_of_word.Goals as goal
 

@@ -1,4 +1,4 @@
-use Rattle.std.proofs.Common.{◌≡◌, sym, arith}
+use Rattle.std.proofs.Common.{sym, arith}
 use Rattle.apfloat_decimals.proofs.spelled.LastDigits.{counted_between}
 use Rattle.apfloat_decimals.proofs.spelled.WrittenNumbers.{single}
 use Rattle.apfloat_decimals.proofs.formatting.count_up_to_four.Goals as goal
