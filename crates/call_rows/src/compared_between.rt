@@ -65,8 +65,10 @@ impl Comparison {
             (Some(x), Some(y)) => {
                 let answer = compare_between(self.predicate, self.on_nan, x, y);
                 let truth = answer.status.and(ValueField::Truth(answer.value));
-                let returned: Returned<IeeeFloat<S>> =
-                    Returned::Integer(truth, ExtraField::Nothing);
+                let returned: Returned<IeeeFloat<S>> = Returned::Integer(
+                    truth,
+                    ExtraField::Nothing,
+                );
                 Ok(RowAnswer::of(returned, None))
             }
             _ => Err(CallFault::Operand),

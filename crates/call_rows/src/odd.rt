@@ -71,11 +71,8 @@ fn converted(source: RowFormat, target: RowFormat, request: Request) -> Answered
 /// An answer toward zero in a built-in format, rounded to odd.
 fn made_odd(target: RowFormat, truncated: RowAnswer) -> Answered {
     match (target, truncated.value, truncated.status) {
-        (
-            RowFormat::BuiltIn(format, _),
-            ValueField::Bits(bits, _),
-            StatusField::Flags(status),
-        ) => format.run(MadeOdd { bits, status }),
+        (RowFormat::BuiltIn(format, _), ValueField::Bits(bits, _), StatusField::Flags(status)) =>
+            format.run(MadeOdd { bits, status }),
         _ => Err(CallFault::Support),
     }
 }

@@ -18,7 +18,8 @@ use rustc_apfloat::{Float, Status, StatusAnd};
 use vector_lines::{
     Answered, Call, CallFault, CallInFormat, ConversionCall, ExtraField, FormatCall, Formats,
     GeneralCall, IntegerCall, MachineFormat, OneValueCall, Operand, Operands, OperationCall,
-    Request, Returned, RowAnswer, RowFormat, StatusField, TwoValuesCall, ValueField, two_values, value_of,
+    Request, Returned, RowAnswer, RowFormat, StatusField, TwoValuesCall, ValueField, two_values,
+    value_of,
 };
 
 /// What a call returns in the formats of a machine.
@@ -62,9 +63,7 @@ fn plain_answer(target: MachineFormat, request: Request) -> Answered {
             | TwoValuesCall::IeeeRem
             | TwoValuesCall::CFmod,
         )
-        | Call::OfFormat(
-            FormatCall::WideMulR | FormatCall::WideMulAddR | FormatCall::MulAddR,
-        )
+        | Call::OfFormat(FormatCall::WideMulR | FormatCall::WideMulAddR | FormatCall::MulAddR)
         | Call::OfOneValue(OneValueCall::SqrtR | OneValueCall::RoundToIntegral)
         | Call::OfValueAndInteger(IntegerCall::ToU128R | IntegerCall::ToI128R) => {
             answer_of_call(Formats::One(target.with_flags()), request, "")
@@ -108,10 +107,18 @@ impl CallInFormat for Settled {
                 settled_value::<S>(self.target, self.request.operands, bits, status)
             }
             ValueField::Unsigned(number) => {
-                unsigned::<S>(self.target.machine, self.request.operands, status.and(number))
+                unsigned::<S>(
+                    self.target.machine,
+                    self.request.operands,
+                    status.and(number),
+                )
             }
             ValueField::Signed(number) => {
-                signed::<S>(self.target.machine, self.request.operands, status.and(number))
+                signed::<S>(
+                    self.target.machine,
+                    self.request.operands,
+                    status.and(number),
+                )
             }
             _ => Err(CallFault::Support),
         }
@@ -247,11 +254,7 @@ impl CallInFormat for OfRule {
 }
 
 /// What a conversion from a format to another on a machine returns.
-fn between_on_machine(
-    source: BuiltInFormat,
-    target: MachineFormat,
-    request: Request,
-) -> Answered {
+fn between_on_machine(source: BuiltInFormat, target: MachineFormat, request: Request) -> Answered {
     if !matches!(request.call, Call::Conversion(ConversionCall::ConvertR)) {
         return Err(CallFault::Support);
     }
@@ -304,9 +307,10 @@ impl CallInFormat for SettledConversion {
 
     #[inline(never)]
     fn made_in<T: Flagged>(self) -> Answered {
-        let (ValueField::Bits(bits, _), StatusField::Flags(status)) =
-            (self.plain.value, self.plain.status)
-        else {
+        let (ValueField::Bits(bits, _), StatusField::Flags(status)) = (
+            self.plain.value,
+            self.plain.status,
+        ) else {
             return Err(CallFault::Support);
         };
         if self.is_lost {

@@ -14,7 +14,9 @@ ghost use Rattle.apfloat_ieee.specs.Types.{format_of};
 ghost use Rattle.storage_formats.specs.Float8E3M4.{IsNarrow, e3m4_datum, e3m4_format, narrowed, widened};
 
 use crate::from_value::{leads_out, status_past};
-use apfloat_base::{Category, ExpInt, Float, FloatConvert, NonfiniteBehavior, Round, Status, StatusAnd};
+use apfloat_base::{
+    Category, ExpInt, Float, FloatConvert, NonfiniteBehavior, Round, Status, StatusAnd,
+};
 use apfloat_ieee::{Flagged, IeeeFloat, Semantics};
 use std::cmp::Ordering;
 use std::marker::Model;
@@ -146,7 +148,11 @@ fn past(round: Round, negative: bool) -> StatusAnd<Float8E3M4>
     ensures status { bits_of result.status
         ≡ (if leads_out round negative then overflow_bit + inexact_bit else inexact_bit) }
 {
-    let magnitude = if leads_out(round, negative) { INFINITY } else { LARGEST };
+    let magnitude = if leads_out(round, negative) {
+        INFINITY
+    } else {
+        LARGEST
+    };
     status_past(round, negative).and(Float8E3M4 {
         code: sign_code(negative) + magnitude,
     })

@@ -85,7 +85,11 @@ fn infinity<F: Projection>(negative: bool, loses_info: &mut bool) -> StatusAnd<P
         (bits_of result.status) loses_info.new }
 {
     *loses_info = !F::EXTENDED;
-    let status = if F::EXTENDED { Status::OK } else { Status::INEXACT };
+    let status = if F::EXTENDED {
+        Status::OK
+    } else {
+        Status::INEXACT
+    };
     status.and(Projected::past(negative))
 }
 
@@ -110,7 +114,11 @@ impl<F: Projection> Projected<F> {
         match x.category() {
             Category::NaN => {
                 *loses_info = S::NAN_PAYLOAD_MASK != 0;
-                let status = if x.is_signaling() { Status::INVALID_OP } else { Status::OK };
+                let status = if x.is_signaling() {
+                    Status::INVALID_OP
+                } else {
+                    Status::OK
+                };
                 status.and(Self::nan())
             }
             Category::Infinity => {
@@ -122,7 +130,11 @@ impl<F: Projection> Projected<F> {
             }
             Category::Zero => {
                 *loses_info = negative;
-                let status = if negative { Status::INEXACT } else { Status::OK };
+                let status = if negative {
+                    Status::INEXACT
+                } else {
+                    Status::OK
+                };
                 status.and(Self::number(false, 0))
             }
             Category::Normal => {

@@ -83,5 +83,10 @@ fn neighbours_and_order(rt: HostRuntime) {
     assert_eq!(rt; infinity.category(), Category::Infinity);
     let without_sign = Projected::<Binary8P1UF>::from_bits(0);
     assert_eq!(rt; without_sign.next_down().to_bits(), 0xff);
-    assert_eq!(rt; Projected::<Binary8P1UF>::from_bits(0xfe).next_up().to_bits(), 0xff);
+    assert_eq!(rt;
+        Projected::<Binary8P1UF>::from_bits(0xfe)
+            .next_up()
+            .to_bits(),
+        0xff
+    );
 }

@@ -3,12 +3,12 @@
 ghost use Rattle.std.specs.Prelude.{◌<◌, ◌≤◌, ◌^◌};
 
 use crate::mode_rows::{BY_MODE_E2M1FN, BY_MODE_E2M3FN, BY_MODE_E3M2FN};
+use crate::projection_rows::{INTO_E3M4, OUT_OF_E3M4};
 use crate::rows::{
     E2M1FN as E2M1FN_ROWS, E2M3FN as E2M3FN_ROWS, E3M2FN as E3M2FN_ROWS, E8M0FNU as E8M0FNU_ROWS,
     INTO_E2M1FN, INTO_E2M3FN, INTO_E3M2FN, INTO_E8M0FNU, INTO_UE4M3, OUT_OF_E2M1FN, OUT_OF_E2M3FN,
     OUT_OF_E3M2FN, OUT_OF_E8M0FNU, OUT_OF_UE4M3, UE4M3 as UE4M3_ROWS,
 };
-use crate::projection_rows::{INTO_E3M4, OUT_OF_E3M4};
 use crate::{
     ConversionRound, E2M1FN, E2M3FN, E3M2FN, E8M0FNU, Float8E3M4, NanResult, RandomDigits,
     RandomError, StorageFormat, StoredFloat, UE4M3,

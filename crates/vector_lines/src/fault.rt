@@ -43,7 +43,11 @@ impl<'a> CallRow<'a> {
             CallFault::ValueBits(width) => bits_error("no value of the call", self.value, width),
             CallFault::Operands => operand_error(self.operands, form_of(self.call)),
             CallFault::Operand => {
-                value_error(self.operands, form_of(self.call), widths_of(self.call, self.format))
+                value_error(
+                    self.operands,
+                    form_of(self.call),
+                    widths_of(self.call, self.format),
+                )
             }
         }
     }
@@ -127,11 +131,7 @@ fn operand_error(operands: &str, form: Form) -> RowError<'_> {
 
 /// The error for operands of which one is not a value of a format of these widths (of the first one, and of the others),
 /// or without bits, at that operand.
-fn value_error(
-    operands: &str,
-    form: Form,
-    widths: (Option<usize>, Option<usize>),
-) -> RowError<'_> {
+fn value_error(operands: &str, form: Form, widths: (Option<usize>, Option<usize>)) -> RowError<'_> {
     let (Some(first), Some(others)) = widths else {
         return RowError::Word("no operands of the call", operands, QUANTA);
     };

@@ -87,7 +87,10 @@ impl Formats {
                 None => None,
             };
         };
-        match (RowFormat::named(source), MachineFormat::named(target, machine)) {
+        match (
+            RowFormat::named(source),
+            MachineFormat::named(target, machine),
+        ) {
             (Some(RowFormat::BuiltIn(format, FlaggedFormat::BuiltIn(_))), Some(target)) => {
                 Some(Formats::BetweenOnMachine(format, target))
             }

@@ -108,7 +108,10 @@ static OPERATIONS: &[(&str, (&str, usize, Kind))] = &[
     ("A", ("abs", 1, Kind::Unrounded)),
     ("@", ("copy_sign", 2, Kind::Unrounded)),
     ("qC", ("compare_quiet_unordered", 2, Kind::Compared(false))),
-    ("sC", ("compare_signaling_unordered", 2, Kind::Compared(true))),
+    (
+        "sC",
+        ("compare_signaling_unordered", 2, Kind::Compared(true)),
+    ),
 ];
 
 /// The quiet call that tells whether a relation holds.
@@ -199,7 +202,11 @@ impl Fpgen {
         };
         let (rounding, words) = left.split_once(' ').unwrap_or((left, ""));
         match found(ROUNDINGS, rounding) {
-            None if operation.rounds() => Err(RowError::Word("no mode", rounding, "=0 > < 0 or =^")),
+            None if operation.rounds() => Err(RowError::Word(
+                "no mode",
+                rounding,
+                "=0 > < 0 or =^",
+            )),
             None if has_traps(left) => Ok(None),
             None => operation.test("-", left, right),
             Some(_) if has_traps(words) => Ok(None),
@@ -231,8 +238,7 @@ impl Fpgen {
         let (target, operation) = format_of(rest).unwrap_or((format, rest));
         match found(OPERATIONS, operation) {
             Some((call, operand_count, kind))
-                if (rest == operation) != matches!(kind, Kind::Converted) =>
-            {
+                if (rest == operation) != matches!(kind, Kind::Converted) => {
                 Ok(Operation {
                     format,
                     target,

@@ -13,8 +13,12 @@ returns-then-is_nan g c =
 pub returns-then-magnitude-largest_index : goal.returns-then-magnitude-largest_index
 returns-then-magnitude-largest_index g c =
     sym (ap category_of (infinity_at (projection_of g.F.Projection) c.args.self c.is_nan.ensures c.if-is_nan.false refl
-    (omega (arith, c.magnitude-magnitude.ensures.value, c.largest_index.ensures,
-    c.if-magnitude-largest_index.true))))
+    (omega (
+      arith,
+      c.magnitude-magnitude.ensures.value,
+      c.largest_index.ensures,
+      c.if-magnitude-largest_index.true,
+    ))))
 
 pub returns-then-magnitude-eq0 : goal.returns-then-magnitude-eq0
 returns-then-magnitude-eq0 g c =
@@ -26,7 +30,11 @@ pub returns-else-magnitude-eq0 : goal.returns-else-magnitude-eq0
 returns-else-magnitude-eq0 g c =
     let d = projection_of g.F.Projection in
     sym (ap category_of (number_at d c.args.self c.is_nan.ensures c.if-is_nan.false refl
-    (omega (arith, c.magnitude-magnitude.ensures.value, c.largest_index.ensures,
-    c.if-magnitude-largest_index.false)))
+    (omega (
+      arith,
+      c.magnitude-magnitude.ensures.value,
+      c.largest_index.ensures,
+      c.if-magnitude-largest_index.false,
+    )))
     ∙ normal_category d.precision (magnitude_of d c.args.self) (is_negative_code d c.args.self)
     g.F.Projection.lawful.precision_low (omega (arith, c.magnitude-magnitude.ensures.value, c.if-magnitude-eq0.false)))

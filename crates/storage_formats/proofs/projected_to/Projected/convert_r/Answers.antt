@@ -48,8 +48,12 @@ returns-then-magnitude-largest_index g c =
     infinity_converted (projection_of g.F.Projection) _ (format_of g.T.Flagged) c.args.round c.args.self
     c.is_negative-negative.result c.convert_r-2.result.value (bits_of c.convert_r-2.result.status) _
     (infinity_at (projection_of g.F.Projection) c.args.self c.is_nan.ensures c.if-is_nan.false
-    c.is_negative-negative.ensures (omega (arith, c.magnitude-magnitude.ensures.value, c.largest_index.ensures,
-    c.if-magnitude-largest_index.true)))
+    c.is_negative-negative.ensures (omega (
+      arith,
+      c.magnitude-magnitude.ensures.value,
+      c.largest_index.ensures,
+      c.if-magnitude-largest_index.true,
+    )))
     (rw c.signed.ensures at c.convert_r-2.ensures.converted)
 
 pub returns-then-magnitude-eq0 : goal.returns-then-magnitude-eq0
