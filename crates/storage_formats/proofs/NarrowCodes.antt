@@ -4,13 +4,14 @@ use Rattle.std.proofs.Common.{sym, refl, ap, ◌∙◌, subst, ⊎_elim, arith, 
 use Rattle.std.proofs.Math.Nat.{mul-le-mul_left, mul-le-mul_right, pow-le-pow_right}
 use Rattle.std.proofs.lemmas.Bool.{cases_eq, cases_lt, eq-eqb, eqb-true, false≢true, le-ltb, lt-ltb, ltb-true, ne_eqb, MatchBool-at_false}
 use Rattle.apfloat_model.specs.declared.kinds.Round.{Round}
-use Rattle.apfloat_model.specs.arithmetic.Conversions.{IsConversion, IsConvertedNumber}
+use Rattle.std.specs.Bool.{MatchBool}
+use Rattle.apfloat_model.specs.arithmetic.Conversions.{IsConversion, IsConvertedNumber, IsKept, loses_zero_sign}
 use Rattle.apfloat_model.specs.bits.Interchange.{AreWithin, IsInterchange, bits_of_fields}
 use Rattle.apfloat_model.specs.bits.Layout.{Fields, datum_of_fields, fields_of, implied_number}
 use Rattle.apfloat_model.specs.formats.Datum.{Datum, finite, infinite, nan}
 use Rattle.apfloat_model.specs.formats.Format.{Format}
 use Rattle.apfloat_model.specs.order.Classes.{is_finite, is_negative, quanta_of}
-use Rattle.apfloat_model.specs.rounding.Rounding.{IsDelivered, delivered_status, delivered_value, leads_out}
+use Rattle.apfloat_model.specs.rounding.Rounding.{IsDelivered, delivered_status, delivered_value, leads_out, zero_sign}
 use Rattle.apfloat_model.proofs.bits.EncodedOnce.{fields_with}
 use Rattle.apfloat_model.proofs.bits.Encodings.{bits_back, fields_back, fields_within}
 use Rattle.apfloat_model.proofs.general.Powers.{two_pos}
@@ -21,20 +22,20 @@ use Rattle.storage_formats.specs.Float8E3M4.{IsNarrow, e3m4_datum, e3m4_format, 
 -- The law of formats asks for a greatest exponent of at least the precision; what is known of bits does not.
 pub e3m4_interchange : IsInterchange e3m4_format e3m4_layout
 e3m4_interchange = record {
-  precise = lit≤ 3 5;
-  some = lit≤ 1 3;
+  precise = lit≤ tt;
+  some = lit≤ tt;
   bits = refl;
-  within = lit≤ 8 128;
+  within = lit≤ tt;
   span = refl;
   explicit = tt;
 }
 
 pub wide_interchange : IsInterchange wide_format wide_layout
 wide_interchange = record {
-  precise = lit≤ 3 5;
-  some = lit≤ 1 4;
+  precise = lit≤ tt;
+  some = lit≤ tt;
   bits = refl;
-  within = lit≤ 9 128;
+  within = lit≤ tt;
   span = refl;
   explicit = tt;
 }
@@ -51,7 +52,7 @@ field_fits : (e : ℕ) → e < 8 → field e < 16
 field_fits e l =
     ⊎_elim
     (λ (low : e < 7). let t = lt-ltb e 7 low in rw t (omega (arith, low)))
-    (λ (high : 7 ≤ e). let t = le-ltb e 7 high in rw t (lit≤ 16 16))
+    (λ (high : 7 ≤ e). let t = le-ltb e 7 high in rw t (lit≤ tt))
     (cases_lt e 7)
 
 -- both encode the same datum
@@ -72,8 +73,8 @@ same_datum b e t l =
     (cases_lt e 7)
 
 sign_digit : (b : Bool) → cond b 1 0 < 2
-sign_digit true = lit≤ 2 2
-sign_digit false = lit≤ 1 2
+sign_digit true = lit≤ tt
+sign_digit false = lit≤ tt
 
 -- a code by its fields
 widened_fields : (b e t : ℕ) → b < 2 → e < 8 → t < 16 → widened ((b * 8 + e) * 16 + t) ≡ (b * 16 + field e) * 16 + t
@@ -145,7 +146,15 @@ narrowed_datum code n =
 
 pub same_source : (g : Format) (mode : Round) (x value : Datum) (status : ℕ) (loses : Bool)
     → IsConversion wide_format g mode x value status loses → IsConversion e3m4_format g mode x value status loses
-same_source g mode (finite b n) value status loses h = h
+same_source g mode (finite b n) value status loses h = number_or_zero (eqb n 0) h
+  where
+    number_or_zero : (none : Bool)
+        → MatchBool none (IsKept (finite (zero_sign g.nonfinite b) 0) (loses_zero_sign g b) value status loses)
+        (IsConvertedNumber wide_format g mode b n value status loses)
+        → MatchBool none (IsKept (finite (zero_sign g.nonfinite b) 0) (loses_zero_sign g b) value status loses)
+        (IsConvertedNumber e3m4_format g mode b n value status loses)
+    number_or_zero true k = k
+    number_or_zero false k = record { is_delivered = k.is_delivered; loses_is = k.loses_is }
 same_source g mode (infinite b) value status loses h = h
 same_source g mode (nan b s) value status loses h = h
 
@@ -187,7 +196,8 @@ low_number b e t l k =
     (λ (z : e ≡ 0). let test = eq-eqb e 0 z in rw test (omega (arith, k)))
     (λ (n : e ≡ 0 → ⊥).
     let test = ne_eqb e 0 n in
-    let power : 2 ^ (e - 1) ≤ 2 ^ 5 = pow-le-pow_right two_pos (omega (arith, l)) in
+    let exponent : e - 1 ≤ 5 = omega (arith, l) in
+    let power : 2 ^ (e - 1) ≤ 2 ^ 5 = pow-le-pow_right two_pos exponent in
     let most : (16 + t) * 2 ^ (e - 1) ≤ (16 + t) * 2 ^ 5 = mul-le-mul_left (16 + t) power in
     rw test (omega (arith, most, k)))
     (cases_eq e 0)
@@ -195,7 +205,8 @@ low_number b e t l k =
 high_number : (b : Bool) (e t : ℕ) → 7 ≤ e → 992 < quanta_of (implied_number wide_format (fields_with b e t))
 high_number b e t l =
     let test = ne_eqb e 0 (λ z. omega (arith, z, l)) in
-    let power : 2 ^ 6 ≤ 2 ^ (e - 1) = pow-le-pow_right two_pos (omega (arith, l)) in
+    let exponent : 6 ≤ e - 1 = omega (arith, l) in
+    let power : 2 ^ 6 ≤ 2 ^ (e - 1) = pow-le-pow_right two_pos exponent in
     let least : 16 * 2 ^ 6 ≤ (16 + t) * 2 ^ (e - 1) =
     let a : 16 * 2 ^ 6 ≤ (16 + t) * 2 ^ 6 = mul-le-mul_right (2 ^ 6) (omega arith) in
     let c : (16 + t) * 2 ^ 6 ≤ (16 + t) * 2 ^ (e - 1) = mul-le-mul_left (16 + t) power in
@@ -282,12 +293,12 @@ picked_quanta : (mode : Round) (b past none leads : Bool) (pick : ℕ)
     → quanta_of (cond past (cond leads (infinite b) (finite b 253952)) (cond none (finite b 0) (finite b pick))) ≤ pick
     × (quanta_of (cond past (cond leads (infinite b) (finite b 253952)) (cond none (finite b 0) (finite b pick))) ≤ 992
     → pick ≤ 992)
-picked_quanta mode b true none true pick number past zero = absurd (false≢true number)
-picked_quanta mode b true none false pick number past zero =
+picked_quanta mode b true none true pick number past nothing = absurd (false≢true number)
+picked_quanta mode b true none false pick number past nothing =
     let more = past refl in (omega (arith, more), λ l. absurd (omega (arith, l)))
-picked_quanta mode b false true leads pick number past zero =
-    let none = zero refl in (omega (arith, none), λ l. omega (arith, none))
-picked_quanta mode b false false leads pick number past zero = (omega arith, λ l. l)
+picked_quanta mode b false true leads pick number past nothing =
+    let none = nothing refl in (omega (arith, none), λ l. omega (arith, none))
+picked_quanta mode b false false leads pick number past nothing = (omega arith, λ l. l)
 
 delivered_quanta : (mode : Round) (b : Bool) (amount parts : ℕ) (value : Datum) (status : ℕ)
     → (d : IsDelivered wide_format mode b amount parts value status) → is_finite value ≡ true

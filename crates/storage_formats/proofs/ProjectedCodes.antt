@@ -167,20 +167,20 @@ coded_infinity c negative law sign extended =
 pub number_at : (c : Projection) (code : ℕ) {test negative : Bool} → test ≡ eqb code (nan_code c) → test ≡ false
     → negative ≡ is_negative_code c code → magnitude_of c code ≤ largest_index c
     → projected_datum c code ≡ finite negative (point c.precision (magnitude_of c code))
-number_at c code is no sign l =
+number_at c code is isnt sign l =
     number_of_code c _ (magnitude_of c code) code
-    (record { sign = sym sign; rest = refl; no_nan = sym is ∙ no }) l
+    (record { sign = sym sign; rest = refl; no_nan = sym is ∙ isnt }) l
 
 pub nan_at : (c : Projection) (code : ℕ) {test : Bool} → test ≡ eqb code (nan_code c) → test ≡ true
     → projected_datum c code ≡ nan false 0
-nan_at c code is yes = let same : eqb code (nan_code c) ≡ true = sym is ∙ yes in rw same refl
+nan_at c code is known = let same : eqb code (nan_code c) ≡ true = sym is ∙ known in rw same refl
 
 pub infinity_at : (c : Projection) (code : ℕ) {test negative : Bool} → test ≡ eqb code (nan_code c) → test ≡ false
     → negative ≡ is_negative_code c code → largest_index c < magnitude_of c code
     → projected_datum c code ≡ infinite negative
-infinity_at c code is no sign l =
+infinity_at c code is isnt sign l =
     infinity_of_code c _ (magnitude_of c code) code
-    (record { sign = sym sign; rest = refl; no_nan = sym is ∙ no }) l
+    (record { sign = sym sign; rest = refl; no_nan = sym is ∙ isnt }) l
 
 -- a code is its sign and what is below it; without a sign, that is the code itself
 split_code : (signed : Bool) (codes code : ℕ) → 0 < codes → code < cond signed (2 * codes) codes → code % codes ≡ 0
@@ -198,13 +198,39 @@ split_code true codes code some l none other =
 split_code false codes code some l none other = sym (mod-eq_of_lt l) ∙ none
 
 -- how many codes there are, with a sign twice as many
-all_codes : (c : Projection) → IsProjection c → 2 ^ c.bits ≡ cond c.signed (2 * unsigned_codes c) (unsigned_codes c)
+pub all_codes : (c : Projection) → IsProjection c → 2 ^ c.bits ≡ cond c.signed (2 * unsigned_codes c) (unsigned_codes c)
 all_codes c law = by_sign c.signed
   where
     by_sign : (signed : Bool)
         → 2 ^ c.bits ≡ cond signed (2 * 2 ^ (c.bits - cond signed 1 0)) (2 ^ (c.bits - cond signed 1 0))
     by_sign true = sym (twice_half c.bits (omega (arith, law.bits_low)))
     by_sign false = ap (λ (n : ℕ). 2 ^ n) (let e : c.bits ≡ c.bits - 0 = omega arith in e)
+
+-- ---- codes fit
+
+below_all : (signed : Bool) (codes i : ℕ) → i < codes → i < cond signed (2 * codes) codes
+below_all true codes i l = omega (arith, l)
+below_all false codes i l = l
+
+pub plain_fits : (c : Projection) (index : ℕ) → IsProjection c → index ≤ last_index c → index < 2 ^ c.bits
+plain_fits c index law l =
+    let a = apart c law in
+    rw (all_codes c law) (below_all c.signed (unsigned_codes c) index (omega (arith, l, a.last_below)))
+
+pub minus_fits : (c : Projection) (index : ℕ) → IsProjection c → c.signed ≡ true → index ≤ last_index c
+    → unsigned_codes c + index < 2 ^ c.bits
+minus_fits c index law signed l =
+    let a = apart c law in
+    let all : 2 ^ c.bits ≡ 2 * unsigned_codes c =
+    all_codes c law ∙ ap (λ (b : Bool). cond b (2 * unsigned_codes c) (unsigned_codes c)) signed in
+    omega (arith, all, l, a.last_below)
+
+pub nan_fits : (c : Projection) → IsProjection c → nan_code c < 2 ^ c.bits
+nan_fits c law = rw (all_codes c law) (by_sign c.signed (unsigned_codes c) (four_codes c law))
+  where
+    by_sign : (signed : Bool) (codes : ℕ) → 4 ≤ codes → cond signed codes (codes - 1) < cond signed (2 * codes) codes
+    by_sign true codes l = omega (arith, l)
+    by_sign false codes l = omega (arith, l)
 
 no_sign : (c : Projection) (code : ℕ) → IsProjection c → code < 2 ^ c.bits → eqb code (nan_code c) ≡ false
     → magnitude_of c code ≡ 0 → code ≡ 0
@@ -215,9 +241,9 @@ no_sign c code law l other none =
 -- The magnitude 0 with a sign is the NaN, so the zero has none.
 pub zero_at : (c : Projection) (code : ℕ) {test : Bool} → IsProjection c → code < 2 ^ c.bits
     → test ≡ eqb code (nan_code c) → test ≡ false → magnitude_of c code ≡ 0 → projected_datum c code ≡ finite false 0
-zero_at c code law l is no none =
-    let zero : code ≡ 0 = no_sign c code law l (sym is ∙ no) none in
-    ap (λ (n : ℕ). projected_datum c n) zero
+zero_at c code law l is isnt none =
+    let nought : code ≡ 0 = no_sign c code law l (sym is ∙ isnt) none in
+    ap (λ (n : ℕ). projected_datum c n) nought
     ∙ number_of_code c false 0 0 (plain_code c 0 law (omega arith)) (omega arith)
     ∙ ap (λ (n : ℕ). finite false n) (zero_point c.precision)
 

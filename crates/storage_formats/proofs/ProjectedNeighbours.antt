@@ -80,11 +80,11 @@ record IsAtRank (c : Projection) (code : ℕ) (rank : ℤ) : Type 0 where
 less : (c : Projection) (x y : ℕ) (i j : ℤ) → IsProjection c → IsAtRank c x i → IsAtRank c y j → i <ℤ j → IsLess c x y
 less c x y i j law a b l =
     by_ranks c x y law a.bound b.bound a.known b.known
-    ∙ ap (λ (r : Ordering). Some r) (rw (a.at, b.at) (int_cmp_is i j Less l))
+    ∙ ap (λ (r : Ordering). Some r) (rw (a.at, b.at) (sym (int_cmp_is i j Less l)))
 
 itself : (c : Projection) (code : ℕ) → code < 2 ^ c.bits → eqb code (nan_code c) ≡ false
     → IsAtRank c code (rank_of c code)
-itself c code l no = record { bound = l; known = no; at = refl }
+itself c code l isnt = record { bound = l; known = isnt; at = refl }
 
 at_rank : (c : Projection) (negative : Bool) (index code : ℕ) → code < 2 ^ c.bits → IsCodedBy c negative index code
     → IsAtRank c code (signed negative index)
@@ -135,10 +135,10 @@ last_at false false false codes code m four l is sign other =
 
 at_most_last : (c : Projection) (code : ℕ) → IsProjection c → code < 2 ^ c.bits → eqb code (nan_code c) ≡ false
     → magnitude_of c code ≤ last_index c
-at_most_last c code law l no =
+at_most_last c code law l isnt =
     last_at c.signed c.extended (is_negative_code c code) (unsigned_codes c) code (magnitude_of c code)
     (four_codes c law) (mod_below code (unsigned_codes c) (pow_pos (c.bits - sign_bits c)))
-    (parts_of_code c code law l) refl no
+    (parts_of_code c code law l) refl isnt
 
 -- a rank is within the last one of each sign
 signed_high : (b : Bool) (m last : ℕ) → m ≤ last → signed b m ≤ℤ pos last
@@ -158,7 +158,7 @@ record IsNegative (c : Projection) (code : ℕ) : Type 0 where
 
 negative_code : (c : Projection) (code : ℕ) → IsProjection c → code < 2 ^ c.bits → eqb code (nan_code c) ≡ false
     → is_negative_code c code ≡ true → IsNegative c code
-negative_code c code law l no e =
+negative_code c code law l isnt e =
     let sign : c.signed ≡ true = (and_parts _ _ e).0 in
     let is : code ≡ unsigned_codes c + magnitude_of c code =
     parts_of_code c code law l ∙ ap (λ (b : Bool). cond b (unsigned_codes c) 0 + magnitude_of c code) e in
@@ -167,7 +167,7 @@ negative_code c code law l no e =
     let some : 0 < magnitude_of c code =
     ⊎_elim
     (λ (k : magnitude_of c code < 1).
-    absurd (false≢true (sym no ∙ eq-eqb code (nan_code c) (omega (arith, is, unknown, k)))))
+    absurd (false≢true (sym isnt ∙ eq-eqb code (nan_code c) (omega (arith, is, unknown, k)))))
     (λ (k : 1 ≤ magnitude_of c code). omega (arith, k))
     (cases_lt (magnitude_of c code) 1) in
     record {
@@ -187,37 +187,37 @@ positive_code c code law l e =
 
 above_negative : (c : Projection) (code : ℕ) → IsProjection c → code < 2 ^ c.bits → eqb code (nan_code c) ≡ false
     → is_negative_code c code ≡ true → IsAtRank c (code_above c code) (rank_of c code +ℤ pos 1)
-above_negative c code law l no e =
-    let n = negative_code c code law l no e in
-    let last = at_most_last c code law l no in
+above_negative c code law l isnt e =
+    let n = negative_code c code law l isnt e in
+    let last = at_most_last c code law l isnt in
     by_index (magnitude_of c code - 1) (omega (arith, n.some)) n.at (omega (arith, last))
   where
+    by_zero : (i : ℕ) → i ≤ last_index c → c.signed ≡ true → IsAtRank c (coded c true i) (neg_ℤ (pos i))
+    by_zero zero k sign = plain_rank c 0 law k
+    by_zero (suc i) k sign = minus_rank c (suc i) law sign (omega arith) k
+
     by_index : (i : ℕ) → magnitude_of c code ≡ i + 1 → rank_of c code ≡ neg_ℤ (pos (magnitude_of c code))
         → i ≤ last_index c → IsAtRank c (code_above c code) (rank_of c code +ℤ pos 1)
     by_index i m at k =
         let index : magnitude_of c code - 1 ≡ i = omega (arith, m) in
         let next : neg_ℤ (pos i) ≡ rank_of c code +ℤ pos 1 = omega (arith, ints, at, m) in
-        let n = negative_code c code law l no e in
+        let n = negative_code c code law l isnt e in
         subst (λ (z : ℤ). IsAtRank c (code_above c code) z) next
-        (rw (no, e, index) (by_zero i k n.signed))
-
-    by_zero : (i : ℕ) → i ≤ last_index c → c.signed ≡ true → IsAtRank c (coded c true i) (neg_ℤ (pos i))
-    by_zero zero k sign = plain_rank c 0 law k
-    by_zero (suc i) k sign = minus_rank c (suc i) law sign (omega arith) k
+        (rw (isnt, e, index) (by_zero i k n.signed))
 
 above_positive : (c : Projection) (code other : ℕ) → IsProjection c → code < 2 ^ c.bits → other < 2 ^ c.bits
     → eqb code (nan_code c) ≡ false → eqb other (nan_code c) ≡ false → rank_of c code <ℤ rank_of c other
     → is_negative_code c code ≡ false → IsAtRank c (code_above c code) (rank_of c code +ℤ pos 1)
-above_positive c code other law l k no none less e =
+above_positive c code other law l k isnt none lesser e =
     let m = positive_code c code law l e in
     let at : rank_of c code ≡ pos (magnitude_of c code) = ap (λ (b : Bool). signed b (magnitude_of c code)) e in
     let last = signed_high (is_negative_code c other) (magnitude_of c other) (last_index c)
     (at_most_last c other law k none) in
-    let room : code < last_index c = omega (arith, ints, less, at, last, m) in
+    let room : code < last_index c = omega (arith, ints, lesser, at, last, m) in
     let off : eqb code (last_index c) ≡ false = ne_eqb code (last_index c) (λ q. omega (arith, q, room)) in
     let next : pos (code + 1) ≡ rank_of c code +ℤ pos 1 = omega (arith, ints, at, m) in
     subst (λ (z : ℤ). IsAtRank c (code_above c code) z) next
-    (rw (no, e, off) (stays c.extended (plain_rank c (code + 1) law (omega (arith, room)))))
+    (rw (isnt, e, off) (stays c.extended (plain_rank c (code + 1) law (omega (arith, room)))))
   where
     stays : (b : Bool) {z : ℤ} → IsAtRank c (code + 1) z → IsAtRank c (cond (b && false) code (code + 1)) z
     stays true h = h
@@ -226,30 +226,30 @@ above_positive c code other law l k no none less e =
 above : (c : Projection) (code other : ℕ) → IsProjection c → code < 2 ^ c.bits → other < 2 ^ c.bits
     → eqb code (nan_code c) ≡ false → eqb other (nan_code c) ≡ false → rank_of c code <ℤ rank_of c other
     → IsAtRank c (code_above c code) (rank_of c code +ℤ pos 1)
-above c code other law l k no none less = by_sign (is_negative_code c code) refl
+above c code other law l k isnt none lesser = by_sign (is_negative_code c code) refl
   where
     by_sign : (b : Bool) → is_negative_code c code ≡ b → IsAtRank c (code_above c code) (rank_of c code +ℤ pos 1)
-    by_sign true e = above_negative c code law l no e
-    by_sign false e = above_positive c code other law l k no none less e
+    by_sign true e = above_negative c code law l isnt e
+    by_sign false e = above_positive c code other law l k isnt none lesser e
 
 -- ---- down
 
 below_negative : (c : Projection) (code other : ℕ) → IsProjection c → code < 2 ^ c.bits → other < 2 ^ c.bits
     → eqb code (nan_code c) ≡ false → eqb other (nan_code c) ≡ false → rank_of c other <ℤ rank_of c code
     → is_negative_code c code ≡ true → IsAtRank c (code_below c code) (rank_of c code -ℤ pos 1)
-below_negative c code other law l k no none less e =
-    let n = negative_code c code law l no e in
+below_negative c code other law l k isnt none lesser e =
+    let n = negative_code c code law l isnt e in
     let m : ℕ = magnitude_of c code in
     let last = signed_low (is_negative_code c other) (magnitude_of c other) (last_index c)
     (at_most_last c other law k none) in
     let at = n.at in
-    let room : m < last_index c = omega (arith, ints, less, at, last) in
+    let room : m < last_index c = omega (arith, ints, lesser, at, last) in
     let off : eqb m (last_index c) ≡ false = ne_eqb m (last_index c) (λ q. omega (arith, q, room)) in
     let next : neg_ℤ (pos (m + 1)) ≡ rank_of c code -ℤ pos 1 = omega (arith, ints, at) in
     let is = n.is in
     let code_is : unsigned_codes c + (m + 1) ≡ code + 1 = omega (arith, is) in
     subst (λ (z : ℤ). IsAtRank c (code_below c code) z) next
-    (rw (no, e, off) (subst (λ (x : ℕ). IsAtRank c x (neg_ℤ (pos (m + 1)))) code_is
+    (rw (isnt, e, off) (subst (λ (x : ℕ). IsAtRank c x (neg_ℤ (pos (m + 1)))) code_is
     (minus_rank c (m + 1) law n.signed (omega arith) (omega (arith, room)))))
 
 -- without a sign no rank is below zero
@@ -259,21 +259,21 @@ sign_of c code e = ap (λ (b : Bool). b && leb (unsigned_codes c) code) e
 below_positive : (c : Projection) (code other : ℕ) → IsProjection c → code < 2 ^ c.bits
     → eqb code (nan_code c) ≡ false → rank_of c other <ℤ rank_of c code
     → is_negative_code c code ≡ false → IsAtRank c (code_below c code) (rank_of c code -ℤ pos 1)
-below_positive c code other law l no less e =
+below_positive c code other law l isnt lesser e =
     let at : rank_of c code ≡ pos (magnitude_of c code) = ap (λ (b : Bool). signed b (magnitude_of c code)) e in
     let m = positive_code c code law l e in
-    let last = at_most_last c code law l no in
+    let last = at_most_last c code law l isnt in
     ⊎_elim
     (λ (z : code ≡ 0).
-    let zero = eq-eqb code 0 z in
+    let nought = eq-eqb code 0 z in
     let next : neg_ℤ (pos 1) ≡ rank_of c code -ℤ pos 1 = omega (arith, ints, at, m, z) in
     subst (λ (r : ℤ). IsAtRank c (code_below c code) r) next
-    (rw (no, e, zero) (has_sign c.signed refl (omega (arith, ints, less, at, m, z)))))
+    (rw (isnt, e, nought) (has_sign c.signed refl (omega (arith, ints, lesser, at, m, z)))))
     (λ (n : code ≡ 0 → ⊥).
     let off = ne_eqb code 0 n in
     let next : pos (code - 1) ≡ rank_of c code -ℤ pos 1 = omega (arith, ints, at, m, n) in
     subst (λ (r : ℤ). IsAtRank c (code_below c code) r) next
-    (rw (no, e, off) (plain_rank c (code - 1) law (omega (arith, last, m)))))
+    (rw (isnt, e, off) (plain_rank c (code - 1) law (omega (arith, last, m)))))
     (cases_eq code 0)
   where
     has_sign : (b : Bool) → c.signed ≡ b → rank_of c other <ℤ pos 0
@@ -291,11 +291,11 @@ below_positive c code other law l no less e =
 below_it : (c : Projection) (code other : ℕ) → IsProjection c → code < 2 ^ c.bits → other < 2 ^ c.bits
     → eqb code (nan_code c) ≡ false → eqb other (nan_code c) ≡ false → rank_of c other <ℤ rank_of c code
     → IsAtRank c (code_below c code) (rank_of c code -ℤ pos 1)
-below_it c code other law l k no none less = by_sign (is_negative_code c code) refl
+below_it c code other law l k isnt none lesser = by_sign (is_negative_code c code) refl
   where
     by_sign : (b : Bool) → is_negative_code c code ≡ b → IsAtRank c (code_below c code) (rank_of c code -ℤ pos 1)
-    by_sign true e = below_negative c code other law l k no none less e
-    by_sign false e = below_positive c code other law l no less e
+    by_sign true e = below_negative c code other law l k isnt none lesser e
+    by_sign false e = below_positive c code other law l isnt lesser e
 
 -- ---- both
 
@@ -305,12 +305,12 @@ next_values c code other law l k = (up, down)
     up : IsLess c code other
         → IsLess c code (code_above c code) × (IsLess c other (code_above c code) → ⊥)
     up h =
-        let no = left_known c code other h in
+        let isnt = left_known c code other h in
         let none = right_known c code other h in
         let rank = lower c code other law l k h in
-        let a = above c code other law l k no none rank in
+        let a = above c code other law l k isnt none rank in
         let at = a.at in (
-          less c code (code_above c code) (rank_of c code) (rank_of c code +ℤ pos 1) law (itself c code l no) a
+          less c code (code_above c code) (rank_of c code) (rank_of c code +ℤ pos 1) law (itself c code l isnt) a
               (omega (arith, ints)),
           λ x. let q = lower c other (code_above c code) law k a.bound x in omega (arith, ints, q, at, rank),
         )
@@ -319,11 +319,11 @@ next_values c code other law l k = (up, down)
         → IsLess c (code_below c code) code × (IsLess c (code_below c code) other → ⊥)
     down h =
         let none = left_known c other code h in
-        let no = right_known c other code h in
+        let isnt = right_known c other code h in
         let rank = lower c other code law k l h in
-        let a = below_it c code other law l k no none rank in
+        let a = below_it c code other law l k isnt none rank in
         let at = a.at in (
-          less c (code_below c code) code (rank_of c code -ℤ pos 1) (rank_of c code) law a (itself c code l no)
+          less c (code_below c code) code (rank_of c code -ℤ pos 1) (rank_of c code) law a (itself c code l isnt)
               (omega (arith, ints)),
           λ x. let q = lower c (code_below c code) other law a.bound k x in omega (arith, ints, q, at, rank),
         )

@@ -99,7 +99,8 @@ parts_of_code c code law l = by_sign c.signed refl
         let all : unsigned_codes c ≡ 2 ^ c.bits =
         ap (λ (n : ℕ). 2 ^ (c.bits - n)) width ∙ ap (λ (n : ℕ). 2 ^ n) (let z : c.bits - 0 ≡ c.bits = omega arith in z) in
         let itself : magnitude_of c code ≡ code = mod-eq_of_lt (omega (arith, l, all)) in
-        sym itself
+        let added : magnitude_of c code ≡ 0 + magnitude_of c code = omega arith in
+        sym itself ∙ added
         ∙ ap (λ (s : Bool). cond (s && leb (unsigned_codes c) code) (unsigned_codes c) 0 + magnitude_of c code) (sym e)
 
 -- a code that is no NaN and past the largest number is the infinity
@@ -110,6 +111,12 @@ infinity_index c code law l other past =
     by_cases c.signed c.extended (unsigned_codes c) (magnitude_of c code) (is_negative_code c code)
     (four_codes c law) below (parts_of_code c code law l) refl other past
   where
+    last : (code codes m : ℕ) → 4 ≤ codes → m < codes → code ≡ 0 + m → codes - 1 - 1 - 1 < m → (code ≡ codes - 1 → ⊥)
+        → m ≡ codes - 1 - 1 - 1 + 1
+    last code codes m four below is past n =
+        ⊎_elim (λ (k : m < codes - 1). omega (arith, k, past, four))
+        (λ (k : codes - 1 ≤ m). absurd (n (omega (arith, k, below, is)))) (cases_lt m (codes - 1))
+
     by_cases : (signed extended : Bool) (codes m : ℕ) (negative : Bool) → 4 ≤ codes → m < codes
         → code ≡ cond negative codes 0 + m → (signed && leb codes code) ≡ negative
         → eqb code (cond signed codes (codes - 1)) ≡ false → codes - 1 - cond signed 0 1 - cond extended 1 0 < m
@@ -123,12 +130,6 @@ infinity_index c code law l other past =
     by_cases false false codes m false four below is sign other past =
         let e : code ≡ codes - 1 = omega (arith, below, is, past) in
         absurd (false≢true (sym other ∙ eq-eqb code (codes - 1) e))
-
-    last : (code codes m : ℕ) → 4 ≤ codes → m < codes → code ≡ 0 + m → codes - 1 - 1 - 1 < m → (code ≡ codes - 1 → ⊥)
-        → m ≡ codes - 1 - 1 - 1 + 1
-    last code codes m four below is past n =
-        ⊎_elim (λ (k : m < codes - 1). omega (arith, k, past, four))
-        (λ (k : codes - 1 ≤ m). absurd (n (omega (arith, k, below, is)))) (cases_lt m (codes - 1))
 
 -- no two codes mean one datum
 pub projected_code_once : (c : Projection) (code other : ℕ) → IsProjection c → code < 2 ^ c.bits → other < 2 ^ c.bits
@@ -154,11 +155,11 @@ projected_code_once c code other law l k e =
         → quanta_of (datum_by false past negative (point c.precision (magnitude_of c code)))
         ≡ quanta_of (datum_by false also negative (point c.precision (magnitude_of c other)))
         → magnitude_of c code ≡ magnitude_of c other
-    same_index c code other law l k no none true true negative p a same e =
-        infinity_index c code law l no (ltb-true _ _ p) ∙ sym (infinity_index c other law k none (ltb-true _ _ a))
-    same_index c code other law l k no none true false negative p a same e = cc
-    same_index c code other law l k no none false true negative p a same e = cc
-    same_index c code other law l k no none false false negative p a same e =
+    same_index c code other law l k isnt none true true negative p a same e =
+        infinity_index c code law l isnt (ltb-true _ _ p) ∙ sym (infinity_index c other law k none (ltb-true _ _ a))
+    same_index c code other law l k isnt none true false negative p a same e = cc
+    same_index c code other law l k isnt none false true negative p a same e = cc
+    same_index c code other law l k isnt none false false negative p a same e =
         one_number c.precision (magnitude_of c code) (magnitude_of c other) law.precision_low e
 
     both_known : (c : Projection) (code other : ℕ) → IsProjection c → code < 2 ^ c.bits → other < 2 ^ c.bits
@@ -168,13 +169,13 @@ projected_code_once c code other law l k e =
         ≡ datum_by false (ltb (largest_index c) (magnitude_of c other)) (is_negative_code c other)
         (point c.precision (magnitude_of c other))
         → code ≡ other
-    both_known c code other law l k no none e =
+    both_known c code other law l k isnt none e =
         let past : Bool = ltb (largest_index c) (magnitude_of c code) in
         let also : Bool = ltb (largest_index c) (magnitude_of c other) in
         let same = sym (past_is past _ _) ∙ ap is_infinite e ∙ past_is also _ _ in
         let sign = sym (sign_is past _ _) ∙ ap is_negative e ∙ sign_is also _ _ in
         let e' = rw sign at e in
-        let index = same_index c code other law l k no none past also (is_negative_code c other) refl refl same
+        let index = same_index c code other law l k isnt none past also (is_negative_code c other) refl refl same
         (ap quanta_of e') in
         parts_of_code c code law l
         ∙ ap (λ (b : Bool). cond b (unsigned_codes c) 0 + magnitude_of c code) sign

@@ -35,35 +35,35 @@ at_most_past c code law l other = record {
 -- both infinite: only the signs decide, and the indices are equal
 infinities : (b d : Bool) (i : ℕ) → 0 < i
     → compared (infinite b) (infinite d) ≡ Some (int_cmp (signed b i) (signed d i))
-infinities true true i l = ap (λ (r : Ordering). Some r) (sym (int_cmp_is (neg_ℤ (pos i)) (neg_ℤ (pos i)) Equal refl))
-infinities false false i l = ap (λ (r : Ordering). Some r) (sym (int_cmp_is (pos i) (pos i) Equal refl))
+infinities true true i l = ap (λ (r : Ordering). Some r) (int_cmp_is (neg_ℤ (pos i)) (neg_ℤ (pos i)) Equal refl)
+infinities false false i l = ap (λ (r : Ordering). Some r) (int_cmp_is (pos i) (pos i) Equal refl)
 infinities true false i l =
-    ap (λ (r : Ordering). Some r) (sym (int_cmp_is (neg_ℤ (pos i)) (pos i) Less (omega (arith, ints, l))))
+    ap (λ (r : Ordering). Some r) (int_cmp_is (neg_ℤ (pos i)) (pos i) Less (omega (arith, ints, l)))
 infinities false true i l =
-    ap (λ (r : Ordering). Some r) (sym (int_cmp_is (pos i) (neg_ℤ (pos i)) Greater (omega (arith, ints, l))))
+    ap (λ (r : Ordering). Some r) (int_cmp_is (pos i) (neg_ℤ (pos i)) Greater (omega (arith, ints, l)))
 
 -- an infinity and a number: the infinity has the greater index
 infinity_number : (b d : Bool) (i j n : ℕ) → j < i
     → compared (infinite b) (finite d n) ≡ Some (int_cmp (signed b i) (signed d j))
 infinity_number true true i j n l =
-    ap (λ (r : Ordering). Some r) (sym (int_cmp_is (neg_ℤ (pos i)) (neg_ℤ (pos j)) Less (omega (arith, ints, l))))
+    ap (λ (r : Ordering). Some r) (int_cmp_is (neg_ℤ (pos i)) (neg_ℤ (pos j)) Less (omega (arith, ints, l)))
 infinity_number true false i j n l =
-    ap (λ (r : Ordering). Some r) (sym (int_cmp_is (neg_ℤ (pos i)) (pos j) Less (omega (arith, ints, l))))
+    ap (λ (r : Ordering). Some r) (int_cmp_is (neg_ℤ (pos i)) (pos j) Less (omega (arith, ints, l)))
 infinity_number false true i j n l =
-    ap (λ (r : Ordering). Some r) (sym (int_cmp_is (pos i) (neg_ℤ (pos j)) Greater (omega (arith, ints, l))))
+    ap (λ (r : Ordering). Some r) (int_cmp_is (pos i) (neg_ℤ (pos j)) Greater (omega (arith, ints, l)))
 infinity_number false false i j n l =
-    ap (λ (r : Ordering). Some r) (sym (int_cmp_is (pos i) (pos j) Greater (omega (arith, ints, l))))
+    ap (λ (r : Ordering). Some r) (int_cmp_is (pos i) (pos j) Greater (omega (arith, ints, l)))
 
 number_infinity : (b d : Bool) (i j n : ℕ) → i < j
     → compared (finite b n) (infinite d) ≡ Some (int_cmp (signed b i) (signed d j))
 number_infinity true true i j n l =
-    ap (λ (r : Ordering). Some r) (sym (int_cmp_is (neg_ℤ (pos i)) (neg_ℤ (pos j)) Greater (omega (arith, ints, l))))
+    ap (λ (r : Ordering). Some r) (int_cmp_is (neg_ℤ (pos i)) (neg_ℤ (pos j)) Greater (omega (arith, ints, l)))
 number_infinity true false i j n l =
-    ap (λ (r : Ordering). Some r) (sym (int_cmp_is (neg_ℤ (pos i)) (pos j) Less (omega (arith, ints, l))))
+    ap (λ (r : Ordering). Some r) (int_cmp_is (neg_ℤ (pos i)) (pos j) Less (omega (arith, ints, l)))
 number_infinity false true i j n l =
-    ap (λ (r : Ordering). Some r) (sym (int_cmp_is (pos i) (neg_ℤ (pos j)) Greater (omega (arith, ints, l))))
+    ap (λ (r : Ordering). Some r) (int_cmp_is (pos i) (neg_ℤ (pos j)) Greater (omega (arith, ints, l)))
 number_infinity false false i j n l =
-    ap (λ (r : Ordering). Some r) (sym (int_cmp_is (pos i) (pos j) Less (omega (arith, ints, l))))
+    ap (λ (r : Ordering). Some r) (int_cmp_is (pos i) (pos j) Less (omega (arith, ints, l)))
 
 pub known_order : (p most i j : ℕ) (past also b d : Bool) → 0 < p → IsAt most i past → IsAt most j also
     → compared (datum_by false past b (point p i)) (datum_by false also d (point p j))

@@ -23,7 +23,7 @@ use std::marker::Model;
 
 /// The same digits and the same least exponent, with one bit of exponent more.
 #[derive(Clone, Copy)]
-pub struct WideE3M4S;
+pub(crate) struct WideE3M4S;
 
 impl Semantics for WideE3M4S {
     const BITS: usize = 9;

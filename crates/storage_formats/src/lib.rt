@@ -39,7 +39,7 @@ mod theorems;
 mod to_value;
 mod unsigned;
 
-pub use float8_e3m4::{Float8E3M4, WideE3M4S};
+pub use float8_e3m4::Float8E3M4;
 pub use format::StorageFormat;
 pub use modes::{ConversionRound, NanResult, RandomDigits, RandomError};
 pub use named::{E2M1FN, E2M3FN, E3M2FN};

@@ -4,7 +4,7 @@ ghost use Rattle.std.specs.Prelude.{◌<◌};
 
 use crate::projection_rows::{FROM_HALF, VALUES};
 use crate::{Binary8P1UF, Binary8P3, Binary8P4, Binary8P5, Projected, Projection};
-use apfloat_base::{Category, Float, Round};
+use apfloat_base::{Category, Flags, Float, Round};
 use apfloat_formats::{DoubleS, Half};
 use std::cmp::Ordering;
 use std::process::Abort;

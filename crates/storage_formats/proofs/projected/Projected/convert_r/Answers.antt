@@ -9,7 +9,7 @@ use Rattle.storage_formats.specs.Projections.{magnitude_of, projected_format}
 use Rattle.storage_formats.proofs.StoredNumbers.{point_in_quanta}
 use Rattle.storage_formats.proofs.ProjectedCodes.{infinity_at, nan_at, number_at, zero_at}
 use Rattle.storage_formats.proofs.ProjectedValues.{infinity_converted, nan_converted, number_converted, zero_converted}
-use Rattle.storage_formats.proofs.projected_to.Projected.convert_r.Goals as goal
+use Rattle.storage_formats.proofs.projected.Projected.convert_r.Goals as goal
 
 pub returns : goal.returns
 returns g c =
