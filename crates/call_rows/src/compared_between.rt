@@ -1,7 +1,7 @@
 //! Comparisons of values of two formats (5.6.1, 5.11).
 //!
-//! `compare_between` is code of its own for each pair of formats, so rows can name a few pairs alone: of narrow and wide
-//! formats, with more exponents or more digits on either side, and of those without infinities.
+//! `compare_between` is code of its own for each pair of formats, so rows can name a few pairs alone: of narrow and
+//! wide formats, with more exponents or more digits on either side, and of those without infinities.
 
 use apfloat_comparisons::{OnNan, Predicate, compare_between};
 use formats_at_run_time::BuiltInFormat;

@@ -1,8 +1,8 @@
 //! Calls as machines answer them: with their NaNs, their integers and their rule of tininess, and with tiny results
 //! flushed to zero where the row asks for that.
 //!
-//! The answer of the same call in the format with the machine's rule of tininess is settled. That does not depend on the
-//! rule, so it is done in the format without one: there are seven copies of the code, and none of arithmetic.
+//! The answer of the same call in the format with the machine's rule of tininess is settled. That does not depend on
+//! the rule, so it is done in the format without one: there are seven copies of the code, and none of arithmetic.
 
 ghost use Rattle.std.specs.Prelude.{◌<◌, ◌≤◌};
 

@@ -381,5 +381,6 @@ past_converted f mode (finite b (suc n)) given value flags status code lost numb
       is_delivered = past_narrow mode b _ _ given value flags status d past v s;
       loses_is = lost_past (leads_out mode b) status s;
     })
-past_converted f mode (infinite b) given value flags status code lost number side high h v s = absurd (false≢true number)
+past_converted f mode (infinite b) given value flags status code lost number side high h v s =
+    absurd (false≢true number)
 past_converted f mode (nan b t) given value flags status code lost number side high h v s = absurd (false≢true number)

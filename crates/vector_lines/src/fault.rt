@@ -129,8 +129,8 @@ fn operand_error(operands: &str, form: Form) -> RowError<'_> {
     RowError::Word("no operands of the call", operands, form.description())
 }
 
-/// The error for operands of which one is not a value of a format of these widths (of the first one, and of the others),
-/// or without bits, at that operand.
+/// The error for operands of which one is not a value of a format of these widths (of the first one, and of the
+/// others), or without bits, at that operand.
 fn value_error(operands: &str, form: Form, widths: (Option<usize>, Option<usize>)) -> RowError<'_> {
     let (Some(first), Some(others)) = widths else {
         return RowError::Word("no operands of the call", operands, QUANTA);

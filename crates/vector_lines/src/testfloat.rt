@@ -68,8 +68,8 @@ static ROUNDINGS: &[(&str, &str)] = &[
     ("-rodd", ODD),
 ];
 
-/// The endings of functions that round in a mode of their own to integral values and integers: the mode, and whether the
-/// inexact flag is compared.
+/// The endings of functions that round in a mode of their own to integral values and integers: the mode, and whether
+/// the inexact flag is compared.
 static OWN_ROUNDINGS: &[(&str, (&str, bool))] = &[
     ("_r_near_even", ("even", false)),
     ("_r_near_maxMag", ("away", false)),

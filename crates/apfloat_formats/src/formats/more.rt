@@ -67,8 +67,8 @@ impl Semantics for Float8E4M3S {
     ghost lawful = { lawful_from_test _ refl };
 }
 
-/// Eight bits, five of them the exponent, without infinities and without a negative zero: the encoding of -0 is the only
-/// NaN. The largest value is 57344.
+/// Eight bits, five of them the exponent, without infinities and without a negative zero: the encoding of -0 is the
+/// only NaN. The largest value is 57344.
 #[derive(Clone, Copy)]
 pub struct Float8E5M2FNUZS;
 
@@ -128,8 +128,8 @@ impl Semantics for Float8E5M2FNUZS {
     ghost lawful = { lawful_from_test _ refl };
 }
 
-/// Eight bits, four of them the exponent, of bias 11, without infinities and without a negative zero: the encoding of -0
-/// is the only NaN. The largest value is 30.
+/// Eight bits, four of them the exponent, of bias 11, without infinities and without a negative zero: the encoding of
+/// -0 is the only NaN. The largest value is 30.
 #[derive(Clone, Copy)]
 pub struct Float8E4M3B11FNUZS;
 

@@ -33,7 +33,8 @@ pub returns-in_err-exponent : goal.returns-in_err-exponent
 returns-in_err-exponent g c =
     refused_by c.from_residual.result c.in_err-exponent.field-0.0 _ _ c.from_residual.ensures.1
     (body_faulted c.args.body.now c.split_number-first.result.0.now c.split_number-first.result.1.now
-    c.split_fraction_number-number.result.0.now c.split_fraction_number-number.result.1.now c.has_some.result c.in_err-exponent.field-0.0
+    c.split_fraction_number-number.result.0.now c.split_fraction_number-number.result.1.now
+    c.has_some.result c.in_err-exponent.field-0.0
     c.split_number-first.ensures.digits c.split_number-first.ensures.rest c.split_fraction_number-number.ensures.digits
     c.split_fraction_number-number.ensures.rest c.has_some.ensures c.in_err-exponent.ensures)
 

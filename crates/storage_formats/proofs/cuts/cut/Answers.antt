@@ -11,7 +11,8 @@ returns-clause-fits c =
     let e = to_z-of_z w32 c.args.unit c.ranges.unit in
     cut_fits c.args.precision c.args.digits c.shift_right-shifted.result.significand 125 c.steps_up-places.result
     c.kept_place-place.result (up c.args.unit) (down c.args.unit) c.requires.high
-    (rw e at c.kept_place-place.ensures.covers) (rw e at c.steps_up-places.ensures) c.shift_right-shifted.ensures.quotient
+    (rw e at c.kept_place-place.ensures.covers) (rw e at c.steps_up-places.ensures)
+    c.shift_right-shifted.ensures.quotient
 
 pub returns-clause-full : goal.returns-clause-full
 returns-clause-full c =

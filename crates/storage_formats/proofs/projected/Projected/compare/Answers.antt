@@ -23,5 +23,7 @@ returns g c =
     ∙ sym (rw (c.is_nan.ensures, c.is_nan-2.ensures)
     (known_order d.precision (largest_index d) (magnitude_of d c.args.self) (magnitude_of d c.args.other) _ _
     (is_negative_code d c.args.self) (is_negative_code d c.args.other) law.precision_low
-    (at_most_past d c.args.self law (below c.self.view_is c.self.invariant) (sym c.is_nan.ensures ∙ c.if-is_nan-is_nan.false.0))
-    (at_most_past d c.args.other law (below c.other.view_is c.other.invariant) (sym c.is_nan-2.ensures ∙ c.if-is_nan-is_nan.false.1))))
+    (at_most_past d c.args.self law (below c.self.view_is c.self.invariant)
+    (sym c.is_nan.ensures ∙ c.if-is_nan-is_nan.false.0))
+    (at_most_past d c.args.other law (below c.other.view_is c.other.invariant)
+    (sym c.is_nan-2.ensures ∙ c.if-is_nan-is_nan.false.1))))
