@@ -26,7 +26,7 @@ rank_of c code = signed (is_negative_code c code) (magnitude_of c code)
 
 -- ---- less is of lower rank
 
-by_ranks : (c : Projection) (x y : ℕ) → IsProjection c → x < 2 ^ c.bits → y < 2 ^ c.bits
+pub by_ranks : (c : Projection) (x y : ℕ) → IsProjection c → x < 2 ^ c.bits → y < 2 ^ c.bits
     → eqb x (nan_code c) ≡ false → eqb y (nan_code c) ≡ false
     → compared (projected_datum c x) (projected_datum c y) ≡ Some (int_cmp (rank_of c x) (rank_of c y))
 by_ranks c x y law k l a b =
@@ -133,7 +133,7 @@ last_at false false false codes code m four l is sign other =
     absurd (false≢true (sym other ∙ eq-eqb code (codes - 1) (omega (arith, k, l, is)))))
     (cases_lt m (codes - 1))
 
-at_most_last : (c : Projection) (code : ℕ) → IsProjection c → code < 2 ^ c.bits → eqb code (nan_code c) ≡ false
+pub at_most_last : (c : Projection) (code : ℕ) → IsProjection c → code < 2 ^ c.bits → eqb code (nan_code c) ≡ false
     → magnitude_of c code ≤ last_index c
 at_most_last c code law l isnt =
     last_at c.signed c.extended (is_negative_code c code) (unsigned_codes c) code (magnitude_of c code)
@@ -150,13 +150,13 @@ signed_low true m last l = omega (arith, ints, l)
 signed_low false m last l = omega (arith, ints, l)
 
 -- a negative code has a sign, and is not that of zero, which would be the NaN
-record IsNegative (c : Projection) (code : ℕ) : Type 0 where
-  signed : c.signed ≡ true
-  is : code ≡ unsigned_codes c + magnitude_of c code
-  some : 0 < magnitude_of c code
-  at : rank_of c code ≡ neg_ℤ (pos (magnitude_of c code))
+pub record IsNegative (c : Projection) (code : ℕ) : Type 0 where
+  pub signed : c.signed ≡ true
+  pub is : code ≡ unsigned_codes c + magnitude_of c code
+  pub some : 0 < magnitude_of c code
+  pub at : rank_of c code ≡ neg_ℤ (pos (magnitude_of c code))
 
-negative_code : (c : Projection) (code : ℕ) → IsProjection c → code < 2 ^ c.bits → eqb code (nan_code c) ≡ false
+pub negative_code : (c : Projection) (code : ℕ) → IsProjection c → code < 2 ^ c.bits → eqb code (nan_code c) ≡ false
     → is_negative_code c code ≡ true → IsNegative c code
 negative_code c code law l isnt e =
     let sign : c.signed ≡ true = (and_parts _ _ e).0 in
@@ -183,6 +183,31 @@ positive_code c code law l e =
     parts_of_code c code law l
     ∙ ap (λ (b : Bool). cond b (unsigned_codes c) 0 + magnitude_of c code) e ∙ omega arith
 
+-- with a sign, the code past that of a number is one, if the number is not the last
+pub past_fits : (c : Projection) (code : ℕ) → IsProjection c → code < 2 ^ c.bits → is_negative_code c code ≡ true
+    → (magnitude_of c code ≡ last_index c → ⊥) → code + 1 < 2 ^ c.bits
+past_fits c code law l e other =
+    let sign : c.signed ≡ true = (and_parts _ _ e).0 in
+    let is : code ≡ unsigned_codes c + magnitude_of c code =
+    parts_of_code c code law l ∙ ap (λ (b : Bool). cond b (unsigned_codes c) 0 + magnitude_of c code) e in
+    let all : 2 ^ c.bits ≡ 2 * unsigned_codes c =
+    all_codes c law ∙ ap (λ (b : Bool). cond b (2 * unsigned_codes c) (unsigned_codes c)) sign in
+    let rest = mod_below code (unsigned_codes c) (pow_pos (c.bits - sign_bits c)) in
+    let four = four_codes c law in
+    let last : last_index c ≡ unsigned_codes c - 1 = signed_last c.extended (unsigned_codes c) four sign in
+    omega (arith, is, all, rest, four, last, other)
+  where
+    last_by : (extended : Bool) (codes : ℕ) → 4 ≤ codes
+        → codes - 1 - cond true 0 1 - cond extended 1 0 + cond extended 1 0 ≡ codes - 1
+    last_by true codes l = omega (arith, l)
+    last_by false codes l = omega (arith, l)
+
+    signed_last : (extended : Bool) (codes : ℕ) → 4 ≤ codes → c.signed ≡ true
+        → codes - 1 - cond c.signed 0 1 - cond extended 1 0 + cond extended 1 0 ≡ codes - 1
+    signed_last extended codes l sign =
+        ap (λ (b : Bool). codes - 1 - cond b 0 1 - cond extended 1 0 + cond extended 1 0) sign
+        ∙ last_by extended codes l
+
 -- ---- up
 
 above_negative : (c : Projection) (code : ℕ) → IsProjection c → code < 2 ^ c.bits → eqb code (nan_code c) ≡ false
@@ -194,7 +219,9 @@ above_negative c code law l isnt e =
   where
     by_zero : (i : ℕ) → i ≤ last_index c → c.signed ≡ true → IsAtRank c (coded c true i) (neg_ℤ (pos i))
     by_zero zero k sign = plain_rank c 0 law k
-    by_zero (suc i) k sign = minus_rank c (suc i) law sign (omega arith) k
+    by_zero (suc i) k sign =
+        let some : eqb (suc i) 0 ≡ false = ne_eqb (suc i) 0 (λ q. omega (arith, q)) in
+        rw some (minus_rank c (suc i) law sign (omega arith) k)
 
     by_index : (i : ℕ) → magnitude_of c code ≡ i + 1 → rank_of c code ≡ neg_ℤ (pos (magnitude_of c code))
         → i ≤ last_index c → IsAtRank c (code_above c code) (rank_of c code +ℤ pos 1)

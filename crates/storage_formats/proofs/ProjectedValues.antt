@@ -1,20 +1,20 @@
 -- What is delivered in a format of P3109, and what its codes become in other formats.
-use Rattle.std.proofs.Common.{◌≡◌, ℕ, ◌+◌, ◌-◌, ◌*◌, ◌/◌, ◌^◌, ◌<◌, ◌≤◌, Bool, true, false, cond, not, eqb, ltb}
+use Rattle.std.proofs.Common.{◌≡◌, ℕ, ◌+◌, ◌-◌, ◌*◌, ◌/◌, ◌^◌, ◌<◌, ◌≤◌, Bool, true, false, cond, not, ◌&&◌, eqb, ltb}
 use Rattle.std.proofs.Common.{sym, refl, ap, ◌∙◌, subst, arith}
 use Rattle.std.specs.Bool.{MatchBool}
-use Rattle.std.proofs.lemmas.Bool.{le-ltb, lt-ltb, ne_eqb}
+use Rattle.std.proofs.lemmas.Bool.{false≢true, le-ltb, lt-ltb, ne_eqb}
 use Rattle.apfloat_model.specs.declared.kinds.NonfiniteBehavior.TheVariants.{NanNegativeZero}
 use Rattle.apfloat_model.specs.declared.kinds.Round.{Round}
 use Rattle.apfloat_model.specs.arithmetic.Conversions.{IsConversion, IsConvertedNumber, IsKept, loses_zero_sign}
 use Rattle.apfloat_model.specs.formats.Datum.{Datum, finite, infinite, nan}
-use Rattle.apfloat_model.specs.formats.Format.{Format}
-use Rattle.apfloat_model.specs.formats.Nan.{nan_sign, quiet_significand}
-use Rattle.apfloat_model.specs.declared.kinds.Category.TheVariants.{Normal}
-use Rattle.apfloat_model.specs.order.Classes.{category_of}
-use Rattle.apfloat_model.specs.rounding.Rounding.{IsDelivered, leads_out, ok_bits, signed_quanta, zero_sign}
+use Rattle.apfloat_model.specs.formats.Format.{Format, payload_mask}
+use Rattle.apfloat_model.specs.formats.Nan.{invalid_if, is_signaling_nan, nan_sign, quiet_significand}
+use Rattle.apfloat_model.specs.declared.kinds.Category.TheVariants.{NaN, Normal, Zero}
+use Rattle.apfloat_model.specs.order.Classes.{category_of, is_negative, quanta_of}
+use Rattle.apfloat_model.specs.rounding.Rounding.{IsDelivered, inexact_bit, leads_out, ok_bits, signed_quanta, zero_sign}
 use Rattle.storage_formats.specs.Codes.{point}
 use Rattle.storage_formats.specs.Picks.{IsPointAt}
-use Rattle.storage_formats.specs.Projections.{IsPointPick, IsProjected, IsProjection, Projection, largest_index, past_value, projected_datum, projected_format}
+use Rattle.storage_formats.specs.Projections.{IsCodeOf, IsIntoProjection, IsPointPick, IsProjected, IsProjectedNumber, IsProjection, IsWithoutCode, Projection, largest_index, past_value, projected_datum, projected_format}
 use Rattle.storage_formats.proofs.CodesCompared.{not_below_number}
 use Rattle.storage_formats.proofs.ProjectedCodes.{four_codes}
 
@@ -63,6 +63,43 @@ largest_some c law = by_cases c.signed c.extended (four_codes c law)
     by_cases true false l = omega (arith, l)
     by_cases false true l = omega (arith, l)
     by_cases false false l = omega (arith, l)
+
+-- by the category
+no_nan : (none : Bool) → cond none Zero Normal ≡ NaN → ⊥
+no_nan true h = cc
+no_nan false h = cc
+
+pub nan_into : (c : Projection) (f : Format) (mode : Round) (x : Datum) (code status : ℕ) (loses : Bool)
+    → category_of x ≡ NaN → projected_datum c code ≡ nan false 0 → status ≡ invalid_if (is_signaling_nan f x)
+    → loses ≡ not (eqb (payload_mask f) 0) → IsIntoProjection c f mode x code status loses
+nan_into c f mode (nan b s) code status loses is value flags lost =
+    record { value_is = value; status_is = flags; loses_is = lost }
+nan_into c f mode (finite b n) code status loses is value flags lost = absurd (no_nan (eqb n 0) is)
+nan_into c f mode (infinite b) code status loses is value flags lost = cc
+
+number_by : (c : Projection) (f : Format) (mode : Round) (b none unsigned : Bool) (n code status : ℕ) (loses : Bool)
+    → cond none Zero Normal ≡ Normal → unsigned ≡ false
+    → IsProjectedNumber c f mode b n code status loses
+    → MatchBool none (IsCodeOf c (finite false 0) (cond b inexact_bit ok_bits) b code status loses)
+    (MatchBool unsigned (IsWithoutCode c code status loses) (IsProjectedNumber c f mode b n code status loses))
+number_by c f mode b true unsigned n code status loses is known h = cc
+number_by c f mode b false true n code status loses is known h = absurd (false≢true (sym known))
+number_by c f mode b false false n code status loses is known h = h
+
+pub number_into : (c : Projection) (f : Format) (mode : Round) (x : Datum) (code status : ℕ) (loses negative : Bool)
+    → category_of x ≡ Normal → negative ≡ is_negative x → (negative && not c.signed) ≡ false
+    → IsProjected c mode negative (quanta_of x * 2 ^ (projected_format c).scale) (2 ^ f.scale) code status
+    → loses ≡ not (eqb status ok_bits) → IsIntoProjection c f mode x code status loses
+number_into c f mode (finite b n) code status loses negative is sign known h lost =
+    number_by c f mode b (eqb n 0) (b && not c.signed) n code status loses is
+    (ap (λ (d : Bool). d && not c.signed) (sym sign) ∙ known)
+    (record {
+      is_rounded = subst (λ (d : Bool). IsProjected c mode d (n * 2 ^ (projected_format c).scale) (2 ^ f.scale) code
+          status) sign h;
+      loses_is = lost;
+    })
+number_into c f mode (infinite b) code status loses negative is sign known h lost = cc
+number_into c f mode (nan b s) code status loses negative is sign known h lost = cc
 
 -- ---- out
 

@@ -62,7 +62,8 @@ fn nan_code<F: Projection>() -> u16
 pub(crate) fn largest_index<F: Projection>() -> u16
     ensures { result ≡ largest_index (projection_of F.Projection) }
 {
-    let last = unsigned_codes::<F>() - if F::SIGNED { 1 } else { 2 };
+    let codes = unsigned_codes::<F>();
+    let last = if F::SIGNED { codes - 1 } else { codes - 2 };
     if F::EXTENDED { last - 1 } else { last }
 }
 
@@ -183,14 +184,16 @@ impl<F: Projection> Projected<F> {
     pub(crate) fn magnitude(self) -> u16
         ensures value { result ≡ magnitude_of (projection_of F.Projection) self }
         ensures below { result < unsigned_codes (projection_of F.Projection) }
+        ensures fits { self < 2 ^ F.BITS }
     {
         self.code % unsigned_codes::<F>()
     }
 
     /// The code below the sign, with the sign.
     fn signed_index(self) -> i32
-        ensures { let c = projection_of F.Projection in
+        ensures value { let c = projection_of F.Projection in
             result ≡ signed (is_negative_code c self) (magnitude_of c self) }
+        ensures fits { self < 2 ^ F.BITS }
     {
         let magnitude = i32::from(self.magnitude());
         if self.is_negative() {
@@ -205,7 +208,10 @@ impl<F: Projection> Projected<F> {
         ensures { let c = projection_of F.Projection in
             result ≡ compared (projected_datum c self) (projected_datum c other) }
     {
-        if self.is_nan() || other.is_nan() {
+        if self.is_nan() {
+            return None;
+        }
+        if other.is_nan() {
             return None;
         }
         Some(self.signed_index().cmp(&other.signed_index()))

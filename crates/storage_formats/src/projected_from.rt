@@ -1,13 +1,16 @@
 //! Conversions of the values of a format into a format of IEEE P3109.
 
-ghost use Rattle.std.specs.Prelude.{◌≡◌, ℕ, ◌*◌, ◌^◌, ◌<◌, ◌≤◌, true, pos};
+ghost use Rattle.std.specs.Prelude.{◌≡◌, ℕ, ◌*◌, ◌^◌, ◌<◌, ◌≤◌, if◌then◌else◌, true, pos};
+ghost use Rattle.apfloat_model.specs.formats.Datum.{finite};
 ghost use Rattle.apfloat_model.specs.order.Classes.{quanta_of};
 ghost use Rattle.apfloat_model.specs.rounding.Flags.{Gives, bits_of};
+ghost use Rattle.apfloat_model.specs.rounding.Rounding.{leads_out};
 ghost use Rattle.apfloat_ieee.specs.Types.{format_of};
 ghost use Rattle.apfloat_decimals.specs.ShortestSearch.{IsPositive};
+ghost use Rattle.storage_formats.specs.Codes.{point};
 ghost use Rattle.storage_formats.specs.Picks.{IsPointAt};
 ghost use Rattle.storage_formats.specs.ProjectionTypes.{projection_of};
-ghost use Rattle.storage_formats.specs.Projections.{IsInfinityOf, IsIntoProjection, IsPointPick, IsProjected, largest_index, projected_format};
+ghost use Rattle.storage_formats.specs.Projections.{IsInfinityOf, IsIntoProjection, IsPointPick, IsProjected, exponent_bits, largest_index, past_value, projected_datum, projected_format};
 
 use crate::from_value::{leads_out, status_past, status_within, unit_of};
 use crate::picks::{Picked, pick_point};
@@ -18,14 +21,46 @@ use apfloat_ieee::{IeeeFloat, Semantics};
 use apfloat_words::power_of_two;
 use hex_digits::digits_of;
 
+/// The bits of the exponent.
+fn exponent_bits<F: Projection>() -> u32
+    ensures value { result ≡ exponent_bits (projection_of F.Projection) }
+    ensures some { 1 ≤ result }
+    ensures few { result ≤ 15 }
+{
+    if F::SIGNED {
+        (F::BITS - F::PRECISION) as u32
+    } else {
+        (F::BITS + 1 - F::PRECISION) as u32
+    }
+}
+
+/// The negated exponent of the quantum, which is not below 0.
+fn places<F: Projection>() -> u32
+    ensures value { result ≡ (projected_format (projection_of F.Projection)).scale }
+    ensures within { result ≤ 2 ^ 15 }
+{
+    F::PRECISION as u32 + power_of_two(exponent_bits::<F>() - 1) as u32 - 2
+}
+
 /// The negated exponent of the quantum.
 pub(crate) fn scale<F: Projection>() -> ExpInt
     ensures value { result ≡ pos (projected_format (projection_of F.Projection)).scale }
     ensures within { (projected_format (projection_of F.Projection)).scale ≤ 2 ^ 15 }
 {
-    let sign_bits = if F::SIGNED { 1 } else { 0 };
-    let exponent_bits = F::BITS + 1 - F::PRECISION - sign_bits;
-    F::PRECISION as ExpInt + power_of_two(exponent_bits as u32 - 1) as ExpInt - 2
+    places::<F>() as ExpInt
+}
+
+/// The value that takes the place of a pick past the largest number.
+fn past_value<F: Projection>(mode: Round, negative: bool) -> Projected<F>
+    requires { negative ≡ true → F.SIGNED ≡ true }
+    ensures { let c = projection_of F.Projection in projected_datum c result
+        ≡ (if leads_out mode negative then past_value c negative
+        else finite negative (point c.precision (largest_index c))) }
+{
+    if leads_out(mode, negative) {
+        return Projected::past(negative);
+    }
+    Projected::number(negative, largest_index::<F>())
 }
 
 /// What is delivered past the largest number.
@@ -35,12 +70,7 @@ fn past<F: Projection>(mode: Round, negative: bool) -> StatusAnd<Projected<F>>
         → IsPointPick F.PRECISION mode negative amount parts index
         → Gives (IsProjected (projection_of F.Projection) mode negative amount parts) result }
 {
-    let value = if leads_out(mode, negative) {
-        Projected::past(negative)
-    } else {
-        Projected::number(negative, largest_index::<F>())
-    };
-    status_past(mode, negative).and(value)
+    status_past(mode, negative).and(past_value(mode, negative))
 }
 
 /// The value that is delivered for a pick.
@@ -85,11 +115,7 @@ fn infinity<F: Projection>(negative: bool, loses_info: &mut bool) -> StatusAnd<P
         (bits_of result.status) loses_info.new }
 {
     *loses_info = !F::EXTENDED;
-    let status = if F::EXTENDED {
-        Status::OK
-    } else {
-        Status::INEXACT
-    };
+    let status = if F::EXTENDED { Status::OK } else { Status::INEXACT };
     status.and(Projected::past(negative))
 }
 
@@ -110,19 +136,16 @@ impl<F: Projection> Projected<F> {
             result.value (bits_of result.status) loses_info.new }
     {
         let negative = x.is_negative();
-        let has_no_code = negative && !F::SIGNED;
         match x.category() {
             Category::NaN => {
                 *loses_info = S::NAN_PAYLOAD_MASK != 0;
-                let status = if x.is_signaling() {
-                    Status::INVALID_OP
-                } else {
-                    Status::OK
-                };
-                status.and(Self::nan())
+                if x.is_signaling() {
+                    return Status::INVALID_OP.and(Self::nan());
+                }
+                Status::OK.and(Self::nan())
             }
             Category::Infinity => {
-                if has_no_code {
+                if negative && !F::SIGNED {
                     *loses_info = true;
                     return Status::INVALID_OP.and(Self::nan());
                 }
@@ -130,15 +153,11 @@ impl<F: Projection> Projected<F> {
             }
             Category::Zero => {
                 *loses_info = negative;
-                let status = if negative {
-                    Status::INEXACT
-                } else {
-                    Status::OK
-                };
+                let status = if negative { Status::INEXACT } else { Status::OK };
                 status.and(Self::number(false, 0))
             }
             Category::Normal => {
-                if has_no_code {
+                if negative && !F::SIGNED {
                     *loses_info = true;
                     return Status::INVALID_OP.and(Self::nan());
                 }

@@ -2,6 +2,7 @@
 
 ghost use Rattle.std.specs.Prelude.{◌≡◌, ◌*◌, ◌^◌, ◌<◌, ◌≤◌, pos, ◌-ℤ◌};
 ghost use Rattle.apfloat_model.specs.arithmetic.Conversions.{IsConversion};
+ghost use Rattle.apfloat_model.specs.formats.Datum.{infinite};
 ghost use Rattle.apfloat_model.specs.rounding.Bounds.{IsWithin};
 ghost use Rattle.apfloat_model.specs.rounding.Flags.{bits_of};
 ghost use Rattle.apfloat_ieee.specs.FlaggedTypes.{format_of};
@@ -53,6 +54,17 @@ fn exponent_of<F: Projection>(place: u16) -> ExpInt
     ExpInt::from(place) - scale::<F>()
 }
 
+/// The infinity of that sign, in a format that has it.
+fn half_infinity(negative: bool) -> Half
+    ensures { result ≡ infinite negative }
+{
+    if negative {
+        -Half::infinity()
+    } else {
+        Half::infinity()
+    }
+}
+
 impl<F: Projection> Projected<F> {
     /// The value in another format, rounded once (IEEE 754-2019 5.4.2), with the flags of that rounding, as a value of
     /// any format is converted; the NaN as that of `Float8E4M3FNUZ`, and an infinity as that of any format.
@@ -71,9 +83,7 @@ impl<F: Projection> Projected<F> {
         let negative = self.is_negative();
         let magnitude = self.magnitude();
         if magnitude > largest_index::<F>() {
-            let infinity = Half::infinity();
-            let signed = if negative { -infinity } else { infinity };
-            return signed.convert_r(round, loses_info);
+            return half_infinity(negative).convert_r(round, loses_info);
         }
         if magnitude == 0 {
             return Half::zero().convert_r(round, loses_info);

@@ -11,6 +11,6 @@ pub returns : goal.returns
 returns g c =
     let f = format_of g.T.Flagged in
     subst (λ (x : Datum). IsConversion e3m4_format f c.args.round x c.convert_r.result.value
-    (bits_of c.convert_r.result.status) c.convert_r.loses_info) c.wide.ensures
+    (bits_of c.convert_r.result.status) c.convert_r.new.loses_info) c.wide.ensures
     (same_source f c.args.round c.wide.result c.convert_r.result.value
     (bits_of c.convert_r.result.status) _ c.convert_r.ensures.converted)

@@ -1,5 +1,4 @@
 use Rattle.std.proofs.Common.{◌≡◌, ℕ, ◌%◌, ◌<◌, ◌≤◌, Bool, true, false, not, ap, arith, inl, inr, sym, ◌∙◌, subst}
-use Rattle.std.proofs.lemmas.Bool.{not-true}
 use Rattle.apfloat_ieee.specs.Types.{format_of}
 use Rattle.apfloat_model.specs.arithmetic.Conversions.{IsConversion}
 use Rattle.apfloat_model.specs.formats.Datum.{Datum}
@@ -14,41 +13,41 @@ use Rattle.storage_formats.proofs.float8_e3m4.Float8E3M4.from_value.Goals as goa
 pub narrowed-requires : goal.narrowed-requires
 narrowed-requires g c =
     let other = special_given (format_of g.S.Semantics) c.args.round c.args.x _ _ _
-    (not-true _ (sym (ap not c.is_finite.ensures) ∙ c.if-not-is_finite.true)) c.convert_r-answer.ensures.converted in
+    (sym c.is_finite.ensures ∙ c.if-not-is_finite.true) c.convert_r-answer.ensures.converted in
     record {
-      below = c.to_bits.ensures.below;
-      is = inr (special_code c.to_bits.result c.to_bits.ensures.below (rw c.to_bits.ensures.back other));
+      below = c.to_bits-code.ensures.below;
+      is = inr (special_code c.to_bits-code.result c.to_bits-code.ensures.below (rw c.to_bits-code.ensures.back other));
     }
 
 pub returns-then-not-is_finite : goal.returns-then-not-is_finite
 returns-then-not-is_finite g c =
     let f = format_of g.S.Semantics in
-    let other = not-true _ (sym (ap not c.is_finite.ensures) ∙ c.if-not-is_finite.true) in
+    let other = sym c.is_finite.ensures ∙ c.if-not-is_finite.true in
     let datum = ap e3m4_datum c.narrowed.ensures
-    ∙ narrowed_datum c.to_bits.result (narrowed-requires g c) ∙ c.to_bits.ensures.back in
+    ∙ narrowed_datum c.to_bits-code.result (narrowed-requires g c) ∙ c.to_bits-code.ensures.back in
     rw datum (special_converted f c.args.round c.args.x _ _ _ other c.convert_r-answer.ensures.converted)
 
-pub returns-then-code-gt : goal.returns-then-code-gt
-returns-then-code-gt g c =
+pub returns-then-code-from : goal.returns-then-code-from
+returns-then-code-from g c =
     let f = format_of g.S.Semantics in
-    let number = sym c.is_finite.ensures ∙ c.is_finite_is in
-    let side = rw c.to_bits.ensures.back at (sided c.to_bits.result c.to_bits.ensures.below) in
-    past_converted f c.args.round c.args.x c.convert_r-answer.result.value _ _ _ c.to_bits.result _ number side
-    (omega (arith, c.if-code-gt.true)) c.convert_r-answer.ensures.converted
+    let number = sym c.is_finite.ensures ∙ c.if-not-is_finite.false in
+    let side = rw c.to_bits-code.ensures.back at (sided c.to_bits-code.result c.to_bits-code.ensures.below) in
+    past_converted f c.args.round c.args.x c.convert_r-answer.result.value _ _ _ c.to_bits-code.result _ number side
+    (omega (arith, c.if-code-from.true)) c.convert_r-answer.ensures.converted
     (rw c.is_negative.ensures at c.past.ensures.value) (rw c.is_negative.ensures at c.past.ensures.status)
 
-pub narrowed-2-requires : goal.narrowed-2-requires
-narrowed-2-requires g c = record {
-  below = c.to_bits.ensures.below;
-  is = inl (omega (arith, c.if-code-gt.false));
+pub narrowed-requires-2 : goal.narrowed-requires-2
+narrowed-requires-2 g c = record {
+  below = c.to_bits-code.ensures.below;
+  is = inl (omega (arith, c.if-code-from.false));
 }
 
 pub returns : goal.returns
 returns g c =
     let f = format_of g.S.Semantics in
-    let number = sym c.is_finite.ensures ∙ c.is_finite_is in
-    let side = rw c.to_bits.ensures.back at (sided c.to_bits.result c.to_bits.ensures.below) in
+    let number = sym c.is_finite.ensures ∙ c.if-not-is_finite.false in
+    let side = rw c.to_bits-code.ensures.back at (sided c.to_bits-code.result c.to_bits-code.ensures.below) in
     let datum = ap e3m4_datum c.narrowed-2.ensures
-    ∙ narrowed_datum c.to_bits.result (narrowed-2-requires g c) ∙ c.to_bits.ensures.back in
-    rw datum (within_converted f c.args.round c.args.x _ _ c.to_bits.result _ number side
-    (omega (arith, c.if-code-gt.false)) c.convert_r-answer.ensures.converted)
+    ∙ narrowed_datum c.to_bits-code.result (narrowed-requires-2 g c) ∙ c.to_bits-code.ensures.back in
+    rw datum (within_converted f c.args.round c.args.x _ _ c.to_bits-code.result _ number side
+    (omega (arith, c.if-code-from.false)) c.convert_r-answer.ensures.converted)

@@ -1,4 +1,4 @@
-use Rattle.std.proofs.Common.{ℕ, ◌<◌, ◌^◌, ap, ◌∙◌, sym, arith, subst, refl}
+use Rattle.std.proofs.Common.{ap, ◌∙◌, sym, arith, refl}
 use Rattle.apfloat_model.specs.order.Classes.{category_of}
 use Rattle.storage_formats.specs.ProjectionTypes.{projection_of}
 use Rattle.storage_formats.specs.Projections.{is_negative_code, magnitude_of}
@@ -23,7 +23,7 @@ returns-then-magnitude-largest_index g c =
 pub returns-then-magnitude-eq0 : goal.returns-then-magnitude-eq0
 returns-then-magnitude-eq0 g c =
     sym (ap category_of (zero_at (projection_of g.F.Projection) c.args.self g.F.Projection.lawful
-    (subst (λ (n : ℕ). n < 2 ^ g.F.Projection.BITS) c.self.view_is c.self.invariant) c.is_nan.ensures c.if-is_nan.false
+    c.magnitude-magnitude.ensures.fits c.is_nan.ensures c.if-is_nan.false
     (omega (arith, c.magnitude-magnitude.ensures.value, c.if-magnitude-eq0.true))))
 
 pub returns-else-magnitude-eq0 : goal.returns-else-magnitude-eq0
