@@ -115,7 +115,11 @@ fn infinity<F: Projection>(negative: bool, loses_info: &mut bool) -> StatusAnd<P
         (bits_of result.status) loses_info.new }
 {
     *loses_info = !F::EXTENDED;
-    let status = if F::EXTENDED { Status::OK } else { Status::INEXACT };
+    let status = if F::EXTENDED {
+        Status::OK
+    } else {
+        Status::INEXACT
+    };
     status.and(Projected::past(negative))
 }
 
@@ -153,7 +157,11 @@ impl<F: Projection> Projected<F> {
             }
             Category::Zero => {
                 *loses_info = negative;
-                let status = if negative { Status::INEXACT } else { Status::OK };
+                let status = if negative {
+                    Status::INEXACT
+                } else {
+                    Status::OK
+                };
                 status.and(Self::number(false, 0))
             }
             Category::Normal => {

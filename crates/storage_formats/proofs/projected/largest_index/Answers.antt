@@ -18,5 +18,6 @@ pub overflow_sub-result : goal.overflow_sub-result
 overflow_sub-result g c =
     let four = four_codes (projection_of g.F.Projection) g.F.Projection.lawful in
     elim c.if-SIGNED.branch [
-      then-SIGNED w ↦ omega (arith, w.last-is, c.unsigned_codes-codes.ensures, four)
-    | else-SIGNED w ↦ omega (arith, w.last-is, c.unsigned_codes-codes.ensures, four) ]
+      | then-SIGNED w ↦ omega (arith, w.last-is, c.unsigned_codes-codes.ensures, four)
+      | else-SIGNED w ↦ omega (arith, w.last-is, c.unsigned_codes-codes.ensures, four)
+    ]

@@ -52,8 +52,12 @@ returns-then-magnitude-largest_index g c =
     infinity_converted (projection_of g.F.Projection) _ (format_of g.T.Flagged) c.args.round c.args.self
     c.is_negative-negative.result c.convert_r-then-magnitude-largest_index.result.value (bits_of c.convert_r-then-magnitude-largest_index.result.status) _
     (infinity_at (projection_of g.F.Projection) c.args.self c.is_nan.ensures c.if-is_nan.false
-    c.is_negative-negative.ensures (omega (arith, c.magnitude-magnitude.ensures.value, c.largest_index.ensures,
-    c.if-magnitude-largest_index.true)))
+    c.is_negative-negative.ensures (omega (
+      arith,
+      c.magnitude-magnitude.ensures.value,
+      c.largest_index.ensures,
+      c.if-magnitude-largest_index.true,
+    )))
     (rw c.half_infinity.ensures at c.convert_r-then-magnitude-largest_index.ensures.converted)
 
 pub returns-then-magnitude-eq0 : goal.returns-then-magnitude-eq0
