@@ -31,7 +31,7 @@ returns-then-number-clause-whole c =
 pub returns-then-number-clause-rest : goal.returns-then-number-clause-rest
 returns-then-number-clause-rest c =
     rw (← moved c.args.places c.small_power.result c.if-places-lt20.true c.small_power.ensures)
-        c.from-then-number.ensures
+    c.from-then-number.ensures
 
 pub returns-then-places-gt38-clause-whole : goal.returns-then-places-gt38-clause-whole
 returns-then-places-gt38-clause-whole c =

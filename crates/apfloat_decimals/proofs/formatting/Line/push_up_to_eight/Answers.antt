@@ -11,10 +11,10 @@ push_up_to_four-requires-else-number-lt10000-clause-room c =
 pub push_four-requires-clause-room : goal.push_four-requires-clause-room
 push_four-requires-clause-room c =
     rw c.push_up_to_four-else-number-lt10000.ensures
-        (room_joined 4 c.args.number c.args.self.now (omega arith) (omega arith) c.requires.room)
+    (room_joined 4 c.args.number c.args.self.now (omega arith) (omega arith) c.requires.room)
 
 pub returns-else-number-lt10000 : goal.returns-else-number-lt10000
 returns-else-number-lt10000 c =
     c.push_four.ensures ∙ ap (λ (x : List ℕ). x ++ last_digits 4 (c.args.number % 10000))
-        c.push_up_to_four-else-number-lt10000.ensures
+    c.push_up_to_four-else-number-lt10000.ensures
     ∙ number_joined 4 c.args.number c.args.self.now (omega arith) (omega arith)

@@ -11,10 +11,10 @@ push_up_to_eight-requires-else-number-lt-EIGHT_DIGITS-clause-room c =
 pub push_eight-requires-clause-room : goal.push_eight-requires-clause-room
 push_eight-requires-clause-room c =
     rw c.push_up_to_eight-else-number-lt-EIGHT_DIGITS.ensures
-        (room_joined 8 c.args.number c.args.self.now (omega arith) (omega arith) c.requires.room)
+    (room_joined 8 c.args.number c.args.self.now (omega arith) (omega arith) c.requires.room)
 
 pub returns-else-number-lt-EIGHT_DIGITS : goal.returns-else-number-lt-EIGHT_DIGITS
 returns-else-number-lt-EIGHT_DIGITS c =
     c.push_eight.ensures ∙ ap (λ (x : List ℕ). x ++ last_digits 8 (c.args.number % 100000000))
-        c.push_up_to_eight-else-number-lt-EIGHT_DIGITS.ensures
+    c.push_up_to_eight-else-number-lt-EIGHT_DIGITS.ensures
     ∙ number_joined 8 c.args.number c.args.self.now (omega arith) (omega arith)

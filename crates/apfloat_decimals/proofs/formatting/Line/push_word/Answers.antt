@@ -14,5 +14,5 @@ push_eight-requires-clause-room c =
 pub returns-else-number-lt-EIGHT_DIGITS : goal.returns-else-number-lt-EIGHT_DIGITS
 returns-else-number-lt-EIGHT_DIGITS c =
     c.push_eight.ensures ∙ ap (λ (x : List ℕ). x ++ last_digits 8 (c.args.number % 100000000))
-        c.push_up_to_sixteen.ensures
+    c.push_up_to_sixteen.ensures
     ∙ number_joined 8 c.args.number c.args.self.now (omega arith) (omega arith)
