@@ -1,5 +1,5 @@
 -- Roundings of exact / parts quanta: exact ones, products, and what a fused sum leaves of a product.
-use Rattle.std.proofs.Common.{◌≡◌, ℕ, ◌+◌, ◌-◌, ◌*◌, ◌^◌, ◌<◌, ◌≤◌, Bool, true, ltb, eqb, sym, ap, ◌∙◌, subst, ⊎_elim, le_trans, arith}
+use Rattle.std.proofs.Common.{◌≡◌, ℕ, ◌+◌, ◌-◌, ◌*◌, ◌^◌, ◌<◌, ◌≤◌, Bool, true, ltb, eqb, sym, ap, ◌∙◌, subst, ⊎_elim, arith}
 use Rattle.std.specs.Prelude.{ℤ, pos, neg_ℤ, ◌+ℤ◌, ◌-ℤ◌, ◌*ℤ◌}
 use Rattle.std.proofs.Math.Nat.{mul-le-mul_left, mul-lt-mul_of_pos_right, lt_of_mul-lt-mul_right}
 use Rattle.std.proofs.lemmas.Bool.{cases_lt, false≢true, eqb-true}
@@ -10,7 +10,7 @@ use Rattle.apfloat_model.specs.declared.kinds.Round.TheVariants.{NearestTiesToEv
 use Rattle.apfloat_model.specs.formats.Format.{Format, largest}
 use Rattle.apfloat_model.specs.formats.Datum.{Datum, finite, infinite, nan}
 use Rattle.apfloat_model.specs.rounding.Grid.{IsOnGrid}
-use Rattle.apfloat_model.specs.rounding.Rounding.{IsPick, raises_overflow, is_tiny, signed_quanta, ok_bits}
+use Rattle.apfloat_model.specs.rounding.Rounding.{raises_overflow, is_tiny, signed_quanta, ok_bits}
 use Rattle.apfloat_model.specs.rounding.Negation.{negated}
 use Rattle.apfloat_model.specs.arithmetic.Exact.{magnitude, signed, sign_of, product_sign, IsRounded}
 use Rattle.apfloat_model.specs.arithmetic.Sums.{zero_sum_sign}
@@ -22,7 +22,7 @@ use Rattle.apfloat_model.proofs.arithmetic.Signs.{magnitude_signed, rounded_sign
 use Rattle.apfloat_model.proofs.general.Powers.{half_at_most, twice_half}
 use Rattle.apfloat_model.proofs.rounding.Laws.{delivered_once, exact_delivered}
 use Rattle.apfloat_pair_theory.proofs.numbers.Nearest.{IsNearest}
-use Rattle.apfloat_pair_theory.proofs.numbers.Roundings.{apart, pick_on_grid, pick_nearest, signed_exact, signed_far, signed_away, IsNearestFraction, whole_nearest}
+use Rattle.apfloat_pair_theory.proofs.numbers.Roundings.{signed_exact, pick_is_nearest, IsNearestFraction, whole_nearest}
 use Rattle.apfloat_pair_theory.proofs.numbers.Signed.{IsGridNumber, magnitude-sub, grown, on_grid_as}
 use Rattle.apfloat_pair_theory.proofs.numbers.SignedProducts.{difference_times, neg_times, magnitude-mul, magnitude-times, signed_product, signed_times}
 use Rattle.apfloat_pair_theory.proofs.numbers.WholeProducts.{IsWholeProduct, whole_product, product_error_on_grid}
@@ -187,22 +187,6 @@ whole_of precision scale a c x p g h e =
 
 -- ---- nearest fractions
 
--- the pick to nearest, with the sign of the amount, is the nearest of all signed grid numbers
-nearest_fraction : (precision : ℕ) (negative : Bool) (amount parts p : ℕ)
-    → IsPick precision NearestTiesToEven negative amount parts p
-    → IsNearestFraction precision parts (signed negative amount) (signed negative p)
-nearest_fraction precision s amount parts p x = record {
-  on_grid = on_grid_as (sym (magnitude_signed s p)) (pick_on_grid precision s amount parts p x);
-  nearest = λ other o.
-      let a = pick_nearest precision s amount parts p (magnitude other) x o in
-      let b = signed_far s (other *ℤ pos parts) amount in
-      let b' : apart (magnitude other * parts) amount ≤ magnitude ((other *ℤ pos parts) -ℤ signed s amount) =
-      subst (λ (i : ℕ). apart i amount ≤ magnitude ((other *ℤ pos parts) -ℤ signed s amount))
-      (magnitude-times other parts) b in
-      subst (λ (i : ℕ). i ≤ magnitude ((other *ℤ pos parts) -ℤ signed s amount)) (sym (signed_away s p amount parts))
-      (le_trans a b');
-}
-
 -- a finite rounding to nearest of an integral number of quanta is a nearest number
 finite_is_nearest : (f : Format) (of_zero : Bool) (exact whole : ℤ) (parts : ℕ) (value : Datum) (status : ℕ)
     → 0 < parts → (whole *ℤ pos parts) ≡ exact → is_finite value ≡ true
@@ -214,7 +198,7 @@ finite_is_nearest f of_zero exact whole parts value status p e q x =
     let k : number value ≡ signed s x.pick = ap number v ∙ (signed_number f.nonfinite s x.pick).number_is in
     let n : IsNearestFraction f.precision parts exact (signed s x.pick) =
     subst (λ (i : ℤ). IsNearestFraction f.precision parts i (signed s x.pick)) (signed_exact of_zero exact)
-    (nearest_fraction f.precision s (magnitude exact) parts x.pick x.is_pick) in
+    (pick_is_nearest f.precision s (magnitude exact) parts x.pick x.is_pick) in
     subst (λ (i : ℤ). IsNearest f.precision whole i) (sym k)
     (whole_nearest f.precision parts exact whole (signed s x.pick) p e n)
 

@@ -106,7 +106,7 @@ pub record IsNearestFraction (precision parts : ℕ) (exact z : ℤ) : Type 0 wh
       → magnitude ((z *ℤ pos parts) -ℤ exact) ≤ magnitude ((other *ℤ pos parts) -ℤ exact)
 
 -- the pick with the sign of the amount is the nearest of all signed grid numbers
-pick_is_nearest : (precision : ℕ) (negative : Bool) (amount parts p : ℕ)
+pub pick_is_nearest : (precision : ℕ) (negative : Bool) (amount parts p : ℕ)
     → IsPick precision NearestTiesToEven negative amount parts p
     → IsNearestFraction precision parts (signed negative amount) (signed negative p)
 pick_is_nearest precision s amount parts p x = record {
