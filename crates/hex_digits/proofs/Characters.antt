@@ -5,7 +5,6 @@ use Rattle.std.proofs.Common.{⊎_elim, arith, add-one, List, [], ◌∷◌}
 use Rattle.std.proofs.Common.{◌++◌, length, length-append, append_assoc, eqb, leb}
 use Rattle.std.proofs.Common.{ℤ, pos, negsuc, neg_ℤ, ◌≤ℤ◌}
 use Rattle.std.proofs.lemmas.Bool.{and_from, and_parts, cases_lt, leb-true, le-leb, lt-leb, le-ltb, lt-ltb, ne_eqb}
-use Rattle.std.proofs.lemmas.Fmt.{decimal_by_steps_wide}
 use Rattle.std.proofs.lemmas.Int.{ints}
 use Rattle.std.proofs.lemmas.Nat.{pow-add}
 use Rattle.std.specs.Fmt.{decimal, signed_decimal}
@@ -14,9 +13,8 @@ use Rattle.apfloat_model.specs.texts.Digits.{every, is_decimal, is_hexadecimal, 
 use Rattle.apfloat_model.specs.texts.Literals.{exponent_number}
 use Rattle.apfloat_model.specs.texts.Specials.{mark_of, after_mark}
 use Rattle.apfloat_model.proofs.general.ListLaws.{append-every}
-use Rattle.apfloat_decimals.proofs.numbers.LeadingNumbers.{value_of_digit, number_joined}
 use Rattle.apfloat_decimals.proofs.spelled.WrittenNumbers.{length_more}
-use Rattle.apfloat_decimals.specs.LeadingDigits.{number_from as decimal_from}
+use Rattle.apfloat_decimals.proofs.spelled.WrittenTexts.{number_of_decimal}
 use Rattle.apfloat_hex_texts.specs.Scans.{number_from}
 use Rattle.hex_digits.specs.HexTexts.{character, digits_text}
 
@@ -104,47 +102,6 @@ room_for_last text places n some room =
     let digits = digits_length (places - 1) (n / 16) in
     let both = length-append text (digits_text (places - 1) (n / 16)) in
     omega (arith, digits, both, room, some)
-
--- ---- decimal digits
-
-record IsNumber (n : ℕ) (digits : List ℕ) : Type 0 where
-  are_digits : every is_decimal digits ≡ true
-  some : 1 ≤ length digits
-  number_is : number 10 digits ≡ n
-
-decimal_is : (d : ℕ) → d < 10 → is_decimal (48 + d) ≡ true
-decimal_is d l =
-    and_from (leb 48 (48 + d)) (leb (48 + d) 57) (le-leb 48 (48 + d) (omega arith)) (le-leb (48 + d) 57 (omega arith))
-
-decimal_number : (n d : ℕ) → d < 10 → decimal_from n ((48 + d) ∷ []) ≡ n * 10 + d
-decimal_number n d l =
-    let v : digit_value (48 + d) ≡ d = value_of_digit (48 + d) (omega arith) ∙ omega arith in
-    ap (λ (x : ℕ). n * 10 + x) v
-
-single_digit : (d : ℕ) → d < 10 → IsNumber d ((48 + d) ∷ [])
-single_digit d l = record {
-  are_digits = and_from (is_decimal (48 + d)) true (decimal_is d l) refl;
-  some = omega arith;
-  number_is = decimal_number 0 d l ∙ omega arith;
-}
-
-more_digits : (n : ℕ) (digits : List ℕ) → 10 ≤ n → IsNumber (n / 10) digits
-    → IsNumber n (digits ++ ((48 + n % 10) ∷ []))
-more_digits n digits l x =
-    let d : n % 10 < 10 = omega arith in
-    record {
-      are_digits = append-every is_decimal digits ((48 + n % 10) ∷ []) x.are_digits
-          (single_digit (n % 10) d).are_digits;
-      some = let e = length_more digits (48 + n % 10) in omega arith;
-      number_is = number_joined digits ((48 + n % 10) ∷ []) 0
-          ∙ decimal_number (decimal_from 0 digits) (n % 10) d
-          ∙ ap (λ (x : ℕ). x * 10 + n % 10) x.number_is
-          ∙ omega arith;
-    }
-
-number_of_decimal : (n : ℕ) → n < 10 ^ 64 → IsNumber n (decimal n)
-number_of_decimal n few =
-    decimal_by_steps_wide (λ (m : ℕ) (ds : List ℕ). IsNumber m ds) single_digit more_digits n few
 
 -- ---- exponents
 

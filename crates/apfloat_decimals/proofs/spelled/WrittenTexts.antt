@@ -28,10 +28,10 @@ use Rattle.apfloat_decimals.proofs.spelled.WrittenNumbers.{length_more, few_digi
 -- ---- digits
 
 -- a list of digits of the number n
-record IsNumber (n : ℕ) (digits : List ℕ) : Type 0 where
-  are_digits : every is_decimal digits ≡ true
-  some : 1 ≤ length digits
-  number_is : number 10 digits ≡ n
+pub record IsNumber (n : ℕ) (digits : List ℕ) : Type 0 where
+  pub are_digits : every is_decimal digits ≡ true
+  pub some : 1 ≤ length digits
+  pub number_is : number 10 digits ≡ n
 
 digit_is : (d : ℕ) → d < 10 → is_decimal (48 + d) ≡ true
 digit_is d l =
@@ -64,7 +64,7 @@ more_digits n digits l x =
     }
 
 -- the written digits of a number are digits of it
-number_of_decimal : (n : ℕ) → n < 10 ^ 64 → IsNumber n (decimal n)
+pub number_of_decimal : (n : ℕ) → n < 10 ^ 64 → IsNumber n (decimal n)
 number_of_decimal n few =
     decimal_by_steps_wide (λ (m : ℕ) (ds : List ℕ). IsNumber m ds) single_digit more_digits n few
 
