@@ -6,7 +6,8 @@
 
 FILE.rlib is the Rust crate as rustc or cargo built it, with the libraries that it needs next to it or in `deps`. The
 times are nanoseconds of a call, the fastest of all rounds. With --count the instructions of a call are counted instead,
-by callgrind, which needs no quiet machine. --store puts the cells into in_rust.tsv, and the table into docs/SPEED.md.
+by callgrind, which needs no quiet machine: those of 64 calls without those of one, so without the start and the end of
+the loop around them. --store puts the cells into in_rust.tsv, and the table into docs/SPEED.md.
 """
 
 import argparse
@@ -123,8 +124,9 @@ def counted(program, folder, calls):
         if "Client Request: " in text:
             *cell, side, made = text.split("Client Request: ")[1].split("\n")[0].split("\t")
             total = int(text.split("\ntotals: ")[1].split()[0])
-            counts.setdefault(tuple(cell), {})[side] = total / int(made)
-    cells = {cell: (counts[cell]["library"], counts[cell]["crate"]) for cell, *_ in lines}
+            counts.setdefault((tuple(cell), side), {})[int(made)] = total
+    of_a_call = {key: (totals[max(totals)] - totals[1]) / (max(totals) - 1) for key, totals in counts.items()}
+    cells = {cell: (of_a_call[cell, "library"], of_a_call[cell, "crate"]) for cell, *_ in lines}
     return cells, [cell for cell, *_, same in lines if not same]
 
 

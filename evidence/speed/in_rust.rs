@@ -38,7 +38,12 @@ const SETS: [&str; 2] = ["normal", "denormal"];
 /// The calls of a cell with their operands and results.
 pub trait Measured {
     /// Makes each call once.
-    fn round(&mut self);
+    fn round(&mut self) {
+        self.calls(self.count());
+    }
+
+    /// Makes so many of the calls, from the first one on.
+    fn calls(&mut self, count: usize);
 
     /// How many calls that is.
     fn count(&self) -> usize;
@@ -62,8 +67,8 @@ impl<T: 'static, R: Clone + 'static, C: Fn(&T) -> R + 'static> Calls<T, R, C> {
 }
 
 impl<T, R, C: Fn(&T) -> R> Measured for Calls<T, R, C> {
-    fn round(&mut self) {
-        for (operand, result) in black_box(&self.operands).iter().zip(self.results.iter_mut()) {
+    fn calls(&mut self, count: usize) {
+        for (operand, result) in black_box(&self.operands)[..count].iter().zip(self.results.iter_mut()) {
             *result = (self.call)(operand);
         }
         black_box(&mut self.results);
@@ -174,13 +179,16 @@ fn ask_callgrind(request: u64, argument: *const u8) {
 const TOGGLE_COLLECT: u64 = 2;
 const DUMP_STATS_AT: u64 = 3;
 
+/// One call and all of them, so that what begins and ends the loop can be taken off.
 fn count(side: &mut Box<dyn Measured>, name: &str) {
     side.round();
-    ask_callgrind(TOGGLE_COLLECT, std::ptr::null());
-    side.round();
-    ask_callgrind(TOGGLE_COLLECT, std::ptr::null());
-    let name = format!("{name}\t{}\0", side.count());
-    ask_callgrind(DUMP_STATS_AT, name.as_ptr());
+    for made in [1, side.count()] {
+        ask_callgrind(TOGGLE_COLLECT, std::ptr::null());
+        side.calls(made);
+        ask_callgrind(TOGGLE_COLLECT, std::ptr::null());
+        let name = format!("{name}\t{made}\0");
+        ask_callgrind(DUMP_STATS_AT, name.as_ptr());
+    }
 }
 
 fn main() {
