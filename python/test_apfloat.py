@@ -584,7 +584,9 @@ class SignTests(unittest.TestCase):
             apfloat.machine('arm').delivers('sqrt', infinity, infinity)
 
     def test_rows_of_machines(self):
-        # The stored rows of what machines give (docs/VECTORS.md) that are not flushed.
+        # The stored rows of what machines give (docs/VECTORS.md) that are not flushed, in the formats that the library
+        # for C has there.
+        offered = {'half', 'single', 'double', 'quad', 'bfloat', 'e5m2', 'x87'}
         modes = {'even': apfloat.NEAREST_EVEN, 'up': apfloat.UPWARD, 'down': apfloat.DOWNWARD,
                  'zero': apfloat.TOWARD_ZERO, 'away': apfloat.NEAREST_AWAY, '-': apfloat.NEAREST_EVEN}
         operations = {'add_r': 'add', 'sub_r': 'sub', 'wide_mul_r': 'mul', 'div_r': 'div', 'ieee_rem': 'remainder',
@@ -605,7 +607,7 @@ class SignTests(unittest.TestCase):
             rows = [line.rstrip('\n').split('\t') for line in file if '@' in line and not line.startswith('#')]
         for call, words, mode, operands, wanted, flags, _ in rows:
             words, _, name = words.partition('@')
-            if name.endswith('+ftz'):
+            if name.endswith('+ftz') or not offered.issuperset(words.split('>')):
                 continue
             machine, formats = apfloat.machine(name), [getattr(apfloat, word) for word in words.split('>')]
             with Context(mode=modes[mode]) as context:
