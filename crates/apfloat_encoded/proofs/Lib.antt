@@ -1,0 +1,4 @@
+pub mod Reading
+pub mod Encodings
+pub mod Roundings
+pub mod Kept

@@ -1,0 +1,98 @@
+//! Normal numbers, read from their encodings.
+
+ghost use Rattle.std.specs.Prelude.{◌≡◌, ◌+◌, ◌-◌, ◌^◌, ◌<◌, ◌≤◌, false, IsTrue, IfSome};
+ghost use Rattle.apfloat_model.specs.bits.Layout.{fields_of};
+ghost use Rattle.apfloat_ieee.specs.FlaggedTypes.{constants_of, format_of, layout_of};
+ghost use Rattle.apfloat_encoded.specs.Numbers.{FitsWord, IsNumberOf};
+
+use apfloat_ieee::Flagged;
+use apfloat_words::low_digits;
+
+/// `significand * 2^place` quanta with a sign. The significand has all digits of the format.
+#[derive(Clone, Copy)]
+pub(crate) struct Number {
+    pub negative: bool,
+    pub place: u32,
+    pub significand: u64,
+}
+
+/// Whether the encodings of the format fit in a word, with an implied integer bit, and its significands leave room for
+/// the digits that a result is rounded by.
+#[inline(always)]
+pub(crate) fn fits_word<S: Flagged>() -> bool
+    ensures { IsTrue result → FitsWord (constants_of S.Flagged) }
+{
+    !S::EXPLICIT_INTEGER_BIT & (S::PRECISION <= 59) & (S::BITS <= 64)
+}
+
+/// Whether the sign bit is set.
+#[inline(always)]
+fn is_minus<S: Flagged>(bits: u128) -> bool
+    requires { S.PRECISION < S.BITS }
+    ensures { result ≡ (fields_of (format_of S.Flagged) (layout_of S.Flagged) bits).negative }
+{
+    low_digits(bits >> (S::BITS - 1), 1) == 1
+}
+
+/// The biased exponent.
+#[inline(always)]
+fn biased_exponent<S: Flagged>(bits: u128) -> u32
+    requires bits { S.PRECISION < S.BITS }
+    requires implied { S.EXPLICIT_INTEGER_BIT ≡ false }
+    ensures value { result
+        ≡ (fields_of (format_of S.Flagged) (layout_of S.Flagged) bits).biased_exponent }
+    ensures bound { result < 2 ^ 22 }
+{
+    low_digits(bits >> (S::PRECISION - 1), S::EXP_BITS as u32) as u32
+}
+
+/// The number of biased exponents.
+#[inline(always)]
+pub(crate) fn exponents<S: Flagged>() -> u32
+    requires { S.PRECISION < S.BITS }
+    ensures { result ≡ 2 ^ S.EXP_BITS }
+{
+    1 << S::EXP_BITS
+}
+
+/// Whether this is neither the biased exponent of zeros and denormal numbers nor the greatest one.
+#[inline(always)]
+fn is_of_number<S: Flagged>(biased: u32) -> bool
+    requires bits { S.PRECISION < S.BITS }
+    requires bound { biased < 2 ^ 22 }
+    ensures { IsTrue result → (0 < biased) × (biased + 1 < 2 ^ S.EXP_BITS) }
+{
+    (biased != 0) & (biased + 1 < exponents::<S>())
+}
+
+/// The significand of a normal number.
+#[inline(always)]
+fn significand_of<S: Flagged>(bits: u128) -> u64
+    requires implied { S.EXPLICIT_INTEGER_BIT ≡ false }
+    requires short { S.PRECISION ≤ 59 }
+    ensures value { result ≡ 2 ^ (S.PRECISION - 1)
+        + (fields_of (format_of S.Flagged) (layout_of S.Flagged) bits).trailing }
+    ensures fits { result < 2 ^ S.PRECISION }
+{
+    let width = S::PRECISION as u32 - 1;
+    (1_u64 << width) + low_digits(bits, width) as u64
+}
+
+/// The number that these bits encode, if it is normal and does not have the greatest exponent.
+#[inline(always)]
+pub(crate) fn normal_number<S: Flagged>(bits: u128) -> Option<Number>
+    requires bits { S.PRECISION < S.BITS }
+    requires word { FitsWord (constants_of S.Flagged) }
+    ensures { IfSome result (IsNumberOf (constants_of S.Flagged) bits) }
+{
+    let biased = biased_exponent::<S>(bits);
+    if is_of_number::<S>(biased) {
+        Some(Number {
+            negative: is_minus::<S>(bits),
+            place: biased - 1,
+            significand: significand_of::<S>(bits),
+        })
+    } else {
+        None
+    }
+}
