@@ -3,6 +3,7 @@ pub mod Answers
 pub mod FlaglessCalls
 pub mod ArrayCalls
 pub mod Arrays
+pub mod MapTables
 pub mod Decimals
 pub mod IeeeCalls
 pub mod MachineCalls

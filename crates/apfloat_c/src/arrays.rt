@@ -8,6 +8,7 @@ ghost use Rattle.apfloat_c.specs.Arrays.{IsConvertedArray};
 use crate::array_calls::{ConversionMode, conversion_mode_coded, known_array_conversion};
 use crate::array_data::{ArrayAnswer, ElementCounts};
 use crate::codes::ANSWERED;
+use array_lanes::InLanes;
 use formats_at_run_time::FlaggedKind;
 
 /// Converts each value of an array.
@@ -55,7 +56,7 @@ fn convert_array(
             let widths = conversion.widths();
             let count = values.len() / widths.source;
             let front = &mut results[..count * widths.target];
-            let counts = conversion.convert(count, values, front);
+            let counts = conversion.convert::<InLanes>(count, values, front);
             *answer = ArrayAnswer::of(ElementCounts {
                 counts,
                 div_by_zero: 0,

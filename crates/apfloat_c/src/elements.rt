@@ -69,7 +69,7 @@ impl CodedMap {
     }
 
     /// Applies the operation to an element, and writes the bytes of its result.
-    fn element(self, x: u128, y: u128, z: u128, bytes: &mut [u8]) -> Element
+    pub fn element(self, x: u128, y: u128, z: u128, bytes: &mut [u8]) -> Element
         requires format { flagged_kind_coded self.format ≡ Some self.map.kind }
         requires mode { mode_coded self.mode ≡ Some self.map.round }
         requires has { has_element_operation self.map.kind self.map.operation ≡ true }

@@ -23,6 +23,7 @@ mod ieee_call;
 mod ieee_operations;
 mod machine_call;
 mod machine_operations;
+mod map_tables;
 mod maps;
 mod one_answer;
 mod operations;

@@ -50,3 +50,44 @@ pub extern "C" fn apfloat_map_array(
         }
     }
 }
+
+/// The same with memory for a table of results, of which the contents afterwards are unspecified. It is used for operations
+/// on two arrays of values of one byte, if it has `TABLE_BYTES` bytes and there are enough elements to fill it.
+#[unsafe(no_mangle)]
+pub extern "C" fn apfloat_map_array_with_memory(
+    format: u32,
+    mode: u32,
+    operation: u32,
+    xs: &[u8],
+    ys: &[u8],
+    zs: &[u8],
+    results: &mut [u8],
+    memory: &mut [u8],
+    answer: &mut ArrayAnswer,
+) -> u32
+    ensures { let lengths : ℕ × ℕ × ℕ = (length xs.now, length ys.now, length zs.now) in
+        let known = known_map (flagged_kind_coded format) (mode_coded mode)
+        (operation_coded operation) lengths (length results.old) in
+        IsMappedArray known xs.now ys.now zs.now results.old results.new answer.old answer.new
+        result }
+{
+    let known = known_map(
+        FlaggedKind::coded(format),
+        mode_coded(mode),
+        operation_coded(operation),
+        (xs.len(), ys.len(), zs.len()),
+        results.len(),
+    );
+    match known {
+        Err(error) => error,
+        Ok(map) => {
+            let width = bytes_in(map.kind);
+            let count = xs.len() / width;
+            let front = &mut results[..count * width];
+            let coded = CodedMap { map, format, mode };
+            let counted = coded.over_with(memory, xs, ys, zs, count, front);
+            *answer = ArrayAnswer::of(counted);
+            ANSWERED
+        }
+    }
+}

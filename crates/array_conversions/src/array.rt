@@ -9,9 +9,9 @@ ghost use Rattle.array_conversions.specs.Widths.{array_widths};
 ghost use Rattle.array_conversions.specs.Values.{IsConvertedBy};
 ghost use Rattle.array_conversions.specs.Blocks.{IsBlock};
 
-use crate::blocks::convert_block_by;
 use crate::counts::Counts;
 use crate::saturation::Overflow;
+use crate::ways::ConvertsBlocks;
 use crate::widths::{Extended, Widths, width};
 use formats_at_run_time::{BuiltInFormat, FlaggedFormat, WritesInFormat};
 use rustc_apfloat::Round;
@@ -44,8 +44,13 @@ impl ArrayConversion {
         }
     }
 
-    /// Converts `count` values, each in its place.
-    pub fn convert(self, count: usize, input: &[u8], output: &mut [u8]) -> Counts
+    /// Converts `count` values, each in its place, the way that `W` does.
+    pub fn convert<W: ConvertsBlocks>(
+        self,
+        count: usize,
+        input: &[u8],
+        output: &mut [u8],
+    ) -> Counts
         requires input { length input.now ≡ count * (array_widths self).source }
         requires output { length output.old ≡ count * (array_widths self).target }
         ensures { let c = constants_in self.source in let d = flagged_constants self.target in
@@ -54,11 +59,12 @@ impl ArrayConversion {
     {
         let widths = self.widths();
         self.source.write(
-            ArrayCall {
+            ArrayCall::<W> {
                 conversion: self,
                 widths,
                 count,
                 input,
+                way: PhantomData,
             },
             output,
         )
@@ -66,22 +72,23 @@ impl ArrayConversion {
 }
 
 /// The call that converts an array, made at the type of the source format.
-#[derive(Clone, Copy)]
-struct ArrayCall<'a> {
+#[derive_where(Clone, Copy)]
+struct ArrayCall<'a, W: ConvertsBlocks> {
     conversion: ArrayConversion,
     widths: Widths,
     count: usize,
     input: &'a [u8],
+    way: PhantomData<W>,
 }
 
 /// The same call, made at the type of the target format; `S` is the source format.
 #[derive_where(Clone, Copy)]
-struct ArrayCallFrom<'a, S: Flagged> {
-    call: ArrayCall<'a>,
+struct ArrayCallFrom<'a, S: Flagged, W: ConvertsBlocks> {
+    call: ArrayCall<'a, W>,
     source: PhantomData<S>,
 }
 
-impl WritesInFormat for ArrayCall<'_> {
+impl<W: ConvertsBlocks> WritesInFormat for ArrayCall<'_, W> {
     type Output = Counts;
 
     ghost can = { λ it kind old.
@@ -98,7 +105,7 @@ impl WritesInFormat for ArrayCall<'_> {
     fn write_in_format<S: Flagged>(self, bytes: &mut [u8]) -> Counts {
         let target = self.conversion.target;
         target.write(
-            ArrayCallFrom::<S> {
+            ArrayCallFrom::<S, W> {
                 call: self,
                 source: PhantomData,
             },
@@ -107,7 +114,7 @@ impl WritesInFormat for ArrayCall<'_> {
     }
 }
 
-impl<S: Flagged> WritesInFormat for ArrayCallFrom<'_, S> {
+impl<S: Flagged, W: ConvertsBlocks> WritesInFormat for ArrayCallFrom<'_, S, W> {
     type Output = Counts;
 
     ghost can = { λ it kind old. (S.PRECISION < S.BITS)
@@ -127,12 +134,13 @@ impl<S: Flagged> WritesInFormat for ArrayCallFrom<'_, S> {
             widths,
             count,
             input,
+            ..
         } = self.call;
         let ArrayConversion {
             overflow,
             round,
             ..
         } = conversion;
-        convert_block_by::<S, T>(overflow, round, widths, count, input, bytes)
+        W::convert_block::<S, T>(overflow, round, widths, count, input, bytes)
     }
 }

@@ -8,10 +8,10 @@ ghost use Rattle.array_conversions.specs.Widths.{source_width, target_width};
 ghost use Rattle.array_conversions.specs.Values.{IsConvertedBy};
 ghost use Rattle.array_conversions.specs.Blocks.{IsBlock};
 
-use crate::blocks::convert_block_by;
 use crate::conversion::Conversion;
 use crate::counts::Counts;
 use crate::saturation::Overflow;
+use crate::ways::ConvertsBlocks;
 use crate::widths::Widths;
 use formats_at_run_time::InFormat;
 use rustc_apfloat::Round;
@@ -20,7 +20,7 @@ use std::marker::PhantomData;
 
 /// The call that converts a block, made at the type of the source format.
 #[derive(Drop)]
-pub struct BlockCall<'a> {
+pub struct BlockCall<'a, W: ConvertsBlocks> {
     /// The conversion.
     pub conversion: Conversion,
     /// What a number that overflows becomes.
@@ -31,12 +31,14 @@ pub struct BlockCall<'a> {
     pub input: &'a [u8],
     /// A buffer with room for the converted values.
     pub output: Vec<u8>,
+    /// The way.
+    pub way: PhantomData<W>,
 }
 
 /// The same call, made at the type of the target format; `S` is the source format.
 #[derive(Drop)]
-struct BlockCallFrom<'a, S: Semantics> {
-    call: BlockCall<'a>,
+struct BlockCallFrom<'a, S: Semantics, W: ConvertsBlocks> {
+    call: BlockCall<'a, W>,
     source: PhantomData<S>,
 }
 
@@ -49,7 +51,7 @@ pub struct BlockAnswer {
     pub output: Vec<u8>,
 }
 
-impl<'a> InFormat for BlockCall<'a> {
+impl<'a, W: ConvertsBlocks> InFormat for BlockCall<'a, W> {
     type Output = BlockAnswer;
 
     ghost can = { λ it kind.
@@ -65,14 +67,14 @@ impl<'a> InFormat for BlockCall<'a> {
 
     fn in_format<S: Semantics>(self) -> BlockAnswer {
         let target = self.conversion.target;
-        target.run(BlockCallFrom::<S> {
+        target.run(BlockCallFrom::<S, W> {
             call: self,
             source: PhantomData,
         })
     }
 }
 
-impl<'a, S: Semantics> InFormat for BlockCallFrom<'a, S> {
+impl<'a, S: Semantics, W: ConvertsBlocks> InFormat for BlockCallFrom<'a, S, W> {
     type Output = BlockAnswer;
 
     ghost can = { λ it kind. (S.PRECISION < S.BITS)
@@ -95,17 +97,18 @@ impl<'a, S: Semantics> InFormat for BlockCallFrom<'a, S> {
             count,
             input,
             mut output,
+            ..
         } = self.call;
         let widths = conversion.widths();
         let round = conversion.round;
         let front = output.as_mut_slice();
-        let counts = convert_front::<S, T>(overflow, round, widths, count, input, front);
+        let counts = convert_front::<S, T, W>(overflow, round, widths, count, input, front);
         BlockAnswer { counts, output }
     }
 }
 
 /// Converts a block to the front of a buffer.
-fn convert_front<S: Semantics, T: Semantics>(
+fn convert_front<S: Semantics, T: Semantics, W: ConvertsBlocks>(
     overflow: Overflow,
     round: Round,
     widths: Widths,
@@ -124,5 +127,5 @@ fn convert_front<S: Semantics, T: Semantics>(
         input.now (take (count * widths.target) buffer.new) result }
 {
     let front = &mut buffer[..count * widths.target];
-    convert_block_by::<S, T>(overflow, round, widths, count, input, front)
+    W::convert_block::<S, T>(overflow, round, widths, count, input, front)
 }

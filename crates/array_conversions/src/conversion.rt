@@ -10,9 +10,11 @@ ghost use Rattle.array_conversions.specs.Blocks.{IsBlock};
 use crate::block_call::BlockCall;
 use crate::counts::Counts;
 use crate::saturation::Overflow;
+use crate::ways::ConvertsBlocks;
 use crate::widths::{Extended, Widths, width};
 use formats_at_run_time::{BuiltInFormat, BuiltInKind, mode_named};
 use rustc_apfloat::Round;
+use std::marker::PhantomData;
 
 /// The source and the target format, the rounding mode, and the width of a value of the x87 format.
 #[derive(Clone, Copy, Debug)]
@@ -55,8 +57,14 @@ impl Conversion {
     }
 
     /// Converts the complete values in `read`, each in its place in `written`, which must have room for them; the bytes
-    /// after them are unspecified. `overflow` says what a number that overflows becomes.
-    pub fn convert_by(self, overflow: Overflow, read: &[u8], written: Vec<u8>) -> ConvertedBlock
+    /// after them are unspecified. `overflow` says what a number that overflows becomes, and
+    /// `W` which way is taken.
+    pub fn convert_by<W: ConvertsBlocks>(
+        self,
+        overflow: Overflow,
+        read: &[u8],
+        written: Vec<u8>,
+    ) -> ConvertedBlock
         requires { (length read.now / source_width self) * target_width self
             ≤ length written.items }
         ensures parts { let count = length read.now / source_width self in
@@ -73,12 +81,13 @@ impl Conversion {
         let widths = self.widths();
         let count = read.len() / widths.source;
         let whole = count * widths.source;
-        let call = BlockCall {
+        let call = BlockCall::<W> {
             conversion: self,
             overflow,
             count,
             input: &read[..whole],
             output: written,
+            way: PhantomData,
         };
         let answer = self.source.run(call);
         ConvertedBlock {

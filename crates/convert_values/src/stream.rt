@@ -4,6 +4,7 @@ ghost use Rattle.std.specs.Prelude.{◌≡◌, ◌*◌, ◌≤◌, IfOk, length}
 ghost use Rattle.array_conversions.specs.Widths.{source_width, target_width};
 
 use array_conversions::{Conversion, Counts, Overflow};
+use array_lanes::InLanes;
 use commands::Progress;
 use std::alloc::AllocError;
 use std::io;
@@ -91,7 +92,7 @@ fn convert_through<C: Clock, I: Read, W: Write, V: Write>(
             Ok(filled) => filled,
             Err(error) => return Err(Failure::Reading(error)),
         };
-        let block = conversion.convert_by(overflow, &read[..filled], buffer);
+        let block = conversion.convert_by::<InLanes>(overflow, &read[..filled], buffer);
         counts.add(block.counts);
         if let Err(error) = output.write_all(&block.buffer[..block.written]) {
             return Err(Failure::Writing(error));

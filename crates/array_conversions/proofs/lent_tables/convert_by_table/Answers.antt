@@ -1,0 +1,41 @@
+use Rattle.std.proofs.Common.{◌≡◌, ◌*◌, ℕ, length, sym, subst, ◌∙◌}
+use Rattle.rustc_apfloat.specs.FlaggedTypes.{constants_of}
+use Rattle.array_conversions.specs.Blocks.{IsBlock}
+use Rattle.array_conversions.specs.Values.{IsConvertedBy}
+use Rattle.array_conversions.proofs.Places.{block_none, block_more, place_size}
+use Rattle.array_conversions.proofs.TabledResults.{converted_by_result, looked_up}
+use Rattle.array_conversions.proofs.lent_tables.convert_by_table.Goals as goal
+
+pub loop-index-init : goal.loop-index-init
+loop-index-init g c =
+    block_none (IsConvertedBy c.args.overflow (constants_of g.S.Flagged) (constants_of g.T.Flagged) c.args.round)
+    2 c.args.widths.target c.args.input.now c.args.output.now
+
+pub loop-index-preserved : goal.loop-index-preserved
+loop-index-preserved g c =
+    let size : length c.loop-index.output ≡ c.args.count * c.args.widths.target =
+    c.loop-index.auto.output ∙ c.requires.output in
+    let room =
+    place_size c.args.widths.target c.loop-index.index c.args.count c.loop-index.output c.loop-index-test.true size in
+    let width : length c.look_up.new.target ≡ c.args.widths.target = c.look_up.auto.target ∙ room in
+    let result =
+    looked_up c.args.overflow (constants_of g.S.Flagged) (constants_of g.T.Flagged) c.args.round c.args.widths.target _
+    c.place_of-place.result _ _ c.args.values.now c.look_up.new.target c.args.outcomes.now
+    c.look_up.result c.requires.table c.look_up.ensures.outcome c.look_up.ensures.bytes room
+    c.place_of-place.ensures.is in
+    rw c.count.ensures
+    (block_more (IsConvertedBy c.args.overflow (constants_of g.S.Flagged) (constants_of g.T.Flagged) c.args.round)
+    2 c.args.widths.target
+    c.loop-index.index c.args.count c.args.input.now c.loop-index.output c.look_up.new.target
+    c.loop-index.counts c.look_up.result c.loop-index-test.true size width
+    (converted_by_result c.args.overflow (constants_of g.S.Flagged) (constants_of g.T.Flagged) c.args.round _
+    c.look_up.new.target c.look_up.result result)
+    c.loop-index.invariant)
+
+-- the width of the source is that of the loop
+pub returns : goal.returns
+returns g c =
+    subst
+    (λ (n : ℕ). IsBlock (IsConvertedBy c.args.overflow (constants_of g.S.Flagged) (constants_of g.T.Flagged) c.args.round)
+    n c.args.widths.target c.args.count c.args.input.now c.loop-index.output c.loop-index.counts)
+    (sym c.requires.source) c.loop-index.invariant

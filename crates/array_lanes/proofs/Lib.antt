@@ -1,0 +1,9 @@
+mod Words
+mod Masks
+mod Cuts
+mod Scaled
+mod Codes
+mod Moves
+mod Answers
+mod Blocks
+mod Joined

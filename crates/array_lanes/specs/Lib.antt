@@ -1,0 +1,4 @@
+pub mod Words
+pub mod Steps
+pub mod Endings
+pub mod Lane
