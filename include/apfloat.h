@@ -115,6 +115,9 @@ typedef struct apfloat_answer {
 #define APFLOAT_UNKNOWN_MACHINE UINT32_C(8)
 #define APFLOAT_WIDE_OPERAND UINT32_C(9)      /* bits at or above the width of its format are set */
 #define APFLOAT_LACKING_OPERATION UINT32_C(10) /* the machine does not have the operation */
+#define APFLOAT_WRONG_DIGITS UINT32_C(11)      /* not 1 to 32 random digits */
+#define APFLOAT_WIDE_RANDOM UINT32_C(12)       /* a random number has more digits than were said */
+#define APFLOAT_UNKNOWN_LAYOUT UINT32_C(13)    /* of the codes of a storage format */
 
 /* Operations on two values, rounded once: x + y, x - y, x * y, x / y. */
 uint32_t apfloat_add(uint32_t format, uint32_t mode, apfloat_halves x, apfloat_halves y, apfloat_answer *answer);
@@ -411,6 +414,68 @@ uint32_t apfloat_convert_array(uint32_t format, uint32_t mode, uint32_t to, cons
 uint32_t apfloat_map_array(uint32_t format, uint32_t mode, uint32_t operation, const uint8_t *xs, size_t xs_length,
                            const uint8_t *ys, size_t ys_length, const uint8_t *zs, size_t zs_length,
                            uint8_t *results, size_t results_length, apfloat_array_answer *answer);
+
+/* ---- storage formats
+ *
+ * Values of at most 8 bits that are only stored and converted (docs/STORAGE_FORMATS.md). Their codes are none of the
+ * other functions' formats, and the codes of formats above are none of storage formats. */
+#define APFLOAT_E2M1FN UINT32_C(32)  /* 4 bits: 0, 0.5, 1, 1.5, 2, 3, 4, 6 and their negatives */
+#define APFLOAT_E2M3FN UINT32_C(33)  /* 6 bits, to 7.5 */
+#define APFLOAT_E3M2FN UINT32_C(34)  /* 6 bits, to 28 */
+#define APFLOAT_E8M0FNU UINT32_C(48) /* 8 bits: the powers of two from 2^-127 to 2^127, and a NaN */
+#define APFLOAT_UE4M3 UINT32_C(49)   /* 7 bits: the numbers of APFLOAT_E4M3FN that are not below zero, and a NaN */
+
+/* Modes of apfloat_store and apfloat_store_array alone, beside those of all functions; the last two formats do not
+ * have them. To odd, a number that the format lacks becomes the neighbour whose significand is odd. With random
+ * digits it becomes the upper one, in magnitude, if floor(2^digits * distance from the lower one / distance of the
+ * two) plus the random number is at least 2^digits. Of all random numbers, exactly that floor of them leads up. */
+#define APFLOAT_TO_ODD UINT32_C(5)
+#define APFLOAT_STOCHASTIC UINT32_C(6)
+
+/* Joined to a mode of these two functions by |: a NaN becomes the largest number, not +0. The last two formats,
+ * which have a NaN, do not have it. */
+#define APFLOAT_NAN_LARGEST UINT32_C(0x200)
+
+/* x of `format` as a value of the storage format `to`, rounded once: `bits` is its code, and `number` is 1 if
+ * information was lost, else 0. APFLOAT_STOCHASTIC takes the random number `random` of `digits` binary digits, 1 to
+ * 32; for all other modes both are ignored. The errors, in this order: APFLOAT_UNKNOWN_FORMAT, APFLOAT_UNKNOWN_MODE,
+ * APFLOAT_UNKNOWN_FORMAT for `to`, APFLOAT_NO_SUCH_OPERATION for APFLOAT_DOUBLE_PAIR and for a mode that `to` lacks,
+ * APFLOAT_WRONG_DIGITS, and APFLOAT_WIDE_RANDOM. */
+uint32_t apfloat_store(uint32_t format, uint32_t mode, uint32_t to, uint32_t digits, uint32_t random,
+                       apfloat_halves x, apfloat_answer *answer);
+
+/* The value with this code of the storage format `format` in the format `to`, rounded once, in one of the modes of
+ * all functions; `number` is 1 if information was lost, else 0. The last error is APFLOAT_WIDE_OPERAND, for a code
+ * with bits above those of the format. */
+uint32_t apfloat_load(uint32_t format, uint32_t mode, uint32_t to, uint32_t code, apfloat_answer *answer);
+
+/* `number` is APFLOAT_LESS, APFLOAT_EQUAL or APFLOAT_GREATER: the order of the numbers of two codes, in a storage
+ * format without a NaN. Both zeros are equal. */
+uint32_t apfloat_compare_stored(uint32_t format, uint32_t x, uint32_t y, apfloat_answer *answer);
+
+/* How codes stand in an array: each in the lowest bits of a byte; or packed, one after another from the lowest bit
+ * of the first byte on, so that two codes of 4 bits take a byte, and four of 6 bits three. Codes of 7 and 8 bits
+ * take a byte in either layout. */
+#define APFLOAT_CODES_IN_BYTES UINT32_C(0)
+#define APFLOAT_CODES_PACKED UINT32_C(1)
+
+/* Each value of an array of `format` as a code of the storage format `to`, as apfloat_store has it. For
+ * APFLOAT_STOCHASTIC `randoms` has a random number of four bytes for each value, the lowest byte first; for all
+ * other modes its length is 0. Bytes of `codes` after the last code are unchanged. The errors are those of
+ * apfloat_store before its APFLOAT_WRONG_DIGITS, then APFLOAT_UNKNOWN_LAYOUT, APFLOAT_WRONG_DIGITS,
+ * APFLOAT_WRONG_LENGTH, if `values` ends inside a value, its codes do not fill the last byte, `codes` is too short,
+ * or there are not as many random numbers, and APFLOAT_WIDE_RANDOM. */
+uint32_t apfloat_store_array(uint32_t format, uint32_t mode, uint32_t to, uint32_t layout, uint32_t digits,
+                             const uint8_t *values, size_t values_length, const uint8_t *randoms,
+                             size_t randoms_length, uint8_t *codes, size_t codes_length,
+                             apfloat_array_answer *answer);
+
+/* Each value of an array of codes in the format `to`, as apfloat_load has it. The errors are those of apfloat_load,
+ * with APFLOAT_UNKNOWN_LAYOUT and APFLOAT_WRONG_LENGTH, if `codes` ends inside three bytes of four codes or `values`
+ * is too short, before APFLOAT_WIDE_OPERAND. */
+uint32_t apfloat_load_array(uint32_t format, uint32_t mode, uint32_t to, uint32_t layout, const uint8_t *codes,
+                            size_t codes_length, uint8_t *values, size_t values_length,
+                            apfloat_array_answer *answer);
 
 #ifdef __cplusplus
 }

@@ -138,7 +138,10 @@ enum class errc : std::uint32_t {
     wrong_length = APFLOAT_WRONG_LENGTH,
     unknown_machine = APFLOAT_UNKNOWN_MACHINE,
     wide_operand = APFLOAT_WIDE_OPERAND,
-    lacking_operation = APFLOAT_LACKING_OPERATION
+    lacking_operation = APFLOAT_LACKING_OPERATION,
+    wrong_digits = APFLOAT_WRONG_DIGITS,
+    wide_random = APFLOAT_WIDE_RANDOM,
+    unknown_layout = APFLOAT_UNKNOWN_LAYOUT
 };
 
 /// An error in words: those of apfloat_error_text.
@@ -153,6 +156,9 @@ constexpr const char *message(errc error) {
     case errc::unknown_machine: return "unknown machine";
     case errc::wide_operand: return "an operand is wider than its format";
     case errc::lacking_operation: return "the machine does not have the operation";
+    case errc::wrong_digits: return "there cannot be so many random digits";
+    case errc::wide_random: return "a random number has too many digits";
+    case errc::unknown_layout: return "unknown layout of codes";
     }
     return "unknown error code";
 }
@@ -1640,6 +1646,149 @@ expected<array_counts> map_array(array_operation operation, std::size_t count, v
         detail::bytes_of(ys), length(ys), detail::bytes_of(zs), length(zs), detail::bytes_of(results), present,
         &answer);
     if (code == APFLOAT_ANSWERED && is_missing) return errc::wrong_length;
+    return detail::counts_of(code, answer);
+}
+
+// ---- storage formats
+
+namespace detail {
+
+template <std::uint32_t Code, int Width, bool HasNan>
+struct storage {
+    static constexpr std::uint32_t code = Code;
+    static constexpr int width = Width;
+    static constexpr bool has_nan = HasNan;
+};
+
+} // namespace detail
+
+/// A storage format, whose values are only stored and converted (docs/STORAGE_FORMATS.md). `width` is the number of
+/// bits of a code.
+struct e2m1fn : detail::storage<APFLOAT_E2M1FN, 4, false> {};
+struct e2m3fn : detail::storage<APFLOAT_E2M3FN, 6, false> {};
+struct e3m2fn : detail::storage<APFLOAT_E3M2FN, 6, false> {};
+/// The powers of two from 2^-127 to 2^127, and a NaN.
+struct e8m0fnu : detail::storage<APFLOAT_E8M0FNU, 8, true> {};
+/// The numbers of `e4m3fn` that are not below zero, and a NaN.
+struct ue4m3 : detail::storage<APFLOAT_UE4M3, 7, true> {};
+
+/// A value of the storage format F: its code.
+template <class F>
+class stored {
+public:
+    constexpr stored() = default;
+
+    /// The value with this code; nothing if it has bits above those of the format.
+    static constexpr std::optional<stored> from_bits(std::uint8_t bits) {
+        if (bits >> F::width != 0) return std::nullopt;
+        stored made;
+        made.bits_ = bits;
+        return made;
+    }
+    constexpr std::uint8_t bits() const { return bits_; }
+
+private:
+    std::uint8_t bits_ = 0;
+};
+
+/// The order of two numbers of a storage format without a NaN. Both zeros are equal.
+template <class F>
+order compare(stored<F> x, stored<F> y) {
+    static_assert(!F::has_nan, "a NaN has no order");
+    return static_cast<order>(detail::answer_of(apfloat_compare_stored, F::code, x.bits(), y.bits()).number);
+}
+
+/// How a value is rounded into a storage format: in a mode of IEEE 754, to odd, or with random digits. Formats with a
+/// NaN have the first kind alone, and no `nan_largest`.
+class storing {
+public:
+    constexpr storing(rounding mode = rounding::nearest_even) : code_(detail::code_of(mode)) {}
+    static constexpr storing to_odd() { return storing(APFLOAT_TO_ODD, 0, 0); }
+    /// With a random number of that many binary digits, 1 to 32. In arrays each value has one of its own.
+    static constexpr storing stochastic(std::uint32_t digits, std::uint32_t random = 0) {
+        return storing(APFLOAT_STOCHASTIC, digits, random);
+    }
+    /// The same, with the largest number for a NaN, in place of +0.
+    constexpr storing nan_largest() const { return storing(code_ | APFLOAT_NAN_LARGEST, digits_, random_); }
+
+    constexpr std::uint32_t code() const { return code_; }
+    constexpr std::uint32_t digits() const { return digits_; }
+    constexpr std::uint32_t random() const { return random_; }
+
+private:
+    constexpr storing(std::uint32_t code, std::uint32_t digits, std::uint32_t random)
+        : code_(code), digits_(digits), random_(random) {}
+
+    std::uint32_t code_, digits_ = 0, random_ = 0;
+};
+
+/// The value in the storage format `To`, rounded once: store<e2m1fn>(x).
+template <class To, class From>
+expected<conversion<stored<To>>> store(const value<From> &x, storing how = {}) {
+    static_assert(!From::is_pair, "there is no conversion from or to pairs of doubles");
+    apfloat_answer answer = {{0, 0}, 0, 0};
+    const std::uint32_t code =
+        apfloat_store(From::code, how.code(), To::code, how.digits(), how.random(), x.halves(), &answer);
+    if (code != APFLOAT_ANSWERED) return static_cast<errc>(code);
+    const auto made = stored<To>::from_bits(static_cast<std::uint8_t>(answer.bits.low));
+    return conversion<stored<To>>{*made, flags::of_code(answer.status), answer.number != 0};
+}
+
+/// The value of a storage format in another format, rounded once: load<binary16>(x).
+template <class To, class From>
+conversion<value<To>> load(stored<From> x, rounding mode = rounding::nearest_even) {
+    static_assert(!To::is_pair, "there is no conversion from or to pairs of doubles");
+    const auto answer = detail::answer_of(apfloat_load, From::code, detail::code_of(mode), To::code,
+                                          static_cast<std::uint32_t>(x.bits()));
+    const auto made = detail::result_of<To>(answer);
+    return {made.value, made.status, answer.number != 0};
+}
+
+/// How codes stand in an array: one in a byte, or those of 4 and 6 bits packed from the lowest bit of the first byte
+/// on.
+enum class code_layout : std::uint32_t { bytes = APFLOAT_CODES_IN_BYTES, packed = APFLOAT_CODES_PACKED };
+
+/// How many bytes so many codes fill; packed ones end with a byte that they fill.
+template <class F>
+constexpr std::size_t bytes_of_codes(std::size_t count, code_layout layout = code_layout::bytes) {
+    if (layout == code_layout::bytes || F::width > 6) return count;
+    return count / 8 * F::width + count % 8 * F::width / 8;
+}
+
+/// Stores `count` values as codes of the format `To`, each rounded once. With random digits `randoms` has a number for
+/// each value, as four bytes, the lowest first; otherwise it is null. An array that is null is empty.
+template <class To, class From>
+expected<array_counts> store_array(const value<From> *values, std::size_t count, std::uint8_t *codes,
+                                   std::size_t codes_length, code_layout layout = code_layout::bytes,
+                                   storing how = {}, const std::uint8_t *randoms = nullptr) {
+    static_assert(!From::is_pair, "there is no conversion from or to pairs of doubles");
+    if (!detail::has_lowest_byte_first()) return errc::no_such_operation;
+    static const std::uint8_t none = 0;
+    std::uint8_t nowhere = 0;
+    const std::size_t given = values == nullptr ? 0 : count * sizeof(value<From>);
+    apfloat_array_answer answer = {0, 0, 0, 0, 0, 0, 0, 0, 0};
+    const std::uint32_t code = apfloat_store_array(
+        From::code, how.code(), To::code, static_cast<std::uint32_t>(layout), how.digits(), detail::bytes_of(values),
+        given, randoms == nullptr ? &none : randoms, randoms == nullptr ? 0 : 4 * count,
+        codes == nullptr ? &nowhere : codes, codes == nullptr ? 0 : codes_length, &answer);
+    if (code == APFLOAT_ANSWERED && values == nullptr && count != 0) return errc::wrong_length;
+    return detail::counts_of(code, answer);
+}
+
+/// Takes the values out of the bytes of codes of the format `From`: at most `count`, of which there is room for.
+template <class From, class To>
+expected<array_counts> load_array(const std::uint8_t *codes, std::size_t codes_length, value<To> *results,
+                                  std::size_t count, code_layout layout = code_layout::bytes,
+                                  rounding mode = rounding::nearest_even) {
+    static_assert(!To::is_pair, "there is no conversion from or to pairs of doubles");
+    if (!detail::has_lowest_byte_first()) return errc::no_such_operation;
+    static const std::uint8_t none = 0;
+    apfloat_array_answer answer = {0, 0, 0, 0, 0, 0, 0, 0, 0};
+    const std::uint32_t code = apfloat_load_array(
+        From::code, detail::code_of(mode), To::code, static_cast<std::uint32_t>(layout),
+        codes == nullptr ? &none : codes, codes == nullptr ? 0 : codes_length, detail::bytes_of(results),
+        results == nullptr ? 0 : count * sizeof(value<To>), &answer);
+    if (code == APFLOAT_ANSWERED && codes == nullptr && codes_length != 0) return errc::wrong_length;
     return detail::counts_of(code, answer);
 }
 

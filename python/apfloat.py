@@ -78,9 +78,11 @@ from typing import Any, Callable, Generic, Iterable, Iterator, Self, Sequence, T
 
 __all__ = [
     'Array', 'Context', 'DOWNWARD', 'Flags', 'Format', 'Machine', 'Mask', 'NEAREST_AWAY', 'NEAREST_EVEN', 'Refused',
-    'Rounding', 'TOWARD_ZERO', 'UPWARD', 'Value', 'bfloat', 'bfloat16', 'context', 'double', 'double_pair', 'e4m3',
-    'e4m3b11fnuz', 'e4m3fn', 'e4m3fnuz', 'e5m2', 'e5m2fnuz', 'float8_e4m3', 'float8_e4m3b11fnuz', 'float8_e4m3fn',
-    'float8_e4m3fnuz', 'float8_e5m2', 'float8_e5m2fnuz', 'half', 'machine', 'quad', 'single', 'tf32', 'x87',
+    'Rounding', 'StorageFormat', 'Stored', 'StoredArray', 'Storing', 'TOWARD_ZERO', 'TO_ODD', 'UPWARD', 'Value',
+    'bfloat', 'bfloat16', 'context', 'double', 'double_pair', 'e2m1fn', 'e2m3fn', 'e3m2fn', 'e4m3', 'e4m3b11fnuz',
+    'e4m3fn', 'e4m3fnuz', 'e5m2', 'e5m2fnuz', 'e8m0fnu', 'float4_e2m1fn', 'float6_e2m3fn', 'float6_e3m2fn',
+    'float8_e4m3', 'float8_e4m3b11fnuz', 'float8_e4m3fn', 'float8_e4m3fnuz', 'float8_e5m2', 'float8_e5m2fnuz',
+    'float8_e8m0fnu', 'half', 'machine', 'quad', 'single', 'stochastic', 'tf32', 'ue4m3', 'x87',
 ]
 
 
@@ -215,6 +217,11 @@ def _parameters() -> dict[str, list[Any]]:
         'error_text': [code, ctypes.POINTER(_Text)],
         'convert_array': [code, code, code, *array, *array, ctypes.POINTER(_ArrayAnswer)],
         'map_array': [code, code, code, *array * 4, ctypes.POINTER(_ArrayAnswer)],
+        'store': [code, code, code, code, code, _Halves, answer],
+        'load': [code, code, code, code, answer],
+        'compare_stored': [code, code, code, answer],
+        'store_array': [code, code, code, code, code, *array * 3, ctypes.POINTER(_ArrayAnswer)],
+        'load_array': [code, code, code, code, *array * 2, ctypes.POINTER(_ArrayAnswer)],
     }
 
 
@@ -1810,6 +1817,272 @@ def _array_call(name: str, *arguments: Any, of: Format, shape: tuple[int, ...]) 
     return Array(of, room.raw[:length], {name: getattr(answer, name) for name in _COUNTED}, shape)
 
 
+# ---- storage formats
+
+class Storing:
+    """How values are rounded into a storage format, if not in the mode of the context: `TO_ODD`, or `stochastic`."""
+
+    __slots__ = ('mode', 'digits', 'random')
+
+    def __init__(self, mode: int, digits: int = 0, random: Any = 0) -> None:
+        self.mode, self.digits, self.random = mode, digits, random
+
+    def __repr__(self) -> str:
+        return 'TO_ODD' if self.mode == _TO_ODD else f'stochastic({self.digits}, {self.random!r})'
+
+
+# The codes of the modes that only conversions into storage formats have, and of what a NaN becomes.
+_TO_ODD, _STOCHASTIC, _NAN_LARGEST = 5, 6, 0x200
+_CODES_IN_BYTES = 0
+
+TO_ODD = Storing(_TO_ODD)
+
+
+def stochastic(digits: int, random: Any) -> Storing:
+    """Rounding with a random number of `digits` binary digits, 1 to 32; an array takes a number for each value.
+
+    A number between two neighbours becomes the upper one, in magnitude, if floor(2^digits * distance from the lower
+    one / distance of the two) plus the random number is at least 2^digits.
+
+    >>> [float(e2m1fn(2.25, storing=stochastic(2, random))) for random in range(4)]
+    [2.0, 2.0, 2.0, 3.0]
+    """
+    return Storing(_STOCHASTIC, digits, random)
+
+
+class StorageFormat:
+    """A format whose values are only stored and converted; calling it makes one.
+
+    >>> e2m1fn(5.5), float(e2m1fn(5.5)), e8m0fnu(0.75).bits
+    (e2m1fn.from_bits(7), 6.0, 127)
+    """
+
+    def __init__(self, name: str, code: int, width: int, has_nan: bool, known_as: str) -> None:
+        self.name, self.code, self.width, self.has_nan = name, code, width, has_nan
+        # The name of the type of ml_dtypes, if there is one.
+        self._known_as = known_as
+
+    def __repr__(self) -> str:
+        return self.name
+
+    def __reduce__(self) -> str:
+        return self.name
+
+    def from_bits(self, bits: Any) -> Any:
+        """The value with this code; of nested lists or a numpy array of integers, the array with these codes.
+
+        >>> e2m1fn.from_bits([[7, 15]]).to(half)
+        half.array([['6.0', '-6.0']])
+        """
+        if hasattr(bits, '__array_interface__'):
+            bits = bits.tolist()
+        shape, items = _nested(bits)
+        items = [operator.index(item) for item in items]
+        if any(not 0 <= item < 1 << self.width for item in items):
+            raise ValueError(f'{self} has {self.width} bits')
+        return StoredArray(self, bytes(items), shape=shape) if shape else Stored(self, items[0])
+
+    def from_packed(self, data: bytes) -> StoredArray:
+        """The array whose codes are packed in these bytes, as `packed` has them.
+
+        >>> e3m2fn.from_packed(bytes([0x8c, 0x1d, 0x01])).to(half)
+        half.array(['1.0', '-6.0', '2.5', '0.0'])
+        """
+        codes, filled = self._group
+        if len(data) % filled:
+            raise Refused(6)
+        groups = (int.from_bytes(data[at:at + filled], 'little') for at in range(0, len(data), filled))
+        stride, mask = 8 * filled // codes, (1 << self.width) - 1
+        return self.from_bits([group >> stride * place & (mask if codes > 1 else 0xff)
+                               for group in groups for place in range(codes)] or [])
+
+    @property
+    def _group(self) -> tuple[int, int]:
+        """The least codes that fill whole bytes, and these bytes."""
+        return {4: (2, 1), 6: (4, 3)}.get(self.width, (1, 1))
+
+    def _mode(self, storing: Storing | None, nan_largest: bool) -> int:
+        mode = context().mode if storing is None else storing.mode
+        return mode | (_NAN_LARGEST if nan_largest else 0)
+
+    def __call__(self, of: Any, *, storing: Storing | None = None, nan_largest: bool = False) -> Stored:
+        """A value, a float or an integer, rounded once in the mode of the context, or as `storing` says.
+
+        A NaN becomes +0 in a format without one, or with `nan_largest` the largest number.
+        """
+        if isinstance(of, Stored):
+            return of if of.format is self else self(of.to(single), storing=storing, nan_largest=nan_largest)
+        value = _exact_value(of)
+        digits, random = (storing.digits, storing.random) if storing else (0, 0)
+        answer = _call('store', value.format.code, self._mode(storing, nan_largest), self.code, digits, random,
+                       _halves(value.bits))
+        return Stored(self, answer.bits.low)
+
+    def array(self, of: Any, *, storing: Storing | None = None, nan_largest: bool = False) -> StoredArray:
+        """An array of what the format makes of each item of nested lists, of a numpy array or of an `Array`.
+
+        >>> codes = e2m1fn.array([1, -6, 2.5, float('nan')])
+        >>> codes.bits if isinstance(codes.bits, list) else codes.bits.tolist(), codes.counts['invalid_op']
+        ([2, 15, 4, 0], 1)
+        """
+        if isinstance(of, StoredArray):
+            if of.format is self:
+                return of
+            of = of.to(single)
+        if getattr(getattr(of, 'dtype', None), 'name', None) == self._known_as:
+            return StoredArray(self, of.tobytes(), shape=of.shape)
+        if hasattr(of, '__array_interface__'):
+            of = _of_numpy(of, quad)
+        if not isinstance(of, Array):
+            shape, items = _nested(of)
+            is_float = all(type(item) is float for item in items)
+            values = [_exact_value(item) for item in items]
+            source = double if is_float else quad
+            with Context():
+                of = Array(source, source._joined([source(value).bits for value in values]), shape=shape)
+        digits, randoms = storing.digits if storing else 0, b''
+        if storing and storing.mode == _STOCHASTIC:
+            randoms = b''.join(int(number).to_bytes(4, 'little') for number in _nested(storing.random)[1])
+        room, answer = ctypes.create_string_buffer(max(of.size, 1)), _ArrayAnswer()
+        code = _functions.apfloat_store_array(
+            of.format.code, self._mode(storing, nan_largest), self.code, _CODES_IN_BYTES, digits, of._data,
+            len(of._data), randoms, len(randoms), room, of.size, ctypes.byref(answer))
+        if code:
+            raise Refused(code)
+        context().flags |= Flags(answer.status)
+        counts = {name: getattr(answer, name) for name in _COUNTED}
+        return StoredArray(self, room.raw[:of.size], counts, of.shape)
+
+
+def _exact_value(of: Any) -> Value:
+    """A value as it is, and a number as the value that it is."""
+    if isinstance(of, Value):
+        return of
+    if isinstance(of, float):
+        return double(of)
+    if isinstance(of, int):
+        with Context() as exact:
+            made = quad(of)
+        if exact.inexact:
+            raise ValueError(f'{of} is not a value of {quad}')
+        return made
+    number = _plain_number(of)
+    if number is of:
+        raise TypeError(f'{of!r} is neither a value nor a number')
+    return _exact_value(number)
+
+
+class Stored:
+    """A value of a storage format, by its code."""
+
+    __slots__ = ('format', 'bits')
+
+    def __init__(self, format: StorageFormat, bits: int) -> None:
+        self.format, self.bits = format, bits
+
+    def __repr__(self) -> str:
+        return f'{self.format}.from_bits({self.bits})'
+
+    def to(self, format: Format) -> Value:
+        """The value in another format, rounded once in the mode of the context.
+
+        >>> e2m3fn.from_bits(31).to(half), e8m0fnu.from_bits(255).to(single)
+        (half('7.5'), single('nan'))
+        """
+        answer = _call('load', self.format.code, context().mode, format.code, self.bits)
+        return Value(format, _whole(answer.bits))
+
+    def __float__(self) -> float:
+        return float(self.to(double))
+
+    def _compared(self, other: Stored) -> int:
+        """-1, 0 or 1; a storage format with a NaN refuses it."""
+        return _answered('compare_stored', self.format.code, self.bits, other.bits).number
+
+    def __eq__(self, other: Any) -> bool:
+        """Whether both are the same number; a NaN is equal to nothing.
+
+        >>> e2m1fn.from_bits(8) == e2m1fn.from_bits(0), e8m0fnu.from_bits(255) == e8m0fnu.from_bits(255)
+        (True, False)
+        """
+        if not isinstance(other, Stored) or other.format is not self.format:
+            return NotImplemented
+        return float(self) == float(other) if self.format.has_nan else self._compared(other) == 0
+
+    def __lt__(self, other: Any) -> bool:
+        if not isinstance(other, Stored) or other.format is not self.format:
+            return NotImplemented
+        return float(self) < float(other) if self.format.has_nan else self._compared(other) < 0
+
+    def __hash__(self) -> int:
+        return hash(float(self))
+
+
+class StoredArray:
+    """Values of one storage format in any number of axes, by their codes; `counts` says what their rounding raised."""
+
+    __slots__ = ('format', 'shape', 'counts', '_codes')
+
+    def __init__(self, format: StorageFormat, codes: bytes, counts: dict[str, int] | None = None,
+                 shape: tuple[int, ...] | None = None) -> None:
+        self.format, self._codes, self.counts = format, codes, counts
+        self.shape = (len(codes),) if shape is None else shape
+
+    def __len__(self) -> int:
+        return self.shape[0]
+
+    def __repr__(self) -> str:
+        return f'{self.format}.from_bits({_listed(iter(self._codes), self.shape)!r})'
+
+    def __bytes__(self) -> bytes:
+        """A byte for each code."""
+        return self._codes
+
+    @property
+    def bits(self) -> Any:
+        """The codes, as a numpy array of integers without a sign, or without numpy as nested lists."""
+        try:
+            import numpy
+        except ImportError:
+            return _listed(iter(self._codes), self.shape)
+        return numpy.frombuffer(self._codes, 'u1').reshape(self.shape)
+
+    def packed(self) -> bytes:
+        """The codes packed from the lowest bit of the first byte on: two of 4 bits in a byte, four of 6 in three.
+
+        Codes of 7 and 8 bits take a byte each.
+
+        >>> e2m1fn.from_bits([2, 15, 4, 0]).packed().hex(), e3m2fn.from_bits([12, 54, 17, 0]).packed().hex()
+        ('f204', '8c1d01')
+        """
+        codes, filled = self.format._group
+        if len(self._codes) % codes:
+            raise Refused(6)
+        groups = (self._codes[at:at + codes] for at in range(0, len(self._codes), codes))
+        stride = 8 * filled // codes
+        return b''.join(sum(code << stride * place for place, code in enumerate(group)).to_bytes(filled, 'little')
+                        for group in groups)
+
+    def to(self, format: Format) -> Array:
+        """The values in another format, each rounded once in the mode of the context."""
+        return _array_call('load_array', self.format.code, context().mode, format.code, _CODES_IN_BYTES, self._codes,
+                           len(self._codes), of=format, shape=self.shape)
+
+    def __array__(self, dtype: Any = None, copy: bool | None = None) -> Any:
+        """The codes; with a type of numbers, the numbers, which it has to have; with that of ml_dtypes, its values."""
+        import numpy
+        if dtype is None:
+            return numpy.frombuffer(self._codes, 'u1').reshape(self.shape)
+        wanted = numpy.dtype(dtype)
+        if wanted.name == self.format._known_as:
+            return numpy.frombuffer(bytearray(self._codes), 'u1').reshape(self.shape).view(wanted)
+        with Context() as exact:
+            made = self.to(_named(wanted))
+        if exact.flags:
+            raise ValueError(f'not all values are values of {wanted}')
+        return numpy.asarray(made, wanted)
+
+
 # ---- shapes
 
 def _strides(shape: Sequence[int]) -> list[int]:
@@ -2012,9 +2285,16 @@ e5m2fnuz = Format('e5m2fnuz', 17, 8, 3, 5)
 e4m3b11fnuz = Format('e4m3b11fnuz', 18, 8, 4, 4)
 tf32 = Format('tf32', 19, 19, 11, 8)
 
+e2m1fn = StorageFormat('e2m1fn', 32, 4, False, 'float4_e2m1fn')
+e2m3fn = StorageFormat('e2m3fn', 33, 6, False, 'float6_e2m3fn')
+e3m2fn = StorageFormat('e3m2fn', 34, 6, False, 'float6_e3m2fn')
+e8m0fnu = StorageFormat('e8m0fnu', 48, 8, True, 'float8_e8m0fnu')
+ue4m3 = StorageFormat('ue4m3', 49, 7, True, '')
+
 # The formats without -0, whose NaN is there.
 _WITHOUT_NEGATIVE_ZERO = (e4m3fnuz, e5m2fnuz, e4m3b11fnuz)
 
 # The names that ml_dtypes has for these formats.
 bfloat16, float8_e5m2, float8_e4m3fn, float8_e4m3fnuz = bfloat, e5m2, e4m3fn, e4m3fnuz
 float8_e4m3, float8_e5m2fnuz, float8_e4m3b11fnuz = e4m3, e5m2fnuz, e4m3b11fnuz
+float4_e2m1fn, float6_e2m3fn, float6_e3m2fn, float8_e8m0fnu = e2m1fn, e2m3fn, e3m2fn, e8m0fnu

@@ -910,6 +910,111 @@ def integers(xs):
     return integers(xs.tolist()) if isinstance(xs, Array) else int(xs)
 
 
+class StorageTests(unittest.TestCase):
+    """Storage formats. Codes are decoded to fractions by their fields."""
+
+    # Bits, precision, least exponent.
+    ELEMENTS = {'e2m1fn': (4, 2, 0), 'e2m3fn': (6, 4, 0), 'e3m2fn': (6, 3, -2)}
+
+    def points(self, name):
+        """The numbers that are not below zero, in order."""
+        bits, precision, least = self.ELEMENTS[name]
+        written = precision - 1
+        last = Fraction(2) ** (least - written)
+        fields = [divmod(code, 1 << written) for code in range(1 << bits - 1)]
+        return [digits * last if field == 0 else ((1 << written) + digits) * last * 2 ** (field - 1)
+                for field, digits in fields]
+
+    def test_codes(self):
+        for name in self.ELEMENTS:
+            format, points = getattr(apfloat, name), self.points(name)
+            for code in range(2 * len(points)):
+                number = float(points[code % len(points)]) * (-1 if code >= len(points) else 1)
+                stored = format.from_bits(code)
+                self.assertEqual(math.copysign(1, float(stored)), math.copysign(1, number))
+                self.assertEqual(float(stored), number)
+                self.assertEqual(format(number).bits, code)
+                self.assertEqual(stored < format(1.0), number < 1)
+        for code in range(255):
+            self.assertEqual(apfloat.e8m0fnu(2.0 ** (code - 127)).bits, code)
+        self.assertTrue(math.isnan(float(apfloat.e8m0fnu.from_bits(255))))
+        for code in range(127):
+            self.assertEqual(float(apfloat.ue4m3.from_bits(code)), float(apfloat.e4m3fn.from_bits(code)))
+
+    def test_nearest_and_odd(self):
+        draws = random.Random(7)
+        for name in self.ELEMENTS:
+            format, points = getattr(apfloat, name), self.points(name)
+            for _ in range(200):
+                x = draws.uniform(0, float(points[-1]))
+                nearest = min(range(len(points)), key=lambda code: (abs(points[code] - Fraction(x)), code % 2))
+                self.assertEqual(format(x).bits, nearest)
+                below = max(code for code, point in enumerate(points) if point <= x)
+                odd = below + (points[below] != x and below % 2 == 0)
+                self.assertEqual(format(x, storing=apfloat.TO_ODD).bits, odd)
+
+    def test_random_numbers_are_counted(self):
+        for name in self.ELEMENTS:
+            format, points = getattr(apfloat, name), self.points(name)
+            for below in range(0, len(points) - 1, 3):
+                share = Fraction(11, 16)
+                x = float(points[below] + (points[below + 1] - points[below]) * share)
+                xs = apfloat.double.array([x] * 8)
+                above = format.array(xs, storing=apfloat.stochastic(3, range(8)))
+                self.assertEqual(sum(code == below + 1 for code in bytes(above)), math.floor(8 * share))
+                ones = [format(x, storing=apfloat.stochastic(3, number)).bits for number in range(8)]
+                self.assertEqual(bytes(ones), bytes(above))
+
+    def test_nans_and_flags(self):
+        nan = float('nan')
+        with Context() as context:
+            self.assertEqual(apfloat.e2m1fn(nan).bits, 0)
+            self.assertEqual(apfloat.e2m1fn(nan, nan_largest=True).bits, 7)
+        self.assertEqual(context.flags, Flags.INVALID_OP)
+        codes = apfloat.e2m1fn.array([[0.1, 7.0], [nan, -6.0]])
+        self.assertEqual((bytes(codes), codes.shape), (bytes([0, 7, 0, 15]), (2, 2)))
+        self.assertEqual([codes.counts[key] for key in ('values', 'inexact', 'underflow', 'overflow', 'invalid_op')],
+                         [4, 2, 1, 1, 1])
+
+    def test_layouts(self):
+        draws = random.Random(8)
+        for format in (apfloat.e2m1fn, apfloat.e2m3fn, apfloat.e3m2fn, apfloat.e8m0fnu, apfloat.ue4m3):
+            codes = [draws.randrange(1 << format.width) for _ in range(24)]
+            packed = format.from_bits(codes).packed()
+            stride = format.width if format.width <= 6 else 8
+            self.assertEqual(int.from_bytes(packed, 'little'), sum(c << stride * i for i, c in enumerate(codes)))
+            self.assertEqual(bytes(format.from_packed(packed)), bytes(codes))
+
+    def test_refusals(self):
+        for code, call in (
+                (3, lambda: apfloat.e8m0fnu(1.0, storing=apfloat.TO_ODD)),
+                (3, lambda: apfloat.ue4m3(1.0, nan_largest=True)),
+                (11, lambda: apfloat.e2m1fn(1.0, storing=apfloat.stochastic(33, 0))),
+                (12, lambda: apfloat.e2m1fn(1.0, storing=apfloat.stochastic(3, 8))),
+                (12, lambda: apfloat.e2m1fn.array([1.0], storing=apfloat.stochastic(3, [8]))),
+                (6, lambda: apfloat.e2m1fn.array([1.0], storing=apfloat.stochastic(3, [1, 2]))),
+                (6, lambda: apfloat.e2m1fn.from_bits([1]).packed()),
+                (6, lambda: apfloat.e2m3fn.from_packed(bytes(2)))):
+            with self.assertRaises(apfloat.Refused) as refused:
+                call()
+            self.assertEqual(refused.exception.code, code)
+        for bits in (16, -1):
+            with self.assertRaises(ValueError):
+                apfloat.e2m1fn.from_bits(bits)
+        with self.assertRaises(TypeError):
+            apfloat.e2m1fn('1')
+
+    @unittest.skipUnless(numpy and hasattr(ml_dtypes, 'float4_e2m1fn'), 'no types of ml_dtypes for storage formats')
+    def test_ml_dtypes(self):
+        for name in ('float4_e2m1fn', 'float6_e2m3fn', 'float6_e3m2fn', 'float8_e8m0fnu'):
+            format, dtype = getattr(apfloat, name), numpy.dtype(getattr(ml_dtypes, name))
+            codes = numpy.arange(1 << format.width, dtype=numpy.uint8)
+            theirs = codes.view(dtype)
+            self.assertEqual(bytes(format.array(theirs)), bytes(codes))
+            numbers, wanted = numpy.asarray(format.from_bits(codes).to(apfloat.single)), theirs.astype(numpy.float32)
+            numpy.testing.assert_array_equal(numbers, wanted)
+
+
 class LibraryTests(unittest.TestCase):
     """How the shared library is found."""
 

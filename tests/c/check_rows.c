@@ -598,7 +598,10 @@ static unsigned error_texts(void) {
                                         "unknown error code",
                                         "unknown machine",
                                         "an operand is wider than its format",
-                                        "the machine does not have the operation"};
+                                        "the machine does not have the operation",
+                                        "there cannot be so many random digits",
+                                        "a random number has too many digits",
+                                        "unknown layout of codes"};
     unsigned count = 0;
     for (uint32_t error = 0; error <= COUNT(texts); error++) {
         apfloat_text text, wanted;

@@ -242,7 +242,7 @@ void check_errors() {
     CHECK(refused.value_or({number(2.0), {}}).value == number(2.0));
     CHECK(std::string(message(errc::refused_text)) == "the text was refused");
     // The code of a number that is no code has a text too.
-    for (std::uint32_t code = APFLOAT_UNKNOWN_FORMAT; code <= APFLOAT_LACKING_OPERATION; code++) {
+    for (std::uint32_t code = APFLOAT_UNKNOWN_FORMAT; code <= APFLOAT_UNKNOWN_LAYOUT; code++) {
         apfloat_text text = {{0}, 0};
         CHECK(apfloat_error_text(code, &text) == APFLOAT_ANSWERED);
         CHECK(std::string(message(static_cast<errc>(code))) == text.bytes);
@@ -380,6 +380,39 @@ void check_missing_arrays() {
           errc::no_such_operation);
 }
 
+// Storage formats; their rows are checked in C. 2.5 is halfway from 2 to 3 in e2m1fn.
+void check_storage() {
+    const single tie(2.5f);
+    const auto even = store<e2m1fn>(tie);
+    CHECK(even && even->value.bits() == 4 && even->status == flag::inexact && even->loses_info);
+    CHECK(store<e2m1fn>(tie, rounding::upward)->value.bits() == 5);
+    CHECK(store<e2m1fn>(tie, storing::to_odd())->value.bits() == 5);
+    CHECK(store<e2m1fn>(tie, storing::stochastic(1, 0))->value.bits() == 4);
+    CHECK(store<e2m1fn>(tie, storing::stochastic(1, 1))->value.bits() == 5);
+    CHECK(store<e2m1fn>(tie, storing::stochastic(0)).error() == errc::wrong_digits);
+    CHECK(store<e2m1fn>(tie, storing::stochastic(3, 8)).error() == errc::wide_random);
+    CHECK(store<e8m0fnu>(tie, storing::to_odd()).error() == errc::no_such_operation);
+    const auto quiet = std::numeric_limits<single>::quiet_NaN();
+    CHECK(store<e2m3fn>(quiet)->value.bits() == 0 && store<e2m3fn>(quiet)->status == flag::invalid_op);
+    CHECK(store<e2m3fn>(quiet, storing().nan_largest())->value.bits() == 31);
+    CHECK(store<ue4m3>(tie)->value.bits() == 0x42 && store<e8m0fnu>(single(3.0f))->value.bits() == 128);
+    CHECK(!stored<e2m1fn>::from_bits(16) && stored<e8m0fnu>::from_bits(255));
+    const auto least = *stored<e3m2fn>::from_bits(0x3f), zero = *stored<e3m2fn>::from_bits(0x20);
+    CHECK(load<binary16>(least).value.bits() == 0xcf00 && load<binary16>(least).status.none());
+    CHECK(compare(least, zero) == order::less && compare(zero, stored<e3m2fn>()) == order::equal);
+    const std::vector<single> values = {single(1.0f), single(-6.0f), tie, quiet};
+    std::uint8_t codes[2] = {0xff, 0xff};
+    const auto counts = store_array<e2m1fn>(values.data(), 4, codes, sizeof codes, code_layout::packed);
+    CHECK(counts && counts->values == 4 && counts->inexact == 1 && counts->invalid_op == 1);
+    CHECK(codes[0] == 0xf2 && codes[1] == 0x04 && bytes_of_codes<e2m1fn>(4, code_layout::packed) == 2);
+    CHECK(bytes_of_codes<e3m2fn>(12, code_layout::packed) == 9 && bytes_of_codes<ue4m3>(5, code_layout::packed) == 5);
+    std::vector<value<bfloat16>> back(4);
+    CHECK(load_array<e2m1fn>(codes, 2, back.data(), 4, code_layout::packed)->status.none());
+    CHECK(back[1].bits() == 0xc0c0 && back[2].bits() == 0x4000);
+    CHECK(store_array<e2m1fn>(values.data(), 3, codes, 2, code_layout::packed).error() == errc::wrong_length);
+    CHECK(load_array<e2m1fn>(codes, 2, back.data(), 4).error() == errc::wide_operand);
+}
+
 // What machines deliver, as the tables of docs/MACHINES.md have it.
 void check_machines() {
     const auto quiet = single::from_bits(0x7fc00001), signaling = single::from_bits(0x7f800003), one = single(1.0f);
@@ -455,6 +488,7 @@ int main(int count, char **) {
     check_texts();
     check_hashes();
     check_arrays();
+    check_storage();
     check_missing_arrays();
     check_machines();
     check_operations();

@@ -6,13 +6,14 @@ use Rattle.apfloat_c.specs.Decimals.{IsText}
 use Rattle.apfloat_c.specs.KnownCalls.{answered, no_such_operation, refused_text, unknown_format, unknown_mode}
 use Rattle.apfloat_c.specs.KnownCalls.{wrong_width}
 use Rattle.apfloat_c.specs.MachineCalls.{lacking_operation, unknown_machine, wide_operand}
+use Rattle.apfloat_c.specs.StoredCalls.{unknown_layout, wide_random, wrong_digits}
 
 -- the error for a number that no export returns
 abbrev pub unknown_error : ℕ
 unknown_error = 7
 
 abbrev pub greatest_code : ℕ
-greatest_code = lacking_operation
+greatest_code = unknown_layout
 
 abbrev pub error_text : ℕ → List ℕ
 error_text error =
@@ -26,6 +27,9 @@ error_text error =
     else if error == unknown_machine then codes "unknown machine"
     else if error == wide_operand then codes "an operand is wider than its format"
     else if error == lacking_operation then codes "the machine does not have the operation"
+    else if error == wrong_digits then codes "there cannot be so many random digits"
+    else if error == wide_random then codes "a random number has too many digits"
+    else if error == unknown_layout then codes "unknown layout of codes"
     else codes "unknown error code"
 
 -- the code 0 and the text of a code, or the error and the previous contents

@@ -6,5 +6,8 @@ pub mod Arrays
 pub mod Decimals
 pub mod IeeeCalls
 pub mod MachineCalls
+pub mod StoredCalls
+pub mod StoredMaps
 pub mod About
 pub mod OneAnswer
+pub mod StoredOneAnswer

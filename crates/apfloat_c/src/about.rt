@@ -4,7 +4,7 @@ ghost use Rattle.std.specs.Prelude.{◌≡◌, ◌<◌, length};
 ghost use Rattle.apfloat_c.specs.About.{IsErrorText, error_text, version};
 ghost use Rattle.apfloat_c.specs.Decimals.{IsText};
 
-use crate::codes::{ANSWERED, LACKING_OPERATION, UNKNOWN_ERROR};
+use crate::codes::{ANSWERED, UNKNOWN_ERROR, UNKNOWN_LAYOUT};
 use crate::decimals::DecimalText;
 use apfloat_decimals::formatting::CAPACITY;
 
@@ -16,7 +16,7 @@ const VERSION: u32 = 1_000;
 pub extern "C" fn apfloat_error_text(error: u32, text: &mut DecimalText) -> u32
     ensures { IsErrorText error text.old text.new result }
 {
-    if error > LACKING_OPERATION {
+    if error > UNKNOWN_LAYOUT {
         return UNKNOWN_ERROR;
     }
     *text = text_of(error_text(error));
@@ -47,6 +47,9 @@ fn error_text(error: u32) -> &'static str
         8 => "unknown machine",
         9 => "an operand is wider than its format",
         10 => "the machine does not have the operation",
+        11 => "there cannot be so many random digits",
+        12 => "a random number has too many digits",
+        13 => "unknown layout of codes",
         _ => "unknown error code",
     }
 }

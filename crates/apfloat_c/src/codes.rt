@@ -36,8 +36,17 @@ pub const UNKNOWN_MACHINE: u32 = 8;
 /// The error for an operand with bits at or above the width of its format.
 pub const WIDE_OPERAND: u32 = 9;
 
-/// The error for an operation that the machine does not have, and the greatest code.
+/// The error for an operation that the machine does not have.
 pub const LACKING_OPERATION: u32 = 10;
+
+/// The error for a number of random digits that is not from 1 to 32.
+pub const WRONG_DIGITS: u32 = 11;
+
+/// The error for a random number with more digits than were said.
+pub const WIDE_RANDOM: u32 = 12;
+
+/// The error for a code that is not that of a layout, and the greatest code.
+pub const UNKNOWN_LAYOUT: u32 = 13;
 
 /// The mode of calls that take no mode.
 pub const NEAREST_EVEN: u32 = 0;

@@ -25,4 +25,8 @@ mod machine_call;
 mod machine_operations;
 mod maps;
 mod one_answer;
+mod one_stored_answer;
 mod operations;
+mod stored;
+mod stored_calls;
+mod stored_maps;

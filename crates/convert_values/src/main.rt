@@ -8,8 +8,11 @@
 //! there is not enough memory for the buffers, and 4 if a read or a write failed.
 #![tactic(auto)]
 
+mod generator;
 mod job;
 mod run;
+mod stored_job;
+mod stored_stream;
 mod stream;
 #[cfg(test)]
 mod tests;

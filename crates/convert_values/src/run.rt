@@ -4,6 +4,7 @@ ghost use Rattle.std.specs.Prelude.{◌≡◌, IfOk};
 ghost use Rattle.convert_values.specs.Statuses.{failure_status, summary_status};
 
 use crate::job::{HELP, Job};
+use crate::stored_stream::convert_stored_stream;
 use crate::stream::{Failure, Summary, convert_stream};
 use crate::wrong_word::{wrong_form, wrong_word};
 use array_conversions::Counts;
@@ -63,6 +64,13 @@ fn answer<R: Clock + AllocGlobal, I: Read, W: Write, V: Write>(
         Some(Job::Convert(conversion, overflow)) => {
             let progress = Progress::new(is_terminal, rt);
             match convert_stream(rt, conversion, overflow, progress, input, output, err) {
+                Ok(summary) => tell(summary, err),
+                Err(failure) => tell_failure(failure, err),
+            }
+        }
+        Some(Job::Stored(conversion)) => {
+            let progress = Progress::new(is_terminal, rt);
+            match convert_stored_stream(rt, conversion, progress, input, output, err) {
                 Ok(summary) => tell(summary, err),
                 Err(failure) => tell_failure(failure, err),
             }
@@ -135,6 +143,10 @@ pub fn tell_failure<V: Write>(failure: Failure, err: &mut V) -> io::Result<u8>
         }
         Failure::Reading(error) => writeln!(err, "convert_values: reading failed: {error}")?,
         Failure::Writing(error) => writeln!(err, "convert_values: writing failed: {error}")?,
+        Failure::WideCode => writeln!(
+            err,
+            "convert_values: a byte has bits above those of a code of FROM"
+        )?,
         Failure::TooLong => writeln!(err, "convert_values: the stream has too many values")?,
     }
     Ok(FAILED)

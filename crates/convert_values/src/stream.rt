@@ -31,6 +31,8 @@ pub enum Failure {
     Reading(io::Error),
     /// A write failed.
     Writing(io::Error),
+    /// A byte has bits above those of a code.
+    WideCode,
     /// The stream has more than 2^64 blocks.
     TooLong,
 }
@@ -112,7 +114,12 @@ fn convert_through<C: Clock, I: Read, W: Write, V: Write>(
 }
 
 /// Says how many values were written, if that is due.
-fn tell_progress<C: Clock, V: Write>(progress: &mut Progress, values: u64, clock: &C, err: &mut V) {
+pub fn tell_progress<C: Clock, V: Write>(
+    progress: &mut Progress,
+    values: u64,
+    clock: &C,
+    err: &mut V,
+) {
     if let Some(seconds) = progress.due(clock) {
         // A failure of this write is harmless.
         let _ = writeln!(
@@ -123,7 +130,7 @@ fn tell_progress<C: Clock, V: Write>(progress: &mut Progress, values: u64, clock
 }
 
 /// Reads until the buffer is full or the stream ends, and returns how many bytes were read.
-fn fill<R: Read>(input: &mut R, buffer: &mut [u8]) -> io::Result<usize>
+pub fn fill<R: Read>(input: &mut R, buffer: &mut [u8]) -> io::Result<usize>
     ensures { IfOk result (λ filled. filled ≤ length buffer.new) }
 {
     let mut filled = 0;

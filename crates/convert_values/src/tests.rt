@@ -145,6 +145,96 @@ fn stores_tf32_in_the_lowest_bits_of_four_bytes(rt: HostRuntime) -> Result<(), F
     Ok(())
 }
 
+/// 1, -6, 2.5 and a NaN.
+const TO_STORE: &[u8] = b"\x00\x00\x80\x3f\x00\x00\xc0\xc0\x00\x00\x20\x40\x00\x00\xc0\x7f";
+
+/// Codes worked out by hand: 2.5 is halfway from 2 to 3 in e2m1fn, and a number of e3m2fn.
+#[test]
+fn stores_codes(rt: HostRuntime) -> Result<(), Fail> {
+    for (line, wanted) in [
+        ("single e2m1fn even", b"\x02\x0f\x04\x00".as_slice()),
+        ("single e2m1fn up", b"\x02\x0f\x05\x00"),
+        ("single e2m1fn odd", b"\x02\x0f\x05\x00"),
+        ("--packed single e2m1fn even", b"\xf2\x04"),
+        ("--saturate-finite single e2m1fn even", b"\x02\x0f\x04\x07"),
+        ("--saturate-finite --packed single e2m1fn even", b"\xf2\x74"),
+        ("--packed single e3m2fn even", b"\x8c\x1d\x01"),
+        ("single e8m0fnu even", b"\x7f\xff\x80\xff"),
+        ("--packed single ue4m3 even", b"\x38\x7f\x42\x7f"),
+    ] {
+        let (output, _, status) = answer_to(&rt, line, TO_STORE)?;
+        assert_eq!(rt; (output.as_slice(), status), (wanted, 0), "{line}");
+    }
+    let (_, err, _) = answer_to(&rt, "single e2m1fn even", TO_STORE)?;
+    assert_eq!(rt;
+        err.as_slice(),
+        b"values 4, inexact 1, underflow 0, overflow 0, invalid 1, NaNs 0\n".as_slice()
+    );
+    Ok(())
+}
+
+/// And back: 1, -6, 2 and 0, from both layouts. Three codes of 6 bits do not fill three bytes.
+#[test]
+fn takes_values_out_of_codes(rt: HostRuntime) -> Result<(), Fail> {
+    let wanted = b"\x80\x3f\xc0\xc0\x00\x40\x00\x00";
+    let (output, _, status) = answer_to(&rt, "e2m1fn bfloat even", b"\x02\x0f\x04\x00")?;
+    assert_eq!(rt; (output.as_slice(), status), (wanted.as_slice(), 0));
+    let (output, _, status) = answer_to(&rt, "--packed e2m1fn bfloat even", b"\xf2\x04")?;
+    assert_eq!(rt; (output.as_slice(), status), (wanted.as_slice(), 0));
+    let (output, _, status) = answer_to(&rt, "--packed e3m2fn half even", b"\x8c\x1d\x01\x00")?;
+    assert_eq!(rt;
+        (output.as_slice(), status),
+        (b"\x00\x3c\x00\xc6\x00\x41\x00\x00".as_slice(), 1)
+    );
+    let (output, _, status) = answer_to(&rt, "--packed single e2m1fn even", &TO_STORE[..12])?;
+    assert_eq!(rt; (output.as_slice(), status), (b"\xf2".as_slice(), 1));
+    let (output, err, status) = answer_to(&rt, "e2m1fn half even", b"\x02\x10")?;
+    assert!(rt; output.is_empty());
+    assert!(rt;
+        err.as_slice()
+            .starts_with(b"convert_values: a byte has bits above")
+    );
+    assert_eq!(rt; status, 4);
+    Ok(())
+}
+
+/// Eight times 2.5, which goes to 3 where the random number is at least 2^31. The words of the generator from 42 were
+/// computed elsewhere; their upper halves are 10, 2685053693, 2333292956, 674990334, 1318150115, 2350379700,
+/// 2663579162 and 2473653622.
+#[test]
+fn draws_random_digits(rt: HostRuntime) -> Result<(), Fail> {
+    let halves = b"\x00\x41\x00\x41\x00\x41\x00\x41\x00\x41\x00\x41\x00\x41\x00\x41";
+    let line = "--packed --stochastic 42 half e2m1fn";
+    let (output, _, status) = answer_to(&rt, line, halves)?;
+    assert_eq!(rt;
+        (output.as_slice(), status),
+        (b"\x54\x45\x54\x55".as_slice(), 0)
+    );
+    for line in [
+        "--stochastic 0 half e2m1fn",
+        "--stochastic 18446744073709551616 half e2m1fn",
+        "--stochastic 1x half e2m1fn",
+        "--stochastic 42 half e2m1fn even",
+        "--stochastic 42 half ue4m3",
+        "--stochastic 42 half e4m3fn",
+        "--stochastic half e2m1fn",
+        "--saturate half e2m1fn even",
+        "--saturate-finite half ue4m3 even",
+        "--saturate-finite half e4m3fn even",
+        "--packed half e4m3fn even",
+        "half ue4m3 odd",
+        "e2m1fn half odd",
+        "e2m1fn e2m3fn even",
+        "half single odd",
+    ] {
+        let (output, err, status) = answer_to(&rt, line, halves)?;
+        assert!(rt; output.is_empty());
+        assert!(rt; err.as_slice().starts_with(b"convert_values: "), "{line}");
+        assert_eq!(rt; status, 2, "{line}");
+    }
+    Ok(())
+}
+
 #[test]
 fn refuses_other_words(rt: HostRuntime) -> Result<(), Fail> {
     for line in [

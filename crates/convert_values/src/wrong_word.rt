@@ -2,10 +2,14 @@
 
 use commands::{FORMATS, MODES, WrongWord};
 use formats_at_run_time::{BuiltInKind, mode_named};
+use storage_at_run_time::StoredKind;
 
 /// The options before a format.
 static OPTIONS: &[&str] = &[
     "--saturate",
+    "--saturate-finite",
+    "--packed",
+    "--stochastic",
     "--x87-bytes=10",
     "--x87-bytes=16",
     "--help",
@@ -16,6 +20,7 @@ static OPTIONS: &[&str] = &[
 /// The first wrong word, if three words and any options before them make a job.
 pub fn wrong_word(words: &[String]) -> Option<WrongWord<'_>> {
     match words {
+        [word, _, others @ ..] if word.as_str() == "--stochastic" => wrong_word(others),
         [word, others @ ..] if is_option(word.as_str()) => wrong_word(others),
         [word, ..] if word.as_str().starts_with('-') => Some(WrongWord {
             fault: "no such option",
@@ -33,6 +38,9 @@ pub fn wrong_word(words: &[String]) -> Option<WrongWord<'_>> {
 
 /// What is wrong with words none of which is wrong.
 pub fn wrong_form(words: &[String]) -> &'static str {
+    if names_storage(words) {
+        return "the option, the mode or the seed is not one of these formats";
+    }
     match words {
         [.., source, _, _] if !is_option(source.as_str()) => {
             "an option is given twice, or `--saturate` is not the first"
@@ -41,9 +49,24 @@ pub fn wrong_form(words: &[String]) -> &'static str {
     }
 }
 
+/// Whether a word names a storage format, or is an option that these alone have.
+fn names_storage(words: &[String]) -> bool {
+    for word in words {
+        if StoredKind::named(word.as_str()).is_some() || is_storage_option(word.as_str()) {
+            return true;
+        }
+    }
+    false
+}
+
 /// Whether the word is an option.
 fn is_option(word: &str) -> bool {
-    matches!(word, "--saturate" | "--x87-bytes=10" | "--x87-bytes=16")
+    matches!(word, "--saturate" | "--x87-bytes=10" | "--x87-bytes=16") || is_storage_option(word)
+}
+
+/// Whether the word is an option of storage formats.
+fn is_storage_option(word: &str) -> bool {
+    matches!(word, "--packed" | "--saturate-finite" | "--stochastic")
 }
 
 /// The first that does not exist, of two formats and a mode.
@@ -64,7 +87,7 @@ fn wrong_name(names: &[String]) -> Option<WrongWord<'_>> {
             word: target.as_str(),
             known: FORMATS,
         })
-    } else if mode_named(mode.as_str()).is_none() {
+    } else if !is_mode(mode.as_str(), target.as_str()) {
         Some(WrongWord {
             fault: "no such mode",
             word: mode.as_str(),
@@ -77,8 +100,16 @@ fn wrong_name(names: &[String]) -> Option<WrongWord<'_>> {
 
 /// Whether the word names a format.
 fn is_format(word: &str) -> bool {
+    if StoredKind::named(word).is_some() {
+        return true;
+    }
     match BuiltInKind::named(word) {
         Some(kind) => kind.format().is_some(),
         None => false,
     }
+}
+
+/// Whether the word names a mode of conversions to the format of the other word.
+fn is_mode(word: &str, target: &str) -> bool {
+    mode_named(word).is_some() || (word == "odd" && StoredKind::named(target).is_some())
 }

@@ -41,8 +41,9 @@ impl<'a> InFormat for Computation<'a> {
 
 /// The value of a word.
 #[derive_where(Clone, Copy)]
-struct Given<S: Semantics> {
-    value: IeeeFloat<S>,
+pub struct Given<S: Semantics> {
+    /// The value.
+    pub value: IeeeFloat<S>,
     reading: Reading,
     is_rounded: bool,
 }
@@ -81,7 +82,7 @@ fn values_of<'a, S: Semantics>(words: &'a [String]) -> Result<[Given<S>; 3], &'a
 }
 
 /// The value of a word: a number followed by `d`, bits, or any other number.
-fn value_of<S: Semantics>(word: &str) -> Option<Given<S>>
+pub fn value_of<S: Semantics>(word: &str) -> Option<Given<S>>
     requires written { S.PRECISION < S.BITS }
     requires within { IsWithinQuad (format_of S.Semantics) }
 {
@@ -159,7 +160,7 @@ fn explanation<S: Semantics>(
 }
 
 /// The widths of a format's fields.
-fn widths<S: Semantics>() -> Widths {
+pub fn widths<S: Semantics>() -> Widths {
     Widths {
         bits: S::BITS as u32,
         exponent: S::EXP_BITS as u32,
@@ -184,7 +185,7 @@ pub fn computed<S: Flagged>(
 }
 
 /// The value of a word as it is shown.
-fn operand<S: Semantics>(given: Given<S>) -> Operand
+pub fn operand<S: Semantics>(given: Given<S>) -> Operand
     requires written { S.PRECISION < S.BITS }
     requires within { IsWithinQuad (format_of S.Semantics) }
 {
@@ -238,7 +239,7 @@ fn number<S: Semantics>(x: IeeeFloat<S>) -> Meaning {
 }
 
 /// A value in the format of 125 digits, which has every number of the format.
-fn widened<S: Semantics>(x: IeeeFloat<S>) -> Vast {
+pub fn widened<S: Semantics>(x: IeeeFloat<S>) -> Vast {
     let mut loses_info = false;
     let converted: StatusAnd<Vast> = x.convert_r(Round::NearestTiesToEven, &mut loses_info);
     converted.value
@@ -296,13 +297,15 @@ fn exact_result(downward: &StatusAnd<Vast>) -> Exact {
 
 /// A place between two neighbours.
 #[derive(Clone, Copy)]
-struct Way {
-    parts: u32,
-    side: Side,
+pub struct Way {
+    /// The distance from the lower one, in 64ths of the way, rounded down.
+    pub parts: u32,
+    /// How it compares with the midpoint.
+    pub side: Side,
 }
 
 /// The place of a number between two neighbours. The number is rounded downward, and inexact if it is greater.
-fn way_between(lower: Vast, upper: Vast, exact: &StatusAnd<Vast>) -> Way {
+pub fn way_between(lower: Vast, upper: Vast, exact: &StatusAnd<Vast>) -> Way {
     let gap = (upper - lower).value;
     let above = exact.value.sub_r(lower, Round::TowardNegative);
     let is_cut = exact.status.union(above.status).intersects(Status::INEXACT);

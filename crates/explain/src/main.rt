@@ -10,10 +10,12 @@
 
 mod compute;
 mod explanation;
+mod grid;
 mod on_machine;
 mod picture;
 mod question;
 mod run;
+mod storing;
 
 use crate::run::run;
 use commands::words_of_system;

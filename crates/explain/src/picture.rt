@@ -58,7 +58,7 @@ fn write_operands<W: Write>(
 }
 
 /// Writes an operand: its value, and how its word was read.
-fn write_operand<W: Write>(
+pub fn write_operand<W: Write>(
     widths: Widths,
     name: &str,
     operand: &Operand,
@@ -92,7 +92,7 @@ fn name_of(operation: Operation) -> &'static str {
 }
 
 /// The rule of a rounding mode.
-fn rule_of(round: Round) -> &'static str {
+pub fn rule_of(round: Round) -> &'static str {
     match round {
         Round::NearestTiesToEven => "to nearest, ties to even",
         Round::TowardPositive => "toward positive",
@@ -322,7 +322,7 @@ fn write_pick<W: Write>(round: Round, between: &Between, out: &mut W) -> io::Res
 }
 
 /// Why a neighbour is picked.
-fn reason_of(round: Round, side: Side) -> &'static str {
+pub fn reason_of(round: Round, side: Side) -> &'static str {
     match (round, side) {
         (Round::NearestTiesToEven, Side::Middle) => "Of two as near, the even one is taken,",
         (Round::NearestTiesToAway, Side::Middle) =>
@@ -335,7 +335,7 @@ fn reason_of(round: Round, side: Side) -> &'static str {
 }
 
 /// Writes the flags, each with the clause of IEEE 754-2019 that defines it.
-fn write_flags<W: Write>(status: Status, in_colour: bool, out: &mut W) -> io::Result<()> {
+pub fn write_flags<W: Write>(status: Status, in_colour: bool, out: &mut W) -> io::Result<()> {
     if status.is_empty() {
         return writeln!(out, "flags   none");
     }

@@ -1,17 +1,21 @@
 //! The question that the words of a command line ask.
 
+use crate::storing::StoredQuestion;
 use apfloat_machines::Machine;
 use formats_at_run_time::{Arithmetic, BuiltInFormat, BuiltInKind, IeeeFormat, mode_named};
 use rustc_apfloat::Round;
+use storage_at_run_time::StoredKind;
+use storage_formats::ConversionRound;
 
 /// The help; `packaging/manual` makes the man page and the completions of it.
 pub const HELP: &str = "\
 usage: explain [--machine NAME] FORMAT OP MODE A [B [C]]
        explain [--machine NAME] FORMAT A
+       explain FORMAT to TO MODE A
        explain --help | --version
 
 Shows how an operation in the format FORMAT gets its result, or what the value
-A is.
+A is; or how A becomes a value of the storage format TO, among all its numbers.
 
 FORMAT   half single double quad bfloat e5m2 e4m3fn e4m3fnuz x87 e4m3
          e5m2fnuz e4m3b11fnuz tf32
@@ -23,6 +27,8 @@ MODE     even    to the nearest value, ties to even
          down    toward negative
          zero    toward zero
          away    to the nearest value, ties away from zero
+TO       e2m1fn e2m3fn e3m2fn; these have one mode more:
+         odd     to the neighbour whose significand is odd
 A, B, C  a value as its bits, in hexadecimal digits, with or without 0x; or as
          a number: 0.1, -1e-7, 0x1.8p-1, inf, nan
 
@@ -45,6 +51,7 @@ not enough memory for them, and 1 if a write fails.
     explain half add even 3c01 1000
     explain double add even 0.1 0.2
     explain half 3c00
+    explain single to e2m1fn even 2.6
     explain --machine arm single add even 7fc00001 ff800002
 ";
 
@@ -167,6 +174,8 @@ pub enum Fault<'a> {
     Value(&'a str),
     /// No machine has this name.
     Machine(&'a str),
+    /// No storage format whose numbers can be drawn has this name.
+    Elements(&'a str),
     /// The machine of this name has no fused sums, or machines do not have the format.
     Lacks(&'a str),
 }
@@ -248,4 +257,53 @@ impl<'a> Question<'a> {
 fn is_lacking(machine: Machine, format: BuiltInFormat, operation: Operation) -> bool {
     let is_fused = matches!(operation, Operation::FusedSum);
     IeeeFormat::of(BuiltInKind::OfFormat(format)).is_none() || (is_fused && !machine.has_fused())
+}
+
+/// The conversion into a storage format that these words ask for, or the first fault; `None` if they ask for none.
+pub fn stored_question(words: &[String]) -> Option<Result<StoredQuestion<'_>, Fault<'_>>> {
+    match words {
+        [format, to, rest @ ..] if to.as_str() == "to" => Some(conversion_asked(format, rest)),
+        _ => None,
+    }
+}
+
+/// The conversion that the words after `to` ask for.
+fn conversion_asked<'a>(
+    format: &'a String,
+    words: &'a [String],
+) -> Result<StoredQuestion<'a>, Fault<'a>> {
+    let format_word = format.as_str();
+    let Some(BuiltInKind::OfFormat(format)) = BuiltInKind::named(format_word) else {
+        return Err(Fault::Format(format_word));
+    };
+    let [kind, mode, operand] = words else {
+        return Err(if words.len() < 3 {
+            Fault::TooFew
+        } else {
+            Fault::TooMany
+        });
+    };
+    let kind_word = kind.as_str();
+    let Some(StoredKind::Element(kind)) = StoredKind::named(kind_word) else {
+        return Err(Fault::Elements(kind_word));
+    };
+    let Some(mode) = conversion_mode_named(mode.as_str()) else {
+        return Err(Fault::Mode(mode.as_str()));
+    };
+    Ok(StoredQuestion {
+        format_word,
+        format,
+        kind_word,
+        kind,
+        mode,
+        operand,
+    })
+}
+
+/// The mode of this word: one of IEEE 754, or `odd`.
+fn conversion_mode_named(word: &str) -> Option<ConversionRound> {
+    match word {
+        "odd" => Some(ConversionRound::ToOdd),
+        _ => Some(ConversionRound::Ieee(mode_named(word)?)),
+    }
 }

@@ -1,8 +1,10 @@
 //! Runs the program.
 
 use crate::compute::Computation;
+use crate::grid::write_stored;
 use crate::picture::write_explanation;
-use crate::question::{Fault, HELP, MACHINES, OPERATIONS, OPTIONS, Question};
+use crate::question::{Fault, HELP, MACHINES, OPERATIONS, OPTIONS, Question, stored_question};
+use crate::storing::StoredComputation;
 use commands::{About, FORMATS, MODES, WrongWord, suggested, write_fault};
 use std::io;
 use std::io::{ErrorKind, Write};
@@ -46,6 +48,19 @@ fn answer<W: Write, V: Write>(
         about.answer(PROGRAM, HELP, out)?;
         return Ok(0);
     }
+    if let Some(asked) = stored_question(words) {
+        let question = match asked {
+            Ok(question) => question,
+            Err(fault) => return refuse(fault, err),
+        };
+        return match question.format.run(StoredComputation { question }) {
+            Ok(explanation) => {
+                write_stored(question, &explanation, in_colour, out)?;
+                Ok(0)
+            }
+            Err(word) => refuse(Fault::Value(word), err),
+        };
+    }
     let question = match Question::named(words) {
         Ok(question) => question,
         Err(fault) => return refuse(fault, err),
@@ -77,6 +92,10 @@ fn refuse<V: Write>(fault: Fault, err: &mut V) -> io::Result<u8> {
             write!(err, "explain: no format '{word}' ({FORMAT_WORDS})")?;
             suggest(word, FORMATS, err)?;
         }
+        Fault::Elements(word) => writeln!(
+            err,
+            "explain: no format of elements '{word}' (e2m1fn e2m3fn e3m2fn)"
+        )?,
         Fault::Operation(word) => {
             write!(
                 err,

@@ -1,0 +1,4 @@
+pub mod CodesWritten
+pub mod StoredSoFar
+pub mod Digits
+pub mod CodesRead
