@@ -19,3 +19,4 @@ mod MovesScaled
 mod RestLosses
 mod ModePicks
 mod ModesOnce
+mod QuotientPicks

@@ -25,6 +25,7 @@ mod projected;
 mod projected_from;
 mod projected_to;
 mod projection;
+mod quotients;
 #[cfg(test)]
 mod projection_rows;
 #[cfg(test)]

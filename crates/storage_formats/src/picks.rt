@@ -8,12 +8,12 @@ ghost use Rattle.storage_formats.specs.Codes.{index_of};
 ghost use Rattle.storage_formats.specs.Picks.{IsPickedAt, IsPointAt};
 ghost use Rattle.storage_formats.specs.PicksBy.{IsPickedBy, moves};
 
-use crate::cuts::{cut, parts_of_rest};
+use crate::cuts::{cut, cut_number, parts_of_rest};
 use crate::modes::{ConversionRound, RandomDigits};
 use apfloat_base::{ExpInt, Round};
 use apfloat_model::Loss;
 use apfloat_rounding::rounding::moves_up;
-use apfloat_words::{is_exact, power_of_two};
+use apfloat_words::{digits, is_exact, power_of_two};
 
 /// The number of the point that is picked, and whether the point is the number itself.
 #[derive(Clone, Copy)]
@@ -168,6 +168,32 @@ fn pick_power(digits: u128, unit: ExpInt, mode: Round, negative: bool) -> Picked
     let kept = cut(1, digits, unit);
     let below = index_of(1, kept.significand, kept.place);
     let moves = moves_up(mode, negative, kept.loss, below % 2 == 1);
+    Picked {
+        index: moved_index(below, moves),
+        exact: is_exact(kept.loss),
+    }
+}
+
+/// The point that is picked for `number * 2^unit` quanta, below which `loss` was lost.
+pub(crate) fn pick_with_loss(
+    precision: u32,
+    number: u128,
+    loss: Loss,
+    unit: ExpInt,
+    mode: Round,
+    negative: bool,
+) -> Picked
+    requires some { 0 < precision }
+    requires precise { precision ≤ 8 }
+    requires long { 2 ^ 124 ≤ number }
+    requires within { IsWithin unit_bound unit }
+    ensures { (amount parts : ℕ) → 0 < parts
+        → StandsFor number loss (amount * 2 ^ down unit) (parts * 2 ^ up unit)
+        → IsPickedAt precision mode negative amount parts result.index result.exact }
+{
+    let kept = cut_number(precision, number, digits(number), unit, loss);
+    let below = index_of(precision, kept.significand, kept.place);
+    let moves = moves_up(mode, negative, kept.loss, kept.significand % 2 == 1);
     Picked {
         index: moved_index(below, moves),
         exact: is_exact(kept.loss),
