@@ -1,8 +1,16 @@
-mod Points
-mod StoredPicks
-mod StoredNumbers
-mod ScalePicks
-mod OneAnswer
-mod CodesCompared
-mod Converted
-mod UnsignedSigns
+pub mod Points
+pub mod StoredPicks
+pub mod StoredNumbers
+pub mod ScalePicks
+pub mod OneAnswer
+pub mod CodesCompared
+pub mod Converted
+pub mod UnsignedSigns
+pub mod CodePicks
+pub mod ProjectedPicks
+pub mod ProjectedCodes
+pub mod ProjectedValues
+pub mod ProjectedOnce
+pub mod NarrowCodes
+pub mod ProjectedOrder
+pub mod ProjectedNeighbours

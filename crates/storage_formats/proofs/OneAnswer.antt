@@ -33,7 +33,7 @@ AreSame code status loses other flags lost = (code ≡ other) × (status ≡ fla
 -- ---- codes
 
 -- a code is its sign and its magnitude
-code_is : (half code : ℕ) → code < 2 * half → code ≡ cond (leb half code) half 0 + code % half
+pub code_is : (half code : ℕ) → code < 2 * half → code ≡ cond (leb half code) half 0 + code % half
 code_is half code l =
     ⊎_elim
     (λ (k : code < half).
@@ -51,7 +51,7 @@ code_is half code l =
     (cases_lt code half)
 
 -- no two codes mean one number
-code_once : (c : Constants) (code other : ℕ) (x : Datum) → IsLawful c → code < 2 ^ c.bits → other < 2 ^ c.bits
+pub code_once : (c : Constants) (code other : ℕ) (x : Datum) → IsLawful c → code < 2 ^ c.bits → other < 2 ^ c.bits
     → datum_of c code ≡ x → datum_of c other ≡ x → code ≡ other
 code_once c code other x law l k e f =
     let low = law.precision_low in

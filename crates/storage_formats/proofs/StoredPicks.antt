@@ -82,7 +82,7 @@ largest_point c law =
 
 -- ---- what is delivered
 
-not_greater : (p i j : ℕ) → 0 < p → i ≤ j → point p i ≤ point p j
+pub not_greater : (p i j : ℕ) → 0 < p → i ≤ j → point p i ≤ point p j
 not_greater p i j some l =
     ⊎_elim
     (λ (k : i < j). let q = points_in_order p i j some k in omega (arith, q))

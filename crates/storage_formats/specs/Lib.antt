@@ -8,3 +8,8 @@ pub mod Laws
 pub mod Orders
 pub mod Unsigned
 pub mod LawTest
+pub mod Projections
+pub mod ProjectionLaws
+pub mod ProjectionLawTest
+pub mod Float8E3M4
+pub mod ProjectionTypes

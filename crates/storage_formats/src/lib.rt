@@ -10,10 +10,19 @@
 #![tactic(auto)]
 
 mod cuts;
+mod float8_e3m4;
 mod format;
 mod from_value;
 mod named;
 mod picks;
+mod projected;
+mod projected_from;
+mod projected_to;
+mod projection;
+#[cfg(test)]
+mod projection_rows;
+#[cfg(test)]
+mod projection_tests;
 #[cfg(test)]
 mod rows;
 mod scales;
@@ -24,12 +33,16 @@ mod theorems;
 mod to_value;
 mod unsigned;
 
+pub use float8_e3m4::Float8E3M4;
 pub use format::StorageFormat;
 pub use named::{E2M1FN, E2M3FN, E3M2FN};
+pub use projected::Projected;
+pub use projection::{Binary8P1UF, Binary8P3, Binary8P4, Binary8P5, Projection};
 pub use scales::E8M0FNU;
 pub use stored::StoredFloat;
 pub use theorems::{
-    codes_are_in_order, conversions_have_one_answer, scales_have_one_answer,
-    unsigned_conversions_have_one_answer,
+    codes_are_in_order, conversions_have_one_answer, next_values_are_nearest,
+    one_is_in_the_middle, picks_of_codes_are_picks, projections_have_one_answer,
+    scales_have_one_answer, unsigned_conversions_have_one_answer,
 };
 pub use unsigned::UE4M3;

@@ -7,8 +7,9 @@ use crate::rows::{
     INTO_E2M1FN, INTO_E2M3FN, INTO_E3M2FN, INTO_E8M0FNU, INTO_UE4M3, OUT_OF_E2M1FN, OUT_OF_E2M3FN,
     OUT_OF_E3M2FN, OUT_OF_E8M0FNU, OUT_OF_UE4M3, UE4M3 as UE4M3_ROWS,
 };
-use crate::{E2M1FN, E2M3FN, E3M2FN, E8M0FNU, StorageFormat, StoredFloat, UE4M3};
-use apfloat_base::{Flags, Float, Round, StatusAnd};
+use crate::projection_rows::{INTO_E3M4, OUT_OF_E3M4};
+use crate::{E2M1FN, E2M3FN, E3M2FN, E8M0FNU, Float8E3M4, StorageFormat, StoredFloat, UE4M3};
+use apfloat_base::{Category, Flags, Float, Round, StatusAnd};
 use apfloat_formats::{Float8E4M3FNS, Float8E5M2S, HalfS, Single, SingleS};
 use apfloat_ieee::{IeeeFloat, Semantics};
 use apfloat_words::low_digits;
@@ -66,6 +67,17 @@ impl Stored for UE4M3 {
 
     fn load<T: Semantics>(code: u8, mode: Round, loses_info: &mut bool) -> StatusAnd<IeeeFloat<T>> {
         UE4M3::from_bits(code).convert_r(mode, loses_info)
+    }
+}
+
+impl Stored for Float8E3M4 {
+    fn store<S: Semantics>(x: IeeeFloat<S>, mode: Round, loses_info: &mut bool) -> StatusAnd<u8> {
+        let answer = Float8E3M4::from_value(x, mode, loses_info);
+        answer.status.and(answer.value.to_bits())
+    }
+
+    fn load<T: Semantics>(code: u8, mode: Round, loses_info: &mut bool) -> StatusAnd<IeeeFloat<T>> {
+        Float8E3M4::from_bits(code).convert_r(mode, loses_info)
     }
 }
 
@@ -170,6 +182,7 @@ fn checksums(rt: HostRuntime) {
     check_checksums::<StoredFloat<E3M2FN>>(&rt, 63, &INTO_E3M2FN, &OUT_OF_E3M2FN);
     check_checksums::<E8M0FNU>(&rt, 255, &INTO_E8M0FNU, &OUT_OF_E8M0FNU);
     check_checksums::<UE4M3>(&rt, 127, &INTO_UE4M3, &OUT_OF_UE4M3);
+    check_checksums::<Float8E3M4>(&rt, 255, &INTO_E3M4, &OUT_OF_E3M4);
 }
 
 /// The order of codes is that of the numbers; both zeros are equal.
@@ -187,4 +200,21 @@ fn order(rt: HostRuntime) {
         assert_eq!(rt; x.compare(y), wanted);
         assert_eq!(rt; y.compare(x), wanted.reverse());
     }
+}
+
+/// The infinities of `e3m4` are at the ends, and its NaNs are unordered.
+#[test]
+fn order_of_e3m4(rt: HostRuntime) {
+    let ascending = [0xf0, 0xef, 0x81, 0x00, 0x6f, 0x70];
+    for i in 1..6 {
+        let x = Float8E3M4::from_bits(ascending[i - 1]);
+        let y = Float8E3M4::from_bits(ascending[i]);
+        assert_eq!(rt; x.compare(y), Some(Ordering::Less));
+        assert_eq!(rt; y.compare(x), Some(Ordering::Greater));
+    }
+    let quiet = Float8E3M4::from_bits(0x78);
+    assert_eq!(rt; quiet.compare(quiet), None);
+    assert_eq!(rt; quiet.category(), Category::NaN);
+    assert_eq!(rt; Float8E3M4::from_bits(0xf0).category(), Category::Infinity);
+    assert!(rt; Float8E3M4::from_bits(0x80).is_negative());
 }

@@ -1,0 +1,7 @@
+pub mod LawTest
+pub mod Formats
+pub mod Settling
+pub mod SettledSigns
+pub mod SettledConversions
+pub mod CodedNumbers
+pub mod Determined
