@@ -6,7 +6,8 @@
 //! do, and otherwise by an exact division, in 128 binary digits (`short_division`) or in words on the stack
 //! (`long_division`, `large`). `FromStr` of a `Decimal` keeps the digits of its text (`parsing`).
 //!
-//! Writing: `shortest` finds the shortest decimal that reads back as a value (`shortest_decimal`, `shortest_guess`),
+//! Writing: `shortest` finds the shortest decimal that reads back as a value (`shortest_interval`, `shortest_guess`,
+//! `shortest_decimal`),
 //! `rounded` rounds a value to a number of digits (`rounded_decimal`), both from its first digits (`leading_digits`),
 //! and `exact` gives the decimal that equals a value (`exact_decimal`). `formatting` produces the text of a `Decimal`,
 //! which `Display` writes. `round_trips` states what holds for values that are read back.
@@ -33,6 +34,7 @@ mod scaling;
 mod short_division;
 mod shortest_decimal;
 mod shortest_guess;
+mod shortest_interval;
 mod texts;
 
 pub use decimal::{Decimal, built_in_formats, from_decimal};
