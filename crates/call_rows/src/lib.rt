@@ -4,12 +4,14 @@
 //! Only the safety of these functions is proved.
 #![tactic(auto)]
 
+mod augmented;
 mod compared_between;
 mod decimals;
 mod digits;
 mod fewer_digits;
 mod flags;
 mod formats;
+mod hex;
 mod in_another;
 mod in_one;
 mod magnitudes;
