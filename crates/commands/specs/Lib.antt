@@ -3,3 +3,4 @@ pub mod Operands
 pub mod Replies
 pub mod Suggestions
 pub mod About
+pub mod Progress

@@ -1,5 +1,10 @@
 //! When a long task reports its progress.
 
+ghost use Rattle.std.specs.Prelude.{◌≡◌, ℕ, false, Option, Some, None};
+ghost use Rattle.std.specs.Option.{option_map};
+ghost use Rattle.commands.specs.Progress.{IsNext};
+
+use std::marker::Model;
 use std::rt::Clock;
 use std::time::Instant;
 
@@ -13,9 +18,18 @@ pub struct Progress {
     due: u64,
 }
 
+impl Model for Progress {
+    ghost Value = { Option ℕ };
+
+    ghost view = { λ p. option_map (λ start. p.due) p.start };
+}
+
 impl Progress {
     /// The progress messages of a task that begins now; none if they are not shown, or if there is no clock.
-    pub fn new<C: Clock>(is_shown: bool, clock: &C) -> Progress {
+    pub fn new<C: Clock>(is_shown: bool, clock: &C) -> Progress
+        ensures hidden { is_shown ≡ false → result ≡ None }
+        ensures first { (due : ℕ) → result ≡ Some due → due ≡ 2 }
+    {
         Progress {
             start: if is_shown {
                 Instant::now(clock).ok()
@@ -27,7 +41,9 @@ impl Progress {
     }
 
     /// The seconds since the task began, if a message is due, which then counts as written; otherwise none.
-    pub fn due<C: Clock>(&mut self, clock: &C) -> Option<u64> {
+    pub fn due<C: Clock>(&mut self, clock: &C) -> Option<u64>
+        ensures { IsNext self.old result self.new }
+    {
         let seconds = self.start?.elapsed(clock).ok()?.as_secs();
         if seconds < self.due {
             return None;
