@@ -144,7 +144,8 @@ fn with_sign(negative: bool, magnitude: u128) -> i128
 #[inline(always)]
 fn magnitude_within(shape: Shape, x: Unpacked, limit: u128, round: Round) -> Unsigned
     requires { IsNormal shape x }
-    ensures limited { IsLimited (format_at shape) round x.negative (quanta_of shape x) limit result }
+    ensures limited { IsLimited (format_at shape) round x.negative (quanta_of shape x) limit
+        result }
     ensures fits { result.answer.value ≤ limit }
 {
     match whole_of(shape, x, round) {

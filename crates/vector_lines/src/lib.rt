@@ -3,8 +3,8 @@
 //!
 //! A row is a command of the program `vectors` and its reply, or names a call and a format; operands and results are
 //! values, written as bits, or as counts of quanta in a format without bits. `run` is the program `check_vectors`,
-//! given the arguments from the system and what makes the calls of rows; `docs/VECTORS.md` describes it. Only the safety
-//! of these functions is proved, and that the columns of a row are those of its line.
+//! given the arguments from the system and what makes the calls of rows; `docs/VECTORS.md` describes it. Only the
+//! safety of these functions is proved, and that the columns of a row are those of its line.
 #![tactic(auto)]
 
 mod answer;
