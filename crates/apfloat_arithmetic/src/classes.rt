@@ -1,23 +1,13 @@
 //! Classes of values (IEEE 754-2019 5.7.2).
 
-ghost use Rattle.std.specs.Prelude.{◌≡◌, ltb, true, false};
-ghost use Rattle.apfloat_model.specs.formats.Format.{smallest_normalized};
+ghost use Rattle.std.specs.Prelude.{◌≡◌, true, false};
 ghost use Rattle.apfloat_model.specs.order.Classes.{is_denormal};
 ghost use Rattle.apfloat_rounding.specs.Shapes.{format_at};
-ghost use Rattle.apfloat_rounding.specs.Stored.{IsStored, IsNormal, quanta_of, datum_at};
+ghost use Rattle.apfloat_rounding.specs.Stored.{IsStored, datum_at};
 
 use apfloat_model::Category;
 use apfloat_rounding::shape::Shape;
 use apfloat_rounding::unpacked::Unpacked;
-
-/// Whether a number is below the smallest one whose significand has all digits.
-#[inline(always)]
-fn is_below_normal(shape: Shape, x: Unpacked) -> bool
-    requires { IsNormal shape x }
-    ensures { result ≡ ltb (quanta_of shape x) (smallest_normalized (format_at shape)) }
-{
-    x.exponent < shape.min_exp
-}
 
 /// Whether both values are finite and nonzero. One test without a branch in between decides this: a branch on a
 /// category would be merged with the branches that follow it into a jump that the processor predicts badly.
@@ -35,10 +25,6 @@ pub fn is_denormal(shape: Shape, x: Unpacked) -> bool
     requires { IsStored shape x }
     ensures { result ≡ is_denormal (format_at shape) (datum_at shape x) }
 {
-    match x.category {
-        Category::Normal => is_below_normal(shape, x),
-        Category::Zero => false,
-        Category::Infinity => false,
-        Category::NaN => false,
-    }
+    // All other values have the exponent 0.
+    x.exponent < shape.min_exp
 }

@@ -195,10 +195,9 @@ fn number_to_signed(shape: Shape, x: Unpacked, width: u32, round: Round) -> Sign
     }
 }
 
-/// Converts any value to an integer, out of line, so that only the conversion of a nonzero number is inlined.
-#[cold]
-#[inline(never)]
-fn any_to_unsigned(shape: Shape, x: Unpacked, width: u32, round: Round) -> Unsigned
+/// A value as an integer of `width` binary digits.
+#[inline(always)]
+pub fn to_unsigned(shape: Shape, x: Unpacked, width: u32, round: Round) -> Unsigned
     requires stored { IsStored shape x }
     requires low { 1 ≤ width }
     requires high { width ≤ 128 }
@@ -217,40 +216,6 @@ fn any_to_unsigned(shape: Shape, x: Unpacked, width: u32, round: Round) -> Unsig
     }
 }
 
-/// The result of `any_to_unsigned`, rebuilt from its fields. Otherwise its address would be passed, and the inlined
-/// conversion of a number would have to zero it first.
-#[inline(always)]
-fn other_to_unsigned(shape: Shape, x: Unpacked, width: u32, round: Round) -> Unsigned
-    requires stored { IsStored shape x }
-    requires low { 1 ≤ width }
-    requires high { width ≤ 128 }
-    ensures whole { GivesWhole (to_unsigned (format_at shape) round width (datum_at shape x))
-        result }
-    ensures fits { result.answer.value < 2 ^ width }
-{
-    let whole = any_to_unsigned(shape.remade(), x.remade(), width, round);
-    Unsigned {
-        answer: whole.answer.status.and(whole.answer.value),
-        is_exact: whole.is_exact,
-    }
-}
-
-/// A value as an integer of `width` binary digits.
-#[inline(always)]
-pub fn to_unsigned(shape: Shape, x: Unpacked, width: u32, round: Round) -> Unsigned
-    requires stored { IsStored shape x }
-    requires low { 1 ≤ width }
-    requires high { width ≤ 128 }
-    ensures whole { GivesWhole (to_unsigned (format_at shape) round width (datum_at shape x))
-        result }
-    ensures fits { result.answer.value < 2 ^ width }
-{
-    match x.category {
-        Category::Normal => number_to_unsigned(shape, x, width, round),
-        _ => other_to_unsigned(shape, x, width, round),
-    }
-}
-
 /// The result for a value out of the range of signed integers: the nearer end of the range, with `INVALID_OP`.
 #[inline(always)]
 fn signed_out_of_range(number: i128) -> Signed
@@ -262,10 +227,9 @@ fn signed_out_of_range(number: i128) -> Signed
     }
 }
 
-/// Converts any value to a signed integer, out of line, as `any_to_unsigned`.
-#[cold]
-#[inline(never)]
-fn any_to_signed(shape: Shape, x: Unpacked, width: u32, round: Round) -> Signed
+/// A value as a signed integer of `width` binary digits, in two's complement.
+#[inline(always)]
+pub fn to_signed(shape: Shape, x: Unpacked, width: u32, round: Round) -> Signed
     requires stored { IsStored shape x }
     requires low { 1 ≤ width }
     requires high { width ≤ 128 }
@@ -282,34 +246,5 @@ fn any_to_signed(shape: Shape, x: Unpacked, width: u32, round: Round) -> Signed
             signed_out_of_range(with_sign(x.negative, limit))
         }
         Category::NaN => signed_out_of_range(0),
-    }
-}
-
-/// The result of `any_to_signed`, rebuilt from its fields, as that of `any_to_unsigned`.
-#[inline(always)]
-fn other_to_signed(shape: Shape, x: Unpacked, width: u32, round: Round) -> Signed
-    requires stored { IsStored shape x }
-    requires low { 1 ≤ width }
-    requires high { width ≤ 128 }
-    ensures { GivesSigned (to_signed (format_at shape) round width (datum_at shape x)) result }
-{
-    let whole = any_to_signed(shape.remade(), x.remade(), width, round);
-    Signed {
-        answer: whole.answer.status.and(whole.answer.value),
-        is_exact: whole.is_exact,
-    }
-}
-
-/// A value as a signed integer of `width` binary digits, in two's complement.
-#[inline(always)]
-pub fn to_signed(shape: Shape, x: Unpacked, width: u32, round: Round) -> Signed
-    requires stored { IsStored shape x }
-    requires low { 1 ≤ width }
-    requires high { width ≤ 128 }
-    ensures { GivesSigned (to_signed (format_at shape) round width (datum_at shape x)) result }
-{
-    match x.category {
-        Category::Normal => number_to_signed(shape, x, width, round),
-        _ => other_to_signed(shape, x, width, round),
     }
 }

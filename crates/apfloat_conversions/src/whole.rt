@@ -35,6 +35,16 @@ fn word_places(places: u32) -> u32
     if places > 63 { 63 } else { places }
 }
 
+/// Half of the unit of the digit above the lowest `places` ones, in one word.
+#[inline(always)]
+fn half_in_word(places: u32) -> u128
+    requires some { 0 < places }
+    requires short { places ≤ 63 }
+    ensures { result ≡ 2 ^ (places - 1) }
+{
+    u128::from(1_u64 << (places - 1))
+}
+
 /// `shift_right` of at most 62 digits, with nothing lost below them, in one word.
 #[inline(always)]
 fn shift_word(significand: u128, places: u32) -> Shifted
@@ -47,7 +57,7 @@ fn shift_word(significand: u128, places: u32) -> Shifted
 {
     let word = significand as u64;
     let shift = word_places(places);
-    let half = power_of_two(shift - 1);
+    let half = half_in_word(shift);
     let rest = low_digits(u128::from(word), shift);
     Shifted {
         significand: u128::from(word >> shift),

@@ -8,6 +8,3 @@ number_to_signed-requires-clause-low c = c.requires.low
 
 pub number_to_signed-requires-clause-high : goal.number_to_signed-requires-clause-high
 number_to_signed-requires-clause-high c = c.requires.high
-
-pub returns-in-Normal : goal.returns-in-Normal
-returns-in-Normal c = rw c.in-Normal.is c.number_to_signed.ensures

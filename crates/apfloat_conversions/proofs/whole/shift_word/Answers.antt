@@ -8,8 +8,8 @@ use Rattle.apfloat_conversions.proofs.whole.shift_word.Goals as goal
 
 pub loss_of_rest-requires : goal.loss_of_rest-requires
 loss_of_rest-requires c =
-    rest_below c.from.result c.word_places-shift.result c.power_of_two-half.result c.low_digits-rest.result
-    (c.word_places-shift.ensures.some c.requires.some) c.power_of_two-half.ensures c.low_digits-rest.ensures
+    rest_below c.from.result c.word_places-shift.result c.half_in_word-half.result c.low_digits-rest.result
+    (c.word_places-shift.ensures.some c.requires.some) c.half_in_word-half.ensures c.low_digits-rest.ensures
 
 pub returns-clause-quotient : goal.returns-clause-quotient
 returns-clause-quotient c =
@@ -29,5 +29,5 @@ returns-clause-stands c = λ amount unit u h.
     subst (λ (q : ℕ). StandsFor q loss amount (2 ^ places * unit)) (sym c.from-2.ensures)
     (word_stands s 63 places shift.result amount unit loss l shift.ensures.near shift.ensures.far
     (less_than_half s 63 amount unit l u h)
-    (cut_at s shift.result c.power_of_two-half.result c.low_digits-rest.result ExactlyZero loss
-    (shift.ensures.some c.requires.some) c.power_of_two-half.ensures e c.loss_of_rest.ensures amount unit u h))
+    (cut_at s shift.result c.half_in_word-half.result c.low_digits-rest.result ExactlyZero loss
+    (shift.ensures.some c.requires.some) c.half_in_word-half.ensures e c.loss_of_rest.ensures amount unit u h))
