@@ -4,7 +4,9 @@
     python3 evidence/speed/in_rust.py --crate FILE.rlib [--rounds N] [--store]
     python3 evidence/speed/in_rust.py --crate FILE.rlib --count [--store]
 
-FILE.rlib is the Rust crate as rustc or cargo built it, with the libraries that it needs next to it or in `deps`. The
+FILE.rlib is the Rust crate as rustc or cargo built it, with the libraries that it needs next to it or in `deps`. Both
+crates are built with FLAGS: some processors decode a jump across an address that 32 divides anew each time, so that of
+two loops with the same instructions one would take half as long again as the other, by where they happen to lie. The
 times are nanoseconds of a call, the fastest of all rounds. With --count the instructions of a call are counted instead,
 by callgrind, which needs no quiet machine: those of 64 calls without those of one, so without the start and the end of
 the loop around them. --store puts the cells into in_rust.tsv, and the table into docs/SPEED.md.
@@ -13,6 +15,7 @@ the loop around them. --store puts the cells into in_rust.tsv, and the table int
 import argparse
 import math
 import os
+import platform
 import subprocess
 import sys
 import tempfile
@@ -27,6 +30,7 @@ import compare  # noqa: E402
 
 FORMATS = ("half", "single", "double", "x87", "quad", "dd")
 SPEED = ROOT / "docs" / "SPEED.md"
+FLAGS = "-Cllvm-args=-x86-branches-within-32B-boundaries" if platform.machine() == "x86_64" else ""
 BEGIN, END = "<!-- made by evidence/speed/in_rust.py -->", "<!-- end -->"
 MANIFEST = """[package]
 name = "in_rust"
@@ -78,7 +82,7 @@ def built(crate):
     folder.mkdir(parents=True, exist_ok=True)
     library = ROOT / "rust" / "rustc_apfloat"
     (folder / "Cargo.toml").write_text(MANIFEST.format(program=HERE / "in_rust.rs", library=library))
-    flags = f"--extern theirs={crate} -Ldependency={crate.parent} -Ldependency={crate.parent / 'deps'}"
+    flags = f"--extern theirs={crate} -Ldependency={crate.parent} -Ldependency={crate.parent / 'deps'} {FLAGS}"
     environment = os.environ | {"RUSTFLAGS": flags, "CARGO_TARGET_DIR": str(folder / "target")}
     subprocess.run(["cargo", "build", "--offline", "--release"], cwd=folder, env=environment, check=True)
     return folder / "target" / "release" / "in_rust"
