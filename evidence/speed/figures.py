@@ -4,8 +4,8 @@
     python3 evidence/speed/figures.py            writes figures.md, and the tables of docs/SPEED.md
     python3 evidence/speed/figures.py --check    says which file has other figures
 
-The times are nanoseconds, in rust_crate.tsv, fastest_of_others.tsv and growth.tsv. Means are geometric. A file that
-quotes a figure quotes the phrase that has it, as `phrases` writes it; README.md and docs/SPEED.md have to.
+The times are nanoseconds, in rust_crate.tsv, fastest_of_others.tsv, machines.tsv and growth.tsv. Means are geometric.
+A file that quotes a figure quotes the phrase that has it, as `phrases` writes it; README.md and docs/SPEED.md have to.
 """
 
 import argparse
@@ -32,7 +32,11 @@ def main():
     crate, others = rows_of("rust_crate.tsv"), rows_of("fastest_of_others.tsv")
     wanted = {
         FIGURES: figures(crate, others, rows_of("growth.tsv")),
-        SPEED: with_tables(SPEED.read_text(), {"crate": crate_summary(crate), "others": others_summary(others)}),
+        SPEED: with_tables(SPEED.read_text(), {
+            "crate": crate_summary(crate),
+            "others": others_summary(others),
+            "machines": machines_summary(rows_of("machines.tsv")),
+        }),
     }
     if not arguments.check:
         for path, text in wanted.items():
@@ -114,6 +118,14 @@ def others_summary(rows):
     order = list(dict.fromkeys(row["operation"] for row in rows))
     head, line, *body = cells(joined, "", lambda row: row["shown"])
     return [head, line, *sorted(body, key=lambda text: order.index(text.split(" | ")[0].removeprefix("| ")))]
+
+
+def machines_summary(rows):
+    """The times of the plain call and of that of a machine, and how many more instructions the latter takes."""
+    def shown(row):
+        return f"{row['plain']} / {row['machine']} ({int(row['of machine']) - int(row['instructions']):+})"
+
+    return cells([row | {"operands": ""} for row in rows], "", shown)
 
 
 def figures(crate, others, growth):
