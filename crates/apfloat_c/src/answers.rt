@@ -2,6 +2,7 @@
 //! argument, so that the operands stay in the registers in which C passes them.
 
 ghost use Rattle.std.specs.Prelude.{◌≡◌, ◌<◌, pos};
+ghost use Rattle.rustc_apfloat.specs.Flags.{bits_of};
 ghost use Rattle.rustc_apfloat.specs.FlaggedTypes.{constants_of};
 ghost use Rattle.formats_at_run_time.specs.declared.Arithmetic.TheVariants.{Sum, Difference, Product, Quotient};
 ghost use Rattle.formats_at_run_time.specs.declared.Arithmetic.TheVariants.{NearestRemainder, TruncatedRemainder};
@@ -12,17 +13,58 @@ ghost use Rattle.apfloat_c.specs.declared.exported_call.ExportedCall.TheVariants
 ghost use Rattle.apfloat_c.specs.declared.exported_call.ExportedCall.TheVariants.{ToSigned, RoundToIntegral, Scaling};
 ghost use Rattle.apfloat_c.specs.declared.exported_call.ExportedCall.TheVariants.{Fraction, Conversion, Text};
 ghost use Rattle.apfloat_c.specs.Answers.{FractionFits, IsConvertedInto, IsKindAnswer, IsLeft, IsNumber, IsTypeAnswer};
-ghost use Rattle.apfloat_c.specs.Answers.{IsTypeLeft, IsValue, IsWritten, class_of, order_code};
+ghost use Rattle.apfloat_c.specs.Answers.{IsTypeLeft, IsValue, IsWritten, class_of, order_code, whole};
 
 use crate::codes::{
     ANSWERED, NO_SUCH_OPERATION, REFUSED_TEXT, UNKNOWN_FORMAT, WRONG_WIDTH, class_code, is_width,
     one_if, order_code,
 };
 use crate::data::Answer;
+use apfloat_encoded::{Encoded, add_bits, multiply_bits, subtract_bits};
 use formats_at_run_time::{FillsInFormat, FlaggedKind, ValueType};
 use rustc_apfloat::ieee::{Flagged, IeeeFloat};
 use rustc_apfloat::{Float, FloatConvert, Round, Status, StatusAnd};
 use std::marker::PhantomData;
+
+/// A result that was computed from bits to bits.
+#[inline(always)]
+fn with_bits(encoded: Encoded) -> Answer
+    ensures bits { whole result.bits ≡ encoded.bits }
+    ensures status { result.status ≡ bits_of encoded.status }
+    ensures number { result.number ≡ pos 0 }
+{
+    Answer::of(encoded.bits, encoded.status, 0)
+}
+
+/// A sum in a format, from bits to bits.
+#[inline(never)]
+pub fn sum_in<S: Flagged>(answer: &mut Answer, round: Round, x: u128, y: u128)
+    requires { S.PRECISION < S.BITS }
+    ensures { let kind = of_format (constants_of S.Flagged) in
+        IsKindAnswer kind round (OfTwo Sum x y) answer.new }
+{
+    *answer = with_bits(add_bits::<S>(x, y, round));
+}
+
+/// A difference in a format, from bits to bits.
+#[inline(never)]
+pub fn difference_in<S: Flagged>(answer: &mut Answer, round: Round, x: u128, y: u128)
+    requires { S.PRECISION < S.BITS }
+    ensures { let kind = of_format (constants_of S.Flagged) in
+        IsKindAnswer kind round (OfTwo Difference x y) answer.new }
+{
+    *answer = with_bits(subtract_bits::<S>(x, y, round));
+}
+
+/// A product in a format, from bits to bits.
+#[inline(never)]
+pub fn product_in<S: Flagged>(answer: &mut Answer, round: Round, x: u128, y: u128)
+    requires { S.PRECISION < S.BITS }
+    ensures { let kind = of_format (constants_of S.Flagged) in
+        IsKindAnswer kind round (OfTwo Product x y) answer.new }
+{
+    *answer = with_bits(multiply_bits::<S>(x, y, round));
+}
 
 /// A sum.
 #[inline(never)]

@@ -1,125 +1,160 @@
-//! Operations on arrays, element by element, by the calls on single values.
+//! Operations on arrays, element by element. The type of their values is found once for an array.
 
-ghost use Rattle.std.specs.Prelude.{◌≡◌, ◌⊎◌, ◌+◌, ◌*◌, ◌≤◌, Some, length, slice_range, true};
-ghost use Rattle.formats_at_run_time.specs.FlaggedKinds.{flagged_kind_coded, flagged_kind_of};
-ghost use Rattle.formats_at_run_time.specs.Modes.{mode_coded};
+ghost use Rattle.std.specs.Prelude.{◌≡◌, ◌⊎◌, ◌+◌, ◌*◌, ◌<◌, ◌≤◌, length, slice_range, true};
+ghost use Rattle.rustc_apfloat.specs.FlaggedTypes.{constants_of};
+ghost use Rattle.formats_at_run_time.specs.declared.FlaggedKind.TheVariants.{Pairs};
+ghost use Rattle.formats_at_run_time.specs.FlaggedKinds.{flagged_kind_of};
+ghost use Rattle.formats_at_run_time.specs.ValueKinds.{of_format, of_pairs};
 ghost use Rattle.array_conversions.specs.Bytes.{number_of};
-ghost use Rattle.apfloat_c.specs.declared.exported_call.ExportedCall.TheVariants.{OfTwo};
-ghost use Rattle.apfloat_c.specs.Answers.{IsKindAnswer, whole};
+ghost use Rattle.apfloat_c.specs.declared.array_calls.MapCall.{MapCall};
+ghost use Rattle.apfloat_c.specs.Answers.{IsKindAnswer};
 ghost use Rattle.apfloat_c.specs.ArrayCalls.{bytes_in, has_element_operation};
 ghost use Rattle.apfloat_c.specs.Arrays.{AreElements, IsElement, call_of, is_nan_in};
 
 use crate::array_calls::{ElementOperation, MapCall, bytes_in};
 use crate::array_data::{Element, ElementCounts};
-use crate::data::{Answer, Halves};
-use crate::exports::{
-    apfloat_add, apfloat_div, apfloat_fma, apfloat_mod, apfloat_mul, apfloat_rem, apfloat_sqrt,
-    apfloat_sub,
+use crate::data::Answer;
+use crate::operations::{
+    DifferenceCall, FusedSumCall, InType, KindOperation, NearestRemainderCall, ProductCall,
+    QuotientCall, SquareRootCall, SumCall, TruncatedRemainderCall,
 };
 use array_conversions::{number_of, write_number};
-use formats_at_run_time::{Arithmetic, FlaggedKind, InFlaggedFormat, InFlaggedKind};
+use formats_at_run_time::{Arithmetic, FlaggedKind, WritesInFormat};
 use rustc_apfloat::Float;
 use rustc_apfloat::ieee::{Flagged, IeeeFloat};
 use rustc_apfloat::ppc::DoubleDouble;
+use std::marker::PhantomData;
 
-/// An operation on arrays, with the codes of its kind and its mode.
-#[derive(Clone, Copy)]
-pub struct CodedMap {
-    /// The operation.
-    pub map: MapCall,
-    /// The code of its kind.
-    pub format: u32,
-    /// The code of its mode.
-    pub mode: u32,
-}
+/// Makes the calls of an operation on arrays in the type of its elements.
+trait ElementCalls: Copy {
+    // The operation.
+    ghost map: { Self → MapCall };
 
-impl CodedMap {
-    /// Applies the operation to each element. The arrays of operands that it does not take are empty.
-    pub fn over(
-        self,
-        xs: &[u8],
-        ys: &[u8],
-        zs: &[u8],
-        count: usize,
-        output: &mut [u8],
-    ) -> ElementCounts
-        requires format { flagged_kind_coded self.format ≡ Some self.map.kind }
-        requires mode { mode_coded self.mode ≡ Some self.map.round }
-        requires has { has_element_operation self.map.kind self.map.operation ≡ true }
-        requires xs { length xs.now ≡ count * bytes_in self.map.kind }
-        requires ys { (length ys.now ≡ 0)
-            ⊎ (length ys.now ≡ count * bytes_in self.map.kind) }
-        requires zs { (length zs.now ≡ 0)
-            ⊎ (length zs.now ≡ count * bytes_in self.map.kind) }
-        requires output { length output.old ≡ count * bytes_in self.map.kind }
-        ensures { AreElements self.map xs.now ys.now zs.now count
-            output.new result }
-    {
-        let width = bytes_in(self.map.kind);
-        let mut counted = ElementCounts::NONE;
-        for index in 0..count {
-            let place = index * width;
-            let x = number_at(xs, place, width);
-            let y = number_at(ys, place, width);
-            let z = number_at(zs, place, width);
-            let target = &mut output[place..place + width];
-            counted.count(self.element(x, y, z, target));
-        }
-        counted
-    }
-
-    /// Applies the operation to an element, and writes the bytes of its result.
-    fn element(self, x: u128, y: u128, z: u128, bytes: &mut [u8]) -> Element
-        requires format { flagged_kind_coded self.format ≡ Some self.map.kind }
-        requires mode { mode_coded self.mode ≡ Some self.map.round }
-        requires has { has_element_operation self.map.kind self.map.operation ≡ true }
-        requires bytes { length bytes.old ≡ bytes_in self.map.kind }
-        ensures { IsElement self.map x y z bytes.new result }
-    {
-        let mut answer = Answer::number(0);
-        self.call(x, y, z, &mut answer);
-        let bits = answer.bits.number();
-        write_number(bits, bytes);
-        Element {
-            status: answer.status,
-            is_nan: self.map.kind.run(NanCall { bits }),
-        }
-    }
+    // Whether its elements have this type, and the type has the operation.
+    ghost can: { Self → Type 0 };
 
     /// Makes the call on single values.
     fn call(self, x: u128, y: u128, z: u128, answer: &mut Answer) -> u32
-        requires format { flagged_kind_coded self.format ≡ Some self.map.kind }
-        requires mode { mode_coded self.mode ≡ Some self.map.round }
-        requires has { has_element_operation self.map.kind self.map.operation ≡ true }
-        ensures { IsKindAnswer (flagged_kind_of self.map.kind) self.map.round
-            (call_of self.map.operation x y z) answer.new }
-    {
-        let (x, y, z) = (Halves::of(x), Halves::of(y), Halves::of(z));
-        match self.map.operation {
-            ElementOperation::OfTwo(arithmetic) => self.of_two(arithmetic, x, y, answer),
-            ElementOperation::FusedSum => apfloat_fma(self.format, self.mode, x, y, z, answer),
-            ElementOperation::SquareRoot => apfloat_sqrt(self.format, self.mode, x, answer),
-        }
+        requires { can self }
+        ensures { IsKindAnswer (flagged_kind_of (map self).kind) (map self).round
+            (call_of (map self).operation x y z) answer.new };
+
+    /// Whether these are the bits of a NaN.
+    fn is_nan(self, bits: u128) -> bool
+        requires { can self }
+        ensures { result ≡ is_nan_in (flagged_kind_of (map self).kind) bits };
+}
+
+/// Calls in the format `S`.
+#[derive_where(Clone, Copy)]
+struct FormatCalls<S: Flagged> {
+    map: MapCall,
+    format: PhantomData<S>,
+}
+
+/// Calls in pairs of doubles.
+#[derive(Clone, Copy)]
+struct PairCalls {
+    map: MapCall,
+}
+
+impl<S: Flagged> ElementCalls for FormatCalls<S> {
+    ghost map = { λ it. it.map };
+
+    ghost can = { λ it. (S.PRECISION < S.BITS)
+        × (of_format (constants_of S.Flagged) ≡ flagged_kind_of it.map.kind) };
+
+    #[inline(always)]
+    fn call(self, x: u128, y: u128, z: u128, answer: &mut Answer) -> u32 {
+        call_in_format::<S>(self.map, x, y, z, answer)
     }
 
-    /// Makes a call on two values.
-    fn of_two(self, arithmetic: Arithmetic, x: Halves, y: Halves, answer: &mut Answer) -> u32
-        requires format { flagged_kind_coded self.format ≡ Some self.map.kind }
-        requires mode { mode_coded self.mode ≡ Some self.map.round }
-        ensures { IsKindAnswer (flagged_kind_of self.map.kind) self.map.round
-            (OfTwo arithmetic (whole x) (whole y)) answer.new }
-    {
-        match arithmetic {
-            Arithmetic::Sum => apfloat_add(self.format, self.mode, x, y, answer),
-            Arithmetic::Difference => apfloat_sub(self.format, self.mode, x, y, answer),
-            Arithmetic::Product => apfloat_mul(self.format, self.mode, x, y, answer),
-            Arithmetic::Quotient => apfloat_div(self.format, self.mode, x, y, answer),
-            Arithmetic::NearestRemainder => apfloat_rem(self.format, x, y, answer),
-            Arithmetic::TruncatedRemainder => apfloat_mod(self.format, x, y, answer),
+    #[inline(always)]
+    fn is_nan(self, bits: u128) -> bool {
+        IeeeFloat::<S>::from_bits(bits).is_nan()
+    }
+}
+
+impl ElementCalls for PairCalls {
+    ghost map = { λ it. it.map };
+
+    ghost can = { λ it. (of_pairs ≡ flagged_kind_of it.map.kind)
+        × (has_element_operation Pairs it.map.operation ≡ true) };
+
+    fn call(self, x: u128, y: u128, z: u128, answer: &mut Answer) -> u32 {
+        call_in_pairs(self.map, x, y, z, answer)
+    }
+
+    fn is_nan(self, bits: u128) -> bool {
+        DoubleDouble::from_bits(bits).is_nan()
+    }
+}
+
+/// Makes a call on single values of the format `S`.
+#[inline(always)]
+fn call_in_format<S: Flagged>(map: MapCall, x: u128, y: u128, z: u128, answer: &mut Answer) -> u32
+    requires { S.PRECISION < S.BITS }
+    ensures { IsKindAnswer (of_format (constants_of S.Flagged)) map.round
+        (call_of map.operation x y z) answer.new }
+{
+    let round = map.round;
+    match map.operation {
+        ElementOperation::OfTwo(arithmetic) => match arithmetic {
+            Arithmetic::Sum => SumCall { x, y }.in_format::<S>(round, answer),
+            Arithmetic::Difference => DifferenceCall { x, y }.in_format::<S>(round, answer),
+            Arithmetic::Product => ProductCall { x, y }.in_format::<S>(round, answer),
+            Arithmetic::Quotient => {
+                let operation = QuotientCall { x, y };
+                InType { operation }.in_format::<S>(round, answer)
+            }
+            Arithmetic::NearestRemainder => {
+                let operation = NearestRemainderCall { x, y };
+                InType { operation }.in_format::<S>(round, answer)
+            }
+            Arithmetic::TruncatedRemainder => {
+                let operation = TruncatedRemainderCall { x, y };
+                InType { operation }.in_format::<S>(round, answer)
+            }
+        },
+        ElementOperation::FusedSum => FusedSumCall { x, y, z }.in_format::<S>(round, answer),
+        ElementOperation::SquareRoot => {
+            let operation = SquareRootCall { x };
+            InType { operation }.in_format::<S>(round, answer)
         }
     }
 }
 
+/// Makes a call on pairs of doubles.
+fn call_in_pairs(map: MapCall, x: u128, y: u128, z: u128, answer: &mut Answer) -> u32
+    requires { has_element_operation Pairs map.operation ≡ true }
+    ensures { IsKindAnswer of_pairs map.round (call_of map.operation x y z) answer.new }
+{
+    let round = map.round;
+    match map.operation {
+        ElementOperation::OfTwo(arithmetic) => match arithmetic {
+            Arithmetic::Sum => SumCall { x, y }.in_pairs(round, answer),
+            Arithmetic::Difference => DifferenceCall { x, y }.in_pairs(round, answer),
+            Arithmetic::Product => ProductCall { x, y }.in_pairs(round, answer),
+            Arithmetic::Quotient => {
+                let operation = QuotientCall { x, y };
+                InType { operation }.in_pairs(round, answer)
+            }
+            Arithmetic::NearestRemainder => {
+                let operation = NearestRemainderCall { x, y };
+                InType { operation }.in_pairs(round, answer)
+            }
+            Arithmetic::TruncatedRemainder => {
+                let operation = TruncatedRemainderCall { x, y };
+                InType { operation }.in_pairs(round, answer)
+            }
+        },
+        ElementOperation::FusedSum => FusedSumCall { x, y, z }.in_pairs(round, answer),
+        ElementOperation::SquareRoot => {
+            let operation = SquareRootCall { x };
+            InType { operation }.in_pairs(round, answer)
+        }
+    }
+}
 /// The number of the bytes from this place on; 0 if there are no bytes at all.
 fn number_at(bytes: &[u8], place: usize, width: usize) -> u128
     requires few { width ≤ 16 }
@@ -132,24 +167,158 @@ fn number_at(bytes: &[u8], place: usize, width: usize) -> u128
     number_of(&bytes[place..place + width])
 }
 
-/// A call that says whether these are the bits of a NaN.
-#[derive(Clone, Copy)]
-struct NanCall {
-    bits: u128,
-}
-
-impl InFlaggedFormat for NanCall {
-    type Output = bool;
-
-    ghost gives = { λ it kind is_nan. is_nan ≡ is_nan_in kind it.bits };
-
-    fn in_flagged_format<S: Flagged>(self) -> bool {
-        IeeeFloat::<S>::from_bits(self.bits).is_nan()
+/// Applies the operation to an element, and writes the bytes of its result.
+#[inline(always)]
+fn element<C: ElementCalls>(calls: C, x: u128, y: u128, z: u128, bytes: &mut [u8]) -> Element
+    requires can { C.can calls }
+    requires bytes { length bytes.old ≡ bytes_in (C.map calls).kind }
+    ensures { IsElement (C.map calls) x y z bytes.new result }
+{
+    let mut answer = Answer::number(0);
+    calls.call(x, y, z, &mut answer);
+    let bits = answer.bits.number();
+    write_number(bits, bytes);
+    Element {
+        status: answer.status,
+        is_nan: calls.is_nan(bits),
     }
 }
 
-impl InFlaggedKind for NanCall {
-    fn in_pairs(self) -> bool {
-        DoubleDouble::from_bits(self.bits).is_nan()
+/// Applies the operation to each element, each of which takes `width` bytes. The arrays of operands that it does not
+/// take are empty.
+#[inline(always)]
+fn elements<C: ElementCalls>(
+    calls: C,
+    width: usize,
+    xs: &[u8],
+    ys: &[u8],
+    zs: &[u8],
+    count: usize,
+    output: &mut [u8],
+) -> ElementCounts
+    requires can { C.can calls }
+    requires width { width ≡ bytes_in (C.map calls).kind }
+    requires few { width ≤ 16 }
+    requires xs { length xs.now ≡ count * width }
+    requires ys { (length ys.now ≡ 0) ⊎ (length ys.now ≡ count * width) }
+    requires zs { (length zs.now ≡ 0) ⊎ (length zs.now ≡ count * width) }
+    requires output { length output.old ≡ count * width }
+    ensures { AreElements (C.map calls) xs.now ys.now zs.now count output.new result }
+{
+    let mut counted = ElementCounts::NONE;
+    for index in 0..count {
+        let place = index * width;
+        let x = number_at(xs, place, width);
+        let y = number_at(ys, place, width);
+        let z = number_at(zs, place, width);
+        let target = &mut output[place..place + width];
+        counted.count(element(calls, x, y, z, target));
+    }
+    counted
+}
+
+/// The same out of line, for widths that are not the fewest bytes that the bits take.
+#[inline(never)]
+fn elements_apart<C: ElementCalls>(
+    calls: C,
+    width: usize,
+    xs: &[u8],
+    ys: &[u8],
+    zs: &[u8],
+    count: usize,
+    output: &mut [u8],
+) -> ElementCounts
+    requires can { C.can calls }
+    requires width { width ≡ bytes_in (C.map calls).kind }
+    requires few { width ≤ 16 }
+    requires xs { length xs.now ≡ count * width }
+    requires ys { (length ys.now ≡ 0) ⊎ (length ys.now ≡ count * width) }
+    requires zs { (length zs.now ≡ 0) ⊎ (length zs.now ≡ count * width) }
+    requires output { length output.old ≡ count * width }
+    ensures { AreElements (C.map calls) xs.now ys.now zs.now count output.new result }
+{
+    elements(calls, width, xs, ys, zs, count, output)
+}
+
+/// An operation on arrays with its operands, each of which takes `width` bytes.
+#[derive(Clone, Copy)]
+struct ArraysCall<'a> {
+    map: MapCall,
+    width: usize,
+    xs: &'a [u8],
+    ys: &'a [u8],
+    zs: &'a [u8],
+    count: usize,
+}
+
+impl WritesInFormat for ArraysCall<'_> {
+    type Output = ElementCounts;
+
+    ghost can = { λ it kind old. (kind ≡ flagged_kind_of it.map.kind)
+        × (it.width ≡ bytes_in it.map.kind) × (it.width ≤ 16)
+        × (length it.xs.now ≡ it.count * it.width)
+        × ((length it.ys.now ≡ 0) ⊎ (length it.ys.now ≡ it.count * it.width))
+        × ((length it.zs.now ≡ 0) ⊎ (length it.zs.now ≡ it.count * it.width))
+        × (length old ≡ it.count * it.width) };
+
+    ghost gives = { λ it kind old new counted.
+        AreElements it.map it.xs.now it.ys.now it.zs.now it.count new counted };
+
+    fn write_in_format<S: Flagged>(self, output: &mut [u8]) -> ElementCounts {
+        let ArraysCall {
+            map,
+            width,
+            xs,
+            ys,
+            zs,
+            count,
+        } = self;
+        let calls = FormatCalls::<S> {
+            map,
+            format: PhantomData,
+        };
+        // The fewest bytes are a constant of the format, so that the loop knows how many it reads.
+        if width == S::BITS.div_ceil(8) {
+            elements(calls, S::BITS.div_ceil(8), xs, ys, zs, count, output)
+        } else {
+            elements_apart(calls, width, xs, ys, zs, count, output)
+        }
+    }
+}
+
+impl MapCall {
+    /// Applies the operation to each element. The arrays of operands that it does not take are empty.
+    pub fn over(
+        self,
+        xs: &[u8],
+        ys: &[u8],
+        zs: &[u8],
+        count: usize,
+        output: &mut [u8],
+    ) -> ElementCounts
+        requires has { has_element_operation self.kind self.operation ≡ true }
+        requires xs { length xs.now ≡ count * bytes_in self.kind }
+        requires ys { (length ys.now ≡ 0) ⊎ (length ys.now ≡ count * bytes_in self.kind) }
+        requires zs { (length zs.now ≡ 0) ⊎ (length zs.now ≡ count * bytes_in self.kind) }
+        requires output { length output.old ≡ count * bytes_in self.kind }
+        ensures { AreElements self xs.now ys.now zs.now count output.new result }
+    {
+        let width = bytes_in(self.kind);
+        match self.kind {
+            FlaggedKind::OfFormat(format) => format.write(
+                ArraysCall {
+                    map: self,
+                    width,
+                    xs,
+                    ys,
+                    zs,
+                    count,
+                },
+                output,
+            ),
+            FlaggedKind::Pairs => {
+                elements_apart(PairCalls { map: self }, width, xs, ys, zs, count, output)
+            }
+        }
     }
 }

@@ -38,7 +38,7 @@ pub extern "C" fn apfloat_add(
         IsReturned (known_call (flagged_kind_coded format) (mode_coded mode) call)
         answer.old answer.new result }
 {
-    reply(
+    reply_in_kind(
         format,
         mode,
         SumCall {
@@ -62,7 +62,7 @@ pub extern "C" fn apfloat_sub(
         IsReturned (known_call (flagged_kind_coded format) (mode_coded mode) call)
         answer.old answer.new result }
 {
-    reply(
+    reply_in_kind(
         format,
         mode,
         DifferenceCall {
@@ -86,7 +86,7 @@ pub extern "C" fn apfloat_mul(
         IsReturned (known_call (flagged_kind_coded format) (mode_coded mode) call)
         answer.old answer.new result }
 {
-    reply(
+    reply_in_kind(
         format,
         mode,
         ProductCall {

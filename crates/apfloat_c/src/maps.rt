@@ -9,7 +9,6 @@ ghost use Rattle.apfloat_c.specs.Arrays.{IsMappedArray};
 use crate::array_calls::{bytes_in, known_map, operation_coded};
 use crate::array_data::ArrayAnswer;
 use crate::codes::ANSWERED;
-use crate::elements::CodedMap;
 use formats_at_run_time::{FlaggedKind, mode_coded};
 
 /// Applies an operation to each element of an array, or to the elements of two or three arrays.
@@ -43,8 +42,7 @@ pub extern "C" fn apfloat_map_array(
             let width = bytes_in(map.kind);
             let count = xs.len() / width;
             let front = &mut results[..count * width];
-            let coded = CodedMap { map, format, mode };
-            let counted = coded.over(xs, ys, zs, count, front);
+            let counted = map.over(xs, ys, zs, count, front);
             *answer = ArrayAnswer::of(counted);
             ANSWERED
         }

@@ -18,9 +18,10 @@ ghost use Rattle.apfloat_c.specs.Answers.{IsLeft, IsReturned, IsTypeLeft};
 ghost use Rattle.apfloat_c.specs.KnownCalls.{known_in};
 
 use crate::answers::{
-    class, comparison, converted, difference, exponent, fraction, from_signed, from_unsigned,
-    fused_sum, nearest_remainder, next_down, next_up, product, quotient, read, root,
-    round_to_integral, scaled, sum, to_signed, to_unsigned, truncated_remainder,
+    class, comparison, converted, difference, difference_in, exponent, fraction, from_signed,
+    from_unsigned, fused_sum, nearest_remainder, next_down, next_up, product, product_in, quotient,
+    read, root, round_to_integral, scaled, sum, sum_in, to_signed, to_unsigned,
+    truncated_remainder,
 };
 use crate::codes::{ANSWERED, NO_SUCH_OPERATION, UNKNOWN_FORMAT, UNKNOWN_MODE};
 use crate::data::Answer;
@@ -123,12 +124,18 @@ pub struct SumCall {
     pub y: u128,
 }
 
-impl Operation for SumCall {
+impl KindOperation for SumCall {
     ghost call = { λ it. OfTwo Sum it.x it.y };
 
     #[inline(always)]
-    fn made_in<V: ValueType>(self, round: Round, answer: &mut Answer) -> u32 {
-        sum::<V>(answer, round, self.x, self.y);
+    fn in_format<S: Flagged>(self, round: Round, answer: &mut Answer) -> u32 {
+        sum_in::<S>(answer, round, self.x, self.y);
+        ANSWERED
+    }
+
+    #[inline(always)]
+    fn in_pairs(self, round: Round, answer: &mut Answer) -> u32 {
+        sum::<DoubleDouble>(answer, round, self.x, self.y);
         ANSWERED
     }
 }
@@ -142,12 +149,18 @@ pub struct DifferenceCall {
     pub y: u128,
 }
 
-impl Operation for DifferenceCall {
+impl KindOperation for DifferenceCall {
     ghost call = { λ it. OfTwo Difference it.x it.y };
 
     #[inline(always)]
-    fn made_in<V: ValueType>(self, round: Round, answer: &mut Answer) -> u32 {
-        difference::<V>(answer, round, self.x, self.y);
+    fn in_format<S: Flagged>(self, round: Round, answer: &mut Answer) -> u32 {
+        difference_in::<S>(answer, round, self.x, self.y);
+        ANSWERED
+    }
+
+    #[inline(always)]
+    fn in_pairs(self, round: Round, answer: &mut Answer) -> u32 {
+        difference::<DoubleDouble>(answer, round, self.x, self.y);
         ANSWERED
     }
 }
@@ -161,12 +174,18 @@ pub struct ProductCall {
     pub y: u128,
 }
 
-impl Operation for ProductCall {
+impl KindOperation for ProductCall {
     ghost call = { λ it. OfTwo Product it.x it.y };
 
     #[inline(always)]
-    fn made_in<V: ValueType>(self, round: Round, answer: &mut Answer) -> u32 {
-        product::<V>(answer, round, self.x, self.y);
+    fn in_format<S: Flagged>(self, round: Round, answer: &mut Answer) -> u32 {
+        product_in::<S>(answer, round, self.x, self.y);
+        ANSWERED
+    }
+
+    #[inline(always)]
+    fn in_pairs(self, round: Round, answer: &mut Answer) -> u32 {
+        product::<DoubleDouble>(answer, round, self.x, self.y);
         ANSWERED
     }
 }

@@ -260,7 +260,7 @@ far_delivered false format mode negative unit value status some is known amount 
     (record { some = lit< tt; to = lit< tt }) (record { some = far.some; to = far.to }) one
 
 -- a nonzero number that is delivered is converted, with either treatment of overflow
-number_converted : (overflow : Overflow) (f g : Format) (mode : Round) (negative : Bool) (quanta : ℕ)
+pub number_converted : (overflow : Overflow) (f g : Format) (mode : Round) (negative : Bool) (quanta : ℕ)
     (rounded : Datum) (status : ℕ) → 0 < quanta
     → IsDelivered g mode negative (quanta * 2 ^ g.scale) (2 ^ f.scale) rounded status
     → IsConversionBy overflow f g mode (finite negative quanta) (with_overflow overflow g negative rounded) status

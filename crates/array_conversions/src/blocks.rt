@@ -47,8 +47,64 @@ pub fn convert_block_by<S: Flagged, T: Flagged>(
     }
 }
 
-/// The same without a table.
+/// The same without a table. Most formats take the fewest bytes that have room for their bits: these are constants, so
+/// that the loop knows how many it reads and writes.
+#[inline(never)]
 fn convert_one_by_one<S: Flagged, T: Flagged>(
+    overflow: Overflow,
+    round: Round,
+    widths: Widths,
+    count: usize,
+    input: &[u8],
+    output: &mut [u8],
+) -> Counts
+    requires read { S.PRECISION < S.BITS }
+    requires written { T.PRECISION < T.BITS }
+    requires source { widths.source ≤ 16 }
+    requires target { T.BITS ≤ 8 * widths.target }
+    requires input { length input.now ≡ count * widths.source }
+    requires output { length output.old ≡ count * widths.target }
+    ensures { let c = constants_of S.Flagged in let d = constants_of T.Flagged in
+        IsBlock (IsConvertedBy overflow c d round) widths.source widths.target count
+        input.now output.new result }
+{
+    let fewest = Widths {
+        source: S::BITS.div_ceil(8),
+        target: T::BITS.div_ceil(8),
+    };
+    if widths.source == fewest.source && widths.target == fewest.target {
+        convert_each::<S, T>(overflow, round, fewest, count, input, output)
+    } else {
+        convert_apart::<S, T>(overflow, round, widths, count, input, output)
+    }
+}
+
+/// The same for other widths, out of line.
+#[inline(never)]
+fn convert_apart<S: Flagged, T: Flagged>(
+    overflow: Overflow,
+    round: Round,
+    widths: Widths,
+    count: usize,
+    input: &[u8],
+    output: &mut [u8],
+) -> Counts
+    requires read { S.PRECISION < S.BITS }
+    requires written { T.PRECISION < T.BITS }
+    requires source { widths.source ≤ 16 }
+    requires target { T.BITS ≤ 8 * widths.target }
+    requires input { length input.now ≡ count * widths.source }
+    requires output { length output.old ≡ count * widths.target }
+    ensures { let c = constants_of S.Flagged in let d = constants_of T.Flagged in
+        IsBlock (IsConvertedBy overflow c d round) widths.source widths.target count
+        input.now output.new result }
+{
+    convert_each::<S, T>(overflow, round, widths, count, input, output)
+}
+
+/// The same, one value after another.
+#[inline(always)]
+fn convert_each<S: Flagged, T: Flagged>(
     overflow: Overflow,
     round: Round,
     widths: Widths,

@@ -1,6 +1,6 @@
 //! One value.
 
-ghost use Rattle.std.specs.Prelude.{◌≡◌, ◌*◌, ◌<◌, ◌≤◌, length, IfSome};
+ghost use Rattle.std.specs.Prelude.{◌≡◌, ◌*◌, ◌<◌, ◌≤◌, length, IfSome, false};
 ghost use Rattle.rustc_apfloat.specs.FlaggedTypes.{constants_of};
 ghost use Rattle.array_conversions.specs.FarNumbers.{AreFarAnswers};
 ghost use Rattle.array_conversions.specs.Values.{IsAnswerFrom, IsConvertedBy};
@@ -10,6 +10,7 @@ use crate::converted::Converted;
 use crate::counts::Outcome;
 use crate::far_numbers::{FarAnswers, far_place};
 use crate::saturation::{Overflow, convert_by};
+use apfloat_encoded::{Encoded, convert_normal};
 use rustc_apfloat::ieee::{Flagged, IeeeFloat};
 use rustc_apfloat::{Float, Round, StatusAnd};
 
@@ -50,6 +51,9 @@ pub fn convert_bits<S: Flagged, T: Flagged>(
     ensures { IsAnswerFrom overflow (constants_of S.Flagged) (constants_of T.Flagged) round bits
         result }
 {
+    if let Some(number) = convert_normal::<S, T>(bits, round) {
+        return converted_number(number);
+    }
     if let Some(answers) = far {
         if let Some(place) = far_place::<S, T>(bits) {
             return answers[place];
@@ -58,8 +62,25 @@ pub fn convert_bits<S: Flagged, T: Flagged>(
     convert_near::<S, T>(overflow, round, bits)
 }
 
-/// Converts the value that these bits encode by `convert_by`.
+/// A number as a converted value.
 #[inline(always)]
+fn converted_number(number: Encoded) -> Converted
+    ensures bits { result.bits ≡ number.bits }
+    ensures status { result.outcome.status ≡ number.status }
+    ensures no_nan { result.outcome.is_nan ≡ false }
+{
+    Converted {
+        bits: number.bits,
+        outcome: Outcome {
+            status: number.status,
+            is_nan: false,
+        },
+    }
+}
+
+/// Converts the value that these bits encode by `convert_by`. Kept out of line, so that the loops over normal numbers
+/// are small.
+#[inline(never)]
 fn convert_near<S: Flagged, T: Flagged>(overflow: Overflow, round: Round, bits: u128) -> Converted
     requires read { S.PRECISION < S.BITS }
     requires written { T.PRECISION < T.BITS }

@@ -47,8 +47,6 @@ over-counted-requires c =
     let xs = first_whole (length c.args.xs.now) c.bytes_in-width.result (bytes_in c.in-Ok.map.kind)
     (length c.args.results.now) c.bytes_in-width.ensures.is room in
     record {
-      format = sym c.coded.ensures ∙ known.kind_is;
-      mode = sym c.mode_coded.ensures ∙ known.mode_is;
       has = known.has;
       xs = xs;
       ys = other_whole (length c.args.ys.now) (length c.args.xs.now) _ known.second_is xs;

@@ -1,5 +1,0 @@
-use Rattle.apfloat_c.specs.Arrays.{AreElements}
-use Rattle.apfloat_c.proofs.elements.CodedMap.over.Given as goal
-
-abbrev pub invariant-loop-index : goal.invariant-loop-index
-invariant-loop-index l = AreElements l.self.map l.xs l.ys l.zs l.index l.output l.counted

@@ -1,0 +1,6 @@
+pub mod Reading
+pub mod Encodings
+pub mod Roundings
+pub mod Kept
+pub mod Operands
+pub mod EncodedOnce

@@ -1,0 +1,22 @@
+//! Sums, differences, products and conversions from encodings to encodings, for callers that have bits and want bits.
+//!
+//! A value is unpacked to compute with it, and packed to write its bits, and both ways treat zeros, denormal numbers,
+//! infinities and NaNs apart. Where operands and the result are normal numbers of formats of at most 64 bits with an
+//! implied integer bit, none of that is needed: the fields give the significands, and the rounded significand is added
+//! to its place. All other cases are left to `IeeeFloat`.
+#![tactic(auto)]
+
+mod conversions;
+mod cuts;
+mod encoded;
+mod numbers;
+mod products;
+mod sums;
+mod theorems;
+mod totals;
+
+pub use conversions::convert_normal;
+pub use encoded::Encoded;
+pub use products::multiply_bits;
+pub use sums::{add_bits, subtract_bits};
+pub use theorems::encoded_answers_are_unique;
