@@ -66,10 +66,12 @@ fn check_rows<S: Flagged, T: Flagged>(rt: &impl Abort, rows: &[Row])
         let y = IeeeFloat::<S>::from_bits(operands[1]);
         let answer = truncated(operation, x, y);
         let odd = to_odd(answer, answer.value.is_negative());
-        same(rt, bits_of(odd), (values[0], flags[0]), *row);
+        let got = (odd.value.to_bits(), odd.status.bits());
+        assert_eq!(rt; got, (values[0], flags[0]), "{row:?}");
         for i in 0..5 {
             let once: StatusAnd<IeeeFloat<T>> = round_odd_to(odd, MODES[i]);
-            same(rt, bits_of(once), (values[i + 1], flags[i + 1]), (i, *row));
+            let got = (once.value.to_bits(), once.status.bits());
+            assert_eq!(rt; got, (values[i + 1], flags[i + 1]), "{i} {row:?}");
         }
     }
 }
