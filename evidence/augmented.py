@@ -1,5 +1,5 @@
 #!/usr/bin/env python3
-"""Prints crates/apfloat_augmented/src/tests/rows.rt: augmented operations (IEEE 754-2019 9.5).
+"""Prints crates/layer_tests/src/augmented_rows.rt: augmented operations (IEEE 754-2019 9.5).
 
 Operands are bits, and the exact result is a fraction. Nothing here is shared with the model in `exact`.
 """
@@ -11,8 +11,8 @@ HEAD = """//! Augmented sums, differences and products as bits: the operation, i
 //! the head is past the largest value or the product has digits below the quantum. `evidence/augmented.py` writes the
 //! rows, from fractions.
 
-use super::Flagging::{self, Exact, Past, Tiny};
-use super::Operation::{self, Add, Mul, Sub};
+use crate::augmented::Flagging::{self, Exact, Past, Tiny};
+use crate::augmented::Operation::{self, Add, Mul, Sub};
 
 pub type Row = (Operation, u128, u128, u128, u128, Flagging);
 """

@@ -115,7 +115,7 @@ MISTAKES = {
     "text-refuses-everything": [("apfloat_hex_texts", "", "half parse even 0x1.ffep+15\t7c00 OVERFLOW|INEXACT")],
     "text-reads-32-digits": [("apfloat_hex_texts", "", JUST_ABOVE_TIE)],
     "text-one-refusal-for-all": [
-        ("apfloat_model", "", "single parse even 0x1\trefused: Hex strings require an exponent")
+        ("apfloat_hex_texts", "", "single parse even 0x1\trefused: Hex strings require an exponent")
     ],
     "one-quiet-nan-pattern": [("apfloat_rounding", "", "half add even 7e01 7d00\t7e01 INVALID_OP")],
     "quotient-rest-more-than-half": [

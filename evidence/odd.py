@@ -1,6 +1,6 @@
-"""Computes crates/apfloat_odd/src/rows.rt: results rounded to odd, and rounded again.
+"""Computes crates/layer_tests/src/odd_rows.rt: results rounded to odd, and rounded again.
 
-    python3 evidence/odd.py | diff - crates/apfloat_odd/src/rows.rt
+    python3 evidence/odd.py | diff - crates/layer_tests/src/odd_rows.rt
 
 Each exact result is a fraction; that of a root is one which compares with all numbers that matter as
 the root does. It is rounded to odd here, and once in each mode to the format of the second rounding by
@@ -133,7 +133,7 @@ def main():
     roots = Random(2019)
     print("//! Results rounded to odd and rounded again, computed by `evidence/odd.py`.")
     print()
-    print("use crate::tests::{Operation, Row};")
+    print("use crate::odd::{Operation, Row};")
     for source_name, target_name in PAIRS:
         source, target = FORMATS[source_name], FORMATS[target_name]
         rows = []

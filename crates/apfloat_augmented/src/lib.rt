@@ -6,8 +6,6 @@ mod augmented;
 mod payloads;
 mod products;
 mod sums;
-#[cfg(test)]
-mod tests;
 mod theorems;
 
 pub use augmented::Augmented;

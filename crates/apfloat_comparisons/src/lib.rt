@@ -12,8 +12,6 @@ mod exponents;
 mod extrema;
 mod predicates;
 mod status_flags;
-#[cfg(test)]
-mod tests;
 mod theorems;
 mod total_orders;
 mod two_formats;

@@ -12,8 +12,6 @@ mod fused;
 mod machine;
 mod minima;
 mod nans;
-#[cfg(test)]
-mod tests;
 mod theorems;
 mod whole_numbers;
 

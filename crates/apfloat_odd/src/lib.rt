@@ -9,10 +9,6 @@
 mod again;
 mod numbers;
 mod odd;
-#[cfg(test)]
-mod rows;
-#[cfg(test)]
-mod tests;
 mod theorems;
 mod whole_numbers;
 

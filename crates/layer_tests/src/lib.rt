@@ -1,10 +1,17 @@
-//! Tests of the layers below the public calls, of decimals, and of what pairs have beyond `Float`.
+//! Tests of the layers below the public calls, of decimals, of what pairs have beyond `Float`, and of the crates above
+//! the library: comparisons, augmented operations, rounding to odd, machines.
 //!
 //! They are in a separate crate, since testing a crate proves the whole crate again.
 #![tactic(auto)]
 
 #[cfg(test)]
 mod asserts;
+#[cfg(test)]
+mod augmented;
+#[cfg(test)]
+mod augmented_rows;
+#[cfg(test)]
+mod comparisons;
 #[cfg(test)]
 mod decimal_texts;
 #[cfg(test)]
@@ -18,7 +25,13 @@ mod format_of;
 #[cfg(test)]
 mod format_of_rows;
 #[cfg(test)]
+mod machines;
+#[cfg(test)]
 mod modes;
+#[cfg(test)]
+mod odd;
+#[cfg(test)]
+mod odd_rows;
 #[cfg(test)]
 mod pair_rows;
 #[cfg(test)]

@@ -5,12 +5,13 @@
 //! and `IeeeFloat`, `ppc` has pairs of doubles.
 #![tactic(auto)]
 
+pub mod ieee;
+pub mod ppc;
+
 pub use apfloat_base::{
     Category, ExpInt, FUSED_LIMIT, Flags, Float, FloatConvert, IEK_INF, IEK_NAN, IEK_ZERO,
     PRODUCT_LIMIT, ParseError, Round, Status, StatusAnd,
 };
-pub use apfloat_formats as ieee;
-pub use apfloat_pairs as ppc;
 
 /// Sets a status variable to the status of an expression, or joins that status to it, and returns the expression's
 /// value.

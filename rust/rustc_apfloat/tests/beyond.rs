@@ -111,7 +111,7 @@ fn check_augmented<S: Semantics>(rows: &str) -> usize {
 
 #[test]
 fn augmented_sums_and_products() {
-    let tables = tables("apfloat_augmented/src/tests/rows.rt");
+    let tables = tables("layer_tests/src/augmented_rows.rt");
     let count = tables.iter().map(|(name, rows)| match name.as_str() {
         "HALF" => check_augmented::<HalfS>(rows),
         "E5M2" => check_augmented::<Float8E5M2S>(rows),
@@ -151,7 +151,7 @@ fn check_odd<S: Semantics, T: Semantics>(rows: &str) -> usize {
 #[test]
 fn rounding_to_odd() {
     type Before<S> = IeeeFlags<TinyBefore<S>>;
-    let tables = tables("apfloat_odd/src/rows.rt");
+    let tables = tables("layer_tests/src/odd_rows.rt");
     let count = tables.iter().map(|(name, rows)| match name.as_str() {
         "HALF_TO_E5M2" => check_odd::<IeeeFlags<HalfS>, IeeeFlags<Float8E5M2S>>(rows),
         "HALF_TO_E4M3FN" => check_odd::<HalfS, Float8E4M3FNS>(rows),

@@ -2,8 +2,8 @@
 //! the head is past the largest value or the product has digits below the quantum. `evidence/augmented.py` writes the
 //! rows, from fractions.
 
-use super::Flagging::{self, Exact, Past, Tiny};
-use super::Operation::{self, Add, Mul, Sub};
+use crate::augmented::Flagging::{self, Exact, Past, Tiny};
+use crate::augmented::Operation::{self, Add, Mul, Sub};
 
 pub type Row = (Operation, u128, u128, u128, u128, Flagging);
 

@@ -1,16 +1,17 @@
-//! Rows whose expected results were computed with fractions (`evidence/odd.py`), integers and ends of ranges by hand,
-//! and two pairs of formats without room.
+//! Rounding to odd: rows whose expected results were computed with fractions (`evidence/odd.py`), integers and ends of
+//! ranges by hand, and two pairs of formats without room.
 
 ghost use Rattle.std.specs.Prelude.{◌<◌};
 
-use crate::rows::{HALF_TO_E4M3FN, HALF_TO_E5M2, SINGLE_TO_E4M3FNUZ, SINGLE_TO_HALF};
-use crate::*;
+use crate::asserts::same;
+use crate::odd_rows::{HALF_TO_E4M3FN, HALF_TO_E5M2, SINGLE_TO_E4M3FNUZ, SINGLE_TO_HALF};
 use apfloat_base::{Flags, Float, Round, Status, StatusAnd};
 use apfloat_formats::{
     BFloatS, Double, DoubleS, Float8E4M3FN, Float8E4M3FNS, Float8E4M3FNUZ, Float8E4M3FNUZS,
     Float8E5M2S, Half, HalfS, IeeeFlags, SingleS, TinyBefore,
 };
 use apfloat_ieee::{Flagged, IeeeFloat};
+use apfloat_odd::*;
 use apfloat_pairs::FallbackS;
 use std::process::Abort;
 
@@ -46,6 +47,13 @@ fn truncated<S: Flagged>(
         Operation::Quotient => x.div_r(y, Round::TowardZero),
         Operation::Root => x.sqrt_r(Round::TowardZero),
     }
+}
+
+/// A value and its flags as bits.
+fn bits_of<S: Flagged>(answer: StatusAnd<IeeeFloat<S>>) -> (u128, u8)
+    requires { S.PRECISION < S.BITS }
+{
+    (answer.value.to_bits(), answer.status.bits())
 }
 
 fn check_rows<S: Flagged, T: Flagged>(rt: &impl Abort, rows: &[Row])
@@ -111,9 +119,9 @@ fn integers_out(rt: HostRuntime) {
         let (bits, unsigned, signed) = *row;
         let x = Half::from_bits(bits);
         let answer = to_u128_odd(x, 8);
-        assert_eq!(rt; (answer.value, answer.status.bits()), unsigned, "{row:?}");
+        same(&rt, (answer.value, answer.status.bits()), unsigned, bits);
         let answer = to_i128_odd(x, 8);
-        assert_eq!(rt; (answer.value, answer.status.bits()), signed, "{row:?}");
+        same(&rt, (answer.value, answer.status.bits()), signed, bits);
     }
 }
 
@@ -131,18 +139,10 @@ fn integers_in(rt: HostRuntime) {
     for row in &VALUES {
         let (integer, bits, flags) = *row;
         let answer = from_i128_odd::<HalfS>(integer);
-        assert_eq!(rt;
-            (answer.value.to_bits(), answer.status.bits()),
-            (bits, flags),
-            "{row:?}"
-        );
+        same(&rt, bits_of(answer), (bits, flags), integer);
         if integer >= 0 {
             let answer = from_u128_odd::<HalfS>(integer as u128);
-            assert_eq!(rt;
-                (answer.value.to_bits(), answer.status.bits()),
-                (bits, flags),
-                "{row:?}"
-            );
+            same(&rt, bits_of(answer), (bits, flags), integer);
         }
     }
 }
@@ -166,8 +166,7 @@ fn integral_values(rt: HostRuntime) {
     for row in &INTEGRALS {
         let (bits, expected, flags) = *row;
         let answer = round_to_odd_integral(Half::from_bits(bits));
-        let got = (answer.value.to_bits(), answer.status.bits());
-        assert_eq!(rt; got, (expected, flags), "{row:?}");
+        same(&rt, bits_of(answer), (expected, flags), bits);
     }
 }
 
@@ -180,16 +179,16 @@ fn ends(rt: HostRuntime) {
     for other in [0x58, 0x7e] {
         let sum = largest.add_r(Float8E4M3FN::from_bits(other), Round::TowardZero);
         let odd = to_odd(sum, false);
-        assert_eq!(rt; (odd.value.to_bits(), odd.status), (0x7e, Status::INEXACT));
+        same(&rt, bits_of(odd), (0x7e, INEXACT), other);
     }
     // A negative result below the smallest value is +0 toward zero in e4m3fnuz, which has no -0.
-    let both = Status::UNDERFLOW.union(Status::INEXACT);
+    let both = Status::UNDERFLOW.union(Status::INEXACT).bits();
     for negative in [true, false] {
         let sixteenth = Float8E4M3FNUZ::from_u128(1).value.scalbn(-4);
         let tiny = Float8E4M3FNUZ::smallest().wide_mul_r(-sixteenth, Round::TowardZero);
         let odd = to_odd(tiny, negative);
         let bits = if negative { 0x81 } else { 0x01 };
-        assert_eq!(rt; (odd.value.to_bits(), odd.status), (bits, both));
+        same(&rt, bits_of(odd), (bits, both), negative);
     }
 }
 
@@ -203,10 +202,8 @@ fn without_room(rt: HostRuntime) {
     let odd = to_odd(x.mul_r(y, Round::TowardZero), false);
     let twice: StatusAnd<IeeeFloat<BFloatS>> = round_odd_to(odd, Round::NearestTiesToEven);
     let once = x.mul_to::<BFloatS>(y, Round::NearestTiesToEven);
-    assert_eq!(rt;
-        (twice.value.to_bits(), once.value.to_bits()),
-        (0x3380, 0x3080)
-    );
+    let got = (twice.value.to_bits(), once.value.to_bits());
+    same(&rt, got, (0x3380, 0x3080), "half, bfloat");
     // 5/4 quanta of double: the wide format of pairs has the same quantum, though 53 digits more.
     let five_quarters = IeeeFloat::<FallbackS>::from_u128(5).value.scalbn(-2);
     let quantum = IeeeFloat::<FallbackS>::smallest();
@@ -214,5 +211,6 @@ fn without_room(rt: HostRuntime) {
     let twice: StatusAnd<IeeeFloat<DoubleS>> = round_odd_to(odd, Round::TowardPositive);
     let five_quarters = Double::from_u128(5).value.scalbn(-2);
     let once = Double::smallest().mul_r(five_quarters, Round::TowardPositive);
-    assert_eq!(rt; (twice.value.to_bits(), once.value.to_bits()), (1, 2));
+    let got = (twice.value.to_bits(), once.value.to_bits());
+    same(&rt, got, (1, 2), "the wide format, double");
 }

@@ -1,6 +1,6 @@
 //! Results rounded to odd and rounded again, computed by `evidence/odd.py`.
 
-use crate::tests::{Operation, Row};
+use crate::odd::{Operation, Row};
 
 pub(crate) static HALF_TO_E5M2: [Row; 24] = [
     (

@@ -1,20 +1,19 @@
 //! Rows of augmented sums, differences and products in five formats, special operands, and payloads.
 
-mod rows;
-
 ghost use Rattle.std.specs.Prelude.{◌<◌};
 
-use crate::*;
+use crate::asserts::same;
+use crate::augmented_rows::{E4M3FN, E4M3FNUZ, E5M2, HALF, Row, SINGLE};
+use apfloat_augmented::*;
 use apfloat_base::{Flags, Float, Status, StatusAnd};
 use apfloat_formats::{
     Float8E4M3FNS, Float8E4M3FNUZS, Float8E5M2S, HalfS, SingleS, X87DoubleExtendedS,
 };
 use apfloat_ieee::{IeeeFloat, Semantics};
-use rows::Row;
 use std::process::Abort;
 
 #[derive(Clone, Copy, PartialEq, Eq, Debug)]
-enum Operation {
+pub enum Operation {
     Add,
     Sub,
     Mul,
@@ -22,7 +21,7 @@ enum Operation {
 
 /// No flag, OVERFLOW and INEXACT, or UNDERFLOW and INEXACT.
 #[derive(Clone, Copy, PartialEq, Eq, Debug)]
-enum Flagging {
+pub enum Flagging {
     Exact,
     Past,
     Tiny,
@@ -60,17 +59,17 @@ fn check<S: Semantics>(rt: &impl Abort, rows: &[Row])
     for (operation, a, b, head, tail, flagging) in rows {
         let got = answer::<S>(*operation, *a, *b);
         let expected = (*head, *tail, status_of(*flagging));
-        assert_eq!(rt; got, expected, "{operation:?} {a:x} {b:x}");
+        same(rt, got, expected, (*operation, *a, *b));
     }
 }
 
 #[test]
 fn sums_and_products(rt: HostRuntime) {
-    check::<HalfS>(&rt, &rows::HALF);
-    check::<Float8E5M2S>(&rt, &rows::E5M2);
-    check::<Float8E4M3FNS>(&rt, &rows::E4M3FN);
-    check::<Float8E4M3FNUZS>(&rt, &rows::E4M3FNUZ);
-    check::<SingleS>(&rt, &rows::SINGLE);
+    check::<HalfS>(&rt, &HALF);
+    check::<Float8E5M2S>(&rt, &E5M2);
+    check::<Float8E4M3FNS>(&rt, &E4M3FN);
+    check::<Float8E4M3FNUZS>(&rt, &E4M3FNUZ);
+    check::<SingleS>(&rt, &SINGLE);
 }
 
 const INVALID: Status = Status::INVALID_OP;
@@ -95,7 +94,7 @@ static SPECIALS: [(Operation, u128, u128, u128, Status); 12] = [
 fn special_operands(rt: HostRuntime) {
     for (operation, a, b, bits, status) in &SPECIALS {
         let got = answer::<HalfS>(*operation, *a, *b);
-        assert_eq!(rt; got, (*bits, *bits, *status), "{operation:?} {a:x} {b:x}");
+        same(&rt, got, (*bits, *bits, *status), (*operation, *a, *b));
     }
 }
 
@@ -127,11 +126,11 @@ fn payloads(rt: HostRuntime) {
     for (bits, quiet, signaling) in &PAYLOADS {
         let x = IeeeFloat::<HalfS>::from_bits(*bits);
         let got = (set_payload(x).to_bits(), set_payload_signaling(x).to_bits());
-        assert_eq!(rt; got, (*quiet, *signaling), "{bits:x}");
+        same(&rt, got, (*quiet, *signaling), *bits);
     }
     for (bits, payload) in &PAYLOADS_OF {
         let got = get_payload(IeeeFloat::<HalfS>::from_bits(*bits)).to_bits();
-        assert_eq!(rt; got, *payload, "{bits:x}");
+        same(&rt, got, *payload, *bits);
     }
 }
 
@@ -157,6 +156,6 @@ fn payloads_elsewhere(rt: HostRuntime) {
         (get_payload(nan).to_bits(), 0),
     ];
     for (got, expected) in rows {
-        assert_eq!(rt; got, expected);
+        same(&rt, got, expected, "payload");
     }
 }

@@ -1,24 +1,15 @@
-//! Rows by hand in `Half` and 8-bit formats, and sweeps of all pairs of 8-bit codes, whose expected results are
-//! computed from the codes.
+//! Comparisons, classes, flags, minima, integers and exponents of `apfloat_comparisons`: rows by hand in `Half` and
+//! 8-bit formats, and sweeps of all pairs of 8-bit codes, whose expected results are computed from the codes.
 
 ghost use Rattle.std.specs.Prelude.{◌<◌};
 
-use crate::*;
+use crate::asserts::same;
 use apfloat_base::{Flags, Float, IEK_INF, IEK_NAN, IEK_ZERO, Round, Status, StatusAnd};
+use apfloat_comparisons::*;
 use apfloat_formats::{Float8E4M3FNS, Float8E5M2S, Half, HalfS, X87DoubleExtendedS};
 use apfloat_ieee::{IeeeFloat, Semantics};
 use std::cmp::Ordering;
-use std::fmt::Debug;
 use std::process::Abort;
-
-fn same<T: PartialEq + Debug + Drop, C: Debug + Drop>(
-    rt: &impl Abort,
-    got: T,
-    expected: T,
-    case: C,
-) {
-    assert_eq!(rt; got, expected, "{case:?}");
-}
 
 // ---- rows by hand
 
@@ -53,193 +44,124 @@ fn result(answer: StatusAnd<bool>) -> Is {
     }
 }
 
-/// The results for a lesser, an equal and a greater left value, and for a quiet and a signaling NaN on either side.
-fn check_row<C: Fn(Half, Half) -> StatusAnd<bool>>(
-    rt: &impl Abort,
-    call: C,
-    expected: [Is; 5],
-    name: &str,
-)
-    requires { C.IsAlwaysCallable call }
+/// A lesser, an equal and a greater left value, and a quiet and a signaling NaN on either side.
+static OPERANDS: [(u128, u128); 5] = [
+    (ONE, TWO),
+    (MINUS_ZERO, 0),
+    (TWO, ONE),
+    (QUIET_NAN, ONE),
+    (ONE, SIGNALING_NAN),
+];
+
+/// A predicate's name in the standard, and its results for these operands.
+type Row = (&'static str, [Is; 5]);
+
+fn operands(i: usize) -> (Half, Half)
+    requires { i < 5 }
 {
-    let pairs = [
-        (ONE, TWO),
-        (MINUS_ZERO, 0),
-        (TWO, ONE),
-        (QUIET_NAN, ONE),
-        (ONE, SIGNALING_NAN),
-    ];
-    for i in 0..5 {
-        let (x, y) = pairs[i];
-        let answer = call(HalfS::from_bits(x), HalfS::from_bits(y));
-        same(rt, result(answer), expected[i], name);
-    }
+    let (x, y) = OPERANDS[i];
+    (HalfS::from_bits(x), HalfS::from_bits(y))
 }
+
+static TABLE_5_1: [Row; 4] = [
+    ("compareQuietEqual", [F, T, F, F, FInvalid]),
+    ("compareQuietNotEqual", [T, F, T, T, TInvalid]),
+    ("compareSignalingEqual", [F, T, F, FInvalid, FInvalid]),
+    ("compareSignalingNotEqual", [T, F, T, TInvalid, TInvalid]),
+];
 
 #[test]
 fn table_5_1(rt: HostRuntime) {
-    let row = [F, T, F, F, FInvalid];
-    check_row(
-        &rt,
-        |x, y| compare_quiet_equal(x, y),
-        row,
-        "compareQuietEqual",
-    );
-    let row = [T, F, T, T, TInvalid];
-    check_row(
-        &rt,
-        |x, y| compare_quiet_not_equal(x, y),
-        row,
-        "compareQuietNotEqual",
-    );
-    let row = [F, T, F, FInvalid, FInvalid];
-    check_row(
-        &rt,
-        |x, y| compare_signaling_equal(x, y),
-        row,
-        "compareSignalingEqual",
-    );
-    let row = [T, F, T, TInvalid, TInvalid];
-    check_row(
-        &rt,
-        |x, y| compare_signaling_not_equal(x, y),
-        row,
-        "compareSignalingNotEqual",
-    );
+    for i in 0..5 {
+        let (x, y) = operands(i);
+        let answers = [
+            compare_quiet_equal(x, y),
+            compare_quiet_not_equal(x, y),
+            compare_signaling_equal(x, y),
+            compare_signaling_not_equal(x, y),
+        ];
+        for j in 0..4 {
+            let (name, expected) = TABLE_5_1[j];
+            same(&rt, result(answers[j]), expected[i], name);
+        }
+    }
 }
+
+static TABLE_5_2: [Row; 8] = [
+    ("compareSignalingGreater", [F, F, T, FInvalid, FInvalid]),
+    ("compareSignalingNotGreater", [T, T, F, TInvalid, TInvalid]),
+    (
+        "compareSignalingGreaterEqual",
+        [F, T, T, FInvalid, FInvalid],
+    ),
+    (
+        "compareSignalingLessUnordered",
+        [T, F, F, TInvalid, TInvalid],
+    ),
+    ("compareSignalingLess", [T, F, F, FInvalid, FInvalid]),
+    ("compareSignalingNotLess", [F, T, T, TInvalid, TInvalid]),
+    ("compareSignalingLessEqual", [T, T, F, FInvalid, FInvalid]),
+    (
+        "compareSignalingGreaterUnordered",
+        [F, F, T, TInvalid, TInvalid],
+    ),
+];
 
 #[test]
 fn table_5_2(rt: HostRuntime) {
-    let row = [F, F, T, FInvalid, FInvalid];
-    check_row(
-        &rt,
-        |x, y| compare_signaling_greater(x, y),
-        row,
-        "compareSignalingGreater",
-    );
-    let row = [T, T, F, TInvalid, TInvalid];
-    check_row(
-        &rt,
-        |x, y| compare_signaling_not_greater(x, y),
-        row,
-        "compareSignalingNotGreater",
-    );
-    let row = [F, T, T, FInvalid, FInvalid];
-    check_row(
-        &rt,
-        |x, y| compare_signaling_greater_equal(x, y),
-        row,
-        "compareSignalingGreaterEqual",
-    );
-    let row = [T, F, F, TInvalid, TInvalid];
-    check_row(
-        &rt,
-        |x, y| compare_signaling_less_unordered(x, y),
-        row,
-        "compareSignalingLessUnordered",
-    );
-    let row = [T, F, F, FInvalid, FInvalid];
-    check_row(
-        &rt,
-        |x, y| compare_signaling_less(x, y),
-        row,
-        "compareSignalingLess",
-    );
-    let row = [F, T, T, TInvalid, TInvalid];
-    check_row(
-        &rt,
-        |x, y| compare_signaling_not_less(x, y),
-        row,
-        "compareSignalingNotLess",
-    );
-    let row = [T, T, F, FInvalid, FInvalid];
-    check_row(
-        &rt,
-        |x, y| compare_signaling_less_equal(x, y),
-        row,
-        "compareSignalingLessEqual",
-    );
-    let row = [F, F, T, TInvalid, TInvalid];
-    check_row(
-        &rt,
-        |x, y| compare_signaling_greater_unordered(x, y),
-        row,
-        "compareSignalingGreaterUnordered",
-    );
+    for i in 0..5 {
+        let (x, y) = operands(i);
+        let answers = [
+            compare_signaling_greater(x, y),
+            compare_signaling_not_greater(x, y),
+            compare_signaling_greater_equal(x, y),
+            compare_signaling_less_unordered(x, y),
+            compare_signaling_less(x, y),
+            compare_signaling_not_less(x, y),
+            compare_signaling_less_equal(x, y),
+            compare_signaling_greater_unordered(x, y),
+        ];
+        for j in 0..8 {
+            let (name, expected) = TABLE_5_2[j];
+            same(&rt, result(answers[j]), expected[i], name);
+        }
+    }
 }
+
+static TABLE_5_3: [Row; 10] = [
+    ("compareQuietGreater", [F, F, T, F, FInvalid]),
+    ("compareQuietNotGreater", [T, T, F, T, TInvalid]),
+    ("compareQuietGreaterEqual", [F, T, T, F, FInvalid]),
+    ("compareQuietLessUnordered", [T, F, F, T, TInvalid]),
+    ("compareQuietLess", [T, F, F, F, FInvalid]),
+    ("compareQuietNotLess", [F, T, T, T, TInvalid]),
+    ("compareQuietLessEqual", [T, T, F, F, FInvalid]),
+    ("compareQuietGreaterUnordered", [F, F, T, T, TInvalid]),
+    ("compareQuietUnordered", [F, F, F, T, TInvalid]),
+    ("compareQuietOrdered", [T, T, T, F, FInvalid]),
+];
 
 #[test]
 fn table_5_3(rt: HostRuntime) {
-    let row = [F, F, T, F, FInvalid];
-    check_row(
-        &rt,
-        |x, y| compare_quiet_greater(x, y),
-        row,
-        "compareQuietGreater",
-    );
-    let row = [T, T, F, T, TInvalid];
-    check_row(
-        &rt,
-        |x, y| compare_quiet_not_greater(x, y),
-        row,
-        "compareQuietNotGreater",
-    );
-    let row = [F, T, T, F, FInvalid];
-    check_row(
-        &rt,
-        |x, y| compare_quiet_greater_equal(x, y),
-        row,
-        "compareQuietGreaterEqual",
-    );
-    let row = [T, F, F, T, TInvalid];
-    check_row(
-        &rt,
-        |x, y| compare_quiet_less_unordered(x, y),
-        row,
-        "compareQuietLessUnordered",
-    );
-    let row = [T, F, F, F, FInvalid];
-    check_row(
-        &rt,
-        |x, y| compare_quiet_less(x, y),
-        row,
-        "compareQuietLess",
-    );
-    let row = [F, T, T, T, TInvalid];
-    check_row(
-        &rt,
-        |x, y| compare_quiet_not_less(x, y),
-        row,
-        "compareQuietNotLess",
-    );
-    let row = [T, T, F, F, FInvalid];
-    check_row(
-        &rt,
-        |x, y| compare_quiet_less_equal(x, y),
-        row,
-        "compareQuietLessEqual",
-    );
-    let row = [F, F, T, T, TInvalid];
-    check_row(
-        &rt,
-        |x, y| compare_quiet_greater_unordered(x, y),
-        row,
-        "compareQuietGreaterUnordered",
-    );
-    let row = [F, F, F, T, TInvalid];
-    check_row(
-        &rt,
-        |x, y| compare_quiet_unordered(x, y),
-        row,
-        "compareQuietUnordered",
-    );
-    let row = [T, T, T, F, FInvalid];
-    check_row(
-        &rt,
-        |x, y| compare_quiet_ordered(x, y),
-        row,
-        "compareQuietOrdered",
-    );
+    for i in 0..5 {
+        let (x, y) = operands(i);
+        let answers = [
+            compare_quiet_greater(x, y),
+            compare_quiet_not_greater(x, y),
+            compare_quiet_greater_equal(x, y),
+            compare_quiet_less_unordered(x, y),
+            compare_quiet_less(x, y),
+            compare_quiet_not_less(x, y),
+            compare_quiet_less_equal(x, y),
+            compare_quiet_greater_unordered(x, y),
+            compare_quiet_unordered(x, y),
+            compare_quiet_ordered(x, y),
+        ];
+        for j in 0..10 {
+            let (name, expected) = TABLE_5_3[j];
+            same(&rt, result(answers[j]), expected[i], name);
+        }
+    }
 }
 
 // ---- two formats
@@ -255,15 +177,25 @@ fn check_between<T: Semantics>(rt: &impl Abort, x: u128, y: u128, expected: Opti
 
 #[test]
 fn two_formats(rt: HostRuntime) {
-    check_between::<Float8E5M2S>(&rt, 0x3c01, 0x3c, Some(Ordering::Greater));
-    check_between::<Float8E5M2S>(&rt, 0x3c00, 0x3c, Some(Ordering::Equal));
-    check_between::<Float8E5M2S>(&rt, 0xbc01, 0xbc, Some(Ordering::Less));
-    check_between::<Float8E5M2S>(&rt, 0x7bff, 0x7c, Some(Ordering::Less));
-    check_between::<Float8E4M3FNS>(&rt, 0x7bff, 0x7e, Some(Ordering::Greater));
-    check_between::<Float8E4M3FNS>(&rt, 0x0001, 0x80, Some(Ordering::Greater));
-    check_between::<Float8E4M3FNS>(&rt, 0x8000, 0x00, Some(Ordering::Equal));
-    check_between::<Float8E4M3FNS>(&rt, 0xfc00, 0xfe, Some(Ordering::Less));
-    check_between::<Float8E4M3FNS>(&rt, 0x7c00, 0x7f, None);
+    let rows = [
+        (0x3c01, 0x3c, Some(Ordering::Greater)),
+        (0x3c00, 0x3c, Some(Ordering::Equal)),
+        (0xbc01, 0xbc, Some(Ordering::Less)),
+        (0x7bff, 0x7c, Some(Ordering::Less)),
+    ];
+    for (x, y, expected) in rows {
+        check_between::<Float8E5M2S>(&rt, x, y, expected);
+    }
+    let rows = [
+        (0x7bff, 0x7e, Some(Ordering::Greater)),
+        (0x0001, 0x80, Some(Ordering::Greater)),
+        (0x8000, 0x00, Some(Ordering::Equal)),
+        (0xfc00, 0xfe, Some(Ordering::Less)),
+        (0x7c00, 0x7f, None),
+    ];
+    for (x, y, expected) in rows {
+        check_between::<Float8E4M3FNS>(&rt, x, y, expected);
+    }
     let x = HalfS::from_bits(SIGNALING_NAN);
     let y = IeeeFloat::<Float8E4M3FNS>::from_bits(0);
     let answer = compare_between(Predicate::Unordered, OnNan::Quiet, x, y);
@@ -455,25 +387,24 @@ fn encodings(rt: HostRuntime) {
 #[test]
 fn flags(rt: HostRuntime) {
     let flags = Status::OVERFLOW.union(Status::INEXACT);
-    let group = Status::INVALID_OP.union(Status::INEXACT);
-    same(&rt, lower_flags(flags, group), Status::OVERFLOW, "lowered");
-    let raised = Status::INVALID_OP.union(flags);
-    same(&rt, raise_flags(flags, group), raised, "raised");
-    same(&rt, test_flags(flags, group), true, "tested");
-    same(
-        &rt,
-        test_saved_flags(flags, Status::UNDERFLOW),
-        false,
-        "tested, saved",
-    );
-    let saved = save_all_flags(Status::INVALID_OP);
-    let restored = Status::OVERFLOW.union(Status::INVALID_OP);
-    same(
-        &rt,
+    let group = INVALID.union(Status::INEXACT);
+    let saved = save_all_flags(INVALID);
+    let got = [
+        lower_flags(flags, group),
+        raise_flags(flags, group),
         restore_flags(flags, saved, group),
-        restored,
-        "restored",
+    ];
+    let expected = [
+        Status::OVERFLOW,
+        INVALID.union(flags),
+        Status::OVERFLOW.union(INVALID),
+    ];
+    same(&rt, got, expected, "lowered, raised, restored");
+    let tested = (
+        test_flags(flags, group),
+        test_saved_flags(flags, Status::UNDERFLOW),
     );
+    same(&rt, tested, (true, false), "tested, saved");
 }
 
 // ---- minima and maxima

@@ -1,23 +1,14 @@
-//! Rows in `single` and in the format of the x87 unit. Those of `X86` and `X87` are results of a processor
-//! (`evidence/processor/machines.c`); the others follow from the tables of `docs/MACHINES.md` by hand.
+//! What machines give, in `single` and in the format of the x87 unit. The rows of `X86` and `X87` are results of a
+//! processor (`evidence/processor/machines.c`); the others follow from the tables of `docs/MACHINES.md` by hand.
 
 ghost use Rattle.std.specs.Prelude.{◌<◌, ◌≤◌};
 
-use crate::*;
+use crate::asserts::same;
 use apfloat_base::{Flags, Float, FloatConvert, Round, StatusAnd};
 use apfloat_formats::{DoubleS, SingleS, X87DoubleExtendedS};
 use apfloat_ieee::{Flagged, IeeeFlags, IeeeFloat, Semantics, TinyBefore};
-use std::fmt::Debug;
+use apfloat_machines::*;
 use std::process::Abort;
-
-fn same<T: PartialEq + Debug + Drop, C: Debug + Drop>(
-    rt: &impl Abort,
-    got: T,
-    expected: T,
-    case: C,
-) {
-    assert_eq!(rt; got, expected, "{case:?}");
-}
 
 const EVEN: Round = Round::NearestTiesToEven;
 

@@ -1,0 +1,3 @@
+//! Pairs of doubles.
+
+pub use apfloat_pairs::{DoubleDouble, DoubleFloat, FallbackExtendedS, FallbackS};
