@@ -31,7 +31,7 @@ pub struct IeeeFloat<S: Flagged> {
     marker: PhantomData<S>,
 }
 
-/// A nonzero number: its significand, in which the integer bit of the format is set, and the exponent of its last digit.
+/// A nonzero number: its significand, whose integer bit is set, and the exponent of its last digit.
 #[derive(Clone, Copy, Debug)]
 pub struct Number {
     /// The digits, as an integer. Those of a denormal value below its quantum are zero.

@@ -70,5 +70,14 @@ returns-clause-number g c =
     let p = g.S.Flagged.lawful.parameters in
     number_is (shape_of g.S.Flagged) c.unpacked-stored.result c.args.self _ c.unpacked-stored.ensures.stored
     c.unpacked-stored.ensures.datum c.unpacked-stored.ensures.category c.requires
-    (omega (arith, ints, x.least, x.greatest, p.precision_low, p.precision_high, p.min_exp_low, p.max_exp_high,
-    scale_is (shape_of g.S.Flagged)))
+    (omega (
+      arith,
+      ints,
+      x.least,
+      x.greatest,
+      p.precision_low,
+      p.precision_high,
+      p.min_exp_low,
+      p.max_exp_high,
+      scale_is (shape_of g.S.Flagged),
+    ))
