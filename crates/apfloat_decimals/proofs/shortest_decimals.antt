@@ -1,9 +1,14 @@
 pub mod DecimalPlaces
 pub mod EnoughDigits
+pub mod Intervals
 pub mod OneShortest
 pub mod PickedFractions
+pub mod PlacedValues
 pub mod QuickSearch
+pub mod RangeSearch
 pub mod ReadBacks
 pub mod ShortestFound
 pub mod ShortestSearch
 pub mod ShortestSteps
+pub mod UnitCuts
+pub mod Zeros

@@ -4,6 +4,7 @@ pub mod Cuts
 pub mod DecimalTexts
 pub mod Decimals
 pub mod ExactDecimals
+pub mod Intervals
 pub mod LeadingDigits
 pub mod OneReading
 pub mod Parsing

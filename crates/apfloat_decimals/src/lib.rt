@@ -6,10 +6,11 @@
 //! do, and otherwise by an exact division, in 128 binary digits (`short_division`) or in words on the stack
 //! (`long_division`, `large`). `FromStr` of a `Decimal` keeps the digits of its text (`parsing`).
 //!
-//! Writing: `shortest` finds the shortest decimal that reads back as a value (`shortest_decimal`, `shortest_guess`),
-//! `rounded` rounds a value to a number of digits (`rounded_decimal`), both from its first digits (`leading_digits`),
-//! and `exact` gives the decimal that equals a value (`exact_decimal`). `formatting` produces the text of a `Decimal`,
-//! which `Display` writes. `round_trips` states what holds for values that are read back.
+//! Writing: `shortest` finds the shortest decimal that reads back as a value: from the interval of the numbers that are
+//! rounded to it (`shortest_interval`), or from its first digits (`shortest_guess`, `shortest_decimal`). `rounded`
+//! rounds a value to a number of digits, from its first digits too (`rounded_decimal`, `leading_digits`), and `exact`
+//! gives the decimal that equals a value (`exact_decimal`). `formatting` produces the text of a `Decimal`, which
+//! `Display` writes. `round_trips` states what holds for values that are read back.
 //!
 //! `decimal_digits`, which writes any number of digits, uses the large integers, the exponents, and the places of the
 //! first and the last digit of a value.
@@ -33,6 +34,7 @@ mod scaling;
 mod short_division;
 mod shortest_decimal;
 mod shortest_guess;
+mod shortest_interval;
 mod texts;
 
 pub use decimal::{Decimal, built_in_formats, from_decimal};

@@ -2,7 +2,8 @@
 
 ghost use Rattle.std.specs.Prelude.{◌≡◌, ℕ, ◌-◌, ◌*◌, ◌^◌, ◌<◌, ◌≤◌, ◌⊎◌, pos, ◌+ℤ◌, ◌≤ℤ◌, false};
 ghost use Rattle.apfloat_model.specs.declared.loss.Loss.{Loss};
-ghost use Rattle.apfloat_model.specs.order.Classes.{category_of};
+ghost use Rattle.apfloat_model.specs.declared.kinds.Category.TheVariants.{Normal};
+ghost use Rattle.apfloat_model.specs.order.Classes.{category_of, quanta_of};
 ghost use Rattle.apfloat_model.specs.formats.Members.{IsMember};
 ghost use Rattle.apfloat_model.specs.rounding.Bounds.{IsWithin, exponent_bound};
 ghost use Rattle.apfloat_model.specs.rounding.Flags.{Gives};
@@ -28,6 +29,15 @@ use std::marker::{Model, PhantomData};
 pub struct IeeeFloat<S: Flagged> {
     unpacked: Unpacked,
     marker: PhantomData<S>,
+}
+
+/// A nonzero number: its significand, whose integer bit is set, and the exponent of its last digit.
+#[derive(Clone, Copy, Debug)]
+pub struct Number {
+    /// The digits, as an integer. Those of a denormal value below its quantum are zero.
+    pub significand: u128,
+    /// The exponent of two of the last digit.
+    pub exponent: ExpInt,
 }
 
 impl<S: Flagged> Model for IeeeFloat<S> {
@@ -124,6 +134,23 @@ impl<S: Flagged> IeeeFloat<S> {
         ensures member { IsMember (format_of S.Flagged) self }
     {
         self.unpacked
+    }
+
+    /// The significand of a nonzero number, with its sign dropped, and the exponent of its last digit.
+    #[inline]
+    pub fn number(self) -> Number
+        requires { category_of self ≡ Normal }
+        ensures fits { result.significand < 2 ^ S.PRECISION }
+        ensures full { 2 ^ (S.PRECISION - 1) ≤ result.significand }
+        ensures within { IsWithin (2 ^ 22) result.exponent }
+        ensures number { let unit = result.exponent +ℤ pos (format_of S.Flagged).scale in
+            quanta_of self * 2 ^ down unit ≡ result.significand * 2 ^ up unit }
+    {
+        let stored = self.unpacked();
+        Number {
+            significand: stored.significand,
+            exponent: stored.exponent - (S::PRECISION as ExpInt - 1),
+        }
     }
 
     /// The result with the value of this stored form.

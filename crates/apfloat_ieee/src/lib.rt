@@ -26,5 +26,5 @@ pub mod wide;
 pub use any_float::AnyFloat;
 pub use apfloat_base::NonfiniteBehavior;
 pub use flagged::{Flagged, IeeeFlags, TinyBefore};
-pub use ieee_float::{IeeeFloat, deliver};
+pub use ieee_float::{IeeeFloat, Number, deliver};
 pub use semantics::Semantics;
