@@ -12,6 +12,11 @@
 #![tactic(auto)]
 
 mod cuts;
+#[cfg(test)]
+mod e3m4_rows;
+#[cfg(test)]
+mod e3m4_tests;
+mod float8_e3m4;
 mod format;
 mod from_value;
 mod from_value_by;
@@ -30,6 +35,7 @@ mod theorems;
 mod to_value;
 mod unsigned;
 
+pub use float8_e3m4::Float8E3M4;
 pub use format::StorageFormat;
 pub use modes::{ConversionRound, NanResult, RandomDigits, RandomError};
 pub use named::{E2M1FN, E2M3FN, E3M2FN};
@@ -37,7 +43,7 @@ pub use scales::E8M0FNU;
 pub use stored::StoredFloat;
 pub use theorems::{
     codes_are_in_order, conversions_by_mode_have_one_answer, conversions_have_one_answer,
-    exact_values_never_move, picks_are_those_of_the_model, random_numbers_are_counted,
-    scales_have_one_answer, unsigned_conversions_have_one_answer,
+    e3m4_conversions_have_one_answer, exact_values_never_move, picks_are_those_of_the_model,
+    random_numbers_are_counted, scales_have_one_answer, unsigned_conversions_have_one_answer,
 };
 pub use unsigned::UE4M3;

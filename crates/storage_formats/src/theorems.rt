@@ -1,6 +1,7 @@
 //! Theorems about the definitions that the calls cite, as contracts of functions with empty bodies.
 
 ghost use Rattle.storage_formats.specs.Laws.{AreCodesInOrder, IsIntoOnce, IsScaleOnce, IsUnsignedOnce};
+ghost use Rattle.storage_formats.specs.Float8E3M4.{IsE3M4Once};
 ghost use Rattle.storage_formats.specs.ModeLaws.{ArePicksOfModel, AreRandomNumbersCounted, IsIntoByOnce};
 ghost use Rattle.storage_formats.specs.ModeLaws.{IsIntoOfModel, StaysExact};
 
@@ -17,6 +18,11 @@ pub fn scales_have_one_answer()
 /// A conversion into `UE4M3` has one answer.
 pub fn unsigned_conversions_have_one_answer()
     ensures { IsUnsignedOnce }
+{}
+
+/// A conversion into `Float8E3M4` has one answer.
+pub fn e3m4_conversions_have_one_answer()
+    ensures { IsE3M4Once }
 {}
 
 /// Of two codes without a sign, the greater one is the greater number.
