@@ -12,3 +12,10 @@ mod RestLosses
 mod ModePicks
 mod ModesOnce
 mod NarrowCodes
+mod CodePicks
+mod ProjectedPicks
+mod ProjectedCodes
+mod ProjectedValues
+mod ProjectedOnce
+mod ProjectedOrder
+mod ProjectedNeighbours

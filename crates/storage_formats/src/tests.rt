@@ -19,7 +19,7 @@ use apfloat_words::low_digits;
 use std::cmp::Ordering;
 use std::process::Abort;
 
-static MODES: [Round; 5] = [
+pub(crate) static MODES: [Round; 5] = [
     Round::NearestTiesToEven,
     Round::TowardPositive,
     Round::TowardNegative,
