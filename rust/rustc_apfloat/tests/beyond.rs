@@ -5,9 +5,7 @@
 use rustc_apfloat::augmented;
 use rustc_apfloat::comparisons::{self, Class, Extremum, OnNan, Predicate};
 use rustc_apfloat::ieee::*;
-use rustc_apfloat::storage_formats::{
-    E2M1FN, E2M3FN, E3M2FN, E8M0FNU, Float8E3M4, StorageFormat, StoredFloat, UE4M3,
-};
+use rustc_apfloat::storage_formats::{E2M1FN, E2M3FN, E3M2FN, E8M0FNU, Float8E3M4, StorageFormat, StoredFloat, UE4M3};
 use rustc_apfloat::{Category, Float, IEK_INF, IEK_NAN, IEK_ZERO, Round, Status, StatusAnd, format_of, odd};
 use std::cmp::Ordering;
 
