@@ -3,7 +3,6 @@ use Rattle.std.proofs.Common.{◌≡◌, ℕ, ◌+◌, ◌-◌, ◌*◌, ◌%◌
 use Rattle.std.proofs.Common.{sym, refl, ap, ◌∙◌, subst, ⊎_elim, arith}
 use Rattle.std.proofs.Math.Nat.{add-mul-mod_self_right}
 use Rattle.std.proofs.lemmas.Bool.{cases_eq, eq-eqb, ne_eqb}
-use Rattle.apfloat_model.specs.declared.kinds.Round.{Round}
 use Rattle.apfloat_model.specs.rounding.Enclosure.{IsEnclosed}
 use Rattle.apfloat_model.specs.rounding.Rounding.{IsPick, takes_above}
 use Rattle.apfloat_model.proofs.general.Powers.{twice_half}
@@ -11,7 +10,6 @@ use Rattle.apfloat_model.proofs.rounding.Laws.{exact_is_picked}
 use Rattle.apfloat_model.proofs.rounding.Picks.{inexact_pick}
 use Rattle.storage_formats.specs.Codes.{index_of, point}
 use Rattle.storage_formats.specs.ProjectionLaws.{AreCodePicksPicks}
-use Rattle.storage_formats.specs.Projections.{index_between}
 use Rattle.storage_formats.proofs.Points.{at_index, at_next, form_of, point_on_grid}
 
 -- the last digit of a significand is that of its number

@@ -10,7 +10,7 @@ use Rattle.apfloat_model.specs.rounding.Rounding.{signed_quanta}
 use Rattle.apfloat_model.proofs.general.Powers.{twice_half}
 use Rattle.storage_formats.specs.Codes.{point}
 use Rattle.storage_formats.specs.ProjectionLaws.{IsOneInTheMiddle}
-use Rattle.storage_formats.specs.Projections.{IsProjection, Projection, bias, coded, exponent_bits, is_negative_code, largest_index, last_index, magnitude_of, nan_code, past_value, projected_datum, projected_format, sign_bits, unsigned_codes}
+use Rattle.storage_formats.specs.Projections.{IsProjection, Projection, bias, coded, exponent_bits, is_negative_code, largest_index, last_index, magnitude_of, nan_code, past_value, projected_datum, sign_bits, unsigned_codes}
 use Rattle.storage_formats.proofs.CodesCompared.{not_below_number, zero_point}
 use Rattle.storage_formats.proofs.Points.{high_point}
 

@@ -1,4 +1,4 @@
-use Rattle.std.proofs.Common.{arith, sym, ◌∙◌, subst, ℕ, ◌+◌, ◌<◌, ◌^◌}
+use Rattle.std.proofs.Common.{arith, sym, subst, ℕ, ◌+◌, ◌<◌, ◌^◌}
 use Rattle.storage_formats.specs.ProjectionTypes.{projection_of}
 use Rattle.storage_formats.proofs.ProjectedNeighbours.{past_fits}
 use Rattle.storage_formats.proofs.projected.Projected.next_magnitude.Goals as goal
