@@ -11,3 +11,11 @@ mod MovesScaled
 mod RestLosses
 mod ModePicks
 mod ModesOnce
+mod NarrowCodes
+mod CodePicks
+mod ProjectedPicks
+mod ProjectedCodes
+mod ProjectedValues
+mod ProjectedOnce
+mod ProjectedOrder
+mod ProjectedNeighbours

@@ -33,7 +33,7 @@ AreSame code status loses other flags lost = (code ≡ other) × (status ≡ fla
 -- ---- codes
 
 -- a code is its sign and its magnitude
-code_is : (half code : ℕ) → code < 2 * half → code ≡ cond (leb half code) half 0 + code % half
+pub code_is : (half code : ℕ) → code < 2 * half → code ≡ cond (leb half code) half 0 + code % half
 code_is half code l =
     ⊎_elim
     (λ (k : code < half).

@@ -14,3 +14,8 @@ pub mod Modes
 pub mod ModeConversions
 pub mod ModeLaws
 pub mod PicksBy
+pub mod Float8E3M4
+pub mod Projections
+pub mod ProjectionLaws
+pub mod ProjectionLawTest
+pub mod ProjectionTypes

@@ -24,7 +24,7 @@ pub(crate) struct Kept {
 /// The place of the lowest kept digit of a number with `DIGITS` digits at `unit`; places and units are counted from the
 /// quantum.
 fn kept_place(precision: u32, unit: ExpInt) -> u32
-    requires precise { precision ≤ 8 }
+    requires precise { precision ≤ 15 }
     requires within { IsWithin unit_bound unit }
     ensures near { result < place_bound }
     ensures covers { 125 + up unit ≤ result + precision + down unit }
@@ -51,7 +51,7 @@ fn steps_up(unit: ExpInt, place: u32) -> u32
 /// A number with `DIGITS` digits at `unit`, cut to the digits that the precision keeps of it.
 pub(crate) fn cut(precision: u32, digits: u128, unit: ExpInt) -> Kept
     requires some { 0 < precision }
-    requires precise { precision ≤ 8 }
+    requires precise { precision ≤ 15 }
     requires low { 2 ^ 124 ≤ digits }
     requires high { digits < 2 ^ 125 }
     requires within { IsWithin unit_bound unit }

@@ -49,9 +49,9 @@ pub(crate) fn status_past(mode: Round, negative: bool) -> Status
 }
 
 /// The status of a pick within the format.
-fn status_within(precision: u32, picked: Picked) -> Status
+pub(crate) fn status_within(precision: u32, picked: Picked) -> Status
     requires some { 0 < precision }
-    requires precise { precision ≤ 8 }
+    requires precise { precision ≤ 15 }
     ensures { bits_of result ≡ (if picked.exact then ok_bits
         else (if ltb picked.index (2 ^ (precision - 1)) then underflow_bit + inexact_bit
         else inexact_bit)) }

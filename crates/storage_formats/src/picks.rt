@@ -5,7 +5,7 @@ ghost use Rattle.std.specs.Prelude.{if◌then◌else◌};
 ghost use Rattle.apfloat_model.specs.rounding.Bounds.{IsWithin, unit_bound, place_bound};
 ghost use Rattle.apfloat_model.specs.rounding.Standing.{StandsFor, up, down};
 ghost use Rattle.storage_formats.specs.Codes.{index_of};
-ghost use Rattle.storage_formats.specs.Picks.{IsPickedAt};
+ghost use Rattle.storage_formats.specs.Picks.{IsPickedAt, IsPointAt};
 ghost use Rattle.storage_formats.specs.PicksBy.{IsPickedBy, moves};
 
 use crate::cuts::{cut, parts_of_rest};
@@ -25,7 +25,7 @@ pub(crate) struct Picked {
 /// The number of the point `significand * 2^place`.
 fn index_of(precision: u32, significand: u128, place: u32) -> u128
     requires some { 0 < precision }
-    requires precise { precision ≤ 8 }
+    requires precise { precision ≤ 15 }
     requires fits { significand < 2 ^ precision }
     requires near { place < place_bound }
     ensures value { result ≡ index_of precision significand place }
@@ -51,7 +51,7 @@ pub(crate) fn pick(
     negative: bool,
 ) -> Picked
     requires some { 0 < precision }
-    requires precise { precision ≤ 8 }
+    requires precise { precision ≤ 15 }
     requires low { 2 ^ 124 ≤ digits }
     requires high { digits < 2 ^ 125 }
     requires within { IsWithin unit_bound unit }
@@ -114,7 +114,7 @@ pub(crate) fn pick_by(
     negative: bool,
 ) -> Picked
     requires some { 0 < precision }
-    requires precise { precision ≤ 8 }
+    requires precise { precision ≤ 15 }
     requires low { 2 ^ 124 ≤ digits }
     requires high { digits < 2 ^ 125 }
     requires within { IsWithin unit_bound unit }
@@ -126,6 +126,48 @@ pub(crate) fn pick_by(
     let below = index_of(precision, kept.significand, kept.place);
     let odd = kept.significand % 2 == 1;
     let moves = takes_next(mode, negative, digits, kept.places, kept.loss, odd);
+    Picked {
+        index: moved_index(below, moves),
+        exact: is_exact(kept.loss),
+    }
+}
+
+/// The point that is picked, also for a precision of one digit, where each significand is odd: there a tie to even goes
+/// to the even number.
+pub(crate) fn pick_point(
+    precision: u32,
+    digits: u128,
+    unit: ExpInt,
+    mode: Round,
+    negative: bool,
+) -> Picked
+    requires some { 0 < precision }
+    requires precise { precision ≤ 15 }
+    requires low { 2 ^ 124 ≤ digits }
+    requires high { digits < 2 ^ 125 }
+    requires within { IsWithin unit_bound unit }
+    ensures { (amount parts : ℕ) → 0 < parts
+        → amount * 2 ^ down unit ≡ digits * (parts * 2 ^ up unit)
+        → IsPointAt precision mode negative amount parts result.index result.exact }
+{
+    if precision > 1 {
+        return pick(precision, digits, unit, mode, negative);
+    }
+    pick_power(digits, unit, mode, negative)
+}
+
+/// The power of two that is picked, or zero.
+fn pick_power(digits: u128, unit: ExpInt, mode: Round, negative: bool) -> Picked
+    requires low { 2 ^ 124 ≤ digits }
+    requires high { digits < 2 ^ 125 }
+    requires within { IsWithin unit_bound unit }
+    ensures { (amount parts : ℕ) → 0 < parts
+        → amount * 2 ^ down unit ≡ digits * (parts * 2 ^ up unit)
+        → IsPointAt 1 mode negative amount parts result.index result.exact }
+{
+    let kept = cut(1, digits, unit);
+    let below = index_of(1, kept.significand, kept.place);
+    let moves = moves_up(mode, negative, kept.loss, below % 2 == 1);
     Picked {
         index: moved_index(below, moves),
         exact: is_exact(kept.loss),

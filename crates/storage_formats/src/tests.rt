@@ -19,7 +19,7 @@ use apfloat_words::low_digits;
 use std::cmp::Ordering;
 use std::process::Abort;
 
-static MODES: [Round; 5] = [
+pub(crate) static MODES: [Round; 5] = [
     Round::NearestTiesToEven,
     Round::TowardPositive,
     Round::TowardNegative,
@@ -34,7 +34,7 @@ pub(crate) type Row = (u32, [u8; 5], [u8; 5], bool);
 pub(crate) type Checksums = [u64; 5];
 
 /// What is stored and converted.
-trait Stored: Copy {
+pub(crate) trait Stored: Copy {
     fn store<S: Semantics>(x: IeeeFloat<S>, mode: Round, loses_info: &mut bool) -> StatusAnd<u8>;
 
     fn load<T: Semantics>(code: u8, mode: Round, loses_info: &mut bool) -> StatusAnd<IeeeFloat<T>>;
@@ -120,7 +120,7 @@ fn out_of_checksum<X: Stored, T: Semantics>(last: u8, mode: Round) -> u64
     checksum
 }
 
-fn check_rows<X: Stored>(rt: &impl Abort, rows: &[Row]) {
+pub(crate) fn check_rows<X: Stored>(rt: &impl Abort, rows: &[Row]) {
     for row in rows {
         let (bits, codes, flags, loses) = *row;
         let x = Single::from_bits(u128::from(bits));
@@ -133,7 +133,7 @@ fn check_rows<X: Stored>(rt: &impl Abort, rows: &[Row]) {
     }
 }
 
-fn check_checksums<X: Stored>(
+pub(crate) fn check_checksums<X: Stored>(
     rt: &impl Abort,
     last: u8,
     into: &[Checksums; 3],

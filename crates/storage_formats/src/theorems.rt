@@ -1,8 +1,10 @@
 //! Theorems about the definitions that the calls cite, as contracts of functions with empty bodies.
 
 ghost use Rattle.storage_formats.specs.Laws.{AreCodesInOrder, IsIntoOnce, IsScaleOnce, IsUnsignedOnce};
+ghost use Rattle.storage_formats.specs.Float8E3M4.{IsE3M4Once};
 ghost use Rattle.storage_formats.specs.ModeLaws.{ArePicksOfModel, AreRandomNumbersCounted, IsIntoByOnce};
 ghost use Rattle.storage_formats.specs.ModeLaws.{IsIntoOfModel, StaysExact};
+ghost use Rattle.storage_formats.specs.ProjectionLaws.{AreCodePicksPicks, AreNextValues, IsOneInTheMiddle, IsProjectedOnce};
 
 /// A conversion into a storage format has one answer.
 pub fn conversions_have_one_answer()
@@ -17,6 +19,11 @@ pub fn scales_have_one_answer()
 /// A conversion into `UE4M3` has one answer.
 pub fn unsigned_conversions_have_one_answer()
     ensures { IsUnsignedOnce }
+{}
+
+/// A conversion into `Float8E3M4` has one answer.
+pub fn e3m4_conversions_have_one_answer()
+    ensures { IsE3M4Once }
 {}
 
 /// Of two codes without a sign, the greater one is the greater number.
@@ -44,4 +51,24 @@ pub fn picks_are_those_of_the_model()
 /// A conversion by a mode of conversions has one answer.
 pub fn conversions_by_mode_have_one_answer()
     ensures { IsIntoByOnce }
+{}
+
+/// In each format of P3109, 1 is the code in the middle of those without a sign.
+pub fn one_is_in_the_middle()
+    ensures { IsOneInTheMiddle }
+{}
+
+/// With two digits or more, the pick that goes to the even code on a tie is the one to the even significand.
+pub fn picks_of_codes_are_picks()
+    ensures { AreCodePicksPicks }
+{}
+
+/// A conversion into a format of P3109 has one answer.
+pub fn projections_have_one_answer()
+    ensures { IsProjectedOnce }
+{}
+
+/// In a format of P3109, `next_up` and `next_down` give the nearest value in that direction, if there is one.
+pub fn next_values_are_nearest()
+    ensures { AreNextValues }
 {}

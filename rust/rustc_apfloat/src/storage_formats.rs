@@ -1,6 +1,7 @@
 //! Values that are only stored and converted: elements of at most 8 bits without infinities and NaNs, as those of the
-//! Open Compute Project's microscaling formats, and the scales of their blocks. `docs/STORAGE_FORMATS.md` of the
-//! repository says what becomes of each value; the crate `rustc_apfloat` has none of these.
+//! Open Compute Project's microscaling formats, the scales of their blocks, and a format of 8 bits with infinities and
+//! NaNs. `docs/STORAGE_FORMATS.md` of the repository says what becomes of each value; the crate `rustc_apfloat` has none
+//! of these.
 //!
 //! ```
 //! use rustc_apfloat::Round;
@@ -22,7 +23,7 @@
 use crate::erased::storage_formats as library;
 use crate::ieee::{FlaggedS, IeeeFloat, Semantics};
 use crate::status::answered;
-use crate::{ExpInt, Round, StatusAnd};
+use crate::{Category, ExpInt, Round, StatusAnd};
 use core::cmp::Ordering;
 use core::fmt;
 use core::marker::PhantomData;
@@ -188,6 +189,33 @@ impl UE4M3 {
     }
 }
 
+/// Eight bits, three of them the exponent and four the significand, with the infinities and NaNs of IEEE 754. Up to 15.5,
+/// in steps of at least 2^-6.
+#[must_use]
+#[derive(Clone, Copy)]
+pub struct Float8E3M4(library::Float8E3M4);
+
+impl Float8E3M4 {
+    /// The category (IEEE 754-2019 5.7.2).
+    #[inline]
+    pub fn category(self) -> Category {
+        self.0.category()
+    }
+
+    /// Whether the sign is minus, that of a zero or a NaN too.
+    #[inline]
+    pub fn is_negative(self) -> bool {
+        self.0.is_negative()
+    }
+
+    /// The order of two values (IEEE 754-2019 5.11): both zeros are equal, the infinities are at the ends, and a NaN is
+    /// unordered.
+    #[inline]
+    pub fn compare(self, other: Self) -> Option<Ordering> {
+        self.0.compare(other.0)
+    }
+}
+
 /// The calls that all of them have: their types, with the words on codes and on conversions.
 macro_rules! stored {
     ($(
@@ -278,6 +306,17 @@ stored! {
         /// and has `INVALID_OP` if it is signaling; information is lost if the format has payloads.
         from_value;
         /// The value in another format, rounded once, as that of `Float8E4M3FN` is converted; so is the NaN.
+        convert_r;
+    }
+    Float8E3M4 {
+        /// The value with that code.
+        from_bits;
+        /// The code.
+        to_bits;
+        /// A value of any format, rounded once (IEEE 754-2019 5.4.2), with the flags of that rounding, as into other
+        /// formats. A NaN keeps the first digits of its payload.
+        from_value;
+        /// The value in another format, rounded once (IEEE 754-2019 5.4.2), as a value of any format is converted.
         convert_r;
     }
 }

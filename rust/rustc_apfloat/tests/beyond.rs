@@ -5,8 +5,8 @@
 use rustc_apfloat::augmented;
 use rustc_apfloat::comparisons::{self, Class, Extremum, OnNan, Predicate};
 use rustc_apfloat::ieee::*;
-use rustc_apfloat::storage_formats::{E2M1FN, E2M3FN, E3M2FN, E8M0FNU, StorageFormat, StoredFloat, UE4M3};
-use rustc_apfloat::{Float, IEK_INF, IEK_NAN, IEK_ZERO, Round, Status, StatusAnd, format_of, odd};
+use rustc_apfloat::storage_formats::{E2M1FN, E2M3FN, E3M2FN, E8M0FNU, Float8E3M4, StorageFormat, StoredFloat, UE4M3};
+use rustc_apfloat::{Category, Float, IEK_INF, IEK_NAN, IEK_ZERO, Round, Status, StatusAnd, format_of, odd};
 use std::cmp::Ordering;
 
 const MODES: [Round; 5] = [
@@ -452,6 +452,7 @@ stored! {
     StoredFloat<F>: 1 << F::BITS;
     E8M0FNU: 256;
     UE4M3: 128;
+    Float8E3M4: 256;
 }
 
 /// A checksum of results in each mode.
@@ -504,16 +505,17 @@ fn check_stored<X: Stored>(name: &str, table: &str) -> usize {
 
 #[test]
 fn storage_formats() {
-    let tables = tables("storage_formats/src/rows.rt");
-    let count = tables.iter().map(|(name, table)| match name.rsplit('_').next() {
+    let tables = ["rows", "e3m4_rows"].map(|name| tables(&format!("storage_formats/src/{name}.rt")));
+    let count = tables.iter().flatten().map(|(name, table)| match name.rsplit('_').next() {
         Some("E2M1FN") => check_stored::<StoredFloat<E2M1FN>>(name, table),
         Some("E2M3FN") => check_stored::<StoredFloat<E2M3FN>>(name, table),
         Some("E3M2FN") => check_stored::<StoredFloat<E3M2FN>>(name, table),
         Some("E8M0FNU") => check_stored::<E8M0FNU>(name, table),
         Some("UE4M3") => check_stored::<UE4M3>(name, table),
+        Some("E3M4") => check_stored::<Float8E3M4>(name, table),
         _ => panic!("no table {name} is known here"),
     });
-    assert_eq!(count.sum::<usize>(), 1196 + 5 * (3 + 4));
+    assert_eq!(count.sum::<usize>(), 1196 + 100 + 6 * (3 + 4));
 }
 
 /// Both zeros are equal; all other codes are in the order of their numbers.
@@ -531,6 +533,16 @@ fn order_of_stored_values() {
     assert!(E8M0FNU::from_bits(255).is_nan() && !E8M0FNU::from_bits(254).is_nan());
     assert!(UE4M3::from_bits(127).is_nan() && UE4M3::from_bits(255).is_nan() && !UE4M3::from_bits(126).is_nan());
     assert_eq!(format!("{:?} {:?}", ascending[0], E8M0FNU::from_bits(127)), "StoredFloat(0x2f) E8M0FNU(0x7f)");
+}
+
+/// The infinities are at the ends, both zeros are equal, and a NaN is unordered.
+#[test]
+fn order_of_e3m4() {
+    let ascending = [0xf0, 0xef, 0x81, 0x00, 0x01, 0x6f, 0x70].map(Float8E3M4::from_bits);
+    assert!(ascending.is_sorted_by(|x, y| x.compare(*y) == Some(Ordering::Less)));
+    let (minus, nan) = (Float8E3M4::from_bits(0x80), Float8E3M4::from_bits(0x78));
+    assert_eq!((minus.compare(ascending[3]), nan.compare(nan)), (Some(Ordering::Equal), None));
+    assert_eq!((minus.category(), minus.is_negative(), nan.category()), (Category::Zero, true, Category::NaN));
 }
 
 /// The example of the page on storage formats is one of the module's documentation, which is compiled.

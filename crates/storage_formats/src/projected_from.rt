@@ -1,0 +1,178 @@
+//! Conversions of the values of a format into a format of IEEE P3109.
+
+ghost use Rattle.std.specs.Prelude.{◌≡◌, ℕ, ◌*◌, ◌^◌, ◌<◌, ◌≤◌, if◌then◌else◌, true, pos};
+ghost use Rattle.apfloat_model.specs.formats.Datum.{finite};
+ghost use Rattle.apfloat_model.specs.order.Classes.{quanta_of};
+ghost use Rattle.apfloat_model.specs.rounding.Flags.{Gives, bits_of};
+ghost use Rattle.apfloat_model.specs.rounding.Rounding.{leads_out};
+ghost use Rattle.apfloat_ieee.specs.Types.{format_of};
+ghost use Rattle.apfloat_decimals.specs.ShortestSearch.{IsPositive};
+ghost use Rattle.storage_formats.specs.Codes.{point};
+ghost use Rattle.storage_formats.specs.Picks.{IsPointAt};
+ghost use Rattle.storage_formats.specs.ProjectionTypes.{projection_of};
+ghost use Rattle.storage_formats.specs.Projections.{IsInfinityOf, IsIntoProjection, IsPointPick, IsProjected, exponent_bits, largest_index, past_value, projected_datum, projected_format};
+
+use crate::from_value::{leads_out, status_past, status_within, unit_of};
+use crate::picks::{Picked, pick_point};
+use crate::projected::{Projected, largest_index};
+use crate::projection::Projection;
+use apfloat_base::{Category, ExpInt, Flags, Float, Round, Status, StatusAnd};
+use apfloat_ieee::{IeeeFloat, Semantics};
+use apfloat_words::power_of_two;
+use hex_digits::digits_of;
+
+/// The bits of the exponent.
+fn exponent_bits<F: Projection>() -> u32
+    ensures value { result ≡ exponent_bits (projection_of F.Projection) }
+    ensures some { 1 ≤ result }
+    ensures few { result ≤ 15 }
+{
+    if F::SIGNED {
+        (F::BITS - F::PRECISION) as u32
+    } else {
+        (F::BITS + 1 - F::PRECISION) as u32
+    }
+}
+
+/// The negated exponent of the quantum, which is not below 0.
+fn places<F: Projection>() -> u32
+    ensures value { result ≡ (projected_format (projection_of F.Projection)).scale }
+    ensures within { result ≤ 2 ^ 15 }
+{
+    F::PRECISION as u32 + power_of_two(exponent_bits::<F>() - 1) as u32 - 2
+}
+
+/// The negated exponent of the quantum.
+pub(crate) fn scale<F: Projection>() -> ExpInt
+    ensures value { result ≡ pos (projected_format (projection_of F.Projection)).scale }
+    ensures within { (projected_format (projection_of F.Projection)).scale ≤ 2 ^ 15 }
+{
+    places::<F>() as ExpInt
+}
+
+/// The value that takes the place of a pick past the largest number.
+fn past_value<F: Projection>(mode: Round, negative: bool) -> Projected<F>
+    requires { negative ≡ true → F.SIGNED ≡ true }
+    ensures { let c = projection_of F.Projection in projected_datum c result
+        ≡ (if leads_out mode negative then past_value c negative
+        else finite negative (point c.precision (largest_index c))) }
+{
+    if leads_out(mode, negative) {
+        return Projected::past(negative);
+    }
+    Projected::number(negative, largest_index::<F>())
+}
+
+/// What is delivered past the largest number.
+fn past<F: Projection>(mode: Round, negative: bool) -> StatusAnd<Projected<F>>
+    requires { negative ≡ true → F.SIGNED ≡ true }
+    ensures { (amount parts index : ℕ) → largest_index (projection_of F.Projection) < index
+        → IsPointPick F.PRECISION mode negative amount parts index
+        → Gives (IsProjected (projection_of F.Projection) mode negative amount parts) result }
+{
+    status_past(mode, negative).and(past_value(mode, negative))
+}
+
+/// The value that is delivered for a pick.
+fn deliver_pick<F: Projection>(
+    picked: Picked,
+    mode: Round,
+    negative: bool,
+) -> StatusAnd<Projected<F>>
+    requires { negative ≡ true → F.SIGNED ≡ true }
+    ensures { (amount parts : ℕ)
+        → IsPointAt F.PRECISION mode negative amount parts picked.index picked.exact
+        → Gives (IsProjected (projection_of F.Projection) mode negative amount parts) result }
+{
+    if picked.index > u128::from(largest_index::<F>()) {
+        return past(mode, negative);
+    }
+    let status = status_within(F::PRECISION as u32, picked);
+    status.and(Projected::number(negative, picked.index as u16))
+}
+
+/// A positive value, rounded once as a value with that sign.
+fn round_positive<S: Semantics, F: Projection>(
+    x: IeeeFloat<S>,
+    mode: Round,
+    negative: bool,
+) -> StatusAnd<Projected<F>>
+    requires positive { IsPositive (format_of S.Semantics) x }
+    requires sign { negative ≡ true → F.SIGNED ≡ true }
+    ensures { let c = projection_of F.Projection in Gives (IsProjected c mode negative
+        (quanta_of x * 2 ^ (projected_format c).scale) (2 ^ (format_of S.Semantics).scale)) result }
+{
+    let number = digits_of(x);
+    let unit = unit_of(number.exponent, scale::<F>());
+    let picked = pick_point(F::PRECISION as u32, number.digits, unit, mode, negative);
+    deliver_pick(picked, mode, negative)
+}
+
+/// The infinity of that sign.
+fn infinity<F: Projection>(negative: bool, loses_info: &mut bool) -> StatusAnd<Projected<F>>
+    requires { negative ≡ true → F.SIGNED ≡ true }
+    ensures { IsInfinityOf (projection_of F.Projection) negative result.value
+        (bits_of result.status) loses_info.new }
+{
+    *loses_info = !F::EXTENDED;
+    let status = if F::EXTENDED {
+        Status::OK
+    } else {
+        Status::INEXACT
+    };
+    status.and(Projected::past(negative))
+}
+
+impl<F: Projection> Projected<F> {
+    /// A value of any format, rounded once (IEEE 754-2019 5.4.2), with the flags of that rounding.
+    ///
+    /// Past the largest number the result is the infinity, or the NaN in its place, with OVERFLOW and INEXACT, where
+    /// the mode leads past it; otherwise the largest number, with INEXACT. In a format without infinities, an infinity
+    /// is the NaN, with INEXACT. In a format without a sign, what is below zero is the NaN, with INVALID_OP. -0 becomes
+    /// the only zero, with INEXACT. A NaN is the NaN, with INVALID_OP if it is signaling; information is lost if its
+    /// format has payloads.
+    pub fn from_value<S: Semantics>(
+        x: IeeeFloat<S>,
+        round: Round,
+        loses_info: &mut bool,
+    ) -> StatusAnd<Self>
+        ensures { IsIntoProjection (projection_of F.Projection) (format_of S.Semantics) round x
+            result.value (bits_of result.status) loses_info.new }
+    {
+        let negative = x.is_negative();
+        match x.category() {
+            Category::NaN => {
+                *loses_info = S::NAN_PAYLOAD_MASK != 0;
+                if x.is_signaling() {
+                    return Status::INVALID_OP.and(Self::nan());
+                }
+                Status::OK.and(Self::nan())
+            }
+            Category::Infinity => {
+                if negative && !F::SIGNED {
+                    *loses_info = true;
+                    return Status::INVALID_OP.and(Self::nan());
+                }
+                infinity(negative, loses_info)
+            }
+            Category::Zero => {
+                *loses_info = negative;
+                let status = if negative {
+                    Status::INEXACT
+                } else {
+                    Status::OK
+                };
+                status.and(Self::number(false, 0))
+            }
+            Category::Normal => {
+                if negative && !F::SIGNED {
+                    *loses_info = true;
+                    return Status::INVALID_OP.and(Self::nan());
+                }
+                let answer = round_positive(x.abs(), round, negative);
+                *loses_info = answer.status != Status::OK;
+                answer
+            }
+        }
+    }
+}

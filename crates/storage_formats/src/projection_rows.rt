@@ -1,0 +1,80 @@
+//! Checksums of formats of IEEE P3109, computed by `evidence/projections.py`:
+//! `binary8p3se`, `binary8p4se`, `binary8p5se`, `binary8p1uf`,
+//! `binary3p1sf`, `binary6p2ue`, `binary8p4sf`, `binary15p8se`.
+//! Of each: all values, by the first 24 bits of the doubles that they are; the neighbours, the category and the
+//! order of each value; every 61st half in the five modes.
+
+pub(crate) static CHECKSUMS: [[u64; 7]; 8] = [
+    [
+        0x57dbd8049e587000,
+        0x113f46427c99308c,
+        0xb66b555b2e6b6fc0,
+        0x1eeba7eca5f0da40,
+        0x95037d7afb87cc0,
+        0x389ecf7e660c2680,
+        0xbd8c426364471440,
+    ],
+    [
+        0x956a34ed9c45c00,
+        0x113f46427c99308c,
+        0x93c15895af30f61,
+        0x1e35c75ab6e4e91,
+        0xab0d3001c4a72309,
+        0xe5f74807c6c4b129,
+        0xc6c4268258f20621,
+    ],
+    [
+        0xd9c3c99220e9ca00,
+        0x113f46427c99308c,
+        0xa5d56ec3cabf1d09,
+        0xd379a95d80ab2869,
+        0xf7a81883d0ce7ea1,
+        0x8f34653c8fa0ada9,
+        0xe585c48b46908189,
+    ],
+    [
+        0xa44ef1bdc85ec800,
+        0x164248b4f78c718a,
+        0x39558a02596a504,
+        0x2bbdd1c16e21c084,
+        0xd7b2be3a4a772c84,
+        0xd7b2be3a4a772c84,
+        0x39558a02596a504,
+    ],
+    [
+        0x4b8d831a96d58800,
+        0xc6b873ea48885d5e,
+        0x4478a1970f5184dc,
+        0xb83369ba101360b4,
+        0x36f1695d24e81dd4,
+        0x21c714c9173361e4,
+        0x4478a1970f5184dc,
+    ],
+    [
+        0x48004c81b6452800,
+        0xbf6bcadf1ddde372,
+        0x7f58a45add4a38c,
+        0x744484e30311170c,
+        0x619d7565b8f615c4,
+        0x619d7565b8f615c4,
+        0x3fac3253104cf5cc,
+    ],
+    [
+        0x8be45991c0915800,
+        0x2a46706f9c31009c,
+        0xfaeb3853e5ae40a0,
+        0x44e91e5db471ba80,
+        0xe904e64caf3a3280,
+        0xcc3206993300d300,
+        0xb873494ce3ad3760,
+    ],
+    [
+        0xb70810a4781d1840,
+        0xc2830209cae7c42e,
+        0xb5f0ad05410c1fbe,
+        0x67dcda375034c9be,
+        0x748afde7840f35be,
+        0x3f3a89ec914a1c7e,
+        0x73cde70488af7e,
+    ],
+];

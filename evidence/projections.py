@@ -1,0 +1,340 @@
+"""Formats of IEEE P3109: their values, their order, their neighbours and conversions into them.
+
+    python3 evidence/projections.py | diff - crates/storage_formats/src/projection_rows.rt
+
+A code without a sign is decoded by its fields, with the bias 2^(E-1) of an exponent of E bits. So 1 is in
+the middle of these codes, for a width of 8 at 0x40 with a sign and at 0x80 without one. That is checked for
+every format, and so is that the formats with a sign and without infinities are those of the model that have
+one NaN at the code of -0.
+"""
+
+from bisect import bisect_right
+from dataclasses import dataclass
+from fractions import Fraction
+from functools import cached_property
+from struct import pack, unpack
+
+from exact.bits import decoded
+from exact.data import Finite, Infinite, NaN, is_nan, is_signaling
+from exact.formats import HALF, Format, NonFinite
+from exact.rounding import Mode, overflows
+from exact.status import INEXACT, INVALID_OP, OK, OVERFLOW, UNDERFLOW
+
+MODES = (Mode.EVEN, Mode.UP, Mode.DOWN, Mode.ZERO, Mode.AWAY)
+
+FACTOR = 1000003
+
+# What codes without a number mean.
+INFINITY, NEGATIVE_INFINITY, NOT_A_NUMBER = "inf", "-inf", "nan"
+
+
+@dataclass(frozen=True)
+class Projection:
+    """A format of P3109: its width, its precision, whether it has a sign, and whether it has infinities."""
+
+    bits: int
+    precision: int
+    signed: bool
+    extended: bool
+
+    @property
+    def name(self):
+        """As in P3109."""
+        return f"binary{self.bits}p{self.precision}{'us'[self.signed]}{'fe'[self.extended]}"
+
+    @property
+    def codes_without_sign(self):
+        """How many codes there are without a sign, NaNs and infinities among them."""
+        return 1 << self.bits - self.signed
+
+    @property
+    def exponent_bits(self):
+        """What the sign and the significand without its first digit leave."""
+        return self.bits - self.signed - (self.precision - 1)
+
+    @property
+    def bias(self):
+        """Half the exponents are below 1."""
+        return 1 << self.exponent_bits - 1
+
+    def magnitude(self, index):
+        """The number with these bits below the sign, by its fields; also past the width."""
+        written = self.precision - 1
+        field, digits = index >> written, index & (1 << written) - 1
+        last = Fraction(2) ** (1 - self.bias - written)
+        return digits * last if field == 0 else ((1 << written) + digits) * last * 2 ** (field - 1)
+
+    @property
+    def nan_code(self):
+        """The code of -0; without a sign, the last one."""
+        return self.codes_without_sign - (0 if self.signed else 1)
+
+    @property
+    def largest_index(self):
+        """The infinity is the code before the NaN, or before the sign; the largest number is next to it."""
+        return self.codes_without_sign - 1 - (not self.signed) - self.extended
+
+    def value(self, code):
+        """What a code means: a fraction, an infinity or the NaN."""
+        if code == self.nan_code:
+            return NOT_A_NUMBER
+        negative, index = divmod(code, self.codes_without_sign) if self.signed else (0, code)
+        if index > self.largest_index:
+            return NEGATIVE_INFINITY if negative else INFINITY
+        return -self.magnitude(index) if negative else self.magnitude(index)
+
+    @cached_property
+    def points(self):
+        """The numbers in order, and those of two more exponents."""
+        return [self.magnitude(i) for i in range(self.codes_without_sign + (2 << self.precision))]
+
+    # ---- conversions
+
+    def coded(self, negative, index):
+        """The code of a number. A zero has no sign."""
+        return index + (self.codes_without_sign if negative and index else 0)
+
+    def infinity(self, negative):
+        """The infinity of that sign, or the NaN in its place."""
+        if not self.extended:
+            return self.nan_code
+        return self.coded(negative, self.largest_index + 1)
+
+    def store(self, source, x, mode):
+        """The code, the flags, and whether information is lost."""
+        if is_nan(x):
+            status = INVALID_OP if is_signaling(source, x) else OK
+            return self.nan_code, status, source.payload_mask != 0
+        below_zero = x.negative and not (isinstance(x, Finite) and x.quanta == 0)
+        if below_zero and not self.signed:
+            return self.nan_code, INVALID_OP, True
+        if isinstance(x, Infinite):
+            loses = not self.extended
+            return self.infinity(x.negative), INEXACT if loses else OK, loses
+        if x.quanta == 0:
+            return 0, INEXACT if x.negative else OK, x.negative
+        exact = Fraction(x.quanta, 1 << source.scale)
+        index, is_exact = self.pick(mode, x.negative, exact)
+        if index > self.largest_index:
+            if overflows(mode, x.negative):
+                return self.infinity(x.negative), OVERFLOW | INEXACT, True
+            return self.coded(x.negative, self.largest_index), INEXACT, True
+        code = self.coded(x.negative, index)
+        if is_exact:
+            return code, OK, False
+        return code, UNDERFLOW | INEXACT if index < 1 << self.precision - 1 else INEXACT, True
+
+    def pick(self, mode, negative, exact):
+        """The number of the point that the mode takes, and whether it is the value itself.
+
+        Where a tie goes to even, the even code is taken: that is the even significand, if it has a last digit.
+        """
+        points = self.points
+        below = bisect_right(points, exact) - 1
+        if below + 1 == len(points):
+            return below, False
+        if points[below] == exact:
+            return below, True
+        to_lower, to_upper = exact - points[below], points[below + 1] - exact
+        above = {
+            Mode.UP: not negative,
+            Mode.DOWN: negative,
+            Mode.ZERO: False,
+            Mode.EVEN: to_upper < to_lower or (to_upper == to_lower and below % 2 == 1),
+            Mode.AWAY: to_upper <= to_lower,
+        }[mode]
+        return below + above, False
+
+
+def family(least, greatest):
+    """All formats with these widths. With a sign, an exponent of one bit or more is left."""
+    for bits in range(least, greatest + 1):
+        for signed in (True, False):
+            for precision in range(1, bits + (not signed)):
+                for extended in (False, True):
+                    yield Projection(bits, precision, signed, extended)
+
+
+# ---- what is known of them
+
+
+def check_values(form):
+    """The middle code is 1; codes are in order; each number has one code."""
+    middle = form.codes_without_sign // 2
+    assert middle > form.largest_index or form.value(middle) == 1, form
+    numbers = [form.value(code) for code in range(form.largest_index + 1)]
+    assert all(a < b for a, b in zip(numbers, numbers[1:])), form
+    values = [form.value(code) for code in range(1 << form.bits)]
+    assert len(set(values)) == len(values) and values.count(NOT_A_NUMBER) == 1, form
+    assert (INFINITY in values) == form.extended
+    assert (NEGATIVE_INFINITY in values) == (form.extended and form.signed)
+    if not form.signed:
+        assert values[-1] == NOT_A_NUMBER and (values[-2] == INFINITY) == form.extended
+
+
+def check_model(form):
+    """A format of the model with one NaN at the code of -0 has the same values."""
+    if not form.signed or form.extended:
+        return
+    least = 1 - form.bias
+    same = Format(
+        form.name, form.bits, form.exponent_bits, form.precision, least,
+        least + (1 << form.exponent_bits) - 2, NonFinite.NAN_NEGATIVE_ZERO,
+    )
+    for code in range(1 << form.bits):
+        x = decoded(same, code)
+        if isinstance(x, NaN):
+            assert form.value(code) == NOT_A_NUMBER
+        else:
+            # the format may be coarser than 1: then its scale is below 0
+            assert form.value(code) == x.signed_quanta * Fraction(2) ** -same.scale, (form, code)
+
+
+# The least and the largest positive number, as published for binary8.
+PUBLISHED = {
+    (3, True): (Fraction(1, 2**17), 49152),
+    (4, True): (Fraction(1, 2**10), 224),
+    (5, True): (Fraction(1, 2**7), 15),
+}
+
+
+def check_published():
+    """1 is at 0x40, the NaN at 0x80, the infinities at 0x7f and 0xff."""
+    for (precision, extended), (least, largest) in PUBLISHED.items():
+        form = Projection(8, precision, True, extended)
+        assert form.value(0x40) == 1 and form.value(0x80) == NOT_A_NUMBER
+        assert form.value(0x7F) == INFINITY and form.value(0xFF) == NEGATIVE_INFINITY
+        assert form.value(1) == least and form.value(0x7E) == largest, form
+        unsigned = Projection(8, precision, False, extended)
+        assert unsigned.value(0x80) == 1 and unsigned.value(0xFE) == INFINITY
+
+
+# ---- rows
+
+
+def extended_by(checksum, word):
+    """The checksum with one more number."""
+    return (checksum * FACTOR + word) % 2**64
+
+
+def word_of(value):
+    """The first 24 bits of the double that a value is; the others are zeros."""
+    if value == NOT_A_NUMBER:
+        return 0x7FF800
+    if value in (INFINITY, NEGATIVE_INFINITY):
+        return 0x7FF000 if value == INFINITY else 0xFFF000
+    exact = float(value)
+    assert Fraction(*exact.as_integer_ratio()) == value
+    (bits,) = unpack("<Q", pack("<d", exact))
+    assert bits % (1 << 40) == 0
+    return bits >> 40
+
+
+def values_checksum(form):
+    """All codes of a format."""
+    checksum = 0
+    for code in range(1 << form.bits):
+        checksum = extended_by(checksum, word_of(form.value(code)))
+    return checksum
+
+
+def conversions_checksum(form, source, step, mode):
+    """Every code of the source that is a multiple of the step, stored."""
+    checksum = 0
+    for bits in range(0, 1 << source.bits, step):
+        code, status, loses = form.store(source, decoded(source, bits), mode)
+        checksum = extended_by(checksum, code * 64 + status * 2 + loses)
+    return checksum
+
+
+# what `compare` gives, in the order of these numbers
+UNORDERED, LESS, EQUAL, GREATER = range(4)
+
+
+def sort_key(value):
+    """Infinities are at the ends."""
+    return {INFINITY: (1, 0), NEGATIVE_INFINITY: (-1, 0)}.get(value) or (0, value)
+
+
+def ordering(left, right):
+    """The order of two values."""
+    if NOT_A_NUMBER in (left, right):
+        return UNORDERED
+    a, b = sort_key(left), sort_key(right)
+    return LESS if a < b else EQUAL if a == b else GREATER
+
+
+def class_number(value):
+    """The category: of a NaN, an infinity, a zero, another number."""
+    if value == NOT_A_NUMBER:
+        return 0
+    if value in (INFINITY, NEGATIVE_INFINITY):
+        return 1
+    return 2 if value == 0 else 3
+
+
+def order_checksum(form):
+    """Of each code the next code up and down, the category, and the order of its value and that of another code.
+
+    The neighbours are those in the sorted list of all values. Past its ends is the NaN, but for an infinity, which
+    stays.
+    """
+    codes = [code for code in range(1 << form.bits) if code != form.nan_code]
+    codes.sort(key=lambda code: sort_key(form.value(code)))
+    place = {code: i for i, code in enumerate(codes)}
+
+    def neighbour(code, step):
+        if code == form.nan_code:
+            return code
+        i = place[code] + step
+        if 0 <= i < len(codes):
+            return codes[i]
+        return code if form.value(code) in (INFINITY, NEGATIVE_INFINITY) else form.nan_code
+
+    checksum = 0
+    for code in range(1 << form.bits):
+        value, other = form.value(code), form.value((7 * code + 3) % (1 << form.bits))
+        facts = class_number(value) * 4 + ordering(value, other)
+        word = (neighbour(code, 1) << 32) + (neighbour(code, -1) << 16) + facts
+        checksum = extended_by(checksum, word)
+    return checksum
+
+
+# The formats that have a name in the crate, and those that its tests declare.
+TESTED = (
+    Projection(8, 3, True, True),
+    Projection(8, 4, True, True),
+    Projection(8, 5, True, True),
+    Projection(8, 1, False, False),
+    Projection(3, 1, True, False),
+    Projection(6, 2, False, True),
+    Projection(8, 4, True, False),
+    Projection(15, 8, True, True),
+)
+
+
+def lines():
+    """The file."""
+    names = [f"`{form.name}`" for form in TESTED]
+    yield "//! Checksums of formats of IEEE P3109, computed by `evidence/projections.py`:"
+    yield f"//! {', '.join(names[:4])},"
+    yield f"//! {', '.join(names[4:])}."
+    yield "//! Of each: all values, by the first 24 bits of the doubles that they are; the neighbours, the category and the"
+    yield "//! order of each value; every 61st half in the five modes."
+    yield ""
+    yield f"pub(crate) static CHECKSUMS: [[u64; 7]; {len(TESTED)}] = ["
+    for form in TESTED:
+        yield "    ["
+        sums = [values_checksum(form), order_checksum(form)]
+        sums += [conversions_checksum(form, HALF, 61, mode) for mode in MODES]
+        yield from (f"        0x{checksum:x}," for checksum in sums)
+        yield "    ],"
+    yield "];"
+
+
+if __name__ == "__main__":
+    check_published()
+    for known in family(3, 8):
+        check_values(known)
+        check_model(known)
+    print("\n".join(lines()))
