@@ -8,3 +8,4 @@ pub mod OneBlock
 pub mod TabledResults
 pub mod ShortSources
 pub mod NormalNumbers
+mod FiniteValues

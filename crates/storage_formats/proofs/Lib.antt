@@ -19,3 +19,4 @@ mod ProjectedValues
 mod ProjectedOnce
 mod ProjectedOrder
 mod ProjectedNeighbours
+mod QuotientPicks

@@ -19,3 +19,4 @@ pub mod Projections
 pub mod ProjectionLaws
 pub mod ProjectionLawTest
 pub mod ProjectionTypes
+pub mod Quotients

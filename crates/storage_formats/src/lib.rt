@@ -35,6 +35,11 @@ mod projection_rows;
 #[cfg(test)]
 mod projection_tests;
 #[cfg(test)]
+mod quotient_rows;
+#[cfg(test)]
+mod quotient_tests;
+mod quotients;
+#[cfg(test)]
 mod rows;
 mod scales;
 mod stored;
