@@ -7,10 +7,12 @@ operands, the value, the flags, and what else the call returns. The first four a
 from typing import NamedTuple
 
 from exact import (
+    augmented,
     conversions,
     data,
     decimals,
     format_of,
+    hex_texts,
     integers,
     machines,
     odd,
@@ -168,6 +170,13 @@ def answered_in(call, kind_word, mode, operands):
     if call in _ON_WORDS:
         return _ON_WORDS[call](kind, mode, *operands.split(" "))
     values = [words.value_of(kind, word) for word in operands.split(" ")]
+    if call in augmented.CALLS:
+        head, tail, flags = augmented.computed(kind.format, call, *values)
+        return Answer(" ".join(words.word_of(kind, x) for x in (head, tail)), status.names(flags))
+    if call in augmented.PAYLOADS:
+        return Answer(words.word_of(kind, augmented.of_payload(kind.format, call, *values)))
+    if call == "write_hex":
+        return Answer(hex_texts.exact_text(kind.format, *values))
     if call in _TEXTS:
         return Answer(_TEXTS[call](kind, *values))
     if call in _TESTS:
@@ -480,6 +489,13 @@ def answered_digits(kind, mode, word, count):
     return Answer(digits, status.names(flags), (("exponent", exponent),))
 
 
+def answered_hex(kind, mode, word, count):
+    """A value with so many hexadecimal digits after the dot."""
+    x = words.value_of(kind, word)
+    text, flags = hex_texts.rounded_text(kind.format, mode, int(count), x)
+    return Answer(text, status.names(flags))
+
+
 def answered_digit_count(kind, _mode, word):
     """How many decimal digits a number has, or None of another value."""
     x = words.value_of(kind, word)
@@ -518,6 +534,7 @@ _ON_WORDS = {
     "round_to_integral_in": answered_integral,
     "write_digits": answered_digits,
     "digit_count": answered_digit_count,
+    "write_hex_rounded": answered_hex,
     "from_u128_r": answered_from_integer,
     "from_u128": answered_from_integer,
     "from_i128_r": answered_from_integer,

@@ -4,12 +4,14 @@ import random
 from itertools import islice
 
 from questions import (
+    augmented,
     decimals,
     flags,
     hard_flags,
     hard_products,
     hard_roots,
     hard_sums,
+    hexadecimal,
     later_formats,
     machines,
     mixed,
@@ -40,6 +42,8 @@ SUBJECTS = {
     "later_formats": each_drawn(later_formats.question),
     "machines": each_drawn(machines.question),
     "odd": each_drawn(odd.question),
+    "hexadecimal": each_drawn(hexadecimal.question),
+    "augmented": each_drawn(augmented.question),
     "eight_bit_conversions": later_formats.eight_bit_conversions,
     "hard_roots": hard_roots.questions,
     "hard_products": hard_products.questions,

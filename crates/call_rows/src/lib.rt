@@ -5,12 +5,14 @@
 #![tactic(auto)]
 
 mod all_calls;
+mod augmented;
 mod compared_between;
 mod decimals;
 mod digits;
 mod fewer_digits;
 mod flags;
 mod formats;
+mod hex;
 mod in_another;
 mod in_one;
 mod magnitudes;

@@ -1,9 +1,11 @@
 //! The operations of IEEE 754-2019 that `Float` lacks, each in the formats of its row.
 
+use crate::augmented::{augmented_in, payload_in};
 use crate::compared_between::compared_between;
 use crate::digits::digits_in;
 use crate::fewer_digits::in_fewer_digits;
 use crate::flags::flags_of;
+use crate::hex::hex_in;
 use crate::in_another::in_another;
 use crate::in_one::in_format;
 use crate::odd::in_odd;
@@ -26,6 +28,15 @@ fn in_formats(formats: Formats, call: OperationCall, request: Request) -> Answer
     match (formats, call) {
         (Formats::One(format), OperationCall::WriteDigits | OperationCall::DigitCount) => {
             digits_in(format, call, request)
+        }
+        (Formats::One(format), OperationCall::WriteHex | OperationCall::WriteHexRounded) => {
+            hex_in(format, call, request)
+        }
+        (Formats::One(format), OperationCall::Augmented(call)) => {
+            augmented_in(format, call, request.operands)
+        }
+        (Formats::One(format), OperationCall::OfPayload(call)) => {
+            payload_in(format, call, request.operands.first)
         }
         (Formats::One(format), _) => in_format(format, call, request),
         (Formats::Between(source, target), OperationCall::InAnother(call)) => {

@@ -33,6 +33,8 @@ pub enum Returned<F> {
 pub enum ValueField {
     /// The bits of a value, and the width of the format.
     Bits(u128, usize),
+    /// The bits of two values, and the width of the format.
+    TwoBits(u128, u128, usize),
     /// A value of a format without bits, equal to that of the row.
     InRow,
     /// A value of a format without bits that differs from that of the row.
@@ -200,6 +202,7 @@ impl ValueField {
     fn is_named(&self, word: &str) -> Option<bool> {
         match self {
             ValueField::Bits(bits, width) => is_bits(*bits, *width, word),
+            ValueField::TwoBits(first, second, width) => are_bits(*first, *second, *width, word),
             ValueField::InRow => Some(true),
             ValueField::Quanta(_) => is_other_quanta(word),
             ValueField::Unsigned(number) => is_same(*number, number_of(word)),
@@ -214,6 +217,7 @@ impl ValueField {
     fn fault(&self) -> CallFault {
         match self {
             ValueField::Bits(_, width) => CallFault::ValueBits(*width),
+            ValueField::TwoBits(_, _, _) => CallFault::Value("two values of the format"),
             ValueField::InRow | ValueField::Quanta(_) => CallFault::Value("quanta, as `+3q`"),
             ValueField::Unsigned(_) => CallFault::Value("an integer of 128 bits without a sign"),
             ValueField::Signed(_) => CallFault::Value("an integer of 128 bits"),
@@ -227,6 +231,11 @@ impl ValueField {
     fn write<W: Write>(&self, in_row: &str, out: &mut W) -> io::Result<()> {
         match self {
             ValueField::Bits(bits, width) => write_bits(*bits, *width, out),
+            ValueField::TwoBits(first, second, width) => {
+                write_bits(*first, *width, out)?;
+                out.write_all(b" ")?;
+                write_bits(*second, *width, out)
+            }
             ValueField::InRow => out.write_all(in_row.as_bytes()),
             ValueField::Unsigned(number) => write!(out, "{number}"),
             ValueField::Signed(number) => write!(out, "{number}"),
@@ -243,6 +252,17 @@ fn is_bits(bits: u128, width: usize, word: &str) -> Option<bool> {
         return Some(false);
     }
     is_same(bits, bits_of(word, width))
+}
+
+/// Whether two words spell these bits.
+fn are_bits(first: u128, second: u128, width: usize, words: &str) -> Option<bool> {
+    let Some((left, right)) = words.split_once(' ') else {
+        return None;
+    };
+    match (is_bits(first, width, left), is_bits(second, width, right)) {
+        (Some(is_first), Some(is_second)) => Some(is_first && is_second),
+        _ => None,
+    }
 }
 
 /// The comparison with a value that differs from that of the row: `Some(false)` if the word has the form of a value.

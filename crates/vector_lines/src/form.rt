@@ -21,6 +21,8 @@ pub enum Form {
     ValueAndCount,
     /// A value and a number of digits that are written.
     ValueAndDigits,
+    /// A value and a number of hexadecimal digits after the dot.
+    ValueAndPlaces,
     /// An unsigned integer.
     Unsigned,
     /// A signed integer.
@@ -43,7 +45,8 @@ impl Form {
             | Form::ValueAndExponent
             | Form::ValueAndWidth
             | Form::ValueAndCount
-            | Form::ValueAndDigits => 1,
+            | Form::ValueAndDigits
+            | Form::ValueAndPlaces => 1,
             Form::TwoValues => 2,
             Form::ThreeValues => 3,
             _ => 0,
@@ -62,6 +65,7 @@ impl Form {
             Form::ValueAndWidth => "a value and a width of at most 128 bits",
             Form::ValueAndCount => "a value and a count of 1 to 36 digits",
             Form::ValueAndDigits => "a value and a count of 1 to 128 digits",
+            Form::ValueAndPlaces => "a value and a count of at most 31 digits",
             Form::Unsigned => "an integer of 128 bits without a sign",
             Form::Signed => "an integer of 128 bits",
             Form::Payload => "hexadecimal digits or `None`",

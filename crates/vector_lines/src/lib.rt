@@ -51,7 +51,8 @@ pub use formats::Formats;
 pub use machine_format::MachineFormat;
 pub use operands::{Operand, Operands, any_value, two_values, value_of};
 pub use operations::{
-    FlagsCall, FormatOfCall, GeneralCall, OddCall, OperationCall, OrderCall, ToIntegerCall,
+    AugmentedCall, FlagsCall, FormatOfCall, GeneralCall, OddCall, OperationCall, OrderCall,
+    PayloadCall, ToIntegerCall,
 };
 pub use program::{check_lines, run};
 pub use quanta::Quanta;

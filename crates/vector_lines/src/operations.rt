@@ -30,6 +30,14 @@ pub enum OperationCall {
     WriteDigits,
     /// How many decimal digits a value has.
     DigitCount,
+    /// The hexadecimal digits of a value (5.12.3).
+    WriteHex,
+    /// A value rounded to a number of hexadecimal digits after the dot (5.12.3).
+    WriteHexRounded,
+    /// An augmented operation (9.5).
+    Augmented(AugmentedCall),
+    /// An operation on the payload of a NaN (9.7).
+    OfPayload(PayloadCall),
     /// An operation on flags (5.7.4).
     OfFlags(FlagsCall),
     /// On a machine, a minimum, if true, or a maximum by a rule.
@@ -89,6 +97,22 @@ pub enum ToIntegerCall {
     SignedExact,
     Unsigned,
     UnsignedExact,
+}
+
+/// An operation with two results, which are together the exact one.
+#[derive(Clone, Copy)]
+pub enum AugmentedCall {
+    Add,
+    Subtract,
+    Multiply,
+}
+
+/// An operation on the payload of a NaN.
+#[derive(Clone, Copy)]
+pub enum PayloadCall {
+    Get,
+    Set,
+    SetSignaling,
 }
 
 /// An operation on flags.
@@ -311,6 +335,26 @@ static OPERATIONS: &[(&str, OperationCall)] = &[
     ),
     ("write_digits", OperationCall::WriteDigits),
     ("digit_count", OperationCall::DigitCount),
+    ("write_hex", OperationCall::WriteHex),
+    ("write_hex_rounded", OperationCall::WriteHexRounded),
+    (
+        "augmented_add",
+        OperationCall::Augmented(AugmentedCall::Add),
+    ),
+    (
+        "augmented_subtract",
+        OperationCall::Augmented(AugmentedCall::Subtract),
+    ),
+    (
+        "augmented_multiply",
+        OperationCall::Augmented(AugmentedCall::Multiply),
+    ),
+    ("get_payload", OperationCall::OfPayload(PayloadCall::Get)),
+    ("set_payload", OperationCall::OfPayload(PayloadCall::Set)),
+    (
+        "set_payload_signaling",
+        OperationCall::OfPayload(PayloadCall::SetSignaling),
+    ),
     ("lower_flags", OperationCall::OfFlags(FlagsCall::Lower)),
     ("raise_flags", OperationCall::OfFlags(FlagsCall::Raise)),
     ("test_flags", OperationCall::OfFlags(FlagsCall::Test)),
@@ -384,8 +428,13 @@ impl OperationCall {
             OperationCall::Comparison(_, _)
             | OperationCall::Order(_)
             | OperationCall::Extremum(_, _)
+            | OperationCall::Augmented(_)
             | OperationCall::OnMachine(_, _) => Form::TwoValues,
-            OperationCall::OfOne(_) | OperationCall::DigitCount => Form::OneValue,
+            OperationCall::OfOne(_)
+            | OperationCall::DigitCount
+            | OperationCall::WriteHex
+            | OperationCall::OfPayload(_) => Form::OneValue,
+            OperationCall::WriteHexRounded => Form::ValueAndPlaces,
             OperationCall::ScaleB => Form::ValueAndExponent,
             OperationCall::ToInteger(_) => Form::ValueAndWidth,
             OperationCall::WriteDigits => Form::ValueAndDigits,
@@ -399,7 +448,8 @@ impl OperationCall {
             OperationCall::InAnother(_)
             | OperationCall::ScaleB
             | OperationCall::ToInteger(_)
-            | OperationCall::WriteDigits => true,
+            | OperationCall::WriteDigits
+            | OperationCall::WriteHexRounded => true,
             OperationCall::OfOne(call) => {
                 matches!(call, GeneralCall::LogB | GeneralCall::RoundToIntegralIn)
             }

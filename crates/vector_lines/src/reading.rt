@@ -11,8 +11,11 @@ pub fn operands_of(form: Form, text: &str) -> Option<Operands> {
         Form::Text => Some(Operands::none()),
         Form::TwoValues => Operands::two_values(text),
         Form::ThreeValues => Operands::three_values(text),
-        Form::ValueAndExponent | Form::ValueAndWidth | Form::ValueAndCount | Form::ValueAndDigits =>
-            Operands::value_and_integer(text),
+        Form::ValueAndExponent
+        | Form::ValueAndWidth
+        | Form::ValueAndCount
+        | Form::ValueAndDigits
+        | Form::ValueAndPlaces => Operands::value_and_integer(text),
         Form::OneStatus => Operands::one_status(text),
         Form::TwoStatuses => Operands::two_statuses(text),
         Form::ThreeStatuses => Operands::three_statuses(text),

@@ -101,13 +101,12 @@ enum Outcome {
 }
 
 /// What is not made here: the crate multiplies in every format, its `Debug` is the other crate's, it reads the decimals
-/// that the library's `from_str_r` refuses, and it has no commands, which refuse words. `tests/beyond.rs` has rows of its
-/// own for results rounded to odd and for comparisons of two formats.
-const WITHOUT_CALL: [&str; 5] =
-    ["MULTIPLIES", "a refused decimal", "a refused word of a command", BEYOND, "debug"];
+/// that the library's `from_str_r` refuses, and it has no commands, which refuse words. `tests/beyond.rs` has rows of
+/// its own for results rounded to odd, augmented operations and comparisons of two formats.
+const WITHOUT_CALL: [&str; 5] = ["MULTIPLIES", "a refused decimal", "a refused word of a command", BEYOND, "debug"];
 
 /// Rows of calls beyond those of `Float`, each in formats of its own.
-const BEYOND: &str = "a row of machines, of rounding to odd or of two formats";
+const BEYOND: &str = "a row of machines, odd rounding, two formats, hexadecimal digits, head and tail, or payloads";
 
 /// Whether a row is one of these.
 fn is_beyond(call: &str, format: &str) -> bool {
@@ -115,6 +114,9 @@ fn is_beyond(call: &str, format: &str) -> bool {
         || format.contains(">x87p")
         || call.ends_with("_odd")
         || call == "round_to_odd_integral"
+        || call.starts_with("write_hex")
+        || call.starts_with("augmented_")
+        || call.contains("_payload")
         || call.starts_with("compare_") && (format.contains('>') || call == "compare_signaling_unordered")
 }
 
