@@ -1,4 +1,4 @@
-use Rattle.std.proofs.Common.{◌+◌, ◌++◌, List, ℕ, ap, sym, ◌∙◌, arith}
+use Rattle.std.proofs.Common.{◌++◌, List, ℕ, ap, sym, ◌∙◌, arith}
 use Rattle.std.proofs.lemmas.Fmt.{decimal_digit}
 use Rattle.apfloat_decimals.proofs.spelled.LastDigits.{counted_between, pair_is_decimal}
 use Rattle.apfloat_decimals.proofs.spelled.WrittenNumbers.{single}

@@ -1,4 +1,4 @@
-use Rattle.std.proofs.Common.{◌+◌, ◌%◌, ◌++◌, List, ℕ, ap, ◌∙◌, arith}
+use Rattle.std.proofs.Common.{◌%◌, ◌++◌, List, ℕ, ap, ◌∙◌, arith}
 use Rattle.apfloat_decimals.specs.Texts.{last_digits}
 use Rattle.apfloat_decimals.proofs.spelled.LastDigits.{number_joined, room_joined, upper_room}
 use Rattle.apfloat_decimals.proofs.formatting.Line.push_up_to_four.Goals as goal
