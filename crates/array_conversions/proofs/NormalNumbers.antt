@@ -12,17 +12,18 @@ use Rattle.rustc_apfloat.specs.Layout.{IsEncodedBy}
 use Rattle.rustc_apfloat.specs.Rounding.{ok_bits}
 use Rattle.array_conversions.specs.declared.converted.Converted.{Converted}
 use Rattle.array_conversions.specs.declared.saturation.Overflow.{Overflow}
-use Rattle.array_conversions.specs.declared.saturation.Overflow.TheVariants.{Rounded, Saturated}
+use Rattle.array_conversions.specs.declared.saturation.Overflow.TheVariants.{Rounded, Saturated, Finite}
 use Rattle.array_conversions.specs.FarNumbers.{with_overflow}
 use Rattle.array_conversions.specs.Saturation.{IsConversionBy}
 use Rattle.array_conversions.specs.Values.{IsAnswerFrom}
 use Rattle.array_conversions.proofs.FarNumbers.{number_converted}
 
--- a number is kept, with either treatment of overflow
+-- a number is kept, with any treatment of overflow
 kept_number : (overflow : Overflow) (g : Format) (left right : Bool) (quanta : ℕ)
     → with_overflow overflow g left (finite right quanta) ≡ finite right quanta
 kept_number Rounded g left right quanta = refl
 kept_number Saturated g left right quanta = refl
+kept_number (Finite nans) g left right quanta = refl
 
 pub number_answered : (overflow : Overflow) (c d : Constants) (mode : Round) (bits : ℕ) (number : Encoded)
     (answer : Converted) → IsConvertedNumber c d mode bits number
