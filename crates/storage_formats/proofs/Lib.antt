@@ -1,8 +1,8 @@
-mod Points
-mod StoredPicks
+pub mod Points
+pub mod StoredPicks
 mod StoredNumbers
 mod ScalePicks
-mod OneAnswer
+pub mod OneAnswer
 mod CodesCompared
 mod Converted
 mod UnsignedSigns
