@@ -319,7 +319,10 @@ def lines():
     yield "//! Checksums of formats of IEEE P3109, computed by `evidence/projections.py`:"
     yield f"//! {', '.join(names[:4])},"
     yield f"//! {', '.join(names[4:])}."
-    yield "//! Of each: all values, by the first 24 bits of the doubles that they are; the neighbours, the category and the"
+    yield (
+        "//! Of each: all values, by the first 24 bits of the doubles that they are; "
+        "the neighbours, the category and the"
+    )
     yield "//! order of each value; every 61st half in the five modes."
     yield ""
     yield f"pub(crate) static CHECKSUMS: [[u64; 7]; {len(TESTED)}] = ["

@@ -30,7 +30,7 @@ def convert_saturating(source, target, x, mode):
 
 
 def convert_finite(source, target, x, mode, keeps_nans):
-    """The same, and an infinity gives the largest number of its sign; so does a NaN, with sign plus, if it is not kept."""
+    """The same, and an infinity gives the largest number of its sign; a NaN, if not kept, gives the positive one."""
     if is_nan(x) and not keeps_nans:
         return number(target, False, target.largest), INVALID_OP, True
     if isinstance(x, Infinite):

@@ -1,7 +1,7 @@
 //! Values that are only stored and converted: elements of at most 8 bits without infinities and NaNs, as those of the
 //! Open Compute Project's microscaling formats, the scales of their blocks, and a format of 8 bits with infinities and
-//! NaNs. `docs/STORAGE_FORMATS.md` of the repository says what becomes of each value; the crate `rustc_apfloat` has none
-//! of these.
+//! NaNs. `docs/STORAGE_FORMATS.md` of the repository says what becomes of each value; the crate `rustc_apfloat` has
+//! none of these.
 //!
 //! ```
 //! use rustc_apfloat::Round;
@@ -189,8 +189,8 @@ impl UE4M3 {
     }
 }
 
-/// Eight bits, three of them the exponent and four the significand, with the infinities and NaNs of IEEE 754. Up to 15.5,
-/// in steps of at least 2^-6.
+/// Eight bits, three of them the exponent and four the significand, with the infinities and NaNs of IEEE 754. Up to
+/// 15.5, in steps of at least 2^-6.
 #[must_use]
 #[derive(Clone, Copy)]
 pub struct Float8E3M4(library::Float8E3M4);
