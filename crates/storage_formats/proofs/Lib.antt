@@ -20,3 +20,4 @@ mod ProjectedOnce
 mod ProjectedOrder
 mod ProjectedNeighbours
 mod QuotientPicks
+mod QuotientsOnce

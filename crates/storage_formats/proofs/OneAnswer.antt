@@ -18,7 +18,7 @@ use Rattle.apfloat_model.proofs.Once.{conversion_once}
 use Rattle.apfloat_model.proofs.bits.EncodedOnce.{encoded_once}
 use Rattle.apfloat_model.proofs.rounding.Picks.{pick_unique}
 use Rattle.storage_formats.specs.Codes.{datum_of}
-use Rattle.storage_formats.specs.Conversions.{IsGiven, IsStoredNumber, saturated_value}
+use Rattle.storage_formats.specs.Conversions.{IsGiven, IsSaturated, IsStoredNumber, saturated_value}
 use Rattle.storage_formats.specs.Laws.{IsIntoOnce, IsScaleOnce, IsUnsignedOnce}
 use Rattle.storage_formats.specs.Scales.{IsCode, IsPickedCode, IsPickedScale, IsScaleOf}
 use Rattle.storage_formats.specs.Scales.{delivered_code, picked_code, scale_format, scale_status}
@@ -79,22 +79,28 @@ given_once c given bits lossy code other status flags loses lost law l k x y = (
   x.loses_is ∙ sym y.loses_is,
 )
 
+-- a number that is rounded once
+pub saturated_once : (c : Constants) (mode : Round) (b : Bool) (amount parts code other status flags : ℕ)
+    → IsLawful c → code < 2 ^ c.bits → other < 2 ^ c.bits → IsSaturated c mode b amount parts code status
+    → IsSaturated c mode b amount parts other flags → (code ≡ other) × (status ≡ flags)
+saturated_once c mode b amount parts code other status flags law l k v w =
+    let same : v.pick ≡ w.pick = pick_unique c.precision mode b amount parts v.pick w.pick v.is_pick w.is_pick in (
+      code_once c code other (saturated_value (format_with c) b w.pick) law l k
+          (v.value_is ∙ ap (λ (p : ℕ). saturated_value (format_with c) b p) same) w.value_is,
+      v.status_is ∙ ap (λ (p : ℕ). delivered_status (format_with c) mode b amount parts p) same ∙ sym w.status_is,
+    )
+
 number_once : (c : Constants) (f : Format) (mode : Round) (b : Bool) (n code other status flags : ℕ)
     (loses lost : Bool) → IsLawful c → code < 2 ^ c.bits → other < 2 ^ c.bits
     → IsStoredNumber c f mode b n code status loses → IsStoredNumber c f mode b n other flags lost
     → AreSame code status loses other flags lost
 number_once c f mode b n code other status flags loses lost law l k x y =
-    let amount : ℕ = n * 2 ^ (format_with c).scale in
-    let parts : ℕ = 2 ^ f.scale in
-    let v = x.is_rounded in
-    let w = y.is_rounded in
-    let same : v.pick ≡ w.pick = pick_unique c.precision mode b amount parts v.pick w.pick v.is_pick w.is_pick in
-    let told : status ≡ flags =
-    v.status_is ∙ ap (λ (p : ℕ). delivered_status (format_with c) mode b amount parts p) same ∙ sym w.status_is in (
-      code_once c code other (saturated_value (format_with c) b w.pick) law l k
-          (v.value_is ∙ ap (λ (p : ℕ). saturated_value (format_with c) b p) same) w.value_is,
-      told,
-      x.loses_is ∙ ap (λ (s : ℕ). not (eqb s ok_bits)) told ∙ sym y.loses_is,
+    let same =
+    saturated_once c mode b (n * 2 ^ (format_with c).scale) (2 ^ f.scale) code other status flags law l k x.is_rounded
+    y.is_rounded in (
+      same.0,
+      same.1,
+      x.loses_is ∙ ap (λ (s : ℕ). not (eqb s ok_bits)) same.1 ∙ sym y.loses_is,
     )
 
 pub into_once : IsIntoOnce

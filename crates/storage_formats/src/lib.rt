@@ -6,7 +6,8 @@
 //! is a power of two (`scales`), and `UE4M3` one with a significand (`unsigned`). `Float8E3M4` has infinities and NaNs
 //! too (`float8_e3m4`), and `Projected<F>` is a value of a format of IEEE P3109 (`projected`).
 //!
-//! `from_value_by` has two more modes, to odd and with random digits (`modes`).
+//! `from_value_by` has two more modes, to odd and with random digits (`modes`); `from_quotient` rounds the quotient of two
+//! values (`quotients`).
 //!
 //! A conversion from any format is rounded once (`picks`): the digits of the value are cut at the last one that the
 //! format keeps there (`cuts`), and the mode moves them or not.

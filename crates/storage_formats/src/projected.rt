@@ -173,7 +173,7 @@ impl<F: Projection> Projected<F> {
         self.code == nan_code::<F>()
     }
 
-    /// Whether the code has a sign; that of the NaN has none in a format without a sign.
+    /// Whether the code has a sign. In a format with a sign the NaN has one, since its code is that of -0.
     pub fn is_negative(self) -> bool
         ensures { result ≡ is_negative_code (projection_of F.Projection) self }
     {
@@ -255,8 +255,8 @@ impl<F: Projection> Projected<F> {
     fn next_magnitude(self) -> Self
         requires { is_negative_code (projection_of F.Projection) self ≡ true }
         ensures { let c = projection_of F.Projection in result
-            ≡ (if eqb (magnitude_of c self) (last_index c) then (if c.extended then self else nan_code c)
-            else self + 1) }
+            ≡ (if eqb (magnitude_of c self) (last_index c)
+            then (if c.extended then self else nan_code c) else self + 1) }
     {
         if self.magnitude() != last_index::<F>() {
             Self::of_code(self.code + 1)

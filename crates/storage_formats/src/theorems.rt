@@ -4,6 +4,7 @@ ghost use Rattle.storage_formats.specs.Laws.{AreCodesInOrder, IsIntoOnce, IsScal
 ghost use Rattle.storage_formats.specs.Float8E3M4.{IsE3M4Once};
 ghost use Rattle.storage_formats.specs.ModeLaws.{ArePicksOfModel, AreRandomNumbersCounted, IsIntoByOnce};
 ghost use Rattle.storage_formats.specs.ModeLaws.{IsIntoOfModel, StaysExact};
+ghost use Rattle.storage_formats.specs.Quotients.{IsQuotientOnce};
 ghost use Rattle.storage_formats.specs.ProjectionLaws.{AreCodePicksPicks, AreNextValues, IsOneInTheMiddle, IsProjectedOnce};
 
 /// A conversion into a storage format has one answer.
@@ -24,6 +25,11 @@ pub fn unsigned_conversions_have_one_answer()
 /// A conversion into `Float8E3M4` has one answer.
 pub fn e3m4_conversions_have_one_answer()
     ensures { IsE3M4Once }
+{}
+
+/// A quotient in a storage format has one answer.
+pub fn quotients_have_one_answer()
+    ensures { IsQuotientOnce }
 {}
 
 /// Of two codes without a sign, the greater one is the greater number.
