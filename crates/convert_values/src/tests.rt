@@ -3,8 +3,10 @@
 use crate::run::{run, tell_failure};
 use crate::stream::Failure;
 use std::alloc::{Alloc, AllocError, Global};
+use std::fmt::Debug;
 use std::io;
 use std::io::{ErrorKind, Read, Write};
+use std::process::Abort;
 use std::rt::Clock;
 use std::test::Fail;
 use std::time::Duration;
@@ -64,145 +66,220 @@ fn words(alloc: Global, line: &str) -> Result<Vec<String>, AllocError> {
     Ok(words)
 }
 
+/// Runs the program with a line of arguments and a stream, and returns the exit status.
+fn status_of<R: Clock + AllocGlobal, I: Read, W: Write, V: Write>(
+    rt: &R,
+    line: &str,
+    input: &mut I,
+    output: &mut W,
+    err: &mut V,
+) -> Result<u8, AllocError> {
+    let given = words(rt.alloc(), line)?;
+    Ok(run(rt, Ok(given), false, input, output, err))
+}
+
 /// What the program writes for a line of arguments and a stream, with its exit status last.
 fn answer_to<R: Clock + AllocGlobal>(
     rt: &R,
     line: &str,
     stream: &[u8],
 ) -> Result<(Vec<u8>, Vec<u8>, u8), AllocError> {
-    let given = words(rt.alloc(), line)?;
     let mut rest = stream;
     let mut output = Vec::new(rt.alloc());
     let mut err = Vec::new(rt.alloc());
-    let status = run(rt, Ok(given), false, &mut rest, &mut output, &mut err);
+    let status = status_of(rt, line, &mut rest, &mut output, &mut err)?;
     Ok((output, err, status))
+}
+
+/// Asserts that a result is the expected one. Proving a call of this function takes a small part of the time that an
+/// `assert_eq!` takes.
+fn same<T: PartialEq + Debug + Drop, C: Debug + Drop>(
+    rt: &impl Abort,
+    got: T,
+    expected: T,
+    case: C,
+) {
+    assert_eq!(rt; got, expected, "{case:?}");
+}
+
+/// Asserts what the program writes for a line of arguments and a stream, and its exit status.
+fn expect<R: Clock + Abort + AllocGlobal>(
+    rt: &R,
+    line: &str,
+    stream: &[u8],
+    written: &[u8],
+    told: &str,
+    status: u8,
+) -> Result<(), Fail> {
+    let (output, err, ended) = answer_to(rt, line, stream)?;
+    let got = (output.as_slice(), err.as_slice(), ended);
+    same(rt, got, (written, told.as_bytes(), status), line);
+    Ok(())
 }
 
 /// 1, 1.0625, a signaling NaN, 1000 and half of the smallest positive number, then three bytes of another value.
 const SINGLES: &[u8] =
     b"\x00\x00\x80\x3f\x00\x00\x88\x3f\x01\x00\x80\x7f\x00\x00\x7a\x44\x00\x00\x80\x3a\x01\x02\x03";
 
-#[test]
-fn converts_whole_values_before_the_end(rt: HostRuntime) -> Result<(), Fail> {
-    let (output, err, status) = answer_to(&rt, "single e4m3fn even", SINGLES)?;
-    assert_eq!(rt; output.as_slice(), b"\x38\x38\x7f\x7f\x00".as_slice());
-    assert_eq!(rt;
-        err.as_slice(),
-        b"values 5, inexact 3, underflow 1, overflow 1, invalid 1, NaNs 2\n\
-          convert_values: the stream ended inside a value; bytes after the last whole one: 3\n"
-            .as_slice()
-    );
-    assert_eq!(rt; status, 1);
-    let (output, err, status) = answer_to(&rt, "single e4m3fn up", &SINGLES[..20])?;
-    assert_eq!(rt; output.as_slice(), b"\x38\x39\x7f\x7f\x01".as_slice());
-    assert_eq!(rt;
-        err.as_slice(),
-        b"values 5, inexact 3, underflow 1, overflow 1, invalid 1, NaNs 2\n".as_slice()
-    );
-    assert_eq!(rt; status, 0);
-    Ok(())
-}
-
 /// 1, 1000, -1000, both infinities and a signaling NaN.
 const BEYOND: &[u8] =
     b"\x00\x00\x80\x3f\x00\x00\x7a\x44\x00\x00\x7a\xc4\x00\x00\x80\x7f\x00\x00\x80\xff\x01\x00\x80\x7f";
 
-#[test]
-fn saturates_overflows_alone(rt: HostRuntime) -> Result<(), Fail> {
-    let line = "--saturate single e4m3fn even";
-    let (output, err, status) = answer_to(&rt, line, BEYOND)?;
-    assert_eq!(rt; output.as_slice(), b"\x38\x7e\xfe\x7f\xff\x7f".as_slice());
-    assert_eq!(rt;
-        err.as_slice(),
-        b"values 6, inexact 4, underflow 0, overflow 2, invalid 1, NaNs 3\n".as_slice()
-    );
-    assert_eq!(rt; status, 0);
-    Ok(())
-}
+/// 3, and six bytes of padding.
+const THREE: &[u8] = b"\x00\x00\x00\x00\x00\x00\x00\xc0\x00\x40\x01\x02\x03\x04\x05\x06";
+
+/// 1 + 2^-112 and -1.
+const QUADS: &[u8] = b"\x01\x00\x00\x00\x00\x00\x00\x00\x00\x00\x00\x00\x00\x00\xff\x3f\
+    \x00\x00\x00\x00\x00\x00\x00\x00\x00\x00\x00\x00\x00\x00\xff\xbf";
+
+/// 1 + 2^-52 and -1.
+const DOUBLES: &[u8] = b"\x01\x00\x00\x00\x00\x00\xf0\x3f\x00\x00\x00\x00\x00\x00\xf0\xbf";
+
+/// A line of arguments, a stream and how many of its bytes are read, what is written, the counts, and the exit status.
+type Row = (
+    &'static str,
+    (&'static [u8], usize),
+    &'static [u8],
+    &'static str,
+    u8,
+);
+
+static ROWS: &[Row] = &[
+    // Whole values before the end are converted.
+    (
+        "single e4m3fn even",
+        (SINGLES, 23),
+        b"\x38\x38\x7f\x7f\x00",
+        "values 5, inexact 3, underflow 1, overflow 1, invalid 1, NaNs 2\n\
+         convert_values: the stream ended inside a value; bytes after the last whole one: 3\n",
+        1,
+    ),
+    (
+        "single e4m3fn up",
+        (SINGLES, 20),
+        b"\x38\x39\x7f\x7f\x01",
+        "values 5, inexact 3, underflow 1, overflow 1, invalid 1, NaNs 2\n",
+        0,
+    ),
+    // Overflows alone are saturated.
+    (
+        "--saturate single e4m3fn even",
+        (BEYOND, 24),
+        b"\x38\x7e\xfe\x7f\xff\x7f",
+        "values 6, inexact 4, underflow 0, overflow 2, invalid 1, NaNs 3\n",
+        0,
+    ),
+    // Infinities and NaNs too.
+    (
+        "--saturate-finite single e4m3fn even",
+        (BEYOND, 24),
+        b"\x38\x7e\xfe\x7e\xfe\x7f",
+        "values 6, inexact 4, underflow 0, overflow 2, invalid 1, NaNs 1\n",
+        0,
+    ),
+    (
+        "--saturate-all single e4m3fn even",
+        (BEYOND, 24),
+        b"\x38\x7e\xfe\x7e\xfe\x7e",
+        "values 6, inexact 4, underflow 0, overflow 2, invalid 1, NaNs 0\n",
+        0,
+    ),
+    (
+        "--saturate-finite single e5m2 even",
+        (BEYOND, 24),
+        b"\x3c\x64\xe4\x7b\xfb\x7e",
+        "values 6, inexact 4, underflow 0, overflow 0, invalid 1, NaNs 1\n",
+        0,
+    ),
+    // Padding is not read, and zeros are written.
+    (
+        "--x87-bytes=16 x87 x87 even",
+        (THREE, 16),
+        b"\x00\x00\x00\x00\x00\x00\x00\xc0\x00\x40\x00\x00\x00\x00\x00\x00",
+        "values 1, inexact 0, underflow 0, overflow 0, invalid 0, NaNs 0\n",
+        0,
+    ),
+    (
+        "--x87-bytes=10 x87 half even",
+        (THREE, 10),
+        b"\x00\x42",
+        "values 1, inexact 0, underflow 0, overflow 0, invalid 0, NaNs 0\n",
+        0,
+    ),
+    // Values of tf32 are in the lowest bits of four bytes: 1 and 1.0625, and 1.0625 with ones above its bits.
+    (
+        "single tf32 even",
+        (SINGLES, 8),
+        b"\x00\xfc\x01\x00\x40\xfc\x01\x00",
+        "values 2, inexact 0, underflow 0, overflow 0, invalid 0, NaNs 0\n",
+        0,
+    ),
+    (
+        "tf32 single even",
+        (b"\x40\xfc\xf9\xff", 4),
+        b"\x00\x00\x88\x3f",
+        "values 1, inexact 0, underflow 0, overflow 0, invalid 0, NaNs 0\n",
+        0,
+    ),
+    // The lowest byte comes first.
+    (
+        "quad double up",
+        (QUADS, 32),
+        DOUBLES,
+        "values 2, inexact 1, underflow 0, overflow 0, invalid 0, NaNs 0\n",
+        0,
+    ),
+    (
+        "double x87 even",
+        (DOUBLES, 16),
+        b"\x00\x08\x00\x00\x00\x00\x00\x80\xff\x3f\
+          \x00\x00\x00\x00\x00\x00\x00\x80\xff\xbf",
+        "values 2, inexact 0, underflow 0, overflow 0, invalid 0, NaNs 0\n",
+        0,
+    ),
+];
 
 #[test]
-fn saturates_infinities_and_nans(rt: HostRuntime) -> Result<(), Fail> {
-    for (line, codes, told) in [
-        (
-            "--saturate-finite single e4m3fn even",
-            b"\x38\x7e\xfe\x7e\xfe\x7f".as_slice(),
-            b"values 6, inexact 4, underflow 0, overflow 2, invalid 1, NaNs 1\n".as_slice(),
-        ),
-        (
-            "--saturate-all single e4m3fn even",
-            b"\x38\x7e\xfe\x7e\xfe\x7e".as_slice(),
-            b"values 6, inexact 4, underflow 0, overflow 2, invalid 1, NaNs 0\n".as_slice(),
-        ),
-        (
-            "--saturate-finite single e5m2 even",
-            b"\x3c\x64\xe4\x7b\xfb\x7e".as_slice(),
-            b"values 6, inexact 4, underflow 0, overflow 0, invalid 1, NaNs 1\n".as_slice(),
-        ),
-    ] {
-        let (output, err, status) = answer_to(&rt, line, BEYOND)?;
-        assert_eq!(rt;
-            (output.as_slice(), err.as_slice(), status),
-            (codes, told, 0),
-            "{line}"
-        );
+fn converts_streams(rt: HostRuntime) -> Result<(), Fail> {
+    for (line, stream, written, told, status) in ROWS {
+        let (bytes, count) = *stream;
+        let read = bytes.get(..count).unwrap_or(bytes);
+        expect(&rt, line, read, written, told, *status)?;
     }
     Ok(())
 }
 
-#[test]
-fn reads_no_padding_and_writes_zeros(rt: HostRuntime) -> Result<(), Fail> {
-    let three = b"\x00\x00\x00\x00\x00\x00\x00\xc0\x00\x40\x01\x02\x03\x04\x05\x06";
-    let (output, _, status) = answer_to(&rt, "--x87-bytes=16 x87 x87 even", three)?;
-    let wanted = b"\x00\x00\x00\x00\x00\x00\x00\xc0\x00\x40\x00\x00\x00\x00\x00\x00";
-    assert_eq!(rt; output.as_slice(), wanted.as_slice());
-    assert_eq!(rt; status, 0);
-    let (output, _, status) = answer_to(&rt, "--x87-bytes=10 x87 half even", &three[..10])?;
-    assert_eq!(rt; output.as_slice(), b"\x00\x42".as_slice());
-    assert_eq!(rt; status, 0);
-    Ok(())
-}
+static REFUSED: &[&str] = &[
+    "",
+    "single",
+    "single e4m3fn",
+    "single e4m3fn nearest",
+    "float e4m3fn even",
+    "single dd even",
+    "--x87-bytes=12 single x87 even",
+    "single e4m3fn even even",
+    "single e4m3fn even even even",
+    "--saturate single e4m3fn",
+    "--x87-bytes=10 --saturate single e4m3fn even",
+];
 
-#[test]
-fn stores_tf32_in_the_lowest_bits_of_four_bytes(rt: HostRuntime) -> Result<(), Fail> {
-    // 1 and 1.0625.
-    let (output, _, status) = answer_to(&rt, "single tf32 even", &SINGLES[..8])?;
-    let wanted = b"\x00\xfc\x01\x00\x40\xfc\x01\x00";
-    assert_eq!(rt; (output.as_slice(), status), (wanted.as_slice(), 0));
-    // 1.0625, with ones above its bits.
-    let (output, _, status) = answer_to(&rt, "tf32 single even", b"\x40\xfc\xf9\xff")?;
-    assert_eq!(rt; (output.as_slice(), status), (&SINGLES[4..8], 0));
-    Ok(())
-}
+static ABOUT: &[(&str, &str)] = &[
+    ("--help", "usage: convert_values "),
+    ("single half -h", "usage: convert_values "),
+    ("--version", "convert_values 0."),
+];
 
 #[test]
 fn refuses_other_words(rt: HostRuntime) -> Result<(), Fail> {
-    for line in [
-        "",
-        "single",
-        "single e4m3fn",
-        "single e4m3fn nearest",
-        "float e4m3fn even",
-        "single dd even",
-        "--x87-bytes=12 single x87 even",
-        "single e4m3fn even even",
-        "single e4m3fn even even even",
-        "--saturate single e4m3fn",
-        "--x87-bytes=10 --saturate single e4m3fn even",
-    ] {
+    for line in REFUSED {
         let (output, err, status) = answer_to(&rt, line, SINGLES)?;
-        assert!(rt; output.is_empty());
-        assert!(rt; err.as_slice().starts_with(b"convert_values: "), "{line}");
-        assert_eq!(rt; status, 2, "{line}");
+        let is_named = err.as_slice().starts_with(b"convert_values: ");
+        same(&rt, (output.len(), is_named, status), (0, true, 2), *line);
     }
-    for (line, told) in [
-        ("--help", "usage: convert_values "),
-        ("single half -h", "usage: convert_values "),
-        ("--version", "convert_values 0."),
-    ] {
+    for (line, told) in ABOUT {
         let (output, err, status) = answer_to(&rt, line, SINGLES)?;
-        assert!(rt; output.as_slice().starts_with(told.as_bytes()), "{line}");
-        assert!(rt; err.is_empty(), "{line}");
-        assert_eq!(rt; status, 0, "{line}");
+        let is_told = output.as_slice().starts_with(told.as_bytes());
+        same(&rt, (is_told, err.len(), status), (true, 0, 0), *line);
     }
     Ok(())
 }
@@ -276,7 +353,7 @@ static WRONG_WORDS: &[(&str, &[u8])] = &[
     ),
     (
         "--x87-bytes=10 --saturate single half even",
-        b"convert_values: an option is given twice, or `--saturate` is not the first; \
+        b"convert_values: an option is given twice, or a saturating option is not the first; \
           see `convert_values --help`\n",
     ),
 ];
@@ -285,8 +362,7 @@ static WRONG_WORDS: &[(&str, &[u8])] = &[
 fn names_the_wrong_word(rt: HostRuntime) -> Result<(), Fail> {
     for (line, told) in WRONG_WORDS {
         let (_, err, status) = answer_to(&rt, line, SINGLES)?;
-        let is_told = status == 2 && err.as_slice() == *told;
-        assert!(rt; is_told, "{line}");
+        same(&rt, (err.as_slice(), status), (*told, 2), *line);
     }
     Ok(())
 }
@@ -300,15 +376,14 @@ fn reads_a_few_bytes_at_a_time(rt: HostRuntime) -> Result<(), Fail> {
     };
     let mut output = Vec::new(rt.alloc());
     let mut err = Vec::new(rt.alloc());
-    let given = words(rt.alloc(), "single e4m3fn down")?;
-    let status = run(&rt, Ok(given), false, &mut input, &mut output, &mut err);
-    assert_eq!(rt; output.as_slice(), b"\x38\x38\x7f\x7e\x00".as_slice());
-    assert_eq!(rt; status, 1);
+    let status = status_of(&rt, "single e4m3fn down", &mut input, &mut output, &mut err)?;
+    let expected = (b"\x38\x38\x7f\x7e\x00".as_slice(), 1);
+    same(&rt, (output.as_slice(), status), expected, "down");
     Ok(())
 }
 
 #[test]
-fn names_failed_reads_and_writes(rt: HostRuntime) -> Result<(), Fail> {
+fn names_failed_reads(rt: HostRuntime) -> Result<(), Fail> {
     let mut input = Trickle {
         rest: SINGLES,
         interrupted: false,
@@ -316,43 +391,28 @@ fn names_failed_reads_and_writes(rt: HostRuntime) -> Result<(), Fail> {
     };
     let mut output = Vec::new(rt.alloc());
     let mut err = Vec::new(rt.alloc());
-    let given = words(rt.alloc(), "single e4m3fn even")?;
-    let status = run(&rt, Ok(given), false, &mut input, &mut output, &mut err);
-    assert!(rt;
-        err.as_slice()
-            .starts_with(b"convert_values: reading failed: ")
-    );
-    assert_eq!(rt; status, 4);
+    let status = status_of(&rt, "single e4m3fn even", &mut input, &mut output, &mut err)?;
+    let is_named = err
+        .as_slice()
+        .starts_with(b"convert_values: reading failed: ");
+    same(&rt, (is_named, status), (true, 4), "reading");
+    Ok(())
+}
+
+#[test]
+fn names_failed_writes(rt: HostRuntime) -> Result<(), Fail> {
+    let line = "single e4m3fn even";
     for room in 0..6usize {
         let mut rest = SINGLES;
         let mut err = Vec::new(rt.alloc());
-        let given = words(rt.alloc(), "single e4m3fn even")?;
-        let status = run(
-            &rt,
-            Ok(given),
-            false,
-            &mut rest,
-            &mut Narrow { room },
-            &mut err,
-        );
-        assert!(rt;
-            err.as_slice()
-                .starts_with(b"convert_values: writing failed: "),
-            "{room}"
-        );
-        assert_eq!(rt; status, 4, "{room}");
+        let status = status_of(&rt, line, &mut rest, &mut Narrow { room }, &mut err)?;
+        let is_named = err
+            .as_slice()
+            .starts_with(b"convert_values: writing failed: ");
         let mut rest = SINGLES;
-        let given = words(rt.alloc(), "single e4m3fn even")?;
         let mut out = Vec::new(rt.alloc());
-        let status = run(
-            &rt,
-            Ok(given),
-            false,
-            &mut rest,
-            &mut out,
-            &mut Narrow { room },
-        );
-        assert_eq!(rt; status, 4, "{room}");
+        let untold = status_of(&rt, line, &mut rest, &mut out, &mut Narrow { room })?;
+        same(&rt, (is_named, status, untold), (true, 4, 4), room);
     }
     Ok(())
 }
@@ -387,66 +447,39 @@ fn counts_the_values_of_all_blocks(rt: HostRuntime) -> Result<(), Fail> {
     }
     stream.push(0x3c)?;
     let (output, err, status) = answer_to(&rt, "half e4m3fn even", stream.as_slice())?;
-    assert_eq!(rt; output.len(), 36398);
-    assert_eq!(rt;
-        err.as_slice(),
-        b"values 36398, inexact 10, underflow 3, overflow 5, invalid 7, NaNs 23\n\
-          convert_values: the stream ended inside a value; bytes after the last whole one: 1\n"
-            .as_slice()
-    );
-    assert_eq!(rt; status, 1);
+    let told = b"values 36398, inexact 10, underflow 3, overflow 5, invalid 7, NaNs 23\n\
+        convert_values: the stream ended inside a value; bytes after the last whole one: 1\n"
+        .as_slice();
+    let got = (output.len(), err.as_slice(), status);
+    same(&rt, got, (36398, told, 1), "blocks");
     Ok(())
 }
 
-#[test]
-fn reads_and_writes_the_lowest_byte_first(rt: HostRuntime) -> Result<(), Fail> {
-    // 1 + 2^-112 and -1.
-    let quads = b"\x01\x00\x00\x00\x00\x00\x00\x00\x00\x00\x00\x00\x00\x00\xff\x3f\
-        \x00\x00\x00\x00\x00\x00\x00\x00\x00\x00\x00\x00\x00\x00\xff\xbf";
-    let (output, _, status) = answer_to(&rt, "quad double up", quads)?;
-    let doubles = b"\x01\x00\x00\x00\x00\x00\xf0\x3f\x00\x00\x00\x00\x00\x00\xf0\xbf";
-    assert_eq!(rt; output.as_slice(), doubles.as_slice());
-    assert_eq!(rt; status, 0);
-    let (output, _, status) = answer_to(&rt, "double x87 even", doubles)?;
-    let extended = b"\x00\x08\x00\x00\x00\x00\x00\x80\xff\x3f\
-        \x00\x00\x00\x00\x00\x00\x00\x80\xff\xbf";
-    assert_eq!(rt; output.as_slice(), extended.as_slice());
-    assert_eq!(rt; status, 0);
-    Ok(())
-}
-
-/// The same, if the system gives this error instead of the words.
-fn refusal_for<R: Clock + AllocGlobal>(rt: &R, kind: ErrorKind) -> (Vec<u8>, Vec<u8>, u8) {
+/// Asserts what is told, and the exit status, if the system gives this error instead of the words.
+fn expect_refusal<R: Clock + Abort + AllocGlobal>(rt: &R, kind: ErrorKind, told: &str, status: u8) {
     let mut rest = SINGLES;
     let mut output = Vec::new(rt.alloc());
     let mut err = Vec::new(rt.alloc());
     let given = Err(io::Error::from(kind));
-    let status = run(rt, given, false, &mut rest, &mut output, &mut err);
-    (output, err, status)
+    let ended = run(rt, given, false, &mut rest, &mut output, &mut err);
+    let got = (output.len(), err.as_slice(), ended);
+    same(rt, got, (0, told.as_bytes(), status), told);
 }
 
 #[test]
-fn refuses_to_run_without_words(rt: HostRuntime) -> Result<(), Fail> {
-    let (output, err, status) = refusal_for(&rt, ErrorKind::OutOfMemory);
-    assert!(rt; output.is_empty());
-    let wanted = b"convert_values: no memory for the words\n";
-    assert_eq!(rt; err.as_slice(), wanted.as_slice());
-    assert_eq!(rt; status, 3);
-    let (output, err, status) = refusal_for(&rt, ErrorKind::InvalidData);
-    assert!(rt; output.is_empty());
-    let wanted = b"convert_values: the words are not valid text; see `convert_values --help`\n";
-    assert_eq!(rt; err.as_slice(), wanted.as_slice());
-    assert_eq!(rt; status, 2);
-    Ok(())
+fn refuses_to_run_without_words(rt: HostRuntime) {
+    let told = "convert_values: no memory for the words\n";
+    expect_refusal(&rt, ErrorKind::OutOfMemory, told, 3);
+    let told = "convert_values: the words are not valid text; see `convert_values --help`\n";
+    expect_refusal(&rt, ErrorKind::InvalidData, told, 2);
 }
 
 #[test]
 fn tells_of_missing_memory(rt: HostRuntime) -> Result<(), Fail> {
     let mut err = Vec::new(rt.alloc());
     let status = tell_failure(Failure::from(AllocError), &mut err)?;
-    let wanted = b"convert_values: no memory for the buffers\n";
-    assert_eq!(rt; err.as_slice(), wanted.as_slice());
-    assert_eq!(rt; status, 3);
+    let told = b"convert_values: no memory for the buffers\n".as_slice();
+    same(&rt, (err.as_slice(), status), (told, 3), "memory");
     Ok(())
 }
 
@@ -454,11 +487,10 @@ fn tells_of_missing_memory(rt: HostRuntime) -> Result<(), Fail> {
 fn fails_if_a_flush_fails(rt: HostRuntime) -> Result<(), Fail> {
     for line in ["--help", "single e4m3fn even"] {
         let mut rest = &SINGLES[..20];
-        let given = words(rt.alloc(), line)?;
         let mut output = Narrow { room: 1 << 16 };
         let mut err = Vec::new(rt.alloc());
-        let status = run(&rt, Ok(given), false, &mut rest, &mut output, &mut err);
-        assert_eq!(rt; status, 4, "{line}");
+        let status = status_of(&rt, line, &mut rest, &mut output, &mut err)?;
+        same(&rt, status, 4, line);
     }
     Ok(())
 }
@@ -514,8 +546,8 @@ fn tells_a_terminal_how_far_it_is(rt: HostRuntime) -> Result<(), Fail> {
             &mut output,
             &mut err,
         );
-        assert_eq!(rt; err.as_slice(), wanted.as_bytes());
-        assert_eq!(rt; status, 0);
+        let got = (err.as_slice(), status);
+        same(&rt, got, (wanted.as_bytes(), 0), is_terminal);
     }
     Ok(())
 }

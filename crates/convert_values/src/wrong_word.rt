@@ -37,7 +37,7 @@ pub fn wrong_word(words: &[String]) -> Option<WrongWord<'_>> {
 pub fn wrong_form(words: &[String]) -> &'static str {
     match words {
         [.., source, _, _] if !is_option(source.as_str()) => {
-            "an option is given twice, or `--saturate` is not the first"
+            "an option is given twice, or a saturating option is not the first"
         }
         _ => "too few words",
     }
