@@ -42,8 +42,9 @@ pub struct MapCall {
     pub operation: ElementOperation,
 }
 
-/// The mode with this code: its lowest eight bits are those of a rounding mode. The next one asks that numbers saturate,
-/// the one above it, with it, that infinities do too, and the third, with both, that NaNs become the largest value.
+/// The mode with this code: its lowest eight bits are those of a rounding mode. The next one asks that numbers
+/// saturate, the one above it, with it, that infinities do too, and the third, with both, that NaNs become the largest
+/// value.
 pub fn conversion_mode_coded(code: u32) -> Option<ConversionMode>
     ensures { result ≡ conversion_mode_coded code }
 {

@@ -126,7 +126,8 @@ fn convert_word<S: Flagged, T: Flagged>(bits: u128, round: Round) -> Option<Enco
 }
 
 /// The conversion of the value that these bits of the format `S` encode to the format `T`, rounded once (IEEE 754-2019
-/// 5.4.2), if the value and the result are normal numbers; otherwise nothing.
+/// 5.4.2). Only normal numbers that become normal numbers have an answer, and not all of these: both formats have at
+/// most 64 bits and 59 digits and an implied integer bit, and the result is not near the greatest exponent.
 #[inline(always)]
 pub fn convert_normal<S: Flagged, T: Flagged>(bits: u128, round: Round) -> Option<Encoded>
     requires read { S.PRECISION < S.BITS }
