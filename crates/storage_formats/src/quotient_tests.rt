@@ -1,33 +1,60 @@
 //! Quotients whose codes and flags were computed with fractions (`evidence/stored_quotients.py`).
 
+ghost use Rattle.apfloat_ieee.specs.Types.{format_of};
+ghost use Rattle.apfloat_decimals.specs.ShortestSearch.{IsPositive};
+
 use crate::quotient_rows::{QUOTIENTS_E2M1FN, QUOTIENTS_E2M3FN, QUOTIENTS_E3M2FN};
 use crate::tests::{Checksums, MODES, extended};
 use crate::{E2M1FN, E2M3FN, E3M2FN, StorageFormat, StoredFloat};
-use apfloat_base::{ExpInt, Flags, Float, Round, Status};
+use apfloat_base::{Category, ExpInt, Flags, Float, Round, Status};
 use apfloat_formats::{Double, Single};
+use apfloat_ieee::{IeeeFloat, Semantics};
 use std::process::Abort;
 
-/// Singles by which is divided: their bits, their significands, and the exponents of the last digits.
+/// Singles by which is divided: their bits, their significands, and the exponents of 1/32 of their last digits.
 static DIVISORS: [(u32, u128, ExpInt); 4] = [
-    (0x3f80_0000, 1, 0),
-    (0x4049_0fdb, 0xc9_0fdb, -22),
-    (0x0000_0001, 1, -149),
-    (0x7f7f_ffff, 0xff_ffff, 104),
+    (0x3f80_0000, 1, -5),
+    (0x4049_0fdb, 0xc9_0fdb, -27),
+    (0x0000_0001, 1, -154),
+    (0x7f7f_ffff, 0xff_ffff, 99),
 ];
 
 /// The checksum with the quotient of each sign.
-fn with_quotients<F: StorageFormat>(checksum: u64, x: Double, y: Single, mode: Round) -> u64 {
-    let mut sum = checksum;
-    for dividend in [x, -x] {
-        let got = StoredFloat::<F>::from_quotient(dividend, y, mode);
-        sum = extended(
-            sum,
-            u128::from(got.value.to_bits()),
-            got.status.bits(),
-            got.status != Status::OK,
-        );
+fn with_quotients<F: StorageFormat, S: Semantics, R: Semantics>(
+    checksum: u64,
+    x: IeeeFloat<S>,
+    y: IeeeFloat<R>,
+    mode: Round,
+) -> u64 {
+    match y.category() {
+        Category::Normal => {
+            let divisor = y.abs();
+            let sum = with_quotient::<F, S, R>(checksum, x, divisor, mode);
+            with_quotient::<F, S, R>(sum, -x, divisor, mode)
+        }
+        _ => checksum,
     }
-    sum
+}
+
+/// The checksum with a quotient.
+fn with_quotient<F: StorageFormat, S: Semantics, R: Semantics>(
+    checksum: u64,
+    x: IeeeFloat<S>,
+    y: IeeeFloat<R>,
+    mode: Round,
+) -> u64
+    requires { IsPositive (format_of R.Semantics) y }
+{
+    if !x.is_finite() {
+        return checksum;
+    }
+    let got = StoredFloat::<F>::from_quotient(x, y, mode);
+    extended(
+        checksum,
+        u128::from(got.value.to_bits()),
+        got.status.bits(),
+        got.status != Status::OK,
+    )
 }
 
 /// The checksum of quotients about the multiples of 1/32.
@@ -35,16 +62,16 @@ fn quotients<F: StorageFormat>(mode: Round) -> u64 {
     let mut checksum = 0;
     for (bits, significand, exponent) in &DIVISORS {
         let y = Single::from_bits(u128::from(*bits));
-        for step in 0..1200u128 {
-            let x = Double::from_u128(step * *significand)
+        for step in 0..1200u32 {
+            let x = Double::from_u128(u128::from(step) * *significand)
                 .value
-                .scalbn(*exponent - 5);
+                .scalbn(*exponent);
             if step != 0 {
-                checksum = with_quotients::<F>(checksum, x.next_down().value, y, mode);
+                checksum = with_quotients::<F, _, _>(checksum, x.next_down().value, y, mode);
             }
-            checksum = with_quotients::<F>(checksum, x, y, mode);
+            checksum = with_quotients::<F, _, _>(checksum, x, y, mode);
             if step != 0 {
-                checksum = with_quotients::<F>(checksum, x.next_up().value, y, mode);
+                checksum = with_quotients::<F, _, _>(checksum, x.next_up().value, y, mode);
             }
         }
     }
