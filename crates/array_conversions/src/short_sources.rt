@@ -160,12 +160,12 @@ pub fn has_short_table<S: Flagged, Z: Flagged, T: Flagged>(widths: Widths, count
         & (widths.target == 1)
 }
 
-/// Whether there are as many values as a table of all values of `Z` has.
+/// Whether there are four times as many values as a table of all values of `Z` has. Fewer take less time one by one.
 #[inline(always)]
 fn pays<Z: Flagged>(count: usize) -> bool
     ensures { IsTrue result → Z.BITS ≤ 14 }
 {
-    Z::BITS <= 14 && count >= 1 << Z::BITS
+    Z::BITS <= 14 && count >= 4 << Z::BITS
 }
 
 /// Whether a value of `S` fills this number of bytes.
