@@ -48,8 +48,8 @@ offered has Says Tells (Some answer) implies said = (said.0, implies answer said
 
 -- ---- plain calls whose results are no NaNs
 
-kept : (nan value : Datum) → is_nan value ≡ false → value ≡ (if is_nan value then nan else value)
-kept nan value e = rw e refl
+kept : (other value : Datum) → is_nan value ≡ false → value ≡ (if is_nan value then other else value)
+kept other value e = rw e refl
 
 kept_flags : (nans : Bool) (flags status : ℕ) (value : Datum) → is_nan value ≡ false
     → status ≡ (if is_nan value && nans then flags else status)
