@@ -61,6 +61,7 @@ pub struct MachineFormat {
 
 impl MachineFormat {
     /// The format of this kind, if it has a choice of flags.
+    #[inline(always)]
     pub fn of(kind: FlaggedKind) -> Option<MachineFormat>
         ensures { result ≡ machine_format kind }
     {
@@ -101,6 +102,7 @@ impl MachineFormat {
     }
 
     /// The format with its rule of flags on a machine.
+    #[inline(always)]
     fn on(self, machine: Machine) -> FlaggedFormat
         ensures { result ≡ format_on machine self }
     {
@@ -112,6 +114,7 @@ impl MachineFormat {
     }
 
     /// Whether a result is tiny by its exact magnitude on a machine.
+    #[inline(always)]
     fn is_tiny_before(self, machine: Machine) -> bool
         ensures { result ≡ is_tiny_before machine self.tiny_before }
     {
@@ -123,6 +126,7 @@ impl MachineFormat {
 }
 
 /// The machine of this code, if there is one.
+#[inline(always)]
 pub fn machine_coded(code: u32) -> Option<Machine>
     ensures { result ≡ machine_coded code }
 {
@@ -140,6 +144,7 @@ pub fn machine_coded(code: u32) -> Option<Machine>
 }
 
 /// The rule of minima of this code, if there is one.
+#[inline(always)]
 pub fn rule_coded(code: u32) -> Option<MinimumRule>
     ensures { result ≡ rule_coded code }
 {
@@ -156,6 +161,7 @@ pub fn rule_coded(code: u32) -> Option<MinimumRule>
 
 /// What this code asks for, on as many of the values as it takes, or the error: `to` is the code of the format of a
 /// conversion, the binary digits of an integer, or the code of a rule of minima.
+#[inline(always)]
 pub fn machine_call(code: u32, to: u32, x: u128, y: u128, z: u128) -> Result<MachineCall, u32>
     ensures { result ≡ machine_call code to x y z }
 {
@@ -167,6 +173,7 @@ pub fn machine_call(code: u32, to: u32, x: u128, y: u128, z: u128) -> Result<Mac
 }
 
 /// The call that makes an operation, if it is known.
+#[inline(always)]
 fn operation_call(operation: Option<MachineOperation>) -> Result<MachineCall, u32>
     ensures { result ≡ operation_call operation }
 {
@@ -177,6 +184,7 @@ fn operation_call(operation: Option<MachineOperation>) -> Result<MachineCall, u3
 }
 
 /// The operation of this code, if there is one.
+#[inline(always)]
 fn machine_operation(code: u32, to: u32, x: u128, y: u128, z: u128) -> Option<MachineOperation>
     ensures { result ≡ machine_operation code to x y z }
 {
@@ -200,6 +208,7 @@ fn machine_operation(code: u32, to: u32, x: u128, y: u128, z: u128) -> Option<Ma
 }
 
 /// The lesser of two values by a rule, if it is known.
+#[inline(always)]
 fn least_by(rule: Option<MinimumRule>, x: u128, y: u128) -> Option<MachineOperation>
     ensures { result ≡ least_by rule x y }
 {
@@ -210,6 +219,7 @@ fn least_by(rule: Option<MinimumRule>, x: u128, y: u128) -> Option<MachineOperat
 }
 
 /// The greater of two values by a rule, if it is known.
+#[inline(always)]
 fn greatest_by(rule: Option<MinimumRule>, x: u128, y: u128) -> Option<MachineOperation>
     ensures { result ≡ greatest_by rule x y }
 {
@@ -220,6 +230,7 @@ fn greatest_by(rule: Option<MinimumRule>, x: u128, y: u128) -> Option<MachineOpe
 }
 
 /// The conversion of a value to a kind, which may be unknown.
+#[inline(always)]
 fn conversion_call(target: Option<FlaggedKind>, x: u128) -> Result<MachineCall, u32>
     ensures { result ≡ conversion_call target x }
 {
@@ -233,6 +244,7 @@ fn conversion_call(target: Option<FlaggedKind>, x: u128) -> Result<MachineCall, 
 }
 
 /// Whether the operands of a call have no bits at or above the width of the format.
+#[inline(always)]
 pub fn call_fits(format: IeeeFormat, call: MachineCall) -> bool
     ensures { result ≡ call_fits (width_of format) call }
 {
@@ -243,6 +255,7 @@ pub fn call_fits(format: IeeeFormat, call: MachineCall) -> bool
 }
 
 /// Whether the operands of an operation have no bits at or above the width of the format.
+#[inline(always)]
 fn operands_fit(format: IeeeFormat, operation: MachineOperation) -> bool
     ensures { result ≡ operands_fit (width_of format) operation }
 {
@@ -260,6 +273,7 @@ fn operands_fit(format: IeeeFormat, operation: MachineOperation) -> bool
 }
 
 /// Whether neither has bits at or above the width of the format.
+#[inline(always)]
 fn both_fit(format: IeeeFormat, x: u128, y: u128) -> bool
     ensures { result ≡ (fits (width_of format) x && fits (width_of format) y) }
 {
@@ -267,6 +281,7 @@ fn both_fit(format: IeeeFormat, x: u128, y: u128) -> bool
 }
 
 /// Whether the bits are those of a value of the format, with nothing above them.
+#[inline(always)]
 fn fits(format: IeeeFormat, bits: u128) -> bool
     ensures { result ≡ fits (width_of format) bits }
 {

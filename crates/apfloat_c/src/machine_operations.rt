@@ -4,6 +4,7 @@ ghost use Rattle.std.specs.Prelude.{◌≡◌, ◌<◌, ◌≤◌};
 ghost use Rattle.apfloat_model.specs.declared.kinds.NonfiniteBehavior.TheVariants.{IEEE754};
 ghost use Rattle.rustc_apfloat.specs.Flags.{Gives};
 ghost use Rattle.rustc_apfloat.specs.FlaggedTypes.{constants_of, format_of};
+ghost use Rattle.rustc_apfloat.specs.Classes.{is_nan};
 ghost use Rattle.rustc_apfloat.specs.Lawful.{format_with};
 ghost use Rattle.apfloat_machines.specs.Machines.{has_unsigned};
 ghost use Rattle.apfloat_machines.specs.Operations.{IsOffered};
@@ -15,12 +16,14 @@ ghost use Rattle.apfloat_c.specs.declared.machine_call.MachineOperation.TheVaria
 ghost use Rattle.apfloat_c.specs.declared.machine_call.MachineOperation.TheVariants.{IntegralExact, Integral};
 ghost use Rattle.apfloat_c.specs.declared.machine_call.MachineOperation.TheVariants.{ToUnsigned, ToSigned};
 ghost use Rattle.apfloat_c.specs.declared.machine_call.MachineOperation.TheVariants.{Least, Greatest};
-ghost use Rattle.apfloat_c.specs.Answers.{IsLeftBy, whole};
+ghost use Rattle.apfloat_c.specs.declared.exported_call.ExportedCall.TheVariants.{OfTwo as PlainOfTwo};
+ghost use Rattle.apfloat_c.specs.Answers.{IsKindAnswer, IsLeftBy, whole};
 ghost use Rattle.apfloat_c.specs.MachineCalls.{IsMachineAnswer, IsMachineCallAnswer, IsMachineConverted};
 ghost use Rattle.apfloat_c.specs.MachineCalls.{IsMachineConvertedFrom, IsMachineLeft, IsMachineLeftIn};
 ghost use Rattle.apfloat_c.specs.MachineCalls.{IsMachineReply, call_fault, format_on, known_machine_call};
 ghost use Rattle.apfloat_c.specs.MachineCalls.{machine_call, machine_coded};
 
+use crate::answers;
 use crate::codes::{
     ANSWERED, LACKING_OPERATION, NO_SUCH_OPERATION, UNKNOWN_FORMAT, UNKNOWN_MACHINE, UNKNOWN_MODE,
     WIDE_OPERAND, WRONG_WIDTH, is_width,
@@ -37,7 +40,7 @@ use apfloat_machines::{
 };
 use formats_at_run_time::{Arithmetic, FillsInFormat, FlaggedFormat, FlaggedKind, mode_coded};
 use rustc_apfloat::ieee::{Flagged, IeeeFloat};
-use rustc_apfloat::{Float, FloatConvert, Round, StatusAnd};
+use rustc_apfloat::{Float, FloatConvert, Round, Status, StatusAnd};
 use std::marker::PhantomData;
 
 /// An operation of a machine.
@@ -65,18 +68,18 @@ impl FillsInFormat for OnMachine {
         } = self;
         match operation {
             MachineOperation::OfTwo(arithmetic, x, y) => {
-                of_two::<S>(answer, machine, round, arithmetic, x, y);
+                of_two_in::<S>(answer, machine, round, arithmetic, x, y);
                 ANSWERED
             }
             MachineOperation::FusedSum(x, y, z) => {
-                fused_sum::<S>(answer, machine, round, x, y, z)
+                fused_sum_in::<S>(answer, machine, round, x, y, z)
             }
             MachineOperation::SquareRoot(x) => {
                 root::<S>(answer, machine, round, x);
                 ANSWERED
             }
             MachineOperation::IntegralExact(x) => {
-                integral_exact::<S>(answer, machine, round, x);
+                integral_exact_in::<S>(answer, machine, round, x);
                 ANSWERED
             }
             MachineOperation::Integral(x) => {
@@ -101,7 +104,64 @@ impl FillsInFormat for OnMachine {
     }
 }
 
+/// An operation on two values: the plain call, unless its result is a NaN.
+#[inline(always)]
+fn of_two_in<S: Flagged>(
+    answer: &mut Answer,
+    machine: Machine,
+    round: Round,
+    arithmetic: Arithmetic,
+    x: u128,
+    y: u128,
+)
+    requires { S.PRECISION < S.BITS }
+    ensures { (format_of S.Flagged).nonfinite ≡ IEEE754
+        → IsMachineAnswer (constants_of S.Flagged) machine round (OfTwo arithmetic x y) answer.new }
+{
+    plain_of_two::<S>(answer, round, arithmetic, x, y);
+    if is_nan::<S>(answer.bits) {
+        of_two::<S>(answer, machine, round, arithmetic, x, y);
+    }
+}
+
+/// The plain call of an operation on two values.
+#[inline(always)]
+fn plain_of_two<S: Flagged>(
+    answer: &mut Answer,
+    round: Round,
+    arithmetic: Arithmetic,
+    x: u128,
+    y: u128,
+)
+    requires { S.PRECISION < S.BITS }
+    ensures { let kind = of_format (constants_of S.Flagged) in
+        IsKindAnswer kind round (PlainOfTwo arithmetic x y) answer.new }
+{
+    match arithmetic {
+        Arithmetic::Sum => answers::sum_in::<S>(answer, round, x, y),
+        Arithmetic::Difference => answers::difference_in::<S>(answer, round, x, y),
+        Arithmetic::Product => answers::product_in::<S>(answer, round, x, y),
+        Arithmetic::Quotient => answers::quotient::<IeeeFloat<S>>(answer, round, x, y),
+        Arithmetic::NearestRemainder => {
+            answers::nearest_remainder::<IeeeFloat<S>>(answer, round, x, y)
+        }
+        Arithmetic::TruncatedRemainder => {
+            answers::truncated_remainder::<IeeeFloat<S>>(answer, round, x, y)
+        }
+    }
+}
+
+/// Whether bits are those of a NaN.
+#[inline(always)]
+fn is_nan<S: Flagged>(bits: Halves) -> bool
+    requires { S.PRECISION < S.BITS }
+    ensures { result ≡ is_nan (value_of (constants_of S.Flagged) (whole bits)) }
+{
+    IeeeFloat::<S>::from_bits(bits.number()).is_nan()
+}
+
 /// An operation on two values.
+#[cold]
 #[inline(never)]
 fn of_two<S: Flagged>(
     answer: &mut Answer,
@@ -119,7 +179,34 @@ fn of_two<S: Flagged>(
     *answer = written(settled(machine, x, y, arithmetic.answer(x, y, round)));
 }
 
+/// A product plus a third value, rounded once: the plain call, unless its result is a NaN.
+#[inline(always)]
+fn fused_sum_in<S: Flagged>(
+    answer: &mut Answer,
+    machine: Machine,
+    round: Round,
+    x: u128,
+    y: u128,
+    z: u128,
+) -> u32
+    requires { S.PRECISION < S.BITS }
+    ensures { (format_of S.Flagged).nonfinite ≡ IEEE754
+        → IsMachineLeft (constants_of S.Flagged) machine round (FusedSum x y z)
+        answer.old answer.new result }
+{
+    if !machine.has_fused() {
+        return LACKING_OPERATION;
+    }
+    answers::fused_sum::<S>(answer, round, x, y, z);
+    if is_nan::<S>(answer.bits) {
+        fused_sum::<S>(answer, machine, round, x, y, z)
+    } else {
+        ANSWERED
+    }
+}
+
 /// A product plus a third value, rounded once.
+#[cold]
 #[inline(never)]
 fn fused_sum<S: Flagged>(
     answer: &mut Answer,
@@ -155,7 +242,21 @@ fn root<S: Flagged>(answer: &mut Answer, machine: Machine, round: Round, x: u128
     *answer = written(settled_unary(machine, x, x.sqrt_r(round)));
 }
 
+/// A value rounded to an integral value, with INEXACT: the plain call, unless its result is a NaN.
+#[inline(always)]
+fn integral_exact_in<S: Flagged>(answer: &mut Answer, machine: Machine, round: Round, x: u128)
+    requires { S.PRECISION < S.BITS }
+    ensures { (format_of S.Flagged).nonfinite ≡ IEEE754
+        → IsMachineAnswer (constants_of S.Flagged) machine round (IntegralExact x) answer.new }
+{
+    answers::round_to_integral::<IeeeFloat<S>>(answer, round, x);
+    if is_nan::<S>(answer.bits) {
+        integral_exact::<S>(answer, machine, round, x);
+    }
+}
+
 /// A value rounded to an integral value, with INEXACT.
+#[cold]
 #[inline(never)]
 fn integral_exact<S: Flagged>(answer: &mut Answer, machine: Machine, round: Round, x: u128)
     requires { S.PRECISION < S.BITS }
@@ -216,6 +317,32 @@ fn unsigned_integer<S: Flagged>(
         let says = IsMachineUnsigned (format_with c) machine round width (value_of c x) in
         IsOffered (has_unsigned machine) (λ given. Gives says given) result }
 {
+    let given = value::<S>(x);
+    let mut is_exact = false;
+    let plain = given.to_u128_r(width, round, &mut is_exact);
+    if plain.status == Status::INVALID_OP {
+        invalid_unsigned::<S>(machine, round, x, width)
+    } else {
+        settled_unsigned(machine, given, width, plain)
+    }
+}
+
+/// The integer of an invalid conversion, or of any.
+#[cold]
+#[inline(never)]
+fn invalid_unsigned<S: Flagged>(
+    machine: Machine,
+    round: Round,
+    x: u128,
+    width: usize,
+) -> Option<StatusAnd<u128>>
+    requires bits { S.PRECISION < S.BITS }
+    requires low { 1 ≤ width }
+    requires high { width ≤ 128 }
+    ensures { let c = constants_of S.Flagged in
+        let says = IsMachineUnsigned (format_with c) machine round width (value_of c x) in
+        IsOffered (has_unsigned machine) (λ given. Gives says given) result }
+{
     let x = value::<S>(x);
     let mut is_exact = false;
     let plain = x.to_u128_r(width, round, &mut is_exact);
@@ -245,6 +372,31 @@ fn to_signed<S: Flagged>(
 
 /// The signed integer.
 fn signed_integer<S: Flagged>(
+    machine: Machine,
+    round: Round,
+    x: u128,
+    width: usize,
+) -> StatusAnd<i128>
+    requires bits { S.PRECISION < S.BITS }
+    requires low { 2 ≤ width }
+    requires high { width ≤ 128 }
+    ensures { let c = constants_of S.Flagged in
+        Gives (IsMachineSigned (format_with c) machine round width (value_of c x)) result }
+{
+    let given = value::<S>(x);
+    let mut is_exact = false;
+    let plain = given.to_i128_r(width, round, &mut is_exact);
+    if plain.status == Status::INVALID_OP {
+        invalid_signed::<S>(machine, round, x, width)
+    } else {
+        settled_signed(machine, given, width, plain)
+    }
+}
+
+/// The signed integer of an invalid conversion, or of any.
+#[cold]
+#[inline(never)]
+fn invalid_signed<S: Flagged>(
     machine: Machine,
     round: Round,
     x: u128,
@@ -370,6 +522,31 @@ fn converted<S: Flagged, T: Flagged>(answer: &mut Answer, machine: Machine, roun
         IsMachineConverted c machine round (value_of c x) (of_format (constants_of T.Flagged))
         answer.new }
 {
+    let given = value::<S>(x);
+    if given.is_nan() {
+        converted_nan::<S, T>(answer, machine, round, x);
+    } else {
+        let mut loses_info = false;
+        let plain: StatusAnd<IeeeFloat<T>> = given.convert_r(round, &mut loses_info);
+        *answer = written(settled_conversion(machine, given, plain));
+    }
+}
+
+/// A NaN, or any value, of the format `S` in the format `T`.
+#[cold]
+#[inline(never)]
+fn converted_nan<S: Flagged, T: Flagged>(
+    answer: &mut Answer,
+    machine: Machine,
+    round: Round,
+    x: u128,
+)
+    requires source { S.PRECISION < S.BITS }
+    requires target { T.PRECISION < T.BITS }
+    ensures { let c = constants_of S.Flagged in
+        IsMachineConverted c machine round (value_of c x) (of_format (constants_of T.Flagged))
+        answer.new }
+{
     let x = value::<S>(x);
     let mut loses_info = false;
     let plain: StatusAnd<IeeeFloat<T>> = x.convert_r(round, &mut loses_info);
@@ -453,6 +630,40 @@ fn made(
 /// is the format of a conversion, the width of an integer, or the rule of a minimum or a maximum.
 #[unsafe(no_mangle)]
 pub extern "C" fn apfloat_machine(
+    machine: u32,
+    operation: u32,
+    format: u32,
+    mode: u32,
+    to: u32,
+    x: Halves,
+    y: Halves,
+    z: Halves,
+    answer: &mut Answer,
+) -> u32
+    ensures { let call = machine_call operation to (whole x) (whole y) (whole z) in
+        IsMachineReply (known_machine_call (flagged_kind_coded format) (mode_coded mode) call
+        (machine_coded machine)) answer.old answer.new result }
+{
+    // In a copy for one operation its code folds.
+    match operation {
+        1 => on_machine(machine, 1, format, mode, to, x, y, z, answer),
+        2 => on_machine(machine, 2, format, mode, to, x, y, z, answer),
+        3 => on_machine(machine, 3, format, mode, to, x, y, z, answer),
+        4 => on_machine(machine, 4, format, mode, to, x, y, z, answer),
+        7 => on_machine(machine, 7, format, mode, to, x, y, z, answer),
+        8 => on_machine(machine, 8, format, mode, to, x, y, z, answer),
+        9 => on_machine(machine, 9, format, mode, to, x, y, z, answer),
+        10 => on_machine(machine, 10, format, mode, to, x, y, z, answer),
+        11 => on_machine(machine, 11, format, mode, to, x, y, z, answer),
+        12 => on_machine(machine, 12, format, mode, to, x, y, z, answer),
+        13 => on_machine(machine, 13, format, mode, to, x, y, z, answer),
+        _ => on_machine(machine, operation, format, mode, to, x, y, z, answer),
+    }
+}
+
+/// The same as `apfloat_machine`.
+#[inline(always)]
+fn on_machine(
     machine: u32,
     operation: u32,
     format: u32,

@@ -2,13 +2,13 @@ use Rattle.std.proofs.Common.{refl}
 use Rattle.apfloat_c.proofs.machine_operations.OnMachineFillsInFormat.fill_in_format.Goals as goal
 
 pub returns-in-OfTwo : goal.returns-in-OfTwo
-returns-in-OfTwo g c = rw (c.in-OfTwo.is) (λ infinite. (refl, c.of_two.ensures infinite))
+returns-in-OfTwo g c = rw (c.in-OfTwo.is) (λ infinite. (refl, c.of_two_in.ensures infinite))
 
 pub returns-in-SquareRoot : goal.returns-in-SquareRoot
 returns-in-SquareRoot g c = rw (c.in-SquareRoot.is) (λ infinite. (refl, c.root.ensures infinite))
 
 pub returns-in-IntegralExact : goal.returns-in-IntegralExact
-returns-in-IntegralExact g c = rw (c.in-IntegralExact.is) (λ infinite. (refl, c.integral_exact.ensures infinite))
+returns-in-IntegralExact g c = rw (c.in-IntegralExact.is) (λ infinite. (refl, c.integral_exact_in.ensures infinite))
 
 pub returns-in-Integral : goal.returns-in-Integral
 returns-in-Integral g c = rw (c.in-Integral.is) (λ infinite. (refl, c.integral.ensures infinite))
