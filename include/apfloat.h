@@ -389,6 +389,12 @@ typedef struct apfloat_array_answer {
  * a format without infinities to a NaN. In the modes of all other functions it makes an unknown mode. */
 #define APFLOAT_SATURATE UINT32_C(0x100)
 
+/* The same, and an infinity gives the largest value of its sign, with APFLOAT_INEXACT: the saturation of the OCP's
+ * 8-bit formats. NaNs are converted as without it; with APFLOAT_SATURATE_ALL they give the largest value, sign plus,
+ * with APFLOAT_INVALID_OP. */
+#define APFLOAT_SATURATE_FINITE UINT32_C(0x300)
+#define APFLOAT_SATURATE_ALL UINT32_C(0x700)
+
 /* Each value of `format` in the format `to`, rounded once. APFLOAT_WRONG_LENGTH says that `values` ends inside a value,
  * or that `results` is too short. */
 uint32_t apfloat_convert_array(uint32_t format, uint32_t mode, uint32_t to, const uint8_t *values,

@@ -1550,8 +1550,14 @@ struct [[nodiscard]] array_counts {
 };
 
 /// What becomes of numbers past the largest value of the target: as a conversion has it, or the largest value of their
-/// sign, with the same flags.
-enum class overflowing : std::uint32_t { rounds = 0, saturates = APFLOAT_SATURATE };
+/// sign, with the same flags. The last two make infinities the largest value of their sign too, with inexact; the last
+/// one makes NaNs the largest value, with invalid_op.
+enum class overflowing : std::uint32_t {
+    rounds = 0,
+    saturates = APFLOAT_SATURATE,
+    saturates_finite = APFLOAT_SATURATE_FINITE,
+    saturates_all = APFLOAT_SATURATE_ALL
+};
 
 /// The operations on arrays.
 enum class array_operation : std::uint32_t {

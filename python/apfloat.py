@@ -496,7 +496,7 @@ class Format:
         """The bytes of values, given by their bits."""
         return b''.join(bits.to_bytes(self._bytes, 'little') for bits in values)
 
-    def array(self, of: Any, saturate: bool = False) -> Array:
+    def array(self, of: Any, saturate: bool | str = False) -> Array:
         """An array of what the format makes of each item of nested lists, or of a numpy array, in the same shape.
 
         >>> half.array([1, 0.5, '0.1']), half.array([[1, 2], [3, 4]]).shape
@@ -504,11 +504,14 @@ class Format:
 
         Each number is rounded once, in the mode of the context. The flags are added to those of the context, and the
         `counts` of the array say how many values raised each. With `saturate`, a number that overflows gives the
-        largest one of its sign.
+        largest one of its sign; with `saturate='finite'` an infinity does too, INEXACT, and with `saturate='all'` a
+        NaN also gives the largest number, with INVALID_OP.
 
         >>> thirds = e4m3fn.array([1 / 3, 1000, -0.5], saturate=True)
         >>> thirds, thirds.counts['inexact'], thirds.counts['overflow']
         (e4m3fn.array(['0.34', '448.0', '-0.5']), 2, 1)
+        >>> e4m3fn.array([float('-inf'), float('nan')], saturate='finite')
+        e4m3fn.array(['-448.0', 'nan'])
 
         The elements of a numpy array are float16, float32, float64, a type of ml_dtypes or integers with a sign. Those
         that are of the format are taken as they are, without counts. Integers without a sign, uint16 for `bfloat` and
@@ -530,8 +533,9 @@ class Format:
             return floats if self is double else floats.to(self, saturate)
         return self._counted(shape, items, saturate)
 
-    def _counted(self, shape: tuple[int, ...], items: list[Any], saturate: bool) -> Array:
+    def _counted(self, shape: tuple[int, ...], items: list[Any], saturate: bool | str) -> Array:
         """The array of what the format makes of each item, with counts."""
+        _saturation(saturate)
         counts = dict.fromkeys(_COUNTED, 0) | {'values': len(items)}
         values = []
         for item in items:
@@ -540,11 +544,25 @@ class Format:
                 if saturate and made.overflow:
                     is_negative = item.strip().startswith('-') if isinstance(item, str) else item < 0
                     value = -self.largest if is_negative else self.largest
-            context().flags |= made.flags
-            _count(counts, made.flags)
+            flags = made.flags
+            if saturate in ('finite', 'all') and not made.overflow:
+                value, flags = self._made_finite(item, value, flags, saturate == 'all')
+            context().flags |= flags
+            _count(counts, flags)
             counts['nans'] += value.is_nan
             values.append(value.bits)
         return Array(self, self._joined(values), counts, shape)
+
+
+    def _made_finite(self, item: Any, value: Value, flags: Flags, nans: bool) -> tuple[Value, Flags]:
+        """The largest value in place of an infinity and, if asked, of a NaN, with its flags."""
+        with Context(context().mode):
+            given = quad(item)
+        if given.is_infinite:
+            return -self.largest if given.is_negative else self.largest, Flags.INEXACT
+        if given.is_nan and nans:
+            return self.largest, Flags.INVALID_OP
+        return value, flags
 
 
 def _count(counts: dict[str, int], flags: Flags) -> None:
@@ -1300,7 +1318,8 @@ def _aligned(text: str, fill: str, alignment: str, plus: str, zero: str, width: 
 
 # The codes of operations on arrays.
 _OPERATIONS = {'add': 1, 'sub': 2, 'mul': 3, 'div': 4, 'rem': 5, 'mod': 6, 'fma': 7, 'sqrt': 8}
-_SATURATE = 0x100
+# What is joined to the code of a mode.
+_SATURATIONS = {False: 0, True: 0x100, 'finite': 0x300, 'all': 0x700}
 # The codes of struct for integers of as many bytes.
 _WORDS = {1: 'B', 2: 'H', 4: 'I', 8: 'Q'}
 
@@ -1751,8 +1770,10 @@ class Array(_Elements, _Arithmetic[Any]):
     def __ge__(self, other: Any) -> Mask:
         return self._compared(_GREATER + _EQUAL, other)
 
-    def to(self, format: Format, saturate: bool = False) -> Array:
+    def to(self, format: Format, saturate: bool | str = False) -> Array:
         """The values in another format. With `saturate`, a number that overflows gives the largest one of its sign.
+        With `saturate='finite'` an infinity does too, and with `saturate='all'` a NaN gives the largest one, as in
+        `Format.array`.
 
         >>> xs = single.array([1, 1000, -1000])
         >>> xs.to(e4m3fn), xs.to(e4m3fn, saturate=True)
@@ -1762,11 +1783,11 @@ class Array(_Elements, _Arithmetic[Any]):
         """
         if not isinstance(format, Format):
             raise TypeError(f'{format!r} is no format')
-        mode = context().mode | (_SATURATE if saturate else 0)
+        mode = context().mode | _saturation(saturate)
         return _array_call('convert_array', self.format.code, mode, format.code, self._data, len(self._data),
                            of=format, shape=self.shape)
 
-    def astype(self, of: Any, saturate: bool = False) -> Any:
+    def astype(self, of: Any, saturate: bool | str = False) -> Any:
         """The values in another format, as `to` makes them; for a type of numpy, as a numpy array of that type.
 
         >>> xs = double.array([0.1, 448])
@@ -1777,6 +1798,13 @@ class Array(_Elements, _Arithmetic[Any]):
             return self.to(of, saturate)
         import numpy
         return numpy.asarray(self.to(_named(numpy.dtype(of)), saturate), of)
+
+
+def _saturation(saturate: bool | str) -> int:
+    """What joins the code of a mode to ask for it."""
+    if isinstance(saturate, str) and saturate not in _SATURATIONS:
+        raise ValueError(f"saturate is {saturate!r}, and not False, True, 'finite' or 'all'")
+    return _SATURATIONS[saturate if isinstance(saturate, str) else bool(saturate)]
 
 
 def _quads(of: Any) -> Any:

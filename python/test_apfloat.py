@@ -195,6 +195,33 @@ class RoundingTests(unittest.TestCase):
                         expected[at] = (1 if numbers[at] > 0 else -1) * largest_of(format), flags
                 with Context(mode):
                     self.check(format, source.to(format, saturate=True), expected)
+                    self.check(format, source.to(format, saturate='finite'), expected)
+                    self.check(format, source.to(format, saturate='all'), expected)
+
+    def test_finite_values(self):
+        inf, nan = float('inf'), float('nan')
+        of_numpy = apfloat.single.from_bits([0x7f800000, 0xff800000, 0x7fc00000, 0xffc00001, 0x3f800000])
+        for format in SMALL + [apfloat.half, apfloat.bfloat]:
+            largest = format.largest
+            for items in ([inf, -inf, nan, -nan, 1.0], ['inf', '-inf', 'nan', '-nan', '1'],
+                          [apfloat.quad('inf'), apfloat.half('-inf'), apfloat.x87('nan'), nan, 1], of_numpy):
+                for mode in MODES:
+                    with Context(mode) as context:
+                        made = format.array(items, saturate='finite')
+                    self.assertEqual([*made[:2], made[4]], [largest, -largest, 1])
+                    self.assertTrue(made[2].is_nan and made[3].is_nan)
+                    self.assertEqual(context.flags, apfloat.Flags.INEXACT)
+                    self.assertEqual((made.counts['inexact'], made.counts['nans']), (2, 2))
+                    with Context(mode) as context:
+                        made = format.array(items, saturate='all')
+                    self.assertEqual(list(made), [largest, -largest, largest, largest, 1])
+                    self.assertEqual(context.flags, apfloat.Flags.INEXACT | apfloat.Flags.INVALID_OP)
+                    counts = made.counts
+                    self.assertEqual((counts['inexact'], counts['invalid_op'], counts['nans']), (2, 2, 0))
+            with self.assertRaises(ValueError):
+                format.array([1.0], saturate='most')
+            with self.assertRaises(ValueError):
+                format.array(['1'], saturate='most')
 
     def test_operations(self):
         draw = random.Random(2)

@@ -29,6 +29,15 @@ def convert_saturating(source, target, x, mode):
     return value, status, loses
 
 
+def convert_finite(source, target, x, mode, keeps_nans):
+    """The same, and an infinity gives the largest number of its sign; so does a NaN, with sign plus, if it is not kept."""
+    if is_nan(x) and not keeps_nans:
+        return number(target, False, target.largest), INVALID_OP, True
+    if isinstance(x, Infinite):
+        return number(target, x.negative, target.largest), INEXACT, True
+    return convert_saturating(source, target, x, mode)
+
+
 def converted_nan(source, target, x):
     """A NaN becomes quiet, and keeps its sign and the first digits of its payload."""
     signaling = is_signaling(source, x)

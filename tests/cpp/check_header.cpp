@@ -324,6 +324,13 @@ void check_arrays() {
         convert_array(values.data(), values.size(), results.data(), rounding::nearest_even, overflowing::saturates);
     CHECK(saturated && saturated->overflow == 2 && saturated->nans == 1);
     CHECK(results[1] == std::numeric_limits<value<e4m3fn>>::max() && results[2] == -results[1]);
+    const auto made_finite = convert_array(values.data(), values.size(), results.data(), rounding::nearest_even,
+                                           overflowing::saturates_finite);
+    CHECK(made_finite && made_finite->inexact == 4 && made_finite->nans == 0 && results[3] == results[1]);
+    const single no_number = std::numeric_limits<single>::quiet_NaN();
+    CHECK(convert_array(&no_number, 1, results.data(), rounding::upward, overflowing::saturates_finite)->nans == 1);
+    CHECK(convert_array(&no_number, 1, results.data(), rounding::upward, overflowing::saturates_all)->invalid_op == 1 &&
+          results[0] == results[1]);
     CHECK(convert_array<e4m3fn, binary32>(nullptr, 0, nullptr)->values == 0);
     // A value of tf32 is the lowest 19 bits of four bytes.
     std::vector<value<tf32>> rounded(values.size());

@@ -9,7 +9,8 @@ use Rattle.formats_at_run_time.specs.declared.FlaggedKind.TheVariants.{OfFormat,
 use Rattle.formats_at_run_time.specs.FlaggedKinds.{format_without_rule}
 use Rattle.formats_at_run_time.specs.Modes.{mode_coded}
 use Rattle.array_conversions.specs.declared.ArrayConversion.{ArrayConversion}
-use Rattle.array_conversions.specs.declared.Overflow.TheVariants.{Rounded, Saturated}
+use Rattle.array_conversions.specs.declared.Overflow.TheVariants.{Rounded, Saturated, Finite}
+use Rattle.array_conversions.specs.declared.FiniteNan.TheVariants.{Kept, Largest}
 use Rattle.array_conversions.specs.declared.Extended.TheVariants.{Packed}
 use Rattle.array_conversions.specs.Widths.{array_widths, width_of}
 use Rattle.apfloat_c.specs.declared.array_calls.ConversionMode.{ConversionMode}
@@ -30,11 +31,14 @@ if_fitting fits call = if fits then Ok call else Err wrong_length
 
 -- ---- conversions
 
--- the code of a rounding mode; the bit above its eight lowest ones asks for saturation
+-- The code of a rounding mode in the eight lowest bits. The next one asks that numbers saturate, the one above it, with
+-- it, that infinities do too, and the third, with both, that NaNs become the largest value.
 abbrev pub with_overflow : ℕ → Round → Option ConversionMode
 with_overflow bits round =
     if bits == 0 then Some (record { round = round; overflow = Rounded })
     else if bits == 1 then Some (record { round = round; overflow = Saturated })
+    else if bits == 3 then Some (record { round = round; overflow = Finite Kept })
+    else if bits == 7 then Some (record { round = round; overflow = Finite Largest })
     else None
 
 abbrev pub conversion_mode_coded : ℕ → Option ConversionMode

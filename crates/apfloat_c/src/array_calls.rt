@@ -7,7 +7,7 @@ ghost use Rattle.apfloat_c.specs.ArrayCalls.{known_array_conversion, known_map, 
 ghost use Rattle.apfloat_c.specs.ArrayCalls.{operation_coded};
 
 use crate::codes::{NO_SUCH_OPERATION, UNKNOWN_FORMAT, UNKNOWN_MODE, WRONG_LENGTH};
-use array_conversions::{ArrayConversion, Extended, Overflow, width};
+use array_conversions::{ArrayConversion, Extended, FiniteNan, Overflow, width};
 use formats_at_run_time::{Arithmetic, FlaggedFormat, FlaggedKind, mode_coded};
 use rustc_apfloat::Round;
 
@@ -42,7 +42,8 @@ pub struct MapCall {
     pub operation: ElementOperation,
 }
 
-/// The mode with this code: its lowest eight bits are those of a rounding mode, and the next bit asks for saturation.
+/// The mode with this code: its lowest eight bits are those of a rounding mode. The next one asks that numbers saturate,
+/// the one above it, with it, that infinities do too, and the third, with both, that NaNs become the largest value.
 pub fn conversion_mode_coded(code: u32) -> Option<ConversionMode>
     ensures { result ≡ conversion_mode_coded code }
 {
@@ -55,6 +56,14 @@ pub fn conversion_mode_coded(code: u32) -> Option<ConversionMode>
         1 => Some(ConversionMode {
             round,
             overflow: Overflow::Saturated,
+        }),
+        3 => Some(ConversionMode {
+            round,
+            overflow: Overflow::Finite(FiniteNan::Kept),
+        }),
+        7 => Some(ConversionMode {
+            round,
+            overflow: Overflow::Finite(FiniteNan::Largest),
         }),
         _ => None,
     }

@@ -1,4 +1,4 @@
--- Conversions with either treatment of overflow, and the largest value of a sign.
+-- Conversions with any treatment of overflow, and the largest value of a sign.
 use Rattle.std.proofs.Common.{◌≡◌, ℕ, ◌<◌, Bool, true, false, List, refl, subst, sym}
 use Rattle.apfloat_model.specs.declared.kinds.NonfiniteBehavior.{NonfiniteBehavior}
 use Rattle.rustc_apfloat.specs.declared.Round.{Round}
@@ -11,13 +11,13 @@ use Rattle.rustc_apfloat.specs.Negation.{negated}
 use Rattle.array_conversions.specs.declared.converted.Converted.{Converted}
 use Rattle.array_conversions.specs.declared.counts.Outcome.{Outcome}
 use Rattle.array_conversions.specs.declared.saturation.Overflow.{Overflow}
-use Rattle.array_conversions.specs.declared.saturation.Overflow.TheVariants.{Rounded, Saturated}
+use Rattle.array_conversions.specs.declared.saturation.Overflow.TheVariants.{Rounded, Saturated, Finite}
 use Rattle.array_conversions.specs.Bytes.{number_of}
 use Rattle.array_conversions.specs.Saturation.{IsConversionBy}
 use Rattle.array_conversions.specs.Values.{IsAnswerFrom, IsConvertedBy}
 use Rattle.apfloat_model.proofs.general.Choices.{not_zero}
 
--- a value, its bytes and its outcome make a converted value, with either treatment of overflow
+-- a value, its bytes and its outcome make a converted value, with any treatment of overflow
 converted_by : (overflow : Overflow) (c d : Constants) (mode : Round) (input output : List ℕ) (outcome : Outcome)
     (value : Datum) (loses : Bool)
     → IsConversionBy overflow (format_with c) (format_with d) mode
@@ -28,6 +28,8 @@ converted_by : (overflow : Overflow) (c d : Constants) (mode : Round) (input out
 converted_by Rounded c d mode input output outcome value loses conversion encoded nan =
     record { value = value; loses = loses; is_conversion = conversion; is_encoded = encoded; nan_is = nan }
 converted_by Saturated c d mode input output outcome value loses conversion encoded nan =
+    record { value = value; loses = loses; is_conversion = conversion; is_encoded = encoded; nan_is = nan }
+converted_by (Finite nans) c d mode input output outcome value loses conversion encoded nan =
     record { value = value; loses = loses; is_conversion = conversion; is_encoded = encoded; nan_is = nan }
 
 -- a result for the bits that are read, whose bits are written

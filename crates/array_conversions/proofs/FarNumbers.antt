@@ -24,7 +24,7 @@ use Rattle.apfloat_model.proofs.bits.Encodings.{lawful_interchange}
 use Rattle.apfloat_model.proofs.rounding.FarMagnitudes.{far_above, far_below}
 use Rattle.array_conversions.specs.declared.converted.Converted.{Converted}
 use Rattle.array_conversions.specs.declared.saturation.Overflow.{Overflow}
-use Rattle.array_conversions.specs.declared.saturation.Overflow.TheVariants.{Rounded, Saturated}
+use Rattle.array_conversions.specs.declared.saturation.Overflow.TheVariants.{Rounded, Saturated, Finite}
 use Rattle.array_conversions.specs.Saturation.{IsConversionBy}
 use Rattle.array_conversions.specs.Values.{IsAnswerFrom}
 use Rattle.array_conversions.specs.FarNumbers.{AnswersFar, AreFarAnswers, IsFar, IsFarPlace, far_place, with_overflow}
@@ -259,7 +259,7 @@ far_delivered false format mode negative unit value status some is known amount 
     far_below format mode negative 1 4 amount parts value status some
     (record { some = lit< tt; to = lit< tt }) (record { some = far.some; to = far.to }) one
 
--- a nonzero number that is delivered is converted, with either treatment of overflow
+-- a nonzero number that is delivered is converted, with any treatment of overflow
 number_converted : (overflow : Overflow) (f g : Format) (mode : Round) (negative : Bool) (quanta : ℕ)
     (rounded : Datum) (status : ℕ) → 0 < quanta
     → IsDelivered g mode negative (quanta * 2 ^ g.scale) (2 ^ f.scale) rounded status
@@ -273,6 +273,8 @@ number_converted Saturated f g mode negative quanta rounded status some delivere
       is_conversion = rw (ne_eqb quanta 0 (λ e. omega arith)) (record { is_delivered = delivered; loses_is = refl });
       value_is = refl;
     }
+number_converted (Finite nans) f g mode negative quanta rounded status some delivered =
+    number_converted Saturated f g mode negative quanta rounded status some delivered
 
 -- the item at a place that holds one
 held : (found : Option Converted) (Says : Converted → Type 0) → IsSomeAnd found Says

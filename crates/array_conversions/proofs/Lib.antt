@@ -7,3 +7,4 @@ pub mod PlacesOnce
 pub mod OneBlock
 pub mod TabledResults
 pub mod ShortSources
+mod FiniteValues

@@ -3,7 +3,8 @@ use Rattle.std.proofs.Common.{◌≡◌, ℕ, ◌*◌, ◌<◌, ◌≤◌, Bool,
 use Rattle.std.proofs.lemmas.List.{take_all}
 use Rattle.rustc_apfloat.specs.declared.Round.{Round}
 use Rattle.rustc_apfloat.specs.Flags.{bits_of}
-use Rattle.rustc_apfloat.specs.Datum.{Datum}
+use Rattle.rustc_apfloat.specs.Datum.{Datum, finite, infinite, nan}
+use Rattle.rustc_apfloat.specs.Conversions.{IsConverted}
 use Rattle.rustc_apfloat.specs.Classes.{is_nan}
 use Rattle.rustc_apfloat.specs.Format.{Format}
 use Rattle.rustc_apfloat.specs.Lawful.{Constants, IsLawful, format_with, layout_with}
@@ -14,22 +15,42 @@ use Rattle.apfloat_model.proofs.bits.Encodings.{lawful_interchange}
 use Rattle.array_conversions.specs.declared.counts.Counts.{Counts}
 use Rattle.array_conversions.specs.declared.counts.Outcome.{Outcome}
 use Rattle.array_conversions.specs.declared.saturation.Overflow.{Overflow}
-use Rattle.array_conversions.specs.declared.saturation.Overflow.TheVariants.{Rounded, Saturated}
+use Rattle.array_conversions.specs.declared.saturation.Overflow.TheVariants.{Rounded, Saturated, Finite}
+use Rattle.array_conversions.specs.declared.saturation.FiniteNan.{FiniteNan}
+use Rattle.array_conversions.specs.declared.saturation.FiniteNan.TheVariants.{Kept, Largest}
 use Rattle.array_conversions.specs.Blocks.{AreInPlaces, IsBlock, value_at}
 use Rattle.array_conversions.specs.Bytes.{AreBytes, number_of}
 use Rattle.array_conversions.specs.OneBlock.{IsBlockOnce}
 use Rattle.array_conversions.specs.Outcomes.{counts_of}
-use Rattle.array_conversions.specs.Saturation.{IsConversionBy, saturated}
+use Rattle.array_conversions.specs.Saturation.{IsConversionBy, IsFiniteConversion, IsSaturatedConversion, saturated}
 use Rattle.array_conversions.specs.Values.{IsConvertedBy}
 use Rattle.array_conversions.proofs.PlacesOnce.{FixesPlaces, places_once}
 
--- a conversion determines the value, the status and whether information is lost, with either treatment of overflow
+-- a conversion that saturates determines the value, the status and whether information is lost
+saturated_once : (f g : Format) (mode : Round) (x : Datum) → OnceWith (IsSaturatedConversion f g mode x)
+saturated_once f g mode x v w r s a b h k =
+    let same = conversion_once f g mode x h.rounded k.rounded r s a b h.is_conversion k.is_conversion in
+    (h.value_is ∙ ap (λ (d : Datum). saturated g x d) same.0 ∙ sym k.value_is, same.1, same.2)
+
+-- what is given is determined
+given_once : (given : Datum) (flags : ℕ) (lossy : Bool) → OnceWith (IsConverted given flags lossy)
+given_once given flags lossy v w r s a b h k =
+    (h.value_is ∙ sym k.value_is, h.status_is ∙ sym k.status_is, h.loses_is ∙ sym k.loses_is)
+
+-- and one to finite values alone
+finite_once : (nans : FiniteNan) (f g : Format) (mode : Round) (x : Datum)
+    → OnceWith (IsFiniteConversion nans f g mode x)
+finite_once Kept f g mode (nan c t) v w r s a b h k = conversion_once f g mode (nan c t) v w r s a b h k
+finite_once Largest f g mode (nan c t) v w r s a b h k = given_once _ _ _ v w r s a b h k
+finite_once nans f g mode (infinite c) v w r s a b h k = given_once _ _ _ v w r s a b h k
+finite_once nans f g mode (finite c n) v w r s a b h k = saturated_once f g mode (finite c n) v w r s a b h k
+
+-- so does a conversion with any treatment of overflow
 conversion_by_once : (overflow : Overflow) (f g : Format) (mode : Round) (x : Datum)
     → OnceWith (IsConversionBy overflow f g mode x)
 conversion_by_once Rounded f g mode x v w r s a b h k = conversion_once f g mode x v w r s a b h k
-conversion_by_once Saturated f g mode x v w r s a b h k =
-    let same = conversion_once f g mode x h.rounded k.rounded r s a b h.is_conversion k.is_conversion in
-    (h.value_is ∙ ap (λ (d : Datum). saturated g x d) same.0 ∙ sym k.value_is, same.1, same.2)
+conversion_by_once Saturated f g mode x v w r s a b h k = saturated_once f g mode x v w r s a b h k
+conversion_by_once (Finite nans) f g mode x v w r s a b h k = finite_once nans f g mode x v w r s a b h k
 
 -- outcomes with the same flags are equal if both are NaNs or neither is
 same_outcome : (one other : Outcome) → bits_of one.status ≡ bits_of other.status → one.is_nan ≡ other.is_nan
@@ -38,7 +59,7 @@ same_outcome a b status nan =
     ap (λ (n : ℕ). record { status = record { 0 = n }; is_nan = a.is_nan }) status
     ∙ ap (λ (n : Bool). record { status = b.status; is_nan = n }) nan
 
--- the parts of a converted value, with either treatment of overflow
+-- the parts of a converted value, with any treatment of overflow
 record AreParts (overflow : Overflow) (c d : Constants) (mode : Round) (input output : List ℕ) (outcome : Outcome)
     : Type 0 where
   value : Datum
@@ -58,6 +79,13 @@ parts_of Rounded c d mode input output outcome x = record {
   nan_is = x.nan_is;
 }
 parts_of Saturated c d mode input output outcome x = record {
+  value = x.value;
+  loses = x.loses;
+  is_conversion = x.is_conversion;
+  is_encoded = x.is_encoded;
+  nan_is = x.nan_is;
+}
+parts_of (Finite nans) c d mode input output outcome x = record {
   value = x.value;
   loses = x.loses;
   is_conversion = x.is_conversion;

@@ -29,7 +29,7 @@ use Rattle.apfloat_odd.proofs.OddPoints.{AgreesAtEven, odd_agrees, odd_below_is}
 use Rattle.apfloat_odd.proofs.RoundedOnce.{delivered_once_more}
 use Rattle.array_conversions.specs.declared.converted.Converted.{Converted}
 use Rattle.array_conversions.specs.declared.saturation.Overflow.{Overflow}
-use Rattle.array_conversions.specs.declared.saturation.Overflow.TheVariants.{Rounded, Saturated}
+use Rattle.array_conversions.specs.declared.saturation.Overflow.TheVariants.{Rounded, Saturated, Finite}
 use Rattle.array_conversions.specs.Bytes.{number_of}
 use Rattle.array_conversions.specs.Saturation.{IsConversionBy}
 use Rattle.array_conversions.specs.ShortSources.{IsCoarseFor, IsShortFor, is_nan_of, short_of}
@@ -189,6 +189,8 @@ number_alike Saturated f h g mode negative n m value status loses p q alike x =
       is_conversion = rounded_alike f h g mode negative n m x.rounded status loses p q alike x.is_conversion;
       value_is = x.value_is;
     }
+number_alike (Finite nans) f h g mode negative n m value status loses p q alike x =
+    number_alike Saturated f h g mode negative n m value status loses p q alike x
 
 -- zeros and infinities of both formats are converted alike
 zero_alike : (overflow : Overflow) (f h g : Format) (mode : Round) (negative : Bool) (value : Datum) (status : ℕ)
@@ -197,6 +199,8 @@ zero_alike : (overflow : Overflow) (f h g : Format) (mode : Round) (negative : B
 zero_alike Rounded f h g mode negative value status loses x = x
 zero_alike Saturated f h g mode negative value status loses x =
     record { rounded = x.rounded; is_conversion = x.is_conversion; value_is = x.value_is }
+zero_alike (Finite nans) f h g mode negative value status loses x =
+    zero_alike Saturated f h g mode negative value status loses x
 
 infinite_alike : (overflow : Overflow) (f h g : Format) (mode : Round) (negative : Bool) (value : Datum) (status : ℕ)
     (loses : Bool) → IsConversionBy overflow h g mode (infinite negative) value status loses
@@ -204,6 +208,7 @@ infinite_alike : (overflow : Overflow) (f h g : Format) (mode : Round) (negative
 infinite_alike Rounded f h g mode negative value status loses x = x
 infinite_alike Saturated f h g mode negative value status loses x =
     record { rounded = x.rounded; is_conversion = x.is_conversion; value_is = x.value_is }
+infinite_alike (Finite nans) f h g mode negative value status loses x = x
 
 -- ---- fields
 

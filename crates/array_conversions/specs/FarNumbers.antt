@@ -11,7 +11,7 @@ use Rattle.rustc_apfloat.specs.Lawful.{Constants, format_with, layout_with}
 use Rattle.rustc_apfloat.specs.Layout.{datum_of, IsEncodedBy}
 use Rattle.array_conversions.specs.declared.converted.Converted.{Converted}
 use Rattle.array_conversions.specs.declared.saturation.Overflow.{Overflow}
-use Rattle.array_conversions.specs.declared.saturation.Overflow.TheVariants.{Rounded, Saturated}
+use Rattle.array_conversions.specs.declared.saturation.Overflow.TheVariants.{Rounded, Saturated, Finite}
 use Rattle.array_conversions.specs.Outcomes.{one_if}
 use Rattle.array_conversions.specs.Saturation.{saturated}
 
@@ -32,6 +32,7 @@ IsFar false g amount parts = IsLittle amount parts
 abbrev pub with_overflow : Overflow → Format → Bool → Datum → Datum
 with_overflow Rounded g negative rounded = rounded
 with_overflow Saturated g negative rounded = saturated g (finite negative 0) rounded
+with_overflow (Finite nans) g negative rounded = saturated g (finite negative 0) rounded
 
 -- the result has the bits, the flags and the outcome of the magnitude with this sign
 pub record IsAnswerTo (overflow : Overflow) (d : Constants) (mode : Round) (negative : Bool) (amount parts : ℕ)

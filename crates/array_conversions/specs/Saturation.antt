@@ -1,12 +1,16 @@
 -- Conversions that saturate: a number that overflows becomes the largest value of its sign.
-use Rattle.std.specs.Prelude.{◌≡◌, ℕ, Bool, not, ◌&&◌, if◌then◌else◌}
+use Rattle.std.specs.Prelude.{◌≡◌, ℕ, Bool, true, false, not, ◌&&◌, if◌then◌else◌}
 use Rattle.rustc_apfloat.specs.declared.Round.{Round}
 use Rattle.rustc_apfloat.specs.Format.{Format, largest}
-use Rattle.rustc_apfloat.specs.Datum.{Datum, finite}
+use Rattle.rustc_apfloat.specs.Datum.{Datum, finite, infinite, nan}
+use Rattle.rustc_apfloat.specs.Nan.{invalid_bit}
+use Rattle.rustc_apfloat.specs.Rounding.{inexact_bit}
 use Rattle.rustc_apfloat.specs.Classes.{is_finite, is_negative}
-use Rattle.rustc_apfloat.specs.Conversions.{IsConversion}
+use Rattle.rustc_apfloat.specs.Conversions.{IsConversion, IsConverted}
 use Rattle.array_conversions.specs.declared.saturation.Overflow.{Overflow}
-use Rattle.array_conversions.specs.declared.saturation.Overflow.TheVariants.{Rounded, Saturated}
+use Rattle.array_conversions.specs.declared.saturation.Overflow.TheVariants.{Rounded, Saturated, Finite}
+use Rattle.array_conversions.specs.declared.saturation.FiniteNan.{FiniteNan}
+use Rattle.array_conversions.specs.declared.saturation.FiniteNan.TheVariants.{Kept, Largest}
 
 -- The conversion of a finite datum is not finite only if it overflowed: it is then an infinity, or the NaN of a format
 -- without infinities.
@@ -24,7 +28,24 @@ pub record IsSaturatedConversion (f g : Format) (mode : Round) (x value : Datum)
   pub is_conversion : IsConversion f g mode x rounded status loses_info
   pub value_is : value ≡ saturated g x rounded
 
+-- Only finite values: an infinity becomes the largest value of its sign, and a NaN is kept or becomes the largest
+-- value.
+abbrev pub IsFiniteNan : FiniteNan → Format → Format → Round → Bool → ℕ → Datum → ℕ → Bool → Type 0
+IsFiniteNan Kept f g mode b s value status loses_info = IsConversion f g mode (nan b s) value status loses_info
+IsFiniteNan Largest f g mode b s value status loses_info =
+    IsConverted (finite false (largest g)) invalid_bit true value status loses_info
+
+abbrev pub IsFiniteConversion : FiniteNan → Format → Format → Round → Datum → Datum → ℕ → Bool → Type 0
+IsFiniteConversion nans f g mode (nan b s) value status loses_info =
+    IsFiniteNan nans f g mode b s value status loses_info
+IsFiniteConversion nans f g mode (infinite b) value status loses_info =
+    IsConverted (finite b (largest g)) inexact_bit true value status loses_info
+IsFiniteConversion nans f g mode (finite b n) value status loses_info =
+    IsSaturatedConversion f g mode (finite b n) value status loses_info
+
 abbrev pub IsConversionBy : Overflow → Format → Format → Round → Datum → Datum → ℕ → Bool → Type 0
 IsConversionBy Rounded f g mode x value status loses_info = IsConversion f g mode x value status loses_info
 IsConversionBy Saturated f g mode x value status loses_info =
     IsSaturatedConversion f g mode x value status loses_info
+IsConversionBy (Finite nans) f g mode x value status loses_info =
+    IsFiniteConversion nans f g mode x value status loses_info

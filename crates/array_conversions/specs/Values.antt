@@ -10,9 +10,10 @@ use Rattle.rustc_apfloat.specs.Layout.{datum_of, IsEncodedBy}
 use Rattle.array_conversions.specs.declared.converted.Converted.{Converted}
 use Rattle.array_conversions.specs.declared.counts.Outcome.{Outcome}
 use Rattle.array_conversions.specs.declared.saturation.Overflow.{Overflow}
-use Rattle.array_conversions.specs.declared.saturation.Overflow.TheVariants.{Rounded, Saturated}
+use Rattle.array_conversions.specs.declared.saturation.Overflow.TheVariants.{Rounded, Saturated, Finite}
+use Rattle.array_conversions.specs.declared.saturation.FiniteNan.{FiniteNan}
 use Rattle.array_conversions.specs.Bytes.{number_of}
-use Rattle.array_conversions.specs.Saturation.{IsConversionBy, IsSaturatedConversion}
+use Rattle.array_conversions.specs.Saturation.{IsConversionBy, IsFiniteConversion, IsSaturatedConversion}
 
 -- The input bytes encode a value of the first format, and the output bytes are the canonical encoding of its conversion
 -- to the second. Bytes beyond the width of the first format are ignored, those beyond the width of the second are 0.
@@ -35,10 +36,21 @@ pub record IsSaturatedValue (c d : Constants) (mode : Round) (input output : Lis
   pub is_encoded : IsEncodedBy (format_with d) (layout_with d) (number_of output) value
   pub nan_is : outcome.is_nan ≡ is_nan value
 
+-- the same for a conversion to finite values alone
+pub record IsFiniteValue (nans : FiniteNan) (c d : Constants) (mode : Round) (input output : List ℕ)
+    (outcome : Outcome) : Type 0 where
+  pub value : Datum
+  pub loses : Bool
+  pub is_conversion : IsFiniteConversion nans (format_with c) (format_with d) mode
+      (datum_of (format_with c) (layout_with c) (number_of input)) value (bits_of outcome.status) loses
+  pub is_encoded : IsEncodedBy (format_with d) (layout_with d) (number_of output) value
+  pub nan_is : outcome.is_nan ≡ is_nan value
+
 abbrev pub IsConvertedBy : Overflow → Constants → Constants → Round → List ℕ → List ℕ → Outcome
     → Type 0
 IsConvertedBy Rounded c d mode input output outcome = IsConvertedValue c d mode input output outcome
 IsConvertedBy Saturated c d mode input output outcome = IsSaturatedValue c d mode input output outcome
+IsConvertedBy (Finite nans) c d mode input output outcome = IsFiniteValue nans c d mode input output outcome
 
 -- the same from bits to bits
 pub record IsAnswerFrom (overflow : Overflow) (c d : Constants) (mode : Round) (bits : ℕ) (answer : Converted)

@@ -3,9 +3,11 @@
 
 ghost use Rattle.std.specs.Prelude.{◌≡◌, ℕ, ◌+◌, ◌-◌, ◌^◌, ◌<◌, false, pos, neg_ℤ, ◌+ℤ◌, ◌-ℤ◌, ◌≤ℤ◌, IsTrue, IfSome, MatchBool};
 ghost use Rattle.rustc_apfloat.specs.Bounds.{IsWithin, exponent_bound};
+ghost use Rattle.rustc_apfloat.specs.Datum.{finite};
 ghost use Rattle.rustc_apfloat.specs.FlaggedTypes.{constants_of, format_of, layout_of};
 ghost use Rattle.rustc_apfloat.specs.Layout.{fields_of};
 ghost use Rattle.array_conversions.specs.FarNumbers.{AreFarAnswers, IsAnswerTo, IsFar, IsFarPlace, far_place, with_overflow};
+ghost use Rattle.array_conversions.specs.Saturation.{saturated};
 
 use crate::converted::Converted;
 use crate::counts::Outcome;
@@ -71,6 +73,17 @@ fn far_answer<T: Flagged>(overflow: Overflow, round: Round, past: bool, negative
     }
 }
 
+/// A rounded number, or the largest value of its sign in place of what is not finite.
+fn finite_or_largest<T: Flagged>(negative: bool, rounded: IeeeFloat<T>) -> IeeeFloat<T>
+    ensures { result ≡ saturated (format_of T.Flagged) (finite negative 0) rounded }
+{
+    if rounded.is_finite() {
+        rounded
+    } else {
+        largest_of_sign(negative)
+    }
+}
+
 /// What a rounded number becomes.
 fn with_overflow<T: Flagged>(
     overflow: Overflow,
@@ -81,13 +94,8 @@ fn with_overflow<T: Flagged>(
 {
     match overflow {
         Overflow::Rounded => rounded,
-        Overflow::Saturated => {
-            if rounded.is_finite() {
-                rounded
-            } else {
-                largest_of_sign(negative)
-            }
-        }
+        Overflow::Saturated => finite_or_largest(negative, rounded),
+        Overflow::Finite(_) => finite_or_largest(negative, rounded),
     }
 }
 

@@ -21,5 +21,5 @@ pub use blocks::{convert_block_by, one_block};
 pub use bytes::{number_of, write_number};
 pub use conversion::{Conversion, ConvertedBlock};
 pub use counts::{Counts, Outcome};
-pub use saturation::{Overflow, convert_by};
+pub use saturation::{FiniteNan, Overflow, convert_by};
 pub use widths::{Extended, Widths, width};

@@ -5,10 +5,21 @@ ghost use Rattle.rustc_apfloat.specs.Datum.{finite};
 ghost use Rattle.rustc_apfloat.specs.Flags.{bits_of};
 ghost use Rattle.rustc_apfloat.specs.Format.{largest};
 ghost use Rattle.rustc_apfloat.specs.FlaggedTypes.{format_of};
-ghost use Rattle.array_conversions.specs.Saturation.{IsConversionBy, saturated};
+ghost use Rattle.rustc_apfloat.specs.Conversions.{IsConversion};
+ghost use Rattle.rustc_apfloat.specs.declared.Round.{Round};
+ghost use Rattle.array_conversions.specs.Saturation.{IsConversionBy, IsFiniteConversion, saturated};
 
 use rustc_apfloat::ieee::{Flagged, IeeeFloat};
-use rustc_apfloat::{Float, FloatConvert, Round, StatusAnd};
+use rustc_apfloat::{Category, Float, FloatConvert, Round, Status, StatusAnd};
+
+/// What a NaN becomes where only finite values are wanted.
+#[derive(Clone, Copy, Debug)]
+pub enum FiniteNan {
+    /// What it becomes without that wish.
+    Kept,
+    /// The largest value, with sign plus.
+    Largest,
+}
 
 /// What a number becomes that is past the largest value once it is rounded.
 #[derive(Clone, Copy, Debug)]
@@ -17,10 +28,14 @@ pub enum Overflow {
     Rounded,
     /// The largest value of its sign, in every mode.
     Saturated,
+    /// The same, and an infinity becomes the largest value of its sign too, with INEXACT; a NaN that becomes the
+    /// largest value has INVALID_OP. This is the saturating conversion of the OCP's 8-bit formats and of PTX
+    /// (`satfinite`).
+    Finite(FiniteNan),
 }
 
-/// A value in the format `T`, rounded once, with the flags of that rounding. Saturation changes neither flags nor the
-/// conversion of infinities and NaNs.
+/// A value in the format `T`, rounded once, with the flags of that rounding. Saturation changes no flags of numbers;
+/// only `Overflow::Finite` changes the conversion of infinities and NaNs.
 #[inline]
 pub fn convert_by<S: Flagged, T: Flagged>(
     overflow: Overflow,
@@ -35,6 +50,38 @@ pub fn convert_by<S: Flagged, T: Flagged>(
     match overflow {
         Overflow::Rounded => answer,
         Overflow::Saturated => answer.status.and(saturated(x, answer.value)),
+        Overflow::Finite(nans) => made_finite(nans, x, answer, loses_info),
+    }
+}
+
+/// A converted value, where only finite values are wanted.
+#[inline]
+fn made_finite<S: Flagged, T: Flagged>(
+    nans: FiniteNan,
+    x: IeeeFloat<S>,
+    answer: StatusAnd<IeeeFloat<T>>,
+    loses_info: &mut bool,
+) -> StatusAnd<IeeeFloat<T>>
+    ensures { (mode : Round)
+        → IsConversion (format_of S.Flagged) (format_of T.Flagged) mode x answer.value
+        (bits_of answer.status) loses_info.old
+        → IsFiniteConversion nans (format_of S.Flagged) (format_of T.Flagged) mode x result.value
+        (bits_of result.status) loses_info.new }
+{
+    match x.category() {
+        Category::NaN => match nans {
+            FiniteNan::Kept => answer,
+            FiniteNan::Largest => {
+                *loses_info = true;
+                Status::INVALID_OP.and(largest_of_sign(false))
+            }
+        },
+        Category::Infinity => {
+            *loses_info = true;
+            Status::INEXACT.and(largest_of_sign(x.is_negative()))
+        }
+        Category::Zero => answer.status.and(saturated(x, answer.value)),
+        Category::Normal => answer.status.and(saturated(x, answer.value)),
     }
 }
 

@@ -1,11 +1,12 @@
 //! The words of a command line, as a job for the program.
 
-use array_conversions::{Conversion, Extended, Overflow};
+use array_conversions::{Conversion, Extended, FiniteNan, Overflow};
 use commands::About;
 
 /// The help; `packaging/manual` makes the man page and the completions of it.
 pub const HELP: &str = "\
-usage: convert_values [--saturate] [--x87-bytes=10|16] FROM TO MODE
+usage: convert_values [--saturate | --saturate-finite | --saturate-all]
+                      [--x87-bytes=10|16] FROM TO MODE
        convert_values --help | --version
 
 Converts a stream of values to another format: reads little-endian values of the
@@ -20,12 +21,16 @@ MODE      even    to the nearest value, ties to even
           zero    toward zero
           away    to the nearest value, ties away from zero
 
---saturate      a number past the largest value of TO becomes the largest value
-                of its sign, with the same flags as without the option
---x87-bytes=10  a value of the format x87 takes 10 bytes; this is the default
---x87-bytes=16  it takes 16 bytes; the last 6 are ignored, and written as 0
---help, -h      writes this text
---version       writes the name and the version of the program
+--saturate         a number past the largest value of TO becomes the largest
+                   value of its sign, with the same flags as without the option
+--saturate-finite  the same, and an infinity becomes the largest value of its
+                   sign, with INEXACT
+--saturate-all     the same, and a NaN becomes the largest value, with
+                   INVALID_OP
+--x87-bytes=10     a value of the format x87 takes 10 bytes; this is the default
+--x87-bytes=16     it takes 16 bytes; the last 6 are ignored, and written as 0
+--help, -h         writes this text
+--version          writes the name and the version of the program
 
 At the end a line on standard error counts the values, those that raised each
 flag, and the NaNs among the values written. Before that, if standard error is
@@ -53,10 +58,11 @@ impl Job {
             return Some(Job::About(about));
         }
         match words {
-            [option, words @ ..] if option.as_str() == "--saturate" => {
-                Job::converting(Overflow::Saturated, words)
-            }
-            _ => Job::converting(Overflow::Rounded, words),
+            [option, others @ ..] => match overflow_named(option.as_str()) {
+                Some(overflow) => Job::converting(overflow, others),
+                None => Job::converting(Overflow::Rounded, words),
+            },
+            [] => None,
         }
     }
 
@@ -85,6 +91,16 @@ impl Job {
         let (source, target) = (source.as_str(), target.as_str());
         let conversion = Conversion::named(extended, source, target, mode.as_str())?;
         Some(Job::Convert(conversion, overflow))
+    }
+}
+
+/// What a number that overflows becomes with this option.
+fn overflow_named(option: &str) -> Option<Overflow> {
+    match option {
+        "--saturate" => Some(Overflow::Saturated),
+        "--saturate-finite" => Some(Overflow::Finite(FiniteNan::Kept)),
+        "--saturate-all" => Some(Overflow::Finite(FiniteNan::Largest)),
+        _ => None,
     }
 }
 

@@ -121,6 +121,31 @@ fn saturates_overflows_alone(rt: HostRuntime) -> Result<(), Fail> {
 }
 
 #[test]
+fn saturates_infinities_and_nans(rt: HostRuntime) -> Result<(), Fail> {
+    for (line, codes, told) in [
+        (
+            "--saturate-finite single e4m3fn even",
+            b"\x38\x7e\xfe\x7e\xfe\x7f".as_slice(),
+            b"values 6, inexact 4, underflow 0, overflow 2, invalid 1, NaNs 1\n".as_slice(),
+        ),
+        (
+            "--saturate-all single e4m3fn even",
+            b"\x38\x7e\xfe\x7e\xfe\x7e".as_slice(),
+            b"values 6, inexact 4, underflow 0, overflow 2, invalid 1, NaNs 0\n".as_slice(),
+        ),
+        (
+            "--saturate-finite single e5m2 even",
+            b"\x3c\x64\xe4\x7b\xfb\x7e".as_slice(),
+            b"values 6, inexact 4, underflow 0, overflow 0, invalid 1, NaNs 1\n".as_slice(),
+        ),
+    ] {
+        let (output, err, status) = answer_to(&rt, line, BEYOND)?;
+        assert_eq!(rt; (output.as_slice(), err.as_slice(), status), (codes, told, 0), "{line}");
+    }
+    Ok(())
+}
+
+#[test]
 fn reads_no_padding_and_writes_zeros(rt: HostRuntime) -> Result<(), Fail> {
     let three = b"\x00\x00\x00\x00\x00\x00\x00\xc0\x00\x40\x01\x02\x03\x04\x05\x06";
     let (output, _, status) = answer_to(&rt, "--x87-bytes=16 x87 x87 even", three)?;
@@ -240,6 +265,10 @@ static WRONG_WORDS: &[(&str, &[u8])] = &[
     (
         "--saturate single half",
         b"convert_values: too few words; see `convert_values --help`\n",
+    ),
+    (
+        "--saturate-finit single half even",
+        b"convert_values: no such option: `--saturate-finit`; did you mean `--saturate-finite`?\n",
     ),
     (
         "--x87-bytes=10 --saturate single half even",

@@ -6,6 +6,8 @@ use formats_at_run_time::{BuiltInKind, mode_named};
 /// The options before a format.
 static OPTIONS: &[&str] = &[
     "--saturate",
+    "--saturate-finite",
+    "--saturate-all",
     "--x87-bytes=10",
     "--x87-bytes=16",
     "--help",
@@ -43,7 +45,10 @@ pub fn wrong_form(words: &[String]) -> &'static str {
 
 /// Whether the word is an option.
 fn is_option(word: &str) -> bool {
-    matches!(word, "--saturate" | "--x87-bytes=10" | "--x87-bytes=16")
+    matches!(
+        word,
+        "--saturate" | "--saturate-finite" | "--saturate-all" | "--x87-bytes=10" | "--x87-bytes=16"
+    )
 }
 
 /// The first that does not exist, of two formats and a mode.
