@@ -11,3 +11,4 @@ mod MovesScaled
 mod RestLosses
 mod ModePicks
 mod ModesOnce
+mod QuotientPicks

@@ -21,16 +21,17 @@ pub(crate) struct Kept {
     pub loss: Loss,
 }
 
-/// The place of the lowest kept digit of a number with `DIGITS` digits at `unit`; places and units are counted from the
+/// The place of the lowest kept digit of a number with `count` digits at `unit`; places and units are counted from the
 /// quantum.
-fn kept_place(precision: u32, unit: ExpInt) -> u32
-    requires precise { precision ≤ 8 }
+fn kept_place(precision: u32, count: u32, unit: ExpInt) -> u32
+    requires precise { precision ≤ 15 }
+    requires short { count ≤ 128 }
     requires within { IsWithin unit_bound unit }
     ensures near { result < place_bound }
-    ensures covers { 125 + up unit ≤ result + precision + down unit }
-    ensures reached { (result ≡ 0) ⊎ (125 + up unit ≡ result + precision + down unit) }
+    ensures covers { count + up unit ≤ result + precision + down unit }
+    ensures reached { (result ≡ 0) ⊎ (count + up unit ≡ result + precision + down unit) }
 {
-    let top = DIGITS as ExpInt + unit;
+    let top = count as ExpInt + unit;
     if top > precision as ExpInt {
         (top - precision as ExpInt) as u32
     } else {
@@ -48,10 +49,43 @@ fn steps_up(unit: ExpInt, place: u32) -> u32
     (place as ExpInt - unit) as u32
 }
 
+/// A number with `count` digits at `unit`, below which `loss` was lost, cut to the digits that the precision keeps of
+/// it. It has more digits than the precision keeps, so that it is cut only once.
+pub(crate) fn cut_number(precision: u32, number: u128, count: u32, unit: ExpInt, loss: Loss) -> Kept
+    requires some { 0 < precision }
+    requires precise { precision ≤ 15 }
+    requires long { 16 ≤ count }
+    requires short { count ≤ 128 }
+    requires low { 2 ^ (count - 1) ≤ number }
+    requires high { number < 2 ^ count }
+    requires within { IsWithin unit_bound unit }
+    ensures fits { result.significand < 2 ^ precision }
+    ensures full { (result.place ≡ 0) ⊎ (2 ^ (precision - 1) ≤ result.significand) }
+    ensures near { result.place < place_bound }
+    ensures places { result.places + up unit ≡ result.place + down unit }
+    ensures quotient { result.significand ≡ number / 2 ^ result.places }
+    ensures rest { StandsFor number loss number 1
+        → StandsFor result.significand result.loss number (2 ^ result.places * 1) }
+    ensures cut { (amount parts : ℕ) → 0 < parts
+        → StandsFor number loss (amount * 2 ^ down unit) (parts * 2 ^ up unit)
+        → IsEnclosed precision (2 ^ (precision - 1)) result.significand result.place amount parts
+        × StandsFor result.significand result.loss amount (2 ^ result.place * parts) }
+{
+    let place = kept_place(precision, count, unit);
+    let places = steps_up(unit, place);
+    let shifted = shift_right(number, places, loss);
+    Kept {
+        significand: shifted.significand,
+        place,
+        places,
+        loss: shifted.loss,
+    }
+}
+
 /// A number with `DIGITS` digits at `unit`, cut to the digits that the precision keeps of it.
 pub(crate) fn cut(precision: u32, digits: u128, unit: ExpInt) -> Kept
     requires some { 0 < precision }
-    requires precise { precision ≤ 8 }
+    requires precise { precision ≤ 15 }
     requires low { 2 ^ 124 ≤ digits }
     requires high { digits < 2 ^ 125 }
     requires within { IsWithin unit_bound unit }
@@ -66,15 +100,7 @@ pub(crate) fn cut(precision: u32, digits: u128, unit: ExpInt) -> Kept
         → IsEnclosed precision (2 ^ (precision - 1)) result.significand result.place amount parts
         × StandsFor result.significand result.loss amount (2 ^ result.place * parts) }
 {
-    let place = kept_place(precision, unit);
-    let places = steps_up(unit, place);
-    let shifted = shift_right(digits, places, Loss::ExactlyZero);
-    Kept {
-        significand: shifted.significand,
-        place,
-        places,
-        loss: shifted.loss,
-    }
+    cut_number(precision, digits, DIGITS, unit, Loss::ExactlyZero)
 }
 
 /// Of 2^digits parts of the lowest kept digit, how many whole ones the rest is that was cut off.

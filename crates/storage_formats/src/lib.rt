@@ -21,6 +21,11 @@ mod modes;
 mod named;
 mod picks;
 #[cfg(test)]
+mod quotient_rows;
+#[cfg(test)]
+mod quotient_tests;
+mod quotients;
+#[cfg(test)]
 mod rows;
 mod scales;
 mod stored;

@@ -23,7 +23,7 @@ pub(crate) struct Picked {
 }
 
 /// The number of the point `significand * 2^place`.
-fn index_of(precision: u32, significand: u128, place: u32) -> u128
+pub(crate) fn index_of(precision: u32, significand: u128, place: u32) -> u128
     requires some { 0 < precision }
     requires precise { precision ≤ 8 }
     requires fits { significand < 2 ^ precision }
@@ -35,7 +35,7 @@ fn index_of(precision: u32, significand: u128, place: u32) -> u128
 }
 
 /// The number of the point, or of the next one if the mode moves past it.
-fn moved_index(index: u128, moves: bool) -> u128
+pub(crate) fn moved_index(index: u128, moves: bool) -> u128
     requires { index < 2 ^ 40 }
     ensures { result ≡ (if moves then index + 1 else index) }
 {

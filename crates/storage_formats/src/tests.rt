@@ -19,7 +19,7 @@ use apfloat_words::low_digits;
 use std::cmp::Ordering;
 use std::process::Abort;
 
-static MODES: [Round; 5] = [
+pub(crate) static MODES: [Round; 5] = [
     Round::NearestTiesToEven,
     Round::TowardPositive,
     Round::TowardNegative,
@@ -74,7 +74,7 @@ impl Stored for UE4M3 {
 }
 
 /// The checksum with one more result.
-fn extended(checksum: u64, bits: u128, flags: u8, loses_info: bool) -> u64 {
+pub(crate) fn extended(checksum: u64, bits: u128, flags: u8, loses_info: bool) -> u64 {
     checksum
         .wrapping_mul(1_000_003)
         .wrapping_add((low_digits(bits, 64) as u64).wrapping_mul(64))

@@ -1,0 +1,133 @@
+-- The greatest magnitude of a block.
+use Rattle.std.proofs.Common.{if◌then◌else◌}
+use Rattle.std.proofs.Common.{◌≡◌, ℕ, zero, suc, ◌+◌, ◌*◌, ◌<◌, ◌≤◌, max, true, refl, sym, ap, ◌∙◌}
+use Rattle.std.proofs.Common.{⊎_elim, arith, false, ltb, pos, List, [], ◌∷◌, ◌++◌, length, take, Some}
+use Rattle.std.specs.Prelude.{slice_get}
+use Rattle.std.proofs.Math.Nat.{mul-le-mul_right}
+use Rattle.std.proofs.lemmas.Bool.{and_parts, cases_lt, lt-ltb, le-ltb}
+use Rattle.apfloat_model.specs.formats.Datum.{Datum, finite, infinite, nan}
+use Rattle.std.specs.declared.cmp.Ordering.TheVariants.{Less, Equal, Greater}
+use Rattle.std.specs.Cmp.{int_cmp_is}
+use Rattle.std.proofs.lemmas.Int.{ints}
+use Rattle.apfloat_model.specs.declared.kinds.NonfiniteBehavior.{NonfiniteBehavior}
+use Rattle.apfloat_model.specs.declared.kinds.NonfiniteBehavior.TheVariants.{IEEE754, NanOnly, NanNegativeZero}
+use Rattle.apfloat_model.specs.formats.Format.{Format}
+use Rattle.apfloat_model.specs.formats.Members.{IsMember}
+use Rattle.apfloat_model.specs.order.Classes.{is_finite, is_negative, quanta_of}
+use Rattle.apfloat_model.specs.order.Order.{is_below}
+use Rattle.apfloat_model.specs.rounding.Negation.{negated}
+use Rattle.apfloat_model.specs.rounding.Rounding.{zero_sign}
+use Rattle.apfloat_model.proofs.general.Choices.{not_zero}
+use Rattle.block_formats.specs.Magnitudes.{are_finite, greatest_magnitude}
+use Rattle.block_formats.proofs.Places.{some_same}
+
+-- the greater of two numbers, by cases
+pub max_right : (a b : ℕ) → a ≤ b → max a b ≡ b
+max_right a b l = grind arith
+
+pub max_left : (a b : ℕ) → b ≤ a → max a b ≡ a
+max_left a b l = grind arith
+
+pub max_together : (a b c : ℕ) → max a (max b c) ≡ max b (max a c)
+max_together a b c = grind arith
+
+-- one more value
+pub greatest_more : (xs : List Datum) (x : Datum)
+    → greatest_magnitude (xs ++ x ∷ []) ≡ max (quanta_of x) (greatest_magnitude xs)
+greatest_more [] x = refl
+greatest_more (y ∷ xs) x =
+    ap (λ n. max (quanta_of y) n) (greatest_more xs x)
+    ∙ max_together (quanta_of y) (quanta_of x) (greatest_magnitude xs)
+
+pub take_more : {X : Type 0} → (xs : List X) (i : ℕ) (x : X) → slice_get xs i ≡ Some x
+    → take (i + 1) xs ≡ take i xs ++ x ∷ []
+take_more [] i x e = cc
+take_more (y ∷ xs) zero x e = ap (λ z. z ∷ []) (some_same y x e)
+take_more (y ∷ xs) (suc i) x e = ap (λ zs. y ∷ zs) (take_more xs i x e)
+
+pub finite_at : (xs : List Datum) (i : ℕ) (x : Datum) → are_finite xs ≡ true → slice_get xs i ≡ Some x
+    → is_finite x ≡ true
+finite_at [] i x h e = cc
+finite_at (y ∷ xs) zero x h e =
+    let p = and_parts (is_finite y) (are_finite xs) h in
+    sym (ap is_finite (some_same y x e)) ∙ p.0
+finite_at (y ∷ xs) (suc i) x h e =
+    let p = and_parts (is_finite y) (are_finite xs) h in
+    finite_at xs i x p.1 e
+
+-- no value is greater
+pub at_most_greatest : (xs : List Datum) (i : ℕ) (x : Datum) → slice_get xs i ≡ Some x
+    → quanta_of x ≤ greatest_magnitude xs
+at_most_greatest [] i x e = cc
+at_most_greatest (y ∷ xs) zero x e =
+    let same : quanta_of y ≡ quanta_of x = ap quanta_of (some_same y x e) in
+    grind (arith, same)
+at_most_greatest (y ∷ xs) (suc i) x e =
+    let rest = at_most_greatest xs i x e in
+    grind (arith, rest)
+
+-- magnitudes in other quanta: the greatest of the one is that of the other
+pub record AreProportional (u v : ℕ) (xs ys : List Datum) : Type 0 where
+  pub same_size : length xs ≡ length ys
+  pub each : (i : ℕ) (x y : Datum) → slice_get xs i ≡ Some x → slice_get ys i ≡ Some y
+      → quanta_of x * u ≡ quanta_of y * v
+
+max_times : (a b u : ℕ) → max a b * u ≡ max (a * u) (b * u)
+max_times a b u =
+    ⊎_elim
+    (λ (l : a < b).
+    let k : a ≤ b = omega (arith, l) in
+    ap (λ n. n * u) (max_right a b k) ∙ sym (max_right (a * u) (b * u) (mul-le-mul_right u k)))
+    (λ (l : b ≤ a). ap (λ n. n * u) (max_left a b l) ∙ sym (max_left (a * u) (b * u) (mul-le-mul_right u l)))
+    (cases_lt a b)
+
+pub greatest_proportional : (u v : ℕ) (xs ys : List Datum) → AreProportional u v xs ys
+    → greatest_magnitude xs * u ≡ greatest_magnitude ys * v
+greatest_proportional u v [] [] h = omega arith
+greatest_proportional u v [] (y ∷ ys) h = absurd (let e = h.same_size in omega (arith, e))
+greatest_proportional u v (x ∷ xs) [] h = absurd (let e = h.same_size in omega (arith, e))
+greatest_proportional u v (x ∷ xs) (y ∷ ys) h =
+    let first : quanta_of x * u ≡ quanta_of y * v = h.each 0 x y refl refl in
+    let rest = greatest_proportional u v xs ys (record {
+      same_size = let e = h.same_size in omega (arith, e);
+      each = λ i a b p q. h.each (suc i) a b p q;
+    }) in
+    max_times (quanta_of x) (greatest_magnitude xs) u
+    ∙ ap (λ n. max n (greatest_magnitude xs * u)) first
+    ∙ ap (λ n. max (quanta_of y * v) n) rest
+    ∙ sym (max_times (quanta_of y) (greatest_magnitude ys) v)
+
+-- the absolute value of a nonzero finite datum
+pub finite_magnitude : (kind : NonfiniteBehavior) (x magnitude : Datum) → is_finite x ≡ true → 0 < quanta_of x
+    → magnitude ≡ (if is_negative x then negated kind x else x) → magnitude ≡ finite false (quanta_of x)
+finite_magnitude kind (finite false n) magnitude h some e = e
+finite_magnitude kind (finite true n) magnitude h some e = e ∙ rw (not_zero n some) refl
+finite_magnitude kind (infinite b) magnitude h some e = cc
+finite_magnitude kind (nan b s) magnitude h some e = cc
+
+no_sign : (kind : NonfiniteBehavior) → false ≡ zero_sign kind false
+no_sign IEEE754 = refl
+no_sign NanOnly = refl
+no_sign NanNegativeZero = refl
+
+-- it is a value of the format too
+pub magnitude_member : (f : Format) (x : Datum) → is_finite x ≡ true → IsMember f x
+    → IsMember f (finite false (quanta_of x))
+magnitude_member f (finite b n) h m =
+    record { on_grid = m.on_grid; within = m.within; zero_has = λ z. no_sign f.nonfinite }
+magnitude_member f (infinite b) h m = cc
+magnitude_member f (nan b s) h m = cc
+
+-- the order of two values that are not below zero is that of their quanta
+pub below_is : (m n : ℕ) → is_below (finite false m) (finite false n) ≡ ltb m n
+below_is m n =
+    ⊎_elim
+    (λ (l : m < n). rw (int_cmp_is (pos m) (pos n) Less (omega (arith, ints, l)), lt-ltb m n l) refl)
+    (λ (l : n ≤ m).
+    ⊎_elim
+    (λ (k : n < m). rw (int_cmp_is (pos m) (pos n) Greater (omega (arith, ints, k)), le-ltb m n l) refl)
+    (λ (k : m ≤ n).
+    let e : m ≡ n = omega (arith, l, k) in
+    rw (int_cmp_is (pos m) (pos n) Equal (ap (λ (z : ℕ). pos z) e), le-ltb m n l) refl)
+    (cases_lt n m))
+    (cases_lt m n)
