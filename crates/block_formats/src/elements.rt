@@ -14,6 +14,7 @@ ghost use Rattle.apfloat_decimals.specs.ShortestSearch.{IsPositive};
 ghost use Rattle.apfloat_model.specs.bits.Layout.{datum_of as bits_datum};
 ghost use Rattle.apfloat_model.specs.formats.Format.{largest};
 ghost use Rattle.storage_formats.specs.Codes.{datum_of};
+ghost use Rattle.storage_formats.specs.Quotients.{IsRatioOf};
 ghost use Rattle.storage_formats.specs.Storage.{format_with as stored_format};
 ghost use Rattle.storage_formats.specs.Types.{constants_of as stored_constants};
 ghost use Rattle.block_formats.specs.Elements.{IsElement, IsElementIn, element_datum, format_of_element};
@@ -98,8 +99,7 @@ pub(crate) fn ieee_quotient<T: Semantics, S: Semantics, R: Semantics>(
     requires finite { is_finite x ≡ true }
     requires positive { IsPositive (format_of R.Semantics) y }
     ensures code { let g = format_of T.Semantics in (amount parts : ℕ) → 0 < parts
-        → amount * (quanta_of y * 2 ^ (format_of S.Semantics).scale)
-        ≡ parts * (quanta_of x * 2 ^ ((format_of R.Semantics).scale + g.scale))
+        → IsRatioOf (format_of S.Semantics) (format_of R.Semantics) g x y amount parts
         → Gives (IsElementIn g (bits_datum g (layout_of T.Semantics)) round (is_negative x) amount
         parts) result }
     ensures below { result.value < 2 ^ T.BITS }
@@ -118,8 +118,8 @@ fn stored_quotient<F: StorageFormat, S: Semantics, R: Semantics>(
     requires finite { is_finite x ≡ true }
     requires positive { IsPositive (format_of R.Semantics) y }
     ensures code { let c = stored_constants F.StorageFormat in (amount parts : ℕ) → 0 < parts
-        → amount * (quanta_of y * 2 ^ (format_of S.Semantics).scale)
-        ≡ parts * (quanta_of x * 2 ^ ((format_of R.Semantics).scale + (stored_format c).scale))
+        → IsRatioOf (format_of S.Semantics) (format_of R.Semantics) (stored_format c) x y amount
+        parts
         → Gives (IsElementIn (stored_format c) (datum_of c) round (is_negative x) amount parts)
         result }
     ensures below { result.value < 2 ^ F.BITS }
@@ -138,8 +138,7 @@ pub(crate) fn quotient_code<S: Semantics, R: Semantics>(
     requires finite { is_finite x ≡ true }
     requires positive { IsPositive (format_of R.Semantics) y }
     ensures code { let g = format_of_element element in (amount parts : ℕ) → 0 < parts
-        → amount * (quanta_of y * 2 ^ (format_of S.Semantics).scale)
-        ≡ parts * (quanta_of x * 2 ^ ((format_of R.Semantics).scale + g.scale))
+        → IsRatioOf (format_of S.Semantics) (format_of R.Semantics) g x y amount parts
         → Gives (IsElement element round (is_negative x) amount parts) result }
     ensures below { result.value < 2 ^ width element }
 {

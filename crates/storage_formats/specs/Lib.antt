@@ -14,3 +14,4 @@ pub mod Modes
 pub mod ModeConversions
 pub mod ModeLaws
 pub mod PicksBy
+pub mod Quotients

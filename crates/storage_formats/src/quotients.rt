@@ -1,7 +1,7 @@
 //! Quotients of two values in a storage format.
 
 ghost use Rattle.std.specs.Prelude.{◌≡◌, ℕ, ◌+◌, ◌-◌, ◌*◌, ◌^◌, ◌<◌, ◌≤◌, pos, ◌+ℤ◌, ◌-ℤ◌, true};
-ghost use Rattle.apfloat_model.specs.order.Classes.{is_finite, is_negative, quanta_of};
+ghost use Rattle.apfloat_model.specs.order.Classes.{is_finite, is_negative};
 ghost use Rattle.apfloat_model.specs.rounding.Bounds.{IsWithin, unit_bound};
 ghost use Rattle.apfloat_model.specs.rounding.Flags.{Gives};
 ghost use Rattle.apfloat_model.specs.rounding.Standing.{StandsFor, up, down};
@@ -9,6 +9,7 @@ ghost use Rattle.apfloat_ieee.specs.Types.{format_of};
 ghost use Rattle.apfloat_decimals.specs.ShortestSearch.{IsPositive};
 ghost use Rattle.storage_formats.specs.Conversions.{IsSaturated};
 ghost use Rattle.storage_formats.specs.Picks.{IsPickedAt};
+ghost use Rattle.storage_formats.specs.Quotients.{IsRatioOf};
 ghost use Rattle.storage_formats.specs.Storage.{format_with};
 ghost use Rattle.storage_formats.specs.Types.{constants_of};
 
@@ -17,7 +18,7 @@ use crate::format::StorageFormat;
 use crate::from_value::{deliver_pick, scale};
 use crate::picks::{Picked, index_of, moved_index};
 use crate::stored::StoredFloat;
-use apfloat_base::{ExpInt, Float, Round, Status, StatusAnd};
+use apfloat_base::{Category, ExpInt, Float, Round, Status, StatusAnd};
 use apfloat_ieee::{IeeeFloat, Semantics};
 use apfloat_model::Loss;
 use apfloat_rounding::rounding::moves_up;
@@ -74,8 +75,7 @@ fn divide_positive<S: Semantics, R: Semantics, F: StorageFormat>(
     requires x { IsPositive (format_of S.Semantics) x }
     requires y { IsPositive (format_of R.Semantics) y }
     ensures { let c = constants_of F.StorageFormat in (amount parts : ℕ) → 0 < parts
-        → amount * (quanta_of y * 2 ^ (format_of S.Semantics).scale)
-        ≡ parts * (quanta_of x * 2 ^ ((format_of R.Semantics).scale + (format_with c).scale))
+        → IsRatioOf (format_of S.Semantics) (format_of R.Semantics) (format_with c) x y amount parts
         → Gives (IsSaturated c mode negative amount parts) result }
 {
     let dividend = digits_of(x);
@@ -108,14 +108,14 @@ impl<F: StorageFormat> StoredFloat<F> {
         requires finite { is_finite x ≡ true }
         requires positive { IsPositive (format_of R.Semantics) y }
         ensures { let c = constants_of F.StorageFormat in (amount parts : ℕ) → 0 < parts
-            → amount * (quanta_of y * 2 ^ (format_of S.Semantics).scale)
-            ≡ parts * (quanta_of x * 2 ^ ((format_of R.Semantics).scale + (format_with c).scale))
-            → Gives (IsSaturated c round (is_negative x) amount parts) result }
+            → IsRatioOf (format_of S.Semantics) (format_of R.Semantics) (format_with c) x y amount
+            parts → Gives (IsSaturated c round (is_negative x) amount parts) result }
     {
         let negative = x.is_negative();
-        if x.is_zero() {
-            return Status::OK.and(Self::with_sign(negative, 0));
+        match x.category() {
+            Category::Normal => divide_positive(x.abs(), y, round, negative),
+            // It is a zero.
+            _ => Status::OK.and(Self::with_sign(negative, 0)),
         }
-        divide_positive(x.abs(), y, round, negative)
     }
 }
