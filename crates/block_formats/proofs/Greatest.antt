@@ -1,7 +1,7 @@
 -- The greatest magnitude of a block.
 use Rattle.std.proofs.Common.{if◌then◌else◌}
 use Rattle.std.proofs.Common.{◌≡◌, ℕ, zero, suc, ◌+◌, ◌*◌, ◌<◌, ◌≤◌, max, true, refl, sym, ap, ◌∙◌}
-use Rattle.std.proofs.Common.{⊎_elim, arith, false, ltb, pos, List, [], ◌∷◌, ◌++◌, length, take, Some}
+use Rattle.std.proofs.Common.{⊎_elim, arith, Bool, ◌&&◌, false, ltb, pos, List, [], ◌∷◌, ◌++◌, length, take, Some}
 use Rattle.std.specs.Prelude.{slice_get}
 use Rattle.std.proofs.Math.Nat.{mul-le-mul_right}
 use Rattle.std.proofs.lemmas.Bool.{and_parts, cases_lt, lt-ltb, le-ltb}
@@ -54,6 +54,24 @@ finite_at (y ∷ xs) zero x h e =
 finite_at (y ∷ xs) (suc i) x h e =
     let p = and_parts (is_finite y) (are_finite xs) h in
     finite_at xs i x p.1 e
+
+-- one more that is finite, and one that is not
+pub finite_more : (xs : List Datum) (i : ℕ) (x : Datum) → are_finite (take i xs) ≡ true → slice_get xs i ≡ Some x
+    → is_finite x ≡ true → are_finite (take (i + 1) xs) ≡ true
+finite_more [] i x h e f = cc
+finite_more (y ∷ xs) zero x h e f = rw (ap is_finite (some_same y x e) ∙ f) refl
+finite_more (y ∷ xs) (suc i) x h e f =
+    let p = and_parts (is_finite y) (are_finite (take i xs)) h in rw p.0 (finite_more xs i x p.1 e f)
+
+pub one_not_finite : (xs : List Datum) (i : ℕ) (x : Datum) → slice_get xs i ≡ Some x → is_finite x ≡ false
+    → are_finite xs ≡ false
+one_not_finite [] i x e f = cc
+one_not_finite (y ∷ xs) zero x e f = rw (ap is_finite (some_same y x e) ∙ f) refl
+one_not_finite (y ∷ xs) (suc i) x e f = no_more (is_finite y) (one_not_finite xs i x e f)
+  where
+    no_more : (first : Bool) → are_finite xs ≡ false → (first && are_finite xs) ≡ false
+    no_more true h = h
+    no_more false h = refl
 
 -- no value is greater
 pub at_most_greatest : (xs : List Datum) (i : ℕ) (x : Datum) → slice_get xs i ≡ Some x

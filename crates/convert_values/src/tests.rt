@@ -140,7 +140,11 @@ fn saturates_infinities_and_nans(rt: HostRuntime) -> Result<(), Fail> {
         ),
     ] {
         let (output, err, status) = answer_to(&rt, line, BEYOND)?;
-        assert_eq!(rt; (output.as_slice(), err.as_slice(), status), (codes, told, 0), "{line}");
+        assert_eq!(rt;
+            (output.as_slice(), err.as_slice(), status),
+            (codes, told, 0),
+            "{line}"
+        );
     }
     Ok(())
 }

@@ -1,17 +1,25 @@
 -- The quotient of two numbers with 125 digits, in quanta of a third format.
-use Rattle.std.proofs.Common.{◌≡◌, ℕ, ◌+◌, ◌-◌, ◌*◌, ◌/◌, ◌^◌, ◌<◌, ◌≤◌, Bool, true, sym, ap, ◌∙◌, subst, arith}
+use Rattle.std.proofs.Common.{if◌then◌else◌}
+use Rattle.std.proofs.Common.{◌≡◌, ℕ, zero, suc, ◌+◌, ◌-◌, ◌*◌, ◌/◌, ◌^◌, ◌<◌, ◌≤◌, Bool, true, false, eqb, refl}
+use Rattle.std.proofs.Common.{sym, ap, ◌∙◌, subst, arith}
 use Rattle.std.proofs.Common.{ℤ, pos, ◌+ℤ◌, ◌-ℤ◌}
 use Rattle.std.proofs.Math.Nat.{mul-le-mul_right, mul-pos, eq_of_mul-eq-mul_right, le-div_iff_mul-le}
-use Rattle.std.proofs.lemmas.Bool.{eq-eqb}
+use Rattle.std.proofs.lemmas.Bool.{eq-eqb, ne_eqb}
 use Rattle.std.proofs.lemmas.Int.{ints}
 use Rattle.std.proofs.lemmas.Nat.{pow-add, pow_pos}
+use Rattle.apfloat_model.specs.declared.kinds.Category.TheVariants.{Normal}
+use Rattle.apfloat_model.specs.declared.kinds.NonfiniteBehavior.{NonfiniteBehavior}
 use Rattle.apfloat_model.specs.declared.kinds.Round.{Round}
 use Rattle.apfloat_model.specs.declared.loss.Loss.{Loss}
+use Rattle.apfloat_model.specs.formats.Datum.{Datum, finite, infinite, nan}
+use Rattle.apfloat_model.specs.order.Classes.{category_of, is_finite, is_negative, quanta_of}
+use Rattle.apfloat_model.specs.rounding.Negation.{negated}
 use Rattle.apfloat_model.specs.rounding.Rounding.{IsPick}
 use Rattle.apfloat_model.specs.rounding.Standing.{StandsFor, up, down}
 use Rattle.apfloat_model.proofs.arithmetic.Fractions.{quotient_carries}
 use Rattle.apfloat_model.proofs.rounding.KeptDigits.{stands_cancel, stands_times}
 use Rattle.apfloat_model.proofs.rounding.Laws.{exact_is_picked, zero_on_grid}
+use Rattle.apfloat_decimals.proofs.shortest_decimals.ShortestFound.{magnitude_is, some_quanta}
 use Rattle.storage_formats.specs.Codes.{point}
 use Rattle.storage_formats.specs.Picks.{IsPickedAt}
 use Rattle.storage_formats.proofs.CodesCompared.{zero_point}
@@ -58,6 +66,22 @@ quotient_long q n d half places p l s one is =
     let c : half * 2 ^ places ≡ 2 * half * 2 ^ (places - 1) = ap (λ (k : ℕ). half * k) twice ∙ omega arith in
     subst (λ (k : ℕ). 2 ^ (places - 1) ≤ k) (sym is) ((le-div_iff_mul-le p).1 (omega (arith, a, b, c)))
 
+-- a nonzero number and its absolute value have the same quanta
+pub magnitude_quanta : (kind : NonfiniteBehavior) (x y : Datum) → category_of x ≡ Normal
+    → y ≡ (if is_negative x then negated kind x else x) → quanta_of y ≡ quanta_of x
+magnitude_quanta kind (finite b n) y e is = ap quanta_of (is ∙ magnitude_is kind b n (some_quanta b n e))
+magnitude_quanta kind (infinite b) y e is = cc
+magnitude_quanta kind (nan b s) y e is = cc
+
+-- what is finite and no nonzero number is a zero
+pub no_number : (x : Datum) → is_finite x ≡ true → (category_of x ≡ Normal → ⊥) → quanta_of x ≡ 0
+no_number (finite b zero) h n = refl
+no_number (finite b (suc m)) h n =
+    let off : eqb (suc m) 0 ≡ false = ne_eqb (suc m) 0 (λ e. omega (arith, e)) in
+    absurd (n (rw off refl))
+no_number (infinite b) h n = cc
+no_number (nan b s) h n = cc
+
 -- a quotient of nothing is zero
 pub no_quotient : (amount parts b a : ℕ) → 0 < b → a ≡ 0 → amount * b ≡ parts * a → amount ≡ 0
 no_quotient amount parts b a p z e =
@@ -68,9 +92,10 @@ pub zero_picked : (p : ℕ) (mode : Round) (negative : Bool) (amount parts : ℕ
     → IsPickedAt p mode negative amount parts 0 true
 zero_picked p mode negative amount parts q z =
     let at : point p 0 ≡ 0 = zero_point p in
-    let same : point p 0 * parts ≡ amount = ap (λ (k : ℕ). k * parts) at ∙ sym z in
+    let none : 0 * parts ≡ amount = omega (arith, z) in
+    let same : point p 0 * parts ≡ amount = ap (λ (k : ℕ). k * parts) at ∙ none in
     record {
       is_pick = subst (λ (k : ℕ). IsPick p mode negative amount parts k) (sym at)
-          (exact_is_picked p mode negative 0 amount parts q (zero_on_grid p) (z ∙ omega arith));
+          (exact_is_picked p mode negative 0 amount parts q (zero_on_grid p) (sym none));
       exact_is = sym (eq-eqb (point p 0 * parts) amount same);
     }

@@ -26,8 +26,16 @@ returns g c = λ amount parts u same.
     let h = format_of g.R.Semantics in
     let x = c.digits_of-dividend in
     let y = c.digits_of-divisor in
-    let exponent = to_z-of_z w32 x.result.exponent (exponent_fits x.result.exponent x.ensures.within) in
-    let other = to_z-of_z w32 y.result.exponent (exponent_fits y.result.exponent y.ensures.within) in
+    let x_low = x.ensures.within.low in
+    let x_high = x.ensures.within.high in
+    let y_low = y.ensures.within.low in
+    let y_high = y.ensures.within.high in
+    let exponent = to_z-of_z w32 x.result.exponent
+    (exponent_fits x.result.exponent
+    (record { low = omega (arith, ints, x_low); high = omega (arith, ints, x_high) })) in
+    let other = to_z-of_z w32 y.result.exponent
+    (exponent_fits y.result.exponent
+    (record { low = omega (arith, ints, y_low); high = omega (arith, ints, y_high) })) in
     let scale = to_z-of_z w32 c.scale.result (record { sfits = c.scale.type_inv }) in
     let unit = to_z-of_z w32 c.quotient_unit-unit.result (record { sfits = c.quotient_unit-unit.type_inv }) in
     let value = rw (exponent, other, scale) at c.quotient_unit-unit.ensures.value in

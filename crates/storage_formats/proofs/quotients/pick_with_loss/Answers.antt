@@ -1,18 +1,18 @@
-use Rattle.std.proofs.Common.{◌+◌, ◌<◌, ℕ, cond, ap, ◌∙◌, w32, arith}
+use Rattle.std.proofs.Common.{◌+◌, ◌<◌, cond, ap, ◌∙◌, w32, arith}
 use Rattle.std.proofs.lemmas.Int.{to_z-of_z}
 use Rattle.apfloat_model.proofs.general.Powers.{exponent_below}
 use Rattle.storage_formats.proofs.StoredPicks.{picked_at}
 use Rattle.storage_formats.proofs.quotients.pick_with_loss.Goals as goal
 
 -- at least 125 digits
-pub cut_number-requires-clause-long : goal.cut_number-requires-clause-long
-cut_number-requires-clause-long c =
+pub cut_number-kept-requires-clause-long : goal.cut_number-kept-requires-clause-long
+cut_number-kept-requires-clause-long c =
     let below = c.digits.ensures.below in
     let long : 124 < c.digits.result = exponent_below 124 c.digits.result (omega (arith, c.requires.long, below)) in
     omega (arith, long)
 
-pub cut_number-requires-clause-low : goal.cut_number-requires-clause-low
-cut_number-requires-clause-low c =
+pub cut_number-kept-requires-clause-low : goal.cut_number-kept-requires-clause-low
+cut_number-kept-requires-clause-low c =
     let below = c.digits.ensures.below in
     let long : 124 < c.digits.result = exponent_below 124 c.digits.result (omega (arith, c.requires.long, below)) in
     c.digits.ensures.full (omega (arith, long))
