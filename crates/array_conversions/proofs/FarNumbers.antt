@@ -274,7 +274,11 @@ number_converted Saturated f g mode negative quanta rounded status some delivere
       value_is = refl;
     }
 number_converted (Finite nans) f g mode negative quanta rounded status some delivered =
-    number_converted Saturated f g mode negative quanta rounded status some delivered
+    record {
+      rounded = rounded;
+      is_conversion = rw (ne_eqb quanta 0 (λ e. omega arith)) (record { is_delivered = delivered; loses_is = refl });
+      value_is = refl;
+    }
 
 -- the item at a place that holds one
 held : (found : Option Converted) (Says : Converted → Type 0) → IsSomeAnd found Says

@@ -1,5 +1,5 @@
 -- Conversions to finite values alone, by the category of what is converted.
-use Rattle.std.proofs.Common.{◌≡◌, ℕ, zero, suc, Bool, true, false}
+use Rattle.std.proofs.Common.{◌≡◌, ℕ, Bool, true, false, eqb, cond}
 use Rattle.rustc_apfloat.specs.declared.Category.TheVariants.{NaN, Infinity, Zero, Normal}
 use Rattle.rustc_apfloat.specs.declared.Round.{Round}
 use Rattle.rustc_apfloat.specs.Classes.{category_of, is_negative}
@@ -10,20 +10,26 @@ use Rattle.array_conversions.specs.declared.saturation.FiniteNan.{FiniteNan}
 use Rattle.array_conversions.specs.declared.saturation.FiniteNan.TheVariants.{Kept, Largest}
 use Rattle.array_conversions.specs.Saturation.{IsFiniteConversion, saturated}
 
+not_nan : (none : Bool) → cond none Zero Normal ≡ NaN → ⊥
+not_nan true e = cc
+not_nan false e = cc
+
+not_infinite : (none : Bool) → cond none Zero Normal ≡ Infinity → ⊥
+not_infinite true e = cc
+not_infinite false e = cc
+
 pub nan_kept : (f g : Format) (mode : Round) (x value : Datum) (status : ℕ) (loses : Bool) → category_of x ≡ NaN
     → IsConversion f g mode x value status loses → IsFiniteConversion Kept f g mode x value status loses
 nan_kept f g mode (nan b s) value status loses e h = h
 nan_kept f g mode (infinite b) value status loses e h = cc
-nan_kept f g mode (finite b zero) value status loses e h = cc
-nan_kept f g mode (finite b (suc n)) value status loses e h = cc
+nan_kept f g mode (finite b n) value status loses e h = absurd (not_nan (eqb n 0) e)
 
 pub nan_largest : (f g : Format) (mode : Round) (x value : Datum) (status : ℕ) (loses : Bool) → category_of x ≡ NaN
     → value ≡ finite false (largest g) → status ≡ 1 → loses ≡ true
     → IsFiniteConversion Largest f g mode x value status loses
 nan_largest f g mode (nan b s) value status loses e v w l = record { value_is = v; status_is = w; loses_is = l }
 nan_largest f g mode (infinite b) value status loses e v w l = cc
-nan_largest f g mode (finite b zero) value status loses e v w l = cc
-nan_largest f g mode (finite b (suc n)) value status loses e v w l = cc
+nan_largest f g mode (finite b n) value status loses e v w l = absurd (not_nan (eqb n 0) e)
 
 pub infinity_largest : (nans : FiniteNan) (f g : Format) (mode : Round) (x value : Datum) (status : ℕ) (loses : Bool)
     → category_of x ≡ Infinity → value ≡ finite (is_negative x) (largest g) → status ≡ 16 → loses ≡ true
@@ -31,8 +37,7 @@ pub infinity_largest : (nans : FiniteNan) (f g : Format) (mode : Round) (x value
 infinity_largest nans f g mode (infinite b) value status loses e v w l =
     record { value_is = v; status_is = w; loses_is = l }
 infinity_largest nans f g mode (nan b s) value status loses e v w l = cc
-infinity_largest nans f g mode (finite b zero) value status loses e v w l = cc
-infinity_largest nans f g mode (finite b (suc n)) value status loses e v w l = cc
+infinity_largest nans f g mode (finite b n) value status loses e v w l = absurd (not_infinite (eqb n 0) e)
 
 pub zero_saturated : (nans : FiniteNan) (f g : Format) (mode : Round) (x rounded value : Datum) (status : ℕ)
     (loses : Bool) → category_of x ≡ Zero → IsConversion f g mode x rounded status loses

@@ -55,9 +55,9 @@ conversion_by_once (Finite nans) f g mode x v w r s a b h k = finite_once nans f
 -- outcomes with the same flags are equal if both are NaNs or neither is
 same_outcome : (one other : Outcome) → bits_of one.status ≡ bits_of other.status → one.is_nan ≡ other.is_nan
     → one ≡ other
-same_outcome a b status nan =
+same_outcome a b status test =
     ap (λ (n : ℕ). record { status = record { 0 = n }; is_nan = a.is_nan }) status
-    ∙ ap (λ (n : Bool). record { status = b.status; is_nan = n }) nan
+    ∙ ap (λ (n : Bool). record { status = b.status; is_nan = n }) test
 
 -- the parts of a converted value, with any treatment of overflow
 record AreParts (overflow : Overflow) (c d : Constants) (mode : Round) (input output : List ℕ) (outcome : Outcome)

@@ -190,7 +190,11 @@ number_alike Saturated f h g mode negative n m value status loses p q alike x =
       value_is = x.value_is;
     }
 number_alike (Finite nans) f h g mode negative n m value status loses p q alike x =
-    number_alike Saturated f h g mode negative n m value status loses p q alike x
+    record {
+      rounded = x.rounded;
+      is_conversion = rounded_alike f h g mode negative n m x.rounded status loses p q alike x.is_conversion;
+      value_is = x.value_is;
+    }
 
 -- zeros and infinities of both formats are converted alike
 zero_alike : (overflow : Overflow) (f h g : Format) (mode : Round) (negative : Bool) (value : Datum) (status : ℕ)
@@ -200,7 +204,7 @@ zero_alike Rounded f h g mode negative value status loses x = x
 zero_alike Saturated f h g mode negative value status loses x =
     record { rounded = x.rounded; is_conversion = x.is_conversion; value_is = x.value_is }
 zero_alike (Finite nans) f h g mode negative value status loses x =
-    zero_alike Saturated f h g mode negative value status loses x
+    record { rounded = x.rounded; is_conversion = x.is_conversion; value_is = x.value_is }
 
 infinite_alike : (overflow : Overflow) (f h g : Format) (mode : Round) (negative : Bool) (value : Datum) (status : ℕ)
     (loses : Bool) → IsConversionBy overflow h g mode (infinite negative) value status loses
