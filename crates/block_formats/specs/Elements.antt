@@ -1,5 +1,5 @@
 -- Elements of blocks: what their codes mean, and how a quotient becomes one.
-use Rattle.std.specs.Prelude.{◌≡◌, ℕ, ◌*◌, ◌^◌, Bool, pos}
+use Rattle.std.specs.Prelude.{◌≡◌, ℕ, ◌*◌, ◌^◌, Bool, pos, neg_ℤ}
 use Rattle.apfloat_model.specs.declared.kinds.Round.{Round}
 use Rattle.apfloat_model.specs.bits.Layout.{datum_of as bits_datum}
 use Rattle.apfloat_model.specs.formats.Datum.{Datum}

@@ -3,6 +3,8 @@
 ghost use Rattle.std.specs.Prelude.{◌≡◌, ◌≢◌, ℕ, ◌+◌, ◌*◌, ◌^◌, ◌<◌, ◌≤◌, min, false, pos, ◌+ℤ◌, ◌-ℤ◌};
 ghost use Rattle.apfloat_model.specs.arithmetic.Exact.{up};
 ghost use Rattle.apfloat_model.specs.formats.Datum.{finite};
+ghost use Rattle.apfloat_model.specs.formats.Formats.{bfloat_constants};
+ghost use Rattle.apfloat_model.specs.formats.Lawful.{format_with};
 ghost use Rattle.apfloat_model.specs.formats.Members.{IsMember};
 ghost use Rattle.apfloat_model.specs.order.Classes.{quanta_of};
 ghost use Rattle.apfloat_model.specs.rounding.Bounds.{IsWithin};
@@ -54,7 +56,7 @@ pub(crate) fn scale_for<S: Semantics>(element: ElementFormat, greatest: IeeeFloa
 /// The scale with that code as a number; `BFloat` has each of them.
 pub(crate) fn power_of(code: u8) -> IeeeFloat<BFloatS>
     requires { code ≤ largest_code }
-    ensures positive { IsPositive (format_of BFloatS.Semantics) result }
+    ensures positive { IsPositive (format_with bfloat_constants) result }
     ensures value { quanta_of result ≡ 2 ^ (code + 6) }
 {
     let mut loses_info = false;

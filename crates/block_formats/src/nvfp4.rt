@@ -8,6 +8,8 @@ ghost use Rattle.apfloat_model.specs.formats.Format.{largest};
 ghost use Rattle.apfloat_model.specs.formats.Members.{IsMember};
 ghost use Rattle.apfloat_model.specs.order.Classes.{is_finite, quanta_of};
 ghost use Rattle.apfloat_model.specs.rounding.Flags.{bits_of};
+ghost use Rattle.apfloat_model.specs.formats.Formats.{double_constants, e4m3fn_constants, single_constants};
+ghost use Rattle.apfloat_model.specs.formats.Lawful.{format_with};
 ghost use Rattle.apfloat_ieee.specs.FlaggedTypes.{format_of as flagged_format_of};
 ghost use Rattle.apfloat_ieee.specs.Types.{format_of};
 ghost use Rattle.apfloat_decimals.specs.ShortestSearch.{IsPositive};
@@ -63,7 +65,7 @@ fn positive_scale(quotient: Single) -> Single
         → result ≡ finite false (if eqb (quanta_of quotient) 0 then 2 ^ 149
         else quanta_of quotient) }
     ensures past { quotient ≡ infinite false
-        → result ≡ finite false (largest (format_of SingleS.Semantics)) }
+        → result ≡ finite false (largest (format_with single_constants)) }
 {
     if quotient.is_zero() {
         one()
@@ -81,7 +83,7 @@ fn positive_scale(quotient: Single) -> Single
 pub fn tensor_scale<S: Semantics>(greatest: IeeeFloat<S>) -> Single
     requires sign { greatest ≡ finite false (quanta_of greatest) }
     ensures value { IsTensorScale (format_of S.Semantics) (quanta_of greatest) (quanta_of result) }
-    ensures positive { IsPositive (format_of SingleS.Semantics) result }
+    ensures positive { IsPositive (format_with single_constants) result }
 {
     let quotient: StatusAnd<Single> = divide(greatest, most(), Round::NearestTiesToEven);
     positive_scale(quotient.value)
@@ -89,9 +91,9 @@ pub fn tensor_scale<S: Semantics>(greatest: IeeeFloat<S>) -> Single
 
 /// The product of a scale and the tensor's, which `Double` has.
 fn joint_scale(scale: Float8E4M3FN, tensor: Single) -> Double
-    requires scale { IsPositive (format_of Float8E4M3FNS.Semantics) scale }
-    requires tensor { IsPositive (format_of SingleS.Semantics) tensor }
-    ensures positive { IsPositive (format_of DoubleS.Semantics) result }
+    requires scale { IsPositive (format_with e4m3fn_constants) scale }
+    requires tensor { IsPositive (format_with single_constants) tensor }
+    ensures positive { IsPositive (format_with double_constants) result }
     ensures value { quanta_of result * 2 ^ (9 + 149)
         ≡ quanta_of scale * quanta_of tensor * 2 ^ 1074 }
 {
@@ -101,8 +103,8 @@ fn joint_scale(scale: Float8E4M3FN, tensor: Single) -> Double
 
 /// Six times the scale of a tensor, which `Double` has.
 fn six_times(tensor: Single) -> Double
-    requires { IsPositive (format_of SingleS.Semantics) tensor }
-    ensures positive { IsPositive (format_of DoubleS.Semantics) result }
+    requires { IsPositive (format_with single_constants) tensor }
+    ensures positive { IsPositive (format_with double_constants) result }
     ensures value { quanta_of result * 2 ^ 149 ≡ 6 * quanta_of tensor * 2 ^ 1074 }
 {
     let product: StatusAnd<Double> = multiply(six(), tensor, Round::NearestTiesToEven);
@@ -123,7 +125,7 @@ fn some_code(is_zero: bool, code: u8) -> u8
 /// The code of the scale of a block with that greatest magnitude.
 fn scale_for<S: Semantics>(greatest: IeeeFloat<S>, tensor: Single, round: Round) -> u8
     requires sign { greatest ≡ finite false (quanta_of greatest) }
-    requires tensor { IsPositive (format_of SingleS.Semantics) tensor }
+    requires tensor { IsPositive (format_with single_constants) tensor }
     ensures value { IsNvScale (format_of S.Semantics) round (quanta_of tensor) (quanta_of greatest)
         result }
     ensures number { result < 127 }
@@ -205,7 +207,7 @@ pub fn quantize_nvfp4_block<S: Semantics>(
 /// Whether a single is a positive number.
 fn is_positive(x: Single) -> bool
     ensures test { result ≡ is_positive x }
-    ensures positive { result ≡ true → IsPositive (format_of SingleS.Semantics) x }
+    ensures positive { result ≡ true → IsPositive (format_with single_constants) x }
 {
     x.is_finite_non_zero() && !x.is_negative()
 }
@@ -213,7 +215,7 @@ fn is_positive(x: Single) -> bool
 /// An element times both scales, rounded once.
 fn scaled<G: Flagged>(tensor: Single, scale: u8, code: u8, round: Round) -> StatusAnd<IeeeFloat<G>>
     requires code { code < 16 }
-    requires tensor { IsPositive (format_of SingleS.Semantics) tensor }
+    requires tensor { IsPositive (format_with single_constants) tensor }
     ensures { IsNvScaled (flagged_format_of G.Flagged) round (quanta_of tensor) (scale_datum scale)
         (element_datum E2M1FN code) result.value (bits_of result.status) }
 {
