@@ -1,0 +1,11 @@
+mod SameFractions
+mod Quotients
+mod Products
+mod Places
+mod Greatest
+mod ScaleCodes
+mod Tops
+mod Halves
+mod Powers
+mod Fractions
+mod Counted

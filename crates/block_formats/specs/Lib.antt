@@ -1,0 +1,5 @@
+pub mod Elements
+pub mod Magnitudes
+pub mod Places
+pub mod MxScales
+pub mod MxBlocks
