@@ -1,7 +1,7 @@
 -- The greatest magnitude of a block.
 use Rattle.std.proofs.Common.{if◌then◌else◌}
 use Rattle.std.proofs.Common.{◌≡◌, ℕ, zero, suc, ◌+◌, ◌*◌, ◌<◌, ◌≤◌, max, true, eqb, refl, sym, ap, ◌∙◌}
-use Rattle.std.proofs.Common.{⊎_elim, arith, Bool, ◌&&◌, false, ltb, pos, List, [], ◌∷◌, ◌++◌, length, take, Some}
+use Rattle.std.proofs.Common.{⊎_elim, arith, subst, Bool, ◌&&◌, false, ltb, pos, List, [], ◌∷◌, ◌++◌, length, take, Some}
 use Rattle.std.specs.Prelude.{slice_get}
 use Rattle.std.proofs.Math.Nat.{mul-le-mul_right}
 use Rattle.std.proofs.lemmas.Bool.{and_from, and_parts, cases_lt, ne_eqb, lt-ltb, le-ltb}
@@ -22,6 +22,8 @@ use Rattle.apfloat_model.specs.order.Order.{is_below}
 use Rattle.apfloat_model.specs.rounding.Negation.{negated}
 use Rattle.apfloat_model.specs.rounding.Rounding.{zero_sign}
 use Rattle.apfloat_model.proofs.general.Choices.{not_zero}
+use Rattle.apfloat_model.specs.formats.Members.{IsFiniteOf}
+use Rattle.apfloat_decimals.specs.ShortestSearch.{IsPositive}
 use Rattle.block_formats.specs.Magnitudes.{are_finite, greatest_magnitude}
 use Rattle.block_formats.proofs.Places.{some_same}
 
@@ -159,3 +161,17 @@ zero_member f some =
       within = omega arith;
       zero_has = λ z. no_sign f.nonfinite;
     }
+
+-- a value that is neither below zero nor a zero
+some_of : (n : ℕ) → eqb n 0 ≡ false → 0 < n
+some_of zero e = cc
+some_of (suc n) e = omega arith
+
+pub positive_of : (f : Format) (x : Datum) → x ≡ finite false (quanta_of x) → eqb (quanta_of x) 0 ≡ false
+    → IsMember f x → IsPositive f x
+positive_of f x e off m =
+    record { is = e; some = some_of (quanta_of x) off; member = subst (λ (d : Datum). IsMember f d) e m }
+
+-- what is not below zero has its quanta
+pub own_quanta : (x : Datum) (n : ℕ) → x ≡ finite false n → x ≡ finite false (quanta_of x)
+own_quanta x n e = e ∙ ap (λ (k : ℕ). finite false k) (sym (ap quanta_of e))

@@ -1,11 +1,12 @@
-use Rattle.std.proofs.Common.{◌+◌, ap, sym, subst, ◌∙◌, false, ℕ, max, take, length, refl, arith}
+use Rattle.std.proofs.Common.{◌+◌, List, ap, sym, subst, ◌∙◌, false, ℕ, max, take, length, refl, arith}
+use Rattle.std.proofs.lemmas.List.{take_all}
 use Rattle.std.proofs.lemmas.Option.{slice_get_read}
 use Rattle.apfloat_model.specs.formats.Datum.{Datum, finite}
 use Rattle.apfloat_model.specs.formats.Members.{IsMember}
 use Rattle.apfloat_model.specs.order.Classes.{quanta_of}
 use Rattle.apfloat_ieee.specs.Types.{format_of}
 use Rattle.block_formats.specs.Magnitudes.{greatest_magnitude}
-use Rattle.block_formats.proofs.Greatest.{finite_at, greatest_more, take_more, zero_member}
+use Rattle.block_formats.proofs.Greatest.{finite_at, greatest_more, own_quanta, take_more, zero_member}
 use Rattle.block_formats.proofs.magnitudes.greatest_of.Goals as goal
 
 pub loop-index-init : goal.loop-index-init
@@ -15,6 +16,11 @@ loop-index-init g c =
       subst (λ (d : Datum). IsMember (format_of g.S.Semantics) d) (sym c.zero-greatest.ensures)
           (zero_member (format_of g.S.Semantics) (omega (arith, low))),
     )
+
+pub greater-greatest-requires-clause-greatest : goal.greater-greatest-requires-clause-greatest
+greater-greatest-requires-clause-greatest g c =
+    own_quanta c.loop-index.greatest (greatest_magnitude (take c.loop-index.index c.args.values.now))
+    c.loop-index.invariant.0
 
 pub greater-greatest-requires-clause-finite : goal.greater-greatest-requires-clause-finite
 greater-greatest-requires-clause-finite g c =
@@ -36,3 +42,9 @@ loop-index-preserved g c =
           ∙ ap (λ (n : ℕ). finite false n) (ap (λ (n : ℕ). max (quanta_of x) n) before ∙ sym more),
       c.greater-greatest.ensures.member,
     )
+
+pub returns-clause-value : goal.returns-clause-value
+returns-clause-value g c =
+    c.loop-index.invariant.0
+    ∙ ap (λ (xs : List Datum). finite false (greatest_magnitude xs))
+    (take_all c.loop-index.index c.args.values.now (omega (arith, c.loop-index-test.false)))

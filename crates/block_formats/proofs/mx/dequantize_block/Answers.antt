@@ -1,4 +1,4 @@
-use Rattle.std.proofs.Common.{◌≡◌, ℕ, ◌∙◌, length, subst, arith}
+use Rattle.std.proofs.Common.{◌≡◌, ℕ, ◌∙◌, get_or, length, refl, subst, arith}
 use Rattle.std.proofs.lemmas.Option.{slice_get-get_or}
 use Rattle.apfloat_model.specs.formats.Datum.{Datum}
 use Rattle.apfloat_model.specs.rounding.Flags.{bits_of}
@@ -7,7 +7,11 @@ use Rattle.block_formats.specs.MxBlocks.{IsScaled}
 use Rattle.block_formats.proofs.Places.{AreWritten, all_written, length_set, none_written, one_written, room_for}
 use Rattle.block_formats.proofs.mx.dequantize_block.Goals as goal
 
--- the names of the goals are guessed
+-- a code with more bits
+pub returns-then-not-are_narrow : goal.returns-then-not-are_narrow
+returns-then-not-are_narrow g c =
+    (rw c.bits.ensures.value at (c.are_narrow.ensures.no c.if-not-are_narrow.true), refl)
+
 pub scaled-answer-requires : goal.scaled-answer-requires
 scaled-answer-requires g c =
     (rw c.bits.ensures.value at (c.are_narrow.ensures.yes c.if-not-are_narrow.false)) c.loop-index.index 0
@@ -24,7 +28,9 @@ loop-index-preserved g c =
     let size = c.loop-index.invariant.0 in
     let here = slice_get-get_or c.args.codes.now c.loop-index.index 0 (omega (arith, c.loop-index-test.true)) in (
       length_set c.loop-index.values c.loop-index.index c.scaled-answer.result.value ∙ size,
-      one_written _ c.loop-index.index c.args.codes.now c.loop-index.values c.loop-index.counts c.with-counts.result _
+      one_written (λ (code : ℕ) (value : Datum) (status : ℕ). IsScaled c.args.element (format_of g.G.Flagged)
+          c.args.round c.args.scale code value status) c.loop-index.index c.args.codes.now c.loop-index.values
+          c.loop-index.counts c.with-counts.result (get_or c.args.codes.now c.loop-index.index 0)
           c.scaled-answer.result.value (bits_of c.scaled-answer.result.status)
           (omega (arith, size, c.loop-index-test.true)) here c.scaled-answer.ensures c.with-counts.ensures
           c.loop-index.invariant.1,
@@ -34,7 +40,8 @@ pub returns : goal.returns
 returns g c =
     let last : c.loop-index.index ≡ length c.args.codes.now =
     omega (arith, c.loop-index-test.false, c.loop-index.auto.index-end) in
-    all_written _ c.args.codes.now c.loop-index.values c.loop-index.counts c.loop-index.invariant.0
+    all_written (λ (code : ℕ) (value : Datum) (status : ℕ). IsScaled c.args.element (format_of g.G.Flagged)
+    c.args.round c.args.scale code value status) c.args.codes.now c.loop-index.values c.loop-index.counts c.loop-index.invariant.0
     (subst (λ (n : ℕ). AreWritten (λ (code : ℕ) (value : Datum) (status : ℕ). IsScaled c.args.element
     (format_of g.G.Flagged) c.args.round c.args.scale code value status) n c.args.codes.now c.loop-index.values
     c.loop-index.counts) last c.loop-index.invariant.1)

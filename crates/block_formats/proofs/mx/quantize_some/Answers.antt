@@ -3,8 +3,10 @@ use Rattle.std.proofs.lemmas.Nat.{pow_pos}
 use Rattle.apfloat_model.specs.order.Classes.{quanta_of}
 use Rattle.apfloat_model.proofs.general.Choices.{match_false, match_true}
 use Rattle.apfloat_ieee.specs.Types.{format_of}
+use Rattle.block_formats.specs.Magnitudes.{greatest_magnitude}
 use Rattle.block_formats.specs.MxScales.{IsBlockScale}
 use Rattle.block_formats.proofs.Counted.{none_counted}
+use Rattle.block_formats.proofs.Greatest.{own_quanta}
 use Rattle.block_formats.proofs.Powers.{scale_quanta}
 use Rattle.block_formats.proofs.mx.quantize_some.Goals as goal
 
@@ -18,6 +20,10 @@ returns-then-not-are_finite g c =
       counted = none_counted (length c.args.values.now);
       finite_is = refl;
     })
+
+pub scale_for-scale-requires-clause-sign : goal.scale_for-scale-requires-clause-sign
+scale_for-scale-requires-clause-sign g c =
+    own_quanta c.greatest_of.result (greatest_magnitude c.args.values.now) c.greatest_of.ensures.value
 
 -- a block of numbers: the scale by `scale_for`, the elements by `write_quotients` for 2 ^ scale / 2 ^ 127
 pub returns : goal.returns

@@ -1,10 +1,21 @@
-use Rattle.std.proofs.Common.{arith, sym, w32, ◌∙◌, pos, ◌-ℤ◌}
+use Rattle.std.proofs.Common.{arith, refl, sym, w32, ◌∙◌, pos, ◌-ℤ◌}
 use Rattle.std.proofs.lemmas.Int.{ints, to_z-of_z}
-use Rattle.apfloat_model.proofs.general.Choices.{match_false}
+use Rattle.apfloat_model.proofs.general.Choices.{match_false, match_true}
 use Rattle.hex_digits.proofs.Roundings.{exponent_fits}
+use Rattle.apfloat_ieee.specs.Types.{format_of}
 use Rattle.block_formats.specs.Elements.{max_exp}
-use Rattle.block_formats.proofs.Greatest.{zero_test}
+use Rattle.block_formats.proofs.Greatest.{positive_of, zero_test}
 use Rattle.block_formats.proofs.mx_scales.scale_for.Goals as goal
+
+pub returns-then-is_zero-clause-value : goal.returns-then-is_zero-clause-value
+returns-then-is_zero-clause-value g c =
+    match_true _ _ _
+    (sym (zero_test c.args.greatest c.requires.sign) ∙ sym c.is_zero.ensures ∙ c.if-is_zero.true) refl
+
+pub digits_of-requires : goal.digits_of-requires
+digits_of-requires g c =
+    positive_of (format_of g.S.Semantics) c.args.greatest c.requires.sign
+    (sym (zero_test c.args.greatest c.requires.sign) ∙ sym c.is_zero.ensures ∙ c.if-is_zero.false) c.requires.member
 
 pub clamped_code-requires : goal.clamped_code-requires
 clamped_code-requires g c =
