@@ -1,4 +1,3 @@
--- not checked yet
 use Rattle.std.proofs.Common.{ℕ, false, max, ap, ◌∙◌, sym, subst}
 use Rattle.apfloat_model.specs.formats.Datum.{Datum, finite}
 use Rattle.apfloat_model.specs.formats.Members.{IsMember}
