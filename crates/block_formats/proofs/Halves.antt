@@ -1,5 +1,5 @@
 -- Numbers of a storage format in half.
-use Rattle.std.proofs.Common.{◌≡◌, ℕ, ◌+◌, ◌-◌, ◌*◌, ◌^◌, ◌≤◌, refl, sym, ap, ◌∙◌, arith}
+use Rattle.std.proofs.Common.{◌≡◌, ℕ, ◌+◌, ◌-◌, ◌*◌, ◌^◌, ◌<◌, ◌≤◌, refl, sym, ap, ◌∙◌, arith}
 use Rattle.std.proofs.Math.Nat.{mul-le-mul_right}
 use Rattle.std.proofs.lemmas.Nat.{pow-add, mod_below, pow_pos}
 use Rattle.apfloat_model.specs.formats.Formats.{half_constants}
@@ -26,7 +26,7 @@ pub half_member : (c : Constants) (code : ℕ) → IsLawful c → c.precision �
 half_member c code law precise quantum room =
     let f = format_with c in
     let low = law.precision_low in
-    let some = omega (arith, low) in
+    let some : 0 < c.precision = omega (arith, low) in
     let m : ℕ = point c.precision (magnitude_of c code) in
     let k : ℕ = 24 - f.scale in
     let below = mod_below code (2 ^ (c.bits - 1)) (pow_pos (c.bits - 1)) in

@@ -24,7 +24,7 @@ returns-in-E5M2 g c =
     let status = bits_of c.multiply.result.status in
     let product =
     subst (λ (x : Datum). IsProductTo (format_of_element E5M2) r t c.args.round x y value status)
-    (c.from_bits-x.ensures ∙ ap (element_datum E5M2) c.from.ensures) c.multiply.ensures in
+    (c.from_bits-x.ensures.read ∙ ap (element_datum E5M2) c.from.ensures) c.multiply.ensures in
     product_case E5M2 c.args.element t c.args.round c.args.code (quanta_of y) r.scale value status c.in-E5M2.is
     (λ amount places same.
     product_in (format_of_element E5M2) r t c.args.round (element_datum E5M2 c.args.code) y value status amount places
@@ -40,7 +40,7 @@ returns-in-E4M3FN g c =
     let status = bits_of c.multiply-in-E4M3FN.result.status in
     let product =
     subst (λ (x : Datum). IsProductTo (format_of_element E4M3FN) r t c.args.round x y value status)
-    (c.from_bits-x-in-E4M3FN.ensures ∙ ap (element_datum E4M3FN) c.from-in-E4M3FN.ensures) c.multiply-in-E4M3FN.ensures in
+    (c.from_bits-x-in-E4M3FN.ensures.read ∙ ap (element_datum E4M3FN) c.from-in-E4M3FN.ensures) c.multiply-in-E4M3FN.ensures in
     product_case E4M3FN c.args.element t c.args.round c.args.code (quanta_of y) r.scale value status c.in-E4M3FN.is
     (λ amount places same.
     product_in (format_of_element E4M3FN) r t c.args.round (element_datum E4M3FN c.args.code) y value status amount places

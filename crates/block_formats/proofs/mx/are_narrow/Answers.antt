@@ -32,4 +32,4 @@ returns-then-from-bits-clause-no c = λ e.
     let whole = one_shl bits 32 (omega (arith, c.requires)) in
     let high = c.if-from-bits.true in
     let at = c.from.ensures in
-    (index, (x, (within, (get_or_default codes index x 0 within, omega (arith, whole, high, at)))))
+    (index, x, within, get_or_default codes index x 0 within, omega (arith, whole, high, at))
