@@ -1,0 +1,24 @@
+//! Formats that have only numbers, with all operations.
+//!
+//! `FiniteFloat<F>` is a value of the format `F`, as the 6-bit elements `e3m2fn` of the Open Compute Project's
+//! microscaling formats (`named`). It has each operation of `IeeeFloat`. The result is computed in a format with the
+//! same numbers that also has infinities and NaNs, and is settled once: an infinity is the largest number of its sign,
+//! a NaN is +0, and the flags stay (`Settled` of the contracts).
+#![tactic(auto)]
+
+mod convert;
+mod finite_float;
+mod format;
+mod impls;
+mod more;
+mod named;
+mod operators;
+mod order;
+#[cfg(test)]
+mod rows;
+#[cfg(test)]
+mod tests;
+
+pub use finite_float::FiniteFloat;
+pub use format::FiniteFormat;
+pub use named::{Float6E3M2FN, Float6E3M2FNS};
