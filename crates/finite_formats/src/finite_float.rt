@@ -60,8 +60,12 @@ impl<F: FiniteFormat> FiniteFloat<F> {
     fn largest_of_sign(negative: bool) -> Self
         ensures { result ≡ finite negative (largest (format_of F.Semantics)) }
     {
-        let largest: IeeeFloat<F> = IeeeFloat::largest();
-        Self::of_number(if negative { -largest } else { largest })
+        let most: IeeeFloat<F> = IeeeFloat::largest();
+        if negative {
+            Self::of_number(-most)
+        } else {
+            Self::of_number(most)
+        }
     }
 
     /// What stands for a value: for an infinity the largest number of its sign, for a NaN +0.

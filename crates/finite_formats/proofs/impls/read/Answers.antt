@@ -1,5 +1,5 @@
 use Rattle.std.proofs.Common.{ap, refl, ◌∙◌}
-use Rattle.std.specs.Prelude.{Ok}
+use Rattle.std.specs.Prelude.{Ok, Err}
 use Rattle.apfloat_ieee.specs.Types.{format_of}
 use Rattle.finite_theory.proofs.Settling.{same_answer_settled}
 use Rattle.finite_formats.proofs.impls.read.Goals as goal
@@ -15,7 +15,7 @@ returns-in-Ok g c =
 
 pub returns-in-Err : goal.returns-in-Err
 returns-in-Err g c = record {
-  given = _;
+  given = Err c.in-Err.error;
   is_given = rw c.in-Err.is at c.from_ascii_r.ensures;
   is = refl;
 }

@@ -1,17 +1,10 @@
-use Rattle.std.proofs.Common.{ap, sym, ◌∙◌}
-use Rattle.apfloat_model.specs.order.Classes.{is_finite}
+use Rattle.std.proofs.Common.{sym, ◌∙◌}
 use Rattle.apfloat_ieee.specs.Types.{format_of}
 use Rattle.finite_theory.proofs.Settling.{finite_kept, infinite_kept, nan_kept, normal_finite, zero_finite}
 use Rattle.finite_formats.proofs.finite_float.FiniteFloat.settled.Goals as goal
 
 pub of_number-requires : goal.of_number-requires
 of_number-requires g c = normal_finite c.args.value (sym c.category.ensures.category ∙ c.in-Normal.is)
-
-pub of_number-2-requires : goal.of_number-2-requires
-of_number-2-requires g c = zero_finite c.args.value (sym c.category.ensures.category ∙ c.in-Zero.is)
-
-pub of_number-3-requires : goal.of_number-3-requires
-of_number-3-requires g c = ap is_finite c.zero.ensures
 
 pub returns-in-Normal : goal.returns-in-Normal
 returns-in-Normal g c =

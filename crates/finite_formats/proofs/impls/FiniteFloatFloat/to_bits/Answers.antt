@@ -8,13 +8,13 @@ pub encoded-requires : goal.encoded-requires
 encoded-requires g c = c.number.ensures.finite
 
 pub returns-clause-written : goal.returns-clause-written
-returns-clause-written g c = rw c.number.ensures.value at c.encoded.ensures
+returns-clause-written g c = rw c.from.ensures (rw c.number.ensures.value at c.encoded.ensures)
 
 pub returns-clause-below : goal.returns-clause-below
-returns-clause-below g c = c.encoded.ensures.below
+returns-clause-below g c = rw c.from.ensures c.encoded.ensures.below
 
 pub returns-clause-back : goal.returns-clause-back
 returns-clause-back g c =
-    ap (λ (code : ℕ). datum_of (codes_of g.F.StorageFormat) code)
-    (mod-eq_of_lt c.encoded.ensures.below)
-    ∙ c.encoded.ensures.is ∙ c.number.ensures.value
+    rw c.from.ensures
+    (ap (λ (code : ℕ). datum_of (codes_of g.F.StorageFormat) code) (mod-eq_of_lt c.encoded.ensures.below)
+    ∙ c.encoded.ensures.is ∙ c.number.ensures.value)
