@@ -48,14 +48,17 @@ fn extended(checksum: u64, answer: StatusAnd<Float6E3M2FN>) -> u64 {
     checksum.wrapping_mul(FACTOR).wrapping_add(word)
 }
 
+/// The value that the lowest bits encode.
+fn of_code(code: u32) -> Float6E3M2FN {
+    Float6E3M2FN::from_bits(u128::from(code))
+}
+
 /// All pairs of values.
 fn checksum(operation: OfTwo, mode: Round) -> u64 {
     let mut sum = 0;
-    for a in 0..64 {
-        for b in 0..64 {
-            let x = Float6E3M2FN::from_bits(a);
-            let y = Float6E3M2FN::from_bits(b);
-            sum = extended(sum, operation.answer(x, y, mode));
+    for a in 0..64_u32 {
+        for b in 0..64_u32 {
+            sum = extended(sum, operation.answer(of_code(a), of_code(b), mode));
         }
     }
     sum
@@ -80,13 +83,12 @@ fn operations_on_all_pairs(rt: HostRuntime) {
 fn fused_sums(rt: HostRuntime) {
     for i in 0..5 {
         let mut sum = 0;
-        for count in 0..10_u128 {
-            for times in 0..22_u128 {
-                for c in 0..64 {
-                    let x = Float6E3M2FN::from_bits(7 * count);
-                    let y = Float6E3M2FN::from_bits(3 * times);
-                    let z = Float6E3M2FN::from_bits(c);
-                    sum = extended(sum, x.mul_add_r(y, z, MODES[i]));
+        for count in 0..10_u32 {
+            for times in 0..22_u32 {
+                for c in 0..64_u32 {
+                    let x = of_code(7 * count);
+                    let y = of_code(3 * times);
+                    sum = extended(sum, x.mul_add_r(y, of_code(c), MODES[i]));
                 }
             }
         }
@@ -99,8 +101,8 @@ fn operations_on_all_values(rt: HostRuntime) {
     for i in 0..5 {
         let mut roots = 0;
         let mut nexts = 0;
-        for a in 0..64 {
-            let x = Float6E3M2FN::from_bits(a);
+        for a in 0..64_u32 {
+            let x = of_code(a);
             roots = extended(roots, x.sqrt_r(MODES[i]));
             nexts = extended(nexts, x.next_up());
         }
@@ -141,8 +143,9 @@ fn conversions_from_other_formats(rt: HostRuntime) {
 fn integers(rt: HostRuntime) {
     for i in 0..5 {
         let mut sum = 0;
-        for number in -70..71 {
-            sum = extended(sum, Float6E3M2FN::from_i128_r(number, MODES[i]));
+        for number in -70..71_i32 {
+            let answer = Float6E3M2FN::from_i128_r(i128::from(number), MODES[i]);
+            sum = extended(sum, answer);
         }
         assert_eq!(rt; sum, FROM_INTEGERS[i]);
     }
