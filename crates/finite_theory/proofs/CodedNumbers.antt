@@ -10,7 +10,6 @@ use Rattle.apfloat_model.specs.formats.Datum.{Datum, finite, infinite, nan}
 use Rattle.apfloat_model.specs.formats.Format.{Format, largest}
 use Rattle.apfloat_model.specs.formats.Members.{IsFiniteOf, IsMember}
 use Rattle.apfloat_model.specs.order.Classes.{is_finite}
-use Rattle.apfloat_model.specs.rounding.Rounding.{IsPick}
 use Rattle.apfloat_model.proofs.rounding.Laws.{exact_is_picked}
 use Rattle.apfloat_model.proofs.rounding.Picks.{pick_unique}
 use Rattle.storage_formats.specs.Codes.{datum_of, is_negative_code, largest_index, magnitude_of, point}

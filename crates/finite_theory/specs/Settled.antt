@@ -1,6 +1,6 @@
 -- Operations where there are only numbers. Each result is that of the format with the same numbers and with infinities
 -- and NaNs, and has its flags; but what is no number is settled.
-use Rattle.std.specs.Prelude.{◌≡◌, ℕ, ℤ, Bool, true, false, List, Result, Ok, Err, not}
+use Rattle.std.specs.Prelude.{◌≡◌, ℕ, Bool, true, false, List, Result, Ok, Err}
 use Rattle.apfloat_model.specs.declared.kinds.Round.{Round}
 use Rattle.apfloat_model.specs.declared.parse_error.ParseError.{ParseError}
 use Rattle.apfloat_model.specs.declared.status.StatusAnd.{StatusAnd}
@@ -10,7 +10,6 @@ use Rattle.apfloat_model.specs.formats.Nan.{invalid_bit}
 use Rattle.apfloat_model.specs.rounding.Negation.{negated}
 use Rattle.apfloat_model.specs.arithmetic.Conversions.{IsConversion, IsConverted}
 use Rattle.apfloat_model.specs.arithmetic.NextUp.{IsNextUp}
-use Rattle.apfloat_model.specs.arithmetic.Scaling.{IsScaling}
 use Rattle.apfloat_model.specs.texts.Parsing.{IsRead}
 
 -- what stands for a datum: for an infinity the largest number of its sign, for a NaN +0
