@@ -69,9 +69,8 @@ def library():
     cargo = shutil.which('cargo')
     if cargo is None:
         sys.exit(f'apfloat: there is no cargo, which builds the library: install Rust, {instead}')
-    command = [cargo, 'build', '--release', '--offline', '--message-format', 'json-render-diagnostics',
-               '--manifest-path', CRATE]
-    built = subprocess.run(command, stdout=subprocess.PIPE, check=False)
+    command = [cargo, 'build', '--release', '--offline', '--message-format', 'json-render-diagnostics']
+    built = subprocess.run(command, cwd=CRATE.parent, stdout=subprocess.PIPE, check=False)
     if built.returncode:
         sys.exit(f'apfloat: cargo failed: see its message above, {instead}')
     messages = [json.loads(line) for line in built.stdout.splitlines()]

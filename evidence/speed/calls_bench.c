@@ -5,8 +5,9 @@
 
    Each LIBRARY is a shared library, made as arrays_bench.c says. In each round each library makes the same calls, one
    library after the other. A line says the operation, the format, what the operands are like, and for each library the
-   nanoseconds of a call, and of an element of an array, in its fastest round. Normal operands have exponents near 0; of
-   the others a quarter are denormal. All libraries have to give the same bits, flags and counts.
+   nanoseconds of a call, and of an element of an array, in its fastest round; arrays are not made integers. Normal
+   operands have exponents near 0; of the others a quarter are denormal. Those of a root, and those made unsigned
+   integers, are positive. All libraries have to give the same bits, flags and counts.
 
        cc -O2 -Iinclude evidence/speed/calls_bench.c -o calls_bench -ldl */
 #define _GNU_SOURCE
@@ -23,6 +24,7 @@ enum { LIBRARIES = 8 };
 typedef uint32_t of_two(uint32_t, uint32_t, apfloat_halves, apfloat_halves, apfloat_answer *);
 typedef uint32_t of_three(uint32_t, uint32_t, apfloat_halves, apfloat_halves, apfloat_halves, apfloat_answer *);
 typedef uint32_t of_one(uint32_t, uint32_t, apfloat_halves, apfloat_answer *);
+typedef uint32_t to_width(uint32_t, uint32_t, apfloat_halves, uint32_t, apfloat_answer *);
 typedef uint32_t of_arrays(uint32_t, uint32_t, uint32_t, const uint8_t *, size_t, const uint8_t *, size_t,
                            const uint8_t *, size_t, uint8_t *, size_t, apfloat_array_answer *);
 
@@ -30,6 +32,7 @@ struct library {
     of_two *add, *sub, *mul, *div;
     of_three *fma;
     of_one *sqrt;
+    to_width *to_u128, *to_i128;
     of_arrays *map;
 };
 
@@ -46,12 +49,16 @@ static const struct format FORMATS[] = {{"double", APFLOAT_DOUBLE, 8, 52, 11},
                                         {"half", APFLOAT_HALF, 2, 10, 5},
                                         {"e4m3fn", APFLOAT_E4M3FN, 1, 3, 4}};
 
+/* Not codes of the library: they stand beside its codes of operations. */
+enum { TO_U64 = 1000, TO_I64 };
+
 static const struct {
     const char *name;
     uint32_t code;
-    int operands;
-} OPERATIONS[] = {{"add", APFLOAT_ADD, 2}, {"sub", APFLOAT_SUB, 2}, {"mul", APFLOAT_MUL, 2},
-                  {"div", APFLOAT_DIV, 2}, {"fma", APFLOAT_FMA, 3}, {"sqrt", APFLOAT_SQRT, 1}};
+    int operands, in_arrays, signs;
+} OPERATIONS[] = {{"add", APFLOAT_ADD, 2, 1, 1}, {"sub", APFLOAT_SUB, 2, 1, 1}, {"mul", APFLOAT_MUL, 2, 1, 1},
+                  {"div", APFLOAT_DIV, 2, 1, 1}, {"fma", APFLOAT_FMA, 3, 1, 1}, {"sqrt", APFLOAT_SQRT, 1, 1, 0},
+                  {"to_u64", TO_U64, 1, 0, 0},   {"to_i64", TO_I64, 1, 0, 1}};
 
 static struct library libraries[LIBRARIES];
 static int count, rounds;
@@ -110,6 +117,10 @@ static uint32_t call(const struct library *by, uint32_t operation, uint32_t form
         CALLS(by->div(format, mode, x[i], y[i], &answers[i]));
     case APFLOAT_FMA:
         CALLS(by->fma(format, mode, x[i], y[i], z[i], &answers[i]));
+    case TO_U64:
+        CALLS(by->to_u128(format, mode, x[i], 64, &answers[i]));
+    case TO_I64:
+        CALLS(by->to_i128(format, mode, x[i], 64, &answers[i]));
     default:
         CALLS(by->sqrt(format, mode, x[i], &answers[i]));
     }
@@ -125,8 +136,8 @@ static void different(int k)
 static void measure(const struct format *format, size_t operation, const char *values)
 {
     double least[LIBRARIES], least_of_arrays[LIBRARIES];
-    apfloat_array_answer counts, first_counts;
-    int operands = OPERATIONS[operation].operands;
+    apfloat_array_answer counts = {0}, first_counts;
+    int operands = OPERATIONS[operation].operands, in_arrays = OPERATIONS[operation].in_arrays;
     size_t bytes = COUNT * format->bytes;
     for (int k = 0; k < count; k++)
         least[k] = least_of_arrays[k] = 1e18;
@@ -137,8 +148,10 @@ static void measure(const struct format *format, size_t operation, const char *v
             double time = now() - start;
             least[k] = time < least[k] ? time : least[k];
             start = now();
-            code |= libraries[k].map(format->code, APFLOAT_NEAREST_EVEN, OPERATIONS[operation].code, xs, bytes, ys,
-                                     operands > 1 ? bytes : 0, zs, operands > 2 ? bytes : 0, results, bytes, &counts);
+            if (in_arrays)
+                code |= libraries[k].map(format->code, APFLOAT_NEAREST_EVEN, OPERATIONS[operation].code, xs, bytes,
+                                         ys, operands > 1 ? bytes : 0, zs, operands > 2 ? bytes : 0, results, bytes,
+                                         &counts);
             time = now() - start;
             least_of_arrays[k] = time < least_of_arrays[k] ? time : least_of_arrays[k];
             if (code)
@@ -153,8 +166,11 @@ static void measure(const struct format *format, size_t operation, const char *v
                 different(k);
         }
     printf("%s\t%s\t%s", OPERATIONS[operation].name, format->name, values);
-    for (int k = 0; k < count; k++)
-        printf("\t%.2f %.2f", least[k] / COUNT, least_of_arrays[k] / COUNT);
+    for (int k = 0; k < count; k++) {
+        printf("\t%.2f", least[k] / COUNT);
+        if (in_arrays)
+            printf(" %.2f", least_of_arrays[k] / COUNT);
+    }
     puts("");
     fflush(stdout);
 }
@@ -170,17 +186,18 @@ int main(int words_count, char **words)
             fprintf(stderr, "%s\n", dlerror());
             return 1;
         }
-        static const char *const names[] = {"apfloat_add", "apfloat_sub",  "apfloat_mul",      "apfloat_div",
-                                            "apfloat_fma", "apfloat_sqrt", "apfloat_map_array"};
-        void *found[7];
-        for (int i = 0; i < 7; i++)
+        static const char *const names[] = {"apfloat_add",     "apfloat_sub",     "apfloat_mul",
+                                            "apfloat_div",     "apfloat_fma",     "apfloat_sqrt",
+                                            "apfloat_to_u128", "apfloat_to_i128", "apfloat_map_array"};
+        void *found[9];
+        for (int i = 0; i < 9; i++)
             found[i] = dlsym(library, names[i]);
         memcpy(&libraries[count], found, sizeof found);
     }
     for (size_t format = 0; format < sizeof FORMATS / sizeof *FORMATS; format++)
         for (int denormal = 0; denormal < 2; denormal++) {
             for (size_t operation = 0; operation < sizeof OPERATIONS / sizeof *OPERATIONS; operation++) {
-                draw_operands(&FORMATS[format], denormal, OPERATIONS[operation].code != APFLOAT_SQRT);
+                draw_operands(&FORMATS[format], denormal, OPERATIONS[operation].signs);
                 measure(&FORMATS[format], operation, denormal ? "denormal" : "normal");
             }
         }

@@ -1,11 +1,12 @@
 #!/usr/bin/env python3
 """Makes every table and figure of the speed comparisons from the measured times in this folder.
 
-    python3 evidence/speed/figures.py            writes figures.md, and the tables of docs/SPEED.md
+    python3 evidence/speed/figures.py            writes figures.md, and the tables of README.md here and docs/SPEED.md
     python3 evidence/speed/figures.py --check    says which file has other figures
 
-The times are nanoseconds, in rust_crate.tsv, fastest_of_others.tsv, machines.tsv and growth.tsv. Means are geometric.
-A file that quotes a figure quotes the phrase that has it, as `phrases` writes it; README.md and docs/SPEED.md have to.
+The times are nanoseconds, in uses.tsv, rust_crate.tsv, in_rust.tsv, fastest_of_others.tsv, machines.tsv and growth.tsv.
+Means are geometric. A file that quotes a figure quotes the phrase that has it, as `phrases` and `phrases_of_speed` write
+it: the README of the repository has to quote the former, and docs/SPEED.md both.
 """
 
 import argparse
@@ -17,6 +18,7 @@ from pathlib import Path
 HERE = Path(__file__).resolve().parent
 ROOT = HERE.parent.parent
 FIGURES = HERE / "figures.md"
+MEASURED = HERE / "README.md"
 SPEED = ROOT / "docs" / "SPEED.md"
 README = ROOT / "README.md"
 SETS = ("normal", "denormal")
@@ -26,17 +28,18 @@ END = "<!-- end -->"
 
 def main():
     """Writes the files, or compares them."""
-    parser = argparse.ArgumentParser(description="Makes the tables of docs/SPEED.md.")
+    parser = argparse.ArgumentParser(description="Makes the tables of figures.")
     parser.add_argument("--check", action="store_true", help="write nothing, and say what differs")
     arguments = parser.parse_args()
-    crate, others = rows_of("rust_crate.tsv"), rows_of("fastest_of_others.tsv")
+    crate, others, machines = rows_of("rust_crate.tsv"), rows_of("fastest_of_others.tsv"), rows_of("machines.tsv")
     wanted = {
         FIGURES: figures(crate, others, rows_of("growth.tsv")),
-        SPEED: with_tables(SPEED.read_text(), {
+        MEASURED: with_tables(MEASURED, {
             "crate": crate_summary(crate),
             "others": others_summary(others),
-            "machines": machines_summary(rows_of("machines.tsv")),
+            "machines": machines_summary(machines),
         }),
+        SPEED: with_tables(SPEED, {"uses": uses_summary(rows_of("uses.tsv"))}),
     }
     if not arguments.check:
         for path, text in wanted.items():
@@ -44,10 +47,10 @@ def main():
         return 0
     faults = [f"{path.relative_to(ROOT)}: run evidence/speed/figures.py" for path, text in wanted.items()
               if not path.exists() or path.read_text() != text]
-    for path in (README, SPEED):
+    quoted = phrases(crate, others)
+    for path, wanted in ((README, quoted), (SPEED, quoted + phrases_of_speed(rows_of("in_rust.tsv"), machines))):
         text = " ".join(path.read_text().split())
-        faults += [f"{path.relative_to(ROOT)}: lacks: {phrase}" for phrase in phrases(crate, others)
-                   if phrase not in text]
+        faults += [f"{path.relative_to(ROOT)}: lacks: {phrase}" for phrase in wanted if phrase not in text]
     print("\n".join(faults) or "figures: README.md and docs/SPEED.md quote those of evidence/speed")
     return 1 if faults else 0
 
@@ -66,6 +69,16 @@ def phrases(crate, others):
         f"with a geometric mean of {mean(first):.2f} over {len(first)} cells",
         f"in each of {len(second)} cells, it was {min(second):.2f} to {max(second):.1f} times as fast, "
         f"with a geometric mean of {mean(second):.2f}, and slower in {sum(r < 1 for r in second)} of them",
+    ]
+
+
+def phrases_of_speed(in_rust, machines):
+    """What docs/SPEED.md has to say beside these."""
+    ratios = [ratio(row, "crate") for row in in_rust]
+    more = [float(row["machine"]) - float(row["plain"]) for row in machines]
+    return [
+        f"{mean(ratios):.2f} times as fast over {len(ratios)} cells, and slower in {sum(r < 1 for r in ratios)} of them",
+        f"{min(more):.0f} to {max(more):.0f} nanoseconds more than the plain call",
     ]
 
 
@@ -92,6 +105,16 @@ def cells(rows, operands, shown):
     operations = dict.fromkeys(operation for operation, _ in found)
     return table(["", *formats], [[operation, *(found.get((operation, name), "-") for name in formats)]
                                   for operation in operations])
+
+
+def uses_summary(rows):
+    """What users do: the times of the library, of the best of other software, and of what limits it."""
+    def other(time, name):
+        return f"{row[time]} {row[name]}" if row[time] != "-" else "-"
+
+    return table(["nanoseconds", "library", "other software", "limit"],
+                 [[row["use"], row["library"], other("peer", "of the peer"), other("limit", "of the limit")]
+                  for row in rows])
 
 
 def crate_summary(rows):
@@ -131,8 +154,8 @@ def machines_summary(rows):
 def figures(crate, others, growth):
     """The text of figures.md."""
     lines = ["# Measured times", "",
-             "Made by `figures.py` from the files of tab-separated columns in this folder; `docs/SPEED.md` says what",
-             "was measured, and how. Times are nanoseconds.", ""]
+             "Made by `figures.py` from the files of tab-separated columns in this folder; `README.md` says what was",
+             "measured, and how. Times are nanoseconds.", ""]
     lines += [f"- {phrase}" for phrase in phrases(crate, others)]
     for operands in SETS:
         lines += ["", f"## The Rust crate and LLVM, set {operands}", "",
@@ -153,15 +176,16 @@ def figures(crate, others, growth):
     return "\n".join(lines) + "\n"
 
 
-def with_tables(text, tables):
-    """A text with the tables between their marks."""
+def with_tables(path, tables):
+    """The text of a file with the tables between their marks."""
+    text = path.read_text()
     for name, lines in tables.items():
         begin = BEGIN.format(name)
         pattern = re.escape(begin) + ".*?" + re.escape(END)
         block = "\n".join([begin, "", *lines, "", END])
         text, count = re.subn(pattern, lambda _: block, text, flags=re.DOTALL)
         if count != 1:
-            sys.exit(f"docs/SPEED.md: {count} times: {begin}")
+            sys.exit(f"{path.relative_to(ROOT)}: {count} times: {begin}")
     return text
 
 

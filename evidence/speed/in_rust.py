@@ -9,7 +9,7 @@ crates are built with FLAGS: some processors decode a jump across an address tha
 two loops with the same instructions one would take half as long again as the other, by where they happen to lie. The
 times are nanoseconds of a call, the fastest of all rounds. With --count the instructions of a call are counted instead,
 by callgrind, which needs no quiet machine: those of 64 calls without those of one, so without the start and the end of
-the loop around them. --store puts the cells into in_rust.tsv, and the table into docs/SPEED.md.
+the loop around them. --store puts the cells into in_rust.tsv, and the table into README.md beside it.
 """
 
 import argparse
@@ -29,7 +29,7 @@ sys.path.insert(0, str(HERE))
 import compare  # noqa: E402
 
 FORMATS = ("half", "single", "double", "x87", "quad", "dd")
-SPEED = ROOT / "docs" / "SPEED.md"
+MEASURED = HERE / "README.md"
 FLAGS = "-Cllvm-args=-x86-branches-within-32B-boundaries" if platform.machine() == "x86_64" else ""
 BEGIN, END = "<!-- made by evidence/speed/in_rust.py -->", "<!-- end -->"
 MANIFEST = """[package]
@@ -55,7 +55,7 @@ def main():
     parser.add_argument("--rounds", type=int, default=3)
     parser.add_argument("--count", action="store_true", help="count instructions")
     parser.add_argument("--call", help="leave out all other calls")
-    parser.add_argument("--store", action="store_true", help="put them into in_rust.tsv and docs/SPEED.md")
+    parser.add_argument("--store", action="store_true", help="put them into in_rust.tsv and README.md beside it")
     arguments = parser.parse_args()
     program = built(arguments.crate.resolve())
     with tempfile.TemporaryDirectory() as folder:
@@ -145,8 +145,8 @@ def store(cells, unit):
     text = (f"At commit `{commit}` a call of the Rust crate took {min(ratios):.2f} to {max(ratios):.0f} times as many "
             f"{unit} as the same call of this one, with a geometric mean of {mean(ratios):.2f} over {len(ratios)} "
             f"cells, and fewer in {more or 'none'} of them.\n\n{table(cells)}")
-    before, made = SPEED.read_text().split(BEGIN)
-    SPEED.write_text(f"{before}{BEGIN}\n\n{text}\n{END}{made.split(END, 1)[1]}")
+    before, made = MEASURED.read_text().split(BEGIN)
+    MEASURED.write_text(f"{before}{BEGIN}\n\n{text}\n{END}{made.split(END, 1)[1]}")
 
 
 def ratio(cell):
