@@ -110,11 +110,11 @@ def cells(rows, operands, shown):
 def uses_summary(rows):
     """What users do: the times of the library, of the best of other software, and of what limits it."""
     def other(time, name):
-        return f"{row[time]} {row[name]}" if row[time] != "-" else "-"
+        return f"{time} ({name})" if time != "-" else "-"
 
     return table(["nanoseconds", "library", "other software", "limit"],
-                 [[row["use"], row["library"], other("peer", "of the peer"), other("limit", "of the limit")]
-                  for row in rows])
+                 [[row["use"], row["library"], other(row["peer"], row["of the peer"]),
+                   other(row["limit"], row["of the limit"])] for row in rows])
 
 
 def crate_summary(rows):
