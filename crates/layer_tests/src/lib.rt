@@ -1,5 +1,5 @@
 //! Tests of the layers below the public calls, of decimals, of what pairs have beyond `Float`, and of the crates above
-//! the library: comparisons, augmented operations, rounding to odd, machines.
+//! the library: comparisons, augmented operations, rounding to odd, machines, formats that have only numbers.
 //!
 //! They are in a separate crate, since testing a crate proves the whole crate again.
 #![tactic(auto)]
@@ -20,6 +20,10 @@ mod decimal_values;
 mod decimals;
 #[cfg(test)]
 mod eight_bits;
+#[cfg(test)]
+mod finite_rows;
+#[cfg(test)]
+mod finite_values;
 #[cfg(test)]
 mod format_of;
 #[cfg(test)]

@@ -39,6 +39,8 @@ pub const LIBRARY: &[&str] = &[
     "apfloat_machines",
     "hex_digits",
     "storage_formats",
+    "finite_theory",
+    "finite_formats",
 ];
 
 /// The crates that the library for C has above those.

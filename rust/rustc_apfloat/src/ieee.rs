@@ -311,7 +311,7 @@ impl<S> IeeeFloat<S> {
 }
 
 impl<S: Semantics> IeeeFloat<S> {
-    const fn made(significand: u128, exponent: ExpInt, category: Category) -> Self {
+    pub(crate) const fn made(significand: u128, exponent: ExpInt, category: Category) -> Self {
         let () = LawOfFormat::<S>::HOLDS;
         Self::from_unpacked(Unpacked { significand, exponent, category, negative: false })
     }

@@ -40,6 +40,7 @@ pub mod ppc;
 pub mod augmented;
 pub mod comparisons;
 pub mod decimal_digits;
+pub mod finite_formats;
 pub mod format_of;
 pub mod hex_digits;
 pub mod machines;

@@ -110,7 +110,7 @@ const fn fault(bits: usize, precision: usize, min_exp: ExpInt) -> Option<&'stati
 }
 
 /// The format `F` as the library knows storage formats.
-struct LawfulS<F>(PhantomData<F>);
+pub(crate) struct LawfulS<F>(PhantomData<F>);
 
 impl<F> Copy for LawfulS<F> {}
 
@@ -121,7 +121,7 @@ impl<F> Clone for LawfulS<F> {
 }
 
 impl<F: StorageFormat> LawfulS<F> {
-    const HOLDS: () = match fault(F::BITS, F::PRECISION, F::MIN_EXP) {
+    pub(crate) const HOLDS: () = match fault(F::BITS, F::PRECISION, F::MIN_EXP) {
         None => {}
         Some(clause) => panic!("{}", clause),
     };

@@ -1,12 +1,16 @@
 //! The modules beyond the interface of the crate `rustc_apfloat`: rows of results in another format, of augmented sums,
-//! of rounding to odd and of storage formats, which exact fractions gave, and comparisons, extrema, logarithms and
-//! integers against the arithmetic of `f64`, into which codes of eight bits are decoded exactly.
+//! of rounding to odd, of storage formats and of a format that has only numbers, which exact fractions gave, and
+//! comparisons, extrema, logarithms and integers against the arithmetic of `f64`, into which codes of eight bits are
+//! decoded exactly.
 
 use rustc_apfloat::augmented;
 use rustc_apfloat::comparisons::{self, Class, Extremum, OnNan, Predicate};
+use rustc_apfloat::finite_formats::Float6E3M2FN;
 use rustc_apfloat::ieee::*;
 use rustc_apfloat::storage_formats::{E2M1FN, E2M3FN, E3M2FN, E8M0FNU, Float8E3M4, StorageFormat, StoredFloat, UE4M3};
-use rustc_apfloat::{Category, Float, IEK_INF, IEK_NAN, IEK_ZERO, Round, Status, StatusAnd, format_of, odd};
+use rustc_apfloat::{
+    Category, Float, FloatConvert, IEK_INF, IEK_NAN, IEK_ZERO, Round, Status, StatusAnd, format_of, odd,
+};
 use std::cmp::Ordering;
 
 const MODES: [Round; 5] = [
@@ -545,17 +549,90 @@ fn order_of_e3m4() {
     assert_eq!((minus.category(), minus.is_negative(), nan.category()), (Category::Zero, true, Category::NaN));
 }
 
-/// The example of the page on storage formats is one of the module's documentation, which is compiled.
+/// The first example of a page is one of the module's documentation, which is compiled.
 #[test]
-fn example_of_storage_formats() {
+fn examples_of_the_pages() {
     let here = env!("CARGO_MANIFEST_DIR");
-    let page = std::fs::read_to_string(format!("{here}/../../docs/STORAGE_FORMATS.md")).unwrap();
-    let module = std::fs::read_to_string(format!("{here}/src/storage_formats.rs")).unwrap();
-    let compiled: String =
-        module.lines().map(|line| line.trim_start_matches("//!").trim_start().to_owned() + "\n").collect();
-    let example = page.split("```rust\n").nth(1).unwrap().split("```").next().unwrap();
-    let example: String = example.lines().map(|line| line.trim_start().to_owned() + "\n").collect();
-    assert!(compiled.contains(&example), "{example}");
+    for (page, module) in [("STORAGE_FORMATS", "storage_formats"), ("SMALL_FORMATS", "finite_formats")] {
+        let page = std::fs::read_to_string(format!("{here}/../../docs/{page}.md")).unwrap();
+        let module = std::fs::read_to_string(format!("{here}/src/{module}.rs")).unwrap();
+        let compiled: String =
+            module.lines().map(|line| line.trim_start_matches("//!").trim_start().to_owned() + "\n").collect();
+        let example = page.split("```rust\n").nth(1).unwrap().split("```").next().unwrap();
+        let example: String = example.lines().map(|line| line.trim_start().to_owned() + "\n").collect();
+        assert!(compiled.contains(&example), "{example}");
+    }
+}
+
+/// The checksum of results in `e3m2fn`, each with whether information was lost.
+fn checksum(results: impl Iterator<Item = (StatusAnd<Float6E3M2FN>, bool)>) -> u64 {
+    results.fold(0, |sum, (answer, loses_info)| {
+        let word = answer.value.to_bits() as u64 * 64 + u64::from(answer.status.bits()) * 2 + u64::from(loses_info);
+        sum.wrapping_mul(1_000_003).wrapping_add(word)
+    })
+}
+
+/// The checksum of conversions of every code that is a multiple of `step`.
+fn checksum_of_conversions<S: Semantics>(step: usize, mode: Round) -> u64 {
+    checksum((0..1 << S::BITS).step_by(step).map(|bits| {
+        let mut loses_info = false;
+        (IeeeFloat::<S>::from_bits(bits).convert_r(mode, &mut loses_info), loses_info)
+    }))
+}
+
+#[test]
+fn operations_where_there_are_only_numbers() {
+    let some = |step| (0..64).step_by(step).map(Float6E3M2FN::from_bits);
+    let all = || some(1);
+    let exact = |answer| (answer, false);
+    let pairs = || all().flat_map(|x| all().map(move |y| (x, y)));
+    let triples = || some(7).flat_map(|x| some(3).flat_map(move |y| all().map(move |z| (x, y, z))));
+    let tables = tables("layer_tests/src/finite_rows.rt");
+    for (name, table) in &tables {
+        let checksums = rows_of(table, ",");
+        for (mode, wanted) in MODES.into_iter().zip(checksums) {
+            let got = match name.as_str() {
+                "SUM" => checksum(pairs().map(|(x, y)| exact(x.add_r(y, mode)))),
+                "PRODUCT" => checksum(pairs().map(|(x, y)| exact(x.mul_r(y, mode)))),
+                "QUOTIENT" => checksum(pairs().map(|(x, y)| exact(x.div_r(y, mode)))),
+                "REMAINDER" => checksum(pairs().map(|(x, y)| exact(x.c_fmod(y)))),
+                "FUSED_SUM" => checksum(triples().map(|(x, y, z)| exact(x.mul_add_r(y, z, mode)))),
+                "ROOT" => checksum(all().map(|x| exact(x.sqrt_r(mode)))),
+                "NEXT" => checksum(all().map(|x| exact(x.next_up()))),
+                "FROM_E4M3FN" => checksum_of_conversions::<Float8E4M3FNS>(1, mode),
+                "FROM_E5M2" => checksum_of_conversions::<Float8E5M2S>(1, mode),
+                "FROM_HALF" => checksum_of_conversions::<HalfS>(7, mode),
+                "FROM_BFLOAT" => checksum_of_conversions::<BFloatS>(7, mode),
+                "FROM_INTEGERS" => checksum((-70..=70).map(|number| exact(Float6E3M2FN::from_i128_r(number, mode)))),
+                name => panic!("no table {name} is known here"),
+            };
+            assert_eq!(u128::from(got), number(wanted[0]), "{name} {mode:?}");
+        }
+    }
+    assert_eq!(tables.len(), 12);
+}
+
+/// What stands for an infinity and a NaN, and values as texts and in another format.
+#[test]
+fn values_where_there_are_only_numbers() {
+    let codes = [Float6E3M2FN::INFINITY, Float6E3M2FN::NAN, Float6E3M2FN::SMALLEST, Float6E3M2FN::largest()];
+    assert_eq!(codes.map(Float::to_bits), [0x1f, 0x00, 0x01, 0x1f]);
+    let past = Status::OVERFLOW | Status::INEXACT;
+    let texts =
+        [("-inf", "-28", Status::OK), ("nan", "0", Status::OK), ("1e9", "28", past), ("0.7", "0.75", Status::INEXACT)];
+    for (text, wanted, status) in texts {
+        let read = Float6E3M2FN::from_str_r(text, Round::NearestTiesToEven).unwrap();
+        assert_eq!((read.value.to_string().as_str(), read.status), (wanted, status), "{text}");
+    }
+    for x in (0..64).map(Float6E3M2FN::from_bits) {
+        let mut loses_info = true;
+        let wide: Single = x.convert(&mut loses_info).unwrap();
+        let back: Float6E3M2FN = wide.convert(&mut false).unwrap();
+        assert!(!loses_info && back.bitwise_eq(x) && x.number().is_finite(), "{x:?}");
+        assert_eq!(x.scale_b(-1, Round::TowardZero), x.div_r(Float6E3M2FN::from_u128(2).value, Round::TowardZero));
+    }
+    let root = Float6E3M2FN::from_i128(-1).value.sqrt();
+    assert_eq!((root.value.to_bits(), root.status), (0, Status::INVALID_OP));
 }
 
 #[test]

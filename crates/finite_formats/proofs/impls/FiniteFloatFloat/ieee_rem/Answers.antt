@@ -1,0 +1,11 @@
+use Rattle.apfloat_model.specs.arithmetic.Remainders.{IsNearestRemainder}
+use Rattle.apfloat_ieee.specs.Types.{format_of}
+use Rattle.finite_theory.proofs.Settling.{answer_settled}
+use Rattle.finite_formats.proofs.impls.FiniteFloatFloat.ieee_rem.Goals as goal
+
+pub returns : goal.returns
+returns g c =
+    let f = format_of g.F.Semantics in
+    let h = rw (c.number.ensures.value, c.number-2.ensures.value) at c.ieee_rem.ensures in
+    answer_settled f (IsNearestRemainder f c.args.self c.args.rhs) c.ieee_rem.result c.answered.result h
+    c.answered.ensures.status c.answered.ensures.value

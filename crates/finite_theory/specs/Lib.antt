@@ -1,0 +1,4 @@
+pub mod Formats
+pub mod Settled
+pub mod Types
+pub mod Laws

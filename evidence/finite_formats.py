@@ -1,0 +1,288 @@
+"""Computes crates/layer_tests/src/finite_rows.rt: operations of a format without infinities and NaNs.
+
+    python3 evidence/finite_formats.py | diff - crates/layer_tests/src/finite_rows.rt
+
+Every result is computed twice. First by the rule itself: an exact fraction is looked up between its
+neighbours in the list of all numbers, which goes on past the largest one; past it the largest number is
+the result in each mode. Then by the model's format with the same numbers and with infinities and NaNs,
+whose result is settled: an infinity is the largest number of its sign, and a NaN is +0. Both have to agree.
+"""
+
+from bisect import bisect_right
+from fractions import Fraction
+
+from exact import arithmetic, conversions, integers, neighbours, remainders, roots
+from exact.bits import decoded
+from exact.data import Finite, Infinite, NaN, is_nan
+from exact.formats import BFLOAT, E4M3FN, E5M2, HALF, Format
+from exact.rounding import Mode, overflows
+from exact.status import DIV_BY_ZERO, INEXACT, INVALID_OP, OK, OVERFLOW, UNDERFLOW
+
+MODES = (Mode.EVEN, Mode.UP, Mode.DOWN, Mode.ZERO, Mode.AWAY)
+
+FACTOR = 1000003
+
+BITS = 6
+
+# The numbers of e3m2fn, with infinities and NaNs, for computing only.
+NUMBERS = Format("e3m2fn", 0, 0, 3, -2, 4)
+
+# The codes of the same numbers in a format whose exponent has one bit more.
+CODES = Format("e3m2fn codes", BITS + 1, 4, 3, -2, 11)
+
+
+# ---- by the rule
+
+
+def magnitude(index):
+    """The number whose bits below the sign are these; also past the width."""
+    field, digits = index >> 2, index & 3
+    last = Fraction(1, 16)
+    return digits * last if field == 0 else (4 + digits) * last * 2 ** (field - 1)
+
+
+COUNT = 1 << BITS - 1
+
+POINTS = [magnitude(index) for index in range(COUNT + 4 * 64)]
+
+
+def number_of(code):
+    """Whether the code has a sign, and its magnitude."""
+    return code >= COUNT, POINTS[code % COUNT]
+
+
+def code_of(negative, index):
+    """The code of a sign and a number."""
+    return (COUNT if negative else 0) + index
+
+
+def rounded(mode, negative, exact):
+    """The code and the flags of a magnitude with that sign."""
+    below = bisect_right(POINTS, exact) - 1
+    is_exact = POINTS[below] == exact
+    if not is_exact and below + 1 < len(POINTS):
+        to_lower, to_upper = exact - POINTS[below], POINTS[below + 1] - exact
+        above = {
+            Mode.UP: not negative,
+            Mode.DOWN: negative,
+            Mode.ZERO: False,
+            Mode.EVEN: to_upper < to_lower or (to_upper == to_lower and below % 2 == 1),
+            Mode.AWAY: to_upper <= to_lower,
+        }[mode]
+        below += above
+    if below >= COUNT:
+        return code_of(negative, COUNT - 1), OVERFLOW | INEXACT if overflows(mode, negative) else INEXACT
+    if is_exact:
+        return code_of(negative, below), OK
+    return code_of(negative, below), UNDERFLOW | INEXACT if below < 4 else INEXACT
+
+
+def signed_result(mode, exact, zero):
+    """The code and the flags of a fraction; `zero` is the sign of an exact zero."""
+    negative = zero if exact == 0 else exact < 0
+    return rounded(mode, negative, abs(exact))
+
+
+def signed(code):
+    """The fraction that a code is."""
+    negative, size = number_of(code)
+    return -size if negative else size
+
+
+def zero_sign(mode, left, right):
+    """The sign of an exact zero as a sum of numbers of these signs."""
+    return left if left == right else mode is Mode.DOWN
+
+
+def add_by_rule(a, b, mode):
+    """a + b."""
+    return signed_result(mode, signed(a) + signed(b), zero_sign(mode, a >= COUNT, b >= COUNT))
+
+
+def multiply_by_rule(a, b, mode):
+    """a * b."""
+    return signed_result(mode, signed(a) * signed(b), (a >= COUNT) != (b >= COUNT))
+
+
+def divide_by_rule(a, b, mode):
+    """a / b."""
+    negative = (a >= COUNT) != (b >= COUNT)
+    if signed(b) == 0:
+        return (0, INVALID_OP) if signed(a) == 0 else (code_of(negative, COUNT - 1), DIV_BY_ZERO)
+    return signed_result(mode, signed(a) / signed(b), negative)
+
+
+def remainder_by_rule(a, b, _mode):
+    """a - b * n, where n is the quotient toward zero."""
+    if signed(b) == 0:
+        return 0, INVALID_OP
+    x, y = abs(signed(a)), abs(signed(b))
+    rest = x - y * (x // y)
+    return code_of(a >= COUNT, POINTS.index(rest)), OK
+
+
+def fused_by_rule(a, b, c, mode):
+    """a * b + c."""
+    product_negative = (a >= COUNT) != (b >= COUNT)
+    return signed_result(
+        mode, signed(a) * signed(b) + signed(c), zero_sign(mode, product_negative, c >= COUNT)
+    )
+
+
+def root_by_rule(a, mode):
+    """The root, rounded by comparing squares."""
+    x = signed(a)
+    if x == 0:
+        return a, OK
+    if x < 0:
+        return 0, INVALID_OP
+    below = max(i for i in range(COUNT) if POINTS[i] ** 2 <= x)
+    if POINTS[below] ** 2 == x:
+        return below, OK
+    middle = (POINTS[below] + POINTS[below + 1]) ** 2 / 4
+    nearest = x > middle or (x == middle and below % 2 == 1)
+    above = {Mode.UP: True, Mode.DOWN: False, Mode.ZERO: False, Mode.EVEN: nearest, Mode.AWAY: x >= middle}
+    below += above[mode]
+    return below, INEXACT
+
+
+def next_up_by_rule(a, _mode):
+    """The least number above; the largest one stays."""
+    negative, index = a >= COUNT, a % COUNT
+    if index == 0:
+        return 1, OK
+    if negative:
+        return code_of(True, index - 1), OK
+    return min(index + 1, COUNT - 1), OK
+
+
+def convert_by_rule(source, x, mode):
+    """A value of another format: the code, the flags, and whether information is lost."""
+    if is_nan(x):
+        return 0, INVALID_OP, True
+    if isinstance(x, Infinite):
+        return code_of(x.negative, COUNT - 1), INVALID_OP, True
+    code, status = rounded(mode, x.negative, Fraction(x.quanta, 1 << source.scale))
+    return code, status, status != OK
+
+
+# ---- by the settled results of the model
+
+
+def datum_of(code):
+    """What a code means, by the code of the wider format: the sign is moved up by one bit."""
+    x = decoded(CODES, (code & COUNT - 1) | (code >> BITS - 1) << BITS)
+    assert isinstance(x, Finite) and (x.negative, Fraction(x.quanta, 16)) == number_of(code)
+    return x
+
+
+def settled(x):
+    """The code of what stands for a datum."""
+    if isinstance(x, NaN):
+        return 0
+    if isinstance(x, Infinite):
+        return code_of(x.negative, COUNT - 1)
+    return code_of(x.negative, POINTS.index(Fraction(x.quanta, 16)))
+
+
+def by_model(operation, *operands):
+    """The settled value of the model's operation, with its flags."""
+    *codes, mode = operands
+    value, status = operation(NUMBERS, *map(datum_of, codes), mode)
+    return settled(value), status
+
+
+def without_mode(operation):
+    """The operation, which needs no mode."""
+    return lambda form, *operands: operation(form, *operands[:-1])
+
+
+OPERATIONS = (
+    ("SUM", 2, add_by_rule, arithmetic.add),
+    ("PRODUCT", 2, multiply_by_rule, arithmetic.multiply),
+    ("QUOTIENT", 2, divide_by_rule, arithmetic.divide),
+    ("REMAINDER", 2, remainder_by_rule, without_mode(remainders.truncated_remainder)),
+    ("ROOT", 1, root_by_rule, roots.square_root),
+    ("NEXT", 1, next_up_by_rule, without_mode(neighbours.next_up)),
+)
+
+
+def extended(checksum, code, status, loses=False):
+    """The checksum with one more result."""
+    return (checksum * FACTOR + code * 64 + status * 2 + loses) % 2**64
+
+
+def checksum_of(count, by_rule, operation, mode):
+    """All operands."""
+    checksum = 0
+    every = [(a,) for a in range(1 << BITS)]
+    if count == 2:
+        every = [(a, b) for a in range(1 << BITS) for b in range(1 << BITS)]
+    for codes in every:
+        result = by_rule(*codes, mode)
+        assert result == by_model(operation, *codes, mode), (operation, codes, mode)
+        checksum = extended(checksum, *result)
+    return checksum
+
+
+def fused_checksum(mode):
+    """Fused sums of every seventh code."""
+    checksum = 0
+    some = range(0, 1 << BITS, 7)
+    for a in some:
+        for b in range(0, 1 << BITS, 3):
+            for c in range(1 << BITS):
+                result = fused_by_rule(a, b, c, mode)
+                assert result == by_model(arithmetic.multiply_add, a, b, c, mode)
+                checksum = extended(checksum, *result)
+    return checksum
+
+
+def conversion_checksum(source, step, mode):
+    """Every code of the source that is a multiple of the step."""
+    checksum = 0
+    for bits in range(0, 1 << source.bits, step):
+        x = decoded(source, bits)
+        result = convert_by_rule(source, x, mode)
+        if isinstance(x, Finite):
+            value, status, loses = conversions.convert(source, NUMBERS, x, mode)
+            assert result == (settled(value), status, loses)
+        checksum = extended(checksum, *result)
+    return checksum
+
+
+def integers_checksum(mode):
+    """The integers from -70 to 70."""
+    checksum = 0
+    for integer in range(-70, 71):
+        result = rounded(mode, integer < 0, Fraction(abs(integer)))
+        value, status = integers.from_integer(NUMBERS, integer, mode)
+        assert result == (settled(value), status)
+        checksum = extended(checksum, *result)
+    return checksum
+
+
+def table(name, checksums):
+    """A line for each mode."""
+    yield f"pub(crate) static {name}: [u64; 5] = ["
+    yield from (f"    0x{checksum:016x}," for checksum in checksums)
+    yield "];"
+    yield ""
+
+
+def lines():
+    """The file."""
+    yield "//! Checksums of operations in `e3m2fn`, from evidence/finite_formats.py; the modes in the order"
+    yield "//! even, up, down, zero, away."
+    yield ""
+    for name, count, by_rule, operation in OPERATIONS:
+        yield from table(name, [checksum_of(count, by_rule, operation, mode) for mode in MODES])
+    yield from table("FUSED_SUM", [fused_checksum(mode) for mode in MODES])
+    for source, step in ((E4M3FN, 1), (E5M2, 1), (HALF, 7), (BFLOAT, 7)):
+        name = f"FROM_{source.name.upper()}"
+        yield from table(name, [conversion_checksum(source, step, mode) for mode in MODES])
+    yield from table("FROM_INTEGERS", [integers_checksum(mode) for mode in MODES])
+
+
+if __name__ == "__main__":
+    print("\n".join(list(lines())[:-1]))
