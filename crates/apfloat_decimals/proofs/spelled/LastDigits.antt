@@ -1,17 +1,17 @@
 -- Digits that are written several at a time.
 use Rattle.std.proofs.Common.{◌≡◌, ℕ, zero, suc, ◌+◌, ◌*◌, ◌/◌, ◌%◌, ◌^◌, ◌<◌, ◌≤◌, List, [], ◌∷◌, ◌++◌, length}
-use Rattle.std.proofs.Common.{sym, ap, ◌∙◌}
+use Rattle.std.proofs.Common.{sym, ap, ◌∙◌, ◌-◌, replicate}
 use Rattle.std.proofs.Common.{Bool, true, false, eqb, get_or, arith, lit<, refl}
 use Rattle.std.specs.Prelude.{◌&&◌}
 use Rattle.std.proofs.lemmas.Bool.{and_parts, eqb-true}
-use Rattle.std.proofs.Math.Nat.{div-add-mod, div-div-eq-div-mul, div-lt_iff_lt-mul, mod-lt}
-use Rattle.std.proofs.lemmas.Fmt.{decimal_digit, decimal_step_wide}
-use Rattle.std.proofs.lemmas.List.{append_assoc, length-append}
+use Rattle.std.proofs.Math.Nat.{div-add-mod, div-div-eq-div-mul, div-eq_of_lt, div-lt_iff_lt-mul, mod-lt}
+use Rattle.std.proofs.lemmas.Fmt.{decimal_by_steps_wide, decimal_step_wide}
+use Rattle.std.proofs.lemmas.List.{append_assoc, length-append, replicate_more}
 use Rattle.std.proofs.lemmas.Nat.{mod-mul-add, pow-add}
 use Rattle.std.specs.Fmt.{decimal}
-use Rattle.apfloat_decimals.specs.Texts.{last_digits}
+use Rattle.apfloat_decimals.specs.Texts.{last_digits, padded}
 use Rattle.apfloat_decimals.proofs.numbers.Values.{power_pos}
-use Rattle.apfloat_decimals.proofs.spelled.WrittenNumbers.{length_more, single}
+use Rattle.apfloat_decimals.proofs.spelled.WrittenNumbers.{below_power, length_more, single}
 
 append_none : (text : List ℕ) → text ++ [] ≡ text
 append_none [] = refl
@@ -130,24 +130,79 @@ last_joined first second n text =
     ∙ ap (λ (x : List ℕ). text ++ (last_digits first (n / 10 ^ second) ++ x)) (last_within second n)
     ∙ ap (λ (x : List ℕ). text ++ x) (sym (last_split first second n))
 
-pub number_joined : (count n : ℕ) (text : List ℕ) → 10 ^ count ≤ n → n < 2 ^ 128
-    → (text ++ decimal (n / 10 ^ count)) ++ last_digits count (n % 10 ^ count) ≡ text ++ decimal n
-number_joined count n text some few =
-    append_assoc text (decimal (n / 10 ^ count)) (last_digits count (n % 10 ^ count))
-    ∙ ap (λ (x : List ℕ). text ++ (decimal (n / 10 ^ count) ++ x)) (last_within count n)
-    ∙ ap (λ (x : List ℕ). text ++ x) (sym (decimal_split count n some few))
+-- the same for the last digits of a number that has no more
+pub count_joined : (second count n : ℕ) (text : List ℕ) → second ≤ count
+    → (text ++ last_digits (count - second) (n / 10 ^ second)) ++ last_digits second (n % 10 ^ second)
+    ≡ text ++ last_digits count n
+count_joined second count n text within =
+    let all : count - second + second ≡ count = omega (arith, within) in
+    last_joined (count - second) second n text ∙ ap (λ (k : ℕ). text ++ last_digits k n) all
 
 -- there is room for the upper digits, and then for the lower ones
-pub room_joined : (count n : ℕ) (text : List ℕ) → 10 ^ count ≤ n → n < 2 ^ 128
-    → length text + length (decimal n) ≤ 64 → length (text ++ decimal (n / 10 ^ count)) + count ≤ 64
-room_joined count n text some few room =
-    let both = length-append text (decimal (n / 10 ^ count)) in
-    let all = counted_split count n some few in
-    omega (arith, both, all, room)
+pub count_room : (first second n : ℕ) (text : List ℕ) → length text + (first + second) ≤ 64
+    → length (text ++ last_digits first n) + second ≤ 64
+count_room first second n text room =
+    let upper = last_length first n in
+    let both = length-append text (last_digits first n) in
+    omega (arith, upper, both, room)
 
-pub upper_room : (count n : ℕ) (text : List ℕ) → 10 ^ count ≤ n → n < 2 ^ 128
-    → length text + length (decimal n) ≤ 64 → length text + length (decimal (n / 10 ^ count)) ≤ 64
-upper_room count n text some few room = let all = counted_split count n some few in omega (arith, all, room)
+-- the upper digits are those of a lesser number
+pub upper_few : (second count n : ℕ) → second ≤ count → n < 10 ^ count → n / 10 ^ second < 10 ^ (count - second)
+upper_few second count n within few =
+    let all : count - second + second ≡ count = omega (arith, within) in
+    let split : 10 ^ count ≡ 10 ^ (count - second) * 10 ^ second =
+    ap (λ (k : ℕ). 10 ^ k) (sym all) ∙ pow-add 10 (count - second) second in
+    (div-lt_iff_lt-mul (power_pos 10 second (lit< tt))).1 (omega (arith, few, split))
+
+-- appending one digit or none
+pub digit_joined : (count n : ℕ) (text : List ℕ) → count ≡ 1 → n < 10 ^ count
+    → text ++ ((48 + n) ∷ []) ≡ text ++ last_digits count n
+unfolding last_digits
+digit_joined count n text one few =
+    let ten : 10 ^ count ≡ 10 = ap (λ (k : ℕ). 10 ^ k) one ∙ omega arith in
+    let same : 48 + n ≡ 48 + n % 10 = omega (arith, ten, few) in
+    ap (λ (k : ℕ). text ++ (k ∷ [])) same ∙ ap (λ (k : ℕ). text ++ last_digits k n) (sym one)
+
+pub none_joined : (count n : ℕ) (text : List ℕ) → count ≡ 0 → text ≡ text ++ last_digits count n
+unfolding last_digits
+none_joined count n text none =
+    sym (append_none text) ∙ ap (λ (k : ℕ). text ++ last_digits k n) (sym none)
+
+-- the decimal digits of a number are its last ones, as many as it has
+pub all_last : (n : ℕ) → n < 2 ^ 128 → last_digits (length (decimal n)) n ≡ decimal n
+unfolding last_digits
+all_last n few =
+    decimal_by_steps_wide (λ (m : ℕ) (ds : List ℕ). last_digits (length ds) m ≡ ds) one more n (omega (arith, few))
+  where
+    one : (m : ℕ) → m < 10 → last_digits (length ((48 + m) ∷ [])) m ≡ (48 + m) ∷ []
+    one m l = let same : 48 + m % 10 ≡ 48 + m = omega (arith, l) in ap (λ (k : ℕ). k ∷ []) same
+
+    more : (m : ℕ) (ds : List ℕ) → 10 ≤ m → last_digits (length ds) (m / 10) ≡ ds
+        → last_digits (length (ds ++ ((48 + m % 10) ∷ []))) m ≡ ds ++ ((48 + m % 10) ∷ [])
+    more m ds l same =
+        let longer : length (ds ++ ((48 + m % 10) ∷ [])) ≡ suc (length ds) =
+        length_more ds (48 + m % 10) ∙ omega arith in
+        ap (λ (k : ℕ). last_digits k m) longer ∙ ap (λ (x : List ℕ). x ++ ((48 + m % 10) ∷ [])) same
+
+-- the last digits of 0 are zeros
+zeros_last : (count : ℕ) → last_digits count 0 ≡ replicate count 48
+unfolding last_digits
+zeros_last zero = refl
+zeros_last (suc count) =
+    let next : count + 1 ≡ suc count = omega arith in
+    ap (λ (x : List ℕ). x ++ (48 ∷ [])) (zeros_last count) ∙ replicate_more count 48
+    ∙ ap (λ (k : ℕ). replicate k 48) next
+
+-- leading zeros and the digits of a number are its last digits
+pub padded_last : (places n : ℕ) → length (decimal n) ≤ places → n < 2 ^ 128 → last_digits places n ≡ padded places n
+padded_last places n within few =
+    let digits = length (decimal n) in
+    let none : n / 10 ^ digits ≡ 0 = div-eq_of_lt (below_power n few) in
+    let all : places - digits + digits ≡ places = omega (arith, within) in
+    ap (λ (k : ℕ). last_digits k n) (sym all) ∙ last_split (places - digits) digits n
+    ∙ ap (λ (k : ℕ). last_digits (places - digits) k ++ last_digits digits n) none
+    ∙ ap (λ (x : List ℕ). x ++ last_digits digits n) (zeros_last (places - digits))
+    ∙ ap (λ (x : List ℕ). replicate (places - digits) 48 ++ x) (all_last n few)
 
 -- two characters are the digits of a number below 100
 pub pair_joined : (n a b : ℕ) (text : List ℕ) → n < 100 → a ≡ 48 + n / 10 → b ≡ 48 + n % 10
@@ -183,11 +238,3 @@ pair_at first (a ∷ b ∷ pairs) (suc i) e l =
     let q = and_parts _ _ ((and_parts _ _ e).1) in
     let within : 2 * i + 1 < length pairs = omega (arith, l) in
     rw (same, three, two) (pair_at (first + 1) pairs i q.1 within)
-
-pub pair_is_decimal : (n : ℕ) → 10 ≤ n → n < 100 → last_digits 2 n ≡ decimal n
-unfolding last_digits
-pair_is_decimal n some few =
-    let tens : 48 + n / 10 % 10 ≡ 48 + n / 10 = omega (arith, few) in
-    ap (λ (k : ℕ). k ∷ (48 + n % 10) ∷ []) tens
-    ∙ sym (decimal_step_wide n some (omega (arith, few))
-    ∙ ap (λ (x : List ℕ). x ++ ((48 + n % 10) ∷ [])) (decimal_digit (n / 10) (omega (arith, few))))

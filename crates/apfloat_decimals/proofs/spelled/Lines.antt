@@ -6,14 +6,14 @@ use Rattle.std.specs.Prelude.{ℤ, pos, negsuc, ◌+ℤ◌}
 use Rattle.std.proofs.lemmas.Int.{ints}
 use Rattle.apfloat_model.specs.arithmetic.Exact.{up, down}
 use lib.Signed.{mag}
-use Rattle.std.proofs.Math.Nat.{div-eq_of_lt, div-lt_iff_lt-mul, mod-le, mod-lt, pow-le-pow_right}
+use Rattle.std.proofs.Math.Nat.{div-eq_of_lt, div-lt_iff_lt-mul, mod-eq_of_lt, mod-le, mod-lt, pow-le-pow_right}
 use Rattle.std.proofs.lemmas.Bool.{and_parts, cases_lt, eqb-false, eqb-true, false≢true, leb-true}
 use Rattle.std.proofs.lemmas.Nat.{pow-add}
 use Rattle.std.proofs.lemmas.Fmt.{decimal_step_wide, decimal_digit, length-decimal-le_wide, length_signed_le}
 use Rattle.std.proofs.lemmas.List.{append_assoc, length-append, length-replicate}
 use Rattle.std.specs.Fmt.{decimal, signed_decimal}
 use Rattle.apfloat_decimals.proofs.numbers.Values.{power_pos}
-use Rattle.apfloat_decimals.proofs.spelled.WrittenNumbers.{few_digits, shorter, single, ten_great, times_ten_small}
+use Rattle.apfloat_decimals.proofs.spelled.WrittenNumbers.{below_power, few_digits, shorter, single, ten_great, times_ten_small}
 use Rattle.apfloat_decimals.specs.Texts.{is_plain, padded, pointed, some_pointed, scientific_text, plain_text}
 use Rattle.apfloat_decimals.specs.Texts.{magnitude_text, sign_text}
 
@@ -64,6 +64,41 @@ padded_length n places few some =
     let zeros_are = length-replicate {A = ℕ} (places - length (decimal (n % 10 ^ places))) 48 in
     length-append (replicate (places - length (decimal (n % 10 ^ places))) 48) (decimal (n % 10 ^ places))
     ∙ omega (arith, zeros_are, digits)
+
+-- a number below 1 is its digits after zeros
+pub below_one : (n places : ℕ) → n < 2 ^ 128 → length (decimal n) ≤ places
+    → pointed n places ≡ (48 ∷ []) ++ (codes "." ++ (replicate (places - length (decimal n)) 48 ++ decimal n))
+below_one n places few within =
+    let most : 10 ^ length (decimal n) ≤ 10 ^ places = pow-le-pow_right (lit< tt) within in
+    let digits = below_power n few in
+    let below : n < 10 ^ places = omega (arith, most, digits) in
+    let none : n / 10 ^ places ≡ 0 = div-eq_of_lt below in
+    let same : n % 10 ^ places ≡ n = mod-eq_of_lt below in
+    ap (λ (k : ℕ). decimal k ++ (codes "." ++ padded places (n % 10 ^ places))) none
+    ∙ ap (λ (k : ℕ). decimal 0 ++ (codes "." ++ padded places k)) same
+    ∙ ap (λ (x : List ℕ). x ++ (codes "." ++ padded places n)) (decimal_digit 0 (lit< tt))
+
+pub below_one_length : (n places : ℕ) → n < 2 ^ 128 → length (decimal n) ≤ places
+    → length (pointed n places) ≡ places + 2
+below_one_length n places few within =
+    let zeros = length-replicate {A = ℕ} (places - length (decimal n)) 48 in
+    let both = length-append (replicate (places - length (decimal n)) 48) (decimal n) in
+    let dot = length-append (codes ".") (replicate (places - length (decimal n)) 48 ++ decimal n) in
+    let all = length-append (48 ∷ []) (codes "." ++ (replicate (places - length (decimal n)) 48 ++ decimal n)) in
+    ap (λ (x : List ℕ). length x) (below_one n places few within) ∙ omega (arith, zeros, both, dot, all, within)
+
+-- appending these parts one by one appends the number
+pub below_one_joined : (n count places : ℕ) (text first second third : List ℕ) → n < 2 ^ 128
+    → count ≡ length (decimal n) → count ≤ places → first ≡ text ++ (48 ∷ []) → second ≡ first ++ codes "."
+    → third ≡ second ++ replicate (places - count) 48 → third ++ decimal n ≡ text ++ pointed n places
+below_one_joined n count places text first second third few counted within one two three =
+    let rest : List ℕ = replicate (places - length (decimal n)) 48 ++ decimal n in
+    let all : second ≡ (text ++ (48 ∷ [])) ++ codes "." = two ∙ ap (λ (x : List ℕ). x ++ codes ".") one in
+    ap (λ (x : List ℕ). x ++ decimal n) (three ∙ ap (λ (k : ℕ). second ++ replicate (places - k) 48) counted)
+    ∙ append_assoc second (replicate (places - length (decimal n)) 48) (decimal n)
+    ∙ ap (λ (x : List ℕ). x ++ rest) all ∙ append_assoc (text ++ (48 ∷ [])) (codes ".") rest
+    ∙ append_assoc text (48 ∷ []) (codes "." ++ rest)
+    ∙ ap (λ (x : List ℕ). text ++ x) (sym (below_one n places few (omega (arith, counted, within))))
 
 -- the length of a number with a dot
 pub pointed_length : (n places : ℕ) → n < 2 ^ 128 → 0 < places → places ≤ 44

@@ -1,18 +1,20 @@
-use Rattle.std.proofs.Common.{◌%◌, ◌++◌, List, ℕ, ap, ◌∙◌, arith}
+use Rattle.std.proofs.Common.{◌++◌, List, ℕ, ap, ◌∙◌, arith}
+use Rattle.std.proofs.lemmas.Fmt.{length-decimal-le_wide}
 use Rattle.apfloat_decimals.specs.Texts.{last_digits}
-use Rattle.apfloat_decimals.proofs.spelled.LastDigits.{number_joined, room_joined, upper_room}
+use Rattle.apfloat_decimals.proofs.spelled.LastDigits.{all_last}
+use Rattle.apfloat_decimals.proofs.spelled.WrittenNumbers.{below_power}
 use Rattle.apfloat_decimals.proofs.formatting.Line.push_word.Goals as goal
 
-pub push_up_to_sixteen-requires-clause-room : goal.push_up_to_sixteen-requires-clause-room
-push_up_to_sixteen-requires-clause-room c =
-    upper_room 8 c.args.number c.args.self.now (omega arith) (omega arith) c.requires
+pub push_last-requires-clause-most : goal.push_last-requires-clause-most
+push_last-requires-clause-most c =
+    let most = length-decimal-le_wide 20 c.args.number (omega arith) (omega arith) (omega arith) in
+    omega (arith, most, c.count_of_word.ensures.count)
 
-pub push_eight-requires-clause-room : goal.push_eight-requires-clause-room
-push_eight-requires-clause-room c =
-    rw c.push_up_to_sixteen.ensures (room_joined 8 c.args.number c.args.self.now (omega arith) (omega arith) c.requires)
+pub push_last-requires-clause-few : goal.push_last-requires-clause-few
+push_last-requires-clause-few c = rw c.count_of_word.ensures.count (below_power c.args.number (omega arith))
 
-pub returns-else-number-lt-EIGHT_DIGITS : goal.returns-else-number-lt-EIGHT_DIGITS
-returns-else-number-lt-EIGHT_DIGITS c =
-    c.push_eight.ensures ∙ ap (λ (x : List ℕ). x ++ last_digits 8 (c.args.number % 100000000))
-    c.push_up_to_sixteen.ensures
-    ∙ number_joined 8 c.args.number c.args.self.now (omega arith) (omega arith)
+pub returns : goal.returns
+returns c =
+    c.push_last.ensures
+    ∙ ap (λ (k : ℕ). c.args.self.now ++ last_digits k c.args.number) c.count_of_word.ensures.count
+    ∙ ap (λ (x : List ℕ). c.args.self.now ++ x) (all_last c.args.number (omega arith))

@@ -1,0 +1,18 @@
+use Rattle.std.proofs.Common.{◌/◌, ◌%◌, ◌-◌, ◌++◌, List, ℕ, ap, ◌∙◌, arith}
+use Rattle.apfloat_decimals.specs.Texts.{last_digits}
+use Rattle.apfloat_decimals.proofs.spelled.LastDigits.{count_joined, count_room, upper_few}
+use Rattle.apfloat_decimals.proofs.formatting.Line.push_last.Goals as goal
+
+pub push_up_to_sixteen-requires-clause-few : goal.push_up_to_sixteen-requires-clause-few
+push_up_to_sixteen-requires-clause-few c =
+    upper_few 8 c.args.count c.args.number (omega arith) c.requires.few
+
+pub push_eight-requires-clause-room : goal.push_eight-requires-clause-room
+push_eight-requires-clause-room c =
+    rw c.push_up_to_sixteen.ensures
+    (count_room (c.args.count - 8) 8 (c.args.number / 100000000) c.args.self.now (omega (arith, c.requires.room)))
+
+pub returns-then-count-gt16 : goal.returns-then-count-gt16
+returns-then-count-gt16 c =
+    c.push_eight.ensures ∙ ap (λ (x : List ℕ). x ++ last_digits 8 (c.args.number % 100000000)) c.push_up_to_sixteen.ensures
+    ∙ count_joined 8 c.args.count c.args.number c.args.self.now (omega arith)
