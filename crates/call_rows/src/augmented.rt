@@ -1,15 +1,16 @@
 //! Augmented operations (9.5) and payloads of NaNs (9.7).
 
+use crate::in_a_format::{two_values_in, value_in};
 use apfloat_augmented::{
     augmented_add, augmented_multiply, augmented_subtract, get_payload, set_payload,
     set_payload_signaling,
 };
 use formats_at_run_time::{BuiltInFormat, FlaggedFormat, InFormat};
 use rustc_apfloat::Float;
-use rustc_apfloat::ieee::{DoubleS, Flagged, HalfS, IeeeFlags, IeeeFloat, Semantics, SingleS};
+use rustc_apfloat::ieee::{DoubleS, Flagged, HalfS, IeeeFlags, Semantics, SingleS};
 use vector_lines::{
-    Answered, AugmentedCall, CallFault, ExtraField, Operand, Operands, PayloadCall, Returned,
-    RowAnswer, RowFormat, StatusField, ValueField, two_values, value_of,
+    Answered, AugmentedCall, CallFault, ExtraField, Operand, Operands, PayloadCall, RowAnswer,
+    RowFormat, StatusField, ValueField,
 };
 
 /// What an augmented operation returns in a format. It is made of several others, which are inlined, so rows can name
@@ -32,7 +33,7 @@ fn augmented<S: Flagged>(call: AugmentedCall, operands: Operands) -> Answered {
     if S::PRECISION >= S::BITS {
         return Err(CallFault::Support);
     }
-    let Some((x, y)) = two_values::<IeeeFloat<S>>(operands) else {
+    let Some((x, y)) = two_values_in::<S>(operands) else {
         return Err(CallFault::Operand);
     };
     let answer = match call {
@@ -72,7 +73,7 @@ impl InFormat for InPayload {
     type Output = Answered;
 
     fn in_format<S: Semantics>(self) -> Answered {
-        let Some(x) = value_of::<IeeeFloat<S>>(self.operand) else {
+        let Some(x) = value_in::<S>(self.operand) else {
             return Err(CallFault::Operand);
         };
         let value = match self.call {
@@ -80,6 +81,6 @@ impl InFormat for InPayload {
             PayloadCall::Set => set_payload(x),
             PayloadCall::SetSignaling => set_payload_signaling(x),
         };
-        Ok(RowAnswer::of(Returned::Value(value), None))
+        Ok(RowAnswer::told(ValueField::Bits(value.to_bits(), S::BITS)))
     }
 }

@@ -3,15 +3,14 @@
 //! `compare_between` is code of its own for each pair of formats, so rows can name a few pairs alone: of narrow and
 //! wide formats, with more exponents or more digits on either side, and of those without infinities.
 
+use crate::in_a_format::value_in;
 use apfloat_comparisons::{OnNan, Predicate, compare_between};
 use formats_at_run_time::BuiltInFormat;
 use rustc_apfloat::ieee::{
-    BFloatS, DoubleS, Flagged, Float8E4M3FNS, Float8E4M3FNUZS, HalfS, IeeeFloat, QuadS, SingleS,
+    BFloatS, DoubleS, Flagged, Float8E4M3FNS, Float8E4M3FNUZS, HalfS, QuadS, SingleS,
     X87DoubleExtendedS,
 };
-use vector_lines::{
-    Answered, CallFault, ExtraField, Operands, Returned, RowAnswer, RowFormat, ValueField, value_of,
-};
+use vector_lines::{Answered, CallFault, Operands, RowAnswer, RowFormat, ValueField};
 
 /// What a comparison of values of two formats returns.
 pub(crate) fn compared_between(
@@ -59,17 +58,12 @@ impl Comparison {
     #[inline(never)]
     fn of<S: Flagged, T: Flagged>(self) -> Answered {
         match (
-            value_of::<IeeeFloat<S>>(self.operands.first),
-            value_of::<IeeeFloat<T>>(self.operands.second),
+            value_in::<S>(self.operands.first),
+            value_in::<T>(self.operands.second),
         ) {
             (Some(x), Some(y)) => {
                 let answer = compare_between(self.predicate, self.on_nan, x, y);
-                let truth = answer.status.and(ValueField::Truth(answer.value));
-                let returned: Returned<IeeeFloat<S>> = Returned::Integer(
-                    truth,
-                    ExtraField::Nothing,
-                );
-                Ok(RowAnswer::of(returned, None))
+                Ok(RowAnswer::flagged(answer.status.and(ValueField::Truth(answer.value))))
             }
             _ => Err(CallFault::Operand),
         }

@@ -7,14 +7,15 @@ ghost use Rattle.apfloat_decimals.specs.ShortestSearch.{IsWithinQuad};
 ghost use Rattle.formats_at_run_time.specs.FormatKinds.{IfFormat};
 ghost use Rattle.rustc_apfloat.specs.Lawful.{format_with};
 
+use crate::in_a_format::{rounded_in, value_in};
 use apfloat_decimals::{Decimal, exact, read_decimal, rounded, shortest};
 use formats_at_run_time::{FlaggedFormat, InFormat};
 use rustc_apfloat::Round;
 use rustc_apfloat::ieee::{IeeeFloat, Semantics};
 use std::fmt::Write as _;
 use vector_lines::{
-    Answered, CallFault, DecimalCall, ExtraField, Operand, Request, Returned, RowAnswer, RowFormat,
-    Text, ValueField, value_of,
+    Answered, CallFault, DecimalCall, ExtraField, Operand, Request, RowAnswer, RowFormat, Text,
+    ValueField,
 };
 
 /// What a call of decimals returns in a format, if that is a built-in one with the flags of the built-in formats.
@@ -58,7 +59,7 @@ fn read<S: Semantics>(text: &str, round: Round) -> RowAnswer
     requires { IsWithinQuad (format_of S.Semantics) }
 {
     match read_decimal::<S>(text, round) {
-        Ok(answer) => RowAnswer::of(Returned::Rounded(answer), None),
+        Ok(answer) => rounded_in(answer, None),
         Err(error) => RowAnswer::refused(Text::of(error.0)),
     }
 }
@@ -68,7 +69,7 @@ fn read<S: Semantics>(text: &str, round: Round) -> RowAnswer
 fn written<S: Semantics>(call: DecimalCall, request: Request) -> Answered
     requires { IsWithinQuad (format_of S.Semantics) }
 {
-    let Some(x) = value_of::<IeeeFloat<S>>(request.operands.first) else {
+    let Some(x) = value_in::<S>(request.operands.first) else {
         return Err(CallFault::Operand);
     };
     match call {

@@ -7,13 +7,14 @@ ghost use Rattle.rustc_apfloat.specs.Lawful.{format_with};
 ghost use Rattle.apfloat_decimals.specs.Decimals.{HasQuadExponents};
 ghost use Rattle.formats_at_run_time.specs.FormatKinds.{IfFormat};
 
+use crate::in_a_format::value_in;
 use decimal_digits::{Written, digit_count, write_digits};
 use formats_at_run_time::{FlaggedFormat, InFormat};
 use rustc_apfloat::ieee::{IeeeFloat, Semantics};
 use std::str;
 use vector_lines::{
     Answered, CallFault, ExtraField, Operand, OperationCall, Request, RowAnswer, RowFormat,
-    StatusField, Text, ValueField, value_of,
+    StatusField, Text, ValueField,
 };
 
 /// What a call on the digits of a value returns in a format, if that is a built-in one with the flags of the built-in
@@ -40,7 +41,7 @@ impl InFormat for DigitsIn {
     ghost can = { λ _ kind. IfFormat kind (λ c. HasQuadExponents (format_with c)) };
 
     fn in_format<S: Semantics>(self) -> Answered {
-        let Some(x) = value_of::<IeeeFloat<S>>(self.request.operands.first) else {
+        let Some(x) = value_in::<S>(self.request.operands.first) else {
             return Err(CallFault::Operand);
         };
         match self.call {

@@ -1,13 +1,13 @@
 //! Operations on values of `x87` whose result has fewer digits, as the precision control of an x87 asks.
 
+use crate::in_a_format::rounded_in;
 use crate::in_another::{Operation, delivered, operation_of};
 use apfloat_odd::to_odd;
 use formats_at_run_time::BuiltInFormat;
 use rustc_apfloat::ieee::{Flagged, IeeeFloat, X87DoubleExtendedS};
 use rustc_apfloat::{Float, Round, StatusAnd};
 use vector_lines::{
-    Answered, CallFault, CallInFormat, FewerDigits, FormatOfCall, Operands, Returned, RowAnswer,
-    RowFormat,
+    Answered, CallFault, CallInFormat, FewerDigits, FormatOfCall, Operands, RowFormat,
 };
 
 /// What an operation on values of `x87` returns, as a value of `x87`; without a mode it is rounded to odd.
@@ -45,7 +45,7 @@ impl CallInFormat for InFewerDigits {
                 .convert_to::<X87DoubleExtendedS>(Round::TowardZero, &mut loses_info)
                 .value
         };
-        Ok(RowAnswer::of(Returned::Rounded(answer.status.and(value)), None))
+        Ok(rounded_in(answer.status.and(value), None))
     }
 }
 

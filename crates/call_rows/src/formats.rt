@@ -1,6 +1,7 @@
 //! The calls of rows in their formats, including those that only some types have.
 
 use crate::decimals::in_decimals;
+use crate::in_a_format::{rounded_in, two_values_in, value_in};
 use crate::of_type::of_type;
 use apfloat_ieee::AnyFloat;
 use rustc_apfloat::ieee::{Flagged, IeeeFloat};
@@ -9,7 +10,7 @@ use rustc_apfloat::{FUSED_LIMIT, Float, Round, StatusAnd};
 use std::fmt::Debug;
 use vector_lines::{
     Answered, Call, CallFault, CallInFormat, ConversionCall, ExtraField, FormatCall, Formats,
-    Operands, Quanta, Request, Returned, RowAnswer, RowFormat, any_value, two_values, value_of,
+    Operands, Quanta, Request, Returned, RowAnswer, RowFormat, any_value, value_of,
 };
 
 /// What a call returns in its formats; `text` is its operand if that is a text.
@@ -85,7 +86,7 @@ impl CallInFormat for Conversion {
     fn made_in<T: Flagged>(self) -> Answered {
         let mut loses_info = false;
         let answer = self.x.convert_to::<T>(self.round, &mut loses_info);
-        let columns = RowAnswer::of(Returned::Rounded(answer), self.stated);
+        let columns = rounded_in(answer, self.stated);
         Ok(columns.with(ExtraField::LosesInfo(loses_info)))
     }
 }
@@ -103,7 +104,7 @@ fn of_format_alone<S: Flagged>(call: FormatCall, request: Request) -> Answered {
     match call {
         FormatCall::CFmodSteps => remainder_steps::<S>(request),
         _ => match rounded_once::<S>(call, request) {
-            Ok(answer) => Ok(RowAnswer::of(Returned::Rounded(answer), request.stated)),
+            Ok(answer) => Ok(rounded_in(answer, request.stated)),
             Err(fault) => Err(fault),
         },
     }
@@ -134,7 +135,7 @@ type RoundedIn<S> = Result<StatusAnd<IeeeFloat<S>>, CallFault>;
 
 /// A product in a format of any precision.
 fn wide_product<S: Flagged>(operands: Operands, round: Round) -> RoundedIn<S> {
-    match two_values::<IeeeFloat<S>>(operands) {
+    match two_values_in::<S>(operands) {
         Some((x, y)) => Ok(x.wide_mul_r(y, round)),
         None => Err(CallFault::Operand),
     }
@@ -142,10 +143,7 @@ fn wide_product<S: Flagged>(operands: Operands, round: Round) -> RoundedIn<S> {
 
 /// A product plus a third value, rounded once, in a format of any precision.
 fn wide_fused_sum<S: Flagged>(operands: Operands, round: Round) -> RoundedIn<S> {
-    match (
-        two_values::<IeeeFloat<S>>(operands),
-        value_of(operands.third),
-    ) {
+    match (two_values_in::<S>(operands), value_in(operands.third)) {
         (Some((x, y)), Some(z)) => Ok(x.wide_mul_add_r(y, z, round)),
         _ => Err(CallFault::Operand),
     }
@@ -156,11 +154,7 @@ fn fused_sum<S: Flagged>(operands: Operands, mode: Option<Round>) -> RoundedIn<S
     if S::PRECISION > FUSED_LIMIT {
         return Err(CallFault::Support);
     }
-    match (
-        two_values::<IeeeFloat<S>>(operands),
-        value_of(operands.third),
-        mode,
-    ) {
+    match (two_values_in::<S>(operands), value_in(operands.third), mode) {
         (Some((x, y)), Some(z), None) => Ok(x.mul_add(y, z)),
         (Some((x, y)), Some(z), Some(round)) => Ok(x.mul_add_r(y, z, round)),
         _ => Err(CallFault::Operand),
@@ -170,12 +164,12 @@ fn fused_sum<S: Flagged>(operands: Operands, mode: Option<Round>) -> RoundedIn<S
 /// A remainder, with the steps that it takes and their bound.
 #[inline(never)]
 fn remainder_steps<S: Flagged>(request: Request) -> Answered {
-    let Some((x, y)) = two_values::<IeeeFloat<S>>(request.operands) else {
+    let Some((x, y)) = two_values_in::<S>(request.operands) else {
         return Err(CallFault::Operand);
     };
     let (answer, taken) = x.c_fmod_steps(y);
     let bound = x.ilogb().saturating_sub(y.ilogb()).saturating_add(1).max(0);
-    let columns = RowAnswer::of(Returned::Rounded(answer), request.stated);
+    let columns = rounded_in(answer, request.stated);
     Ok(columns.with(ExtraField::Steps(taken, bound)))
 }
 

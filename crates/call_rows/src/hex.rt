@@ -1,5 +1,6 @@
 //! The hexadecimal digits of a value (5.12.3), in the built-in formats.
 
+use crate::in_a_format::value_in;
 use formats_at_run_time::{FlaggedFormat, InFormat};
 use hex_digits::{write_hex, write_hex_rounded};
 use rustc_apfloat::Round;
@@ -7,7 +8,7 @@ use rustc_apfloat::ieee::{IeeeFloat, Semantics};
 use std::str;
 use vector_lines::{
     Answered, CallFault, ExtraField, Operand, OperationCall, Request, RowAnswer, RowFormat,
-    StatusField, Text, ValueField, value_of,
+    StatusField, Text, ValueField,
 };
 
 /// What a call on the hexadecimal digits of a value returns in a format, if that is a built-in one with the flags of
@@ -32,7 +33,7 @@ impl InFormat for HexIn {
     type Output = Answered;
 
     fn in_format<S: Semantics>(self) -> Answered {
-        let Some(x) = value_of::<IeeeFloat<S>>(self.request.operands.first) else {
+        let Some(x) = value_in::<S>(self.request.operands.first) else {
             return Err(CallFault::Operand);
         };
         match self.call {

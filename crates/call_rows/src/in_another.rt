@@ -3,12 +3,13 @@
 //! The operands carry their format with them, so that there is a copy of the code for each target, and not for each
 //! pair of formats.
 
+use crate::in_a_format::rounded_in;
 use apfloat_ieee::AnyFloat;
 use rustc_apfloat::ieee::{Flagged, IeeeFloat};
 use rustc_apfloat::{Round, StatusAnd};
 use vector_lines::{
-    Answered, CallFault, CallInFormat, FormatOfCall, Operands, Quanta, Request, Returned,
-    RowAnswer, RowFormat, any_value,
+    Answered, CallFault, CallInFormat, FormatOfCall, Operands, Quanta, Request, RowFormat,
+    any_value,
 };
 
 /// What an operation on values of a built-in format returns in another.
@@ -88,7 +89,7 @@ impl CallInFormat for InTarget {
 
     fn made_in<T: Flagged>(self) -> Answered {
         let answer = delivered::<T>(self.operation, self.round);
-        Ok(RowAnswer::of(Returned::Rounded(answer), self.stated))
+        Ok(rounded_in(answer, self.stated))
     }
 }
 

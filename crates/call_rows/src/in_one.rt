@@ -2,6 +2,7 @@
 
 ghost use Rattle.std.specs.Prelude.{◌≤◌};
 
+use crate::in_a_format::{rounded_in, two_values_in, value_in};
 use apfloat_comparisons::{
     Extremum, class_of, compare, convert_to_signed, convert_to_signed_exact, convert_to_unsigned,
     convert_to_unsigned_exact, extremum_number_of, extremum_of, integer_log_b, is_canonical,
@@ -11,9 +12,8 @@ use apfloat_comparisons::{
 use rustc_apfloat::ieee::{Flagged, IeeeFloat};
 use rustc_apfloat::{Float, Round, StatusAnd};
 use vector_lines::{
-    Answered, CallFault, CallInFormat, ExtraField, GeneralCall, Operand, OperationCall, OrderCall,
-    Request, Returned, RowAnswer, RowFormat, ToIntegerCall, ValueField, mask, shown, two_values,
-    value_of,
+    Answered, CallFault, CallInFormat, GeneralCall, Operand, OperationCall, OrderCall, Request,
+    RowAnswer, RowFormat, ToIntegerCall, ValueField, mask, shown,
 };
 
 /// What an operation returns in a format.
@@ -54,16 +54,16 @@ fn operated<S: Flagged>(call: OperationCall, request: Request) -> Answered {
 /// What an operation on two values returns.
 #[inline(never)]
 fn of_two<S: Flagged>(call: OperationCall, request: Request) -> Answered {
-    let Some((x, y)) = two_values::<IeeeFloat<S>>(request.operands) else {
+    let Some((x, y)) = two_values_in::<S>(request.operands) else {
         return Err(CallFault::Operand);
     };
     match call {
         OperationCall::Comparison(predicate, on_nan) => {
             let answer = compare(predicate, on_nan, x, y);
-            Ok(field::<S>(answer.status.and(ValueField::Truth(answer.value))))
+            Ok(RowAnswer::flagged(answer.status.and(ValueField::Truth(answer.value))))
         }
         OperationCall::Extremum(which, prefers_number) => {
-            Ok(rounded(extremum(which, prefers_number, x, y), request))
+            Ok(rounded_in(extremum(which, prefers_number, x, y), request.stated))
         }
         OperationCall::Order(call) => in_total_order(call, x, y),
         _ => Err(CallFault::Support),
@@ -100,18 +100,18 @@ fn in_total_order<S: Flagged>(call: OrderCall, x: IeeeFloat<S>, y: IeeeFloat<S>)
 /// What an operation on one value returns.
 #[inline(never)]
 fn of_one<S: Flagged>(call: GeneralCall, request: Request) -> Answered {
-    let Some(x) = value_of::<IeeeFloat<S>>(request.operands.first) else {
+    let Some(x) = value_in::<S>(request.operands.first) else {
         return Err(CallFault::Operand);
     };
     match call {
-        GeneralCall::LogB => Ok(rounded(log_b(x, request.round), request)),
+        GeneralCall::LogB => Ok(rounded_in(log_b(x, request.round), request.stated)),
         GeneralCall::RoundToIntegralIn => {
-            Ok(rounded(round_to_integral_in(x, request.round), request))
+            Ok(rounded_in(round_to_integral_in(x, request.round), request.stated))
         }
         GeneralCall::IntegerLogB => {
             let answer = integer_log_b(x);
             let value = ValueField::Signed(i128::from(answer.value));
-            Ok(field::<S>(answer.status.and(value)))
+            Ok(RowAnswer::flagged(answer.status.and(value)))
         }
         GeneralCall::Class => Ok(RowAnswer::told(ValueField::Text(shown(class_of(x))))),
         GeneralCall::Radix => Ok(RowAnswer::told(ValueField::Unsigned(u128::from(radix(x))))),
@@ -136,8 +136,8 @@ fn scaled<S: Flagged>(request: Request) -> Answered {
     let Operand::Integer(power) = request.operands.second else {
         return Err(CallFault::Operands);
     };
-    match value_of::<IeeeFloat<S>>(request.operands.first) {
-        Some(x) => Ok(rounded(x.scale_b(power, request.round), request)),
+    match value_in::<S>(request.operands.first) {
+        Some(x) => Ok(rounded_in(x.scale_b(power, request.round), request.stated)),
         None => Err(CallFault::Operand),
     }
 }
@@ -151,7 +151,7 @@ fn to_integer<S: Flagged>(call: ToIntegerCall, request: Request) -> Answered {
     let Ok(width) = usize::try_from(width) else {
         return Err(CallFault::Operands);
     };
-    let Some(x) = value_of::<IeeeFloat<S>>(request.operands.first) else {
+    let Some(x) = value_in::<S>(request.operands.first) else {
         return Err(CallFault::Operand);
     };
     if width < 1 || width > 128 {
@@ -159,10 +159,10 @@ fn to_integer<S: Flagged>(call: ToIntegerCall, request: Request) -> Answered {
     }
     match call {
         ToIntegerCall::Unsigned | ToIntegerCall::UnsignedExact => {
-            Ok(field::<S>(unsigned(call, x, width, request.round)))
+            Ok(RowAnswer::flagged(unsigned(call, x, width, request.round)))
         }
         _ if width < 2 => Err(CallFault::Operands),
-        _ => Ok(field::<S>(signed(call, x, width, request.round))),
+        _ => Ok(RowAnswer::flagged(signed(call, x, width, request.round))),
     }
 }
 
@@ -198,15 +198,4 @@ fn signed<S: Flagged>(
         _ => convert_to_signed(x, width, round),
     };
     answer.status.and(ValueField::Signed(answer.value))
-}
-
-/// The columns for a value and its flags.
-fn rounded<S: Flagged>(answer: StatusAnd<IeeeFloat<S>>, request: Request) -> RowAnswer {
-    RowAnswer::of(Returned::Rounded(answer), request.stated)
-}
-
-/// The columns for something else with flags.
-fn field<S: Flagged>(answer: StatusAnd<ValueField>) -> RowAnswer {
-    let returned: Returned<IeeeFloat<S>> = Returned::Integer(answer, ExtraField::Nothing);
-    RowAnswer::of(returned, None)
 }

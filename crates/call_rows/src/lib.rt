@@ -13,6 +13,7 @@ mod fewer_digits;
 mod flags;
 mod formats;
 mod hex;
+mod in_a_format;
 mod in_another;
 mod in_one;
 mod magnitudes;

@@ -4,16 +4,17 @@ ghost use Rattle.std.specs.Prelude.{◌≤◌, ◌<◌};
 
 use crate::fewer_digits::in_fewer_digits;
 use crate::formats::answer_of_call;
+use crate::in_a_format::{rounded_in, value_in};
 use crate::in_another::in_another;
 use apfloat_odd::{
     from_i128_odd, from_u128_odd, round_to_odd_integral, to_i128_odd, to_odd, to_u128_odd,
 };
 use formats_at_run_time::{InFlaggedFormat, InFormat};
 use rustc_apfloat::ieee::{Flagged, IeeeFloat, Semantics};
-use rustc_apfloat::{Float, Round, Status, StatusAnd};
+use rustc_apfloat::{Float, Round, Status};
 use vector_lines::{
-    Answered, Call, CallFault, ConversionCall, ExtraField, FormatOfCall, Formats, OddCall, Operand,
-    Request, Returned, RowAnswer, RowFormat, StatusField, ValueField, value_of,
+    Answered, Call, CallFault, ConversionCall, FormatOfCall, Formats, OddCall, Operand, Request,
+    RowAnswer, RowFormat, StatusField, ValueField,
 };
 
 /// What an operation rounded to odd returns in its formats, of which the target is a built-in one.
@@ -95,7 +96,7 @@ impl InFormat for MadeOdd {
         }
         let truncated = IeeeFloat::<S>::from_bits(self.bits);
         let answer = to_odd(self.status.and(truncated), truncated.is_negative());
-        Ok(RowAnswer::of(Returned::Rounded(answer), None))
+        Ok(rounded_in(answer, None))
     }
 }
 
@@ -123,8 +124,8 @@ impl InFlaggedFormat for InOdd {
 #[inline(never)]
 fn from_integer<S: Flagged>(operand: Operand) -> Answered {
     match operand {
-        Operand::Unsigned(number) => Ok(rounded(from_u128_odd::<S>(number))),
-        Operand::Signed(number) => Ok(rounded(from_i128_odd::<S>(number))),
+        Operand::Unsigned(number) => Ok(rounded_in(from_u128_odd::<S>(number), None)),
+        Operand::Signed(number) => Ok(rounded_in(from_i128_odd::<S>(number), None)),
         _ => Err(CallFault::Operands),
     }
 }
@@ -132,15 +133,10 @@ fn from_integer<S: Flagged>(operand: Operand) -> Answered {
 /// A value as an integral value.
 #[inline(never)]
 fn integral<S: Flagged>(operand: Operand) -> Answered {
-    match value_of::<IeeeFloat<S>>(operand) {
-        Some(x) => Ok(rounded(round_to_odd_integral(x))),
+    match value_in::<S>(operand) {
+        Some(x) => Ok(rounded_in(round_to_odd_integral(x), None)),
         None => Err(CallFault::Operand),
     }
-}
-
-/// The columns for a value and its flags.
-fn rounded<S: Flagged>(answer: StatusAnd<IeeeFloat<S>>) -> RowAnswer {
-    RowAnswer::of(Returned::Rounded(answer), None)
 }
 
 /// A value as an integer.
@@ -152,7 +148,7 @@ fn to_integer<S: Flagged>(call: OddCall, operand: Operand, width: Operand) -> An
     let Ok(width) = usize::try_from(width) else {
         return Err(CallFault::Operands);
     };
-    let Some(x) = value_of::<IeeeFloat<S>>(operand) else {
+    let Some(x) = value_in::<S>(operand) else {
         return Err(CallFault::Operand);
     };
     if width < 1 || width > 128 {
@@ -171,7 +167,7 @@ fn unsigned<S: Flagged>(x: IeeeFloat<S>, width: usize) -> RowAnswer
     requires high { width ≤ 128 }
 {
     let answer = to_u128_odd(x, width);
-    integer::<S>(answer.status.and(ValueField::Unsigned(answer.value)))
+    RowAnswer::flagged(answer.status.and(ValueField::Unsigned(answer.value)))
 }
 
 /// A value as a signed integer of this width.
@@ -180,11 +176,5 @@ fn signed<S: Flagged>(x: IeeeFloat<S>, width: usize) -> RowAnswer
     requires high { width ≤ 128 }
 {
     let answer = to_i128_odd(x, width);
-    integer::<S>(answer.status.and(ValueField::Signed(answer.value)))
-}
-
-/// The columns for an integer and its flags.
-fn integer<S: Flagged>(answer: StatusAnd<ValueField>) -> RowAnswer {
-    let returned: Returned<IeeeFloat<S>> = Returned::Integer(answer, ExtraField::Nothing);
-    RowAnswer::of(returned, None)
+    RowAnswer::flagged(answer.status.and(ValueField::Signed(answer.value)))
 }

@@ -7,6 +7,7 @@
 ghost use Rattle.std.specs.Prelude.{◌<◌, ◌≤◌};
 
 use crate::formats::answer_of_call;
+use crate::in_a_format::{rounded_in, two_values_in, value_in};
 use crate::in_one::in_format;
 use apfloat_machines::{
     Flush, Machine, MinimumRule, default_nan, flushed, greatest, least, settled,
@@ -16,10 +17,9 @@ use formats_at_run_time::{BuiltInFormat, InFormat};
 use rustc_apfloat::ieee::{Flagged, IeeeFloat, Semantics};
 use rustc_apfloat::{Float, Status, StatusAnd};
 use vector_lines::{
-    Answered, Call, CallFault, CallInFormat, ConversionCall, ExtraField, FormatCall, Formats,
-    GeneralCall, IntegerCall, MachineFormat, OneValueCall, Operand, Operands, OperationCall,
-    Request, Returned, RowAnswer, RowFormat, StatusField, TwoValuesCall, ValueField, two_values,
-    value_of,
+    Answered, Call, CallFault, CallInFormat, ConversionCall, FormatCall, Formats, GeneralCall,
+    IntegerCall, MachineFormat, OneValueCall, Operand, Operands, OperationCall, Request, RowAnswer,
+    RowFormat, StatusField, TwoValuesCall, ValueField,
 };
 
 /// What a call returns in the formats of a machine.
@@ -80,11 +80,6 @@ fn integral_answer(target: MachineFormat, call: OperationCall, request: Request)
         }
         _ => Err(CallFault::Support),
     }
-}
-
-/// The columns for a value and its flags.
-fn rounded<S: Flagged>(answer: StatusAnd<IeeeFloat<S>>) -> RowAnswer {
-    RowAnswer::of(Returned::Rounded(answer), None)
 }
 
 /// The answer of a call, which the machine settles.
@@ -159,17 +154,17 @@ fn settled_answer<S: Flagged>(
 ) -> Answered
     requires { S.PRECISION < S.BITS }
 {
-    let Some(x) = value_of::<IeeeFloat<S>>(operands.first) else {
+    let Some(x) = value_in::<S>(operands.first) else {
         return Err(CallFault::Operand);
     };
-    let Some(y) = value_of::<IeeeFloat<S>>(operands.second) else {
-        return Ok(rounded(settled_unary(machine, x, plain)));
+    let Some(y) = value_in::<S>(operands.second) else {
+        return Ok(rounded_in(settled_unary(machine, x, plain), None));
     };
-    let Some(z) = value_of::<IeeeFloat<S>>(operands.third) else {
-        return Ok(rounded(settled(machine, x, y, plain)));
+    let Some(z) = value_in::<S>(operands.third) else {
+        return Ok(rounded_in(settled(machine, x, y, plain), None));
     };
     match settled_fused(machine, x, y, z, plain) {
-        Some(answer) => Ok(rounded(answer)),
+        Some(answer) => Ok(rounded_in(answer, None)),
         None => Err(CallFault::Support),
     }
 }
@@ -188,17 +183,16 @@ fn width_of(operand: Operand) -> Option<usize> {
 /// An unsigned integer, as the machine settles it, if it has conversions to those.
 #[inline(never)]
 fn unsigned<S: Flagged>(machine: Machine, operands: Operands, plain: StatusAnd<u128>) -> Answered {
-    let (Some(x), Some(width)) = (
-        value_of::<IeeeFloat<S>>(operands.first),
-        width_of(operands.second),
-    ) else {
+    let (Some(x), Some(width)) = (value_in::<S>(operands.first), width_of(operands.second)) else {
         return Err(CallFault::Operand);
     };
     if width < 1 || width > 128 {
         return Err(CallFault::Operands);
     }
     match settled_unsigned(machine, x, width, plain) {
-        Some(answer) => Ok(integer::<S>(answer.status.and(ValueField::Unsigned(answer.value)))),
+        Some(answer) => Ok(RowAnswer::flagged(
+            answer.status.and(ValueField::Unsigned(answer.value)),
+        )),
         None => Err(CallFault::Support),
     }
 }
@@ -206,23 +200,14 @@ fn unsigned<S: Flagged>(machine: Machine, operands: Operands, plain: StatusAnd<u
 /// A signed integer, as the machine settles it.
 #[inline(never)]
 fn signed<S: Flagged>(machine: Machine, operands: Operands, plain: StatusAnd<i128>) -> Answered {
-    let (Some(x), Some(width)) = (
-        value_of::<IeeeFloat<S>>(operands.first),
-        width_of(operands.second),
-    ) else {
+    let (Some(x), Some(width)) = (value_in::<S>(operands.first), width_of(operands.second)) else {
         return Err(CallFault::Operand);
     };
     if width < 2 || width > 128 {
         return Err(CallFault::Operands);
     }
     let answer = settled_signed(machine, x, width, plain);
-    Ok(integer::<S>(answer.status.and(ValueField::Signed(answer.value))))
-}
-
-/// The columns for an integer and its flags.
-fn integer<S: Flagged>(answer: StatusAnd<ValueField>) -> RowAnswer {
-    let returned: Returned<IeeeFloat<S>> = Returned::Integer(answer, ExtraField::Nothing);
-    RowAnswer::of(returned, None)
+    Ok(RowAnswer::flagged(answer.status.and(ValueField::Signed(answer.value))))
 }
 
 /// A minimum or a maximum by a rule.
@@ -242,13 +227,13 @@ impl CallInFormat for OfRule {
         if S::PRECISION >= S::BITS {
             return Err(CallFault::Support);
         }
-        let Some((x, y)) = two_values::<IeeeFloat<S>>(self.operands) else {
+        let Some((x, y)) = two_values_in::<S>(self.operands) else {
             return Err(CallFault::Operand);
         };
         if self.is_least {
-            Ok(rounded(least(self.rule, self.machine, x, y)))
+            Ok(rounded_in(least(self.rule, self.machine, x, y), None))
         } else {
-            Ok(rounded(greatest(self.rule, self.machine, x, y)))
+            Ok(rounded_in(greatest(self.rule, self.machine, x, y), None))
         }
     }
 }
@@ -284,7 +269,7 @@ impl InFormat for IsLost {
 
     /// The answer that is settled is a zero, so that a NaN is the machine's.
     fn in_format<S: Semantics>(self) -> bool {
-        match value_of::<IeeeFloat<S>>(self.operand) {
+        match value_in::<S>(self.operand) {
             Some(x) => {
                 let zero = Status::OK.and(IeeeFloat::<S>::zero());
                 settled_conversion(self.machine, x, zero).value.is_nan()
@@ -314,12 +299,12 @@ impl CallInFormat for SettledConversion {
             return Err(CallFault::Support);
         };
         if self.is_lost {
-            return Ok(rounded(status.and(default_nan::<T>(self.target.machine))));
+            return Ok(rounded_in(status.and(default_nan::<T>(self.target.machine)), None));
         }
         if T::PRECISION >= T::BITS {
             return Err(CallFault::Support);
         }
         let plain = status.and(IeeeFloat::<T>::from_bits(bits));
-        Ok(rounded(flushed_if(self.target.flush, plain)))
+        Ok(rounded_in(flushed_if(self.target.flush, plain), None))
     }
 }

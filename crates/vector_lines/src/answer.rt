@@ -104,11 +104,7 @@ impl RowAnswer {
                 status: StatusField::Nothing,
                 extra: ExtraField::Exponent(exponent),
             },
-            Returned::Integer(answer, extra) => RowAnswer {
-                value: answer.value,
-                status: StatusField::Flags(answer.status),
-                extra,
-            },
+            Returned::Integer(answer, extra) => RowAnswer::flagged(answer).with(extra),
             Returned::Field(value) => RowAnswer::told(value),
             Returned::Refused(reason) => RowAnswer::refused(reason),
         }
@@ -128,6 +124,15 @@ impl RowAnswer {
         RowAnswer {
             value,
             status: StatusField::Nothing,
+            extra: ExtraField::Nothing,
+        }
+    }
+
+    /// The columns for a result with flags.
+    pub fn flagged(answer: StatusAnd<ValueField>) -> RowAnswer {
+        RowAnswer {
+            value: answer.value,
+            status: StatusField::Flags(answer.status),
             extra: ExtraField::Nothing,
         }
     }

@@ -58,6 +58,14 @@ impl Task {
             skips_unknown: false,
         }
     }
+
+    /// The same check, which says how far it has come if that is shown.
+    pub fn showing_progress(self, shows_progress: bool) -> Task {
+        Task {
+            shows_progress,
+            ..self
+        }
+    }
 }
 
 /// The kinds of lines of an input.
@@ -137,26 +145,40 @@ impl<M: Calls> Check<M> {
                 Ok(_) => {}
                 Err(error) => return Err(Failure::of_input("read", error)),
             }
-            let text = without_end(line.as_slice());
-            if self.tally.lines() == 0 {
-                self.take_line(text.strip_prefix(BYTE_ORDER_MARK).unwrap_or(text), out)?;
-            } else {
-                self.take_line(text, out)?;
-            }
-            if let Some(first) = self.task.first
-                && self.tally.differing >= first
-            {
+            self.take_next(without_end(line.as_slice()), out)?;
+            if self.is_limit_reached() {
                 break;
             }
-            let lines = self.tally.lines();
-            if lines % LINES == 0
-                && let Some(seconds) = progress.due(clock)
-            {
-                // A failure of this write is harmless.
-                let _ = writeln!(err, "check_vectors: {lines} lines after {seconds} seconds");
-            }
+            self.report_progress(&mut progress, clock, err);
         }
         Ok(())
+    }
+
+    /// Checks the next line, of which the first one may begin with a byte order mark.
+    fn take_next<W: Write>(&mut self, text: &[u8], out: &mut W) -> Result<(), Failure> {
+        if self.tally.lines() == 0 {
+            return self.take_line(text.strip_prefix(BYTE_ORDER_MARK).unwrap_or(text), out);
+        }
+        self.take_line(text, out)
+    }
+
+    /// Whether as many rows differ as end the check.
+    fn is_limit_reached(&self) -> bool {
+        match self.task.first {
+            Some(first) => self.tally.differing >= first,
+            None => false,
+        }
+    }
+
+    /// Says how far a long check has come, if it is time to say so. A failure of this write is harmless.
+    fn report_progress<C: Clock, V: Write>(&self, progress: &mut Progress, clock: &C, err: &mut V) {
+        let lines = self.tally.lines();
+        if lines % LINES != 0 {
+            return;
+        }
+        if let Some(seconds) = progress.due(clock) {
+            let _ = writeln!(err, "check_vectors: {lines} lines after {seconds} seconds");
+        }
     }
 
     /// Checks one line.
@@ -255,9 +277,19 @@ impl<M: Calls> Check<M> {
             self.takes_difference(text, true, out)?;
             return Ok(());
         }
-        if let Some(error) = row.fault() {
-            return self.take_error(error, out);
+        match row.fault() {
+            Some(error) => self.take_error(error, out),
+            None => self.take_reply(row, text, out),
         }
+    }
+
+    /// Checks a command whose reply is not the expected one as it is written, but may be the same result.
+    fn take_reply<W: Write>(
+        &mut self,
+        row: CommandRow<'_>,
+        text: &str,
+        out: &mut W,
+    ) -> Result<(), Failure> {
         let wrong = row.wrong_reply(self.alloc)?;
         if wrong.is_some()
             && let Some(error) = row.width_fault()

@@ -1,6 +1,6 @@
 //! The arguments of the program, and how it ends.
 
-use crate::check::{Check, Lines, Task};
+use crate::check::{Check, Lines, Tally, Task};
 use crate::failure::Failure;
 use crate::fpgen::Fpgen;
 use crate::request::Calls;
@@ -123,19 +123,15 @@ pub fn run<M: Calls, R: Files + Clock + Input + AllocGlobal, W: Write, V: Write>
         Err(error) => return refuse(error, err),
     };
     match job_of(words.as_slice()) {
-        Ok(Job::Check(task, None)) => {
-            let task = Task {
-                shows_progress: is_terminal,
-                ..task
-            };
-            check_reader(calls, rt, "standard input", rt.reader(), task, out, err)
-        }
-        Ok(Job::Check(task, Some(name))) => {
-            let task = Task {
-                shows_progress: is_terminal,
-                ..task
-            };
-            check_file(calls, rt, name, task, out, err)
+        Ok(Job::Check(task, file)) => {
+            check_input(
+                calls,
+                rt,
+                file,
+                task.showing_progress(is_terminal),
+                out,
+                err,
+            )
         }
         Ok(Job::About(about)) => answer(about, out, err),
         Err(wrong) => refuse_word(wrong, err),
@@ -201,16 +197,15 @@ enum NextOption<'a> {
 
 /// The task with the next option.
 fn next_option(task: Task, words: &[String]) -> NextOption<'_> {
-    match words {
-        [] => NextOption::End,
-        [word] if matches!(word.as_str(), "--first" | "--testfloat") => {
-            wrong("a word is missing after", word)
-        }
-        [word, others @ ..] if word.as_str() == "--summary" => {
+    let [option, others @ ..] = words else {
+        return NextOption::End;
+    };
+    match option.as_str() {
+        "--summary" => {
             let is_summary = true;
             NextOption::Known(Task { is_summary, ..task }, others)
         }
-        [word, others @ ..] if word.as_str() == "--skip-unknown" => {
+        "--skip-unknown" => {
             let skips_unknown = true;
             NextOption::Known(
                 Task {
@@ -220,41 +215,45 @@ fn next_option(task: Task, words: &[String]) -> NextOption<'_> {
                 others,
             )
         }
-        [word, count, others @ ..] if word.as_str() == "--first" => {
-            match count.as_str().parse::<u64>() {
-                Ok(count) => {
-                    let first = Some(count);
-                    NextOption::Known(Task { first, ..task }, others)
-                }
-                Err(_) => wrong("no count of rows", count),
-            }
-        }
-        _ => option_on_lines(task, words),
-    }
-}
-
-/// The task with the next option, if that says what the lines are or is an option of the program that writes them.
-fn option_on_lines(task: Task, words: &[String]) -> NextOption<'_> {
-    match words {
-        [word, others @ ..] if word.as_str() == "--fpgen" => {
+        "--first" => limited(task, option, others),
+        "--testfloat" => on_testfloat(task, option, others),
+        "--fpgen" => {
             with_lines(
                 task,
                 Lines::Fpgen(Fpgen::new().skipping(task.skips_unknown)),
                 others,
             )
         }
-        [word, name, others @ ..] if word.as_str() == "--testfloat" => {
-            match TestFloat::named(name.as_str()) {
-                Some(function) => with_lines(task, Lines::TestFloat(function), others),
-                None if task.skips_unknown => with_lines(task, Lines::Unknown, others),
-                None => wrong("no such function of TestFloat", name),
-            }
-        }
-        [word, others @ ..] => match task.lines.with(word.as_str()) {
+        word => match task.lines.with(word) {
             Some(lines) => with_lines(task, lines, others),
             None => NextOption::End,
         },
-        [] => NextOption::End,
+    }
+}
+
+/// The task that ends after as many rows that differ as the word after the option says.
+fn limited<'a>(task: Task, option: &'a String, words: &'a [String]) -> NextOption<'a> {
+    let [count, others @ ..] = words else {
+        return wrong("a word is missing after", option);
+    };
+    match count.as_str().parse::<u64>() {
+        Ok(count) => {
+            let first = Some(count);
+            NextOption::Known(Task { first, ..task }, others)
+        }
+        Err(_) => wrong("no count of rows", count),
+    }
+}
+
+/// The task on lines of the function of TestFloat that the word after the option names.
+fn on_testfloat<'a>(task: Task, option: &'a String, words: &'a [String]) -> NextOption<'a> {
+    let [name, others @ ..] = words else {
+        return wrong("a word is missing after", option);
+    };
+    match TestFloat::named(name.as_str()) {
+        Some(function) => with_lines(task, Lines::TestFloat(function), others),
+        None if task.skips_unknown => with_lines(task, Lines::Unknown, others),
+        None => wrong("no such function of TestFloat", name),
     }
 }
 
@@ -327,15 +326,18 @@ fn answer<W: Write, V: Write>(about: About, out: &mut W, err: &mut V) -> u8 {
     }
 }
 
-/// Checks the lines of a file. Returns the exit status.
-fn check_file<M: Calls, R: Files + Clock + AllocGlobal, W: Write, V: Write>(
+/// Checks the lines of a file, or of standard input. Returns the exit status.
+fn check_input<M: Calls, R: Files + Clock + Input + AllocGlobal, W: Write, V: Write>(
     calls: M,
     rt: &R,
-    name: &str,
+    file: Option<&str>,
     task: Task,
     out: &mut W,
     err: &mut V,
 ) -> u8 {
+    let Some(name) = file else {
+        return check_reader(calls, rt, "standard input", rt.reader(), task, out, err);
+    };
     match fs::open(rt, name) {
         Ok(file) => check_reader(calls, rt, name, file, task, out, err),
         Err(error) => report(name, &Failure::of_input("open", error), err),
@@ -378,13 +380,27 @@ pub fn check_lines<M: Calls, R: Clock + AllocGlobal, B: BufRead, W: Write, V: Wr
         return report(name, &Failure::Output(error), err);
     }
     // The counts include what was checked before a failure.
-    match (ended, write_counts(&check, &mut out)) {
-        (_, Err(error)) => report(name, &Failure::from(error), err),
-        (Err(failure), Ok(())) => report(name, &failure, err),
-        (Ok(()), Ok(())) if check.tally().is_empty() => {
+    let written = write_counts(&check, &mut out);
+    status_of_check(name, ended, written, check.tally(), err)
+}
+
+/// Reports how a check ended whose counts were written, unless there is nothing to report. Returns the exit status.
+fn status_of_check<V: Write>(
+    name: &str,
+    ended: Result<(), Failure>,
+    written: io::Result<()>,
+    tally: Tally,
+    err: &mut V,
+) -> u8 {
+    if let Err(error) = written {
+        return report(name, &Failure::from(error), err);
+    }
+    match ended {
+        Err(failure) => report(name, &failure, err),
+        Ok(()) if tally.is_empty() => {
             status_after(writeln!(err, "check_vectors: {name}: no rows"), 2)
         }
-        (Ok(()), Ok(())) => check.tally().status(),
+        Ok(()) => tally.status(),
     }
 }
 
