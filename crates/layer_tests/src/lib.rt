@@ -1,5 +1,5 @@
 //! Tests of the layers below the public calls, of decimals, of what pairs have beyond `Float`, and of the crates above
-//! the library: comparisons, augmented operations, rounding to odd, machines.
+//! the library: comparisons, augmented operations, rounding to odd, machines, storage formats.
 //!
 //! They are in a separate crate, since testing a crate proves the whole crate again.
 #![tactic(auto)]
@@ -19,6 +19,10 @@ mod decimal_values;
 #[cfg(test)]
 mod decimals;
 #[cfg(test)]
+mod e3m4;
+#[cfg(test)]
+mod e3m4_rows;
+#[cfg(test)]
 mod eight_bits;
 #[cfg(test)]
 mod format_of;
@@ -37,6 +41,10 @@ mod pair_rows;
 #[cfg(test)]
 mod pairs;
 #[cfg(test)]
+mod projection_rows;
+#[cfg(test)]
+mod projections;
+#[cfg(test)]
 mod quotients;
 #[cfg(test)]
 mod rounded_decimals;
@@ -44,6 +52,16 @@ mod rounded_decimals;
 mod shortest_decimals;
 #[cfg(test)]
 mod statuses;
+#[cfg(test)]
+mod stored_mode_rows;
+#[cfg(test)]
+mod stored_quotient_rows;
+#[cfg(test)]
+mod stored_quotients;
+#[cfg(test)]
+mod stored_rows;
+#[cfg(test)]
+mod stored_values;
 #[cfg(test)]
 mod sums;
 #[cfg(test)]
