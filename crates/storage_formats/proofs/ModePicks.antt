@@ -122,7 +122,7 @@ rest_is s k c amount parts u d e a =
 
 -- ---- the pick
 
-pub picked_by : (p : ℕ) (mode : ConversionRound) (negative : Bool) (number k c amount parts u d index : ℕ)
+picked_quotient : (p : ℕ) (mode : ConversionRound) (negative : Bool) (number k c amount parts u d index : ℕ)
     (loss : Loss) (moved exact : Bool) → 0 < p → 0 < parts → k + u ≡ c + d
     → amount * 2 ^ d ≡ number * (parts * 2 ^ u)
     → IsEnclosed p (2 ^ (p - 1)) (number / 2 ^ k) c amount parts
@@ -131,7 +131,7 @@ pub picked_by : (p : ℕ) (mode : ConversionRound) (negative : Bool) (number k c
     → index ≡ cond moved (index_of p (number / 2 ^ k) c + 1) (index_of p (number / 2 ^ k) c)
     → (exact ≡ true → loss ≡ ExactlyZero) → (exact ≡ false → loss ≡ ExactlyZero → ⊥)
     → IsPickedBy p mode negative amount parts index exact
-picked_by p mode negative number k c amount parts u d index loss moved exact some q e a i h test is when unless =
+picked_quotient p mode negative number k c amount parts u d index loss moved exact some q e a i h test is when unless =
     let m : ℕ = number / 2 ^ k in
     let by : ℕ = amount - m * 2 ^ c * parts in
     let to : ℕ = (m + 1) * 2 ^ c * parts - amount in
@@ -158,6 +158,22 @@ picked_by p mode negative number k c amount parts u d index loss moved exact som
       exact_is = exact_cases exact (point p index * parts) amount (λ z. times ∙ still (when z))
           (λ z y. off (unless z) (sym times ∙ y));
     }
+
+-- the same for what a cut kept
+pub picked_by : (p : ℕ) (mode : ConversionRound) (negative : Bool) (number k m c amount parts u d index : ℕ)
+    (loss : Loss) (moved exact : Bool) → 0 < p → 0 < parts → k + u ≡ c + d → m ≡ number / 2 ^ k
+    → amount * 2 ^ d ≡ number * (parts * 2 ^ u) → IsEnclosed p (2 ^ (p - 1)) m c amount parts
+    → StandsFor m loss amount (2 ^ c * parts)
+    → moved ≡ moves mode negative (number % 2 ^ k) (2 ^ k - number % 2 ^ k) (eqb (m % 2) 1)
+    → index ≡ cond moved (index_of p m c + 1) (index_of p m c) → (exact ≡ true → loss ≡ ExactlyZero)
+    → (exact ≡ false → loss ≡ ExactlyZero → ⊥) → IsPickedBy p mode negative amount parts index exact
+picked_by p mode negative number k m c amount parts u d index loss moved exact some q e of a i h test is when unless =
+    subst (λ (n : ℕ). IsEnclosed p (2 ^ (p - 1)) n c amount parts → StandsFor n loss amount (2 ^ c * parts)
+    → moved ≡ moves mode negative (number % 2 ^ k) (2 ^ k - number % 2 ^ k) (eqb (n % 2) 1)
+    → index ≡ cond moved (index_of p n c + 1) (index_of p n c) → IsPickedBy p mode negative amount parts index exact)
+    (sym of)
+    (λ i' h' test' is'. picked_quotient p mode negative number k c amount parts u d index loss moved exact some q e a
+    i' h' test' is' when unless) i h test is
 
 -- ---- what is delivered
 

@@ -3,6 +3,7 @@
 ghost use Rattle.std.specs.Prelude.{◌≡◌, ℕ, ◌+◌, ◌-◌, ◌*◌, ◌^◌, ◌<◌, ◌≤◌, eqb, ltb, if◌then◌else◌};
 ghost use Rattle.apfloat_model.specs.formats.Datum.{finite};
 ghost use Rattle.apfloat_model.specs.formats.Format.{largest};
+ghost use Rattle.apfloat_model.specs.formats.Nan.{invalid_if, is_signaling_nan};
 ghost use Rattle.apfloat_model.specs.rounding.Flags.{Gives, bits_of};
 ghost use Rattle.apfloat_model.specs.rounding.Rounding.{leads_out, ok_bits, overflow_bit, underflow_bit, inexact_bit};
 ghost use Rattle.apfloat_ieee.specs.Types.{format_of};
@@ -16,7 +17,7 @@ use crate::format::StorageFormat;
 use crate::modes::{ConversionRound, NanResult};
 use crate::picks::Picked;
 use crate::stored::StoredFloat;
-use apfloat_base::{ExpInt, Flags, Round, Status, StatusAnd};
+use apfloat_base::{ExpInt, Flags, Float, Round, Status, StatusAnd};
 use apfloat_ieee::{IeeeFloat, Semantics};
 use apfloat_words::power_of_two;
 
@@ -60,6 +61,17 @@ pub(crate) fn status_within(precision: u32, picked: Picked) -> Status
         Status::UNDERFLOW.union(Status::INEXACT)
     } else {
         Status::INEXACT
+    }
+}
+
+/// What a NaN raises that loses its payload.
+pub(crate) fn status_of_nan<S: Semantics>(x: IeeeFloat<S>) -> Status
+    ensures { bits_of result ≡ invalid_if (is_signaling_nan (format_of S.Semantics) x) }
+{
+    if x.is_signaling() {
+        Status::INVALID_OP
+    } else {
+        Status::OK
     }
 }
 

@@ -1,6 +1,6 @@
 //! Conversions of the values of a format into a format of IEEE P3109.
 
-ghost use Rattle.std.specs.Prelude.{◌≡◌, ℕ, ◌*◌, ◌^◌, ◌<◌, ◌≤◌, if◌then◌else◌, true};
+ghost use Rattle.std.specs.Prelude.{◌≡◌, ℕ, ◌*◌, ◌^◌, ◌<◌, ◌≤◌, ◌&&◌, if◌then◌else◌, not, true};
 ghost use Rattle.apfloat_model.specs.formats.Datum.{finite};
 ghost use Rattle.apfloat_model.specs.order.Classes.{quanta_of};
 ghost use Rattle.apfloat_model.specs.rounding.Flags.{Gives, bits_of};
@@ -10,9 +10,9 @@ ghost use Rattle.apfloat_decimals.specs.ShortestSearch.{IsPositive};
 ghost use Rattle.storage_formats.specs.Codes.{point};
 ghost use Rattle.storage_formats.specs.Picks.{IsPointAt};
 ghost use Rattle.storage_formats.specs.ProjectionTypes.{projection_of};
-ghost use Rattle.storage_formats.specs.Projections.{IsInfinityOf, IsIntoProjection, IsPointPick, IsProjected, exponent_bits, largest_index, past_value, projected_datum, projected_format};
+ghost use Rattle.storage_formats.specs.Projections.{IsInfinityOf, IsIntoProjection, IsPointPick, IsProjected, IsWithoutCode, exponent_bits, largest_index, past_value, projected_datum, projected_format};
 
-use crate::from_value::{leads_out, status_past, status_within};
+use crate::from_value::{leads_out, status_of_nan, status_past, status_within};
 use crate::picks::{Picked, pick_point};
 use crate::projected::{Projected, largest_index};
 use crate::projection::Projection;
@@ -115,6 +115,22 @@ fn infinity<F: Projection>(negative: bool, loses_info: &mut bool) -> StatusAnd<P
     status.and(Projected::past(negative))
 }
 
+/// Whether nothing of that sign has a code.
+fn lacks_sign<F: Projection>(negative: bool) -> bool
+    ensures { result ≡ (negative && not F.SIGNED) }
+{
+    negative && !F::SIGNED
+}
+
+/// What is below zero, in a format without a sign.
+fn without_code<F: Projection>(loses_info: &mut bool) -> StatusAnd<Projected<F>>
+    ensures { IsWithoutCode (projection_of F.Projection) result.value (bits_of result.status)
+        loses_info.new }
+{
+    *loses_info = true;
+    Status::INVALID_OP.and(Projected::nan())
+}
+
 impl<F: Projection> Projected<F> {
     /// A value of any format, rounded once (IEEE 754-2019 5.4.2), with the flags of that rounding.
     ///
@@ -135,15 +151,11 @@ impl<F: Projection> Projected<F> {
         match x.category() {
             Category::NaN => {
                 *loses_info = S::NAN_PAYLOAD_MASK != 0;
-                if x.is_signaling() {
-                    return Status::INVALID_OP.and(Self::nan());
-                }
-                Status::OK.and(Self::nan())
+                status_of_nan(x).and(Self::nan())
             }
             Category::Infinity => {
-                if negative && !F::SIGNED {
-                    *loses_info = true;
-                    return Status::INVALID_OP.and(Self::nan());
+                if lacks_sign::<F>(negative) {
+                    return without_code(loses_info);
                 }
                 infinity(negative, loses_info)
             }
@@ -157,9 +169,8 @@ impl<F: Projection> Projected<F> {
                 status.and(Self::number(false, 0))
             }
             Category::Normal => {
-                if negative && !F::SIGNED {
-                    *loses_info = true;
-                    return Status::INVALID_OP.and(Self::nan());
+                if lacks_sign::<F>(negative) {
+                    return without_code(loses_info);
                 }
                 let answer = round_positive(x.abs(), round, negative);
                 *loses_info = answer.status != Status::OK;

@@ -15,7 +15,7 @@ ghost use Rattle.storage_formats.specs.Scales.{IsDeliveredScale, IsScale, larges
 ghost use Rattle.storage_formats.specs.Scales.{scale_format, scale_of};
 
 use crate::cuts::DIGITS;
-use crate::from_value::{leads_out, status_past};
+use crate::from_value::{leads_out, status_of_nan, status_past};
 use crate::grid_points::{Point, convert_point};
 use crate::quanta::in_quanta;
 use apfloat_base::{Category, ExpInt, Flags, Float, Round, Status, StatusAnd};
@@ -172,12 +172,7 @@ impl E8M0FNU {
         match x.category() {
             Category::NaN => {
                 *loses_info = S::NAN_PAYLOAD_MASK != 0;
-                let status = if x.is_signaling() {
-                    Status::INVALID_OP
-                } else {
-                    Status::OK
-                };
-                status.and(E8M0FNU { code: NAN })
+                status_of_nan(x).and(E8M0FNU { code: NAN })
             }
             Category::Infinity => {
                 *loses_info = true;

@@ -19,7 +19,8 @@ returns g c =
     let exact = exponent_fits c.in_quanta-number.result.unit c.in_quanta-number.ensures.within in
     let unit = to_z-of_z w32 c.in_quanta-number.result.unit exact in
     let number = rw c.scale.ensures.value at c.in_quanta-number.ensures.number in
-    let picked = (rw (unit, c.PRECISION-precision.ensures) at c.pick_by-picked.ensures) amount parts (pow_pos f.scale) number in
+    let picked = (rw (unit, c.PRECISION-precision.ensures) at c.pick_by-picked.ensures) amount parts
+    (pow_pos f.scale) number in
     let delivered = rw c.ieee_mode.ensures at c.deliver_pick.ensures in
     saturated_by d c.args.mode c.args.negative amount parts c.pick_by-picked.result.index
     c.deliver_pick.result.value (bits_of c.deliver_pick.result.status) c.pick_by-picked.result.exact picked
