@@ -29,6 +29,8 @@ mod format_of;
 #[cfg(test)]
 mod format_of_rows;
 #[cfg(test)]
+mod longest_line;
+#[cfg(test)]
 mod machines;
 #[cfg(test)]
 mod modes;
