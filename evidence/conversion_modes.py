@@ -1,6 +1,6 @@
-"""Computes crates/storage_formats/src/mode_rows.rt: conversions to odd and with random digits.
+"""Computes crates/layer_tests/src/stored_mode_rows.rt: conversions to odd and with random digits.
 
-    python3 evidence/conversion_modes.py | diff - crates/storage_formats/src/mode_rows.rt
+    python3 evidence/conversion_modes.py | diff - crates/layer_tests/src/stored_mode_rows.rt
 
 As evidence/storage_formats.py, a value is looked up between its neighbours among the fractions that the
 codes mean. With random digits every random number is tried too: how many of them take the upper neighbour
@@ -79,7 +79,7 @@ def try_counts(form):
 def main():
     """Prints the file."""
     print("//! Conversions to odd and with random digits, computed by `evidence/conversion_modes.py`.")
-    print("\nuse crate::tests::ModeSums;")
+    print("\nuse crate::stored_values::ModeSums;")
     for form in ELEMENTS:
         try_counts(form)
         print(f"\npub(crate) static BY_MODE_{form.name}: ModeSums = [")

@@ -1,6 +1,6 @@
-"""Computes crates/storage_formats/src/e3m4_rows.rt: conversions into `e3m4` and out of it.
+"""Computes crates/layer_tests/src/e3m4_rows.rt: conversions into `e3m4` and out of it.
 
-    python3 evidence/e3m4.py | diff - crates/storage_formats/src/e3m4_rows.rt
+    python3 evidence/e3m4.py | diff - crates/layer_tests/src/e3m4_rows.rt
 
 As evidence/storage_formats.py: each code is decoded to a fraction by its fields, and a value is looked up
 between its neighbours in the list of these fractions. What becomes of a NaN, and what comes out, is
@@ -94,7 +94,7 @@ def main():
     """Prints the file."""
     check_values()
     print("//! Conversions into `e3m4` and out of it, computed by `evidence/e3m4.py`.")
-    print("\nuse crate::tests::{Checksums, Row};")
+    print("\nuse crate::stored_values::{Checksums, Row};")
     table("E3M4", "Row", rows())
     sources = ((E4M3FN, 1), (E5M2, 1), (HALF, 7))
     table("INTO_E3M4", "Checksums", (sums(lambda mode: into(s, FORM, mode, n)) for s, n in sources))

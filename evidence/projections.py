@@ -1,6 +1,6 @@
 """Formats of IEEE P3109: their values, their order, their neighbours and conversions into them.
 
-    python3 evidence/projections.py | diff - crates/storage_formats/src/projection_rows.rt
+    python3 evidence/projections.py | diff - crates/layer_tests/src/projection_rows.rt
 
 A code without a sign is decoded by its fields, with the bias 2^(E-1) of an exponent of E bits. So 1 is in
 the middle of these codes, for a width of 8 at 0x40 with a sign and at 0x80 without one. That is checked for

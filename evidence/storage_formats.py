@@ -1,6 +1,6 @@
-"""Computes crates/storage_formats/src/rows.rt: conversions into storage formats and out of them.
+"""Computes crates/layer_tests/src/stored_rows.rt: conversions into storage formats and out of them.
 
-    python3 evidence/storage_formats.py | diff - crates/storage_formats/src/rows.rt
+    python3 evidence/storage_formats.py | diff - crates/layer_tests/src/stored_rows.rt
 
 Each code is decoded to a fraction by its fields. A value is looked up between its neighbours in the list
 of these fractions, which goes on past the largest number, since a pick there decides the overflow. What comes
@@ -281,7 +281,7 @@ def table(name, kind, lines):
 def main():
     """Prints the file."""
     print("//! Conversions into storage formats and out of them, computed by `evidence/storage_formats.py`.")
-    print("\nuse crate::tests::{Checksums, Row};")
+    print("\nuse crate::stored_values::{Checksums, Row};")
     for form in FORMATS:
         table(form.name, "Row", rows_of(form))
     for form in FORMATS:

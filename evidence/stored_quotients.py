@@ -1,6 +1,6 @@
-"""Computes crates/storage_formats/src/quotient_rows.rt: quotients of two values in a storage format.
+"""Computes crates/layer_tests/src/stored_quotient_rows.rt: quotients of two values in a storage format.
 
-    python3 evidence/stored_quotients.py | diff - crates/storage_formats/src/quotient_rows.rt
+    python3 evidence/stored_quotients.py | diff - crates/layer_tests/src/stored_quotient_rows.rt
 
 The quotients are those of doubles by singles: multiples of 1/32 of the divisor, which are the points of the
 formats, their midpoints and what is between, each as it is and next to it on both sides, with either sign.
@@ -59,7 +59,7 @@ def checksum(form, mode, found):
 def main():
     """Prints the file."""
     print("//! Quotients in storage formats, computed by `evidence/stored_quotients.py`.")
-    print("\nuse crate::tests::Checksums;")
+    print("\nuse crate::stored_values::Checksums;")
     found = list(quotients())
     for form in ELEMENTS:
         print(f"\npub(crate) static QUOTIENTS_{form.name}: Checksums = [")

@@ -11,8 +11,6 @@
 mod job;
 mod run;
 mod stream;
-#[cfg(test)]
-mod tests;
 mod wrong_word;
 
 use crate::run::run;

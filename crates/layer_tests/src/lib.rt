@@ -1,5 +1,6 @@
 //! Tests of the layers below the public calls, of decimals, of what pairs have beyond `Float`, and of the crates above
-//! the library: comparisons, augmented operations, rounding to odd, machines, formats that have only numbers.
+//! the library: comparisons, augmented operations, rounding to odd, machines, storage formats, formats that have only
+//! numbers.
 //!
 //! They are in a separate crate, since testing a crate proves the whole crate again.
 #![tactic(auto)]
@@ -19,6 +20,10 @@ mod decimal_values;
 #[cfg(test)]
 mod decimals;
 #[cfg(test)]
+mod e3m4;
+#[cfg(test)]
+mod e3m4_rows;
+#[cfg(test)]
 mod eight_bits;
 #[cfg(test)]
 mod finite_rows;
@@ -28,6 +33,8 @@ mod finite_values;
 mod format_of;
 #[cfg(test)]
 mod format_of_rows;
+#[cfg(test)]
+mod longest_line;
 #[cfg(test)]
 mod machines;
 #[cfg(test)]
@@ -41,6 +48,10 @@ mod pair_rows;
 #[cfg(test)]
 mod pairs;
 #[cfg(test)]
+mod projection_rows;
+#[cfg(test)]
+mod projections;
+#[cfg(test)]
 mod quotients;
 #[cfg(test)]
 mod rounded_decimals;
@@ -48,6 +59,16 @@ mod rounded_decimals;
 mod shortest_decimals;
 #[cfg(test)]
 mod statuses;
+#[cfg(test)]
+mod stored_mode_rows;
+#[cfg(test)]
+mod stored_quotient_rows;
+#[cfg(test)]
+mod stored_quotients;
+#[cfg(test)]
+mod stored_rows;
+#[cfg(test)]
+mod stored_values;
 #[cfg(test)]
 mod sums;
 #[cfg(test)]

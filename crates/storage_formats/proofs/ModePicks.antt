@@ -1,29 +1,26 @@
 -- The point that a mode of conversions picks, from the digits that a cut keeps; what is delivered for it.
-use Rattle.std.proofs.Common.{◌≡◌, ℕ, ◌+◌, ◌-◌, ◌*◌, ◌/◌, ◌%◌, ◌^◌, ◌<◌, ◌≤◌, Bool, true, false, cond, eqb, ltb}
+use Rattle.std.proofs.Common.{◌≡◌, ℕ, ◌+◌, ◌-◌, ◌*◌, ◌/◌, ◌%◌, ◌^◌, ◌<◌, ◌≤◌, Bool, true, false, cond, eqb}
 use Rattle.std.proofs.Common.{sym, ap, ◌∙◌, subst, ⊎_elim, arith}
 use Rattle.std.proofs.Math.Nat.{mul-div_cancel, mul-le-mul_right, mul-pos}
-use Rattle.std.proofs.lemmas.Bool.{cases_lt, eq-eqb, ne_eqb, lt-ltb, le-ltb}
+use Rattle.std.proofs.lemmas.Bool.{cases_lt, eq-eqb, ne_eqb}
 use Rattle.std.proofs.lemmas.Nat.{pow_pos, div-add-mod', mod_below}
 use Rattle.apfloat_model.specs.declared.loss.Loss.{Loss}
 use Rattle.apfloat_model.specs.declared.loss.Loss.TheVariants.{ExactlyZero}
-use Rattle.apfloat_model.specs.formats.Datum.{finite}
-use Rattle.apfloat_model.specs.formats.Format.{largest}
 use Rattle.apfloat_model.specs.rounding.Enclosure.{IsEnclosed}
-use Rattle.apfloat_model.specs.rounding.Rounding.{leads_out}
 use Rattle.apfloat_model.specs.rounding.Standing.{StandsFor}
 use Rattle.apfloat_model.proofs.general.Choices.{cond_times, cond_same, off_both}
 use Rattle.apfloat_model.proofs.rounding.KeptDigits.{same_unit}
 use Rattle.apfloat_model.proofs.rounding.Losses.{stands_past, stands_to}
 use Rattle.apfloat_model.proofs.rounding.Neighbours.{below_is, above_is_same, above_is_next}
 use Rattle.storage_formats.specs.declared.modes.ConversionRound.{ConversionRound}
-use Rattle.storage_formats.specs.Codes.{datum_of, index_of, largest_index, point}
+use Rattle.storage_formats.specs.Codes.{index_of, point}
 use Rattle.storage_formats.specs.ModeConversions.{IsSaturatedBy}
 use Rattle.storage_formats.specs.Modes.{IsPickBy, ieee_mode, takes_next}
+use Rattle.storage_formats.specs.Picks.{IsPointDelivered}
 use Rattle.storage_formats.specs.PicksBy.{IsPickedBy, moves}
-use Rattle.storage_formats.specs.Storage.{Constants, IsLawful, format_with}
+use Rattle.storage_formats.specs.Storage.{Constants}
 use Rattle.storage_formats.proofs.MovesScaled.{moves_alike}
-use Rattle.storage_formats.proofs.Points.{points_in_order}
-use Rattle.storage_formats.proofs.StoredPicks.{exact_cases, largest_point, moved_point, not_greater, tiny_is}
+use Rattle.storage_formats.proofs.StoredPicks.{exact_cases, moved_point}
 
 -- ---- the neighbours of an enclosed magnitude
 
@@ -125,7 +122,7 @@ rest_is s k c amount parts u d e a =
 
 -- ---- the pick
 
-pub picked_by : (p : ℕ) (mode : ConversionRound) (negative : Bool) (number k c amount parts u d index : ℕ)
+picked_quotient : (p : ℕ) (mode : ConversionRound) (negative : Bool) (number k c amount parts u d index : ℕ)
     (loss : Loss) (moved exact : Bool) → 0 < p → 0 < parts → k + u ≡ c + d
     → amount * 2 ^ d ≡ number * (parts * 2 ^ u)
     → IsEnclosed p (2 ^ (p - 1)) (number / 2 ^ k) c amount parts
@@ -134,7 +131,7 @@ pub picked_by : (p : ℕ) (mode : ConversionRound) (negative : Bool) (number k c
     → index ≡ cond moved (index_of p (number / 2 ^ k) c + 1) (index_of p (number / 2 ^ k) c)
     → (exact ≡ true → loss ≡ ExactlyZero) → (exact ≡ false → loss ≡ ExactlyZero → ⊥)
     → IsPickedBy p mode negative amount parts index exact
-picked_by p mode negative number k c amount parts u d index loss moved exact some q e a i h test is when unless =
+picked_quotient p mode negative number k c amount parts u d index loss moved exact some q e a i h test is when unless =
     let m : ℕ = number / 2 ^ k in
     let by : ℕ = amount - m * 2 ^ c * parts in
     let to : ℕ = (m + 1) * 2 ^ c * parts - amount in
@@ -162,48 +159,28 @@ picked_by p mode negative number k c amount parts u d index loss moved exact som
           (λ z y. off (unless z) (sym times ∙ y));
     }
 
+-- the same for what a cut kept
+pub picked_by : (p : ℕ) (mode : ConversionRound) (negative : Bool) (number k m c amount parts u d index : ℕ)
+    (loss : Loss) (moved exact : Bool) → 0 < p → 0 < parts → k + u ≡ c + d → m ≡ number / 2 ^ k
+    → amount * 2 ^ d ≡ number * (parts * 2 ^ u) → IsEnclosed p (2 ^ (p - 1)) m c amount parts
+    → StandsFor m loss amount (2 ^ c * parts)
+    → moved ≡ moves mode negative (number % 2 ^ k) (2 ^ k - number % 2 ^ k) (eqb (m % 2) 1)
+    → index ≡ cond moved (index_of p m c + 1) (index_of p m c) → (exact ≡ true → loss ≡ ExactlyZero)
+    → (exact ≡ false → loss ≡ ExactlyZero → ⊥) → IsPickedBy p mode negative amount parts index exact
+picked_by p mode negative number k m c amount parts u d index loss moved exact some q e of a i h test is when unless =
+    subst (λ (n : ℕ). IsEnclosed p (2 ^ (p - 1)) n c amount parts → StandsFor n loss amount (2 ^ c * parts)
+    → moved ≡ moves mode negative (number % 2 ^ k) (2 ^ k - number % 2 ^ k) (eqb (n % 2) 1)
+    → index ≡ cond moved (index_of p n c + 1) (index_of p n c) → IsPickedBy p mode negative amount parts index exact)
+    (sym of)
+    (λ i' h' test' is'. picked_quotient p mode negative number k c amount parts u d index loss moved exact some q e a
+    i' h' test' is' when unless) i h test is
+
 -- ---- what is delivered
 
-pub past_delivered_by : (c : Constants) (mode : ConversionRound) (negative : Bool)
-    (amount parts index code status : ℕ) (exact : Bool) → IsLawful c
-    → IsPickedBy c.precision mode negative amount parts index exact → largest_index c < index
-    → datum_of c code ≡ finite negative (largest (format_with c))
-    → status ≡ cond (leads_out (ieee_mode mode) negative) 20 16
+pub saturated_by : (c : Constants) (mode : ConversionRound) (negative : Bool)
+    (amount parts index code status : ℕ) (exact : Bool)
+    → IsPickedBy c.precision mode negative amount parts index exact
+    → IsPointDelivered c (ieee_mode mode) negative amount parts index code status
     → IsSaturatedBy c mode negative amount parts code status
-past_delivered_by c mode negative amount parts index code status exact law x l value flags =
-    let low = law.precision_low in
-    let at = largest_point c law in
-    let more = points_in_order c.precision (largest_index c) index (omega (arith, low)) l in
-    let past : ltb (largest (format_with c)) (point c.precision index) ≡ true =
-    lt-ltb (largest (format_with c)) (point c.precision index) (omega (arith, at, more)) in
-    record {
-      pick = point c.precision index;
-      is_pick = x.is_pick;
-      value_is = rw past value;
-      status_is = rw past flags;
-    }
-
-pub within_delivered_by : (c : Constants) (mode : ConversionRound) (negative : Bool)
-    (amount parts index code status : ℕ) (exact : Bool) → IsLawful c
-    → IsPickedBy c.precision mode negative amount parts index exact → index ≤ largest_index c
-    → datum_of c code ≡ finite negative (point c.precision index)
-    → status ≡ cond exact 0 (cond (ltb index (2 ^ (c.precision - 1))) 24 16)
-    → IsSaturatedBy c mode negative amount parts code status
-within_delivered_by c mode negative amount parts index code status exact law x l value flags =
-    let low = law.precision_low in
-    let some : 0 < c.precision = omega (arith, low) in
-    let at = largest_point c law in
-    let most = not_greater c.precision index (largest_index c) some l in
-    let within : ltb (largest (format_with c)) (point c.precision index) ≡ false =
-    le-ltb (largest (format_with c)) (point c.precision index) (omega (arith, at, most)) in
-    let told : status ≡ cond (eqb (point c.precision index * parts) amount) 0
-    (cond (ltb (point c.precision index) (2 ^ (c.precision - 1))) 24 16) =
-    flags ∙ ap (λ (b : Bool). cond b 0 (cond (ltb index (2 ^ (c.precision - 1))) 24 16)) x.exact_is
-    ∙ ap (λ (b : Bool). cond (eqb (point c.precision index * parts) amount) 0 (cond b 24 16))
-    (tiny_is c.precision index some) in
-    record {
-      pick = point c.precision index;
-      is_pick = x.is_pick;
-      value_is = rw within value;
-      status_is = rw within told;
-    }
+saturated_by c mode negative amount parts index code status exact x d =
+    record { pick = point c.precision index; is_pick = x.is_pick; value_is = d.value_is; status_is = d.status_is }

@@ -402,8 +402,10 @@ past_converted f mode (finite b (suc n)) given value flags status code lost numb
       is_delivered = past_narrow mode b _ _ given value flags status d past v s;
       loses_is = lost_past (leads_out mode b) status s;
     })
-past_converted f mode (infinite b) given value flags status code lost number side high h v s = absurd (false≢true number)
-past_converted f mode (nan b t) given value flags status code lost number side high h v s = absurd (false≢true number)
+past_converted f mode (infinite b) given value flags status code lost number side high h v s =
+    absurd (false≢true number)
+past_converted f mode (nan b t) given value flags status code lost number side high h v s =
+    absurd (false≢true number)
 
 -- ---- one answer
 
@@ -412,9 +414,9 @@ encoded code l = record { below = l; canonical = refl; is = refl }
 
 pub e3m4_once : IsE3M4Once
 e3m4_once f mode x code other status flags loses lost l k h j =
-    let same = conversion_once f e3m4_format mode x (e3m4_datum code) (e3m4_datum other) status flags loses lost h j in (
-      encoded_once e3m4_format e3m4_layout (e3m4_datum other) code other e3m4_interchange
-          (subst (λ (d : Datum). IsEncodedBy e3m4_format e3m4_layout code d) same.0 (encoded code l)) (encoded other k),
+    let same = conversion_once f e3m4_format mode x (e3m4_datum code) (e3m4_datum other) status flags loses lost h j in
+    let is = subst (λ (d : Datum). IsEncodedBy e3m4_format e3m4_layout code d) same.0 (encoded code l) in (
+      encoded_once e3m4_format e3m4_layout (e3m4_datum other) code other e3m4_interchange is (encoded other k),
       same.1,
       same.2,
     )

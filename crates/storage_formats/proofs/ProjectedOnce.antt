@@ -97,7 +97,8 @@ parts_of_code c code law l = by_sign c.signed refl
     by_sign false e =
         let width : sign_bits c ≡ 0 = ap (λ (s : Bool). cond s 1 0) e in
         let all : unsigned_codes c ≡ 2 ^ c.bits =
-        ap (λ (n : ℕ). 2 ^ (c.bits - n)) width ∙ ap (λ (n : ℕ). 2 ^ n) (let z : c.bits - 0 ≡ c.bits = omega arith in z) in
+        ap (λ (n : ℕ). 2 ^ (c.bits - n)) width
+        ∙ ap (λ (n : ℕ). 2 ^ n) (let z : c.bits - 0 ≡ c.bits = omega arith in z) in
         let itself : magnitude_of c code ≡ code = mod-eq_of_lt (omega (arith, l, all)) in
         let added : magnitude_of c code ≡ 0 + magnitude_of c code = omega arith in
         sym itself ∙ added

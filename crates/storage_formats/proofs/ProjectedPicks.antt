@@ -1,34 +1,23 @@
 -- The point that is picked, for each precision.
 use Rattle.std.proofs.Common.{◌≡◌, ℕ, ◌+◌, ◌-◌, ◌*◌, ◌%◌, ◌^◌, ◌<◌, Bool, true, false, cond, eqb}
-use Rattle.std.proofs.Common.{sym, refl, ap, ◌∙◌, subst, arith}
-use Rattle.std.specs.Bool.{MatchBool}
+use Rattle.std.proofs.Common.{sym, refl, ap, ◌∙◌, subst, ⊎_elim, arith}
 use Rattle.std.proofs.Math.Nat.{mul-pos}
-use Rattle.std.proofs.lemmas.Bool.{eq-eqb, ne_eqb}
+use Rattle.std.proofs.lemmas.Bool.{cases_eq, eq-eqb, ne_eqb}
 use Rattle.std.proofs.lemmas.Nat.{pow_pos}
 use Rattle.apfloat_model.specs.declared.kinds.Round.{Round}
 use Rattle.apfloat_model.specs.declared.loss.Loss.{Loss}
 use Rattle.apfloat_model.specs.declared.loss.Loss.TheVariants.{ExactlyZero, LessThanHalf, ExactlyHalf, MoreThanHalf}
 use Rattle.apfloat_model.specs.rounding.Enclosure.{IsEnclosed, rounds_up}
-use Rattle.apfloat_model.specs.rounding.Rounding.{IsPick, takes_above}
+use Rattle.apfloat_model.specs.rounding.Rounding.{takes_above}
 use Rattle.apfloat_model.specs.rounding.Standing.{StandsFor}
+use Rattle.apfloat_model.proofs.general.Choices.{match_true, match_false}
 use Rattle.apfloat_model.proofs.rounding.Losses.{stands_from, stands_past, stands_to}
 use Rattle.apfloat_model.proofs.rounding.Picks.{takes_half, takes_less, takes_more}
 use Rattle.storage_formats.specs.Codes.{index_of, point}
-use Rattle.storage_formats.specs.Picks.{IsPickedAt, IsPointAt}
-use Rattle.storage_formats.specs.Projections.{IsCodePick, index_between}
+use Rattle.storage_formats.specs.Picks.{IsPointAt}
+use Rattle.storage_formats.specs.Projections.{IsCodePick, IsPointPick, index_between}
+use Rattle.storage_formats.proofs.CodePicks.{code_picks}
 use Rattle.storage_formats.proofs.Points.{at_index, at_next}
-
--- ---- with two digits or more
-
-pub many_digits : (p : ℕ) (mode : Round) (negative : Bool) (amount parts index : ℕ) (exact : Bool) → 1 < p
-    → IsPickedAt p mode negative amount parts index exact → IsPointAt p mode negative amount parts index exact
-many_digits p mode negative amount parts index exact two x =
-    let off : eqb p 1 ≡ false = ne_eqb p 1 (λ e. omega (arith, e, two)) in
-    record {
-      is_pick = subst (λ (t : Bool). MatchBool t (IsCodePick p mode negative amount parts index)
-          (IsPick p mode negative amount parts (point p index))) (sym off) x.is_pick;
-      exact_is = x.exact_is;
-    }
 
 -- ---- by codes
 
@@ -101,30 +90,49 @@ exact_by p mode negative odd m unit amount parts low index loss moved false u at
     let to = stands_to m loss amount unit u h in
     ap (λ (n : ℕ). eqb (point p n * parts) amount) e ∙ off p m unit amount parts low moved at next past to
 
--- ---- with one digit
+-- ---- the pick
 
-pub one_digit : (mode : Round) (negative : Bool) (m c amount parts index : ℕ) (loss : Loss) (moved exact : Bool)
-    → 0 < parts → IsEnclosed 1 1 m c amount parts → StandsFor m loss amount (2 ^ c * parts)
-    → moved ≡ rounds_up mode negative loss (eqb (index_of 1 m c % 2) 1)
-    → index ≡ cond moved (index_of 1 m c + 1) (index_of 1 m c) → (exact ≡ true → loss ≡ ExactlyZero)
-    → (exact ≡ false → loss ≡ ExactlyZero → ⊥) → IsPointAt 1 mode negative amount parts index exact
-one_digit mode negative m c amount parts index loss moved exact some i h moves is when unless =
-    let low : ℕ = index_of 1 m c in
-    let unit : ℕ = 2 ^ c * parts in
-    let u : 0 < unit = mul-pos (pow_pos c) some in
-    let here : point 1 low ≡ m * 2 ^ c = at_index 1 m c (omega arith) i.fits i.full in
-    let after : point 1 (low + 1) ≡ (m + 1) * 2 ^ c = at_next 1 m c (omega arith) i.fits i.full in
-    let at : point 1 low * parts ≡ m * unit = ap (λ (n : ℕ). n * parts) here ∙ omega arith in
-    let next : point 1 (low + 1) * parts ≡ (m + 1) * unit = ap (λ (n : ℕ). n * parts) after ∙ omega arith in
+code_picked : (p : ℕ) (mode : Round) (negative : Bool) (m unit amount parts low index : ℕ) (loss : Loss)
+    (moved : Bool) → 0 < unit → point p low * parts ≡ m * unit → point p (low + 1) * parts ≡ (m + 1) * unit
+    → StandsFor m loss amount unit → moved ≡ rounds_up mode negative loss (eqb (low % 2) 1)
+    → index ≡ cond moved (low + 1) low → IsCodePick p mode negative amount parts index
+code_picked p mode negative m unit amount parts low index loss moved u at next h moves is =
     let from = stands_from m loss amount unit h in
     let to = stands_to m loss amount unit u h in
     record {
-      is_pick = record {
-        low = low;
-        from = omega (arith, at, from);
-        to = omega (arith, next, to);
-        is = is ∙ decided 1 mode negative m unit amount parts low loss moved u at next h moves;
-      };
-      exact_is = sym (exact_by 1 mode negative (eqb (low % 2) 1) m unit amount parts low index loss moved exact
+      low = low;
+      from = omega (arith, at, from);
+      to = omega (arith, next, to);
+      is = is ∙ decided p mode negative m unit amount parts low loss moved u at next h moves;
+    }
+
+-- with two digits or more, the even number has the even significand
+point_picked : (p : ℕ) (mode : Round) (negative : Bool) (amount parts index : ℕ) → 0 < p → 0 < parts
+    → IsCodePick p mode negative amount parts index → IsPointPick p mode negative amount parts index
+point_picked p mode negative amount parts index some q x =
+    ⊎_elim
+    (λ (one : p ≡ 1). match_true (eqb p 1) _ _ (eq-eqb p 1 one) x)
+    (λ (more : p ≡ 1 → ⊥).
+    match_false (eqb p 1) _ _ (ne_eqb p 1 more)
+    (code_picks p mode negative amount parts index (omega (arith, some, more)) q x))
+    (cases_eq p 1)
+
+pub point_at : (p : ℕ) (mode : Round) (negative : Bool) (m c amount parts index : ℕ) (loss : Loss)
+    (moved exact : Bool) → 0 < p → 0 < parts → IsEnclosed p (2 ^ (p - 1)) m c amount parts
+    → StandsFor m loss amount (2 ^ c * parts) → moved ≡ rounds_up mode negative loss (eqb (index_of p m c % 2) 1)
+    → index ≡ cond moved (index_of p m c + 1) (index_of p m c) → (exact ≡ true → loss ≡ ExactlyZero)
+    → (exact ≡ false → loss ≡ ExactlyZero → ⊥) → IsPointAt p mode negative amount parts index exact
+point_at p mode negative m c amount parts index loss moved exact one some i h moves is when unless =
+    let low : ℕ = index_of p m c in
+    let unit : ℕ = 2 ^ c * parts in
+    let u : 0 < unit = mul-pos (pow_pos c) some in
+    let here : point p low ≡ m * 2 ^ c = at_index p m c one i.fits i.full in
+    let after : point p (low + 1) ≡ (m + 1) * 2 ^ c = at_next p m c one i.fits i.full in
+    let at : point p low * parts ≡ m * unit = ap (λ (n : ℕ). n * parts) here ∙ omega arith in
+    let next : point p (low + 1) * parts ≡ (m + 1) * unit = ap (λ (n : ℕ). n * parts) after ∙ omega arith in
+    record {
+      is_pick = point_picked p mode negative amount parts index one some
+          (code_picked p mode negative m unit amount parts low index loss moved u at next h moves is);
+      exact_is = sym (exact_by p mode negative (eqb (low % 2) 1) m unit amount parts low index loss moved exact
           u at next h moves is when unless);
     }

@@ -116,13 +116,11 @@ positive_quanta kind (finite false n) is = refl
 positive_quanta kind (infinite b) is = cc
 positive_quanta kind (nan b s) is = cc
 
--- a sign is no obstacle if the format has one, or if there is none
-pub with_sign_bit : (negative signed : Bool) → not signed ≡ false → (negative && not signed) ≡ false
-with_sign_bit true signed e = e
-with_sign_bit false signed e = refl
-
-pub without_sign : (negative signed : Bool) → negative ≡ false → (negative && not signed) ≡ false
-without_sign negative signed e = ap (λ (b : Bool). b && not signed) e
+-- what has a code has a sign only if the format has one
+pub signed_if : (negative signed : Bool) → (negative && not signed) ≡ false → negative ≡ true → signed ≡ true
+signed_if true true e h = refl
+signed_if true false e h = absurd (false≢true (sym e))
+signed_if false signed e h = absurd (false≢true h)
 
 -- ---- out
 

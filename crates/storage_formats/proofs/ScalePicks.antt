@@ -1,6 +1,6 @@
 -- The scale that is picked for a number, and what is delivered for it.
 use Rattle.std.proofs.Common.{◌≡◌, ℕ, ◌+◌, ◌-◌, ◌*◌, ◌/◌, ◌%◌, ◌^◌, ◌<◌, ◌≤◌, Bool, true, false, cond, eqb, ltb}
-use Rattle.std.proofs.Common.{sym, refl, ap, ◌∙◌, subst, inl, inr, arith, ℤ, pos, ◌+ℤ◌, ◌-ℤ◌}
+use Rattle.std.proofs.Common.{sym, refl, ap, ◌∙◌, subst, inl, inr, arith, ℤ, pos, ◌+ℤ◌}
 use Rattle.std.proofs.Math.Nat.{lt_of_mul-lt-mul_right, mul-lt-mul_of_pos_right, mul-le-mul_right, mul-pos}
 use Rattle.std.proofs.Math.Nat.{pow-le-pow_right}
 use Rattle.std.proofs.lemmas.Bool.{lt-ltb, le-ltb, eq-eqb, ne_eqb}
@@ -32,14 +32,13 @@ below_least digits amount parts u d few some none far h =
 -- ---- the digits of the scale below
 
 -- of 125 digits all but the first one are cut off, where the first one has the place `low`
-pub cut_stands : (digits s amount parts low : ℕ) (loss : Loss) (exponent z : ℤ)
-    → z ≡ (exponent -ℤ pos 124) +ℤ pos 127 → pos low ≡ exponent +ℤ pos 127 → 2 ^ 124 ≤ digits → digits < 2 ^ 125
-    → s ≡ digits / 2 ^ 124
+pub cut_stands : (digits s amount parts low : ℕ) (loss : Loss) (z : ℤ) → pos low ≡ z +ℤ pos 124
+    → 2 ^ 124 ≤ digits → digits < 2 ^ 125 → s ≡ digits / 2 ^ 124
     → StandsFor s loss (amount * 2 ^ down z) (2 ^ 124 * (parts * 2 ^ up z))
     → StandsFor 1 loss amount (2 ^ low * parts)
-cut_stands digits s amount parts low loss exponent z e at least most is h =
+cut_stands digits s amount parts low loss z at least most is h =
     let one : s ≡ 1 = is ∙ one_digit digits (2 ^ 124) (pow_pos 124) least (omega (arith, most)) in
-    kept_stands 1 loss amount parts 124 (up z) (down z) low (omega (arith, ints, e, at))
+    kept_stands 1 loss amount parts 124 (up z) (down z) low (omega (arith, ints, at))
     (subst (λ (n : ℕ). StandsFor n loss (amount * 2 ^ down z) (2 ^ 124 * (parts * 2 ^ up z))) one h)
   where
     one_digit : (n unit : ℕ) → 0 < unit → unit ≤ n → n < 2 * unit → n / unit ≡ 1

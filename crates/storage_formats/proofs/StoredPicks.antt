@@ -16,7 +16,7 @@ use Rattle.apfloat_model.proofs.rounding.Deliveries.{exact_if, inexact_if}
 use Rattle.apfloat_model.proofs.rounding.Picks.{pick_is}
 use Rattle.storage_formats.specs.Codes.{datum_of, index_of, largest_index, point}
 use Rattle.storage_formats.specs.Conversions.{IsSaturated}
-use Rattle.storage_formats.specs.Picks.{IsPickedAt}
+use Rattle.storage_formats.specs.Picks.{IsPickedAt, IsPointDelivered}
 use Rattle.storage_formats.specs.Storage.{Constants, IsLawful, format_with}
 use Rattle.storage_formats.proofs.Points.{at_index, at_next, low_point, points_in_order}
 
@@ -109,28 +109,23 @@ tiny_is p index some =
     (cases_lt index h)
 
 pub past_delivered : (c : Constants) (mode : Round) (negative : Bool) (amount parts index code status : ℕ)
-    (exact : Bool) → IsLawful c → IsPickedAt c.precision mode negative amount parts index exact
-    → largest_index c < index → datum_of c code ≡ finite negative (largest (format_with c))
-    → status ≡ cond (leads_out mode negative) 20 16 → IsSaturated c mode negative amount parts code status
-past_delivered c mode negative amount parts index code status exact law x l value flags =
+    → IsLawful c → largest_index c < index → datum_of c code ≡ finite negative (largest (format_with c))
+    → status ≡ cond (leads_out mode negative) 20 16
+    → IsPointDelivered c mode negative amount parts index code status
+past_delivered c mode negative amount parts index code status law l value flags =
     let low = law.precision_low in
     let at = largest_point c law in
     let more = points_in_order c.precision (largest_index c) index (omega (arith, low)) l in
     let past : ltb (largest (format_with c)) (point c.precision index) ≡ true =
     lt-ltb (largest (format_with c)) (point c.precision index) (omega (arith, at, more)) in
-    record {
-      pick = point c.precision index;
-      is_pick = x.is_pick;
-      value_is = rw past value;
-      status_is = rw past flags;
-    }
+    record { value_is = rw past value; status_is = rw past flags }
 
 pub within_delivered : (c : Constants) (mode : Round) (negative : Bool) (amount parts index code status : ℕ)
-    (exact : Bool) → IsLawful c → IsPickedAt c.precision mode negative amount parts index exact
-    → index ≤ largest_index c → datum_of c code ≡ finite negative (point c.precision index)
+    (exact : Bool) → IsLawful c → exact ≡ eqb (point c.precision index * parts) amount → index ≤ largest_index c
+    → datum_of c code ≡ finite negative (point c.precision index)
     → status ≡ cond exact 0 (cond (ltb index (2 ^ (c.precision - 1))) 24 16)
-    → IsSaturated c mode negative amount parts code status
-within_delivered c mode negative amount parts index code status exact law x l value flags =
+    → IsPointDelivered c mode negative amount parts index code status
+within_delivered c mode negative amount parts index code status exact law same l value flags =
     let low = law.precision_low in
     let some : 0 < c.precision = omega (arith, low) in
     let at = largest_point c law in
@@ -139,12 +134,14 @@ within_delivered c mode negative amount parts index code status exact law x l va
     le-ltb (largest (format_with c)) (point c.precision index) (omega (arith, at, most)) in
     let told : status ≡ cond (eqb (point c.precision index * parts) amount) 0
     (cond (ltb (point c.precision index) (2 ^ (c.precision - 1))) 24 16) =
-    flags ∙ ap (λ (b : Bool). cond b 0 (cond (ltb index (2 ^ (c.precision - 1))) 24 16)) x.exact_is
+    flags ∙ ap (λ (b : Bool). cond b 0 (cond (ltb index (2 ^ (c.precision - 1))) 24 16)) same
     ∙ ap (λ (b : Bool). cond (eqb (point c.precision index * parts) amount) 0 (cond b 24 16))
     (tiny_is c.precision index some) in
-    record {
-      pick = point c.precision index;
-      is_pick = x.is_pick;
-      value_is = rw within value;
-      status_is = rw within told;
-    }
+    record { value_is = rw within value; status_is = rw within told }
+
+pub saturated : (c : Constants) (mode : Round) (negative : Bool) (amount parts index code status : ℕ) (exact : Bool)
+    → IsPickedAt c.precision mode negative amount parts index exact
+    → IsPointDelivered c mode negative amount parts index code status
+    → IsSaturated c mode negative amount parts code status
+saturated c mode negative amount parts index code status exact x d =
+    record { pick = point c.precision index; is_pick = x.is_pick; value_is = d.value_is; status_is = d.status_is }

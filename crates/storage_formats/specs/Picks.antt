@@ -1,9 +1,11 @@
--- A pick by the number of its point.
+-- A pick by the number of its point, and what is delivered for it.
 use Rattle.std.specs.Prelude.{◌≡◌, ℕ, ◌*◌, Bool, eqb}
 use Rattle.apfloat_model.specs.declared.kinds.Round.{Round}
-use Rattle.apfloat_model.specs.rounding.Rounding.{IsPick}
-use Rattle.storage_formats.specs.Codes.{point}
+use Rattle.apfloat_model.specs.rounding.Rounding.{IsPick, delivered_status}
+use Rattle.storage_formats.specs.Codes.{datum_of, point}
+use Rattle.storage_formats.specs.Conversions.{saturated_value}
 use Rattle.storage_formats.specs.Projections.{IsPointPick}
+use Rattle.storage_formats.specs.Storage.{Constants, format_with}
 
 -- the point with that number is picked, and is the magnitude itself or not
 pub record IsPickedAt (precision : ℕ) (mode : Round) (negative : Bool) (amount parts index : ℕ) (exact : Bool)
@@ -16,3 +18,9 @@ pub record IsPointAt (precision : ℕ) (mode : Round) (negative : Bool) (amount 
     : Type 0 where
   pub is_pick : IsPointPick precision mode negative amount parts index
   pub exact_is : exact ≡ eqb (point precision index * parts) amount
+
+-- what is delivered for the point with that number
+pub record IsPointDelivered (c : Constants) (mode : Round) (negative : Bool) (amount parts index code status : ℕ)
+    : Type 0 where
+  pub value_is : datum_of c code ≡ saturated_value (format_with c) negative (point c.precision index)
+  pub status_is : status ≡ delivered_status (format_with c) mode negative amount parts (point c.precision index)

@@ -1,27 +1,25 @@
 //! Conversions of the values of a format into a storage format.
 
-ghost use Rattle.std.specs.Prelude.{◌≡◌, ℕ, ◌+◌, ◌-◌, ◌*◌, ◌^◌, ◌<◌, ◌≤◌, ltb, if◌then◌else◌, pos, ◌+ℤ◌, ◌-ℤ◌};
+ghost use Rattle.std.specs.Prelude.{◌≡◌, ℕ, ◌+◌, ◌-◌, ◌*◌, ◌^◌, ◌<◌, ◌≤◌, eqb, ltb, if◌then◌else◌};
 ghost use Rattle.apfloat_model.specs.formats.Datum.{finite};
 ghost use Rattle.apfloat_model.specs.formats.Format.{largest};
-ghost use Rattle.apfloat_model.specs.order.Classes.{quanta_of};
-ghost use Rattle.apfloat_model.specs.rounding.Bounds.{IsWithin};
+ghost use Rattle.apfloat_model.specs.formats.Nan.{invalid_if, is_signaling_nan};
 ghost use Rattle.apfloat_model.specs.rounding.Flags.{Gives, bits_of};
 ghost use Rattle.apfloat_model.specs.rounding.Rounding.{leads_out, ok_bits, overflow_bit, underflow_bit, inexact_bit};
 ghost use Rattle.apfloat_ieee.specs.Types.{format_of};
-ghost use Rattle.apfloat_decimals.specs.ShortestSearch.{IsPositive};
 ghost use Rattle.storage_formats.specs.Codes.{datum_of, largest_index, point};
-ghost use Rattle.storage_formats.specs.Conversions.{IsInto, IsSaturated};
-ghost use Rattle.storage_formats.specs.Picks.{IsPickedAt};
+ghost use Rattle.storage_formats.specs.Conversions.{IsInto};
+ghost use Rattle.storage_formats.specs.Picks.{IsPointDelivered};
 ghost use Rattle.storage_formats.specs.Storage.{format_with};
 ghost use Rattle.storage_formats.specs.Types.{constants_of};
 
 use crate::format::StorageFormat;
-use crate::picks::{Picked, pick};
+use crate::modes::{ConversionRound, NanResult};
+use crate::picks::Picked;
 use crate::stored::StoredFloat;
-use apfloat_base::{Category, ExpInt, Flags, Float, Round, Status, StatusAnd};
+use apfloat_base::{ExpInt, Flags, Float, Round, Status, StatusAnd};
 use apfloat_ieee::{IeeeFloat, Semantics};
 use apfloat_words::power_of_two;
-use hex_digits::digits_of;
 
 /// Whether the mode rounds past the largest value, if the pick is past it.
 pub(crate) fn leads_out(mode: Round, negative: bool) -> bool
@@ -66,6 +64,17 @@ pub(crate) fn status_within(precision: u32, picked: Picked) -> Status
     }
 }
 
+/// What a NaN raises that loses its payload.
+pub(crate) fn status_of_nan<S: Semantics>(x: IeeeFloat<S>) -> Status
+    ensures { bits_of result ≡ invalid_if (is_signaling_nan (format_of S.Semantics) x) }
+{
+    if x.is_signaling() {
+        Status::INVALID_OP
+    } else {
+        Status::OK
+    }
+}
+
 /// The largest number with that sign.
 pub(crate) fn largest_of_sign<F: StorageFormat>(negative: bool) -> StoredFloat<F>
     ensures { let c = constants_of F.StorageFormat in
@@ -97,15 +106,16 @@ pub(crate) fn within<F: StorageFormat>(picked: Picked, negative: bool) -> Status
     status.and(StoredFloat::with_sign(negative, picked.index as u8))
 }
 
-/// The value that is delivered for a pick.
+/// What is delivered for a pick.
 pub(crate) fn deliver_pick<F: StorageFormat>(
     picked: Picked,
     mode: Round,
     negative: bool,
 ) -> StatusAnd<StoredFloat<F>>
     ensures { (amount parts : ℕ)
-        → IsPickedAt F.PRECISION mode negative amount parts picked.index picked.exact
-        → Gives (IsSaturated (constants_of F.StorageFormat) mode negative amount parts) result }
+        → picked.exact ≡ eqb (point F.PRECISION picked.index * parts) amount
+        → Gives (IsPointDelivered (constants_of F.StorageFormat) mode negative amount parts
+        picked.index) result }
 {
     if picked.index > u128::from(StoredFloat::<F>::largest_index()) {
         past(mode, negative)
@@ -115,40 +125,11 @@ pub(crate) fn deliver_pick<F: StorageFormat>(
 }
 
 /// The negated exponent of the quantum.
-pub(crate) fn scale<F: StorageFormat>() -> ExpInt
-    ensures value { result ≡ pos (format_with (constants_of F.StorageFormat)).scale }
-    ensures within { (format_with (constants_of F.StorageFormat)).scale ≤ 2 ^ 21 }
+pub(crate) fn scale<F: StorageFormat>() -> u32
+    ensures value { result ≡ (format_with (constants_of F.StorageFormat)).scale }
+    ensures within { result ≤ 2 ^ 21 }
 {
-    F::PRECISION as ExpInt - 1 - F::MIN_EXP
-}
-
-/// The unit of the last of 125 digits, counted from a quantum, if the first digit has that exponent.
-pub(crate) fn unit_of(exponent: ExpInt, scale: ExpInt) -> ExpInt
-    requires exponent { IsWithin (2 ^ 22) exponent }
-    requires scale { IsWithin (2 ^ 21) scale }
-    ensures value { result ≡ (exponent -ℤ pos 124) +ℤ scale }
-    ensures within { IsWithin (2 ^ 24) result }
-{
-    exponent - 124 + scale
-}
-
-/// A positive value, rounded once as a value with that sign.
-fn round_positive<S: Semantics, F: StorageFormat>(
-    x: IeeeFloat<S>,
-    mode: Round,
-    negative: bool,
-) -> StatusAnd<StoredFloat<F>>
-    requires { IsPositive (format_of S.Semantics) x }
-    ensures { let c = constants_of F.StorageFormat in Gives (IsSaturated c mode negative
-        (quanta_of x * 2 ^ (format_with c).scale) (2 ^ (format_of S.Semantics).scale)) result }
-{
-    let number = digits_of(x);
-    let unit = unit_of(number.exponent, scale::<F>());
-    deliver_pick(
-        pick(F::PRECISION as u32, number.digits, unit, mode, negative),
-        mode,
-        negative,
-    )
+    (F::PRECISION as ExpInt - 1 - F::MIN_EXP) as u32
 }
 
 impl<F: StorageFormat> StoredFloat<F> {
@@ -166,25 +147,6 @@ impl<F: StorageFormat> StoredFloat<F> {
         ensures { IsInto (constants_of F.StorageFormat) (format_of S.Semantics) round x
             result.value (bits_of result.status) loses_info.new }
     {
-        let negative = x.is_negative();
-        match x.category() {
-            Category::NaN => {
-                *loses_info = true;
-                Status::INVALID_OP.and(Self::with_sign(false, 0))
-            }
-            Category::Infinity => {
-                *loses_info = true;
-                Status::INVALID_OP.and(largest_of_sign(negative))
-            }
-            Category::Zero => {
-                *loses_info = false;
-                Status::OK.and(Self::with_sign(negative, 0))
-            }
-            Category::Normal => {
-                let answer = round_positive(x.abs(), round, negative);
-                *loses_info = answer.status != Status::OK;
-                answer
-            }
-        }
+        Self::from_value_by(x, ConversionRound::Ieee(round), NanResult::Zero, loses_info)
     }
 }

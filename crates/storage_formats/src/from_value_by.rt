@@ -8,18 +8,17 @@ ghost use Rattle.apfloat_decimals.specs.ShortestSearch.{IsPositive};
 ghost use Rattle.storage_formats.specs.Codes.{datum_of};
 ghost use Rattle.storage_formats.specs.ModeConversions.{IsIntoBy, IsSaturatedBy, nan_result};
 ghost use Rattle.storage_formats.specs.Modes.{ieee_mode};
-ghost use Rattle.storage_formats.specs.PicksBy.{IsPickedBy};
 ghost use Rattle.storage_formats.specs.Storage.{format_with};
 ghost use Rattle.storage_formats.specs.Types.{constants_of};
 
 use crate::format::StorageFormat;
-use crate::from_value::{largest_of_sign, past, scale, unit_of, within};
+use crate::from_value::{deliver_pick, largest_of_sign, scale};
 use crate::modes::{ConversionRound, NanResult};
-use crate::picks::{Picked, pick_by};
+use crate::picks::pick_by;
+use crate::quanta::in_quanta;
 use crate::stored::StoredFloat;
 use apfloat_base::{Category, Float, Round, Status, StatusAnd};
 use apfloat_ieee::{IeeeFloat, Semantics};
-use hex_digits::digits_of;
 
 /// The mode of IEEE 754 that treats a pick past the largest number alike.
 fn ieee_mode(mode: ConversionRound) -> Round
@@ -43,25 +42,8 @@ fn of_nan<F: StorageFormat>(nans: NanResult) -> StoredFloat<F>
     }
 }
 
-/// The value that is delivered for a pick of a mode of conversions.
-fn deliver_pick_by<F: StorageFormat>(
-    picked: Picked,
-    mode: ConversionRound,
-    negative: bool,
-) -> StatusAnd<StoredFloat<F>>
-    ensures { (amount parts : ℕ)
-        → IsPickedBy F.PRECISION mode negative amount parts picked.index picked.exact
-        → Gives (IsSaturatedBy (constants_of F.StorageFormat) mode negative amount parts) result }
-{
-    if picked.index > u128::from(StoredFloat::<F>::largest_index()) {
-        past(ieee_mode(mode), negative)
-    } else {
-        within(picked, negative)
-    }
-}
-
 /// A positive value, rounded once as a value with that sign.
-fn round_positive_by<S: Semantics, F: StorageFormat>(
+fn round_positive<S: Semantics, F: StorageFormat>(
     x: IeeeFloat<S>,
     mode: ConversionRound,
     negative: bool,
@@ -70,13 +52,10 @@ fn round_positive_by<S: Semantics, F: StorageFormat>(
     ensures { let c = constants_of F.StorageFormat in Gives (IsSaturatedBy c mode negative
         (quanta_of x * 2 ^ (format_with c).scale) (2 ^ (format_of S.Semantics).scale)) result }
 {
-    let number = digits_of(x);
-    let unit = unit_of(number.exponent, scale::<F>());
-    deliver_pick_by(
-        pick_by(F::PRECISION as u32, number.digits, unit, mode, negative),
-        mode,
-        negative,
-    )
+    let number = in_quanta(x, scale::<F>());
+    let precision = F::PRECISION as u32;
+    let picked = pick_by(precision, number.digits, number.unit, mode, negative);
+    deliver_pick(picked, ieee_mode(mode), negative)
 }
 
 impl<F: StorageFormat> StoredFloat<F> {
@@ -109,7 +88,7 @@ impl<F: StorageFormat> StoredFloat<F> {
                 Status::OK.and(Self::with_sign(negative, 0))
             }
             Category::Normal => {
-                let answer = round_positive_by(x.abs(), mode, negative);
+                let answer = round_positive(x.abs(), mode, negative);
                 *loses_info = answer.status != Status::OK;
                 answer
             }

@@ -6,24 +6,19 @@
 //! is a power of two (`scales`), and `UE4M3` one with a significand (`unsigned`). `Float8E3M4` has infinities and NaNs
 //! too (`float8_e3m4`), and `Projected<F>` is a value of a format of IEEE P3109 (`projected`).
 //!
-//! `from_value_by` has two more modes, to odd and with random digits (`modes`); `from_quotient` rounds the quotient of two
-//! values (`quotients`).
+//! `from_value_by` has two more modes, to odd and with random digits (`modes`); `from_quotient` rounds the quotient of
+//! two values (`quotients`).
 //!
 //! A conversion from any format is rounded once (`picks`): the digits of the value are cut at the last one that the
 //! format keeps there (`cuts`), and the mode moves them or not.
 #![tactic(auto)]
 
 mod cuts;
-#[cfg(test)]
-mod e3m4_rows;
-#[cfg(test)]
-mod e3m4_tests;
 mod float8_e3m4;
 mod format;
 mod from_value;
 mod from_value_by;
-#[cfg(test)]
-mod mode_rows;
+mod grid_points;
 mod modes;
 mod named;
 mod picks;
@@ -31,21 +26,10 @@ mod projected;
 mod projected_from;
 mod projected_to;
 mod projection;
-#[cfg(test)]
-mod projection_rows;
-#[cfg(test)]
-mod projection_tests;
-#[cfg(test)]
-mod quotient_rows;
-#[cfg(test)]
-mod quotient_tests;
+mod quanta;
 mod quotients;
-#[cfg(test)]
-mod rows;
 mod scales;
 mod stored;
-#[cfg(test)]
-mod tests;
 mod theorems;
 mod to_value;
 mod unsigned;

@@ -5,7 +5,7 @@ ghost use Rattle.std.specs.Prelude.{if◌then◌else◌};
 ghost use Rattle.apfloat_model.specs.rounding.Bounds.{IsWithin, unit_bound, place_bound};
 ghost use Rattle.apfloat_model.specs.rounding.Standing.{StandsFor, up, down};
 ghost use Rattle.storage_formats.specs.Codes.{index_of};
-ghost use Rattle.storage_formats.specs.Picks.{IsPickedAt, IsPointAt};
+ghost use Rattle.storage_formats.specs.Picks.{IsPointAt};
 ghost use Rattle.storage_formats.specs.PicksBy.{IsPickedBy, moves};
 
 use crate::cuts::{cut, parts_of_rest};
@@ -40,32 +40,6 @@ pub(crate) fn moved_index(index: u128, moves: bool) -> u128
     ensures { result ≡ (if moves then index + 1 else index) }
 {
     if moves { index + 1 } else { index }
-}
-
-/// The point that is picked for `digits * 2^unit` quanta.
-pub(crate) fn pick(
-    precision: u32,
-    digits: u128,
-    unit: ExpInt,
-    mode: Round,
-    negative: bool,
-) -> Picked
-    requires some { 0 < precision }
-    requires precise { precision ≤ 15 }
-    requires low { 2 ^ 124 ≤ digits }
-    requires high { digits < 2 ^ 125 }
-    requires within { IsWithin unit_bound unit }
-    ensures { (amount parts : ℕ) → 0 < parts
-        → amount * 2 ^ down unit ≡ digits * (parts * 2 ^ up unit)
-        → IsPickedAt precision mode negative amount parts result.index result.exact }
-{
-    let kept = cut(precision, digits, unit);
-    let below = index_of(precision, kept.significand, kept.place);
-    let moves = moves_up(mode, negative, kept.loss, kept.significand % 2 == 1);
-    Picked {
-        index: moved_index(below, moves),
-        exact: is_exact(kept.loss),
-    }
 }
 
 /// Whether rounding to odd takes the point above what was kept.
@@ -132,8 +106,8 @@ pub(crate) fn pick_by(
     }
 }
 
-/// The point that is picked, also for a precision of one digit, where each significand is odd: there a tie to even goes
-/// to the even number.
+/// The point that is picked. A tie to even goes to the even number: that of the even significand, unless the precision
+/// is one digit, where each significand is odd.
 pub(crate) fn pick_point(
     precision: u32,
     digits: u128,
@@ -150,23 +124,8 @@ pub(crate) fn pick_point(
         → amount * 2 ^ down unit ≡ digits * (parts * 2 ^ up unit)
         → IsPointAt precision mode negative amount parts result.index result.exact }
 {
-    if precision > 1 {
-        return pick(precision, digits, unit, mode, negative);
-    }
-    pick_power(digits, unit, mode, negative)
-}
-
-/// The power of two that is picked, or zero.
-fn pick_power(digits: u128, unit: ExpInt, mode: Round, negative: bool) -> Picked
-    requires low { 2 ^ 124 ≤ digits }
-    requires high { digits < 2 ^ 125 }
-    requires within { IsWithin unit_bound unit }
-    ensures { (amount parts : ℕ) → 0 < parts
-        → amount * 2 ^ down unit ≡ digits * (parts * 2 ^ up unit)
-        → IsPointAt 1 mode negative amount parts result.index result.exact }
-{
-    let kept = cut(1, digits, unit);
-    let below = index_of(1, kept.significand, kept.place);
+    let kept = cut(precision, digits, unit);
+    let below = index_of(precision, kept.significand, kept.place);
     let moves = moves_up(mode, negative, kept.loss, below % 2 == 1);
     Picked {
         index: moved_index(below, moves),

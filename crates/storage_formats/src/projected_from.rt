@@ -1,6 +1,6 @@
 //! Conversions of the values of a format into a format of IEEE P3109.
 
-ghost use Rattle.std.specs.Prelude.{◌≡◌, ℕ, ◌*◌, ◌^◌, ◌<◌, ◌≤◌, if◌then◌else◌, true, pos};
+ghost use Rattle.std.specs.Prelude.{◌≡◌, ℕ, ◌*◌, ◌^◌, ◌<◌, ◌≤◌, ◌&&◌, if◌then◌else◌, not, true};
 ghost use Rattle.apfloat_model.specs.formats.Datum.{finite};
 ghost use Rattle.apfloat_model.specs.order.Classes.{quanta_of};
 ghost use Rattle.apfloat_model.specs.rounding.Flags.{Gives, bits_of};
@@ -10,16 +10,16 @@ ghost use Rattle.apfloat_decimals.specs.ShortestSearch.{IsPositive};
 ghost use Rattle.storage_formats.specs.Codes.{point};
 ghost use Rattle.storage_formats.specs.Picks.{IsPointAt};
 ghost use Rattle.storage_formats.specs.ProjectionTypes.{projection_of};
-ghost use Rattle.storage_formats.specs.Projections.{IsInfinityOf, IsIntoProjection, IsPointPick, IsProjected, exponent_bits, largest_index, past_value, projected_datum, projected_format};
+ghost use Rattle.storage_formats.specs.Projections.{IsInfinityOf, IsIntoProjection, IsPointPick, IsProjected, IsWithoutCode, exponent_bits, largest_index, past_value, projected_datum, projected_format};
 
-use crate::from_value::{leads_out, status_past, status_within, unit_of};
+use crate::from_value::{leads_out, status_of_nan, status_past, status_within};
 use crate::picks::{Picked, pick_point};
 use crate::projected::{Projected, largest_index};
 use crate::projection::Projection;
-use apfloat_base::{Category, ExpInt, Flags, Float, Round, Status, StatusAnd};
+use crate::quanta::in_quanta;
+use apfloat_base::{Category, Flags, Float, Round, Status, StatusAnd};
 use apfloat_ieee::{IeeeFloat, Semantics};
 use apfloat_words::power_of_two;
-use hex_digits::digits_of;
 
 /// The bits of the exponent.
 fn exponent_bits<F: Projection>() -> u32
@@ -34,20 +34,12 @@ fn exponent_bits<F: Projection>() -> u32
     }
 }
 
-/// The negated exponent of the quantum, which is not below 0.
-fn places<F: Projection>() -> u32
+/// The negated exponent of the quantum.
+pub(crate) fn scale<F: Projection>() -> u32
     ensures value { result ≡ (projected_format (projection_of F.Projection)).scale }
     ensures within { result ≤ 2 ^ 15 }
 {
     F::PRECISION as u32 + power_of_two(exponent_bits::<F>() - 1) as u32 - 2
-}
-
-/// The negated exponent of the quantum.
-pub(crate) fn scale<F: Projection>() -> ExpInt
-    ensures value { result ≡ pos (projected_format (projection_of F.Projection)).scale }
-    ensures within { (projected_format (projection_of F.Projection)).scale ≤ 2 ^ 15 }
-{
-    places::<F>() as ExpInt
 }
 
 /// The value that takes the place of a pick past the largest number.
@@ -102,9 +94,9 @@ fn round_positive<S: Semantics, F: Projection>(
     ensures { let c = projection_of F.Projection in Gives (IsProjected c mode negative
         (quanta_of x * 2 ^ (projected_format c).scale) (2 ^ (format_of S.Semantics).scale)) result }
 {
-    let number = digits_of(x);
-    let unit = unit_of(number.exponent, scale::<F>());
-    let picked = pick_point(F::PRECISION as u32, number.digits, unit, mode, negative);
+    let number = in_quanta(x, scale::<F>());
+    let precision = F::PRECISION as u32;
+    let picked = pick_point(precision, number.digits, number.unit, mode, negative);
     deliver_pick(picked, mode, negative)
 }
 
@@ -121,6 +113,22 @@ fn infinity<F: Projection>(negative: bool, loses_info: &mut bool) -> StatusAnd<P
         Status::INEXACT
     };
     status.and(Projected::past(negative))
+}
+
+/// Whether nothing of that sign has a code.
+fn lacks_sign<F: Projection>(negative: bool) -> bool
+    ensures { result ≡ (negative && not F.SIGNED) }
+{
+    negative && !F::SIGNED
+}
+
+/// What is below zero, in a format without a sign.
+fn without_code<F: Projection>(loses_info: &mut bool) -> StatusAnd<Projected<F>>
+    ensures { IsWithoutCode (projection_of F.Projection) result.value (bits_of result.status)
+        loses_info.new }
+{
+    *loses_info = true;
+    Status::INVALID_OP.and(Projected::nan())
 }
 
 impl<F: Projection> Projected<F> {
@@ -143,15 +151,11 @@ impl<F: Projection> Projected<F> {
         match x.category() {
             Category::NaN => {
                 *loses_info = S::NAN_PAYLOAD_MASK != 0;
-                if x.is_signaling() {
-                    return Status::INVALID_OP.and(Self::nan());
-                }
-                Status::OK.and(Self::nan())
+                status_of_nan(x).and(Self::nan())
             }
             Category::Infinity => {
-                if negative && !F::SIGNED {
-                    *loses_info = true;
-                    return Status::INVALID_OP.and(Self::nan());
+                if lacks_sign::<F>(negative) {
+                    return without_code(loses_info);
                 }
                 infinity(negative, loses_info)
             }
@@ -165,9 +169,8 @@ impl<F: Projection> Projected<F> {
                 status.and(Self::number(false, 0))
             }
             Category::Normal => {
-                if negative && !F::SIGNED {
-                    *loses_info = true;
-                    return Status::INVALID_OP.and(Self::nan());
+                if lacks_sign::<F>(negative) {
+                    return without_code(loses_info);
                 }
                 let answer = round_positive(x.abs(), round, negative);
                 *loses_info = answer.status != Status::OK;

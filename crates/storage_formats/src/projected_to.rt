@@ -1,58 +1,20 @@
 //! Conversions of the values of a format of IEEE P3109 to any format.
 
-ghost use Rattle.std.specs.Prelude.{◌≡◌, ◌*◌, ◌^◌, ◌<◌, ◌≤◌, pos, ◌-ℤ◌};
+ghost use Rattle.std.specs.Prelude.{◌≡◌};
 ghost use Rattle.apfloat_model.specs.arithmetic.Conversions.{IsConversion};
 ghost use Rattle.apfloat_model.specs.formats.Datum.{infinite};
-ghost use Rattle.apfloat_model.specs.rounding.Bounds.{IsWithin};
 ghost use Rattle.apfloat_model.specs.rounding.Flags.{bits_of};
 ghost use Rattle.apfloat_ieee.specs.FlaggedTypes.{format_of};
-ghost use Rattle.storage_formats.specs.Codes.{point};
 ghost use Rattle.storage_formats.specs.ProjectionTypes.{projection_of};
 ghost use Rattle.storage_formats.specs.Projections.{projected_datum, projected_format};
 
+use crate::grid_points::{convert_point, point_at};
 use crate::projected::{Projected, largest_index};
 use crate::projected_from::scale;
 use crate::projection::Projection;
-use apfloat_base::{ExpInt, Float, FloatConvert, Round, Status, StatusAnd};
+use apfloat_base::{Float, FloatConvert, Round, StatusAnd};
 use apfloat_formats::{Float8E4M3FNUZ, Half};
-use apfloat_ieee::{Flagged, IeeeFloat, deliver};
-use apfloat_model::Loss;
-use apfloat_words::power_of_two;
-
-/// A grid point, `significand * 2^place` quanta.
-#[derive(Clone, Copy)]
-struct Point {
-    significand: u16,
-    place: u16,
-}
-
-/// The point with that number.
-fn point_at(precision: u32, index: u16) -> Point
-    requires some { 0 < precision }
-    requires precise { precision ≤ 15 }
-    ensures { result.significand * 2 ^ result.place ≡ point precision index }
-{
-    let half = power_of_two(precision - 1) as u16;
-    if index < half {
-        return Point {
-            significand: index,
-            place: 0,
-        };
-    }
-    Point {
-        significand: half + index % half,
-        place: index / half - 1,
-    }
-}
-
-/// The exponent of the last digit of a point at that place.
-fn exponent_of<F: Projection>(place: u16) -> ExpInt
-    ensures value { result
-        ≡ pos place -ℤ pos (projected_format (projection_of F.Projection)).scale }
-    ensures within { IsWithin (2 ^ 23) result }
-{
-    ExpInt::from(place) - scale::<F>()
-}
+use apfloat_ieee::{Flagged, IeeeFloat};
 
 /// The infinity of that sign, in a format that has it.
 fn half_infinity(negative: bool) -> Half
@@ -89,14 +51,6 @@ impl<F: Projection> Projected<F> {
             return Half::zero().convert_r(round, loses_info);
         }
         let point = point_at(F::PRECISION as u32, magnitude);
-        let answer = deliver::<T>(
-            u128::from(point.significand),
-            exponent_of::<F>(point.place),
-            Loss::ExactlyZero,
-            round,
-            negative,
-        );
-        *loses_info = answer.status != Status::OK;
-        answer
+        convert_point(point, scale::<F>(), round, negative, loses_info)
     }
 }

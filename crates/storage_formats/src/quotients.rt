@@ -29,14 +29,14 @@ use hex_digits::digits_of;
 const PLACES: u32 = 126;
 
 /// The unit of the last digit of a quotient, counted from a quantum, given the exponents of the first digits.
-fn quotient_unit(dividend: ExpInt, divisor: ExpInt, scale: ExpInt) -> ExpInt
+fn quotient_unit(dividend: ExpInt, divisor: ExpInt, scale: u32) -> ExpInt
     requires dividend { IsWithin (2 ^ 22) dividend }
     requires divisor { IsWithin (2 ^ 22) divisor }
-    requires scale { IsWithin (2 ^ 21) scale }
-    ensures value { result ≡ ((dividend -ℤ divisor) -ℤ pos 126) +ℤ scale }
+    requires scale { scale ≤ 2 ^ 21 }
+    ensures value { result ≡ ((dividend -ℤ divisor) -ℤ pos 126) +ℤ pos scale }
     ensures within { IsWithin (2 ^ 24) result }
 {
-    dividend - divisor - PLACES as ExpInt + scale
+    dividend - divisor - PLACES as ExpInt + scale as ExpInt
 }
 
 /// The point that is picked for `number * 2^unit` quanta, below which `loss` was lost.

@@ -1,6 +1,6 @@
 //! Scales of blocks (OCP Microscaling Formats 1.0, 5.4): powers of two in 8 bits.
 
-ghost use Rattle.std.specs.Prelude.{◌≡◌, ℕ, ◌+◌, ◌*◌, ◌^◌, ◌<◌, ◌≤◌, pos, neg_ℤ, ◌+ℤ◌, ◌-ℤ◌, ◌≤ℤ◌, eqb, false};
+ghost use Rattle.std.specs.Prelude.{◌≡◌, ℕ, ◌+◌, ◌*◌, ◌^◌, ◌<◌, ◌≤◌, pos, neg_ℤ, ◌+ℤ◌, ◌≤ℤ◌, eqb, false};
 ghost use Rattle.std.specs.Prelude.{if◌then◌else◌};
 ghost use Rattle.apfloat_model.specs.arithmetic.Conversions.{IsConversion, IsExactlyConverted};
 ghost use Rattle.apfloat_model.specs.order.Classes.{quanta_of};
@@ -15,14 +15,14 @@ ghost use Rattle.storage_formats.specs.Scales.{IsDeliveredScale, IsScale, larges
 ghost use Rattle.storage_formats.specs.Scales.{scale_format, scale_of};
 
 use crate::cuts::DIGITS;
-use crate::from_value::{leads_out, status_past};
-use crate::to_value::exponent_of;
+use crate::from_value::{leads_out, status_of_nan, status_past};
+use crate::grid_points::{Point, convert_point};
+use crate::quanta::in_quanta;
 use apfloat_base::{Category, ExpInt, Flags, Float, Round, Status, StatusAnd};
-use apfloat_ieee::{Flagged, IeeeFloat, Semantics, deliver};
+use apfloat_ieee::{Flagged, IeeeFloat, Semantics};
 use apfloat_model::Loss;
 use apfloat_rounding::rounding::moves_up;
 use apfloat_words::{is_exact, shift_right};
-use hex_digits::digits_of;
 use std::marker::Model;
 
 const NAN: u8 = 255;
@@ -30,7 +30,10 @@ const NAN: u8 = 255;
 const LARGEST: u8 = 254;
 
 /// The negated exponent of the least scale.
-const BIAS: ExpInt = 127;
+const BIAS: u32 = 127;
+
+/// How far the first of 125 digits is above the last one.
+const FIRST: ExpInt = 124;
 
 /// A scale: 2^(code - 127), or the NaN with the code 255. There is no sign, no zero and no infinity.
 #[derive(Clone, Copy)]
@@ -86,29 +89,29 @@ fn moved_code(code: u32, moves: bool) -> u32
     if moves { code + 1 } else { code }
 }
 
-/// The code of the scale with an exponent that is not below the least one.
-fn code_at(exponent: ExpInt) -> u32
-    requires least { neg_ℤ (pos 127) ≤ℤ exponent }
-    requires most { exponent ≤ℤ pos (2 ^ 22) }
-    ensures value { pos result ≡ exponent +ℤ pos 127 }
+/// The code of the first of 125 digits, of which the last one is at `unit`, if it is not below the least scale.
+fn code_at(unit: ExpInt) -> u32
+    requires least { neg_ℤ (pos 124) ≤ℤ unit }
+    requires most { unit ≤ℤ pos (2 ^ 23) }
+    ensures value { pos result ≡ unit +ℤ pos 124 }
     ensures near { result < 2 ^ 24 }
 {
-    (exponent + BIAS) as u32
+    (unit + FIRST) as u32
 }
 
-/// A positive number with 125 digits, the first of which has that exponent, rounded once.
-fn round_digits(digits: u128, exponent: ExpInt, mode: Round) -> StatusAnd<E8M0FNU>
+/// A positive number with 125 digits, the last of which is at `unit`, rounded once.
+fn round_digits(digits: u128, unit: ExpInt, mode: Round) -> StatusAnd<E8M0FNU>
     requires low { 2 ^ 124 ≤ digits }
     requires high { digits < 2 ^ 125 }
-    requires within { IsWithin (2 ^ 22) exponent }
-    ensures { let unit = (exponent -ℤ pos 124) +ℤ pos 127 in (amount parts : ℕ) → 0 < parts
+    requires within { IsWithin (2 ^ 23) unit }
+    ensures { (amount parts : ℕ) → 0 < parts
         → amount * 2 ^ down unit ≡ digits * (parts * 2 ^ up unit)
         → Gives (IsDeliveredScale mode amount parts) result }
 {
-    if exponent < -BIAS {
+    if unit < -FIRST {
         return least();
     }
-    let low = code_at(exponent);
+    let low = code_at(unit);
     let first = shift_right(digits, DIGITS - 1, Loss::ExactlyZero);
     let moves = moves_up(mode, false, first.loss, low % 2 == 1);
     let picked = moved_code(low, moves);
@@ -125,8 +128,8 @@ fn round_positive<S: Semantics>(x: IeeeFloat<S>, mode: Round) -> StatusAnd<E8M0F
     ensures { Gives (IsDeliveredScale mode (quanta_of x * 2 ^ 127)
         (2 ^ (format_of S.Semantics).scale)) result }
 {
-    let number = digits_of(x);
-    round_digits(number.digits, number.exponent, mode)
+    let number = in_quanta(x, BIAS);
+    round_digits(number.digits, number.unit, mode)
 }
 
 impl E8M0FNU {
@@ -169,12 +172,7 @@ impl E8M0FNU {
         match x.category() {
             Category::NaN => {
                 *loses_info = S::NAN_PAYLOAD_MASK != 0;
-                let status = if x.is_signaling() {
-                    Status::INVALID_OP
-                } else {
-                    Status::OK
-                };
-                status.and(E8M0FNU { code: NAN })
+                status_of_nan(x).and(E8M0FNU { code: NAN })
             }
             Category::Infinity => {
                 *loses_info = true;
@@ -217,14 +215,10 @@ impl E8M0FNU {
             *loses_info = false;
             return Status::OK.and(IeeeFloat::qnan(None));
         }
-        let answer = deliver::<T>(
-            1,
-            exponent_of(self.code, BIAS),
-            Loss::ExactlyZero,
-            round,
-            false,
-        );
-        *loses_info = answer.status != Status::OK;
-        answer
+        let point = Point {
+            significand: 1,
+            place: u16::from(self.code),
+        };
+        convert_point(point, BIAS, round, false, loses_info)
     }
 }

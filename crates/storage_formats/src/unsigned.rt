@@ -8,6 +8,7 @@ ghost use Rattle.apfloat_ieee.specs.FlaggedTypes.{format_of as flagged_format_of
 ghost use Rattle.apfloat_ieee.specs.Types.{format_of};
 ghost use Rattle.storage_formats.specs.Unsigned.{IsUnsigned, signed_format, unsigned_datum, unsigned_nan_code};
 
+use crate::from_value::status_of_nan;
 use apfloat_base::{Category, Float, FloatConvert, Round, Status, StatusAnd};
 use apfloat_formats::Float8E4M3FN;
 use apfloat_ieee::{Flagged, IeeeFloat, Semantics};
@@ -98,12 +99,7 @@ impl UE4M3 {
         match x.category() {
             Category::NaN => {
                 *loses_info = S::NAN_PAYLOAD_MASK != 0;
-                let status = if x.is_signaling() {
-                    Status::INVALID_OP
-                } else {
-                    Status::OK
-                };
-                status.and(UE4M3 { code: NAN })
+                status_of_nan(x).and(UE4M3 { code: NAN })
             }
             Category::Infinity => {
                 *loses_info = true;

@@ -9,11 +9,6 @@
 use commands::{run_given, words_of_system};
 use std::process::ExitCode;
 
-#[cfg(test)]
-mod asserts;
-#[cfg(test)]
-mod tests;
-
 /// Runs the program and returns its exit status.
 fn main(rt: HostRuntime) -> ExitCode {
     ExitCode::from(run_given(words_of_system(&rt), &mut rt.stdout(), &mut rt.stderr()))

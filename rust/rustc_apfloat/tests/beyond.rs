@@ -509,7 +509,7 @@ fn check_stored<X: Stored>(name: &str, table: &str) -> usize {
 
 #[test]
 fn storage_formats() {
-    let tables = ["rows", "e3m4_rows"].map(|name| tables(&format!("storage_formats/src/{name}.rt")));
+    let tables = ["stored_rows", "e3m4_rows"].map(|name| tables(&format!("layer_tests/src/{name}.rt")));
     let count = tables.iter().flatten().map(|(name, table)| match name.rsplit('_').next() {
         Some("E2M1FN") => check_stored::<StoredFloat<E2M1FN>>(name, table),
         Some("E2M3FN") => check_stored::<StoredFloat<E2M3FN>>(name, table),

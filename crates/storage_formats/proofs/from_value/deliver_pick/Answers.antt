@@ -11,8 +11,7 @@ returns-then-picked-from g c = λ amount parts x.
     let l : largest_index d < c.args.picked.index =
     omega (arith, c.largest_index.ensures, c.from.ensures, c.if-picked-from.true) in
     past_delivered d c.args.mode c.args.negative amount parts c.args.picked.index c.past.result.value
-    (bits_of c.past.result.status) c.args.picked.exact g.F.StorageFormat.lawful x l c.past.ensures.value
-    c.past.ensures.status
+    (bits_of c.past.result.status) g.F.StorageFormat.lawful l c.past.ensures.value c.past.ensures.status
 
 pub returns-else-picked-from : goal.returns-else-picked-from
 returns-else-picked-from g c = λ amount parts x.

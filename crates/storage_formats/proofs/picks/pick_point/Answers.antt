@@ -1,18 +1,15 @@
-use Rattle.std.proofs.Common.{◌≡◌, w32, arith, subst, ℕ}
+use Rattle.std.proofs.Common.{◌+◌, cond, ap, ◌∙◌, w32}
 use Rattle.std.proofs.lemmas.Int.{to_z-of_z}
-use Rattle.storage_formats.specs.Picks.{IsPointAt}
-use Rattle.storage_formats.proofs.ProjectedPicks.{many_digits}
+use Rattle.storage_formats.proofs.ProjectedPicks.{point_at}
 use Rattle.storage_formats.proofs.picks.pick_point.Goals as goal
-
-pub returns-then-precision-gt1 : goal.returns-then-precision-gt1
-returns-then-precision-gt1 c = λ amount parts u h.
-    let e = to_z-of_z w32 c.args.unit c.ranges.unit in
-    many_digits c.args.precision c.args.mode c.args.negative amount parts c.pick.result.index c.pick.result.exact
-    (omega (arith, c.if-precision-gt1.true)) ((rw e at c.pick.ensures) amount parts u h)
 
 pub returns : goal.returns
 returns c = λ amount parts u h.
     let e = to_z-of_z w32 c.args.unit c.ranges.unit in
-    let one : 1 ≡ c.args.precision = omega (arith, c.requires.some, c.if-precision-gt1.false) in
-    subst (λ (p : ℕ). IsPointAt p c.args.mode c.args.negative amount parts c.pick_power.result.index
-    c.pick_power.result.exact) one ((rw e at c.pick_power.ensures) amount parts u h)
+    let kept = (rw e at c.cut-kept.ensures.cut) amount parts u h in
+    point_at c.args.precision c.args.mode c.args.negative c.cut-kept.result.significand c.cut-kept.result.place
+    amount parts c.moved_index.result c.cut-kept.result.loss c.moves_up-moves.result c.is_exact.result
+    c.requires.some u kept.0 kept.1 (rw c.index_of-below.ensures.value at c.moves_up-moves.ensures)
+    (c.moved_index.ensures
+    ∙ ap (λ n. cond c.moves_up-moves.result (n + 1) n) c.index_of-below.ensures.value)
+    c.is_exact.ensures.yes c.is_exact.ensures.no

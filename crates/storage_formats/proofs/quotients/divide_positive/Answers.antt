@@ -1,11 +1,13 @@
 use Rattle.std.proofs.Common.{◌-◌, ◌^◌, ◌≤◌, arith, w32}
 use Rattle.std.proofs.lemmas.Int.{ints, to_z-of_z}
 use Rattle.apfloat_model.specs.order.Classes.{quanta_of}
+use Rattle.apfloat_model.specs.rounding.Flags.{bits_of}
 use Rattle.apfloat_ieee.specs.Types.{format_of}
 use Rattle.hex_digits.proofs.Roundings.{exponent_fits}
 use Rattle.storage_formats.specs.Storage.{format_with}
 use Rattle.storage_formats.specs.Types.{constants_of}
 use Rattle.storage_formats.proofs.QuotientPicks.{quotient_long, quotient_stands}
+use Rattle.storage_formats.proofs.StoredPicks.{saturated}
 use Rattle.storage_formats.proofs.quotients.divide_positive.Goals as goal
 
 -- at least 126 digits
@@ -36,15 +38,15 @@ returns g c = λ amount parts u same.
     let other = to_z-of_z w32 y.result.exponent
     (exponent_fits y.result.exponent
     (record { low = omega (arith, ints, y_low); high = omega (arith, ints, y_high) })) in
-    let scale = to_z-of_z w32 c.scale.result (record { sfits = c.scale.type_inv }) in
     let unit = to_z-of_z w32 c.quotient_unit-unit.result (record { sfits = c.quotient_unit-unit.type_inv }) in
-    let value = rw (exponent, other, scale) at c.quotient_unit-unit.ensures.value in
+    let value = rw (exponent, other) at c.quotient_unit-unit.ensures.value in
     let at = c.scale.ensures.value in
     let some = c.requires.y.some in
-    let picked = rw (unit, c.PRECISION.ensures) at c.pick_with_loss.ensures in
-    c.deliver_pick.ensures amount parts
-    (picked amount parts u
+    let picked = (rw (unit, c.PRECISION.ensures) at c.pick_with_loss.ensures) amount parts u
     (quotient_stands c.divide_u128-quotient.result.whole c.divide_u128-quotient.result.loss x.result.digits
     y.result.digits (quanta_of c.args.x) (quanta_of c.args.y) f.scale h.scale (format_with d).scale x.result.exponent
     y.result.exponent c.quotient_unit-unit.result amount parts some u x.ensures.number y.ensures.number
-    (omega (arith, ints, value, at)) c.divide_u128-quotient.ensures.stands same))
+    (omega (arith, ints, value, at)) c.divide_u128-quotient.ensures.stands same) in
+    saturated d c.args.mode c.args.negative amount parts c.pick_with_loss.result.index c.deliver_pick.result.value
+    (bits_of c.deliver_pick.result.status) c.pick_with_loss.result.exact picked
+    (c.deliver_pick.ensures amount parts picked.exact_is)

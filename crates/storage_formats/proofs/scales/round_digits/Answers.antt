@@ -1,4 +1,4 @@
-use Rattle.std.proofs.Common.{◌≡◌, ℕ, ◌*◌, ◌^◌, ◌<◌, refl, arith, w32, pos, ◌+ℤ◌, ◌-ℤ◌}
+use Rattle.std.proofs.Common.{◌≡◌, ℕ, ◌*◌, ◌^◌, ◌<◌, arith, w32}
 use Rattle.std.proofs.Math.Nat.{mul-pos}
 use Rattle.std.proofs.lemmas.Int.{ints, to_z-of_z}
 use Rattle.std.proofs.lemmas.Nat.{pow_pos}
@@ -10,26 +10,24 @@ use Rattle.storage_formats.proofs.ScalePicks.{scale_past, scale_within}
 use Rattle.storage_formats.proofs.scales.round_digits.Goals.{After-moved_code-picked}
 use Rattle.storage_formats.proofs.scales.round_digits.Goals as goal
 
-pub returns-then-exponent : goal.returns-then-exponent
-returns-then-exponent c = λ amount parts u h.
-    let e = to_z-of_z w32 c.args.exponent c.ranges.exponent in
-    let small = rw e at c.if-exponent.true in
-    let z = (c.args.exponent -ℤ pos 124) +ℤ pos 127 in
-    let far = down_far z 125 (omega (arith, ints, small)) in
+pub returns-then-unit : goal.returns-then-unit
+returns-then-unit c = λ amount parts u h.
+    let e = to_z-of_z w32 c.args.unit c.ranges.unit in
+    let small = rw e at c.if-unit.true in
+    let far = down_far c.args.unit 125 (omega (arith, ints, small)) in
     least_delivered c.args.mode amount parts c.least.result.value (bits_of c.least.result.status)
-    (below_least c.args.digits amount parts (up z) (down z) c.requires.high u far.1 far.0 h)
+    (below_least c.args.digits amount parts (up c.args.unit) (down c.args.unit) c.requires.high u far.1 far.0 h)
     c.least.ensures.value c.least.ensures.status
 
 -- what the digits but the first one leave
 stands_at : (c : After-moved_code-picked) → (amount parts : ℕ) → 0 < parts
-    → amount * 2 ^ down ((c.args.exponent -ℤ pos 124) +ℤ pos 127)
-    ≡ c.args.digits * (parts * 2 ^ up ((c.args.exponent -ℤ pos 124) +ℤ pos 127))
+    → amount * 2 ^ down c.args.unit ≡ c.args.digits * (parts * 2 ^ up c.args.unit)
     → StandsFor 1 c.shift_right-first.result.loss amount (2 ^ c.code_at-low.result * parts)
 stands_at c amount parts u h =
-    let e = to_z-of_z w32 c.args.exponent c.ranges.exponent in
-    let z = (c.args.exponent -ℤ pos 124) +ℤ pos 127 in
+    let e = to_z-of_z w32 c.args.unit c.ranges.unit in
+    let z = c.args.unit in
     cut_stands c.args.digits c.shift_right-first.result.significand amount parts c.code_at-low.result
-    c.shift_right-first.result.loss c.args.exponent z refl (rw e at c.code_at-low.ensures.value) c.requires.low
+    c.shift_right-first.result.loss z (rw e at c.code_at-low.ensures.value) c.requires.low
     c.requires.high c.shift_right-first.ensures.quotient
     (c.shift_right-first.ensures.stands (amount * 2 ^ down z) (parts * 2 ^ up z) (mul-pos u (pow_pos (up z))) h)
 

@@ -35,4 +35,5 @@ returns g c =
     ∙ ap (λ (z : ℤ). int_cmp z c.signed_index-2.result) c.signed_index.ensures.value
     ∙ ap (λ (z : ℤ). int_cmp (rank_of d c.args.self) z) c.signed_index-2.ensures.value)
     ∙ sym (by_ranks d c.args.self c.args.other g.F.Projection.lawful c.signed_index.ensures.fits
-    c.signed_index-2.ensures.fits (sym c.is_nan.ensures ∙ c.if-is_nan.false) (sym c.is_nan-2.ensures ∙ c.if-is_nan-2.false))
+    c.signed_index-2.ensures.fits (sym c.is_nan.ensures ∙ c.if-is_nan.false)
+    (sym c.is_nan-2.ensures ∙ c.if-is_nan-2.false))

@@ -1,14 +1,10 @@
-use Rattle.std.proofs.Common.{◌≡◌, ℕ, ◌-◌, ◌*◌, ◌/◌, ◌^◌, ◌<◌, false, ap, ◌∙◌, refl, arith, w32, pos, ◌+ℤ◌}
+use Rattle.std.proofs.Common.{◌≡◌, ℕ, ◌-◌, ◌*◌, ◌/◌, ◌^◌, ◌<◌, false, ap, ◌∙◌, arith}
 use Rattle.apfloat_model.specs.formats.Datum.{nan}
 use Rattle.apfloat_model.specs.formats.Nan.{nan_sign, quiet_significand}
-use Rattle.std.proofs.lemmas.Int.{ints, to_z-of_z}
-use Rattle.std.proofs.lemmas.Nat.{pow_pos}
 use Rattle.apfloat_model.specs.rounding.Flags.{bits_of}
 use Rattle.apfloat_ieee.specs.FlaggedTypes.{format_of}
-use Rattle.storage_formats.specs.Codes.{point}
 use Rattle.storage_formats.specs.ProjectionTypes.{projection_of}
 use Rattle.storage_formats.specs.Projections.{magnitude_of, projected_format}
-use Rattle.storage_formats.proofs.StoredNumbers.{point_in_quanta}
 use Rattle.storage_formats.proofs.ProjectedCodes.{infinity_at, nan_at, number_at, zero_at}
 use Rattle.storage_formats.proofs.ProjectedValues.{infinity_converted, nan_converted, number_converted, zero_converted}
 use Rattle.storage_formats.proofs.projected.Projected.convert_r.Goals as goal
@@ -20,20 +16,13 @@ returns g c =
     let low = g.F.Projection.lawful.precision_low in
     let some : 0 < magnitude_of d c.args.self =
     omega (arith, c.magnitude-magnitude.ensures.value, c.if-magnitude-eq0.false) in
-    let exponent = to_z-of_z w32 c.exponent_of.result (record { sfits = c.exponent_of.type_inv }) in
-    let of_quantum = c.exponent_of.ensures.value in
     let at = rw (c.PRECISION.ensures, c.magnitude-magnitude.ensures.value) at c.point_at-point.ensures in
-    let delivered = rw (exponent, c.from.ensures) at c.deliver-answer.ensures in
+    let delivered = rw (at, c.scale.ensures.value) at c.convert_point.ensures.delivered in
     number_converted d f c.args.round c.args.self (magnitude_of d c.args.self) c.is_negative-negative.result
-    c.deliver-answer.result.value (bits_of c.deliver-answer.result.status) c.ne.result low some
+    c.convert_point.result.value (bits_of c.convert_point.result.status) _ low some
     (number_at d c.args.self c.is_nan.ensures c.if-is_nan.false c.is_negative-negative.ensures
     (omega (arith, c.magnitude-magnitude.ensures.value, c.largest_index.ensures, c.if-magnitude-largest_index.false)))
-    (delivered (point d.precision (magnitude_of d c.args.self) * 2 ^ f.scale) (2 ^ (projected_format d).scale)
-    (pow_pos (projected_format d).scale)
-    (point_in_quanta (point d.precision (magnitude_of d c.args.self)) c.point_at-point.result.significand
-    c.point_at-point.result.place (projected_format d).scale f.scale c.exponent_of.result
-    (c.exponent_of.result +ℤ pos f.scale) at (omega (arith, ints, of_quantum)) refl))
-    c.ne.ensures
+    delivered c.convert_point.ensures.loses
 
 -- the NaN of e4m3fnuz has a significand of 0 too
 pub returns-then-is_nan : goal.returns-then-is_nan
@@ -51,7 +40,8 @@ pub returns-then-magnitude-largest_index : goal.returns-then-magnitude-largest_i
 returns-then-magnitude-largest_index g c =
     infinity_converted (projection_of g.F.Projection) (projected_format (projection_of g.F.Projection))
     (format_of g.T.Flagged) c.args.round c.args.self
-    c.is_negative-negative.result c.convert_r-then-magnitude-largest_index.result.value (bits_of c.convert_r-then-magnitude-largest_index.result.status) _
+    c.is_negative-negative.result c.convert_r-then-magnitude-largest_index.result.value
+    (bits_of c.convert_r-then-magnitude-largest_index.result.status) _
     (infinity_at (projection_of g.F.Projection) c.args.self c.is_nan.ensures c.if-is_nan.false
     c.is_negative-negative.ensures (omega (
       arith,

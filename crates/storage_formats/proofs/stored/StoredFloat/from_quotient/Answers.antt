@@ -7,7 +7,7 @@ use Rattle.apfloat_decimals.proofs.shortest_decimals.ShortestFound.{magnitude_po
 use Rattle.storage_formats.specs.Storage.{format_with}
 use Rattle.storage_formats.specs.Types.{constants_of}
 use Rattle.storage_formats.proofs.QuotientPicks.{magnitude_quanta, no_number, no_quotient, zero_picked}
-use Rattle.storage_formats.proofs.StoredPicks.{within_delivered}
+use Rattle.storage_formats.proofs.StoredPicks.{saturated, within_delivered}
 use Rattle.storage_formats.proofs.stored.StoredFloat.from_quotient.Goals as goal
 
 pub divide_positive-requires-clause-x : goal.divide_positive-requires-clause-x
@@ -36,7 +36,9 @@ returns-in_default g c = λ amount parts u same.
     ap (λ (k : ℕ). k * 2 ^ ((format_of g.R.Semantics).scale + into.scale)) none ∙ omega arith in
     let some : 0 < quanta_of c.args.y * 2 ^ f.scale = mul-pos c.requires.positive.some (pow_pos f.scale) in
     let zero : amount ≡ 0 = no_quotient amount parts (quanta_of c.args.y * 2 ^ f.scale) _ some nothing same in
+    let picked = zero_picked d.precision c.args.round (is_negative c.args.x) amount parts u zero in
     rw (c.and.ensures.value, c.and.ensures.status)
+    (saturated d c.args.round (is_negative c.args.x) amount parts 0 c.with_sign.result 0 true picked
     (within_delivered d c.args.round (is_negative c.args.x) amount parts 0 c.with_sign.result 0 true
-    g.F.StorageFormat.lawful (zero_picked d.precision c.args.round (is_negative c.args.x) amount parts u zero)
-    (omega arith) (rw c.is_negative-negative.ensures at c.with_sign.ensures) refl)
+    g.F.StorageFormat.lawful picked.exact_is (omega arith)
+    (rw c.is_negative-negative.ensures at c.with_sign.ensures) refl))

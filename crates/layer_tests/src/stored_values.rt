@@ -2,15 +2,11 @@
 
 ghost use Rattle.std.specs.Prelude.{◌<◌, ◌≤◌, ◌^◌};
 
-use crate::mode_rows::{BY_MODE_E2M1FN, BY_MODE_E2M3FN, BY_MODE_E3M2FN};
-use crate::rows::{
+use crate::stored_mode_rows::{BY_MODE_E2M1FN, BY_MODE_E2M3FN, BY_MODE_E3M2FN};
+use crate::stored_rows::{
     E2M1FN as E2M1FN_ROWS, E2M3FN as E2M3FN_ROWS, E3M2FN as E3M2FN_ROWS, E8M0FNU as E8M0FNU_ROWS,
     INTO_E2M1FN, INTO_E2M3FN, INTO_E3M2FN, INTO_E8M0FNU, INTO_UE4M3, OUT_OF_E2M1FN, OUT_OF_E2M3FN,
     OUT_OF_E3M2FN, OUT_OF_E8M0FNU, OUT_OF_UE4M3, UE4M3 as UE4M3_ROWS,
-};
-use crate::{
-    ConversionRound, E2M1FN, E2M3FN, E3M2FN, E8M0FNU, NanResult, RandomDigits, RandomError,
-    StorageFormat, StoredFloat, UE4M3,
 };
 use apfloat_base::{Flags, Float, Round, StatusAnd};
 use apfloat_formats::{Float8E4M3FNS, Float8E5M2S, Half, HalfS, Single, SingleS};
@@ -18,6 +14,10 @@ use apfloat_ieee::{IeeeFloat, Semantics};
 use apfloat_words::low_digits;
 use std::cmp::Ordering;
 use std::process::Abort;
+use storage_formats::{
+    ConversionRound, E2M1FN, E2M3FN, E3M2FN, E8M0FNU, NanResult, RandomDigits, RandomError,
+    StorageFormat, StoredFloat, UE4M3,
+};
 
 pub(crate) static MODES: [Round; 5] = [
     Round::NearestTiesToEven,

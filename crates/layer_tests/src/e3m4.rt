@@ -1,11 +1,11 @@
 //! Rows and checksums of `Float8E3M4` (`evidence/e3m4.py`), and its order by hand.
 
-use crate::Float8E3M4;
 use crate::e3m4_rows::{E3M4, INTO_E3M4, OUT_OF_E3M4};
-use crate::tests::{Stored, check_checksums, check_rows};
+use crate::stored_values::{Stored, check_checksums, check_rows};
 use apfloat_base::{Category, Round, StatusAnd};
 use apfloat_ieee::{IeeeFloat, Semantics};
 use std::cmp::Ordering;
+use storage_formats::Float8E3M4;
 
 impl Stored for Float8E3M4 {
     fn store<S: Semantics>(x: IeeeFloat<S>, mode: Round, loses_info: &mut bool) -> StatusAnd<u8> {

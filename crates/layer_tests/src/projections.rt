@@ -4,11 +4,11 @@ ghost use Rattle.std.specs.Prelude.{refl, true, false};
 ghost use Rattle.storage_formats.specs.ProjectionLawTest.{projection_from_test};
 
 use crate::projection_rows::CHECKSUMS;
-use crate::tests::MODES;
-use crate::{Binary8P1UF, Binary8P3, Binary8P4, Binary8P5, Projected, Projection};
+use crate::stored_values::MODES;
 use apfloat_base::{Category, Flags, Float, Round};
 use apfloat_formats::{DoubleS, Half};
 use std::cmp::Ordering;
+use storage_formats::{Binary8P1UF, Binary8P3, Binary8P4, Binary8P5, Projected, Projection};
 
 /// `binary3p1sf`.
 #[derive(Clone, Copy)]

@@ -3,13 +3,12 @@
 ghost use Rattle.apfloat_ieee.specs.Types.{format_of};
 ghost use Rattle.apfloat_decimals.specs.ShortestSearch.{IsPositive};
 
-use crate::quotient_rows::{QUOTIENTS_E2M1FN, QUOTIENTS_E2M3FN, QUOTIENTS_E3M2FN};
-use crate::tests::{Checksums, MODES, extended};
-use crate::{E2M1FN, E2M3FN, E3M2FN, StorageFormat, StoredFloat};
+use crate::stored_quotient_rows::{QUOTIENTS_E2M1FN, QUOTIENTS_E2M3FN, QUOTIENTS_E3M2FN};
+use crate::stored_values::{Checksums, MODES, extended};
 use apfloat_base::{Category, ExpInt, Flags, Float, Round, Status};
 use apfloat_formats::{Double, Single};
 use apfloat_ieee::{IeeeFloat, Semantics};
-use std::process::Abort;
+use storage_formats::{E2M1FN, E2M3FN, E3M2FN, StorageFormat, StoredFloat};
 
 /// Singles by which is divided: their bits, their significands, and the exponents of 1/32 of their last digits.
 static DIVISORS: [(u32, u128, ExpInt); 4] = [

@@ -1,6 +1,6 @@
 //! Conversions into storage formats and out of them, computed by `evidence/storage_formats.py`.
 
-use crate::tests::{Checksums, Row};
+use crate::stored_values::{Checksums, Row};
 
 pub(crate) static E2M1FN: [Row; 122] = [
     (0x0, [0, 0, 0, 0, 0], [0, 0, 0, 0, 0], false),

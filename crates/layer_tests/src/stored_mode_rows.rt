@@ -1,6 +1,6 @@
 //! Conversions to odd and with random digits, computed by `evidence/conversion_modes.py`.
 
-use crate::tests::ModeSums;
+use crate::stored_values::ModeSums;
 
 pub(crate) static BY_MODE_E2M1FN: ModeSums = [
     0xcf8d425b668a59fb,

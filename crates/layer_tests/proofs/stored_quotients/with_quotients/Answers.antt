@@ -1,7 +1,7 @@
 use Rattle.std.proofs.Common.{sym, ◌∙◌}
 use Rattle.apfloat_ieee.specs.Types.{format_of}
 use Rattle.apfloat_decimals.proofs.shortest_decimals.ShortestFound.{magnitude_positive}
-use Rattle.storage_formats.proofs.quotient_tests.with_quotients.Goals as goal
+use Rattle.layer_tests.proofs.stored_quotients.with_quotients.Goals as goal
 
 pub with_quotient-sum-requires : goal.with_quotient-sum-requires
 with_quotient-sum-requires g c =

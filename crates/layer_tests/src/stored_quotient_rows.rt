@@ -1,6 +1,6 @@
 //! Quotients in storage formats, computed by `evidence/stored_quotients.py`.
 
-use crate::tests::Checksums;
+use crate::stored_values::Checksums;
 
 pub(crate) static QUOTIENTS_E2M1FN: Checksums = [
     0xe293f20cf0517fe0,

@@ -1,6 +1,6 @@
 //! Conversions into `e3m4` and out of it, computed by `evidence/e3m4.py`.
 
-use crate::tests::{Checksums, Row};
+use crate::stored_values::{Checksums, Row};
 
 pub(crate) static E3M4: [Row; 100] = [
     (0x0, [0, 0, 0, 0, 0], [0, 0, 0, 0, 0], false),

@@ -1,7 +1,7 @@
 use Rattle.std.proofs.Common.{◌-◌, ◌^◌, ◌≤◌, arith}
 use Rattle.std.proofs.Math.Nat.{pow-le-pow_right}
 use Rattle.apfloat_model.proofs.general.Powers.{two_pos}
-use Rattle.storage_formats.proofs.projected_from.places.Goals as goal
+use Rattle.storage_formats.proofs.projected_from.scale.Goals as goal
 
 pub returns-clause-within : goal.returns-clause-within
 returns-clause-within g c =
