@@ -91,41 +91,9 @@ impl MachineFormat {
         }
     }
 
-    /// The format of this code, if it has a choice of flags. The codes that interpreters have most come first.
+    /// The format of this code, if it has a choice of flags. It is one match, so that a call at it is made in the arms.
     #[inline(always)]
     pub fn coded(code: u32) -> Option<MachineFormat>
-        ensures { IfSome result (λ format.
-            option_and_then machine_format (flagged_kind_coded code) ≡ Some format) }
-    {
-        if 257 <= code && code <= 265 {
-            MachineFormat::coded_after(code)
-        } else {
-            MachineFormat::coded_other(code)
-        }
-    }
-
-    /// The format of a code that asks for tininess after rounding. The format is named in each arm, so that a call in it
-    /// is made there.
-    #[inline(always)]
-    fn coded_after(code: u32) -> Option<MachineFormat>
-        ensures { IfSome result (λ format.
-            option_and_then machine_format (flagged_kind_coded code) ≡ Some format) }
-    {
-        match code {
-            257 => Some(MachineFormat::told(IeeeFormat::Half, false)),
-            258 => Some(MachineFormat::told(IeeeFormat::Single, false)),
-            259 => Some(MachineFormat::told(IeeeFormat::Double, false)),
-            260 => Some(MachineFormat::told(IeeeFormat::Quad, false)),
-            261 => Some(MachineFormat::told(IeeeFormat::BFloat, false)),
-            262 => Some(MachineFormat::told(IeeeFormat::E5M2, false)),
-            265 => Some(MachineFormat::told(IeeeFormat::X87, false)),
-            _ => None,
-        }
-    }
-
-    /// The format of a code that asks for no rule of flags, or for tininess before rounding.
-    #[inline(always)]
-    fn coded_other(code: u32) -> Option<MachineFormat>
         ensures { IfSome result (λ format.
             option_and_then machine_format (flagged_kind_coded code) ≡ Some format) }
     {
@@ -137,6 +105,13 @@ impl MachineFormat {
             5 => Some(MachineFormat::untold(IeeeFormat::BFloat)),
             6 => Some(MachineFormat::untold(IeeeFormat::E5M2)),
             9 => Some(MachineFormat::untold(IeeeFormat::X87)),
+            257 => Some(MachineFormat::told(IeeeFormat::Half, false)),
+            258 => Some(MachineFormat::told(IeeeFormat::Single, false)),
+            259 => Some(MachineFormat::told(IeeeFormat::Double, false)),
+            260 => Some(MachineFormat::told(IeeeFormat::Quad, false)),
+            261 => Some(MachineFormat::told(IeeeFormat::BFloat, false)),
+            262 => Some(MachineFormat::told(IeeeFormat::E5M2, false)),
+            265 => Some(MachineFormat::told(IeeeFormat::X87, false)),
             769 => Some(MachineFormat::told(IeeeFormat::Half, true)),
             770 => Some(MachineFormat::told(IeeeFormat::Single, true)),
             771 => Some(MachineFormat::told(IeeeFormat::Double, true)),
