@@ -11,4 +11,5 @@ pub mod FlaglessOnce
 pub mod IeeeOnce
 pub mod MachineFormats
 pub mod MachineAnswers
+pub mod UsualAnswers
 pub mod MachineOnce

@@ -9,7 +9,7 @@ use Rattle.formats_at_run_time.specs.declared.IeeeFormat.{IeeeFormat}
 use Rattle.formats_at_run_time.specs.declared.IeeeFormat.TheVariants.{Half, Single, Double, Quad, BFloat, E5M2, X87}
 use Rattle.formats_at_run_time.specs.FlaggedKinds.{flagged_constants}
 use Rattle.apfloat_c.specs.declared.machine_call.MachineFormat.{MachineFormat}
-use Rattle.apfloat_c.specs.MachineCalls.{format_on, is_tiny_before}
+use Rattle.apfloat_c.specs.MachineCalls.{format_on, is_tiny_before, width_of}
 
 abbrev HasInfinities : FlaggedFormat → Type 0
 HasInfinities format = (format_with (flagged_constants format)).nonfinite ≡ IEEE754
@@ -40,3 +40,13 @@ either_has_infinities false format = after_has_infinities format
 -- the format of a code on a machine has infinities
 pub has_infinities_on : (machine : Machine) (m : MachineFormat) → HasInfinities (format_on machine m)
 has_infinities_on machine m = either_has_infinities (is_tiny_before machine m.tiny_before) m.format
+
+either_has_width : (tiny_before : Bool) (format : IeeeFormat)
+    → (flagged_constants (if tiny_before then BeforeRounding format else AfterRounding format)).bits ≡ width_of format
+either_has_width true format = refl
+either_has_width false format = refl
+
+-- the format of a code on a machine has the width of the format
+pub has_width_on : (machine : Machine) (m : MachineFormat)
+    → (flagged_constants (format_on machine m)).bits ≡ width_of m.format
+has_width_on machine m = either_has_width (is_tiny_before machine m.tiny_before) m.format

@@ -1,10 +1,11 @@
 -- The operations of machines, as their export makes them.
-use Rattle.std.specs.Prelude.{◌≡◌, ℕ, ◌^◌, ◌==◌, ltb, pos, Bool, true, false, ◌&&◌, if◌then◌else◌}
+use Rattle.std.specs.Prelude.{◌≡◌, ℕ, ◌^◌, ◌==◌, ltb, pos, Bool, true, false, not, ◌&&◌, if◌then◌else◌}
 use Rattle.std.specs.Prelude.{Option, Some, None, ok_or, option_map, Result, Ok, Err}
 use Rattle.std.specs.Int.{w128, cast_unsigned}
 use Rattle.apfloat_model.specs.declared.kinds.NonfiniteBehavior.TheVariants.{IEEE754}
 use Rattle.rustc_apfloat.specs.declared.Round.{Round}
 use Rattle.rustc_apfloat.specs.declared.StatusAnd.{StatusAnd}
+use Rattle.rustc_apfloat.specs.Classes.{is_finite, is_negative, is_zero}
 use Rattle.rustc_apfloat.specs.Datum.{Datum}
 use Rattle.rustc_apfloat.specs.Flags.{Gives, bits_of}
 use Rattle.rustc_apfloat.specs.Format.{Format}
@@ -60,6 +61,12 @@ abbrev pub lacking_operation : ℕ
 lacking_operation = 10
 
 -- ---- formats
+
+abbrev pub untold : IeeeFormat → MachineFormat
+untold format = record { format = format; tiny_before = None }
+
+abbrev pub told : IeeeFormat → Bool → MachineFormat
+told format tiny_before = record { format = format; tiny_before = Some tiny_before }
 
 -- formats with a choice of flags; a code without a rule of flags leaves tininess to the machine
 abbrev pub machine_format : FlaggedKind → Option MachineFormat
@@ -179,6 +186,11 @@ operation_fault machine (ToUnsigned x width) = or_fault (width_fault 1 width) (l
 operation_fault machine (ToSigned x width) = width_fault 2 width
 operation_fault machine operation = None
 
+-- operands that are too wide come first
+abbrev pub operation_fault_in : ℕ → Machine → MachineOperation → Option ℕ
+operation_fault_in width machine operation =
+    if operands_fit width operation then operation_fault machine operation else Some wide_operand
+
 -- conversions have neither
 abbrev pub call_fault : Machine → MachineCall → Option ℕ
 call_fault machine (Operation operation) = operation_fault machine operation
@@ -190,6 +202,33 @@ width_of format = (constants_in (format_of_ieee format)).bits
 abbrev pub machine_fault : Machine → MachineFormat → MachineCall → Option ℕ
 machine_fault machine m call =
     if call_fits (width_of m.format) call then call_fault machine call else Some wide_operand
+
+-- ---- usual operands, of which every machine gives the plain result
+
+abbrev pub is_number : Constants → ℕ → Bool
+is_number c bits = fits c.bits bits && is_finite (value_of c bits)
+
+-- a number that is positive, or +0
+abbrev pub is_root_of : Constants → ℕ → Bool
+is_root_of c bits = is_number c bits && not (is_negative (value_of c bits))
+
+-- a number that is not zero
+abbrev pub is_divisor : Constants → ℕ → Bool
+is_divisor c bits = is_number c bits && not (is_zero (value_of c bits))
+
+abbrev pub divides : Arithmetic → Bool
+divides Sum = false
+divides Difference = false
+divides Product = false
+divides Quotient = true
+divides NearestRemainder = true
+divides TruncatedRemainder = true
+
+abbrev pub are_usual : Constants → Arithmetic → ℕ → ℕ → Bool
+are_usual c arithmetic x y = is_number c x && (if divides arithmetic then is_divisor c y else is_number c y)
+
+abbrev pub are_usual_of_three : Constants → ℕ → ℕ → ℕ → Bool
+are_usual_of_three c x y z = is_number c x && (is_number c y && is_number c z)
 
 -- ---- requests
 
@@ -287,11 +326,19 @@ abbrev pub IsMachineLeft : Constants → Machine → Round → MachineOperation 
 IsMachineLeft c machine mode operation old new code =
     IsLeftBy (operation_fault machine operation) (IsMachineAnswer c machine mode operation) old new code
 
--- the same in values of a kind, if it has infinities
+-- the same in values of a kind, if it has infinities, of operands that may be too wide
 abbrev pub IsMachineLeftIn : Kind → Machine → Round → MachineOperation → Answer → Answer → ℕ → Type 0
 IsMachineLeftIn (of_format c) machine mode operation old new code =
-    (format_with c).nonfinite ≡ IEEE754 → IsMachineLeft c machine mode operation old new code
+    (format_with c).nonfinite ≡ IEEE754
+    → IsLeftBy (operation_fault_in c.bits machine operation) (IsMachineAnswer c machine mode operation) old new code
 IsMachineLeftIn of_pairs machine mode operation old new code = ⊥
+
+-- what a conversion of bits of a kind, which may be too wide, leaves
+abbrev pub IsMachineConversionLeft : Kind → Machine → Round → ℕ → Kind → Answer → Answer → ℕ → Type 0
+IsMachineConversionLeft (of_format c) machine mode x target old new code =
+    IsLeftBy (unless (fits c.bits x) wide_operand) (IsMachineConverted c machine mode (value_of c x) target)
+    old new code
+IsMachineConversionLeft of_pairs machine mode x target old new code = ⊥
 
 -- the code 0 and the result, or the code of the first error and the previous contents
 abbrev pub IsMachineReply : Result MachineRequest ℕ → Answer → Answer → ℕ → Type 0

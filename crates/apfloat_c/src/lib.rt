@@ -26,3 +26,4 @@ mod machine_operations;
 mod maps;
 mod one_answer;
 mod operations;
+mod usual_operands;

@@ -1,19 +1,23 @@
 //! The operations of machines, by which the contract of their export names them, and the codes of machines, operations
 //! and rules of minima.
 
-ghost use Rattle.std.specs.Prelude.{◌≡◌, ◌&&◌};
-ghost use Rattle.formats_at_run_time.specs.FlaggedKinds.{flagged_constants};
+ghost use Rattle.std.specs.Prelude.{◌≡◌, ◌&&◌, IfSome, Ok, Some, option_and_then};
+ghost use Rattle.formats_at_run_time.specs.FlaggedKinds.{flagged_constants, flagged_kind_coded};
+ghost use Rattle.formats_at_run_time.specs.Modes.{mode_coded};
 ghost use Rattle.formats_at_run_time.specs.ValueKinds.{of_format};
-ghost use Rattle.apfloat_c.specs.MachineCalls.{call_fits, conversion_call, fits, format_on, greatest_by};
-ghost use Rattle.apfloat_c.specs.MachineCalls.{is_tiny_before, least_by, machine_call, machine_coded, machine_format};
-ghost use Rattle.apfloat_c.specs.MachineCalls.{machine_operation, operands_fit, operation_call, rule_coded};
-ghost use Rattle.apfloat_c.specs.MachineCalls.{width_of};
+ghost use Rattle.apfloat_c.specs.Answers.{whole};
+ghost use Rattle.apfloat_c.specs.declared.machine_call.MachineCall.TheVariants.{Operation};
+ghost use Rattle.apfloat_c.specs.MachineCalls.{conversion_call, format_on, greatest_by, is_tiny_before, least_by};
+ghost use Rattle.apfloat_c.specs.MachineCalls.{machine_call, machine_coded, machine_format, machine_operation};
+ghost use Rattle.apfloat_c.specs.MachineCalls.{operation_call, rule_coded, told, untold};
 
 use crate::codes::{NO_SUCH_OPERATION, UNKNOWN_FORMAT};
+use crate::data::Halves;
 use apfloat_machines::{Machine, MinimumRule};
 use formats_at_run_time::{
-    Arithmetic, BuiltInKind, FillsInFormat, FlaggedFormat, FlaggedKind, IeeeFormat,
+    Arithmetic, BuiltInKind, FillsInFormat, FlaggedFormat, FlaggedKind, IeeeFormat, mode_coded,
 };
+use rustc_apfloat::Round;
 
 /// The code of conversions to another format.
 const CONVERSION: u32 = 11;
@@ -61,6 +65,7 @@ pub struct MachineFormat {
 
 impl MachineFormat {
     /// The format of this kind, if it has a choice of flags.
+    #[inline(always)]
     pub fn of(kind: FlaggedKind) -> Option<MachineFormat>
         ensures { result ≡ machine_format kind }
     {
@@ -86,6 +91,60 @@ impl MachineFormat {
         }
     }
 
+    /// The format of this code, if it has a choice of flags. It is one match, so that a call at it is made in the arms.
+    #[inline(always)]
+    pub fn coded(code: u32) -> Option<MachineFormat>
+        ensures { IfSome result (λ format.
+            option_and_then machine_format (flagged_kind_coded code) ≡ Some format) }
+    {
+        match code {
+            1 => Some(MachineFormat::untold(IeeeFormat::Half)),
+            2 => Some(MachineFormat::untold(IeeeFormat::Single)),
+            3 => Some(MachineFormat::untold(IeeeFormat::Double)),
+            4 => Some(MachineFormat::untold(IeeeFormat::Quad)),
+            5 => Some(MachineFormat::untold(IeeeFormat::BFloat)),
+            6 => Some(MachineFormat::untold(IeeeFormat::E5M2)),
+            9 => Some(MachineFormat::untold(IeeeFormat::X87)),
+            257 => Some(MachineFormat::told(IeeeFormat::Half, false)),
+            258 => Some(MachineFormat::told(IeeeFormat::Single, false)),
+            259 => Some(MachineFormat::told(IeeeFormat::Double, false)),
+            260 => Some(MachineFormat::told(IeeeFormat::Quad, false)),
+            261 => Some(MachineFormat::told(IeeeFormat::BFloat, false)),
+            262 => Some(MachineFormat::told(IeeeFormat::E5M2, false)),
+            265 => Some(MachineFormat::told(IeeeFormat::X87, false)),
+            769 => Some(MachineFormat::told(IeeeFormat::Half, true)),
+            770 => Some(MachineFormat::told(IeeeFormat::Single, true)),
+            771 => Some(MachineFormat::told(IeeeFormat::Double, true)),
+            772 => Some(MachineFormat::told(IeeeFormat::Quad, true)),
+            773 => Some(MachineFormat::told(IeeeFormat::BFloat, true)),
+            774 => Some(MachineFormat::told(IeeeFormat::E5M2, true)),
+            777 => Some(MachineFormat::told(IeeeFormat::X87, true)),
+            _ => None,
+        }
+    }
+
+    /// A format without a rule of flags.
+    #[inline(always)]
+    fn untold(format: IeeeFormat) -> MachineFormat
+        ensures { result ≡ untold format }
+    {
+        MachineFormat {
+            format,
+            tiny_before: None,
+        }
+    }
+
+    /// A format with a rule of flags.
+    #[inline(always)]
+    fn told(format: IeeeFormat, tiny_before: bool) -> MachineFormat
+        ensures { result ≡ told format tiny_before }
+    {
+        MachineFormat {
+            format,
+            tiny_before: Some(tiny_before),
+        }
+    }
+
     /// Makes a call that fills a lent place, in the format with its rule of flags on a machine.
     #[inline(always)]
     pub fn fill<C: FillsInFormat>(
@@ -101,6 +160,7 @@ impl MachineFormat {
     }
 
     /// The format with its rule of flags on a machine.
+    #[inline(always)]
     fn on(self, machine: Machine) -> FlaggedFormat
         ensures { result ≡ format_on machine self }
     {
@@ -112,6 +172,7 @@ impl MachineFormat {
     }
 
     /// Whether a result is tiny by its exact magnitude on a machine.
+    #[inline(always)]
     fn is_tiny_before(self, machine: Machine) -> bool
         ensures { result ≡ is_tiny_before machine self.tiny_before }
     {
@@ -123,6 +184,7 @@ impl MachineFormat {
 }
 
 /// The machine of this code, if there is one.
+#[inline(always)]
 pub fn machine_coded(code: u32) -> Option<Machine>
     ensures { result ≡ machine_coded code }
 {
@@ -140,6 +202,7 @@ pub fn machine_coded(code: u32) -> Option<Machine>
 }
 
 /// The rule of minima of this code, if there is one.
+#[inline(always)]
 pub fn rule_coded(code: u32) -> Option<MinimumRule>
     ensures { result ≡ rule_coded code }
 {
@@ -156,6 +219,7 @@ pub fn rule_coded(code: u32) -> Option<MinimumRule>
 
 /// What this code asks for, on as many of the values as it takes, or the error: `to` is the code of the format of a
 /// conversion, the binary digits of an integer, or the code of a rule of minima.
+#[inline(always)]
 pub fn machine_call(code: u32, to: u32, x: u128, y: u128, z: u128) -> Result<MachineCall, u32>
     ensures { result ≡ machine_call code to x y z }
 {
@@ -167,6 +231,7 @@ pub fn machine_call(code: u32, to: u32, x: u128, y: u128, z: u128) -> Result<Mac
 }
 
 /// The call that makes an operation, if it is known.
+#[inline(always)]
 fn operation_call(operation: Option<MachineOperation>) -> Result<MachineCall, u32>
     ensures { result ≡ operation_call operation }
 {
@@ -177,6 +242,7 @@ fn operation_call(operation: Option<MachineOperation>) -> Result<MachineCall, u3
 }
 
 /// The operation of this code, if there is one.
+#[inline(always)]
 fn machine_operation(code: u32, to: u32, x: u128, y: u128, z: u128) -> Option<MachineOperation>
     ensures { result ≡ machine_operation code to x y z }
 {
@@ -200,6 +266,7 @@ fn machine_operation(code: u32, to: u32, x: u128, y: u128, z: u128) -> Option<Ma
 }
 
 /// The lesser of two values by a rule, if it is known.
+#[inline(always)]
 fn least_by(rule: Option<MinimumRule>, x: u128, y: u128) -> Option<MachineOperation>
     ensures { result ≡ least_by rule x y }
 {
@@ -210,6 +277,7 @@ fn least_by(rule: Option<MinimumRule>, x: u128, y: u128) -> Option<MachineOperat
 }
 
 /// The greater of two values by a rule, if it is known.
+#[inline(always)]
 fn greatest_by(rule: Option<MinimumRule>, x: u128, y: u128) -> Option<MachineOperation>
     ensures { result ≡ greatest_by rule x y }
 {
@@ -220,6 +288,7 @@ fn greatest_by(rule: Option<MinimumRule>, x: u128, y: u128) -> Option<MachineOpe
 }
 
 /// The conversion of a value to a kind, which may be unknown.
+#[inline(always)]
 fn conversion_call(target: Option<FlaggedKind>, x: u128) -> Result<MachineCall, u32>
     ensures { result ≡ conversion_call target x }
 {
@@ -232,51 +301,102 @@ fn conversion_call(target: Option<FlaggedKind>, x: u128) -> Result<MachineCall, 
     }
 }
 
-/// Whether the operands of a call have no bits at or above the width of the format.
-pub fn call_fits(format: IeeeFormat, call: MachineCall) -> bool
-    ensures { result ≡ call_fits (width_of format) call }
-{
-    match call {
-        MachineCall::Operation(operation) => operands_fit(format, operation),
-        MachineCall::Conversion(x, _) => fits(format, x),
-    }
+/// What is known of a request for an operation.
+#[derive(Clone, Copy)]
+pub struct KnownOperation {
+    /// The machine.
+    pub machine: Machine,
+    /// The format, with its rule of flags.
+    pub format: MachineFormat,
+    /// The rounding mode.
+    pub round: Round,
+    /// The operation.
+    pub operation: MachineOperation,
 }
 
-/// Whether the operands of an operation have no bits at or above the width of the format.
-fn operands_fit(format: IeeeFormat, operation: MachineOperation) -> bool
-    ensures { result ≡ operands_fit (width_of format) operation }
+/// The request of these codes, if all of them are known and it is no conversion.
+#[inline(always)]
+pub fn known_operation(
+    machine: u32,
+    code: u32,
+    format: u32,
+    mode: u32,
+    to: u32,
+    x: Halves,
+    y: Halves,
+    z: Halves,
+) -> Option<KnownOperation>
+    ensures machine { IfSome result (λ known. machine_coded machine ≡ Some known.machine) }
+    ensures mode { IfSome result (λ known. mode_coded mode ≡ Some known.round) }
+    ensures format { IfSome result (λ known.
+        option_and_then machine_format (flagged_kind_coded format) ≡ Some known.format) }
+    ensures call { IfSome result (λ known.
+        machine_call code to (whole x) (whole y) (whole z) ≡ Ok (Operation known.operation)) }
 {
-    match operation {
-        MachineOperation::OfTwo(_, x, y) => both_fit(format, x, y),
-        MachineOperation::FusedSum(x, y, z) => fits(format, x) && both_fit(format, y, z),
-        MachineOperation::SquareRoot(x) => fits(format, x),
-        MachineOperation::IntegralExact(x) => fits(format, x),
-        MachineOperation::Integral(x) => fits(format, x),
-        MachineOperation::ToUnsigned(x, _) => fits(format, x),
-        MachineOperation::ToSigned(x, _) => fits(format, x),
-        MachineOperation::Least(_, x, y) => both_fit(format, x, y),
-        MachineOperation::Greatest(_, x, y) => both_fit(format, x, y),
+    if code == CONVERSION {
+        return None;
     }
+    let (first, second, third) = (x.number(), y.number(), z.number());
+    let Some(operation) = machine_operation(code, to, first, second, third) else {
+        return None;
+    };
+    let Some(machine) = machine_coded(machine) else {
+        return None;
+    };
+    let Some(round) = mode_coded(mode) else {
+        return None;
+    };
+    // Last, so that nothing stands between it and the call.
+    let Some(format) = MachineFormat::coded(format) else {
+        return None;
+    };
+    Some(KnownOperation {
+        machine,
+        format,
+        round,
+        operation,
+    })
 }
 
-/// Whether neither has bits at or above the width of the format.
-fn both_fit(format: IeeeFormat, x: u128, y: u128) -> bool
-    ensures { result ≡ (fits (width_of format) x && fits (width_of format) y) }
-{
-    fits(format, x) && fits(format, y)
+/// What is known of a request for a conversion.
+#[derive(Clone, Copy)]
+pub struct KnownConversion {
+    /// The machine.
+    pub machine: Machine,
+    /// The format of the operand.
+    pub source: MachineFormat,
+    /// The rounding mode.
+    pub round: Round,
+    /// The format of the result, with its rule of flags.
+    pub target: MachineFormat,
 }
 
-/// Whether the bits are those of a value of the format, with nothing above them.
-fn fits(format: IeeeFormat, bits: u128) -> bool
-    ensures { result ≡ fits (width_of format) bits }
+/// The request of these codes, if all of them are known.
+#[inline(always)]
+pub fn known_conversion(machine: u32, source: u32, mode: u32, to: u32) -> Option<KnownConversion>
+    ensures machine { IfSome result (λ known. machine_coded machine ≡ Some known.machine) }
+    ensures mode { IfSome result (λ known. mode_coded mode ≡ Some known.round) }
+    ensures source { IfSome result (λ known.
+        option_and_then machine_format (flagged_kind_coded source) ≡ Some known.source) }
+    ensures target { IfSome result (λ known.
+        option_and_then machine_format (flagged_kind_coded to) ≡ Some known.target) }
 {
-    match format {
-        IeeeFormat::Half => bits < 1 << 16,
-        IeeeFormat::Single => bits < 1 << 32,
-        IeeeFormat::Double => bits < 1 << 64,
-        IeeeFormat::Quad => true,
-        IeeeFormat::BFloat => bits < 1 << 16,
-        IeeeFormat::E5M2 => bits < 1 << 8,
-        IeeeFormat::X87 => bits < 1 << 80,
-    }
+    let Some(machine) = machine_coded(machine) else {
+        return None;
+    };
+    let Some(round) = mode_coded(mode) else {
+        return None;
+    };
+    let Some(source) = MachineFormat::coded(source) else {
+        return None;
+    };
+    let Some(target) = MachineFormat::coded(to) else {
+        return None;
+    };
+    Some(KnownConversion {
+        machine,
+        source,
+        round,
+        target,
+    })
 }

@@ -15,12 +15,15 @@ ghost use Rattle.apfloat_c.specs.declared.machine_call.MachineOperation.TheVaria
 ghost use Rattle.apfloat_c.specs.declared.machine_call.MachineOperation.TheVariants.{IntegralExact, Integral};
 ghost use Rattle.apfloat_c.specs.declared.machine_call.MachineOperation.TheVariants.{ToUnsigned, ToSigned};
 ghost use Rattle.apfloat_c.specs.declared.machine_call.MachineOperation.TheVariants.{Least, Greatest};
-ghost use Rattle.apfloat_c.specs.Answers.{IsLeftBy, whole};
+ghost use Rattle.apfloat_c.specs.declared.exported_call.ExportedCall.TheVariants.{OfTwo as PlainOfTwo};
+ghost use Rattle.apfloat_c.specs.Answers.{IsKindAnswer, IsLeftBy, whole};
 ghost use Rattle.apfloat_c.specs.MachineCalls.{IsMachineAnswer, IsMachineCallAnswer, IsMachineConverted};
-ghost use Rattle.apfloat_c.specs.MachineCalls.{IsMachineConvertedFrom, IsMachineLeft, IsMachineLeftIn};
-ghost use Rattle.apfloat_c.specs.MachineCalls.{IsMachineReply, call_fault, format_on, known_machine_call};
+ghost use Rattle.apfloat_c.specs.MachineCalls.{IsMachineConversionLeft, IsMachineLeft, IsMachineLeftIn};
+ghost use Rattle.apfloat_c.specs.MachineCalls.{conversion_call, machine_fault};
+ghost use Rattle.apfloat_c.specs.MachineCalls.{IsMachineReply, format_on, known_machine_call};
 ghost use Rattle.apfloat_c.specs.MachineCalls.{machine_call, machine_coded};
 
+use crate::answers;
 use crate::codes::{
     ANSWERED, LACKING_OPERATION, NO_SUCH_OPERATION, UNKNOWN_FORMAT, UNKNOWN_MACHINE, UNKNOWN_MODE,
     WIDE_OPERAND, WRONG_WIDTH, is_width,
@@ -28,8 +31,10 @@ use crate::codes::{
 use crate::data::{Answer, Halves};
 use crate::ieee_answers::{value, written};
 use crate::machine_call::{
-    MachineCall, MachineFormat, MachineOperation, call_fits, machine_call, machine_coded,
+    MachineCall, MachineFormat, MachineOperation, known_conversion, known_operation, machine_call,
+    machine_coded,
 };
+use crate::usual_operands::{are_usual, are_usual_of_three, both_fit, fits, is_number, is_root_of};
 use apfloat_comparisons::round_to_integral_in;
 use apfloat_machines::{
     Machine, MinimumRule, greatest, least, settled, settled_conversion, settled_fused,
@@ -37,7 +42,7 @@ use apfloat_machines::{
 };
 use formats_at_run_time::{Arithmetic, FillsInFormat, FlaggedFormat, FlaggedKind, mode_coded};
 use rustc_apfloat::ieee::{Flagged, IeeeFloat};
-use rustc_apfloat::{Float, FloatConvert, Round, StatusAnd};
+use rustc_apfloat::{Float, FloatConvert, Round, Status, StatusAnd};
 use std::marker::PhantomData;
 
 /// An operation of a machine.
@@ -65,43 +70,83 @@ impl FillsInFormat for OnMachine {
         } = self;
         match operation {
             MachineOperation::OfTwo(arithmetic, x, y) => {
-                of_two::<S>(answer, machine, round, arithmetic, x, y);
-                ANSWERED
+                of_two_in::<S>(answer, machine, round, arithmetic, x, y)
             }
             MachineOperation::FusedSum(x, y, z) => {
-                fused_sum::<S>(answer, machine, round, x, y, z)
+                fused_sum_in::<S>(answer, machine, round, x, y, z)
             }
-            MachineOperation::SquareRoot(x) => {
-                root::<S>(answer, machine, round, x);
-                ANSWERED
-            }
+            MachineOperation::SquareRoot(x) => root_in::<S>(answer, machine, round, x),
             MachineOperation::IntegralExact(x) => {
-                integral_exact::<S>(answer, machine, round, x);
-                ANSWERED
+                integral_exact_in::<S>(answer, machine, round, x)
             }
-            MachineOperation::Integral(x) => {
-                integral::<S>(answer, machine, round, x);
-                ANSWERED
-            }
+            MachineOperation::Integral(x) => integral_in::<S>(answer, machine, round, x),
             MachineOperation::ToUnsigned(x, width) => {
-                to_unsigned::<S>(answer, machine, round, x, width)
+                to_unsigned_in::<S>(answer, machine, round, x, width)
             }
             MachineOperation::ToSigned(x, width) => {
-                to_signed::<S>(answer, machine, round, x, width)
+                to_signed_in::<S>(answer, machine, round, x, width)
             }
             MachineOperation::Least(rule, x, y) => {
-                lesser::<S>(answer, machine, round, rule, x, y);
-                ANSWERED
+                lesser_in::<S>(answer, machine, round, rule, x, y)
             }
             MachineOperation::Greatest(rule, x, y) => {
-                greater::<S>(answer, machine, round, rule, x, y);
-                ANSWERED
+                greater_in::<S>(answer, machine, round, rule, x, y)
             }
         }
     }
 }
 
+/// An operation on two values: the plain call, if the operands are usual.
+#[inline(always)]
+fn of_two_in<S: Flagged>(
+    answer: &mut Answer,
+    machine: Machine,
+    round: Round,
+    arithmetic: Arithmetic,
+    x: u128,
+    y: u128,
+) -> u32
+    requires { S.PRECISION < S.BITS }
+    ensures { IsMachineLeftIn (of_format (constants_of S.Flagged)) machine round
+        (OfTwo arithmetic x y) answer.old answer.new result }
+{
+    if are_usual::<S>(arithmetic, x, y) {
+        plain_of_two::<S>(answer, round, arithmetic, x, y);
+        ANSWERED
+    } else {
+        of_two::<S>(answer, machine, round, arithmetic, x, y)
+    }
+}
+
+/// The plain call of an operation on two values.
+#[inline(always)]
+fn plain_of_two<S: Flagged>(
+    answer: &mut Answer,
+    round: Round,
+    arithmetic: Arithmetic,
+    x: u128,
+    y: u128,
+)
+    requires { S.PRECISION < S.BITS }
+    ensures { let kind = of_format (constants_of S.Flagged) in
+        IsKindAnswer kind round (PlainOfTwo arithmetic x y) answer.new }
+{
+    match arithmetic {
+        Arithmetic::Sum => answers::sum_in::<S>(answer, round, x, y),
+        Arithmetic::Difference => answers::difference_in::<S>(answer, round, x, y),
+        Arithmetic::Product => answers::product_in::<S>(answer, round, x, y),
+        Arithmetic::Quotient => answers::quotient::<IeeeFloat<S>>(answer, round, x, y),
+        Arithmetic::NearestRemainder => {
+            answers::nearest_remainder::<IeeeFloat<S>>(answer, round, x, y)
+        }
+        Arithmetic::TruncatedRemainder => {
+            answers::truncated_remainder::<IeeeFloat<S>>(answer, round, x, y)
+        }
+    }
+}
+
 /// An operation on two values.
+#[cold]
 #[inline(never)]
 fn of_two<S: Flagged>(
     answer: &mut Answer,
@@ -110,18 +155,65 @@ fn of_two<S: Flagged>(
     arithmetic: Arithmetic,
     x: u128,
     y: u128,
-)
+) -> u32
     requires { S.PRECISION < S.BITS }
-    ensures { (format_of S.Flagged).nonfinite ≡ IEEE754
-        → IsMachineAnswer (constants_of S.Flagged) machine round (OfTwo arithmetic x y) answer.new }
+    ensures { IsMachineLeftIn (of_format (constants_of S.Flagged)) machine round
+        (OfTwo arithmetic x y) answer.old answer.new result }
 {
+    if !both_fit::<S>(x, y) {
+        return WIDE_OPERAND;
+    }
     let (x, y) = (value::<S>(x), value::<S>(y));
     *answer = written(settled(machine, x, y, arithmetic.answer(x, y, round)));
+    ANSWERED
+}
+
+/// A product plus a third value, rounded once: the plain call, if the operands are numbers.
+#[inline(always)]
+fn fused_sum_in<S: Flagged>(
+    answer: &mut Answer,
+    machine: Machine,
+    round: Round,
+    x: u128,
+    y: u128,
+    z: u128,
+) -> u32
+    requires { S.PRECISION < S.BITS }
+    ensures { IsMachineLeftIn (of_format (constants_of S.Flagged)) machine round (FusedSum x y z)
+        answer.old answer.new result }
+{
+    if machine.has_fused() && are_usual_of_three::<S>(x, y, z) {
+        answers::fused_sum::<S>(answer, round, x, y, z);
+        ANSWERED
+    } else {
+        fused_sum::<S>(answer, machine, round, x, y, z)
+    }
 }
 
 /// A product plus a third value, rounded once.
+#[cold]
 #[inline(never)]
 fn fused_sum<S: Flagged>(
+    answer: &mut Answer,
+    machine: Machine,
+    round: Round,
+    x: u128,
+    y: u128,
+    z: u128,
+) -> u32
+    requires { S.PRECISION < S.BITS }
+    ensures { IsMachineLeftIn (of_format (constants_of S.Flagged)) machine round (FusedSum x y z)
+        answer.old answer.new result }
+{
+    if !(fits::<S>(x) && both_fit::<S>(y, z)) {
+        return WIDE_OPERAND;
+    }
+    settled_fused_sum::<S>(answer, machine, round, x, y, z)
+}
+
+/// A product plus a third value, rounded once, as the machine gives it, if it has that.
+#[inline(always)]
+fn settled_fused_sum<S: Flagged>(
     answer: &mut Answer,
     machine: Machine,
     round: Round,
@@ -144,26 +236,85 @@ fn fused_sum<S: Flagged>(
     }
 }
 
-/// The square root of a value.
-#[inline(never)]
-fn root<S: Flagged>(answer: &mut Answer, machine: Machine, round: Round, x: u128)
+/// The square root of a value: the plain call, if the operand is a positive number.
+#[inline(always)]
+fn root_in<S: Flagged>(answer: &mut Answer, machine: Machine, round: Round, x: u128) -> u32
     requires { S.PRECISION < S.BITS }
-    ensures { (format_of S.Flagged).nonfinite ≡ IEEE754
-        → IsMachineAnswer (constants_of S.Flagged) machine round (SquareRoot x) answer.new }
+    ensures { IsMachineLeftIn (of_format (constants_of S.Flagged)) machine round (SquareRoot x)
+        answer.old answer.new result }
 {
+    if is_root_of::<S>(x) {
+        answers::root::<IeeeFloat<S>>(answer, round, x);
+        ANSWERED
+    } else {
+        root::<S>(answer, machine, round, x)
+    }
+}
+
+/// The square root of a value.
+#[cold]
+#[inline(never)]
+fn root<S: Flagged>(answer: &mut Answer, machine: Machine, round: Round, x: u128) -> u32
+    requires { S.PRECISION < S.BITS }
+    ensures { IsMachineLeftIn (of_format (constants_of S.Flagged)) machine round (SquareRoot x)
+        answer.old answer.new result }
+{
+    if !fits::<S>(x) {
+        return WIDE_OPERAND;
+    }
     let x = value::<S>(x);
     *answer = written(settled_unary(machine, x, x.sqrt_r(round)));
+    ANSWERED
+}
+
+/// A value rounded to an integral value, with INEXACT: the plain call, if the operand is a number.
+#[inline(always)]
+fn integral_exact_in<S: Flagged>(
+    answer: &mut Answer,
+    machine: Machine,
+    round: Round,
+    x: u128,
+) -> u32
+    requires { S.PRECISION < S.BITS }
+    ensures { IsMachineLeftIn (of_format (constants_of S.Flagged)) machine round (IntegralExact x)
+        answer.old answer.new result }
+{
+    if is_number::<S>(x) {
+        answers::round_to_integral::<IeeeFloat<S>>(answer, round, x);
+        ANSWERED
+    } else {
+        integral_exact::<S>(answer, machine, round, x)
+    }
 }
 
 /// A value rounded to an integral value, with INEXACT.
+#[cold]
 #[inline(never)]
-fn integral_exact<S: Flagged>(answer: &mut Answer, machine: Machine, round: Round, x: u128)
+fn integral_exact<S: Flagged>(answer: &mut Answer, machine: Machine, round: Round, x: u128) -> u32
     requires { S.PRECISION < S.BITS }
-    ensures { (format_of S.Flagged).nonfinite ≡ IEEE754
-        → IsMachineAnswer (constants_of S.Flagged) machine round (IntegralExact x) answer.new }
+    ensures { IsMachineLeftIn (of_format (constants_of S.Flagged)) machine round (IntegralExact x)
+        answer.old answer.new result }
 {
+    if !fits::<S>(x) {
+        return WIDE_OPERAND;
+    }
     let x = value::<S>(x);
     *answer = written(settled_unary(machine, x, x.round_to_integral(round)));
+    ANSWERED
+}
+
+/// A value rounded to an integral value, without INEXACT.
+#[inline(always)]
+fn integral_in<S: Flagged>(answer: &mut Answer, machine: Machine, round: Round, x: u128) -> u32
+    requires { S.PRECISION < S.BITS }
+    ensures { IsMachineLeftIn (of_format (constants_of S.Flagged)) machine round (Integral x)
+        answer.old answer.new result }
+{
+    if !fits::<S>(x) {
+        return WIDE_OPERAND;
+    }
+    integral::<S>(answer, machine, round, x);
+    ANSWERED
 }
 
 /// A value rounded to an integral value, without INEXACT.
@@ -177,6 +328,88 @@ fn integral<S: Flagged>(answer: &mut Answer, machine: Machine, round: Round, x: 
     *answer = written(settled_unary(machine, x, round_to_integral_in(x, round)));
 }
 
+/// A value as an integer, if its bits fit.
+#[inline(always)]
+fn to_unsigned_in<S: Flagged>(
+    answer: &mut Answer,
+    machine: Machine,
+    round: Round,
+    x: u128,
+    width: u32,
+) -> u32
+    requires { S.PRECISION < S.BITS }
+    ensures { IsMachineLeftIn (of_format (constants_of S.Flagged)) machine round
+        (ToUnsigned x width) answer.old answer.new result }
+{
+    if fits::<S>(x) {
+        to_unsigned::<S>(answer, machine, round, x, width)
+    } else {
+        WIDE_OPERAND
+    }
+}
+
+/// A value as a signed integer, if its bits fit.
+#[inline(always)]
+fn to_signed_in<S: Flagged>(
+    answer: &mut Answer,
+    machine: Machine,
+    round: Round,
+    x: u128,
+    width: u32,
+) -> u32
+    requires { S.PRECISION < S.BITS }
+    ensures { IsMachineLeftIn (of_format (constants_of S.Flagged)) machine round (ToSigned x width)
+        answer.old answer.new result }
+{
+    if fits::<S>(x) {
+        to_signed::<S>(answer, machine, round, x, width)
+    } else {
+        WIDE_OPERAND
+    }
+}
+
+/// The lesser of two values, by a rule, if their bits fit.
+#[inline(always)]
+fn lesser_in<S: Flagged>(
+    answer: &mut Answer,
+    machine: Machine,
+    round: Round,
+    rule: MinimumRule,
+    x: u128,
+    y: u128,
+) -> u32
+    requires { S.PRECISION < S.BITS }
+    ensures { IsMachineLeftIn (of_format (constants_of S.Flagged)) machine round (Least rule x y)
+        answer.old answer.new result }
+{
+    if !both_fit::<S>(x, y) {
+        return WIDE_OPERAND;
+    }
+    lesser::<S>(answer, machine, round, rule, x, y);
+    ANSWERED
+}
+
+/// The greater of two values, by a rule, if their bits fit.
+#[inline(always)]
+fn greater_in<S: Flagged>(
+    answer: &mut Answer,
+    machine: Machine,
+    round: Round,
+    rule: MinimumRule,
+    x: u128,
+    y: u128,
+) -> u32
+    requires { S.PRECISION < S.BITS }
+    ensures { IsMachineLeftIn (of_format (constants_of S.Flagged)) machine round (Greatest rule x y)
+        answer.old answer.new result }
+{
+    if !both_fit::<S>(x, y) {
+        return WIDE_OPERAND;
+    }
+    greater::<S>(answer, machine, round, rule, x, y);
+    ANSWERED
+}
+
 /// A value as an integer.
 #[inline(never)]
 fn to_unsigned<S: Flagged>(
@@ -187,8 +420,8 @@ fn to_unsigned<S: Flagged>(
     width: u32,
 ) -> u32
     requires { S.PRECISION < S.BITS }
-    ensures { IsMachineLeft (constants_of S.Flagged) machine round (ToUnsigned x width)
-        answer.old answer.new result }
+    ensures { IsMachineLeft (constants_of S.Flagged) machine round
+        (ToUnsigned x width) answer.old answer.new result }
 {
     if !is_width(1, width) {
         return WRONG_WIDTH;
@@ -204,6 +437,32 @@ fn to_unsigned<S: Flagged>(
 
 /// The integer, if the machine has unsigned ones.
 fn unsigned_integer<S: Flagged>(
+    machine: Machine,
+    round: Round,
+    x: u128,
+    width: usize,
+) -> Option<StatusAnd<u128>>
+    requires bits { S.PRECISION < S.BITS }
+    requires low { 1 ≤ width }
+    requires high { width ≤ 128 }
+    ensures { let c = constants_of S.Flagged in
+        let says = IsMachineUnsigned (format_with c) machine round width (value_of c x) in
+        IsOffered (has_unsigned machine) (λ given. Gives says given) result }
+{
+    let given = value::<S>(x);
+    let mut is_exact = false;
+    let plain = given.to_u128_r(width, round, &mut is_exact);
+    if plain.status == Status::INVALID_OP {
+        invalid_unsigned::<S>(machine, round, x, width)
+    } else {
+        settled_unsigned(machine, given, width, plain)
+    }
+}
+
+/// The integer of an invalid conversion, or of any.
+#[cold]
+#[inline(never)]
+fn invalid_unsigned<S: Flagged>(
     machine: Machine,
     round: Round,
     x: u128,
@@ -245,6 +504,31 @@ fn to_signed<S: Flagged>(
 
 /// The signed integer.
 fn signed_integer<S: Flagged>(
+    machine: Machine,
+    round: Round,
+    x: u128,
+    width: usize,
+) -> StatusAnd<i128>
+    requires bits { S.PRECISION < S.BITS }
+    requires low { 2 ≤ width }
+    requires high { width ≤ 128 }
+    ensures { let c = constants_of S.Flagged in
+        Gives (IsMachineSigned (format_with c) machine round width (value_of c x)) result }
+{
+    let given = value::<S>(x);
+    let mut is_exact = false;
+    let plain = given.to_i128_r(width, round, &mut is_exact);
+    if plain.status == Status::INVALID_OP {
+        invalid_signed::<S>(machine, round, x, width)
+    } else {
+        settled_signed(machine, given, width, plain)
+    }
+}
+
+/// The signed integer of an invalid conversion, or of any.
+#[cold]
+#[inline(never)]
+fn invalid_signed<S: Flagged>(
     machine: Machine,
     round: Round,
     x: u128,
@@ -309,20 +593,23 @@ struct ConversionTo {
 impl FillsInFormat for ConversionTo {
     type Place = Answer;
 
-    type Output = ();
+    type Output = u32;
 
-    ghost gives = { λ it kind old new _.
+    ghost gives = { λ it kind old new code.
         let target = of_format (flagged_constants (format_on it.machine it.target)) in
-        IsMachineConvertedFrom kind it.machine it.round it.x target new };
+        IsMachineConversionLeft kind it.machine it.round it.x target old new code };
 
     #[inline(always)]
-    fn fill_in_format<S: Flagged>(self, answer: &mut Answer) {
+    fn fill_in_format<S: Flagged>(self, answer: &mut Answer) -> u32 {
         let ConversionTo {
             target,
             machine,
             round,
             x,
         } = self;
+        if !fits::<S>(x) {
+            return WIDE_OPERAND;
+        }
         let source = PhantomData;
         target.fill(
             machine,
@@ -334,6 +621,7 @@ impl FillsInFormat for ConversionTo {
             },
             answer,
         );
+        ANSWERED
     }
 }
 
@@ -364,6 +652,31 @@ impl<S: Flagged> FillsInFormat for ConversionOf<S> {
 /// A value of the format `S` in the format `T`.
 #[inline(never)]
 fn converted<S: Flagged, T: Flagged>(answer: &mut Answer, machine: Machine, round: Round, x: u128)
+    requires source { S.PRECISION < S.BITS }
+    requires target { T.PRECISION < T.BITS }
+    ensures { let c = constants_of S.Flagged in
+        IsMachineConverted c machine round (value_of c x) (of_format (constants_of T.Flagged))
+        answer.new }
+{
+    let given = value::<S>(x);
+    if given.is_nan() {
+        converted_nan::<S, T>(answer, machine, round, x);
+    } else {
+        let mut loses_info = false;
+        let plain: StatusAnd<IeeeFloat<T>> = given.convert_r(round, &mut loses_info);
+        *answer = written(settled_conversion(machine, given, plain));
+    }
+}
+
+/// A NaN, or any value, of the format `S` in the format `T`.
+#[cold]
+#[inline(never)]
+fn converted_nan<S: Flagged, T: Flagged>(
+    answer: &mut Answer,
+    machine: Machine,
+    round: Round,
+    x: u128,
+)
     requires source { S.PRECISION < S.BITS }
     requires target { T.PRECISION < T.BITS }
     ensures { let c = constants_of S.Flagged in
@@ -404,14 +717,11 @@ fn reply(
     let Some(machine) = machine else {
         return UNKNOWN_MACHINE;
     };
-    if !call_fits(format.format, call) {
-        return WIDE_OPERAND;
-    }
     made(machine, format, round, call, answer)
 }
 
-/// Makes a call whose operands fit, and returns 0, or the error for a width that no integer may have, or for an
-/// operation that the machine does not have.
+/// Makes a call, and returns 0, or the error for an operand that is too wide, for a width that no integer may have, or
+/// for an operation that the machine does not have.
 #[inline(always)]
 fn made(
     machine: Machine,
@@ -420,8 +730,8 @@ fn made(
     call: MachineCall,
     answer: &mut Answer,
 ) -> u32
-    ensures { IsLeftBy (call_fault machine call) (IsMachineCallAnswer machine format round call)
-        answer.old answer.new result }
+    ensures { IsLeftBy (machine_fault machine format call)
+        (IsMachineCallAnswer machine format round call) answer.old answer.new result }
 {
     match call {
         MachineCall::Operation(operation) => format.fill(
@@ -443,16 +753,129 @@ fn made(
                     x,
                 },
                 answer,
-            );
-            ANSWERED
+            )
         }
     }
 }
 
 /// What a machine delivers for an operation on values of a format, NaNs and flags included (`docs/MACHINES.md`). `to`
 /// is the format of a conversion, the width of an integer, or the rule of a minimum or a maximum.
+#[inline(always)]
 #[unsafe(no_mangle)]
 pub extern "C" fn apfloat_machine(
+    machine: u32,
+    operation: u32,
+    format: u32,
+    mode: u32,
+    to: u32,
+    x: Halves,
+    y: Halves,
+    z: Halves,
+    answer: &mut Answer,
+) -> u32
+    ensures { let call = machine_call operation to (whole x) (whole y) (whole z) in
+        IsMachineReply (known_machine_call (flagged_kind_coded format) (mode_coded mode) call
+        (machine_coded machine)) answer.old answer.new result }
+{
+    // In a copy for one operation its code folds. What an operation does not take is not passed, so that it needs no
+    // register.
+    if 1 <= operation && operation <= 10 {
+        match operation {
+            1 => on_machine(machine, 1, format, mode, 0, x, y, NOTHING, answer),
+            2 => on_machine(machine, 2, format, mode, 0, x, y, NOTHING, answer),
+            3 => on_machine(machine, 3, format, mode, 0, x, y, NOTHING, answer),
+            4 => on_machine(machine, 4, format, mode, 0, x, y, NOTHING, answer),
+            5 => any_on_machine(machine, 5, format, mode, 0, x, y, NOTHING, answer),
+            6 => any_on_machine(machine, 6, format, mode, 0, x, y, NOTHING, answer),
+            7 => fused_on_machine(machine, format, mode, x, y, z, answer),
+            8 => on_machine(machine, 8, format, mode, 0, x, NOTHING, NOTHING, answer),
+            9 => on_machine(machine, 9, format, mode, 0, x, NOTHING, NOTHING, answer),
+            10 => on_machine(machine, 10, format, mode, 0, x, NOTHING, NOTHING, answer),
+            _ => any_on_machine(machine, operation, format, mode, to, x, y, z, answer),
+        }
+    } else {
+        match operation {
+            11 => converted_on_machine(machine, format, mode, to, x, answer),
+            12 => on_machine(machine, 12, format, mode, to, x, NOTHING, NOTHING, answer),
+            13 => on_machine(machine, 13, format, mode, to, x, NOTHING, NOTHING, answer),
+            _ => any_on_machine(machine, operation, format, mode, to, x, y, NOTHING, answer),
+        }
+    }
+}
+
+/// What stands for an operand that an operation does not take.
+const NOTHING: Halves = Halves { low: 0, high: 0 };
+
+/// The same as `apfloat_machine`.
+#[inline(always)]
+fn on_machine(
+    machine: u32,
+    operation: u32,
+    format: u32,
+    mode: u32,
+    to: u32,
+    x: Halves,
+    y: Halves,
+    z: Halves,
+    answer: &mut Answer,
+) -> u32
+    ensures { let call = machine_call operation to (whole x) (whole y) (whole z) in
+        IsMachineReply (known_machine_call (flagged_kind_coded format) (mode_coded mode) call
+        (machine_coded machine)) answer.old answer.new result }
+{
+    match known_operation(machine, operation, format, mode, to, x, y, z) {
+        Some(known) => {
+            let call = MachineCall::Operation(known.operation);
+            made(known.machine, known.format, known.round, call, answer)
+        }
+        None => any_on_machine(machine, operation, format, mode, to, x, y, z, answer),
+    }
+}
+
+/// The same as `apfloat_machine`, of the fused sum.
+#[inline(never)]
+fn fused_on_machine(
+    machine: u32,
+    format: u32,
+    mode: u32,
+    x: Halves,
+    y: Halves,
+    z: Halves,
+    answer: &mut Answer,
+) -> u32
+    ensures { let call = machine_call 7 0 (whole x) (whole y) (whole z) in
+        IsMachineReply (known_machine_call (flagged_kind_coded format) (mode_coded mode) call
+        (machine_coded machine)) answer.old answer.new result }
+{
+    on_machine(machine, 7, format, mode, 0, x, y, z, answer)
+}
+
+/// The same as `apfloat_machine`, of a conversion.
+#[inline(never)]
+fn converted_on_machine(
+    machine: u32,
+    format: u32,
+    mode: u32,
+    to: u32,
+    x: Halves,
+    answer: &mut Answer,
+) -> u32
+    ensures { let call = conversion_call (flagged_kind_coded to) (whole x) in
+        IsMachineReply (known_machine_call (flagged_kind_coded format) (mode_coded mode) call
+        (machine_coded machine)) answer.old answer.new result }
+{
+    match known_conversion(machine, format, mode, to) {
+        Some(known) => {
+            let call = MachineCall::Conversion(x.number(), known.target);
+            made(known.machine, known.source, known.round, call, answer)
+        }
+        None => any_on_machine(machine, 11, format, mode, to, x, NOTHING, NOTHING, answer),
+    }
+}
+
+/// The same as `apfloat_machine`, of any operation, and the errors of all.
+#[inline(never)]
+fn any_on_machine(
     machine: u32,
     operation: u32,
     format: u32,

@@ -2,11 +2,12 @@
 //!
 //!     cargo run --release -- SEED COUNT
 //!
-//! For each operation, COUNT rows are drawn from a seed. Half of the operands, in most conversions a quarter, are
-//! special: NaNs of both kinds with any payload, infinities, zeros, denormal numbers, the numbers at the ends of the
-//! range; in x87 also bits that the unit does not take, and pseudo-denormals. SSE takes turns with FTZ and DAZ. The
-//! processor has to have FMA, F16C and SSE4; without AVX-512 there are no unsigned integers. Prints each difference, at
-//! most ten of an operation, and how many rows of each operation agree; the status is 1 if one differs.
+//! For each operation, COUNT rows are drawn from a seed. Half of the operands are special: NaNs of both kinds with any
+//! payload, infinities, zeros, denormal numbers, the numbers at the ends of the range; in x87 also bits that the unit
+//! does not take, and pseudo-denormals. In conversions to integers and to fewer digits a quarter is near the ends of
+//! the range or of a digit. SSE takes turns with FTZ and DAZ. The processor has to have FMA, F16C and SSE4; without
+//! AVX-512 there are no unsigned integers. Prints each difference, at most ten of an operation, and how many rows of
+//! each operation agree; the status is 1 if one differs.
 
 use rustc_apfloat::comparisons::{OnNan, Predicate, compare, round_to_integral_in};
 use rustc_apfloat::ieee::{
@@ -84,41 +85,63 @@ impl Draw {
         long >> (128 - bits)
     }
 
-    /// The bits of a value of a format: a sign, a biased exponent, and `trailing` digits.
+    /// The bits of a value of a format: a sign, a biased exponent, and `trailing` digits. Half are special.
     fn value(&mut self, exponent_bits: u32, trailing: u32, near: Option<u128>) -> u128 {
+        if self.below(2) == 0 {
+            self.special(exponent_bits, trailing)
+        } else {
+            self.usual(exponent_bits, trailing, near)
+        }
+    }
+
+    /// The operand of a conversion: half are special, and of the others half are drawn by `near`.
+    fn converted(&mut self, exponent_bits: u32, trailing: u32, near: impl FnOnce(&mut Draw) -> u128) -> u128 {
+        match self.below(4) {
+            0 => near(self),
+            1 => self.usual(exponent_bits, trailing, None),
+            _ => self.special(exponent_bits, trailing),
+        }
+    }
+
+    fn sign(&mut self, exponent_bits: u32, trailing: u32) -> u128 {
+        u128::from(self.below(2)) << (exponent_bits + trailing)
+    }
+
+    fn special(&mut self, exponent_bits: u32, trailing: u32) -> u128 {
         let greatest = (1u128 << exponent_bits) - 1;
         let one = 1u128 << trailing;
-        let sign = u128::from(self.below(2)) << (exponent_bits + trailing);
         let infinity = greatest << trailing;
         let quiet = one >> 1;
-        let magnitude = if self.below(2) == 0 {
-            match self.below(8) {
-                0 => infinity | quiet | self.digits(trailing - 1),
-                1 => infinity | (self.digits(trailing - 1) | u128::from(self.below(2))).max(1),
-                2 => infinity,
-                3 => 0,
-                4 => self.digits(trailing),
-                5 => one - 2 + u128::from(self.below(4)),
-                6 => infinity - 1 - u128::from(self.below(2)),
-                _ => greatest / 2 << trailing,
-            }
-        } else {
-            let field = match near {
-                Some(other) if self.below(4) != 0 => {
-                    let middle = other >> trailing & greatest;
-                    (middle + u128::from(self.below(7))).saturating_sub(3)
-                }
-                _ => u128::from(self.below(greatest as u64)),
-            };
-            let kept = self.below(u64::from(trailing)) as u32;
-            let digits = match self.below(3) {
-                0 => self.digits(trailing) >> kept << kept,
-                1 => u128::from(self.below(4)),
-                _ => self.digits(trailing),
-            };
-            field.min(greatest - 1) << trailing | digits
+        let sign = self.sign(exponent_bits, trailing);
+        let magnitude = match self.below(8) {
+            0 => infinity | quiet | self.digits(trailing - 1),
+            1 => infinity | (self.digits(trailing - 1) | u128::from(self.below(2))).max(1),
+            2 => infinity,
+            3 => 0,
+            4 => self.digits(trailing),
+            5 => one - 2 + u128::from(self.below(4)),
+            6 => infinity - 1 - u128::from(self.below(2)),
+            _ => greatest / 2 << trailing,
         };
         sign | magnitude
+    }
+
+    fn usual(&mut self, exponent_bits: u32, trailing: u32, near: Option<u128>) -> u128 {
+        let greatest = (1u128 << exponent_bits) - 1;
+        let field = match near {
+            Some(other) if self.below(4) != 0 => {
+                let middle = other >> trailing & greatest;
+                (middle + u128::from(self.below(7))).saturating_sub(3)
+            }
+            _ => u128::from(self.below(greatest as u64)),
+        };
+        let kept = self.below(u64::from(trailing)) as u32;
+        let digits = match self.below(3) {
+            0 => self.digits(trailing) >> kept << kept,
+            1 => u128::from(self.below(4)),
+            _ => self.digits(trailing),
+        };
+        self.sign(exponent_bits, trailing) | field.min(greatest - 1) << trailing | digits
     }
 
     fn single(&mut self, near: Option<u128>) -> u128 {
@@ -129,10 +152,28 @@ impl Draw {
         self.value(11, 52, near)
     }
 
+    fn converted_single(&mut self, near: impl FnOnce(&mut Draw) -> u128) -> u128 {
+        self.converted(8, 23, near)
+    }
+
+    fn converted_double(&mut self, near: impl FnOnce(&mut Draw) -> u128) -> u128 {
+        self.converted(11, 52, near)
+    }
+
     /// Bits of x87: one in sixteen has an integer bit that does not fit its exponent.
     fn extended(&mut self, near: Option<u128>) -> u128 {
         let narrow = near.map(|x| x >> 64 << 63 | x & ((1 << 63) - 1));
         let drawn = self.value(15, 63, narrow);
+        self.with_integer_bit(drawn)
+    }
+
+    /// The same of a conversion; `near` gives all bits but the integer bit.
+    fn converted_extended(&mut self, near: impl FnOnce(&mut Draw) -> u128) -> u128 {
+        let drawn = self.converted(15, 63, near);
+        self.with_integer_bit(drawn)
+    }
+
+    fn with_integer_bit(&mut self, drawn: u128) -> u128 {
         let field = drawn >> 63 & 0x7fff;
         let mut integer_bit = u128::from(field != 0);
         if self.below(16) == 0 {
@@ -221,7 +262,7 @@ impl Tally {
 }
 
 macro_rules! sse_operations {
-    ($tally:expr, $draw:expr, $count:expr, $Type:ident, $draws:ident, $suffix:literal, $bits:ident, $name:literal) => {{
+    ($tally:expr, $draw:expr, $count:expr, $Type:ident, $draws:ident, $converted:ident, $suffix:literal, $bits:ident, $name:literal) => {{
         let (tally, draw, count): (&mut Tally, &mut Draw, u64) = ($tally, $draw, $count);
         macro_rules! two {
             ($call:literal, $instruction:literal, |$x:ident, $y:ident, $control:ident| $library:expr) => {
@@ -311,11 +352,11 @@ macro_rules! sse_operations {
             ($call:literal, $instruction:expr, $register:literal, $width:literal, $whole:ident, $round:expr) => {
                 tally.rows(concat!($name, " ", $call), count, || {
                     let control = Control::drawn(draw);
-                    let a = if draw.below(2) == 0 { draw.$draws(None) } else {
+                    let a = draw.$converted(|draw| {
                         let scale = <$bits>::from_bits(draw.$draws(None) as _);
                         let near = (draw.word() as i64 >> draw.below(63)) as $bits;
                         if scale.is_nan() { scale.to_bits().into() } else { (near + scale % 2.0).to_bits().into() }
-                    };
+                    });
                     let given = <$bits>::from_bits(a as _);
                     let mut whole: $whole = 0;
                     let flags = sse!(control.word, concat!($instruction, " {whole", $register, "}, {given}"),
@@ -339,9 +380,9 @@ macro_rules! sse_operations {
                 ($call:literal, $register:literal, $width:literal, $whole:ident) => {
                     tally.rows(concat!($name, " ", $call), count, || {
                         let control = Control::drawn(draw);
-                        let a = if draw.below(2) == 0 { draw.$draws(None) } else {
+                        let a = draw.$converted(|draw| {
                             ((draw.word() >> draw.below(63)) as $bits + 0.5).to_bits().into()
-                        };
+                        });
                         let given = <$bits>::from_bits(a as _);
                         let mut whole: $whole = 0;
                         let flags = sse!(control.word,
@@ -394,7 +435,7 @@ macro_rules! sse_operations {
 fn conversions(tally: &mut Tally, draw: &mut Draw, count: u64) {
     tally.rows("double to single", count, || {
         let control = Control::drawn(draw);
-        let a = if draw.below(2) == 0 { draw.double(None) } else { (draw.value(8, 52, None) & !(1 << 60)) | 7 << 59 };
+        let a = draw.converted_double(|draw| (draw.value(8, 52, None) & !(1 << 60)) | 7 << 59);
         let given = f64::from_bits(a as u64);
         let mut narrow = 0f32;
         let flags = sse!(control.word, "cvtsd2ss {narrow}, {given}",
@@ -429,7 +470,7 @@ fn conversions(tally: &mut Tally, draw: &mut Draw, count: u64) {
     // Half precision is neither flushed nor are its denormal numbers taken as zeros; those of single are.
     tally.rows("single to half", count, || {
         let control = Control::drawn(draw);
-        let a = if draw.below(2) == 0 { draw.single(None) } else { draw.value(5, 23, None) + (112 << 23) };
+        let a = draw.converted_single(|draw| draw.value(5, 23, None) + (112 << 23));
         let a = a & 0xffff_ffff;
         let given = f32::from_bits(a as u32);
         let mut narrow = 0f32;
@@ -447,7 +488,7 @@ fn conversions(tally: &mut Tally, draw: &mut Draw, count: u64) {
     });
     tally.rows("half to single", count, || {
         let control = Control::drawn(draw);
-        let a = u128::from(draw.below(1 << 16));
+        let a = draw.value(5, 10, None);
         let given = f32::from_bits(a as u32);
         let mut wide = 0f32;
         let flags = sse!(control.word, "vcvtph2ps {wide}, {given}",
@@ -560,11 +601,12 @@ fn unit(tally: &mut Tally, draw: &mut Draw, count: u64) {
         ($call:literal, $instruction:literal, $Type:ident, $mask:expr) => {
             tally.rows(concat!("x87 ", $call), count, || {
                 let (round, control) = drawn_mode(draw);
-                let a = if draw.below(2) == 0 { draw.extended(None) } else {
+                let a = draw.converted_extended(|draw| {
                     let around = if $mask >> 32 == 0 { 0x3f70 } else { 0x3bf0 };
                     let field = around + u128::from(draw.below(2 * (0x4000 - around as u64)));
-                    field << 64 | 1 << 63 | draw.digits(63) >> draw.below(2) * 40 << draw.below(2) * 40 & (1 << 63) - 1
-                };
+                    let sign = draw.sign(15, 63);
+                    sign | field << 63 | draw.digits(63) >> draw.below(2) * 40 << draw.below(2) * 40 & (1 << 63) - 1
+                });
                 let given = Register::of(a);
                 let mut result = Register::of(0);
                 let flags = x87!(control, concat!("fld tbyte ptr [{given}]\n ", $instruction, " [{result}]"),
@@ -606,10 +648,10 @@ fn unit(tally: &mut Tally, draw: &mut Draw, count: u64) {
         ($call:literal, $instruction:literal, $width:literal, $whole:ident, $round:expr) => {
             tally.rows(concat!("x87 ", $call), count, || {
                 let (mode, control) = drawn_mode(draw);
-                let a = if draw.below(2) == 0 { draw.extended(None) } else {
+                let a = draw.converted_extended(|draw| {
                     let field = 0x3ffd + u128::from(draw.below(68));
-                    u128::from(draw.below(2)) << 79 | field << 64 | 1 << 63 | draw.digits(63)
-                };
+                    draw.sign(15, 63) | field << 63 | draw.digits(63)
+                });
                 let given = Register::of(a);
                 let mut whole: $whole = 0;
                 let flags = x87!(control, concat!("fld tbyte ptr [{given}]\n ", $instruction, " [{whole}]"),
@@ -637,8 +679,8 @@ fn main() {
     let count = arguments.next().unwrap_or(1_000_000);
     let mut draw = Draw(seed);
     let mut tally = Tally { differing: 0 };
-    sse_operations!(&mut tally, &mut draw, count, Single, single, "s", f32, "single");
-    sse_operations!(&mut tally, &mut draw, count, Double, double, "d", f64, "double");
+    sse_operations!(&mut tally, &mut draw, count, Single, single, converted_single, "s", f32, "single");
+    sse_operations!(&mut tally, &mut draw, count, Double, double, converted_double, "d", f64, "double");
     conversions(&mut tally, &mut draw, count);
     unit(&mut tally, &mut draw, count);
     if tally.differing != 0 {

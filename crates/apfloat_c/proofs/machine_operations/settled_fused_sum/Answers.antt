@@ -6,7 +6,7 @@ use Rattle.apfloat_machines.specs.Operations.{IsMachineFusedSum}
 use Rattle.apfloat_c.specs.declared.machine_call.MachineOperation.TheVariants.{FusedSum}
 use Rattle.apfloat_c.specs.MachineCalls.{IsMachineAnswer, lacking_operation}
 use Rattle.apfloat_c.proofs.WrittenAnswers.{answered_if, refused_unless, replaced}
-use Rattle.apfloat_c.proofs.machine_operations.fused_sum.Goals as goal
+use Rattle.apfloat_c.proofs.machine_operations.settled_fused_sum.Goals as goal
 
 pub returns-in-None : goal.returns-in-None
 returns-in-None g c = λ infinite.

@@ -1,0 +1,99 @@
+//! Tests of the operands of machines by their bits: whether they fit in their format, and whether every machine gives the
+//! plain result of them. That is tested before the plain call, so that nothing has to be kept for after it.
+
+ghost use Rattle.std.specs.Prelude.{◌≡◌, ◌&&◌, ◌<◌};
+ghost use Rattle.rustc_apfloat.specs.FlaggedTypes.{constants_of};
+ghost use Rattle.apfloat_c.specs.MachineCalls.{are_usual, are_usual_of_three, divides, fits, is_divisor, is_number};
+ghost use Rattle.apfloat_c.specs.MachineCalls.{is_root_of};
+
+use formats_at_run_time::Arithmetic;
+use rustc_apfloat::Float;
+use rustc_apfloat::ieee::{Flagged, IeeeFloat};
+
+/// Whether the bits are those of a value of the format, with nothing above them.
+#[inline(always)]
+pub fn fits<S: Flagged>(bits: u128) -> bool
+    requires { S.PRECISION < S.BITS }
+    ensures { result ≡ fits (constants_of S.Flagged).bits bits }
+{
+    if S::BITS < 128 {
+        bits < 1 << S::BITS
+    } else {
+        true
+    }
+}
+
+/// Whether neither has bits at or above the width of the format.
+#[inline(always)]
+pub fn both_fit<S: Flagged>(x: u128, y: u128) -> bool
+    requires { S.PRECISION < S.BITS }
+    ensures { result ≡ (fits (constants_of S.Flagged).bits x
+        && fits (constants_of S.Flagged).bits y) }
+{
+    fits::<S>(x) && fits::<S>(y)
+}
+
+/// Whether the bits are those of a number.
+#[inline(always)]
+pub fn is_number<S: Flagged>(bits: u128) -> bool
+    requires { S.PRECISION < S.BITS }
+    ensures { result ≡ is_number (constants_of S.Flagged) bits }
+{
+    fits::<S>(bits) && IeeeFloat::<S>::from_bits(bits).is_finite()
+}
+
+/// Whether the bits are those of a positive number or of +0, so that the root is no NaN.
+#[inline(always)]
+pub fn is_root_of<S: Flagged>(bits: u128) -> bool
+    requires { S.PRECISION < S.BITS }
+    ensures { result ≡ is_root_of (constants_of S.Flagged) bits }
+{
+    is_number::<S>(bits) && !IeeeFloat::<S>::from_bits(bits).is_negative()
+}
+
+/// Whether the bits are those of a number other than zero.
+#[inline(always)]
+fn is_divisor<S: Flagged>(bits: u128) -> bool
+    requires { S.PRECISION < S.BITS }
+    ensures { result ≡ is_divisor (constants_of S.Flagged) bits }
+{
+    is_number::<S>(bits) && !IeeeFloat::<S>::from_bits(bits).is_zero()
+}
+
+/// Whether an operation divides by its second operand.
+#[inline(always)]
+fn divides(arithmetic: Arithmetic) -> bool
+    ensures { result ≡ divides arithmetic }
+{
+    match arithmetic {
+        Arithmetic::Sum => false,
+        Arithmetic::Difference => false,
+        Arithmetic::Product => false,
+        Arithmetic::Quotient => true,
+        Arithmetic::NearestRemainder => true,
+        Arithmetic::TruncatedRemainder => true,
+    }
+}
+
+/// Whether an operation on two values is on numbers, and does not divide by zero.
+#[inline(always)]
+pub fn are_usual<S: Flagged>(arithmetic: Arithmetic, x: u128, y: u128) -> bool
+    requires { S.PRECISION < S.BITS }
+    ensures { result ≡ are_usual (constants_of S.Flagged) arithmetic x y }
+{
+    is_number::<S>(x)
+        && if divides(arithmetic) {
+            is_divisor::<S>(y)
+        } else {
+            is_number::<S>(y)
+        }
+}
+
+/// Whether all three are numbers.
+#[inline(always)]
+pub fn are_usual_of_three<S: Flagged>(x: u128, y: u128, z: u128) -> bool
+    requires { S.PRECISION < S.BITS }
+    ensures { result ≡ are_usual_of_three (constants_of S.Flagged) x y z }
+{
+    is_number::<S>(x) && (is_number::<S>(y) && is_number::<S>(z))
+}
