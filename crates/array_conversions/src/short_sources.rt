@@ -330,10 +330,28 @@ fn convert_shortened_value<S: Flagged, Z: Flagged, T: Flagged>(
 {
     let bits = bits_in::<S>(source);
     if is_nan::<S>(bits) {
-        convert_slowly::<S, T>(overflow, round, source, target)
+        convert_apart::<S, T>(overflow, round, source, target)
     } else {
         look_up(values, outcomes, short_of::<S, Z>(bits), target)
     }
+}
+
+/// Converts a value in the general way. A function of this file alone, so that the compiler knows the widths.
+#[inline(never)]
+fn convert_apart<S: Flagged, T: Flagged>(
+    overflow: Overflow,
+    round: Round,
+    source: &[u8],
+    target: &mut [u8],
+) -> Outcome
+    requires read { S.PRECISION < S.BITS }
+    requires written { T.PRECISION < T.BITS }
+    requires source { length source.now ≤ 16 }
+    requires target { T.BITS ≤ 8 * length target.old }
+    ensures { IsConvertedBy overflow (constants_of S.Flagged) (constants_of T.Flagged) round
+        source.now target.new result }
+{
+    convert_slowly::<S, T>(overflow, round, source, target)
 }
 
 /// The bits of a value.
