@@ -56,7 +56,7 @@ trailing_low c bits implied =
 
 -- ---- the number of exponents
 
-span_is : (c : Constants) → AreParameters c.precision c.min_exp c.max_exp
+pub span_is : (c : Constants) → AreParameters c.precision c.min_exp c.max_exp
     → pos (format_with c).span ≡ c.max_exp -ℤ c.min_exp
 span_is c are = omega (arith, ints, are)
 

@@ -17,6 +17,7 @@ mod totals;
 
 pub use conversions::convert_normal;
 pub use encoded::Encoded;
+pub use numbers::{biased_exponent, is_minus};
 pub use products::multiply_bits;
 pub use sums::{add_bits, subtract_bits};
 pub use theorems::encoded_answers_are_unique;

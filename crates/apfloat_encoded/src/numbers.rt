@@ -36,16 +36,16 @@ pub(crate) fn precision_of<S: Flagged>() -> u32
 
 /// Whether the sign bit is set.
 #[inline(always)]
-fn is_minus<S: Flagged>(bits: u128) -> bool
+pub fn is_minus<S: Flagged>(bits: u128) -> bool
     requires { S.PRECISION < S.BITS }
     ensures { result ≡ (fields_of (format_of S.Flagged) (layout_of S.Flagged) bits).negative }
 {
     low_digits(bits >> (S::BITS - 1), 1) == 1
 }
 
-/// The biased exponent.
+/// The biased exponent, in a format whose integer bit is implied.
 #[inline(always)]
-fn biased_exponent<S: Flagged>(bits: u128) -> u32
+pub fn biased_exponent<S: Flagged>(bits: u128) -> u32
     requires bits { S.PRECISION < S.BITS }
     requires implied { S.EXPLICIT_INTEGER_BIT ≡ false }
     ensures value { result

@@ -1,27 +1,24 @@
 -- Numbers far out of the range of a format: their bits, the side that they are on, and their results.
-use Rattle.std.proofs.Common.{◌≡◌, ℕ, ◌+◌, ◌-◌, ◌*◌, ◌%◌, ◌^◌, ◌<◌, ◌≤◌, Bool, true, false, not, ◌&&◌, ◌||◌, eqb, List, [], ◌∷◌, Option, Some, None, refl, ⊎_elim, subst, sym, ap, ◌∙◌, arith, lit<, ℤ, pos, neg_ℤ, ◌+ℤ◌, ◌-ℤ◌, ◌≤ℤ◌}
+use Rattle.std.proofs.Common.{◌≡◌, ℕ, ◌+◌, ◌-◌, ◌*◌, ◌^◌, ◌<◌, ◌≤◌, Bool, true, false, not, ◌&&◌, ◌||◌, eqb, List, [], ◌∷◌, Option, Some, None, refl, subst, sym, ap, ◌∙◌, arith, lit<, ℤ, pos, neg_ℤ, ◌+ℤ◌, ◌-ℤ◌, ◌≤ℤ◌}
 use Rattle.std.specs.Prelude.{IsTrue, IsSomeAnd, slice_get, slice_index_or}
 use Rattle.std.specs.Bool.{MatchBool}
 use Rattle.std.proofs.Math.Nat.{mul-le-mul_right, mul-lt-mul_of_pos_right, mul-pos, pow-le-pow_right}
 use Rattle.std.proofs.lemmas.Int.{ints}
-use Rattle.std.proofs.lemmas.Nat.{pow-add, pow_pos, mod_below}
+use Rattle.std.proofs.lemmas.Nat.{pow-add, pow_pos}
 use Rattle.std.proofs.lemmas.Option.{get_or_from_slice_get}
-use Rattle.std.proofs.lemmas.Bool.{false≢true, cases_lt, and_left, cond-false, ne_eqb}
-use Rattle.apfloat_model.specs.declared.kinds.NonfiniteBehavior.{NonfiniteBehavior}
-use Rattle.apfloat_model.specs.declared.kinds.NonfiniteBehavior.TheVariants.{IEEE754, NanOnly, NanNegativeZero}
+use Rattle.std.proofs.lemmas.Bool.{false≢true, ne_eqb}
 use Rattle.apfloat_model.specs.declared.loss.Loss.TheVariants.{ExactlyZero}
 use Rattle.rustc_apfloat.specs.declared.Round.{Round}
 use Rattle.rustc_apfloat.specs.Format.{Format}
 use Rattle.rustc_apfloat.specs.Datum.{Datum, finite}
 use Rattle.rustc_apfloat.specs.Flags.{bits_of}
 use Rattle.rustc_apfloat.specs.Lawful.{Constants, IsLawful, AreParameters, format_with, layout_with}
-use Rattle.rustc_apfloat.specs.Layout.{Layout, all_ones, trailing_bits, fields_of, implied_datum, datum_of}
+use Rattle.rustc_apfloat.specs.Layout.{fields_of}
 use Rattle.rustc_apfloat.specs.Rounding.{IsDelivered, ok_bits}
 use Rattle.rustc_apfloat.specs.Standing.{StandsFor, up, down}
 use Rattle.apfloat_model.proofs.general.Powers.{two_pos, twice_half}
-use Rattle.apfloat_model.proofs.bits.EncodedOnce.{fields_with}
-use Rattle.apfloat_model.proofs.bits.Encodings.{lawful_interchange}
 use Rattle.apfloat_model.proofs.rounding.FarMagnitudes.{far_above, far_below}
+use Rattle.apfloat_encoded.proofs.Reading.{quanta_with, number_read, trailing_low, span_is}
 use Rattle.array_conversions.specs.declared.converted.Converted.{Converted}
 use Rattle.array_conversions.specs.declared.saturation.Overflow.{Overflow}
 use Rattle.array_conversions.specs.declared.saturation.Overflow.TheVariants.{Rounded, Saturated, Finite}
@@ -29,49 +26,9 @@ use Rattle.array_conversions.specs.Saturation.{IsConversionBy}
 use Rattle.array_conversions.specs.Values.{IsAnswerFrom}
 use Rattle.array_conversions.specs.FarNumbers.{AnswersFar, AreFarAnswers, IsFar, IsFarPlace, far_place, with_overflow}
 
--- ---- the number that bits encode
-
--- the significand of a number with these fields, at its place
-abbrev pub quanta_of : ℕ → ℕ → ℕ → ℕ
-quanta_of precision biased trailing = (2 ^ (precision - 1) + trailing) * 2 ^ (biased - 1)
-
--- fields between those of zeros and those of the greatest exponent are those of a number, in each kind of format
-number_of_fields : (kind : NonfiniteBehavior) (f : Format) (layout : Layout) (negative : Bool) (biased trailing : ℕ)
-    → eqb biased 0 ≡ false → eqb biased (all_ones layout.exponent_bits) ≡ false
-    → implied_datum kind f layout (fields_with negative biased trailing)
-    ≡ finite negative (quanta_of f.precision biased trailing)
-number_of_fields IEEE754 f layout negative biased trailing some few = rw (few, some) refl
-number_of_fields NanOnly f layout negative biased trailing some few = rw (few, some) refl
-number_of_fields NanNegativeZero f layout true biased trailing some few =
-    rw (and_left (eqb biased 0) (eqb trailing 0) some, some) refl
-number_of_fields NanNegativeZero f layout false biased trailing some few = rw some refl
-
-pub number_read : (c : Constants) (bits : ℕ) → c.explicit_integer_bit ≡ false
-    → 0 < (fields_of (format_with c) (layout_with c) bits).biased_exponent
-    → (fields_of (format_with c) (layout_with c) bits).biased_exponent + 1 < 2 ^ c.exp_bits
-    → datum_of (format_with c) (layout_with c) bits
-    ≡ finite (fields_of (format_with c) (layout_with c) bits).negative
-    (quanta_of c.precision (fields_of (format_with c) (layout_with c) bits).biased_exponent
-    (fields_of (format_with c) (layout_with c) bits).trailing)
-number_read c bits implied some few =
-    let x = fields_of (format_with c) (layout_with c) bits in
-    cond-false c.explicit_integer_bit _ _ implied
-    ∙ number_of_fields c.nonfinite (format_with c) (layout_with c) x.negative x.biased_exponent x.trailing
-    (ne_eqb x.biased_exponent 0 (λ e. omega arith))
-    (ne_eqb x.biased_exponent (all_ones c.exp_bits) (λ e. omega arith))
-
-pub trailing_low : (c : Constants) (bits : ℕ) → c.explicit_integer_bit ≡ false
-    → (fields_of (format_with c) (layout_with c) bits).trailing < 2 ^ (c.precision - 1)
-trailing_low c bits implied =
-    let low : bits % 2 ^ trailing_bits (format_with c) < 2 ^ trailing_bits (format_with c) =
-    mod_below bits (2 ^ trailing_bits (format_with c)) (pow_pos (trailing_bits (format_with c))) in
-    let width : trailing_bits (format_with c) ≡ c.precision - 1 = cond-false c.explicit_integer_bit _ _ implied in
-    let same : 2 ^ trailing_bits (format_with c) ≡ 2 ^ (c.precision - 1) = ap (λ (n : ℕ). 2 ^ n) width in
-    omega arith
-
 -- ---- the side that a number is on
 
-pub quanta_some : (precision biased trailing : ℕ) → 0 < quanta_of precision biased trailing
+pub quanta_some : (precision biased trailing : ℕ) → 0 < quanta_with precision biased trailing
 quanta_some precision biased trailing =
     let whole : 0 < 2 ^ (precision - 1) = pow_pos (precision - 1) in
     let some : 0 < 2 ^ (precision - 1) + trailing = omega arith in
@@ -82,7 +39,7 @@ scaled : (c d e : ℕ) → 2 ^ (c + d + e) ≡ 2 ^ c * 2 ^ d * 2 ^ e
 scaled c d e = pow-add 2 (c + d) e ∙ ap (λ (n : ℕ). n * 2 ^ e) (pow-add 2 c d)
 
 past_by : (top from precision biased trailing scale : ℕ) → top + from ≤ precision - 1 + (biased - 1) + scale
-    → 2 ^ top * 2 ^ from ≤ quanta_of precision biased trailing * 2 ^ scale
+    → 2 ^ top * 2 ^ from ≤ quanta_with precision biased trailing * 2 ^ scale
 past_by top from precision biased trailing scale far =
     let low : 2 ^ (top + from) ≤ 2 ^ (precision - 1 + (biased - 1) + scale) = pow-le-pow_right two_pos far in
     let left : 2 ^ (top + from) ≡ 2 ^ top * 2 ^ from = pow-add 2 top from in
@@ -98,7 +55,7 @@ past_by top from precision biased trailing scale far =
 
 little_by : (from precision biased trailing scale : ℕ) → 1 ≤ precision → trailing < 2 ^ (precision - 1)
     → precision + (biased - 1) + scale + 1 ≤ from
-    → 2 * (quanta_of precision biased trailing * 2 ^ scale) < 2 ^ from
+    → 2 * (quanta_with precision biased trailing * 2 ^ scale) < 2 ^ from
 little_by from precision biased trailing scale some low far =
     let high : 2 ^ (precision + (biased - 1) + scale + 1) ≤ 2 ^ from = pow-le-pow_right two_pos far in
     let right : 2 ^ (precision + (biased - 1) + scale) ≡ 2 ^ precision * 2 ^ (biased - 1) * 2 ^ scale =
@@ -119,15 +76,11 @@ pub scale_is : (c : Constants) → AreParameters c.precision c.min_exp c.max_exp
     → pos (format_with c).scale ≡ pos (c.precision - 1) -ℤ c.min_exp
 scale_is c are = omega (arith, ints, are.precision_low, are.min_exp_high)
 
-span_is : (c : Constants) → AreParameters c.precision c.min_exp c.max_exp
-    → pos (format_with c).span ≡ c.max_exp -ℤ c.min_exp
-span_is c are = omega (arith, ints, are)
-
 -- a number whose exponent is past the greatest one is past all values
 pub past_far : (c d : Constants) (biased trailing : ℕ) → IsLawful c → IsLawful d → 0 < biased
     → (d.max_exp +ℤ pos 2) ≤ℤ (c.min_exp +ℤ pos biased)
     → 2 ^ ((format_with d).precision + (format_with d).span) * 2 ^ (format_with c).scale
-    ≤ quanta_of c.precision biased trailing * 2 ^ (format_with d).scale
+    ≤ quanta_with c.precision biased trailing * 2 ^ (format_with d).scale
 past_far c d biased trailing lawful_c lawful_d some far =
     let pc = lawful_c.parameters in
     let pd = lawful_d.parameters in
@@ -142,7 +95,7 @@ past_far c d biased trailing lawful_c lawful_d some far =
 pub little_far : (c d : Constants) (biased trailing : ℕ) → IsLawful c → IsLawful d → 0 < biased
     → trailing < 2 ^ (c.precision - 1)
     → (c.min_exp +ℤ pos biased) ≤ℤ (d.min_exp -ℤ pos d.precision)
-    → 2 * (quanta_of c.precision biased trailing * 2 ^ (format_with d).scale) < 2 ^ (format_with c).scale
+    → 2 * (quanta_with c.precision biased trailing * 2 ^ (format_with d).scale) < 2 ^ (format_with c).scale
 little_far c d biased trailing lawful_c lawful_d some low far =
     let pc = lawful_c.parameters in
     let pd = lawful_d.parameters in
@@ -151,23 +104,6 @@ little_far c d biased trailing lawful_c lawful_d some low far =
     let precise : 1 ≤ c.precision = omega (arith, pc.precision_low) in
     little_by (format_with c).scale c.precision biased trailing (format_with d).scale precise low
     (omega (arith, ints, pc.precision_low, pd.precision_low, from, to, far))
-
--- there are fewer than 2 ^ 22 biased exponents
-pub few_biased : (c : Constants) → IsLawful c → c.precision < c.bits → 2 ^ c.exp_bits < 2 ^ 22
-few_biased c lawful wide =
-    let are = lawful.parameters in
-    let span = span_is c are in
-    let all = (lawful_interchange c lawful wide).span in
-    omega (arith, ints, are, span, all)
-
-pub few_bits : (c : Constants) → IsLawful c → c.precision < c.bits → c.exp_bits < 22
-few_bits c lawful wide =
-    ⊎_elim (λ (few : c.exp_bits < 22). few)
-    (λ (many : 22 ≤ c.exp_bits).
-    let more : 2 ^ 22 ≤ 2 ^ c.exp_bits = pow-le-pow_right two_pos many in
-    let less = few_biased c lawful wide in
-    absurd (omega arith))
-    (cases_lt c.exp_bits 22)
 
 abbrev biased_of : Constants → ℕ → ℕ
 biased_of c bits = (fields_of (format_with c) (layout_with c) bits).biased_exponent
@@ -189,7 +125,7 @@ placed c d bits place true little true lawful_c lawful_d implied is_past is_litt
     record {
       past = true;
       negative = (fields_of (format_with c) (layout_with c) bits).negative;
-      quanta = quanta_of c.precision (biased_of c bits) (trailing_of c bits);
+      quanta = quanta_with c.precision (biased_of c bits) (trailing_of c bits);
       place_is = is;
       read = number_read c bits implied between.0 between.1;
       some = quanta_some c.precision (biased_of c bits) (trailing_of c bits);
@@ -204,7 +140,7 @@ placed c d bits place false true true lawful_c lawful_d implied is_past is_littl
     record {
       past = false;
       negative = (fields_of (format_with c) (layout_with c) bits).negative;
-      quanta = quanta_of c.precision (biased_of c bits) (trailing_of c bits);
+      quanta = quanta_with c.precision (biased_of c bits) (trailing_of c bits);
       place_is = is;
       read = number_read c bits implied between.0 between.1;
       some = quanta_some c.precision (biased_of c bits) (trailing_of c bits);
@@ -224,15 +160,6 @@ placed c d bits place false true false lawful_c lawful_d implied is_past is_litt
     absurd (false≢true both)
 placed c d bits place false false number lawful_c lawful_d implied is_past is_little is_number both is =
     absurd (false≢true both)
-
--- a biased exponent is below 2 ^ 22
-pub biased_fits : (c : Constants) (bits digits result : ℕ) → IsLawful c → c.precision < c.bits
-    → result ≡ bits % 2 ^ digits → digits ≡ c.exp_bits → result < 2 ^ 22
-biased_fits c bits digits result lawful wide is all =
-    let low : bits % 2 ^ digits < 2 ^ digits = mod_below bits (2 ^ digits) (pow_pos digits) in
-    let same : 2 ^ digits ≡ 2 ^ c.exp_bits = ap (λ (n : ℕ). 2 ^ n) all in
-    let few = few_biased c lawful wide in
-    omega arith
 
 -- ---- the results
 

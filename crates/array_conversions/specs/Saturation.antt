@@ -11,6 +11,14 @@ use Rattle.array_conversions.specs.declared.saturation.Overflow.{Overflow}
 use Rattle.array_conversions.specs.declared.saturation.Overflow.TheVariants.{Rounded, Saturated, Finite}
 use Rattle.array_conversions.specs.declared.saturation.FiniteNan.{FiniteNan}
 use Rattle.array_conversions.specs.declared.saturation.FiniteNan.TheVariants.{Kept, Largest}
+use Rattle.array_conversions.specs.declared.saturation.ValueClass.{ValueClass}
+use Rattle.array_conversions.specs.declared.saturation.ValueClass.TheVariants.{Number, Infinity, NotANumber}
+
+-- what a datum is, as far as saturation asks
+abbrev pub class_of : Datum → ValueClass
+class_of (nan b s) = NotANumber
+class_of (infinite b) = Infinity
+class_of (finite b n) = Number
 
 -- The conversion of a finite datum is not finite only if it overflowed: it is then an infinity, or the NaN of a format
 -- without infinities.

@@ -12,7 +12,7 @@ ghost use Rattle.array_conversions.specs.Saturation.{saturated};
 use crate::converted::Converted;
 use crate::counts::Outcome;
 use crate::saturation::{Overflow, largest_of_sign};
-use apfloat_words::low_digits;
+use apfloat_encoded::{biased_exponent, is_minus};
 use rustc_apfloat::ieee::{Flagged, IeeeFloat, Loss, deliver};
 use rustc_apfloat::{ExpInt, Float, Round, StatusAnd};
 
@@ -142,27 +142,6 @@ fn place_of(past: bool, negative: bool) -> usize
     ensures within { result < 4 }
 {
     2 * usize::from(past) + usize::from(negative)
-}
-
-/// Whether the sign bit is set.
-#[inline(always)]
-fn is_minus<S: Flagged>(bits: u128) -> bool
-    requires { S.PRECISION < S.BITS }
-    ensures { result ≡ (fields_of (format_of S.Flagged) (layout_of S.Flagged) bits).negative }
-{
-    low_digits(bits >> (S::BITS - 1), 1) == 1
-}
-
-/// The biased exponent, in a format whose integer bit is implied.
-#[inline(always)]
-fn biased_exponent<S: Flagged>(bits: u128) -> u32
-    requires bits { S.PRECISION < S.BITS }
-    requires implied { S.EXPLICIT_INTEGER_BIT ≡ false }
-    ensures value { result
-        ≡ (fields_of (format_of S.Flagged) (layout_of S.Flagged) bits).biased_exponent }
-    ensures bound { result < 2 ^ 22 }
-{
-    low_digits(bits >> (S::PRECISION - 1), S::EXP_BITS as u32) as u32
 }
 
 /// Whether this is neither the biased exponent of zeros and denormal numbers nor the greatest one.

@@ -20,6 +20,7 @@ pub use array::ArrayConversion;
 pub use blocks::{convert_block_by, one_block};
 pub use bytes::{number_of, write_number};
 pub use conversion::{Conversion, ConvertedBlock};
+pub use converted::Converted;
 pub use counts::{Counts, Outcome};
-pub use saturation::{FiniteNan, Overflow, convert_by};
+pub use saturation::{FiniteNan, Overflow, ValueClass, convert_by, treat};
 pub use widths::{Extended, Widths, width};

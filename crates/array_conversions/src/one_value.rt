@@ -37,6 +37,26 @@ pub fn convert_value<S: Flagged, T: Flagged>(
     answer.outcome
 }
 
+/// The same without these results, out of line.
+#[inline(never)]
+pub fn convert_slowly<S: Flagged, T: Flagged>(
+    overflow: Overflow,
+    round: Round,
+    input: &[u8],
+    output: &mut [u8],
+) -> Outcome
+    requires read { S.PRECISION < S.BITS }
+    requires written { T.PRECISION < T.BITS }
+    requires input { length input.now ≤ 16 }
+    requires output { T.BITS ≤ 8 * length output.old }
+    ensures { IsConvertedBy overflow (constants_of S.Flagged) (constants_of T.Flagged) round
+        input.now output.new result }
+{
+    let answer = convert_near::<S, T>(overflow, round, number_of(input));
+    write_number(answer.bits, output);
+    answer.outcome
+}
+
 /// Converts the value that these bits encode.
 #[inline(always)]
 pub fn convert_bits<S: Flagged, T: Flagged>(

@@ -1,13 +1,14 @@
 //! Conversions that saturate: a number that overflows becomes the largest value of its sign.
 
 ghost use Rattle.std.specs.Prelude.{◌≡◌};
-ghost use Rattle.rustc_apfloat.specs.Datum.{finite};
+ghost use Rattle.rustc_apfloat.specs.Classes.{category_of, is_negative};
+ghost use Rattle.rustc_apfloat.specs.Datum.{Datum, finite};
 ghost use Rattle.rustc_apfloat.specs.Flags.{bits_of};
-ghost use Rattle.rustc_apfloat.specs.Format.{largest};
+ghost use Rattle.rustc_apfloat.specs.Format.{Format, largest};
 ghost use Rattle.rustc_apfloat.specs.FlaggedTypes.{format_of};
 ghost use Rattle.rustc_apfloat.specs.Conversions.{IsConversion};
 ghost use Rattle.rustc_apfloat.specs.declared.Round.{Round};
-ghost use Rattle.array_conversions.specs.Saturation.{IsConversionBy, IsFiniteConversion, saturated};
+ghost use Rattle.array_conversions.specs.Saturation.{IsConversionBy, IsFiniteConversion, class_of, saturated};
 
 use rustc_apfloat::ieee::{Flagged, IeeeFloat};
 use rustc_apfloat::{Category, Float, FloatConvert, Round, Status, StatusAnd};
@@ -34,6 +35,32 @@ pub enum Overflow {
     Finite(FiniteNan),
 }
 
+/// What a value is, as far as saturation asks.
+#[derive(Clone, Copy, Debug)]
+pub enum ValueClass {
+    /// A zero or a number.
+    Number,
+    /// An infinity.
+    Infinity,
+    /// A NaN.
+    NotANumber,
+}
+
+impl ValueClass {
+    /// The class of the values of a category.
+    #[inline]
+    pub fn of(category: Category) -> ValueClass
+        ensures { (x : Datum) → category_of x ≡ category → class_of x ≡ result }
+    {
+        match category {
+            Category::NaN => ValueClass::NotANumber,
+            Category::Infinity => ValueClass::Infinity,
+            Category::Zero => ValueClass::Number,
+            Category::Normal => ValueClass::Number,
+        }
+    }
+}
+
 /// A value in the format `T`, rounded once, with the flags of that rounding. Saturation changes no flags of numbers;
 /// only `Overflow::Finite` changes the conversion of infinities and NaNs.
 #[inline]
@@ -47,53 +74,82 @@ pub fn convert_by<S: Flagged, T: Flagged>(
         result.value (bits_of result.status) loses_info.new }
 {
     let answer: StatusAnd<IeeeFloat<T>> = x.convert_r(round, loses_info);
-    match overflow {
-        Overflow::Rounded => answer,
-        Overflow::Saturated => answer.status.and(saturated(x, answer.value)),
-        Overflow::Finite(nans) => made_finite(nans, x, answer, loses_info),
-    }
+    treat(
+        overflow,
+        ValueClass::of(x.category()),
+        x.is_negative(),
+        answer,
+        loses_info,
+    )
 }
 
-/// A converted value, where only finite values are wanted.
+/// What a conversion of a value of this class and sign gives, if `answer` is its conversion without saturation.
 #[inline]
-fn made_finite<S: Flagged, T: Flagged>(
-    nans: FiniteNan,
-    x: IeeeFloat<S>,
+pub fn treat<T: Flagged>(
+    overflow: Overflow,
+    class: ValueClass,
+    negative: bool,
     answer: StatusAnd<IeeeFloat<T>>,
     loses_info: &mut bool,
 ) -> StatusAnd<IeeeFloat<T>>
-    ensures { (mode : Round)
-        → IsConversion (format_of S.Flagged) (format_of T.Flagged) mode x answer.value
-        (bits_of answer.status) loses_info.old
-        → IsFiniteConversion nans (format_of S.Flagged) (format_of T.Flagged) mode x result.value
-        (bits_of result.status) loses_info.new }
+    ensures { let g = format_of T.Flagged in (f : Format) (mode : Round) (x : Datum)
+        → class_of x ≡ class → is_negative x ≡ negative
+        → IsConversion f g mode x answer.value (bits_of answer.status) loses_info.old
+        → IsConversionBy overflow f g mode x result.value (bits_of result.status) loses_info.new }
 {
-    match x.category() {
-        Category::NaN => match nans {
+    match overflow {
+        Overflow::Rounded => answer,
+        Overflow::Saturated => answer.status.and(saturated(class, negative, answer.value)),
+        Overflow::Finite(nans) => made_finite(nans, class, negative, answer, loses_info),
+    }
+}
+
+/// The same, where only finite values are wanted.
+#[inline]
+fn made_finite<T: Flagged>(
+    nans: FiniteNan,
+    class: ValueClass,
+    negative: bool,
+    answer: StatusAnd<IeeeFloat<T>>,
+    loses_info: &mut bool,
+) -> StatusAnd<IeeeFloat<T>>
+    ensures { let g = format_of T.Flagged in (f : Format) (mode : Round) (x : Datum)
+        → class_of x ≡ class → is_negative x ≡ negative
+        → IsConversion f g mode x answer.value (bits_of answer.status) loses_info.old
+        → IsFiniteConversion nans f g mode x result.value (bits_of result.status) loses_info.new }
+{
+    match class {
+        ValueClass::NotANumber => match nans {
             FiniteNan::Kept => answer,
             FiniteNan::Largest => {
                 *loses_info = true;
                 Status::INVALID_OP.and(largest_of_sign(false))
             }
         },
-        Category::Infinity => {
+        ValueClass::Infinity => {
             *loses_info = true;
-            Status::INEXACT.and(largest_of_sign(x.is_negative()))
+            Status::INEXACT.and(largest_of_sign(negative))
         }
-        Category::Zero => answer.status.and(saturated(x, answer.value)),
-        Category::Normal => answer.status.and(saturated(x, answer.value)),
+        ValueClass::Number => answer.status.and(saturated(class, negative, answer.value)),
     }
 }
 
-/// The converted value, given the value that `x` was rounded to.
+/// The converted value, given the value that one of this class and sign was rounded to.
 #[inline]
-fn saturated<S: Flagged, T: Flagged>(x: IeeeFloat<S>, rounded: IeeeFloat<T>) -> IeeeFloat<T>
-    ensures { result ≡ saturated (format_of T.Flagged) x rounded }
+fn saturated<T: Flagged>(class: ValueClass, negative: bool, rounded: IeeeFloat<T>) -> IeeeFloat<T>
+    ensures { (x : Datum) → class_of x ≡ class → is_negative x ≡ negative
+        → result ≡ saturated (format_of T.Flagged) x rounded }
 {
-    if x.is_finite() && !rounded.is_finite() {
-        largest_of_sign(x.is_negative())
-    } else {
-        rounded
+    match class {
+        ValueClass::Number => {
+            if rounded.is_finite() {
+                rounded
+            } else {
+                largest_of_sign(negative)
+            }
+        }
+        ValueClass::Infinity => rounded,
+        ValueClass::NotANumber => rounded,
     }
 }
 

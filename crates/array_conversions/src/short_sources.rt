@@ -13,7 +13,7 @@ ghost use Rattle.array_conversions.specs.Values.{IsConvertedBy};
 
 use crate::bytes::number_of;
 use crate::counts::{Counts, Outcome};
-use crate::one_value::convert_value;
+use crate::one_value::convert_slowly;
 use crate::saturation::Overflow;
 use crate::tables::{fill_table, look_up};
 use crate::widths::Widths;
@@ -336,7 +336,7 @@ fn convert_shortened_value<S: Flagged, Z: Flagged, T: Flagged>(
     }
 }
 
-/// Converts a value in the general way, out of line.
+/// Converts a value in the general way. A function of this file alone, so that the compiler knows the widths.
 #[inline(never)]
 fn convert_apart<S: Flagged, T: Flagged>(
     overflow: Overflow,
@@ -351,7 +351,7 @@ fn convert_apart<S: Flagged, T: Flagged>(
     ensures { IsConvertedBy overflow (constants_of S.Flagged) (constants_of T.Flagged) round
         source.now target.new result }
 {
-    convert_value::<S, T>(&None, overflow, round, source, target)
+    convert_slowly::<S, T>(overflow, round, source, target)
 }
 
 /// The bits of a value.

@@ -55,7 +55,8 @@ impl InFormat for WidthCall {
 }
 
 /// How many bytes so many bits take: the fewest, with four in place of three, since no processor loads three.
-fn bytes_of(bits: usize) -> usize
+#[inline(always)]
+pub(crate) fn bytes_of(bits: usize) -> usize
     ensures { result ≡ bytes_of bits }
 {
     let bytes = bits.div_ceil(8);

@@ -13,13 +13,13 @@ pub loop-index-preserved : goal.loop-index-preserved
 loop-index-preserved g c =
     let size : length c.loop-index.output ≡ c.args.count * c.args.widths.target =
     c.loop-index.auto.output ∙ c.requires.output in
-    let width : length c.convert_value.new.output ≡ c.args.widths.target =
-    c.convert_value.auto.output
+    let width : length c.convert_in.new.output ≡ c.args.widths.target =
+    c.convert_in.auto.output
     ∙ place_size c.args.widths.target c.loop-index.index c.args.count c.loop-index.output c.loop-index-test.true
     size in
     rw c.count.ensures
     (block_more (IsConvertedBy c.args.overflow (constants_of g.S.Flagged) (constants_of g.T.Flagged) c.args.round)
     c.args.widths.source c.args.widths.target
-    c.loop-index.index c.args.count c.args.input.now c.loop-index.output c.convert_value.new.output
-    c.loop-index.counts c.convert_value.result c.loop-index-test.true size width c.convert_value.ensures
+    c.loop-index.index c.args.count c.args.input.now c.loop-index.output c.convert_in.new.output
+    c.loop-index.counts c.convert_in.result c.loop-index-test.true size width c.convert_in.ensures
     c.loop-index.invariant)

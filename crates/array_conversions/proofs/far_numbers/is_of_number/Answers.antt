@@ -1,6 +1,6 @@
 use Rattle.std.proofs.Common.{arith}
 use Rattle.rustc_apfloat.specs.FlaggedTypes.{constants_of}
-use Rattle.array_conversions.proofs.FarNumbers.{few_bits}
+use Rattle.apfloat_encoded.proofs.Reading.{few_bits}
 use Rattle.array_conversions.proofs.far_numbers.is_of_number.Goals as goal
 
 pub overflow_shl-result : goal.overflow_shl-result

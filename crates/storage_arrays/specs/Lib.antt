@@ -1,0 +1,3 @@
+pub mod Formats
+pub mod Stored
+pub mod Arrays
