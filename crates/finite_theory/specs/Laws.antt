@@ -29,7 +29,8 @@ AreSaturated =
     → f.nonfinite ≡ IEEE754 → IsSettled (IsDelivered f mode negative amount parts) f value status
     → IsSaturatedDelivery f mode negative amount parts value status
 
--- A conversion has one value, one status and one answer about loss; a root and a fused sum have one value and one status.
+-- A conversion has one value, one status and one answer about loss; a root and a fused sum have one value and one
+-- status.
 abbrev pub AreSettledConversionsOnce : Type 0
 AreSettledConversionsOnce =
     (f g : Format) (mode : Round) (x value other : Datum) (status flags : ℕ) (loses lost : Bool)
