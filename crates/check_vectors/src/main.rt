@@ -4,9 +4,6 @@
 //! `--help`, describe the rows and how they are checked.
 #![tactic(auto)]
 
-#[cfg(test)]
-mod tests;
-
 use call_rows::AllCalls;
 use commands::words_of_system;
 use std::io::IsTerminal;
