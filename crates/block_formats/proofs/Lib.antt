@@ -1,0 +1,14 @@
+mod SameFractions
+mod Quotients
+mod Products
+mod Places
+mod Greatest
+mod ScaleCodes
+mod Tops
+mod Halves
+mod Powers
+mod Fractions
+mod Counted
+mod ElementsOnce
+mod PlacesOnce
+mod OneBlock

@@ -1,0 +1,30 @@
+-- The scale of a block, from the binade of its greatest magnitude.
+use Rattle.std.proofs.Common.{◌≡◌, ℕ, ◌^◌, ◌≤◌, min, sym, arith}
+use Rattle.std.proofs.Common.{ℤ, pos, negsuc, w32, FitsSigned}
+use lib.IntN.{nat_abs}
+use Rattle.std.specs.Prelude.{◌≤ℤ◌}
+use Rattle.std.proofs.lemmas.Int.{ints}
+use Rattle.apfloat_model.specs.rounding.Bounds.{IsWithin}
+use Rattle.apfloat_model.specs.arithmetic.Exact.{up}
+use Rattle.apfloat_model.proofs.arithmetic.SingleScalings.{up_le}
+
+-- ---- clamping
+
+pub min_left : (a b : ℕ) → a ≤ b → min a b ≡ a
+min_left a b l = grind arith
+
+pub min_right : (a b : ℕ) → b ≤ a → min a b ≡ b
+min_right a b l = grind arith
+
+-- what is not above 0 has nothing above it
+pub up_zero : (z : ℤ) → z ≤ℤ pos 0 → up z ≡ 0
+up_zero z l = let k = up_le z 0 l in omega (arith, k)
+
+-- between both ends the code is the number itself
+pub inside : (z : ℤ) → pos 0 ≤ℤ z → z ≤ℤ pos 254 → nat_abs z ≡ min (up z) 254
+inside (pos n) l h = let k : n ≤ 254 = omega (arith, ints, h) in sym (min_left n 254 k)
+inside (negsuc n) l h = absurd (omega (arith, ints, l))
+
+pub far_fits : (e : ℤ) → IsWithin (2 ^ 24) e → FitsSigned w32 e
+far_fits (pos n) w = let high = w.high in record { sfits = omega (arith, ints, high) }
+far_fits (negsuc n) w = let low = w.low in record { sfits = omega (arith, ints, low) }

@@ -1,0 +1,6 @@
+pub mod Elements
+pub mod Magnitudes
+pub mod Places
+pub mod MxScales
+pub mod MxBlocks
+pub mod Laws

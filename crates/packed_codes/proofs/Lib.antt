@@ -1,0 +1,4 @@
+mod Digits
+mod All
+mod Groups
+mod Once
