@@ -4,7 +4,7 @@ use apfloat_decimals::Decimal;
 use rustc_apfloat::{ExpInt, Status};
 
 /// The widths of the fields of an encoding.
-#[derive(Clone, Copy, Debug)]
+#[derive(Clone, Copy)]
 pub struct Widths {
     /// All bits.
     pub bits: u32,
@@ -15,7 +15,7 @@ pub struct Widths {
 }
 
 /// What a value is.
-#[derive(Clone, Copy, Debug)]
+#[derive(Clone, Copy)]
 pub enum Meaning {
     /// A zero.
     Zero,
@@ -30,7 +30,7 @@ pub enum Meaning {
 }
 
 /// A value as it is shown.
-#[derive(Clone, Copy, Debug)]
+#[derive(Clone, Copy)]
 pub struct Shown {
     /// Its bits.
     pub bits: u128,
@@ -45,7 +45,7 @@ pub struct Shown {
 }
 
 /// How a word was read.
-#[derive(Clone, Copy, Debug)]
+#[derive(Clone, Copy)]
 pub enum Reading {
     /// The only way in which it can be read.
     Only,
@@ -56,7 +56,7 @@ pub enum Reading {
 }
 
 /// An operand.
-#[derive(Clone, Copy, Debug)]
+#[derive(Clone, Copy)]
 pub struct Operand {
     /// Its value.
     pub value: Shown,
@@ -67,7 +67,7 @@ pub struct Operand {
 }
 
 /// How a place between two neighbours compares with the midpoint.
-#[derive(Clone, Copy, Debug, PartialEq, Eq)]
+#[derive(Clone, Copy)]
 pub enum Side {
     /// Nearer to the lower neighbour.
     Lower,
@@ -78,7 +78,7 @@ pub enum Side {
 }
 
 /// An exact result that is not a value of the format.
-#[derive(Clone, Copy, Debug)]
+#[derive(Clone, Copy)]
 pub struct Exact {
     /// Whether it is negative.
     pub negative: bool,
@@ -89,7 +89,7 @@ pub struct Exact {
 }
 
 /// A place between two neighbours.
-#[derive(Clone, Copy, Debug)]
+#[derive(Clone, Copy)]
 pub struct Between {
     /// The exact result.
     pub exact: Exact,
@@ -106,7 +106,7 @@ pub struct Between {
 }
 
 /// Where an exact result is.
-#[derive(Clone, Copy, Debug)]
+#[derive(Clone, Copy)]
 pub enum Place {
     /// Not shown: nothing was computed, or an operand or the result is not a number.
     None,
@@ -119,7 +119,7 @@ pub enum Place {
 }
 
 /// Where a machine takes the NaN of a result from.
-#[derive(Clone, Copy, Debug)]
+#[derive(Clone, Copy)]
 pub enum NanSource {
     /// No operand is a NaN, so that the result is the default NaN.
     NoNan,
@@ -130,7 +130,7 @@ pub enum NanSource {
 }
 
 /// A computation.
-#[derive(Clone, Copy, Debug)]
+#[derive(Clone, Copy)]
 pub struct Explanation {
     /// The widths of the format's fields.
     pub widths: Widths,

@@ -25,12 +25,7 @@ pub fn write_explanation<W: Write>(
     if let Operation::Value = question.operation {
         return write_operand(widths, question.format_word, &explanation.operands[0], out);
     }
-    let (format, operation) = (question.format_word, name_of(question.operation));
-    write!(out, "{format} {operation}, {}", rule_of(question.round))?;
-    match question.machine {
-        Some((_, name)) => writeln!(out, ", on {name}\n")?,
-        None => writeln!(out, "\n")?,
-    }
+    write_question(question, out)?;
     write_operands(widths, question.operation.operand_count(), explanation, out)?;
     write_place(widths, question.round, &explanation.place, in_colour, out)?;
     if let (Some((machine, _)), Some(source)) = (question.machine, explanation.nan_source) {
@@ -38,6 +33,16 @@ pub fn write_explanation<W: Write>(
     }
     write_shown(widths, "result", &explanation.result, out)?;
     write_flags(explanation.status, in_colour, out)
+}
+
+/// Writes the operation, its format, its rounding mode, and the machine if there is one.
+fn write_question<W: Write>(question: Question, out: &mut W) -> io::Result<()> {
+    let (format, operation) = (question.format_word, name_of(question.operation));
+    write!(out, "{format} {operation}, {}", rule_of(question.round))?;
+    match question.machine {
+        Some((_, name)) => writeln!(out, ", on {name}\n"),
+        None => writeln!(out, "\n"),
+    }
 }
 
 /// Writes the operands.

@@ -93,7 +93,7 @@ fn machine_named(word: &str) -> Option<Machine> {
 }
 
 /// The computation that is explained.
-#[derive(Clone, Copy, Debug)]
+#[derive(Clone, Copy)]
 pub enum Operation {
     /// Nothing: a value is shown.
     Value,
@@ -149,7 +149,7 @@ pub struct Question<'a> {
 }
 
 /// Why there is nothing to explain.
-#[derive(Clone, Copy, Debug)]
+#[derive(Clone, Copy)]
 pub enum Fault<'a> {
     /// There are too few words.
     TooFew,

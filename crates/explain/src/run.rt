@@ -13,6 +13,15 @@ const PROGRAM: &str = "explain";
 const FORMAT_WORDS: &str =
     "half single double quad bfloat e5m2 e4m3fn e4m3fnuz x87 e4m3 e5m2fnuz e4m3b11fnuz tf32";
 
+/// The operations, for messages.
+const OPERATION_WORDS: &str = "add sub mul div rem mod fma sqrt";
+
+/// The modes, for messages.
+const MODE_WORDS: &str = "even up down zero away";
+
+/// The machines, for messages.
+const MACHINE_WORDS: &str = "x86 x87 arm arm_default_nan arm_alternate risc_v power s390x";
+
 /// The formats that machines have, for messages.
 const MACHINE_FORMATS: &str = "half single double quad bfloat e5m2 x87";
 
@@ -62,49 +71,50 @@ fn answer<W: Write, V: Write>(
 
 /// Reports why there is nothing to explain.
 fn refuse<V: Write>(fault: Fault, err: &mut V) -> io::Result<u8> {
+    write_refusal(fault, err)?;
+    Ok(OTHER_WORDS)
+}
+
+/// Writes why there is nothing to explain.
+fn write_refusal<V: Write>(fault: Fault, err: &mut V) -> io::Result<()> {
     match fault {
-        Fault::TooFew => write_fault(PROGRAM, "too few words", err)?,
-        Fault::TooMany => write_fault(PROGRAM, "too many operands", err)?,
+        Fault::TooFew => write_fault(PROGRAM, "too few words", err),
+        Fault::TooMany => write_fault(PROGRAM, "too many operands", err),
         Fault::Option(word) => {
             let wrong = WrongWord {
                 fault: "no such option",
                 word,
                 known: OPTIONS,
             };
-            wrong.write(PROGRAM, err)?;
+            wrong.write(PROGRAM, err)
         }
-        Fault::Format(word) => {
-            write!(err, "explain: no format '{word}' ({FORMAT_WORDS})")?;
-            suggest(word, FORMATS, err)?;
-        }
+        Fault::Format(word) => write_unknown("format", word, FORMAT_WORDS, FORMATS, err),
         Fault::Operation(word) => {
-            write!(
-                err,
-                "explain: no operation '{word}' (add sub mul div rem mod fma sqrt)"
-            )?;
-            suggest(word, OPERATIONS, err)?;
+            write_unknown("operation", word, OPERATION_WORDS, OPERATIONS, err)
         }
-        Fault::Mode(word) => {
-            write!(err, "explain: no mode '{word}' (even up down zero away)")?;
-            suggest(word, MODES, err)?;
-        }
-        Fault::Machine(word) => {
-            write!(
-                err,
-                "explain: no machine '{word}' (x86 x87 arm arm_default_nan arm_alternate risc_v power s390x)"
-            )?;
-            suggest(word, MACHINES, err)?;
-        }
+        Fault::Mode(word) => write_unknown("mode", word, MODE_WORDS, MODES, err),
+        Fault::Machine(word) => write_unknown("machine", word, MACHINE_WORDS, MACHINES, err),
         Fault::Lacks(word) => writeln!(
             err,
             "explain: no such operation on '{word}' (x87 has no fma; the formats are {MACHINE_FORMATS})"
-        )?,
+        ),
         Fault::Value(word) => writeln!(
             err,
             "explain: no value '{word}' of the format (hexadecimal bits, or a number such as 0.1)"
-        )?,
+        ),
     }
-    Ok(OTHER_WORDS)
+}
+
+/// Writes that nothing of this kind has the word, and the words that there are.
+fn write_unknown<V: Write>(
+    kind: &str,
+    word: &str,
+    words: &str,
+    known: &[&'static str],
+    err: &mut V,
+) -> io::Result<()> {
+    write!(err, "explain: no {kind} '{word}' ({words})")?;
+    suggest(word, known, err)
 }
 
 /// Ends a line about a wrong word, with the word that was meant if it is one edit away.
