@@ -159,7 +159,7 @@ const PAST_LARGEST: u8 = 0x14;
 
 /// Texts; what they are read as, and the flags.
 static TEXTS: [(&str, u128, u8); 7] = [
-    ("-0x1.4p3", 0x35, 0),
+    ("-0x1.4p3", 0x39, 0),
     ("0x1p5", 0x1f, PAST_LARGEST),
     ("-0x1p5", 0x3f, PAST_LARGEST),
     ("inf", 0x1f, 0),
