@@ -1,5 +1,5 @@
 //! Tests of the layers below the public calls, of decimals, of what pairs have beyond `Float`, and of the crates above
-//! the library: comparisons, augmented operations, rounding to odd, machines.
+//! the library: comparisons, augmented operations, rounding to odd, machines, blocks with a common scale.
 //!
 //! They are in a separate crate, since testing a crate proves the whole crate again.
 #![tactic(auto)]
@@ -10,6 +10,10 @@ mod asserts;
 mod augmented;
 #[cfg(test)]
 mod augmented_rows;
+#[cfg(test)]
+mod block_rows;
+#[cfg(test)]
+mod blocks;
 #[cfg(test)]
 mod comparisons;
 #[cfg(test)]
