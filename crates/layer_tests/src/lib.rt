@@ -1,6 +1,6 @@
 //! Tests of the layers below the public calls, of decimals, of what pairs have beyond `Float`, and of the crates above
 //! the library: comparisons, augmented operations, rounding to odd, machines, storage formats, formats that have only
-//! numbers.
+//! numbers, blocks with a common scale, packed codes.
 //!
 //! They are in a separate crate, since testing a crate proves the whole crate again.
 #![tactic(auto)]
@@ -11,6 +11,10 @@ mod asserts;
 mod augmented;
 #[cfg(test)]
 mod augmented_rows;
+#[cfg(test)]
+mod block_rows;
+#[cfg(test)]
+mod blocks;
 #[cfg(test)]
 mod comparisons;
 #[cfg(test)]
