@@ -1,5 +1,5 @@
-//! Tests of the operands of machines by their bits: whether they fit in their format, and whether every machine gives the
-//! plain result of them. That is tested before the plain call, so that nothing has to be kept for after it.
+//! Tests of the operands of machines by their bits: whether they fit in their format, and whether every machine gives
+//! the plain result of them. That is tested before the plain call, so that nothing has to be kept for after it.
 
 ghost use Rattle.std.specs.Prelude.{◌≡◌, ◌&&◌, ◌<◌};
 ghost use Rattle.rustc_apfloat.specs.FlaggedTypes.{constants_of};

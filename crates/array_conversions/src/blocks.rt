@@ -48,8 +48,8 @@ pub fn convert_block_by<S: Flagged, T: Flagged>(
     }
 }
 
-/// The same without a table. The widths that most values have are constants of their formats, so that the loop knows how
-/// many bytes it reads and writes.
+/// The same without a table. The widths that most values have are constants of their formats, so that the loop knows
+/// how many bytes it reads and writes.
 #[inline(never)]
 fn convert_one_by_one<S: Flagged, T: Flagged>(
     overflow: Overflow,

@@ -4,7 +4,8 @@ use Rattle.block_formats.specs.Places.{count_raised, counts_of, is_raised}
 
 none_raised : (flag n : ℕ) → is_raised flag 0 ≡ false → count_raised flag (replicate n 0) ≡ 0
 none_raised flag zero off = refl
-none_raised flag (suc n) off = one_none (is_raised flag 0) (count_raised flag (replicate n 0)) off (none_raised flag n off)
+none_raised flag (suc n) off = one_none (is_raised flag 0) (count_raised flag (replicate n 0)) off
+    (none_raised flag n off)
   where
     one_none : (test : Bool) (rest : ℕ) → test ≡ false → rest ≡ 0 → cond test 1 0 + rest ≡ 0
     one_none true rest e f = cc

@@ -66,7 +66,8 @@ push_raised flag [] status = let e : cond (is_raised flag status) 1 0 + 0 ≡ 0 
 push_raised flag (first ∷ flags) status =
     ap (λ n. cond (is_raised flag first) 1 0 + n) (push_raised flag flags status) ∙ omega arith
 
-pub counts_more : (flags : List ℕ) (status : ℕ) → with_status (counts_of flags) status ≡ counts_of (flags ++ status ∷ [])
+pub counts_more : (flags : List ℕ) (status : ℕ)
+    → with_status (counts_of flags) status ≡ counts_of (flags ++ status ∷ [])
 counts_more flags status =
     let invalid = sym (push_raised 1 flags status) in
     let overflow = sym (push_raised 4 flags status) in

@@ -21,7 +21,8 @@ returns g c = λ infinite.
     let delivered = settled_of_two k c.args.machine c.args.arithmetic c.args.round c.value-x.result c.value-y.result
     c.answer.result c.settled.result c.answer.ensures (c.settled.ensures.operations infinite) in
     fitting k.bits c.args.machine (OfTwo c.args.arithmetic c.args.x c.args.y)
-    (IsMachineAnswer k c.args.machine c.args.round (OfTwo c.args.arithmetic c.args.x c.args.y)) c.args.answer.now c.written.result answered
+    (IsMachineAnswer k c.args.machine c.args.round (OfTwo c.args.arithmetic c.args.x c.args.y)) c.args.answer.now
+      c.written.result answered
     (sym c.both_fit.ensures ∙ c.if-not-both_fit.false) (
       refl,
       record {

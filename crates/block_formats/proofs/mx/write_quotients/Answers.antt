@@ -48,7 +48,8 @@ loop-index-preserved g c =
           (bits_of c.quotient_code-answer.result.status) (omega (arith, size, c.loop-index-test.true)) here (
             c.quotient_code-answer.ensures.below,
             c.quotient_code-answer.ensures.code (quanta_of x * 2 ^ t.scale * unit) parts (mul-pos (pow_pos f.scale) p)
-                (element_fraction (quanta_of x) (quanta_of c.args.y) t.scale (format_of g.R.Semantics).scale f.scale divisor unit
+                (element_fraction (quanta_of x) (quanta_of c.args.y) t.scale (format_of g.R.Semantics).scale f.scale
+                  divisor unit
                 e),
           )
           c.with-counts.ensures (c.loop-index.invariant.1 divisor unit p e),

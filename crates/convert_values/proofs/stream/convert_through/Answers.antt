@@ -12,4 +12,5 @@ has_room read block source target buffer l is =
 
 pub convert-block-requires : goal.convert-block-requires
 convert-block-requires g c =
-    has_room _ _ (stream_widths c.args.conversion).source (stream_widths c.args.conversion).target _ (search rules) c.loop.invariant
+    has_room _ _ (stream_widths c.args.conversion).source (stream_widths c.args.conversion).target _ (search rules)
+      c.loop.invariant
