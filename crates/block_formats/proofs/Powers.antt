@@ -25,7 +25,7 @@ scale_quanta code =
 pub bfloat_power : (code : ℕ) → code ≤ 254 → IsFiniteOf (format_with bfloat_constants) false (2 ^ (code + 6))
 bfloat_power code l =
     let high : 2 ^ (code + 6) ≤ 2 ^ (7 + 253) = pow-le-pow_right two_pos
-      (let k : code + 6 ≤ 7 + 253 = omega (arith, l) in k) in
+    (let k : code + 6 ≤ 7 + 253 = omega (arith, l) in k) in
     let split : 2 ^ (7 + 253) ≡ 2 ^ 7 * 2 ^ 253 = pow-add 2 7 253 in
     let few : 2 ^ 7 ≤ 2 ^ 8 - 1 = lit≤ tt in
     let most : 2 ^ 7 * 2 ^ 253 ≤ (2 ^ 8 - 1) * 2 ^ 253 = mul-le-mul_right (2 ^ 253) few in

@@ -105,5 +105,5 @@ pub product_case : (known element : ElementFormat) (g : Format) (mode : Round) (
 product_case known element g mode code n t value status e h =
     subst (λ (k : ElementFormat). (amount places : ℕ) → amount * 2 ^ t ≡ n * 2 ^ places
     → IsProductOf g mode (seen (format_of_element k) g (element_datum k code)) (number false amount places) value
-      status)
+    status)
     (sym e) h

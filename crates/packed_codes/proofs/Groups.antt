@@ -82,7 +82,7 @@ bytes_of_number number =
 
 pub sixes_of_bytes : (low middle high : ℕ) → number_of_digits 8 (low ∷ middle ∷ high ∷ [])
     ≡ number_of_digits 6 ((low % 64) ∷ (low / 64 + 4 * (middle % 16))
-      ∷ (middle / 16 + 16 * (high % 4)) ∷ (high / 4) ∷ [])
+    ∷ (middle / 16 + 16 * (high % 4)) ∷ (high / 4) ∷ [])
 sixes_of_bytes low middle high =
     let first : low / 64 * 64 + low % 64 ≡ low = div-add-mod' low 64 in
     let second : middle / 16 * 16 + middle % 16 ≡ middle = div-add-mod' middle 16 in

@@ -17,5 +17,5 @@ returns g c = λ infinite.
     let k = constants_of g.S.Flagged in
     fitting k.bits c.args.machine (Greatest c.args.rule c.args.x c.args.y)
     (IsMachineAnswer k c.args.machine c.args.round (Greatest c.args.rule c.args.x c.args.y)) c.args.answer.now
-      c.greater.new.answer answered
+    c.greater.new.answer answered
     (sym c.both_fit.ensures ∙ c.if-not-both_fit.false) (refl, c.greater.ensures)

@@ -17,5 +17,5 @@ returns g c = λ infinite.
     let k = constants_of g.S.Flagged in
     fitting k.bits c.args.machine (Least c.args.rule c.args.x c.args.y)
     (IsMachineAnswer k c.args.machine c.args.round (Least c.args.rule c.args.x c.args.y)) c.args.answer.now
-      c.lesser.new.answer answered
+    c.lesser.new.answer answered
     (sym c.both_fit.ensures ∙ c.if-not-both_fit.false) (refl, c.lesser.ensures)

@@ -22,7 +22,7 @@ returns g c = λ infinite.
     c.answer.result c.settled.result c.answer.ensures (c.settled.ensures.operations infinite) in
     fitting k.bits c.args.machine (OfTwo c.args.arithmetic c.args.x c.args.y)
     (IsMachineAnswer k c.args.machine c.args.round (OfTwo c.args.arithmetic c.args.x c.args.y)) c.args.answer.now
-      c.written.result answered
+    c.written.result answered
     (sym c.both_fit.ensures ∙ c.if-not-both_fit.false) (
       refl,
       record {

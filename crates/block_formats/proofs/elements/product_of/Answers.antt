@@ -37,11 +37,11 @@ returns-in-E4M3FN g c =
     let product =
     subst (λ (x : Datum). IsProductTo (format_of_element E4M3FN) r t c.args.round x y value status)
     (c.from_bits-x-in-E4M3FN.ensures.read ∙ ap (element_datum E4M3FN) c.from-in-E4M3FN.ensures)
-      c.multiply-in-E4M3FN.ensures in
+    c.multiply-in-E4M3FN.ensures in
     product_case E4M3FN c.args.element t c.args.round c.args.code (quanta_of y) r.scale value status c.in-E4M3FN.is
     (λ amount places same.
     product_in (format_of_element E4M3FN) r t c.args.round (element_datum E4M3FN c.args.code) y value status amount
-      places
+    places
     (omega (arith, low)) c.requires.positive.is c.requires.positive.some product same)
 
 pub returns-in-E3M2FN : goal.returns-in-E3M2FN
@@ -70,7 +70,7 @@ returns-in-E2M3FN g c =
     (λ amount places same.
     product_of_half e2m3fn r t c.args.round c.args.code c.half_of-in-E2M3FN.result y value status amount places
     (omega (arith, low)) c.half_of-in-E2M3FN.ensures.0 c.half_of-in-E2M3FN.ensures.1 c.requires.positive.is
-      c.requires.positive.some
+    c.requires.positive.some
     c.multiply-in-E2M3FN.ensures same)
 
 pub returns-in-E2M1FN : goal.returns-in-E2M1FN
@@ -85,5 +85,5 @@ returns-in-E2M1FN g c =
     (λ amount places same.
     product_of_half e2m1fn r t c.args.round c.args.code c.half_of-in-E2M1FN.result y value status amount places
     (omega (arith, low)) c.half_of-in-E2M1FN.ensures.0 c.half_of-in-E2M1FN.ensures.1 c.requires.positive.is
-      c.requires.positive.some
+    c.requires.positive.some
     c.multiply-in-E2M1FN.ensures same)

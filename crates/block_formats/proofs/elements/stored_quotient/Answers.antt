@@ -11,6 +11,6 @@ returns-clause-code g c = λ amount parts u same.
       pick = x.pick;
       is_pick = x.is_pick;
       value_is = ap (datum_of (constants_of g.F.StorageFormat)) (c.and.ensures.value ∙ c.to_bits.ensures.code)
-        ∙ x.value_is;
+          ∙ x.value_is;
       status_is = ap bits_of c.and.ensures.status ∙ x.status_is;
     }

@@ -47,7 +47,7 @@ returns g c =
       rw c.bits.ensures.value at (c.are_narrow.ensures.yes c.if-not-are_narrow.false),
       all_written (λ (code : ℕ) (value : Datum) (status : ℕ). IsScaled c.args.element (format_of g.G.Flagged)
           c.args.round c.args.scale code value status) c.args.codes.now c.loop-index.values c.loop-index.counts
-            c.loop-index.invariant.0
+          c.loop-index.invariant.0
           (subst (λ (n : ℕ). AreWritten (λ (code : ℕ) (value : Datum) (status : ℕ). IsScaled c.args.element
           (format_of g.G.Flagged) c.args.round c.args.scale code value status) n c.args.codes.now c.loop-index.values
           c.loop-index.counts) last c.loop-index.invariant.1),

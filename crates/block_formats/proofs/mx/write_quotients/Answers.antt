@@ -49,7 +49,7 @@ loop-index-preserved g c =
             c.quotient_code-answer.ensures.below,
             c.quotient_code-answer.ensures.code (quanta_of x * 2 ^ t.scale * unit) parts (mul-pos (pow_pos f.scale) p)
                 (element_fraction (quanta_of x) (quanta_of c.args.y) t.scale (format_of g.R.Semantics).scale f.scale
-                  divisor unit
+                divisor unit
                 e),
           )
           c.with-counts.ensures (c.loop-index.invariant.1 divisor unit p e),

@@ -13,4 +13,4 @@ has_room read block source target buffer l is =
 pub convert-block-requires : goal.convert-block-requires
 convert-block-requires g c =
     has_room _ _ (stream_widths c.args.conversion).source (stream_widths c.args.conversion).target _ (search rules)
-      c.loop.invariant
+    c.loop.invariant

@@ -21,4 +21,4 @@ returns-in-Infinity g c =
 pub returns-in-NaN : goal.returns-in-NaN
 returns-in-NaN g c =
     c.zero.ensures ∙ sym (nan_kept (format_of g.S.Semantics) c.args.value
-      (sym c.category.ensures.category ∙ c.in-NaN.is))
+    (sym c.category.ensures.category ∙ c.in-NaN.is))

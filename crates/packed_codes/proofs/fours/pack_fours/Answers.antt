@@ -12,7 +12,7 @@ loop-index-preserved c =
     let size = c.loop-index.invariant.same_bits in
     let within : index < length bytes = omega (arith, c.loop-index-test.true, size, c.if-bytes-codes.false) in
     let first = read_next codes front [] (2 * index) (2 * index + 1) 0 refl (omega (arith, size, within))
-      (sym (append-nil front)) in
+    (sym (append-nil front)) in
     let second =
     read_next codes front (get_or codes (2 * index) 0 ∷ []) (2 * index + 1) (2 * (index + 1)) 0 (omega arith)
     (omega (arith, size, within)) first in

@@ -19,7 +19,7 @@ loop-index-preserved c =
     let low = c.if-from-bits.false in
     let at = c.from.ensures in
     all_more (λ (code : ℕ). code < 2 ^ bits) (take index codes) (take (index + 1) codes) (get_or codes index 0)
-      c.loop-index.invariant
+    c.loop-index.invariant
     (omega (arith, whole, low, at)) (take_more codes index 0 (omega (arith, c.loop-index-test.true)))
 
 -- the code at the index has more bits

@@ -46,6 +46,6 @@ loop-index-preserved c =
       one_more 6 codes bytes codes all _ _ at to (4 * (index + 1)) (3 * (index + 1)) (omega (arith, room))
           (omega (arith, within)) (omega arith) refl (length_set twice (to + 2) high ∙ size_twice) read_e set_high
           (bytes_of_number number
-            ∙ (let z : number ≡ a + 64 * (b + 64 * (d + 64 * (e + 64 * 0))) = omega (arith, value) in z))
+          ∙ (let z : number ≡ a + 64 * (b + 64 * (d + 64 * (e + 64 * 0))) = omega (arith, value) in z))
           c.loop-index.invariant.1,
     )

@@ -25,7 +25,7 @@ loop-index-preserved c =
     let high = get_or bytes (to + 2) 0 in
     let read_low = read_next bytes back [] to (to + 1) 0 refl (omega (arith, within)) (sym (append-nil back)) in
     let read_middle = read_next bytes back (low ∷ []) (to + 1) (to + 2) 0 (omega arith) (omega (arith, within))
-      read_low in
+    read_low in
     let read_high = read_next bytes back (low ∷ middle ∷ []) (to + 2) (3 * (index + 1)) 0 (omega arith)
     (omega (arith, within)) read_middle in
     let a : ℕ = low % 64 in
@@ -43,7 +43,7 @@ loop-index-preserved c =
     let set_a = set_next codes front [] at (at + 1) a refl (omega (arith, room)) (sym (append-nil front)) in
     let set_b = set_next one front (a ∷ []) (at + 1) (at + 2) b (omega arith) (omega (arith, room, size_one)) set_a in
     let set_d = set_next two front (a ∷ b ∷ []) (at + 2) (at + 3) d (omega arith) (omega (arith, room, size_two))
-      set_b in
+    set_b in
     let set_e = set_next three front (a ∷ b ∷ d ∷ []) (at + 3) (4 * (index + 1)) e (omega arith)
     (omega (arith, room, size_three)) set_d in
     let fits = λ (code : ℕ). code < 2 ^ 6 in
@@ -59,7 +59,7 @@ loop-index-preserved c =
           (all_append fits front (a ∷ b ∷ d ∷ e ∷ []) c.loop-index.invariant.1
           (all_cons fits a (b ∷ d ∷ e ∷ []) fit_a
           (all_cons fits b (d ∷ e ∷ []) fit_b (all_cons fits d (e ∷ []) fit_d
-            (all_cons fits e [] fit_e (all_none fits)))))),
+          (all_cons fits e [] fit_e (all_none fits)))))),
       one_more 6 codes bytes four bytes _ _ at to (4 * (index + 1)) (3 * (index + 1)) (omega (arith, room))
           (omega (arith, within)) (omega arith) size_four refl set_e read_high (sixes_of_bytes low middle high) so_far,
     )

@@ -7,20 +7,20 @@ use Rattle.apfloat_decimals.proofs.formatting.Line.push_below_one.Goals as goal
 pub push-requires : goal.push-requires
 push-requires c =
     let all = below_one_length c.args.number c.args.places (omega arith)
-      (omega (arith, c.requires.count, c.requires.within)) in
+    (omega (arith, c.requires.count, c.requires.within)) in
     omega (arith, all, c.requires.room)
 
 pub push-requires-2 : goal.push-requires-2
 push-requires-2 c =
     let all = below_one_length c.args.number c.args.places (omega arith)
-      (omega (arith, c.requires.count, c.requires.within)) in
+    (omega (arith, c.requires.count, c.requires.within)) in
     let one = length_more c.args.self.now 48 in
     rw c.push.ensures (omega (arith, all, one, c.requires.room))
 
 pub push_zeros-requires : goal.push_zeros-requires
 push_zeros-requires c =
     let all = below_one_length c.args.number c.args.places (omega arith)
-      (omega (arith, c.requires.count, c.requires.within)) in
+    (omega (arith, c.requires.count, c.requires.within)) in
     let one = length_more c.args.self.now 48 in
     let two = length_more (c.args.self.now ++ (48 ∷ [])) 46 in
     rw (c.push-2.ensures, c.push.ensures) (omega (arith, all, one, two, c.requires.room))
@@ -28,12 +28,12 @@ push_zeros-requires c =
 pub push_number-requires : goal.push_number-requires
 push_number-requires c =
     let all = below_one_length c.args.number c.args.places (omega arith)
-      (omega (arith, c.requires.count, c.requires.within)) in
+    (omega (arith, c.requires.count, c.requires.within)) in
     let one = length_more c.args.self.now 48 in
     let two = length_more (c.args.self.now ++ (48 ∷ [])) 46 in
     let zeros = length-replicate {A = ℕ} (c.args.places - c.args.count) 48 in
     let three = length-append ((c.args.self.now ++ (48 ∷ [])) ++ (46 ∷ []))
-      (replicate (c.args.places - c.args.count) 48) in
+    (replicate (c.args.places - c.args.count) 48) in
     rw (c.push_zeros.ensures, c.push-2.ensures, c.push.ensures)
     (omega (arith, all, one, two, three, zeros, c.requires.count, c.requires.within, c.requires.room))
 

@@ -15,5 +15,5 @@ push_eight-requires-clause-room c =
 pub returns-then-count-gt16 : goal.returns-then-count-gt16
 returns-then-count-gt16 c =
     c.push_eight.ensures ∙ ap (λ (x : List ℕ). x ++ last_digits 8 (c.args.number % 100000000))
-      c.push_up_to_sixteen.ensures
+    c.push_up_to_sixteen.ensures
     ∙ count_joined 8 c.args.count c.args.number c.args.self.now (omega arith)

@@ -16,7 +16,7 @@ push_eight-requires-clause-room c =
 pub returns-then-count-gt8 : goal.returns-then-count-gt8
 returns-then-count-gt8 c =
     c.push_eight.ensures ∙ ap (λ (x : List ℕ). x ++ last_digits 8 (c.args.number % 100000000))
-      c.push_up_to_eight.ensures
+    c.push_up_to_eight.ensures
     ∙ count_joined 8 c.args.count c.args.number c.args.self.now (omega arith)
 
 pub overflow_cast-number : goal.overflow_cast-number
