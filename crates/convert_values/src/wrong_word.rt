@@ -1,8 +1,31 @@
 //! Which word of a command line is wrong.
 
-use commands::{FORMATS, MODES, WrongWord};
+use commands::{MODES, WrongWord};
 use formats_at_run_time::{BuiltInKind, mode_named};
 use storage_arrays::StoredFormat;
+
+/// The formats of streams: those that are built in, and storage formats.
+static FORMATS: &[&str] = &[
+    "half",
+    "single",
+    "double",
+    "quad",
+    "bfloat",
+    "e5m2",
+    "e4m3fn",
+    "e4m3fnuz",
+    "x87",
+    "e4m3",
+    "e5m2fnuz",
+    "e4m3b11fnuz",
+    "tf32",
+    "e2m1fn",
+    "e2m3fn",
+    "e3m2fn",
+    "e3m4",
+    "e8m0fnu",
+    "ue4m3",
+];
 
 /// The options before a format.
 static OPTIONS: &[&str] = &[
