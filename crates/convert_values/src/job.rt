@@ -1,6 +1,7 @@
 //! The words of a command line, as a job for the program.
 
-use array_conversions::{Conversion, Extended, FiniteNan, Overflow};
+use crate::conversions::StreamConversion;
+use array_conversions::{Extended, FiniteNan, Overflow};
 use commands::About;
 
 /// The help; `packaging/manual` makes the man page and the completions of it.
@@ -14,7 +15,7 @@ format FROM from standard input, and writes them in the format TO to standard
 output.
 
 FROM, TO  half single double quad bfloat e5m2 e4m3fn e4m3fnuz x87 e4m3
-          e5m2fnuz e4m3b11fnuz tf32
+          e5m2fnuz e4m3b11fnuz tf32 e2m1fn e2m3fn e3m2fn e3m4 e8m0fnu ue4m3
 MODE      even    to the nearest value, ties to even
           up      toward positive
           down    toward negative
@@ -32,6 +33,9 @@ MODE      even    to the nearest value, ties to even
 --help, -h         writes this text
 --version          writes the name and the version of the program
 
+The last six are storage formats, whose values take a byte each; FROM and TO
+cannot both be one.
+
 At the end a line on standard error counts the values, those that raised each
 flag, and the NaNs among the values written. Before that, if standard error is
 a terminal, a line every two seconds says how many values were written.
@@ -43,12 +47,12 @@ arguments, 3 if there is not enough memory, and 4 if a read or a write failed.
 ";
 
 /// What the program is to do.
-#[derive(Clone, Copy, Debug)]
+#[derive(Clone, Copy)]
 pub enum Job {
     /// Answer a question about the program.
     About(About),
-    /// Convert a stream; the second field says what a number that overflows becomes.
-    Convert(Conversion, Overflow),
+    /// Convert a stream.
+    Convert(StreamConversion),
 }
 
 impl Job {
@@ -89,8 +93,14 @@ impl Job {
         mode: &String,
     ) -> Option<Job> {
         let (source, target) = (source.as_str(), target.as_str());
-        let conversion = Conversion::named(extended, source, target, mode.as_str())?;
-        Some(Job::Convert(conversion, overflow))
+        let conversion = StreamConversion::named(
+            extended,
+            overflow,
+            source,
+            target,
+            mode.as_str(),
+        )?;
+        Some(Job::Convert(conversion))
     }
 }
 

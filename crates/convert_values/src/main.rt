@@ -8,6 +8,7 @@
 //! there is not enough memory for the buffers, and 4 if a read or a write failed.
 #![tactic(auto)]
 
+mod conversions;
 mod job;
 mod run;
 mod stream;

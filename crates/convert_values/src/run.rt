@@ -60,9 +60,9 @@ fn answer<R: Clock + AllocGlobal, I: Read, W: Write, V: Write>(
             about.answer(PROGRAM, HELP, output)?;
             Ok(0)
         }
-        Some(Job::Convert(conversion, overflow)) => {
+        Some(Job::Convert(conversion)) => {
             let progress = Progress::new(is_terminal, rt);
-            match convert_stream(rt, conversion, overflow, progress, input, output, err) {
+            match convert_stream(rt, conversion, progress, input, output, err) {
                 Ok(summary) => tell(summary, err),
                 Err(failure) => tell_failure(failure, err),
             }

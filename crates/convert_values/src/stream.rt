@@ -1,9 +1,10 @@
 //! Streams of values.
 
 ghost use Rattle.std.specs.Prelude.{◌≡◌, ◌*◌, ◌≤◌, IfOk, length};
-ghost use Rattle.array_conversions.specs.Widths.{source_width, target_width};
+ghost use Rattle.convert_values.specs.StreamWidths.{stream_widths};
 
-use array_conversions::{Conversion, Counts, Overflow};
+use crate::conversions::StreamConversion;
+use array_conversions::Counts;
 use commands::Progress;
 use std::alloc::AllocError;
 use std::io;
@@ -44,8 +45,7 @@ impl From<AllocError> for Failure {
 /// Converts the values of a stream, to its end. `err` is told how far a long stream has come, if that is shown.
 pub fn convert_stream<R: Clock + AllocGlobal, I: Read, W: Write, V: Write>(
     rt: &R,
-    conversion: Conversion,
-    overflow: Overflow,
+    conversion: StreamConversion,
     progress: Progress,
     input: &mut I,
     output: &mut W,
@@ -58,7 +58,6 @@ pub fn convert_stream<R: Clock + AllocGlobal, I: Read, W: Write, V: Write>(
     convert_through(
         rt,
         conversion,
-        overflow,
         progress,
         read.as_mut_slice(),
         buffer,
@@ -71,8 +70,7 @@ pub fn convert_stream<R: Clock + AllocGlobal, I: Read, W: Write, V: Write>(
 /// The same, with the buffers allocated.
 fn convert_through<C: Clock, I: Read, W: Write, V: Write>(
     clock: &C,
-    conversion: Conversion,
-    overflow: Overflow,
+    conversion: StreamConversion,
     progress: Progress,
     read: &mut [u8],
     buffer: Vec<u8>,
@@ -80,8 +78,8 @@ fn convert_through<C: Clock, I: Read, W: Write, V: Write>(
     output: &mut W,
     err: &mut V,
 ) -> Result<Summary, Failure>
-    requires read { length read.old ≡ BLOCK * source_width conversion }
-    requires buffer { length buffer.items ≡ BLOCK * target_width conversion }
+    requires read { length read.old ≡ BLOCK * (stream_widths conversion).source }
+    requires buffer { length buffer.items ≡ BLOCK * (stream_widths conversion).target }
 {
     let mut counts = Counts::NONE;
     let mut buffer = buffer;
@@ -91,7 +89,7 @@ fn convert_through<C: Clock, I: Read, W: Write, V: Write>(
             Ok(filled) => filled,
             Err(error) => return Err(Failure::Reading(error)),
         };
-        let block = conversion.convert_by(overflow, &read[..filled], buffer);
+        let block = conversion.convert(&read[..filled], buffer);
         counts.add(block.counts);
         if let Err(error) = output.write_all(&block.buffer[..block.written]) {
             return Err(Failure::Writing(error));

@@ -2,6 +2,7 @@
 
 use commands::{FORMATS, MODES, WrongWord};
 use formats_at_run_time::{BuiltInKind, mode_named};
+use storage_arrays::StoredFormat;
 
 /// The options before a format.
 static OPTIONS: &[&str] = &[
@@ -36,6 +37,9 @@ pub fn wrong_word(words: &[String]) -> Option<WrongWord<'_>> {
 /// What is wrong with words none of which is wrong.
 pub fn wrong_form(words: &[String]) -> &'static str {
     match words {
+        [.., source, target, _] if is_stored(source.as_str()) && is_stored(target.as_str()) => {
+            "only one of the formats can be a storage format: convert by way of single"
+        }
         [.., source, _, _] if !is_option(source.as_str()) => {
             "an option is given twice, or a saturating option is not the first"
         }
@@ -84,6 +88,11 @@ fn wrong_name(names: &[String]) -> Option<WrongWord<'_>> {
 fn is_format(word: &str) -> bool {
     match BuiltInKind::named(word) {
         Some(kind) => kind.format().is_some(),
-        None => false,
+        None => is_stored(word),
     }
+}
+
+/// Whether the word names a storage format.
+fn is_stored(word: &str) -> bool {
+    StoredFormat::named(word).is_some()
 }

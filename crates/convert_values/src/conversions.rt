@@ -1,0 +1,107 @@
+//! The conversions of streams: between built-in formats, or into a storage format or out of it.
+
+ghost use Rattle.std.specs.Prelude.{◌≡◌, ◌*◌, ◌/◌, ◌≤◌, length};
+ghost use Rattle.storage_arrays.specs.Arrays.{widths_of};
+ghost use Rattle.convert_values.specs.StreamWidths.{stream_widths};
+
+use array_conversions::{Conversion, ConvertedBlock, Extended, Overflow, Widths};
+use formats_at_run_time::{BuiltInFormat, BuiltInKind, FlaggedFormat, mode_named};
+use storage_arrays::{Ends, StorageArray, StoredFormat};
+
+/// A conversion of a stream.
+#[derive(Clone, Copy)]
+pub enum StreamConversion {
+    /// Between built-in formats; the second field says what a number that overflows becomes.
+    BuiltIn(Conversion, Overflow),
+    /// Into a storage format or out of it.
+    Stored(StorageArray),
+}
+
+/// The built-in format of this word.
+fn built_in_named(word: &str) -> Option<BuiltInFormat> {
+    BuiltInKind::named(word)?.format()
+}
+
+/// The formats of these words, if one of them names a storage format and the other a built-in one.
+fn ends_named(source: &str, target: &str) -> Option<Ends> {
+    match StoredFormat::named(source) {
+        Some(stored) => {
+            let target = built_in_named(target)?;
+            Some(Ends::OutOf(stored, FlaggedFormat::BuiltIn(target)))
+        }
+        None => {
+            let source = built_in_named(source)?;
+            Some(Ends::Into(source, StoredFormat::named(target)?))
+        }
+    }
+}
+
+impl StreamConversion {
+    /// The conversion from the format of the first word to that of the second, in the mode of the third.
+    pub fn named(
+        extended: Extended,
+        overflow: Overflow,
+        source: &str,
+        target: &str,
+        mode: &str,
+    ) -> Option<StreamConversion> {
+        if let Some(conversion) = Conversion::named(extended, source, target, mode) {
+            return Some(StreamConversion::BuiltIn(conversion, overflow));
+        }
+        Some(StreamConversion::Stored(StorageArray {
+            ends: ends_named(source, target)?,
+            extended,
+            round: mode_named(mode)?,
+            overflow,
+        }))
+    }
+
+    /// The widths of a value in bytes, before and after its conversion.
+    pub fn widths(self) -> Widths
+        ensures is { result ≡ stream_widths self }
+        ensures least { 1 ≤ result.source }
+        ensures greatest { (result.source ≤ 16) × (result.target ≤ 16) }
+    {
+        match self {
+            StreamConversion::BuiltIn(conversion, _) => conversion.widths(),
+            StreamConversion::Stored(array) => array.widths(),
+        }
+    }
+
+    /// Converts the complete values in `read`, each in its place in `written`, which must have room for them.
+    pub fn convert(self, read: &[u8], written: Vec<u8>) -> ConvertedBlock
+        requires { (length read.now / (stream_widths self).source) * (stream_widths self).target
+            ≤ length written.items }
+        ensures room { length result.buffer.items ≡ length written.items }
+        ensures within { result.written ≤ length result.buffer.items }
+    {
+        match self {
+            StreamConversion::BuiltIn(conversion, overflow) => {
+                conversion.convert_by(overflow, read, written)
+            }
+            StreamConversion::Stored(array) => convert_block(array, read, written),
+        }
+    }
+}
+
+/// Converts the complete values in `read`, by arrays.
+fn convert_block(array: StorageArray, read: &[u8], written: Vec<u8>) -> ConvertedBlock
+    requires { (length read.now / (widths_of array).source) * (widths_of array).target
+        ≤ length written.items }
+    ensures room { length result.buffer.items ≡ length written.items }
+    ensures within { result.written ≤ length result.buffer.items }
+{
+    let widths = array.widths();
+    let count = read.len() / widths.source;
+    let whole = count * widths.source;
+    let filled = count * widths.target;
+    let mut buffer = written;
+    let front = &mut buffer.as_mut_slice()[..filled];
+    let counts = array.convert(count, &read[..whole], front);
+    ConvertedBlock {
+        counts,
+        buffer,
+        written: filled,
+        left_over: read.len() - whole,
+    }
+}
