@@ -1001,7 +1001,7 @@ class StoredTests(unittest.TestCase):
             apfloat.float4_e2m1fn.array(numpy.array([16], numpy.uint8))
         with self.assertRaises(TypeError):
             apfloat.float4_e2m1fn.array(numpy.array([1], numpy.uint16))
-        self.assertEqual(bytes(apfloat.float8_e8m0fnu.array(numpy.arange(1, 4))), bytes([127, 128, 129]))
+        self.assertEqual(bytes(apfloat.float8_e8m0fnu.array(numpy.arange(1, 5))), bytes([127, 128, 128, 129]))
 
     @unittest.skipUnless(numpy and ml_dtypes, 'there is no ml_dtypes')
     def test_ml_dtypes(self):
