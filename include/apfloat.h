@@ -77,6 +77,15 @@ typedef struct apfloat_answer {
 #define APFLOAT_E4M3B11FNUZ UINT32_C(18) /* 8 bits, 4 of them the exponent, of bias 11, without infinities and -0 */
 #define APFLOAT_TF32 UINT32_C(19)        /* 19 bits: the exponents of binary32 and the digits of binary16 */
 
+/* Storage formats, of apfloat_convert_array alone (docs/STORAGE_FORMATS.md): for all other functions these codes are
+ * unknown. */
+#define APFLOAT_E2M1FN UINT32_C(32)  /* 4 bits: 0, 0.5, 1, 1.5, 2, 3, 4, 6 and their negatives */
+#define APFLOAT_E2M3FN UINT32_C(33)  /* 6 bits, 2 of them the exponent, to 7.5 */
+#define APFLOAT_E3M2FN UINT32_C(34)  /* 6 bits, 3 of them the exponent, to 28 */
+#define APFLOAT_E3M4 UINT32_C(35)    /* 8 bits, 3 of them the exponent, with infinities */
+#define APFLOAT_E8M0FNU UINT32_C(48) /* 8 bits: the powers of two from 2^-127 to 2^127, and a NaN; no sign, no zero */
+#define APFLOAT_UE4M3 UINT32_C(49)   /* 7 bits: the numbers of APFLOAT_E4M3FN that are not below zero, and a NaN */
+
 /* Joined to the code of a format by |, these choose by which rule its roundings raise APFLOAT_OVERFLOW and
  * APFLOAT_UNDERFLOW. No value depends on the rule. Without them, a result that a mode rounds to the largest value
  * raises no APFLOAT_OVERFLOW, and an inexact result raises APFLOAT_UNDERFLOW if it is below the smallest normal number
@@ -391,12 +400,17 @@ typedef struct apfloat_array_answer {
 
 /* The same, and an infinity gives the largest value of its sign, with APFLOAT_INEXACT: the saturation of the OCP's
  * 8-bit formats. NaNs are converted as without it; with APFLOAT_SATURATE_ALL they give the largest value, sign plus,
- * with APFLOAT_INVALID_OP. */
+ * with APFLOAT_INVALID_OP. What is below zero is a NaN in APFLOAT_E8M0FNU and APFLOAT_UE4M3 with any of these. */
 #define APFLOAT_SATURATE_FINITE UINT32_C(0x300)
 #define APFLOAT_SATURATE_ALL UINT32_C(0x700)
 
 /* Each value of `format` in the format `to`, rounded once. APFLOAT_WRONG_LENGTH says that `values` ends inside a value,
- * or that `results` is too short. */
+ * or that `results` is too short.
+ *
+ * One of the two formats may be a storage format, with one value a byte: bits above those of the format are ignored,
+ * and 0 in a result. From one storage format to another there is no conversion (APFLOAT_NO_SUCH_OPERATION); one to
+ * APFLOAT_SINGLE, which is exact, and from there is rounded once. What the format has no value for, such as an
+ * infinity, a NaN or a number below zero, becomes what a table in docs/STORAGE_FORMATS.md says. */
 uint32_t apfloat_convert_array(uint32_t format, uint32_t mode, uint32_t to, const uint8_t *values,
                                size_t values_length, uint8_t *results, size_t results_length,
                                apfloat_array_answer *answer);

@@ -1609,23 +1609,114 @@ struct not_deduced {
 
 } // namespace detail
 
-/// Converts `count` values, each rounded once. The arrays do not overlap; if one is null and `count` is not 0, the
-/// error is wrong_length. `x87` has no such arrays, and on a processor that stores the highest byte first the error is
-/// no_such_operation.
-template <class To, class From>
-expected<array_counts> convert_array(const value<From> *values, std::size_t count, value<To> *results,
-                                     rounding mode = rounding::nearest_even,
-                                     overflowing large = overflowing::rounds) {
-    static_assert(!To::is_pair && !From::is_pair, "there is no conversion from or to pairs of doubles");
-    if (!detail::has_lowest_byte_first()) return errc::no_such_operation;
+namespace detail {
+
+// A storage format: its values are only stored and converted, in arrays (docs/STORAGE_FORMATS.md).
+template <std::uint32_t Code, int Width>
+struct storage {
+    static constexpr std::uint32_t code = Code;
+    static constexpr int width = Width;
+    static constexpr bool is_storage = true;
+};
+
+template <class F, class = void>
+struct is_storage : std::false_type {};
+template <class F>
+struct is_storage<F, std::enable_if_t<F::is_storage>> : std::true_type {};
+
+} // namespace detail
+
+/// 4 bits: 0, 0.5, 1, 1.5, 2, 3, 4, 6 and their negatives.
+struct e2m1fn : detail::storage<APFLOAT_E2M1FN, 4> {};
+/// 6 bits with 2 of the exponent, to 7.5.
+struct e2m3fn : detail::storage<APFLOAT_E2M3FN, 6> {};
+/// 6 bits with 3 of the exponent, to 28.
+struct e3m2fn : detail::storage<APFLOAT_E3M2FN, 6> {};
+/// 8 bits with 3 of the exponent, with infinities and NaNs.
+struct e3m4 : detail::storage<APFLOAT_E3M4, 8> {};
+/// 8 bits: the powers of two from 2^-127 to 2^127, and a NaN.
+struct e8m0fnu : detail::storage<APFLOAT_E8M0FNU, 8> {};
+/// 7 bits: the numbers of `e4m3fn` that are not below zero, and a NaN.
+struct ue4m3 : detail::storage<APFLOAT_UE4M3, 7> {};
+
+/// A value of a storage format as its bits, the lowest of a byte. Without an argument all of them are 0.
+template <class F>
+class stored {
+public:
+    using format = F;
+
+    constexpr stored() = default;
+
+    /// The value with these bits; those above the width of the format are ignored.
+    static constexpr stored from_bits(std::uint8_t bits) {
+        stored made;
+        made.bits_ = static_cast<std::uint8_t>(bits & ((1u << F::width) - 1));
+        return made;
+    }
+    constexpr std::uint8_t bits() const { return bits_; }
+
+private:
+    std::uint8_t bits_ = 0;
+};
+
+namespace detail {
+
+template <class F>
+const std::uint8_t *bytes_of(const stored<F> *values) {
+    static_assert(sizeof(stored<F>) == 1, "a value of a storage format is a byte");
+    static constexpr std::uint8_t none = 0;
+    return values == nullptr ? &none : reinterpret_cast<const std::uint8_t *>(values);
+}
+
+template <class F>
+std::uint8_t *bytes_of(stored<F> *values) {
+    return const_cast<std::uint8_t *>(bytes_of(static_cast<const stored<F> *>(values)));
+}
+
+template <class From, class To>
+expected<array_counts> convert_values(const From *values, std::size_t count, To *results, rounding mode,
+                                      overflowing large) {
+    if (!has_lowest_byte_first()) return errc::no_such_operation;
     const bool is_missing = count != 0 && (values == nullptr || results == nullptr);
     const std::size_t present = is_missing ? 0 : count;
     apfloat_array_answer answer = {0, 0, 0, 0, 0, 0, 0, 0, 0};
     const std::uint32_t code = apfloat_convert_array(
-        From::code, detail::code_of(mode) | static_cast<std::uint32_t>(large), To::code, detail::bytes_of(values),
-        present * sizeof(value<From>), detail::bytes_of(results), present * sizeof(value<To>), &answer);
+        From::format::code, code_of(mode) | static_cast<std::uint32_t>(large), To::format::code, bytes_of(values),
+        present * sizeof(From), bytes_of(results), present * sizeof(To), &answer);
     if (code == APFLOAT_ANSWERED && is_missing) return errc::wrong_length;
-    return detail::counts_of(code, answer);
+    return counts_of(code, answer);
+}
+
+} // namespace detail
+
+/// Converts `count` values, each rounded once. The arrays do not overlap; if one is null and `count` is not 0, the
+/// error is wrong_length. `x87` has no such arrays, and on a processor that stores the highest byte first the error is
+/// no_such_operation.
+template <class To, class From,
+          std::enable_if_t<!detail::is_storage<To>::value && !detail::is_storage<From>::value, int> = 0>
+expected<array_counts> convert_array(const value<From> *values, std::size_t count, value<To> *results,
+                                     rounding mode = rounding::nearest_even,
+                                     overflowing large = overflowing::rounds) {
+    static_assert(!To::is_pair && !From::is_pair, "there is no conversion from or to pairs of doubles");
+    return detail::convert_values(values, count, results, mode, large);
+}
+
+/// The same, into a storage format.
+template <class To, class From, std::enable_if_t<detail::is_storage<To>::value, int> = 0>
+expected<array_counts> convert_array(const value<From> *values, std::size_t count, stored<To> *results,
+                                     rounding mode = rounding::nearest_even,
+                                     overflowing large = overflowing::rounds) {
+    static_assert(!From::is_pair, "there is no conversion from pairs of doubles");
+    return detail::convert_values(values, count, results, mode, large);
+}
+
+/// The same, out of a storage format.
+template <class To, class From, std::enable_if_t<detail::is_storage<From>::value, int> = 0>
+expected<array_counts> convert_array(const stored<From> *values, std::size_t count, value<To> *results,
+                                     rounding mode = rounding::nearest_even,
+                                     overflowing large = overflowing::rounds) {
+    static_assert(!To::is_pair, "there is no conversion to pairs of doubles");
+    return detail::convert_values(values, count, results, mode, large);
 }
 
 /// Makes an operation on each element of xs, or on the elements of xs and ys, or of xs, ys and zs: as many arrays of

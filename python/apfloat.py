@@ -41,6 +41,11 @@ it rounds once each, and turned into a numpy array of the same numbers:
 >>> single.array([[0.5, 3], [1e6, -7]]).to(half) + 1
 half.array([['1.5', '4.0'], ['inf', '-6.0']])
 
+Storage formats, of 4, 6 and 8 bits, have arrays alone, without operations:
+
+>>> float4_e2m1fn.array(single.array([0.7, -5, 1000]))
+float4_e2m1fn.array([0.5, -4.0, 6.0])
+
 Both operands of an operation have the same format; integers and floats are converted to it if that is exact:
 
 >>> half(1) + single(1)
@@ -78,9 +83,11 @@ from typing import Any, Callable, Generic, Iterable, Iterator, Self, Sequence, T
 
 __all__ = [
     'Array', 'Context', 'DOWNWARD', 'Flags', 'Format', 'Machine', 'Mask', 'NEAREST_AWAY', 'NEAREST_EVEN', 'Refused',
-    'Rounding', 'TOWARD_ZERO', 'UPWARD', 'Value', 'bfloat', 'bfloat16', 'context', 'double', 'double_pair', 'e4m3',
-    'e4m3b11fnuz', 'e4m3fn', 'e4m3fnuz', 'e5m2', 'e5m2fnuz', 'float8_e4m3', 'float8_e4m3b11fnuz', 'float8_e4m3fn',
-    'float8_e4m3fnuz', 'float8_e5m2', 'float8_e5m2fnuz', 'half', 'machine', 'quad', 'single', 'tf32', 'x87',
+    'Rounding', 'StorageFormat', 'StoredArray', 'TOWARD_ZERO', 'UPWARD', 'Value', 'bfloat', 'bfloat16', 'context',
+    'double', 'double_pair', 'e4m3', 'e4m3b11fnuz', 'e4m3fn', 'e4m3fnuz', 'e5m2', 'e5m2fnuz', 'float4_e2m1fn',
+    'float6_e2m3fn', 'float6_e3m2fn', 'float8_e3m4', 'float8_e4m3', 'float8_e4m3b11fnuz', 'float8_e4m3fn',
+    'float8_e4m3fnuz', 'float8_e5m2', 'float8_e5m2fnuz', 'float8_e8m0fnu', 'half', 'machine', 'quad', 'single', 'tf32',
+    'ue4m3', 'x87',
 ]
 
 
@@ -492,6 +499,9 @@ class Format:
         # Three bytes are four.
         return 4 if self.width == 19 else -(-self.width // 8)
 
+    def _made(self, data: bytes, counts: dict[str, int], shape: tuple[int, ...]) -> Array:
+        return Array(self, data, counts, shape)
+
     def _joined(self, values: Iterable[int]) -> bytes:
         """The bytes of values, given by their bits."""
         return b''.join(bits.to_bytes(self._bytes, 'little') for bits in values)
@@ -522,7 +532,10 @@ class Format:
         half.array(['1.0'])
         """
         if hasattr(of, '__array_interface__'):
-            of = _of_numpy(of, self)
+            stored = _stored_of(of.dtype)
+            of = stored.array(of) if stored else _of_numpy(of, self)
+        if isinstance(of, StoredArray):
+            return of.to(self, saturate)
         if isinstance(of, Array):
             return Array(self, of._data, shape=of.shape) if of.format is self else of.to(self, saturate)
         if isinstance(of, (bytes, bytearray, memoryview)):
@@ -584,6 +597,88 @@ def _nested(of: Any) -> tuple[tuple[int, ...], list[Any]]:
     return (len(parts), *inner), [item for _, items in parts for item in items]
 
 
+class StorageFormat:
+    """A format whose values are only stored and converted, in arrays of one value a byte.
+
+    Operations on them are those of another format: `single` has all their numbers. docs/STORAGE_FORMATS.md says what
+    becomes of a number that a format does not have.
+
+    >>> float6_e3m2fn, float6_e3m2fn.code, float6_e3m2fn.width
+    (float6_e3m2fn, 34, 6)
+    """
+
+    # A value takes a byte.
+    _bytes = 1
+
+    def __init__(self, name: str, code: int, width: int) -> None:
+        self.name, self.code, self.width = name, code, width
+
+    def __repr__(self) -> str:
+        return self.name
+
+    def __reduce__(self) -> str:
+        return self.name
+
+    def _made(self, data: bytes, counts: dict[str, int], shape: tuple[int, ...]) -> StoredArray:
+        return StoredArray(self, data, counts, shape)
+
+    def from_bits(self, bits: Any) -> StoredArray:
+        """The array with these bits, of nested lists or a numpy array of integers.
+
+        >>> float4_e2m1fn.from_bits([[0, 1], [7, 15]])
+        float4_e2m1fn.array([[0.0, 0.5], [6.0, -6.0]])
+        """
+        if hasattr(bits, '__array_interface__'):
+            if bits.dtype == 'uint8' and not (self.width < 8 and (bits >> self.width).any()):
+                return StoredArray(self, bits.tobytes(), shape=bits.shape)
+            bits = bits.tolist()
+        shape, items = _nested(bits)
+        items = [operator.index(item) for item in items]
+        if any(not 0 <= item < 1 << self.width for item in items):
+            raise ValueError(f'{self.name} has {self.width} bits')
+        return StoredArray(self, bytes(items), shape=shape)
+
+    def array(self, of: Any, saturate: bool | str = False) -> StoredArray:
+        """An array of the items of nested lists, an array or a numpy array, each rounded once, in the mode of the
+        context.
+
+        The items of lists are numbers that `quad` has: floats, integers, values. The flags are added to those of the
+        context, and the `counts` of the array say how many values raised each. With `saturate`, a number that overflows
+        gives the largest one of its sign, as in the formats without infinities in any case; with `saturate='finite'` an
+        infinity does too, and with `saturate='all'` a NaN gives the largest number.
+
+        >>> xs = float8_e3m4.array([[0.1, 1000], [-3, float('inf')]], saturate=True)
+        >>> xs.bits if isinstance(xs.bits, list) else xs.bits.tolist()
+        [[6, 111], [200, 112]]
+        >>> xs.counts['inexact'], xs.counts['overflow']
+        (2, 1)
+
+        Of bytes, and of a numpy array of uint8, the elements are the bits of values, and those of a type of ml_dtypes
+        with the format's name are taken as they are.
+        """
+        if isinstance(of, (bytes, bytearray, memoryview)):
+            return StoredArray(self, bytes(of))
+        if hasattr(of, '__array_interface__'):
+            stored = _stored_of(of.dtype)
+            if stored:
+                of = StoredArray(stored, of.tobytes(), shape=of.shape)
+            elif of.dtype == 'uint8':
+                return self.from_bits(of)
+            else:
+                of = _of_numpy(of, quad)
+        if isinstance(of, StoredArray):
+            return of if of.format is self else of.to(single).to(self, saturate)
+        if not isinstance(of, Array):
+            shape, items = _nested(of)
+            if all(type(item) is float for item in items):
+                of = double.array(items).reshape(shape)
+            else:
+                of = _quads(of)
+        if of is NotImplemented:
+            raise TypeError(f'{self} makes arrays of numbers alone')
+        return of.to(self, saturate)
+
+
 # ---- numpy
 
 # The numpy elements that values of a format are, by its code: numbers, or their bits.
@@ -597,6 +692,11 @@ def _format_of(dtype: Any) -> Format | None:
         'float8_e4m3fn': e4m3fn, 'float8_e4m3fnuz': e4m3fnuz, 'float8_e4m3': e4m3,
         'float8_e5m2fnuz': e5m2fnuz, 'float8_e4m3b11fnuz': e4m3b11fnuz,
     }.get(dtype.name)
+
+
+def _stored_of(dtype: Any) -> StorageFormat | None:
+    """The storage format of the numbers of a type of ml_dtypes, if there is one here."""
+    return {each.name: each for each in _STORED}.get(dtype.name)
 
 
 def _of_numpy(of: Any, format: Format) -> Array:
@@ -1618,6 +1718,9 @@ class Array(_Elements, _Arithmetic[Any]):
             made = numpy.empty(self.size, object)
             made[:] = list(map(self._element, self._items()))
             return made.reshape(self.shape)
+        stored = _stored_of(wanted)
+        if stored:
+            return self._exactly(stored).__array__(wanted)
         exact = self._exactly(_named(wanted))
         if copy is False and exact is not self:
             raise ValueError(f'values of {self.format} become {wanted} by a copy')
@@ -1626,7 +1729,7 @@ class Array(_Elements, _Arithmetic[Any]):
         held = held.reshape(self.shape)
         return held.astype(wanted, copy=False) if elements[0] == 'f' else held.view(wanted)
 
-    def _exactly(self, format: Format) -> Array:
+    def _exactly(self, format: Any) -> Any:
         """The same values in another format, which has to have all of them."""
         if format is self.format._plain:
             return self
@@ -1638,8 +1741,11 @@ class Array(_Elements, _Arithmetic[Any]):
             source = parts[:, 0].reshape(self.shape)
         with Context() as exact:
             made = source if source.format is format else source.to(format)
-        if exact.inexact:
-            raise ValueError(f"{made.counts['inexact']} of {self.size} values are no values of {format}")
+        lost = made.counts['inexact'] if made.counts else 0
+        if isinstance(made, StoredArray):
+            lost += made.counts['invalid_op']
+        if lost:
+            raise ValueError(f'{lost} of {self.size} values are no values of {format}')
         return made
 
     def __repr__(self) -> str:
@@ -1770,7 +1876,13 @@ class Array(_Elements, _Arithmetic[Any]):
     def __ge__(self, other: Any) -> Mask:
         return self._compared(_GREATER + _EQUAL, other)
 
-    def to(self, format: Format, saturate: bool | str = False) -> Array:
+    @overload
+    def to(self, format: Format, saturate: bool | str = False) -> Array: ...
+
+    @overload
+    def to(self, format: StorageFormat, saturate: bool | str = False) -> StoredArray: ...
+
+    def to(self, format: Any, saturate: bool | str = False) -> Any:
         """The values in another format. With `saturate`, a number that overflows gives the largest one of its sign.
         With `saturate='finite'` an infinity does too, and with `saturate='all'` a NaN gives the largest one, as in
         `Format.array`.
@@ -1781,11 +1893,7 @@ class Array(_Elements, _Arithmetic[Any]):
         >>> xs.to(e4m3fn, saturate=True).counts['overflow']
         2
         """
-        if not isinstance(format, Format):
-            raise TypeError(f'{format!r} is no format')
-        mode = context().mode | _saturation(saturate)
-        return _array_call('convert_array', self.format.code, mode, format.code, self._data, len(self._data),
-                           of=format, shape=self.shape)
+        return _converted_to(self, format, saturate)
 
     def astype(self, of: Any, saturate: bool | str = False) -> Any:
         """The values in another format, as `to` makes them; for a type of numpy, as a numpy array of that type.
@@ -1794,10 +1902,110 @@ class Array(_Elements, _Arithmetic[Any]):
         >>> xs.astype(e4m3fn), xs.astype(e4m3fn).counts['inexact']
         (e4m3fn.array(['0.1', '448.0']), 1)
         """
+        if isinstance(of, (Format, StorageFormat)):
+            return self.to(of, saturate)
+        import numpy
+        dtype = numpy.dtype(of)
+        return numpy.asarray(self.to(_stored_of(dtype) or _named(dtype), saturate), of)
+
+
+class StoredArray(_Elements):
+    """Values of a storage format in any number of axes. Its elements are given as values of `single`.
+
+    >>> xs = float4_e2m1fn.array([[1, 0.7], [-5, 1000]])
+    >>> xs, xs[0, 0], xs.to(half) + 1
+    (float4_e2m1fn.array([[1.0, 0.5], [-4.0, 6.0]]), single('1.0'), half.array([['2.0', '1.5'], ['-3.0', '7.0']]))
+    """
+
+    __slots__ = ('format', 'counts')
+
+    format: StorageFormat
+    counts: Any
+
+    def __init__(self, format: StorageFormat, data: bytes, counts: dict[str, int] | None = None,
+                 shape: tuple[int, ...] | None = None) -> None:
+        # The bits above those of the format are ignored.
+        mask = (1 << format.width) - 1
+        self.format, self.counts = format, counts
+        self._reshaped(bytes(code & mask for code in data) if mask < 255 else data, shape)
+
+    def __reduce__(self) -> tuple[Any, ...]:
+        return StoredArray, (self.format, self._data, self.counts, self.shape)
+
+    @property
+    def _width(self) -> int:
+        return 1
+
+    def _like(self, data: bytes, shape: tuple[int, ...]) -> StoredArray:
+        return StoredArray(self.format, data, shape=shape)
+
+    def _element(self, data: bytes) -> Value:
+        with Context():
+            return StoredArray(self.format, data).to(single)[0]
+
+    @property
+    def bits(self) -> Any:
+        """The bits of the values, as a numpy array of uint8; without numpy, as nested lists."""
+        try:
+            import numpy
+        except ImportError:
+            return self._listed(self._data)
+        return numpy.frombuffer(self._data, 'u1').reshape(self.shape)
+
+    def __bytes__(self) -> bytes:
+        """The bits of the values, one value a byte."""
+        return self._data
+
+    def __array__(self, dtype: Any = None, copy: bool | None = None) -> Any:
+        """The values for numpy, in the shape of the array.
+
+        With the type of ml_dtypes that has the format's name they are its elements, with any other type of numbers they
+        are the numbers, as those of an `Array`, and without a type they are `bits`.
+        """
+        import numpy
+        if dtype is None:
+            return self.bits.copy() if copy else self.bits
+        wanted = numpy.dtype(dtype)
+        if wanted.name == self.format.name:
+            return numpy.frombuffer(bytearray(self._data), 'u1').reshape(self.shape).view(wanted)
+        with Context():
+            numbers = self.to(single)
+        return numpy.asarray(numbers, wanted)
+
+    def __repr__(self) -> str:
+        """The format and numbers, or else bits, that it makes these values of."""
+        with Context():
+            numbers = [float(value) for value in self.to(single).reshape(-1)]
+        made, listed = 'array', self._listed(numbers)
+        if not all(map(math.isfinite, numbers)):
+            made, listed = 'from_bits', self._listed(self._data)
+        shape = f'.reshape{self.shape}' if 0 in self.shape[:-1] else ''
+        return f'{self.format}.{made}({listed!r}){shape}'
+
+    def to(self, format: Format, saturate: bool | str = False) -> Array:
+        """The values in another format, rounded once. `single` has each number of a storage format.
+
+        >>> float8_e8m0fnu.from_bits([0, 127, 254, 255]).to(bfloat)
+        bfloat.array(['5.9e-39', '1.0', '1.7e38', 'nan'])
+        """
+        return _converted_to(self, format, saturate)
+
+    def astype(self, of: Any, saturate: bool | str = False) -> Any:
+        """The values in another format, as `to` makes them; for a type of numpy, as a numpy array of that type."""
         if isinstance(of, Format):
             return self.to(of, saturate)
         import numpy
         return numpy.asarray(self.to(_named(numpy.dtype(of)), saturate), of)
+
+
+def _converted_to(values: Any, format: Any, saturate: bool | str) -> Any:
+    """The values of an array in another format, of which one may be a storage format."""
+    if not isinstance(format, (Format, StorageFormat)):
+        raise TypeError(f'{format!r} is no format')
+    mode = context().mode | _saturation(saturate)
+    data = bytes(values)
+    return _array_call('convert_array', values.format.code, mode, format.code, data, len(data), of=format,
+                       shape=values.shape)
 
 
 def _saturation(saturate: bool | str) -> int:
@@ -1828,14 +2036,14 @@ def _named(dtype: Any) -> Format:
     return format
 
 
-def _array_call(name: str, *arguments: Any, of: Format, shape: tuple[int, ...]) -> Array:
+def _array_call(name: str, *arguments: Any, of: Any, shape: tuple[int, ...]) -> Any:
     length = math.prod(shape) * of._bytes
     room, answer = ctypes.create_string_buffer(max(length, 1)), _ArrayAnswer()
     code = getattr(_functions, 'apfloat_' + name)(*arguments, room, length, ctypes.byref(answer))
     if code:
         raise Refused(code)
     context().flags |= Flags(answer.status)
-    return Array(of, room.raw[:length], {name: getattr(answer, name) for name in _COUNTED}, shape)
+    return of._made(room.raw[:length], {name: getattr(answer, name) for name in _COUNTED}, shape)
 
 
 # ---- shapes
@@ -2039,6 +2247,15 @@ e4m3 = Format('e4m3', 16, 8, 4, 4)
 e5m2fnuz = Format('e5m2fnuz', 17, 8, 3, 5)
 e4m3b11fnuz = Format('e4m3b11fnuz', 18, 8, 4, 4)
 tf32 = Format('tf32', 19, 19, 11, 8)
+
+# Storage formats have the names of ml_dtypes, which lacks the last one.
+float4_e2m1fn = StorageFormat('float4_e2m1fn', 32, 4)
+float6_e2m3fn = StorageFormat('float6_e2m3fn', 33, 6)
+float6_e3m2fn = StorageFormat('float6_e3m2fn', 34, 6)
+float8_e3m4 = StorageFormat('float8_e3m4', 35, 8)
+float8_e8m0fnu = StorageFormat('float8_e8m0fnu', 48, 8)
+ue4m3 = StorageFormat('ue4m3', 49, 7)
+_STORED = (float4_e2m1fn, float6_e2m3fn, float6_e3m2fn, float8_e3m4, float8_e8m0fnu, ue4m3)
 
 # The formats without -0, whose NaN is there.
 _WITHOUT_NEGATIVE_ZERO = (e4m3fnuz, e5m2fnuz, e4m3b11fnuz)

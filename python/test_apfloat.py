@@ -911,8 +911,6 @@ class ArrayTests(unittest.TestCase):
             Context(mode=7)
         with self.assertRaises(apfloat.Refused):
             apfloat.double_pair.array([1]).to(apfloat.half)
-        with self.assertRaises(AttributeError):
-            apfloat.float8_e3m4
         # The texts that include/apfloat.h has for the codes.
         texts = ['unknown format', 'unknown rounding mode', 'the format does not have the operation',
                  'an integer cannot have this width', 'the text was refused', 'wrong length of an array',
@@ -930,6 +928,93 @@ class ArrayTests(unittest.TestCase):
         self.assertIs(apfloat.float8_e4m3, apfloat.e4m3)
         self.assertIs(apfloat.float8_e5m2fnuz, apfloat.e5m2fnuz)
         self.assertIs(apfloat.float8_e4m3b11fnuz, apfloat.e4m3b11fnuz)
+
+
+class StoredTests(unittest.TestCase):
+    """Arrays of storage formats."""
+
+    STORED = (apfloat.float4_e2m1fn, apfloat.float6_e2m3fn, apfloat.float6_e3m2fn, apfloat.float8_e3m4,
+              apfloat.float8_e8m0fnu, apfloat.ue4m3)
+
+    def test_each_code_comes_back(self):
+        for format in self.STORED:
+            every = format.from_bits(range(1 << format.width))
+            with Context() as context:
+                for wide in apfloat.single, apfloat.bfloat, apfloat.double, apfloat.quad:
+                    back = format.array(every.to(wide))
+                    lost = [code for code, other in enumerate(bytes(back)) if code != other]
+                    # Signaling NaNs become quiet.
+                    self.assertEqual(lost, [0x71 + n + sign for sign in (0, 0x80) for n in range(7)]
+                                     if format is apfloat.float8_e3m4 else [])
+            self.assertEqual(context.inexact, False)
+
+    def test_numbers(self):
+        numbers = [[0.7, -5.0], [1000.0, -0.0]]
+        codes = apfloat.float4_e2m1fn.array(numbers)
+        self.assertEqual(bytes(codes), bytes([1, 14, 7, 8]))
+        self.assertEqual((codes.shape, codes.counts['inexact'], codes.counts['overflow']), ((2, 2), 3, 1))
+        self.assertEqual(repr(codes), 'float4_e2m1fn.array([[0.5, -4.0], [6.0, -0.0]])')
+        self.assertEqual(bytes(eval(repr(codes), vars(apfloat))), bytes(codes))
+        self.assertEqual(bytes(codes[1]), bytes([7, 8]))
+        self.assertEqual((codes[0, 0].format, codes[0, 0]), (apfloat.single, 0.5))
+        self.assertEqual(codes.reshape(-1).tolist(), [0.5, -4, 6, 0])
+        self.assertEqual(bytes(pickle.loads(pickle.dumps(codes))), bytes(codes))
+        with Context(mode=apfloat.UPWARD) as context:
+            self.assertEqual(bytes(apfloat.float4_e2m1fn.array([apfloat.half(0.7), 1, 0.25])), bytes([2, 2, 1]))
+        self.assertEqual(context.flags, apfloat.Flags.INEXACT | apfloat.Flags.UNDERFLOW)
+        self.assertEqual(bytes(apfloat.float8_e8m0fnu.array(codes.to(apfloat.half) * 2)), bytes([127, 255, 130, 0]))
+        self.assertEqual(bytes(apfloat.float6_e3m2fn.array(codes)), bytes([8, 52, 22, 32]))
+
+    def test_saturation(self):
+        beyond = [1000.0, math.inf, -math.inf, math.nan]
+        for saturate, codes in (False, [0x70, 0x70, 0xf0, 0x78]), (True, [0x6f, 0x70, 0xf0, 0x78]), \
+                ('finite', [0x6f, 0x6f, 0xef, 0x78]), ('all', [0x6f, 0x6f, 0xef, 0x6f]):
+            self.assertEqual(list(bytes(apfloat.float8_e3m4.array(beyond, saturate))), codes)
+            self.assertEqual(list(bytes(apfloat.double.array(beyond).to(apfloat.float8_e3m4, saturate))), codes)
+        made = apfloat.float8_e3m4.array(beyond)
+        self.assertEqual(repr(made), 'float8_e3m4.from_bits([112, 112, 240, 120])')
+        self.assertEqual(made.to(apfloat.e4m3fn, saturate='finite').counts['nans'], 1)
+        self.assertEqual(apfloat.e4m3fn.array(made).counts['nans'], 4)
+
+    def test_refused(self):
+        with self.assertRaises(ValueError):
+            apfloat.float4_e2m1fn.from_bits([16])
+        with self.assertRaises(TypeError):
+            apfloat.float4_e2m1fn.array(['0.1'])
+        with self.assertRaises(TypeError):
+            apfloat.single.array([1]).to(32)
+        with self.assertRaises(ValueError):
+            apfloat.float4_e2m1fn.array([1.0], saturate='some')
+        with self.assertRaises(apfloat.Refused):
+            apfloat.float4_e2m1fn.from_bits([1]).to(apfloat.ue4m3)
+
+    @unittest.skipUnless(numpy, 'there is no numpy')
+    def test_numpy(self):
+        tensor = numpy.array([[0.7, -5], [1000, -0.0]], numpy.float32)
+        codes = apfloat.float4_e2m1fn.array(tensor, saturate=True)
+        self.assertEqual(numpy.asarray(codes).dtype, numpy.uint8)
+        self.assertEqual(numpy.asarray(codes).tolist(), [[1, 14], [7, 8]])
+        self.assertEqual(numpy.asarray(codes, numpy.float32).tolist(), [[0.5, -4], [6, 0]])
+        self.assertEqual(bytes(apfloat.float4_e2m1fn.array(codes.bits)), bytes(codes))
+        self.assertEqual(bytes(apfloat.float4_e2m1fn.from_bits(codes.bits)), bytes(codes))
+        with self.assertRaises(ValueError):
+            apfloat.float4_e2m1fn.array(numpy.array([16], numpy.uint8))
+        with self.assertRaises(TypeError):
+            apfloat.float4_e2m1fn.array(numpy.array([1], numpy.uint16))
+        self.assertEqual(bytes(apfloat.float8_e8m0fnu.array(numpy.arange(1, 5))), bytes([127, 128, 128, 129]))
+
+    @unittest.skipUnless(numpy and ml_dtypes, 'there is no ml_dtypes')
+    def test_ml_dtypes(self):
+        for format in self.STORED[:-1]:
+            dtype = numpy.dtype(getattr(ml_dtypes, format.name))
+            made = numpy.array([[1, 2], [4, 0.5]], numpy.float32).astype(dtype)
+            codes = format.array(made)
+            self.assertEqual(codes.to(apfloat.single).tolist(), [[1, 2], [4, 0.5]])
+            self.assertEqual(numpy.asarray(codes, dtype).astype(float).tolist(), [[1, 2], [4, 0.5]])
+            self.assertEqual(apfloat.half.array(made).tolist(), [[1, 2], [4, 0.5]])
+            self.assertEqual(apfloat.half.array([1, 2]).astype(dtype).astype(float).tolist(), [1, 2])
+            with self.assertRaises(ValueError):
+                numpy.asarray(apfloat.single.array([0.1]), dtype)
 
 
 def integers(xs):

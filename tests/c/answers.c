@@ -55,6 +55,12 @@ static uint32_t draw_format(void) {
                : format | flags[below(4)];
 }
 
+static uint32_t draw_stored(void) {
+    static const uint32_t stored[] = {APFLOAT_E2M1FN, APFLOAT_E2M3FN,  APFLOAT_E3M2FN,
+                                      APFLOAT_E3M4,   APFLOAT_E8M0FNU, APFLOAT_UE4M3};
+    return stored[below(6)];
+}
+
 static uint32_t draw_mode(void) {
     return below(16) == 0 ? (uint32_t)draw() >> below(32) : below(5);
 }
@@ -194,6 +200,7 @@ static void call_on_arrays(uint32_t kind) {
     size_t lengths[3];
     apfloat_array_answer answer;
     uint32_t format = draw_format(), mode = draw_mode(), to = draw_format(), operation = below(10);
+    if (kind == 0 && below(4) == 0) *(below(2) ? &format : &to) = draw_stored();
     uint32_t known = known_format(format), bytes = (bits_of[known] + 7) / 8;
     uint32_t width = known == 0 ? 1 : bytes == 3 ? 4 : bytes;
     uint32_t most = below(64 / width + 1);

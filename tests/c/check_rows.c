@@ -439,6 +439,114 @@ static unsigned saturated(void) {
     return count;
 }
 
+/* 0.75, -5, 1000, -1000, both infinities, a signaling NaN, 464, the largest value of binary32, and -0, each in
+ * binary32, and their conversions to storage formats, to nearest, as the classes of evidence/storage_formats.py and
+ * evidence/e3m4.py compute them. */
+static const uint32_t stored[] = {0x3f400000, 0xc0a00000, 0x447a0000, 0xc47a0000, 0x7f800000,
+                                  0xff800000, 0x7f800001, 0x43e80000, 0x7f7fffff, 0x80000000};
+static const struct storing {
+    uint32_t asked, to;
+    uint8_t codes[COUNT(stored)];
+    apfloat_array_answer answer;
+} storings[] = {
+    {0, APFLOAT_E2M1FN, {0x02, 0x0e, 0x07, 0x0f, 0x07, 0x0f, 0x00, 0x07, 0x07, 0x08},
+     {10, 6, 0, 4, 0, 3, 0, 0x15, 0}},
+    {0, APFLOAT_E2M3FN, {0x06, 0x3a, 0x1f, 0x3f, 0x1f, 0x3f, 0x00, 0x1f, 0x1f, 0x20},
+     {10, 4, 0, 4, 0, 3, 0, 0x15, 0}},
+    {0, APFLOAT_E3M2FN, {0x0a, 0x35, 0x1f, 0x3f, 0x1f, 0x3f, 0x00, 0x1f, 0x1f, 0x20},
+     {10, 4, 0, 4, 0, 3, 0, 0x15, 0}},
+    {0, APFLOAT_E3M4, {0x28, 0xd4, 0x70, 0xf0, 0x70, 0xf0, 0x78, 0x70, 0x70, 0x80},
+     {10, 4, 0, 4, 0, 1, 1, 0x15, 0}},
+    {0, APFLOAT_E8M0FNU, {0x7e, 0xff, 0x89, 0xff, 0xff, 0xff, 0xff, 0x88, 0xff, 0x00},
+     {10, 6, 1, 1, 0, 4, 6, 0x1d, 0}},
+    {0, APFLOAT_UE4M3, {0x34, 0x7f, 0x7f, 0x7f, 0x7f, 0x7f, 0x7f, 0x7e, 0x7f, 0x00},
+     {10, 5, 0, 2, 0, 4, 7, 0x15, 0}},
+    {APFLOAT_SATURATE, APFLOAT_E2M1FN, {0x02, 0x0e, 0x07, 0x0f, 0x07, 0x0f, 0x00, 0x07, 0x07, 0x08},
+     {10, 6, 0, 4, 0, 3, 0, 0x15, 0}},
+    {APFLOAT_SATURATE, APFLOAT_E2M3FN, {0x06, 0x3a, 0x1f, 0x3f, 0x1f, 0x3f, 0x00, 0x1f, 0x1f, 0x20},
+     {10, 4, 0, 4, 0, 3, 0, 0x15, 0}},
+    {APFLOAT_SATURATE, APFLOAT_E3M2FN, {0x0a, 0x35, 0x1f, 0x3f, 0x1f, 0x3f, 0x00, 0x1f, 0x1f, 0x20},
+     {10, 4, 0, 4, 0, 3, 0, 0x15, 0}},
+    {APFLOAT_SATURATE, APFLOAT_E3M4, {0x28, 0xd4, 0x6f, 0xef, 0x70, 0xf0, 0x78, 0x6f, 0x6f, 0x80},
+     {10, 4, 0, 4, 0, 1, 1, 0x15, 0}},
+    {APFLOAT_SATURATE, APFLOAT_E8M0FNU, {0x7e, 0xff, 0x89, 0xff, 0xff, 0xff, 0xff, 0x88, 0xfe, 0x00},
+     {10, 6, 1, 1, 0, 4, 5, 0x1d, 0}},
+    {APFLOAT_SATURATE, APFLOAT_UE4M3, {0x34, 0x7f, 0x7e, 0x7f, 0x7f, 0x7f, 0x7f, 0x7e, 0x7e, 0x00},
+     {10, 5, 0, 2, 0, 4, 5, 0x15, 0}},
+    {APFLOAT_SATURATE_FINITE, APFLOAT_E2M1FN, {0x02, 0x0e, 0x07, 0x0f, 0x07, 0x0f, 0x00, 0x07, 0x07, 0x08},
+     {10, 6, 0, 4, 0, 3, 0, 0x15, 0}},
+    {APFLOAT_SATURATE_FINITE, APFLOAT_E2M3FN, {0x06, 0x3a, 0x1f, 0x3f, 0x1f, 0x3f, 0x00, 0x1f, 0x1f, 0x20},
+     {10, 4, 0, 4, 0, 3, 0, 0x15, 0}},
+    {APFLOAT_SATURATE_FINITE, APFLOAT_E3M2FN, {0x0a, 0x35, 0x1f, 0x3f, 0x1f, 0x3f, 0x00, 0x1f, 0x1f, 0x20},
+     {10, 4, 0, 4, 0, 3, 0, 0x15, 0}},
+    {APFLOAT_SATURATE_FINITE, APFLOAT_E3M4, {0x28, 0xd4, 0x6f, 0xef, 0x6f, 0xef, 0x78, 0x6f, 0x6f, 0x80},
+     {10, 6, 0, 4, 0, 1, 1, 0x15, 0}},
+    {APFLOAT_SATURATE_FINITE, APFLOAT_E8M0FNU, {0x7e, 0xff, 0x89, 0xff, 0xfe, 0xff, 0xff, 0x88, 0xfe, 0x00},
+     {10, 6, 1, 1, 0, 4, 4, 0x1d, 0}},
+    {APFLOAT_SATURATE_FINITE, APFLOAT_UE4M3, {0x34, 0x7f, 0x7e, 0x7f, 0x7e, 0x7f, 0x7f, 0x7e, 0x7e, 0x00},
+     {10, 5, 0, 2, 0, 4, 4, 0x15, 0}},
+    {APFLOAT_SATURATE_ALL, APFLOAT_E2M1FN, {0x02, 0x0e, 0x07, 0x0f, 0x07, 0x0f, 0x07, 0x07, 0x07, 0x08},
+     {10, 6, 0, 4, 0, 3, 0, 0x15, 0}},
+    {APFLOAT_SATURATE_ALL, APFLOAT_E2M3FN, {0x06, 0x3a, 0x1f, 0x3f, 0x1f, 0x3f, 0x1f, 0x1f, 0x1f, 0x20},
+     {10, 4, 0, 4, 0, 3, 0, 0x15, 0}},
+    {APFLOAT_SATURATE_ALL, APFLOAT_E3M2FN, {0x0a, 0x35, 0x1f, 0x3f, 0x1f, 0x3f, 0x1f, 0x1f, 0x1f, 0x20},
+     {10, 4, 0, 4, 0, 3, 0, 0x15, 0}},
+    {APFLOAT_SATURATE_ALL, APFLOAT_E3M4, {0x28, 0xd4, 0x6f, 0xef, 0x6f, 0xef, 0x6f, 0x6f, 0x6f, 0x80},
+     {10, 6, 0, 4, 0, 1, 0, 0x15, 0}},
+    {APFLOAT_SATURATE_ALL, APFLOAT_E8M0FNU, {0x7e, 0xff, 0x89, 0xff, 0xfe, 0xff, 0xfe, 0x88, 0xfe, 0x00},
+     {10, 6, 1, 1, 0, 4, 3, 0x1d, 0}},
+    {APFLOAT_SATURATE_ALL, APFLOAT_UE4M3, {0x34, 0x7f, 0x7e, 0x7f, 0x7e, 0x7f, 0x7e, 0x7e, 0x7e, 0x00},
+     {10, 5, 0, 2, 0, 4, 3, 0x15, 0}}};
+
+/* Some codes of each storage format in binary32, which raise no flag. The formats with fewer bits ignore the others. */
+static const uint8_t codes_loaded[] = {0, 1, 3, 7, 8, 15, 31, 46, 63, 112, 126, 127, 128, 200, 254, 255};
+static const struct loading {
+    uint32_t format, results[COUNT(codes_loaded)];
+} loadings[] = {
+    {APFLOAT_E2M1FN,
+     {0x00000000, 0x3f000000, 0x3fc00000, 0x40c00000, 0x80000000, 0xc0c00000, 0xc0c00000, 0xc0800000,
+      0xc0c00000, 0x00000000, 0xc0800000, 0xc0c00000, 0x00000000, 0x80000000, 0xc0800000, 0xc0c00000}},
+    {APFLOAT_E2M3FN,
+     {0x00000000, 0x3e000000, 0x3ec00000, 0x3f600000, 0x3f800000, 0x3ff00000, 0x40f00000, 0xbfe00000,
+      0xc0f00000, 0xc0000000, 0xc0e00000, 0xc0f00000, 0x00000000, 0x3f800000, 0xc0e00000, 0xc0f00000}},
+    {APFLOAT_E3M2FN,
+     {0x00000000, 0x3d800000, 0x3e400000, 0x3ee00000, 0x3f000000, 0x3fe00000, 0x41e00000, 0xbfc00000,
+      0xc1e00000, 0xc0000000, 0xc1c00000, 0xc1e00000, 0x00000000, 0x3f000000, 0xc1c00000, 0xc1e00000}},
+    {APFLOAT_E3M4,
+     {0x00000000, 0x3c800000, 0x3d400000, 0x3de00000, 0x3e000000, 0x3e700000, 0x3ef80000, 0x3f700000,
+      0x3ff80000, 0x7f800000, 0x7ff00000, 0x7ff80000, 0x80000000, 0xc0400000, 0xfff00000, 0xfff80000}},
+    {APFLOAT_E8M0FNU,
+     {0x00400000, 0x00800000, 0x01800000, 0x03800000, 0x04000000, 0x07800000, 0x0f800000, 0x17000000,
+      0x1f800000, 0x38000000, 0x3f000000, 0x3f800000, 0x40000000, 0x64000000, 0x7f000000, 0x7fc00000}},
+    {APFLOAT_UE4M3,
+     {0x00000000, 0x3b000000, 0x3bc00000, 0x3c600000, 0x3c800000, 0x3cf00000, 0x3df00000, 0x3ee00000,
+      0x3ff00000, 0x43000000, 0x43e00000, 0x7ff00000, 0x00000000, 0x40800000, 0x43e00000, 0x7ff00000}}};
+
+/* How many conversions into storage formats and out of them agree. */
+static unsigned stored_and_loaded(void) {
+    unsigned count = 0;
+    uint8_t values[sizeof stored], codes[COUNT(stored) + 1], results[4 * COUNT(codes_loaded)], wanted[sizeof results];
+    apfloat_array_answer answer;
+    for (size_t i = 0; i < COUNT(stored); i++) put(values, 4, i, (apfloat_halves){stored[i], 0});
+    for (size_t i = 0; i < COUNT(storings); i++) {
+        const struct storing *s = &storings[i];
+        codes[COUNT(stored)] = 0xa5;
+        uint32_t code = apfloat_convert_array(APFLOAT_SINGLE, APFLOAT_NEAREST_EVEN | s->asked, s->to, values,
+                                              sizeof values, codes, sizeof codes, &answer);
+        if (code == APFLOAT_ANSWERED && memcmp(codes, s->codes, sizeof s->codes) == 0 &&
+            codes[COUNT(stored)] == 0xa5 && memcmp(&answer, &s->answer, sizeof answer) == 0) count++;
+    }
+    for (size_t i = 0; i < COUNT(loadings); i++) {
+        const struct loading *l = &loadings[i];
+        for (size_t n = 0; n < COUNT(codes_loaded); n++) put(wanted, 4, n, (apfloat_halves){l->results[n], 0});
+        uint32_t code = apfloat_convert_array(l->format, APFLOAT_TOWARD_ZERO, APFLOAT_SINGLE, codes_loaded,
+                                              sizeof codes_loaded, results, sizeof results, &answer);
+        if (code == APFLOAT_ANSWERED && memcmp(results, wanted, sizeof results) == 0 && answer.status == 0 &&
+            answer.values == COUNT(codes_loaded)) count++;
+    }
+    return count;
+}
+
 /* The errors of calls on arrays, each of which leaves the results and the answer as they were. */
 static unsigned array_refusals(void) {
     static const uint8_t bytes[16] = {0};
@@ -459,6 +567,18 @@ static unsigned array_refusals(void) {
         {CONVERT(1, 0, 0, 2, 2), APFLOAT_UNKNOWN_FORMAT},
         {CONVERT(APFLOAT_DOUBLE_PAIR, 0, 1, 16, 16), APFLOAT_NO_SUCH_OPERATION},
         {CONVERT(1, 0, APFLOAT_DOUBLE_PAIR, 2, 16), APFLOAT_NO_SUCH_OPERATION},
+        {CONVERT(APFLOAT_E2M1FN, 0, APFLOAT_E8M0FNU, 2, 2), APFLOAT_NO_SUCH_OPERATION},
+        {CONVERT(APFLOAT_E3M4, 0, APFLOAT_DOUBLE_PAIR, 2, 32), APFLOAT_NO_SUCH_OPERATION},
+        {CONVERT(APFLOAT_DOUBLE_PAIR, 0, APFLOAT_UE4M3, 16, 1), APFLOAT_NO_SUCH_OPERATION},
+        {CONVERT(APFLOAT_E3M4 + 1, 0, 1, 2, 16), APFLOAT_UNKNOWN_FORMAT},
+        {CONVERT(APFLOAT_E8M0FNU - 1, 0, 1, 2, 16), APFLOAT_UNKNOWN_FORMAT},
+        {CONVERT(APFLOAT_E2M1FN | APFLOAT_IEEE_FLAGS, 0, 1, 2, 16), APFLOAT_UNKNOWN_FORMAT},
+        {CONVERT(1, 0, APFLOAT_UE4M3 + 1, 2, 16), APFLOAT_UNKNOWN_FORMAT},
+        {CONVERT(APFLOAT_E2M1FN, 5, 0, 2, 2), APFLOAT_UNKNOWN_MODE},
+        {CONVERT(APFLOAT_E2M1FN, 0, 0, 2, 2), APFLOAT_UNKNOWN_FORMAT},
+        {CONVERT(APFLOAT_SINGLE, 0, APFLOAT_E2M1FN, 6, 16), APFLOAT_WRONG_LENGTH},
+        {CONVERT(APFLOAT_E2M1FN, 0, APFLOAT_SINGLE, 2, 7), APFLOAT_WRONG_LENGTH},
+        {MAP(APFLOAT_E2M1FN, 0, APFLOAT_ADD, 2, 2, 0, 2), APFLOAT_UNKNOWN_FORMAT},
         {CONVERT(1, 0, 1, 3, 16), APFLOAT_WRONG_LENGTH},
         {CONVERT(1, 0, 2, 4, 7), APFLOAT_WRONG_LENGTH},
         {MAP(0, 0, APFLOAT_ADD, 2, 2, 0, 2), APFLOAT_UNKNOWN_FORMAT},
@@ -764,5 +884,6 @@ int main(void) {
     printf("%u texts of errors agree, and version %u\n", error_texts(), apfloat_version());
     printf("%u errors of arrays agree\n", array_refusals());
     printf("%u conversions that saturate agree\n", saturated());
+    printf("%u conversions of storage formats agree\n", stored_and_loaded());
     return 0;
 }

@@ -356,6 +356,36 @@ void check_arrays() {
     CHECK(map_array<binary64>(array_operation::sqrt, 0, nullptr, rounding::upward, nullptr)->values == 0);
 }
 
+void check_stored_arrays() {
+    const std::vector<single> values = {single(0.7f), single(-5.0f), single(1000.0f), single(-0.0f)};
+    std::vector<stored<e2m1fn>> codes(values.size());
+    const auto counts = convert_array(values.data(), values.size(), codes.data());
+    CHECK(counts && counts->values == 4 && counts->inexact == 3 && counts->overflow == 1 && counts->nans == 0);
+    CHECK(codes[0].bits() == 1 && codes[1].bits() == 0xe && codes[2].bits() == 7 && codes[3].bits() == 8);
+    std::vector<number> numbers(values.size());
+    CHECK(convert_array(codes.data(), codes.size(), numbers.data())->inexact == 0);
+    CHECK(numbers[0] == number(0.5) && numbers[1] == number(-4.0) && numbers[2] == number(6.0));
+    CHECK(numbers[3].sign_bit());
+
+    const auto scale = [](float x, overflowing large) {
+        const single given(x);
+        stored<e8m0fnu> made;
+        const auto told = convert_array(&given, 1, &made, rounding::upward, large);
+        CHECK(told && told->nans == (made.bits() == 0xff ? 1u : 0u));
+        return made.bits();
+    };
+    CHECK(scale(3.0f, overflowing::rounds) == 129 && scale(-1.0f, overflowing::saturates_finite) == 0xff);
+    CHECK(scale(std::numeric_limits<float>::infinity(), overflowing::saturates) == 0xff);
+    CHECK(scale(std::numeric_limits<float>::infinity(), overflowing::saturates_finite) == 0xfe);
+
+    CHECK(stored<e2m3fn>::from_bits(0xff).bits() == 0x3f && stored<ue4m3>::from_bits(0xff).bits() == 0x7f);
+    CHECK(stored<e3m4>::from_bits(0xff).bits() == 0xff && stored<e3m2fn>().bits() == 0);
+    const stored<e3m4> *none = nullptr;
+    CHECK(convert_array(none, 1, numbers.data()).error() == errc::wrong_length);
+    CHECK(convert_array(none, 0, numbers.data())->values == 0);
+    CHECK(convert_array(values.data(), 1, codes.data(), static_cast<rounding>(7)).error() == errc::unknown_mode);
+}
+
 void check_missing_arrays() {
     const std::vector<single> values(3);
     const auto unchanged = value<e4m3fn>::from_bits(0x55);
@@ -462,6 +492,7 @@ int main(int count, char **) {
     check_texts();
     check_hashes();
     check_arrays();
+    check_stored_arrays();
     check_missing_arrays();
     check_machines();
     check_operations();

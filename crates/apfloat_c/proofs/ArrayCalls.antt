@@ -1,7 +1,7 @@
 -- What is known about the arguments of a call on arrays that is not refused, and what it leaves.
 use Rattle.std.proofs.Common.{◌≡◌, ℕ, ◌+◌, ◌*◌, ◌/◌, ◌%◌, ◌≤◌, ◌⊎◌, Bool, true, false, List, ◌++◌, length, drop, Option}
 use Rattle.std.proofs.Common.{Some, None, Result, Ok, Err, refl, sym, ◌∙◌, subst, inl, inr, arith}
-use Rattle.std.specs.Prelude.{◌&&◌, ◌==◌, if◌then◌else◌}
+use Rattle.std.specs.Prelude.{◌&&◌, ◌==◌, if◌then◌else◌, ok_or}
 use Rattle.std.proofs.Math.Nat.{mul-le-mul_right}
 use Rattle.std.proofs.lemmas.Bool.{and_parts, eqb-true, leb-true}
 use Rattle.std.proofs.lemmas.List.{take_at}
@@ -9,24 +9,23 @@ use Rattle.std.proofs.lemmas.Nat.{div-add-mod'}
 use Rattle.std.proofs.lemmas.Slice.{drop-append-drop}
 use Rattle.rustc_apfloat.specs.declared.Round.{Round}
 use Rattle.formats_at_run_time.specs.declared.FlaggedKind.{FlaggedKind}
-use Rattle.formats_at_run_time.specs.BuiltIns.{constants_in}
-use Rattle.formats_at_run_time.specs.FlaggedKinds.{flagged_constants}
-use Rattle.array_conversions.specs.declared.ArrayConversion.{ArrayConversion}
 use Rattle.array_conversions.specs.declared.Counts.{Counts}
 use Rattle.array_conversions.specs.declared.Widths.{Widths}
 use Rattle.array_conversions.specs.Blocks.{IsBlock}
-use Rattle.array_conversions.specs.Values.{IsConvertedBy}
-use Rattle.array_conversions.specs.Widths.{array_widths}
+use Rattle.apfloat_c.specs.declared.array_calls.ArrayFormat.{ArrayFormat}
 use Rattle.apfloat_c.specs.declared.array_calls.ConversionMode.{ConversionMode}
 use Rattle.apfloat_c.specs.declared.array_calls.ElementOperation.{ElementOperation}
+use Rattle.apfloat_c.specs.declared.array_calls.KnownConversion.{KnownConversion}
 use Rattle.apfloat_c.specs.declared.array_calls.MapCall.{MapCall}
 use Rattle.apfloat_c.specs.declared.array_data.ArrayAnswer.{ArrayAnswer}
 use Rattle.apfloat_c.specs.declared.array_data.ElementCounts.{ElementCounts}
 use Rattle.apfloat_c.specs.KnownCalls.{◌>>=◌, no_such_operation}
-use Rattle.apfloat_c.specs.ArrayCalls.{bytes_in, fitting, formats_of, has_element_operation, if_fitting}
+use Rattle.apfloat_c.specs.ArrayCalls.{bytes_in, conversion_between, conversion_widths, fitting}
+use Rattle.apfloat_c.specs.ArrayCalls.{has_element_operation, if_fitting}
 use Rattle.apfloat_c.specs.ArrayCalls.{known_array_conversion, known_map, lengths_fit, operand_length, operands_fit}
 use Rattle.apfloat_c.specs.ArrayCalls.{operands_of}
-use Rattle.apfloat_c.specs.Arrays.{AreConverted, AreElements, AreMapped, IsConvertedArray, IsMappedArray, answer_with}
+use Rattle.apfloat_c.specs.Arrays.{AreConverted, AreElements, AreMapped, IsConvertedArray, IsMappedArray}
+use Rattle.apfloat_c.specs.Arrays.{IsValueConverted, answer_with}
 
 -- ---- lengths that fit
 
@@ -53,27 +52,28 @@ if_fitting_ok : {A : Type 0} (fits : Bool) (call known : A) → if_fitting fits 
 if_fitting_ok true call known e = (refl, cc)
 if_fitting_ok false call known e = absurd (cc)
 
-fits_of : (wanted : Result ArrayConversion ℕ) (given room : ℕ) (conversion : ArrayConversion)
+fits_of : (wanted : Result KnownConversion ℕ) (given room : ℕ) (conversion : KnownConversion)
     → (wanted >>= fitting given room) ≡ Ok conversion
-    → lengths_fit (array_widths conversion).source (array_widths conversion).target given room ≡ true
+    → lengths_fit (conversion_widths conversion).source (conversion_widths conversion).target given room ≡ true
 fits_of (Err error) given room conversion e = absurd (cc)
 fits_of (Ok wanted) given room conversion e =
     let both = if_fitting_ok
-    (lengths_fit (array_widths wanted).source (array_widths wanted).target given room) wanted conversion e in
+    (lengths_fit (conversion_widths wanted).source (conversion_widths wanted).target given room) wanted conversion e in
     subst
-    (λ (c : ArrayConversion). lengths_fit (array_widths c).source (array_widths c).target given room ≡ true)
+    (λ (c : KnownConversion). lengths_fit (conversion_widths c).source (conversion_widths c).target given room ≡ true)
     both.1 both.0
 
 -- the lengths of a conversion that is not refused fit
-pub conversion_fits : (source : Option FlaggedKind) (mode : Option ConversionMode) (target : Option FlaggedKind)
-    (given room : ℕ) (conversion : ArrayConversion)
+pub conversion_fits : (source : Option ArrayFormat) (mode : Option ConversionMode) (target : Option ArrayFormat)
+    (given room : ℕ) (conversion : KnownConversion)
     → known_array_conversion source mode target given room ≡ Ok conversion
-    → AreRoomy (array_widths conversion).source (array_widths conversion).target given room
+    → AreRoomy (conversion_widths conversion).source (conversion_widths conversion).target given room
 conversion_fits None mode target given room conversion e = absurd (cc)
 conversion_fits (Some from) None target given room conversion e = absurd (cc)
 conversion_fits (Some from) (Some rounding) None given room conversion e = absurd (cc)
 conversion_fits (Some from) (Some rounding) (Some to) given room conversion e =
-    roomy _ _ given room (fits_of (formats_of from to rounding) given room conversion e)
+    roomy _ _ given room
+    (fits_of (ok_or (conversion_between from to rounding) no_such_operation) given room conversion e)
 
 -- an operation that is not refused
 pub record IsKnownMap (kind : Option FlaggedKind) (mode : Option Round) (first second third room : ℕ)
@@ -129,26 +129,22 @@ map_is_known (Some k) (Some m) (Some o) first second third room map e =
 -- ---- results
 
 -- the converted values are at the front, and the bytes after them are as before
-pub are_converted : (conversion : ArrayConversion) (count : ℕ) (given old front : List ℕ) (counts : Counts)
-    → length front ≡ count * (array_widths conversion).target
-    → IsBlock
-    (IsConvertedBy conversion.overflow (constants_in conversion.source) (flagged_constants conversion.target)
-    conversion.round)
-    (array_widths conversion).source (array_widths conversion).target count given front counts
-    → AreConverted conversion count given old (front ++ drop (count * (array_widths conversion).target) old)
+pub are_converted : (conversion : KnownConversion) (count : ℕ) (given old front : List ℕ) (counts : Counts)
+    → length front ≡ count * (conversion_widths conversion).target
+    → IsBlock (IsValueConverted conversion) (conversion_widths conversion).source
+    (conversion_widths conversion).target count given front counts
+    → AreConverted conversion count given old (front ++ drop (count * (conversion_widths conversion).target) old)
     (answer_with (record { counts = counts; div_by_zero = 0 }))
 are_converted conversion count given old front counts size block =
     record {
       counts = counts;
       block = subst
-          (λ (bytes : List ℕ). IsBlock
-          (IsConvertedBy conversion.overflow (constants_in conversion.source) (flagged_constants conversion.target)
-          conversion.round)
-          (array_widths conversion).source (array_widths conversion).target count given bytes counts)
-          (sym (take_at front (drop (count * (array_widths conversion).target) old) _ size)) block;
-      kept = drop-append-drop (count * (array_widths conversion).target) old front
-          (count * (array_widths conversion).target)
-          (let least : count * (array_widths conversion).target ≤ count * (array_widths conversion).target =
+          (λ (bytes : List ℕ). IsBlock (IsValueConverted conversion) (conversion_widths conversion).source
+          (conversion_widths conversion).target count given bytes counts)
+          (sym (take_at front (drop (count * (conversion_widths conversion).target) old) _ size)) block;
+      kept = drop-append-drop (count * (conversion_widths conversion).target) old front
+          (count * (conversion_widths conversion).target)
+          (let least : count * (conversion_widths conversion).target ≤ count * (conversion_widths conversion).target =
           omega arith in least) size;
       answer_is = refl;
     }
@@ -169,12 +165,12 @@ are_mapped map count xs ys zs old front counted size elements =
     }
 
 -- a conversion that is not refused leaves the array converted
-pub converted_array : (known : Result ArrayConversion ℕ) (conversion : ArrayConversion) (given old new : List ℕ)
+pub converted_array : (known : Result KnownConversion ℕ) (conversion : KnownConversion) (given old new : List ℕ)
     (before after : ArrayAnswer) → known ≡ Ok conversion
-    → AreConverted conversion (length given / (array_widths conversion).source) given old new after
+    → AreConverted conversion (length given / (conversion_widths conversion).source) given old new after
     → IsConvertedArray known given old new before after 0
 converted_array known conversion given old new before after is converted =
-    subst (λ (k : Result ArrayConversion ℕ). IsConvertedArray k given old new before after 0) (sym is)
+    subst (λ (k : Result KnownConversion ℕ). IsConvertedArray k given old new before after 0) (sym is)
     (refl, converted)
 
 pub mapped_array : (known : Result MapCall ℕ) (map : MapCall) (xs ys zs old new : List ℕ)
@@ -184,11 +180,11 @@ pub mapped_array : (known : Result MapCall ℕ) (map : MapCall) (xs ys zs old ne
 mapped_array known map xs ys zs old new before after is mapped =
     subst (λ (k : Result MapCall ℕ). IsMappedArray k xs ys zs old new before after 0) (sym is) (refl, mapped)
 
-pub refused_conversion : (known : Result ArrayConversion ℕ) (error : ℕ) (given old : List ℕ)
+pub refused_conversion : (known : Result KnownConversion ℕ) (error : ℕ) (given old : List ℕ)
     (answer : ArrayAnswer)
     → known ≡ Err error → IsConvertedArray known given old old answer answer error
 refused_conversion known error given old answer is =
-    subst (λ (k : Result ArrayConversion ℕ). IsConvertedArray k given old old answer answer error) (sym is)
+    subst (λ (k : Result KnownConversion ℕ). IsConvertedArray k given old old answer answer error) (sym is)
     (refl, refl, refl)
 
 pub refused_map : (known : Result MapCall ℕ) (error : ℕ) (xs ys zs old : List ℕ) (answer : ArrayAnswer)
@@ -198,31 +194,29 @@ refused_map known error xs ys zs old answer is =
     (refl, refl, refl)
 
 -- a conversion with the widths in a variable leaves the array converted
-pub conversion_left : (known : Result ArrayConversion ℕ) (conversion : ArrayConversion) (widths : Widths)
+pub conversion_left : (known : Result KnownConversion ℕ) (conversion : KnownConversion) (widths : Widths)
     (given old front : List ℕ) (counts : Counts) (before after : ArrayAnswer)
-    → widths ≡ array_widths conversion → known ≡ Ok conversion
+    → widths ≡ conversion_widths conversion → known ≡ Ok conversion
     → length front ≡ length given / widths.source * widths.target
-    → IsBlock
-    (IsConvertedBy conversion.overflow (constants_in conversion.source) (flagged_constants conversion.target)
-    conversion.round)
-    (array_widths conversion).source (array_widths conversion).target (length given / widths.source) given front counts
+    → IsBlock (IsValueConverted conversion) (conversion_widths conversion).source
+    (conversion_widths conversion).target (length given / widths.source) given front counts
     → after ≡ answer_with (record { counts = counts; div_by_zero = 0 })
     → IsConvertedArray known given old (front ++ drop (length given / widths.source * widths.target) old) before
     after 0
 conversion_left known conversion widths given old front counts before after widths_are known_is size block after_is =
     let Left : Widths → Type 0 = λ (w : Widths). length front ≡ length given / w.source * w.target
-    → IsBlock
-    (IsConvertedBy conversion.overflow (constants_in conversion.source) (flagged_constants conversion.target)
-    conversion.round)
-    (array_widths conversion).source (array_widths conversion).target (length given / w.source) given front counts
+    → IsBlock (IsValueConverted conversion) (conversion_widths conversion).source
+    (conversion_widths conversion).target (length given / w.source) given front counts
     → IsConvertedArray known given old (front ++ drop (length given / w.source * w.target) old) before after 0 in
-    let at_widths : Left (array_widths conversion) =
-    λ long made. converted_array known conversion given old _ before after
-    known_is
-    (subst (λ (a : ArrayAnswer). AreConverted conversion (length given / (array_widths conversion).source) given old
-    (front ++ drop (length given / (array_widths conversion).source * (array_widths conversion).target) old) a)
+    let at_widths : Left (conversion_widths conversion) =
+    λ long made. converted_array known conversion given old _ before after known_is
+    (subst
+    (λ (a : ArrayAnswer). AreConverted conversion (length given / (conversion_widths conversion).source) given old
+    (front ++ drop (length given / (conversion_widths conversion).source * (conversion_widths conversion).target)
+    old) a)
     (sym after_is)
-    (are_converted conversion (length given / (array_widths conversion).source) given old front counts long made)) in
+    (are_converted conversion (length given / (conversion_widths conversion).source) given old front counts long
+    made)) in
     (subst Left (sym widths_are) at_widths) size block
 
 pub map_left : (known : Result MapCall ℕ) (map : MapCall) (width : ℕ) (xs ys zs old front : List ℕ)
@@ -243,8 +237,8 @@ map_left known map width xs ys zs old front counted before after width_is known_
 
 -- ---- widths in a variable
 
-pub conversion_room : (source : Option FlaggedKind) (mode : Option ConversionMode) (target : Option FlaggedKind)
-    (given room : ℕ) (conversion : ArrayConversion) (widths : Widths) → widths ≡ array_widths conversion
+pub conversion_room : (source : Option ArrayFormat) (mode : Option ConversionMode) (target : Option ArrayFormat)
+    (given room : ℕ) (conversion : KnownConversion) (widths : Widths) → widths ≡ conversion_widths conversion
     → known_array_conversion source mode target given room ≡ Ok conversion
     → AreRoomy widths.source widths.target given room
 conversion_room source mode target given room conversion widths widths_are known_is =

@@ -5,20 +5,25 @@ use Rattle.std.specs.Prelude.{◌/◌, min}
 use Rattle.std.proofs.lemmas.List.{take-take, take-append-drop, length-take}
 use Rattle.formats_at_run_time.specs.BuiltIns.{constants_in}
 use Rattle.formats_at_run_time.specs.FlaggedKinds.{flagged_constants, flagged_kind_of}
-use Rattle.array_conversions.specs.declared.ArrayConversion.{ArrayConversion}
 use Rattle.array_conversions.specs.declared.Counts.{Counts}
-use Rattle.array_conversions.specs.Blocks.{value_at}
-use Rattle.array_conversions.specs.Bytes.{number_of}
-use Rattle.array_conversions.specs.Widths.{array_widths}
-use Rattle.array_conversions.proofs.OneBlock.{block_places_once}
+use Rattle.array_conversions.specs.declared.Outcome.{Outcome}
+use Rattle.array_conversions.specs.Blocks.{AreInPlaces, IsBlock, value_at}
+use Rattle.array_conversions.specs.Bytes.{AreBytes, number_of}
+use Rattle.array_conversions.specs.Outcomes.{counts_of as counts_of_outcomes}
+use Rattle.array_conversions.proofs.OneBlock.{converted_value_once}
 use Rattle.array_conversions.proofs.PlacesOnce.{FixesPlaces, bytes_take, places_once}
+use Rattle.storage_arrays.specs.declared.Ends.{Ends}
+use Rattle.storage_arrays.specs.declared.Ends.TheVariants.{Into, OutOf}
+use Rattle.storage_arrays.proofs.StoredOnce.{HasLaw, converted_at_once}
+use Rattle.apfloat_c.specs.declared.array_calls.KnownConversion.{KnownConversion}
+use Rattle.apfloat_c.specs.declared.array_calls.KnownConversion.TheVariants.{BuiltIn, Storage}
 use Rattle.apfloat_c.specs.declared.array_calls.MapCall.{MapCall}
 use Rattle.apfloat_c.specs.declared.array_data.ArrayAnswer.{ArrayAnswer}
 use Rattle.apfloat_c.specs.declared.array_data.Element.{Element}
 use Rattle.apfloat_c.specs.declared.array_data.ElementCounts.{ElementCounts}
-use Rattle.apfloat_c.specs.ArrayCalls.{bytes_in}
-use Rattle.apfloat_c.specs.Arrays.{AreConverted, AreMapped, IsElement, IsElementAt, answer_with, call_of, counts_of}
-use Rattle.apfloat_c.specs.Arrays.{is_nan_in}
+use Rattle.apfloat_c.specs.ArrayCalls.{bytes_in, conversion_widths}
+use Rattle.apfloat_c.specs.Arrays.{AreConverted, AreMapped, IsElement, IsElementAt, IsValueConverted, answer_with}
+use Rattle.apfloat_c.specs.Arrays.{call_of, counts_of, is_nan_in}
 use Rattle.apfloat_c.specs.OneAnswer.{IsConvertedArrayOnce, IsLeftIn, IsMappedArrayOnce}
 use Rattle.apfloat_c.proofs.ExportsOnce.{format_law, kind_law, kind_once}
 
@@ -44,16 +49,45 @@ same_whole n bytes other front rest =
 
 -- ---- conversions
 
-converted_once : (conversion : ArrayConversion) (count : ℕ) (given old first second : List ℕ)
+ends_law : (ends : Ends) → HasLaw ends
+ends_law (Into source target) = tt
+ends_law (OutOf source target) = let law = format_law target in (law.law, law.wide)
+
+-- a conversion of a value has one result and one outcome
+value_once : (conversion : KnownConversion) (input bytes other : List ℕ) (outcome also : Outcome)
+    → IsValueConverted conversion input bytes outcome → IsValueConverted conversion input other also
+    → (number_of bytes ≡ number_of other) × (outcome ≡ also)
+value_once (BuiltIn conversion) input bytes other outcome also x y =
+    let law = format_law conversion.target in
+    converted_value_once conversion.overflow (constants_in conversion.source) (flagged_constants conversion.target)
+    conversion.round input bytes other outcome also law.law law.wide x y
+value_once (Storage array) input bytes other outcome also x y =
+    converted_at_once array.overflow array.round array.ends input bytes other outcome also (ends_law array.ends) x y
+
+-- the places of a block are determined if its values are
+block_places_once : (conversion : KnownConversion) (source target count : ℕ) (input bytes other : List ℕ)
+    (counts others : Counts) → AreBytes bytes → AreBytes other → length bytes ≡ length other
+    → IsBlock (IsValueConverted conversion) source target count input bytes counts
+    → IsBlock (IsValueConverted conversion) source target count input other others
+    → (take (count * target) bytes ≡ take (count * target) other) × (counts ≡ others)
+block_places_once conversion source target count input bytes other counts others a b size x y =
+    let Holds : ℕ → List ℕ → Outcome → Type 0 =
+    λ index output outcome. IsValueConverted conversion (value_at source index input) output outcome in
+    let fixes : FixesPlaces Holds = λ index output written outcome also.
+    value_once conversion (value_at source index input) output written outcome also in
+    let one : AreInPlaces Holds target count bytes x.outcomes = record { size = x.size; each = x.each } in
+    let two : AreInPlaces Holds target count other y.outcomes = record { size = y.size; each = y.each } in
+    let same = places_once Holds target count bytes other x.outcomes y.outcomes fixes a b size one two in
+    (same.0, x.counted ∙ ap counts_of_outcomes same.1 ∙ sym y.counted)
+
+converted_once : (conversion : KnownConversion) (count : ℕ) (given old first second : List ℕ)
     (after also : ArrayAnswer) → IsLeftIn old first → IsLeftIn old second
     → AreConverted conversion count given old first after → AreConverted conversion count given old second also
     → (first ≡ second) × (after ≡ also)
 converted_once conversion count given old first second after also a b x y =
-    let all = count * (array_widths conversion).target in
-    let law = format_law conversion.target in
-    let same = block_places_once conversion.overflow (constants_in conversion.source)
-    (flagged_constants conversion.target) conversion.round (array_widths conversion).source
-    (array_widths conversion).target count given (take all first) (take all second) x.counts y.counts law.law law.wide
+    let all = count * (conversion_widths conversion).target in
+    let same = block_places_once conversion (conversion_widths conversion).source
+    (conversion_widths conversion).target count given (take all first) (take all second) x.counts y.counts
     (bytes_take all first a.are_bytes) (bytes_take all second b.are_bytes)
     (same_front_size all first second (a.size ∙ sym b.size)) x.block y.block in (
       same_whole all first second same.0 (x.kept ∙ sym y.kept),
@@ -65,7 +99,7 @@ pub converted_array_once : IsConvertedArrayOnce
 converted_array_once (Err error) given old first second before after also code other a b x y =
     (x.0 ∙ sym y.0, x.1 ∙ sym y.1, x.2 ∙ sym y.2)
 converted_array_once (Ok conversion) given old first second before after also code other a b x y =
-    let same = converted_once conversion (length given / (array_widths conversion).source) given old first second
+    let same = converted_once conversion (length given / (conversion_widths conversion).source) given old first second
     after also a b x.1 y.1 in
     (x.0 ∙ sym y.0, same.0, same.1)
 

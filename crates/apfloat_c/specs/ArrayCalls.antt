@@ -6,13 +6,22 @@ use Rattle.formats_at_run_time.specs.declared.Arithmetic.TheVariants.{Sum, Diffe
 use Rattle.formats_at_run_time.specs.declared.Arithmetic.TheVariants.{NearestRemainder, TruncatedRemainder}
 use Rattle.formats_at_run_time.specs.declared.FlaggedKind.{FlaggedKind}
 use Rattle.formats_at_run_time.specs.declared.FlaggedKind.TheVariants.{OfFormat, Pairs}
-use Rattle.formats_at_run_time.specs.FlaggedKinds.{format_without_rule}
+use Rattle.formats_at_run_time.specs.FlaggedKinds.{flagged_kind_coded, format_without_rule}
 use Rattle.formats_at_run_time.specs.Modes.{mode_coded}
-use Rattle.array_conversions.specs.declared.ArrayConversion.{ArrayConversion}
 use Rattle.array_conversions.specs.declared.Overflow.TheVariants.{Rounded, Saturated, Finite}
 use Rattle.array_conversions.specs.declared.FiniteNan.TheVariants.{Kept, Largest}
 use Rattle.array_conversions.specs.declared.Extended.TheVariants.{Packed}
+use Rattle.array_conversions.specs.declared.Widths.{Widths}
 use Rattle.array_conversions.specs.Widths.{array_widths, width_of}
+use Rattle.storage_arrays.specs.declared.Ends.{Ends}
+use Rattle.storage_arrays.specs.declared.Ends.TheVariants.{Into, OutOf}
+use Rattle.storage_arrays.specs.declared.StoredFormat.{StoredFormat}
+use Rattle.storage_arrays.specs.Arrays.{widths_of}
+use Rattle.storage_arrays.specs.Formats.{stored_format_coded}
+use Rattle.apfloat_c.specs.declared.array_calls.ArrayFormat.{ArrayFormat}
+use Rattle.apfloat_c.specs.declared.array_calls.ArrayFormat.TheVariants.{OfKind, OfStorage}
+use Rattle.apfloat_c.specs.declared.array_calls.KnownConversion.{KnownConversion}
+use Rattle.apfloat_c.specs.declared.array_calls.KnownConversion.TheVariants.{BuiltIn, Storage}
 use Rattle.apfloat_c.specs.declared.array_calls.ConversionMode.{ConversionMode}
 use Rattle.apfloat_c.specs.declared.array_calls.ElementOperation.{ElementOperation}
 use Rattle.apfloat_c.specs.declared.array_calls.ElementOperation.TheVariants.{OfTwo, FusedSum, SquareRoot}
@@ -44,23 +53,51 @@ with_overflow bits round =
 abbrev pub conversion_mode_coded : ℕ → Option ConversionMode
 conversion_mode_coded code = option_and_then (with_overflow (code / 256)) (mode_coded (code % 256))
 
--- pairs of doubles are not converted
-abbrev pub formats_of : FlaggedKind → FlaggedKind → ConversionMode → Result ArrayConversion ℕ
-formats_of (OfFormat source) (OfFormat target) mode =
-    Ok (record { source = format_without_rule source; target = target; round = mode.round; overflow = mode.overflow })
-formats_of source target mode = Err no_such_operation
+-- no code is that of a built-in kind and of a storage format
+abbrev pub format_among : Option FlaggedKind → Option StoredFormat → Option ArrayFormat
+format_among (Some kind) stored = Some (OfKind kind)
+format_among None (Some format) = Some (OfStorage format)
+format_among None None = None
 
-abbrev pub fitting : ℕ → ℕ → ArrayConversion → Result ArrayConversion ℕ
+abbrev pub array_format_coded : ℕ → Option ArrayFormat
+array_format_coded code = format_among (flagged_kind_coded code) (stored_format_coded code)
+
+abbrev pub storage_between : Ends → ConversionMode → KnownConversion
+storage_between ends mode =
+    Storage (record { ends = ends; extended = Packed; round = mode.round; overflow = mode.overflow })
+
+-- neither pairs of doubles are converted, nor values of a storage format to another one
+abbrev pub conversion_between : ArrayFormat → ArrayFormat → ConversionMode → Option KnownConversion
+conversion_between (OfKind (OfFormat source)) (OfKind (OfFormat target)) mode =
+    Some (BuiltIn (record {
+      source = format_without_rule source;
+      target = target;
+      round = mode.round;
+      overflow = mode.overflow;
+    }))
+conversion_between (OfKind (OfFormat source)) (OfStorage target) mode =
+    Some (storage_between (Into (format_without_rule source) target) mode)
+conversion_between (OfStorage source) (OfKind (OfFormat target)) mode =
+    Some (storage_between (OutOf source target) mode)
+conversion_between source target mode = None
+
+-- how many bytes a value takes, before and after its conversion
+abbrev pub conversion_widths : KnownConversion → Widths
+conversion_widths (BuiltIn conversion) = array_widths conversion
+conversion_widths (Storage array) = widths_of array
+
+abbrev pub fitting : ℕ → ℕ → KnownConversion → Result KnownConversion ℕ
 fitting given room conversion =
-    if_fitting (lengths_fit (array_widths conversion).source (array_widths conversion).target given room) conversion
+    if_fitting (lengths_fit (conversion_widths conversion).source (conversion_widths conversion).target given room)
+    conversion
 
 -- The faults in their order: the format, the mode, the format converted to, that there is no conversion, the lengths.
-abbrev pub known_array_conversion : Option FlaggedKind → Option ConversionMode → Option FlaggedKind → ℕ → ℕ
-    → Result ArrayConversion ℕ
+abbrev pub known_array_conversion : Option ArrayFormat → Option ConversionMode → Option ArrayFormat → ℕ → ℕ
+    → Result KnownConversion ℕ
 known_array_conversion source mode target given room =
     ok_or source unknown_format >>= λ from. ok_or mode unknown_mode >>= λ rounding.
     ok_or target unknown_format >>= λ to.
-    formats_of from to rounding >>= fitting given room
+    ok_or (conversion_between from to rounding) no_such_operation >>= fitting given room
 
 -- ---- operations
 

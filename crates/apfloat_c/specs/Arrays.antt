@@ -6,19 +6,21 @@ use Rattle.rustc_apfloat.specs.Pairs.{pair_category, pair_of}
 use Rattle.formats_at_run_time.specs.BuiltIns.{constants_in}
 use Rattle.formats_at_run_time.specs.FlaggedKinds.{flagged_constants, flagged_kind_of}
 use Rattle.formats_at_run_time.specs.ValueKinds.{Kind, of_format, of_pairs, value_of}
-use Rattle.array_conversions.specs.declared.ArrayConversion.{ArrayConversion}
 use Rattle.array_conversions.specs.declared.Counts.{Counts}
+use Rattle.array_conversions.specs.declared.Outcome.{Outcome}
 use Rattle.array_conversions.specs.Blocks.{AreInPlaces, IsBlock, value_at}
 use Rattle.array_conversions.specs.Bytes.{number_of}
 use Rattle.array_conversions.specs.Outcomes.{HaveRoom, one_if}
 use Rattle.array_conversions.specs.Values.{IsConvertedBy}
-use Rattle.array_conversions.specs.Widths.{array_widths}
+use Rattle.storage_arrays.specs.Arrays.{IsConverted}
 use Rattle.apfloat_c.specs.declared.data.Answer.{Answer}
 use Rattle.apfloat_c.specs.declared.array_data.ArrayAnswer.{ArrayAnswer}
 use Rattle.apfloat_c.specs.declared.array_data.Element.{Element}
 use Rattle.apfloat_c.specs.declared.array_data.ElementCounts.{ElementCounts}
 use Rattle.apfloat_c.specs.declared.array_calls.ElementOperation.{ElementOperation}
 use Rattle.apfloat_c.specs.declared.array_calls.ElementOperation.TheVariants.{OfTwo, FusedSum, SquareRoot}
+use Rattle.apfloat_c.specs.declared.array_calls.KnownConversion.{KnownConversion}
+use Rattle.apfloat_c.specs.declared.array_calls.KnownConversion.TheVariants.{BuiltIn, Storage}
 use Rattle.apfloat_c.specs.declared.array_calls.MapCall.{MapCall}
 use Rattle.apfloat_c.specs.declared.exported_call.ExportedCall.{ExportedCall}
 use Rattle.apfloat_c.specs.declared.exported_call.ExportedCall.TheVariants.{OfTwo as CallOfTwo}
@@ -26,7 +28,7 @@ use Rattle.apfloat_c.specs.declared.exported_call.ExportedCall.TheVariants.{Fuse
 use Rattle.apfloat_c.specs.declared.exported_call.ExportedCall.TheVariants.{SquareRoot as CallSquareRoot}
 use Rattle.apfloat_c.specs.KnownCalls.{answered}
 use Rattle.apfloat_c.specs.Answers.{IsKindAnswer, whole}
-use Rattle.apfloat_c.specs.ArrayCalls.{bytes_in}
+use Rattle.apfloat_c.specs.ArrayCalls.{bytes_in, conversion_widths}
 
 -- ---- counts
 
@@ -92,25 +94,31 @@ answer_with counted =
 
 -- ---- conversions
 
+-- the bytes of a value, those of its conversion, and the outcome
+abbrev pub IsValueConverted : KnownConversion → List ℕ → List ℕ → Outcome → Type 0
+IsValueConverted (BuiltIn conversion) =
+    IsConvertedBy conversion.overflow (constants_in conversion.source) (flagged_constants conversion.target)
+    conversion.round
+IsValueConverted (Storage array) = IsConverted array
+
 -- each value is converted in its place, and the bytes after the last are as before
-pub record AreConverted (conversion : ArrayConversion) (count : ℕ) (given old new : List ℕ)
+pub record AreConverted (conversion : KnownConversion) (count : ℕ) (given old new : List ℕ)
     (answer : ArrayAnswer) : Type 0 where
   pub counts : Counts
-  pub block : IsBlock
-      (IsConvertedBy conversion.overflow (constants_in conversion.source) (flagged_constants conversion.target)
-      conversion.round)
-      (array_widths conversion).source (array_widths conversion).target count given
-      (take (count * (array_widths conversion).target) new) counts
-  pub kept : drop (count * (array_widths conversion).target) new ≡ drop (count * (array_widths conversion).target) old
+  pub block : IsBlock (IsValueConverted conversion) (conversion_widths conversion).source
+      (conversion_widths conversion).target count given (take (count * (conversion_widths conversion).target) new)
+      counts
+  pub kept : drop (count * (conversion_widths conversion).target) new
+      ≡ drop (count * (conversion_widths conversion).target) old
   pub answer_is : answer ≡ answer_with (record { counts = counts; div_by_zero = 0 })
 
 -- the code 0 and the conversions, or the code of the error and the previous contents
-abbrev pub IsConvertedArray : Result ArrayConversion ℕ → List ℕ → List ℕ → List ℕ → ArrayAnswer
+abbrev pub IsConvertedArray : Result KnownConversion ℕ → List ℕ → List ℕ → List ℕ → ArrayAnswer
     → ArrayAnswer → ℕ → Type 0
 IsConvertedArray (Err error) given old new before after code = (code ≡ error) × (new ≡ old) × (after ≡ before)
 IsConvertedArray (Ok conversion) given old new before after code =
     (code ≡ answered)
-    × AreConverted conversion (length given / (array_widths conversion).source) given old new after
+    × AreConverted conversion (length given / (conversion_widths conversion).source) given old new after
 
 -- ---- operations
 

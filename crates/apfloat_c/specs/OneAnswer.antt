@@ -3,8 +3,8 @@ use Rattle.std.specs.Prelude.{◌≡◌, ℕ, List, length, Option, Result}
 use Rattle.rustc_apfloat.specs.declared.Round.{Round}
 use Rattle.formats_at_run_time.specs.declared.BuiltInFormat.{BuiltInFormat}
 use Rattle.formats_at_run_time.specs.declared.FlaggedKind.{FlaggedKind}
-use Rattle.array_conversions.specs.declared.ArrayConversion.{ArrayConversion}
 use Rattle.array_conversions.specs.Bytes.{AreBytes}
+use Rattle.apfloat_c.specs.declared.array_calls.KnownConversion.{KnownConversion}
 use Rattle.apfloat_c.specs.declared.array_calls.MapCall.{MapCall}
 use Rattle.apfloat_c.specs.declared.array_data.ArrayAnswer.{ArrayAnswer}
 use Rattle.apfloat_c.specs.declared.data.Answer.{Answer}
@@ -97,7 +97,7 @@ pub record IsLeftIn (old bytes : List ℕ) : Type 0 where
 -- an array that is converted
 abbrev pub IsConvertedArrayOnce : Type 0
 IsConvertedArrayOnce =
-    (known : Result ArrayConversion ℕ) (given old first second : List ℕ) (before after also : ArrayAnswer)
+    (known : Result KnownConversion ℕ) (given old first second : List ℕ) (before after also : ArrayAnswer)
     (code other : ℕ) → IsLeftIn old first → IsLeftIn old second
     → IsConvertedArray known given old first before after code
     → IsConvertedArray known given old second before also other

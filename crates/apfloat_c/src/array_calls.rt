@@ -1,15 +1,20 @@
 //! The meaning of the codes and lengths that calls on arrays receive, or their first error.
 
-ghost use Rattle.std.specs.Prelude.{◌≡◌, ◌≤◌};
+ghost use Rattle.std.specs.Prelude.{◌≡◌, ◌*◌, ◌≤◌, length};
 ghost use Rattle.formats_at_run_time.specs.Modes.{mode_coded};
-ghost use Rattle.apfloat_c.specs.ArrayCalls.{bytes_in, conversion_mode_coded, has_element_operation};
+ghost use Rattle.array_conversions.specs.Blocks.{IsBlock};
+ghost use Rattle.storage_arrays.specs.Arrays.{IsConverted, widths_of};
+ghost use Rattle.apfloat_c.specs.ArrayCalls.{array_format_coded, bytes_in, conversion_between, conversion_mode_coded};
+ghost use Rattle.apfloat_c.specs.ArrayCalls.{conversion_widths, has_element_operation};
 ghost use Rattle.apfloat_c.specs.ArrayCalls.{known_array_conversion, known_map, lengths_fit, operands_fit, operands_of};
 ghost use Rattle.apfloat_c.specs.ArrayCalls.{operation_coded};
+ghost use Rattle.apfloat_c.specs.Arrays.{IsValueConverted};
 
 use crate::codes::{NO_SUCH_OPERATION, UNKNOWN_FORMAT, UNKNOWN_MODE, WRONG_LENGTH};
-use array_conversions::{ArrayConversion, Extended, FiniteNan, Overflow, width};
+use array_conversions::{ArrayConversion, Counts, Extended, FiniteNan, Overflow, Widths, width};
 use formats_at_run_time::{Arithmetic, FlaggedFormat, FlaggedKind, mode_coded};
 use rustc_apfloat::Round;
+use storage_arrays::{Ends, StorageArray, StoredFormat};
 
 /// A rounding mode, and what an overflow gives.
 #[derive(Clone, Copy)]
@@ -18,6 +23,24 @@ pub struct ConversionMode {
     pub round: Round,
     /// What an overflow gives.
     pub overflow: Overflow,
+}
+
+/// A format of the values of an array.
+#[derive(Clone, Copy)]
+pub enum ArrayFormat {
+    /// A format that all calls have, or pairs of doubles.
+    OfKind(FlaggedKind),
+    /// A storage format, one value a byte.
+    OfStorage(StoredFormat),
+}
+
+/// A conversion of arrays.
+#[derive(Clone, Copy)]
+pub enum KnownConversion {
+    /// Between built-in formats.
+    BuiltIn(ArrayConversion),
+    /// Into a storage format or out of it.
+    Storage(StorageArray),
 }
 
 /// An operation on elements of arrays.
@@ -70,6 +93,19 @@ pub fn conversion_mode_coded(code: u32) -> Option<ConversionMode>
     }
 }
 
+/// The format of arrays with this code.
+pub fn array_format_coded(code: u32) -> Option<ArrayFormat>
+    ensures { result ≡ array_format_coded code }
+{
+    match FlaggedKind::coded(code) {
+        Some(kind) => Some(ArrayFormat::OfKind(kind)),
+        None => match StoredFormat::coded(code) {
+            Some(format) => Some(ArrayFormat::OfStorage(format)),
+            None => None,
+        },
+    }
+}
+
 /// The operation of this code.
 pub fn operation_coded(code: u32) -> Option<ElementOperation>
     ensures { result ≡ operation_coded code }
@@ -99,34 +135,62 @@ pub fn bytes_in(kind: FlaggedKind) -> usize
     }
 }
 
+/// The conversion from one format to another. There is none of pairs of doubles, and none between storage formats.
+fn conversion_between(
+    source: ArrayFormat,
+    target: ArrayFormat,
+    mode: ConversionMode,
+) -> Option<KnownConversion>
+    ensures { result ≡ conversion_between source target mode }
+{
+    let ConversionMode { round, overflow } = mode;
+    let ends = match (source, target) {
+        (
+            ArrayFormat::OfKind(FlaggedKind::OfFormat(source)),
+            ArrayFormat::OfKind(FlaggedKind::OfFormat(target)),
+        ) => {
+            return Some(KnownConversion::BuiltIn(ArrayConversion {
+                source: source.built_in(),
+                target,
+                round,
+                overflow,
+            }));
+        }
+        (ArrayFormat::OfKind(FlaggedKind::OfFormat(source)), ArrayFormat::OfStorage(target)) =>
+            Ends::Into(source.built_in(), target),
+        (ArrayFormat::OfStorage(source), ArrayFormat::OfKind(FlaggedKind::OfFormat(target))) =>
+            Ends::OutOf(source, target),
+        _ => return None,
+    };
+    Some(KnownConversion::Storage(StorageArray {
+        ends,
+        extended: Extended::Packed,
+        round,
+        overflow,
+    }))
+}
+
 /// The conversion that these codes ask for, of arrays of these lengths.
 pub fn known_array_conversion(
-    source: Option<FlaggedKind>,
+    source: Option<ArrayFormat>,
     mode: Option<ConversionMode>,
-    target: Option<FlaggedKind>,
+    target: Option<ArrayFormat>,
     given: usize,
     room: usize,
-) -> Result<ArrayConversion, u32>
+) -> Result<KnownConversion, u32>
     ensures { result ≡ known_array_conversion source mode target given room }
 {
     let Some(source) = source else {
         return Err(UNKNOWN_FORMAT);
     };
-    let Some(ConversionMode { round, overflow }) = mode else {
+    let Some(mode) = mode else {
         return Err(UNKNOWN_MODE);
     };
     let Some(target) = target else {
         return Err(UNKNOWN_FORMAT);
     };
-    let (FlaggedKind::OfFormat(source), FlaggedKind::OfFormat(target)) = (source, target) else {
+    let Some(conversion) = conversion_between(source, target, mode) else {
         return Err(NO_SUCH_OPERATION);
-    };
-    let source = source.built_in();
-    let conversion = ArrayConversion {
-        source,
-        target,
-        round,
-        overflow,
     };
     let widths = conversion.widths();
     if lengths_fit(widths.source, widths.target, given, room) {
@@ -134,6 +198,46 @@ pub fn known_array_conversion(
     } else {
         Err(WRONG_LENGTH)
     }
+}
+
+impl KnownConversion {
+    /// The widths of a value in bytes, before and after its conversion.
+    pub fn widths(self) -> Widths
+        ensures is { result ≡ conversion_widths self }
+        ensures least { (1 ≤ result.source) × (1 ≤ result.target) }
+        ensures greatest { (result.source ≤ 16) × (result.target ≤ 16) }
+    {
+        match self {
+            KnownConversion::BuiltIn(conversion) => conversion.widths(),
+            KnownConversion::Storage(array) => array.widths(),
+        }
+    }
+
+    /// Converts `count` values, each in its place.
+    pub fn convert(self, count: usize, input: &[u8], output: &mut [u8]) -> Counts
+        requires input { length input.now ≡ count * (conversion_widths self).source }
+        requires output { length output.old ≡ count * (conversion_widths self).target }
+        ensures { IsBlock (IsValueConverted self) (conversion_widths self).source
+            (conversion_widths self).target count input.now output.new result }
+    {
+        match self {
+            KnownConversion::BuiltIn(conversion) => conversion.convert(count, input, output),
+            KnownConversion::Storage(array) => convert_stored(array, count, input, output),
+        }
+    }
+}
+
+/// Converts values into a storage format or out of it, apart from the conversions of built-in formats, whose code would
+/// grow by it.
+#[cold]
+#[inline(never)]
+fn convert_stored(array: StorageArray, count: usize, input: &[u8], output: &mut [u8]) -> Counts
+    requires input { length input.now ≡ count * (widths_of array).source }
+    requires output { length output.old ≡ count * (widths_of array).target }
+    ensures { IsBlock (IsConverted array) (widths_of array).source (widths_of array).target count
+        input.now output.new result }
+{
+    array.convert(count, input, output)
 }
 
 /// The operation that these codes ask for, on arrays of these lengths.

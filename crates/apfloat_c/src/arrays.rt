@@ -1,14 +1,14 @@
 //! The export that converts arrays, declared for C programs in `include/apfloat.h`.
 
 ghost use Rattle.std.specs.Prelude.{length};
-ghost use Rattle.formats_at_run_time.specs.FlaggedKinds.{flagged_kind_coded};
-ghost use Rattle.apfloat_c.specs.ArrayCalls.{conversion_mode_coded, known_array_conversion};
+ghost use Rattle.apfloat_c.specs.ArrayCalls.{array_format_coded, conversion_mode_coded, known_array_conversion};
 ghost use Rattle.apfloat_c.specs.Arrays.{IsConvertedArray};
 
-use crate::array_calls::{ConversionMode, conversion_mode_coded, known_array_conversion};
+use crate::array_calls::{
+    ArrayFormat, ConversionMode, array_format_coded, conversion_mode_coded, known_array_conversion,
+};
 use crate::array_data::{ArrayAnswer, ElementCounts};
 use crate::codes::ANSWERED;
-use formats_at_run_time::FlaggedKind;
 
 /// Converts each value of an array.
 #[unsafe(no_mangle)]
@@ -20,15 +20,15 @@ pub extern "C" fn apfloat_convert_array(
     results: &mut [u8],
     answer: &mut ArrayAnswer,
 ) -> u32
-    ensures { let known = known_array_conversion (flagged_kind_coded format)
-        (conversion_mode_coded mode) (flagged_kind_coded to) (length values.now)
+    ensures { let known = known_array_conversion (array_format_coded format)
+        (conversion_mode_coded mode) (array_format_coded to) (length values.now)
         (length results.old) in
         IsConvertedArray known values.now results.old results.new answer.old answer.new result }
 {
     convert_array(
-        FlaggedKind::coded(format),
+        array_format_coded(format),
         conversion_mode_coded(mode),
-        FlaggedKind::coded(to),
+        array_format_coded(to),
         values,
         results,
         answer,
@@ -37,9 +37,9 @@ pub extern "C" fn apfloat_convert_array(
 
 /// Converts each value of an array, as the decoded arguments ask.
 fn convert_array(
-    source: Option<FlaggedKind>,
+    source: Option<ArrayFormat>,
     mode: Option<ConversionMode>,
-    target: Option<FlaggedKind>,
+    target: Option<ArrayFormat>,
     values: &[u8],
     results: &mut [u8],
     answer: &mut ArrayAnswer,

@@ -46,14 +46,14 @@ finite_once nans f g mode (infinite c) v w r s a b h k = given_once _ _ _ v w r 
 finite_once nans f g mode (finite c n) v w r s a b h k = saturated_once f g mode (finite c n) v w r s a b h k
 
 -- so does a conversion with any treatment of overflow
-conversion_by_once : (overflow : Overflow) (f g : Format) (mode : Round) (x : Datum)
+pub conversion_by_once : (overflow : Overflow) (f g : Format) (mode : Round) (x : Datum)
     → OnceWith (IsConversionBy overflow f g mode x)
 conversion_by_once Rounded f g mode x v w r s a b h k = conversion_once f g mode x v w r s a b h k
 conversion_by_once Saturated f g mode x v w r s a b h k = saturated_once f g mode x v w r s a b h k
 conversion_by_once (Finite nans) f g mode x v w r s a b h k = finite_once nans f g mode x v w r s a b h k
 
 -- outcomes with the same flags are equal if both are NaNs or neither is
-same_outcome : (one other : Outcome) → bits_of one.status ≡ bits_of other.status → one.is_nan ≡ other.is_nan
+pub same_outcome : (one other : Outcome) → bits_of one.status ≡ bits_of other.status → one.is_nan ≡ other.is_nan
     → one ≡ other
 same_outcome a b status test =
     ap (λ (n : ℕ). record { status = record { 0 = n }; is_nan = a.is_nan }) status

@@ -1,1 +1,2 @@
 mod ScaleClasses
+pub mod StoredOnce

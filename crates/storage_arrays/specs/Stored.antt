@@ -1,5 +1,5 @@
 -- Conversions into storage formats with any treatment of overflow.
-use Rattle.std.specs.Prelude.{◌≡◌, ℕ, bit_and, Bool, true, false, not, ◌==◌, if◌then◌else◌}
+use Rattle.std.specs.Prelude.{◌≡◌, ℕ, ◌^◌, ◌<◌, bit_and, Bool, false, not, ◌==◌, if◌then◌else◌}
 use Rattle.std.specs.Bool.{MatchBool}
 use Rattle.rustc_apfloat.specs.declared.Round.{Round}
 use Rattle.rustc_apfloat.specs.Classes.{is_negative}
@@ -18,7 +18,8 @@ use Rattle.array_conversions.specs.declared.Overflow.{Overflow}
 use Rattle.array_conversions.specs.declared.Overflow.TheVariants.{Rounded, Saturated, Finite}
 use Rattle.storage_arrays.specs.declared.formats.StoredFormat.{StoredFormat}
 use Rattle.storage_arrays.specs.declared.formats.StoredFormat.TheVariants.{E2M1FN, E2M3FN, E3M2FN, E3M4, E8M0FNU, UE4M3}
-use Rattle.storage_arrays.specs.Formats.{e2m1fn_constants, e2m3fn_constants, e3m2fn_constants, keeps_infinity, largest_code}
+use Rattle.storage_arrays.specs.Formats.{bits_in, e2m1fn_constants, e2m3fn_constants, e3m2fn_constants, keeps_infinity}
+use Rattle.storage_arrays.specs.Formats.{largest_code}
 
 -- a value of the format f becomes this code, by the storage format's own conversion
 abbrev pub IsStored : StoredFormat → Format → Round → Datum → ℕ → ℕ → Bool → Type 0
@@ -42,6 +43,7 @@ saturated_code format negative code status =
 pub record IsSaturatedCode (format : StoredFormat) (f : Format) (mode : Round) (x : Datum)
     (code status : ℕ) : Type 0 where
   pub own : ℕ
+  pub own_fits : own < 2 ^ bits_in format
   pub is_own : IsOwn format f mode x own status
   pub code_is : code ≡ saturated_code format (is_negative x) own status
 

@@ -44,8 +44,14 @@ pub const LIBRARY: &[&str] = &[
 ];
 
 /// The crates that the library for C has above those.
-pub const FOR_C: &[&str] =
-    &["apfloat_encoded", "rustc_apfloat", "formats_at_run_time", "array_conversions", "apfloat_c"];
+pub const FOR_C: &[&str] = &[
+    "apfloat_encoded",
+    "rustc_apfloat",
+    "formats_at_run_time",
+    "array_conversions",
+    "storage_arrays",
+    "apfloat_c",
+];
 
 /// Modules that are left out, since no call of the erased crates uses them: streams are converted in buffers that a
 /// program has allocated.

@@ -1,5 +1,4 @@
-use Rattle.std.proofs.Common.{◌≡◌, ℕ, sym, subst}
-use Rattle.rustc_apfloat.specs.Datum.{Datum}
+use Rattle.std.proofs.Common.{ℕ, sym, subst}
 use Rattle.rustc_apfloat.specs.FlaggedTypes.{format_of, layout_of}
 use Rattle.rustc_apfloat.specs.Layout.{IsEncodedBy}
 use Rattle.apfloat_c.proofs.answers.product_in.Goals as goal
