@@ -25,7 +25,7 @@ use apfloat_rounding::unpacked::{Unpacked, from_quanta};
 use apfloat_words::{MovedRest, digits, u128_moved_rest, word_moved_rest};
 
 /// `significand * 2^place` units.
-#[derive(Clone, Copy, Debug)]
+#[derive(Clone, Copy)]
 struct Magnitude {
     significand: u128,
     place: u32,
@@ -85,7 +85,7 @@ fn less_multiple(rest: Magnitude, divisor: Magnitude) -> Magnitude
 }
 
 /// The rest of a number, and the number of subtractions.
-#[derive(Clone, Copy, Debug)]
+#[derive(Clone, Copy)]
 struct Rest {
     magnitude: Magnitude,
     steps: u32,
@@ -147,7 +147,7 @@ fn rest_of_moved(precision: u32, dividend: u128, divisor: u128, places: u32) -> 
 }
 
 /// The rest of a number, and whether the integral quotient is odd.
-#[derive(Clone, Copy, Debug)]
+#[derive(Clone, Copy)]
 struct Remaining {
     magnitude: Magnitude,
     odd: bool,
@@ -189,7 +189,7 @@ fn is_upper_nearest(below_by: u128, above_by: u128, odd: bool) -> bool
 }
 
 /// How far a number is from the nearest multiple of a divisor, and whether that multiple is above it.
-#[derive(Clone, Copy, Debug)]
+#[derive(Clone, Copy)]
 struct Nearest {
     magnitude: Magnitude,
     past: bool,
@@ -340,7 +340,7 @@ fn nearest_rest(shape: Shape, x: Unpacked, y: Unpacked) -> Nearest
 }
 
 /// A remainder, and the number of subtractions that led to it.
-#[derive(Clone, Copy, Debug)]
+#[derive(Clone, Copy)]
 pub struct Remainder {
     /// The remainder, with its status.
     pub answer: StatusAnd<Unpacked>,

@@ -15,7 +15,7 @@ use apfloat_rounding::unpacked::Unpacked;
 use apfloat_words::root_of;
 
 /// Half of an exponent, rounded down, and 1 if it is odd.
-#[derive(Clone, Copy, Debug)]
+#[derive(Clone, Copy)]
 pub struct Halves {
     /// Half of it, rounded down.
     pub half: ExpInt,

@@ -29,7 +29,7 @@ use apfloat_rounding::shape::Shape;
 use apfloat_rounding::unpacked::{Unpacked, infinity_of, remade, zero_of};
 
 /// An operation with its operands.
-#[derive(Clone, Copy, Debug)]
+#[derive(Clone, Copy)]
 pub(crate) enum Operation {
     /// The sum of two values.
     Sum(Unpacked, Unpacked, Round),

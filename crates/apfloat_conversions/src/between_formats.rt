@@ -20,7 +20,7 @@ use apfloat_rounding::shape::Shape;
 use apfloat_rounding::unpacked::{Unpacked, infinity_of, remade, significand_of, zero_of};
 
 /// A result in the other format, and whether information was lost.
-#[derive(Clone, Copy, Debug)]
+#[derive(Clone, Copy)]
 pub struct Converted {
     /// The value in the other format, with its status.
     pub answer: StatusAnd<Unpacked>,

@@ -55,7 +55,7 @@ pub fn from_unsigned(shape: Shape, number: u128, round: Round) -> StatusAnd<Unpa
 }
 
 /// The integer that a value was converted to, and whether it equals the value.
-#[derive(Clone, Copy, Debug)]
+#[derive(Clone, Copy)]
 pub struct Unsigned {
     /// The integer, with its status.
     pub answer: StatusAnd<u128>,
@@ -64,7 +64,7 @@ pub struct Unsigned {
 }
 
 /// The signed integer that a value was converted to, and whether it equals the value.
-#[derive(Clone, Copy, Debug)]
+#[derive(Clone, Copy)]
 pub struct Signed {
     /// The integer, with its status.
     pub answer: StatusAnd<i128>,

@@ -120,7 +120,7 @@ pub fn ilogb(shape: Shape, x: Unpacked) -> ExpInt
 }
 
 /// A value of magnitude from 0.5 to below 1, and the exponent of the power of two that it is multiplied by.
-#[derive(Clone, Copy, Debug)]
+#[derive(Clone, Copy)]
 pub struct Fraction {
     /// The fraction, with the sign of the value; a zero or an infinity itself, and a NaN quieted.
     pub value: Unpacked,

@@ -16,7 +16,7 @@ use apfloat_words::{
 };
 
 /// The magnitude of the integer that a number was rounded to, and whether it is exact.
-#[derive(Clone, Copy, Debug)]
+#[derive(Clone, Copy)]
 pub struct Whole {
     /// The integer without its sign.
     pub magnitude: u128,

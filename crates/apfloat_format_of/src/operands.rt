@@ -18,7 +18,7 @@ use apfloat_words::Term;
 pub(crate) const DIGITS: u32 = 125;
 
 /// A NaN, as the operation sees it.
-#[derive(Clone, Copy, Debug)]
+#[derive(Clone, Copy)]
 pub struct NanOperand {
     /// The NaN of the target that it becomes.
     pub value: Unpacked,
@@ -27,7 +27,7 @@ pub struct NanOperand {
 }
 
 /// An operand without its format.
-#[derive(Clone, Copy, Debug)]
+#[derive(Clone, Copy)]
 pub enum Operand {
     /// A number, with 125 digits unless it is zero.
     Number(Term),

@@ -15,7 +15,7 @@ use apfloat_model::parse_error::Fault;
 use apfloat_words::loss_of_rest;
 
 /// The leading bits of an integer, with what was lost when its `cut` last hexadecimal digits were cut off.
-#[derive(Clone, Copy, Debug)]
+#[derive(Clone, Copy)]
 pub struct Digits {
     /// The leading bits as an integer: all of them if no digits are cut off, else at least 125.
     pub significand: u128,
@@ -98,7 +98,7 @@ impl Digits {
 }
 
 /// A significand read so far.
-#[derive(Clone, Copy, Debug)]
+#[derive(Clone, Copy)]
 pub struct Scan {
     /// The digits read so far, as one integer without the dot.
     pub digits: Digits,

@@ -9,7 +9,7 @@ use crate::payload::payload;
 use apfloat_model::marks::Mark;
 
 /// An infinity or a NaN with its payload.
-#[derive(Clone, Copy, Debug)]
+#[derive(Clone, Copy)]
 pub enum Special {
     /// An infinity.
     Infinity,

@@ -10,7 +10,7 @@
 
 /// What was cut off, compared with one unit of the last kept digit. It holds the same information as a guard bit and a
 /// sticky bit.
-#[derive(Clone, Copy, PartialEq, Eq, Debug)]
+#[derive(Clone, Copy, PartialEq, Eq)]
 pub enum Loss {
     /// Nothing.
     ExactlyZero,

@@ -1,7 +1,7 @@
 //! The parts of a text that reading distinguishes: a leading sign, and the base of a payload.
 
 /// The sign that a text or an exponent begins with, if any.
-#[derive(Clone, Copy, PartialEq, Eq, Debug)]
+#[derive(Clone, Copy)]
 pub enum Mark {
     /// No sign.
     Unmarked,
@@ -28,7 +28,7 @@ impl Mark {
 }
 
 /// The base of a payload's digits.
-#[derive(Clone, Copy, PartialEq, Eq, Debug)]
+#[derive(Clone, Copy)]
 pub enum Radix {
     /// Hexadecimal digits, after `0x` or `0X`.
     Sixteen,

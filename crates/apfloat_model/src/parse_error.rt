@@ -5,7 +5,7 @@
 pub struct ParseError(pub &'static str);
 
 /// The first fault of a text, from the left.
-#[derive(Clone, Copy, PartialEq, Eq, Debug)]
+#[derive(Clone, Copy)]
 pub enum Fault {
     /// The text is empty.
     EmptyText,

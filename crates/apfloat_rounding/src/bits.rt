@@ -18,7 +18,7 @@ use apfloat_model::{Category, NonfiniteBehavior};
 use apfloat_words::{low_digits, power_of_two, steps_between};
 
 /// How many bits an encoding has, and how many of them are the biased exponent.
-#[derive(Clone, Copy, Debug)]
+#[derive(Clone, Copy)]
 pub struct Widths {
     /// How many bits an encoding has.
     pub bits: u32,
@@ -27,7 +27,7 @@ pub struct Widths {
 }
 
 /// The fields of an encoding.
-#[derive(Clone, Copy, Debug)]
+#[derive(Clone, Copy)]
 pub struct Fields {
     /// Whether the sign bit is set.
     pub negative: bool,

@@ -48,7 +48,7 @@ use apfloat_words::{digits, low_digits, power_of_two, shift_right};
 
 /// `significand * 2^place` quanta, and the rest that was cut off below that, in units of which the lowest kept digit is
 /// `2 * half`.
-#[derive(Clone, Copy, Debug)]
+#[derive(Clone, Copy)]
 struct Cut {
     significand: u128,
     place: u32,
@@ -72,7 +72,7 @@ impl Cut {
 }
 
 /// What is known about a cut before it is rounded, so that the compiler omits the cases that cannot occur.
-#[derive(Clone, Copy, Debug)]
+#[derive(Clone, Copy)]
 enum Known {
     /// The magnitude is at least the smallest normalized value, so that all digits of the format are kept.
     Normal,
@@ -293,7 +293,7 @@ fn next_if(precision: u32, significand: u128, moved: bool) -> u128
 }
 
 /// A grid point, `significand * 2^place` quanta.
-#[derive(Clone, Copy, Debug)]
+#[derive(Clone, Copy)]
 struct Point {
     significand: u128,
     place: u32,
@@ -471,7 +471,7 @@ fn value_of(shape: Shape, known: Known, negative: bool, significand: u128, place
 }
 
 /// The significand that a mode picks for a cut, and its status if the result is within the format.
-#[derive(Clone, Copy, Debug)]
+#[derive(Clone, Copy)]
 struct Picked {
     significand: u128,
     tiny: bool,
@@ -629,7 +629,7 @@ fn full_place(precision: u32, digits: u32, unit: ExpInt) -> u32
 /// The digits that are kept, and the rest that is cut off below them, in units of which the lowest kept digit is
 /// `2 * half`. In these units a rest fits in one word: if it has more than 64 digits, the lowest 64 matter only by
 /// whether they are all zero.
-#[derive(Clone, Copy, Debug)]
+#[derive(Clone, Copy)]
 struct Pieces {
     kept: u128,
     rest: u64,

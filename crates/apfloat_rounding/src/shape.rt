@@ -7,7 +7,7 @@ use apfloat_model::{ExpInt, NonfiniteBehavior};
 use apfloat_words::power_of_two;
 
 /// The constants of a format that rounding reads. Its precision and exponents obey the law of formats.
-#[derive(Clone, Copy, Debug)]
+#[derive(Clone, Copy)]
 pub struct Shape {
     /// How many binary digits a significand has, including the integer bit.
     pub precision: u32,

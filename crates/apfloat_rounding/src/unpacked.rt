@@ -21,7 +21,7 @@ use apfloat_words::digits;
 /// A nonzero number is `significand * 2^(exponent - (precision - 1))`, and its significand has the integer bit set,
 /// even for a denormal value: its digits below the quantum are then zero. The significand of a NaN is as it is encoded.
 /// Fields that a kind of value does not need are zero.
-#[derive(Clone, Copy, Debug)]
+#[derive(Clone, Copy)]
 pub struct Unpacked {
     /// The digits of a number, or those of a NaN as they are encoded.
     pub significand: u128,

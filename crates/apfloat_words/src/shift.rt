@@ -47,7 +47,7 @@ pub fn low_digits(number: u128, places: u32) -> u128
 }
 
 /// A significand shifted right, and what was lost below its new unit.
-#[derive(Clone, Copy, Debug)]
+#[derive(Clone, Copy)]
 pub struct Shifted {
     /// The digits that are left.
     pub significand: u128,

@@ -6,7 +6,7 @@ use crate::wide::Wide;
 use apfloat_model::ExpInt;
 
 /// `significand * 2^exponent` with a sign.
-#[derive(Clone, Copy, Debug)]
+#[derive(Clone, Copy)]
 pub struct Term {
     /// Whether the sign is minus.
     pub negative: bool,
@@ -17,7 +17,7 @@ pub struct Term {
 }
 
 /// `significand * 2^exponent` with a sign, and a significand of two words.
-#[derive(Clone, Copy, Debug)]
+#[derive(Clone, Copy)]
 pub struct WideTerm {
     /// Whether the sign is minus.
     pub negative: bool,
@@ -28,14 +28,14 @@ pub struct WideTerm {
 }
 
 /// Two terms, the first of which does not have the lower exponent.
-#[derive(Clone, Copy, Debug)]
+#[derive(Clone, Copy)]
 pub(crate) struct Ordered {
     pub high: Term,
     pub low: Term,
 }
 
 /// Two terms of two words, the first of which does not have the lower exponent.
-#[derive(Clone, Copy, Debug)]
+#[derive(Clone, Copy)]
 pub(crate) struct WideOrdered {
     pub high: WideTerm,
     pub low: WideTerm,

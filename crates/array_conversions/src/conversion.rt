@@ -15,7 +15,7 @@ use formats_at_run_time::{BuiltInFormat, BuiltInKind, mode_named};
 use rustc_apfloat::Round;
 
 /// The source and the target format, the rounding mode, and the width of a value of the x87 format.
-#[derive(Clone, Copy, Debug)]
+#[derive(Clone, Copy)]
 pub struct Conversion {
     /// The source format.
     pub source: BuiltInFormat,

@@ -36,7 +36,7 @@ pub enum Overflow {
 }
 
 /// What a value is, as far as saturation asks.
-#[derive(Clone, Copy, Debug)]
+#[derive(Clone, Copy)]
 pub enum ValueClass {
     /// A zero or a number.
     Number,

@@ -8,7 +8,7 @@ use formats_at_run_time::{BuiltInFormat, InFormat};
 use rustc_apfloat::ieee::Semantics;
 
 /// The width of a value of the x87 format, the one with an explicit integer bit.
-#[derive(Clone, Copy, Debug)]
+#[derive(Clone, Copy)]
 pub enum Extended {
     /// Ten bytes, the size of its encoding.
     Packed,

@@ -6,7 +6,7 @@ ghost use Rattle.commands.specs.Commands.{operand_count};
 use formats_at_run_time::Arithmetic;
 
 /// An operation.
-#[derive(Clone, Copy, Debug)]
+#[derive(Clone, Copy)]
 pub enum Operation {
     /// An operation on two values.
     OfTwo(Arithmetic),

@@ -11,7 +11,7 @@ use formats_at_run_time::CommandKind;
 use rustc_apfloat::Status;
 
 /// The reply to a command.
-#[derive(Clone, Copy, Debug)]
+#[derive(Clone, Copy)]
 pub enum Reply<'a> {
     /// The bits, the number of their hexadecimal digits, and the flags.
     Line(u128, usize, Status),

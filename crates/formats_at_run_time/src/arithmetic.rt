@@ -8,7 +8,7 @@ use crate::value_type::ValueType;
 use rustc_apfloat::{Float, Round, StatusAnd};
 
 /// An operation on two values.
-#[derive(Clone, Copy, Debug)]
+#[derive(Clone, Copy)]
 pub enum Arithmetic {
     /// The first plus the second.
     Sum,

@@ -32,7 +32,7 @@ fn places_below(unit: ExpInt) -> u32
 }
 
 /// At most 62 digits of a significand, rounded to odd for what was cut off below them, and their unit.
-#[derive(Clone, Copy, Debug)]
+#[derive(Clone, Copy)]
 pub(super) struct Word {
     pub(super) significand: u64,
     pub(super) digits: u32,
