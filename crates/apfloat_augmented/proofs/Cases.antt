@@ -3,7 +3,6 @@ use Rattle.std.proofs.Common.{◌≡◌, ℕ, ◌-◌, ◌^◌, ◌<◌, ◌≤�
 use Rattle.std.specs.Prelude.{ℤ, pos, ◌+ℤ◌, ◌-ℤ◌, unsigned_abs}
 use Rattle.std.proofs.lemmas.Bool.{false≢true}
 use Rattle.std.proofs.lemmas.Int.{ints}
-use Rattle.apfloat_model.specs.declared.kinds.Category.TheVariants.{Normal, Zero}
 use Rattle.apfloat_model.specs.declared.kinds.Round.TheVariants.{NearestTiesToEven}
 use Rattle.apfloat_model.specs.formats.Format.{Format}
 use Rattle.apfloat_model.specs.formats.Datum.{Datum, finite, infinite, nan}
@@ -11,22 +10,10 @@ use Rattle.apfloat_model.specs.formats.Lawful.{Constants, IsLawful, format_with}
 use Rattle.apfloat_model.specs.rounding.Negation.{negated}
 use Rattle.apfloat_model.specs.arithmetic.Exact.{signed}
 use Rattle.apfloat_model.specs.arithmetic.Sums.{IsSum, IsDifference, zero_sum_sign}
-use Rattle.apfloat_model.specs.order.Classes.{category_of, is_finite, is_negative}
+use Rattle.apfloat_model.specs.order.Classes.{is_finite, is_negative}
 use Rattle.apfloat_model.specs.order.Order.{number}
 use Rattle.apfloat_model.proofs.arithmetic.Signs.{swapped_sum}
 use Rattle.apfloat_augmented.specs.Augmented.{IsAugmented, IsAugmentedSum, IsAugmentedDifference}
-
--- ---- classes
-
-pub zero_finite : (x : Datum) → category_of x ≡ Zero → is_finite x ≡ true
-zero_finite (finite b n) e = refl
-zero_finite (infinite b) e = cc
-zero_finite (nan b s) e = cc
-
-pub normal_finite : (x : Datum) → category_of x ≡ Normal → is_finite x ≡ true
-normal_finite (finite b n) e = refl
-normal_finite (infinite b) e = cc
-normal_finite (nan b s) e = cc
 
 -- ---- sums of finite data, and of others
 

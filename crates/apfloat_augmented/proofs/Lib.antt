@@ -6,7 +6,6 @@ pub mod Multiples
 pub mod FractionRoundings
 pub mod FractionPicks
 pub mod AugmentedOnce
-pub mod NanSignificands
 pub mod Cases
 pub mod PayloadValues
 pub mod OrderedSums

@@ -21,7 +21,8 @@ use Rattle.apfloat_model.proofs.general.Powers.{two_pos}
 use Rattle.apfloat_model.proofs.rounding.Deliveries.{signed_some}
 use Rattle.apfloat_model.proofs.rounding.Laws.{delivered_once, exact_delivered}
 use Rattle.apfloat_model.proofs.rounding.Neighbours.{multiple_on_grid}
-use Rattle.apfloat_augmented.specs.Payloads.{get_payload, integer_datum, payload_of, payload_bits, payload_bits_of, nan_significand}
+use Rattle.apfloat_model.specs.formats.Nan.{nan_significand}
+use Rattle.apfloat_augmented.specs.Payloads.{get_payload, integer_datum, payload_of, payload_bits, payload_bits_of}
 
 payload_short : (kind : NonfiniteBehavior) (explicit : Bool) (precision : ℕ)
     → payload_bits_of kind precision ≤ precision - 1

@@ -22,12 +22,6 @@ payload_bits f = payload_bits_of f.nonfinite f.precision
 abbrev pub payload_of : Format → ℕ → ℕ
 payload_of f significand = significand % 2 ^ payload_bits f
 
--- the significand of a NaN
-abbrev pub nan_significand : Datum → ℕ
-nan_significand (nan b s) = s
-nan_significand (infinite b) = 0
-nan_significand (finite b n) = 0
-
 -- an integer as a datum
 abbrev pub integer_datum : Format → Bool → ℕ → Datum
 integer_datum f negative integer = finite negative (integer * 2 ^ f.scale)

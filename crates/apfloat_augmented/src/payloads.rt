@@ -9,7 +9,7 @@ ghost use Rattle.apfloat_model.specs.order.Classes.{is_nan};
 ghost use Rattle.apfloat_ieee.specs.FlaggedTypes.{format_of};
 ghost use Rattle.apfloat_augmented.specs.Payloads.{get_payload, set_payload, set_payload_signaling};
 ghost use Rattle.apfloat_augmented.specs.Payloads.{payload_from, payload_of, payload_bits};
-ghost use Rattle.apfloat_augmented.specs.Payloads.{nan_significand};
+ghost use Rattle.apfloat_model.specs.formats.Nan.{nan_significand};
 
 use apfloat_base::{Float, NonfiniteBehavior};
 use apfloat_ieee::{Flagged, IeeeFloat};

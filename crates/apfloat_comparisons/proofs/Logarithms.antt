@@ -18,9 +18,10 @@ use Rattle.apfloat_model.specs.rounding.Rounding.{ok_bits, past_largest}
 use Rattle.apfloat_model.specs.arithmetic.Exponents.{IsLogarithm, IsIlogb, zero_exponent}
 use Rattle.apfloat_model.specs.arithmetic.Quotients.{div_by_zero_bit}
 use Rattle.apfloat_model.specs.arithmetic.Signs.{abs}
-use Rattle.apfloat_model.specs.order.Classes.{category_of, is_nan}
+use Rattle.apfloat_model.specs.order.Classes.{category_of}
 use Rattle.apfloat_model.specs.whole_numbers.WholeNumbers.{IsFromSigned}
 use Rattle.apfloat_model.proofs.general.Choices.{match_case}
+use Rattle.apfloat_model.proofs.order.Categories.{no_infinity, no_nan}
 use Rattle.apfloat_model.proofs.Once.{Once, answer_once, from_signed_once}
 use Rattle.apfloat_model.proofs.rounding.Laws.{delivered_once}
 use Rattle.apfloat_model.proofs.arithmetic.Inverses.{logarithm_once}
@@ -30,33 +31,18 @@ use Rattle.apfloat_conversions.specs.Scalings.{IsScaled}
 use Rattle.apfloat_comparisons.specs.Exponents.{IsLogB, IsLogBOfNumber, IsLogBOnce, IsIntegerLogBOnce}
 use Rattle.apfloat_comparisons.specs.Exponents.{IsScaledOnce, IsScaledAlike}
 
--- a number is neither a NaN nor an infinity
-not_nan : (test : Bool) → (if test then Zero else Normal) ≡ NaN → ⊥
-not_nan true e = cc
-not_nan false e = cc
-
-not_infinite : (test : Bool) → (if test then Zero else Normal) ≡ Infinity → ⊥
-not_infinite true e = cc
-not_infinite false e = cc
-
--- a datum of that category is a NaN
-pub nan_category : (x : Datum) → category_of x ≡ NaN → is_nan x ≡ true
-nan_category (nan b s) e = refl
-nan_category (infinite b) e = cc
-nan_category (finite b n) e = absurd (not_nan (eqb n 0) e)
-
 pub log_b_of_nan : (f : Format) (mode : Round) (x value : Datum) (status : ℕ) → category_of x ≡ NaN
     → value ≡ quieted_datum f x → status ≡ invalid_if (is_signaling_nan f x) → IsLogB f mode x value status
 log_b_of_nan f mode (nan b s) value status e h k = record { value_is = h; status_is = k }
 log_b_of_nan f mode (infinite b) value status e h k = cc
-log_b_of_nan f mode (finite b n) value status e h k = absurd (not_nan (eqb n 0) e)
+log_b_of_nan f mode (finite b n) value status e h k = absurd (no_nan (eqb n 0) e)
 
 pub log_b_of_infinity : (f : Format) (mode : Round) (x value : Datum) (status : ℕ) → category_of x ≡ Infinity
     → value ≡ abs f x → status ≡ ok_bits → IsLogB f mode x value status
 log_b_of_infinity f mode (nan b s) value status e h k = cc
 log_b_of_infinity f mode (infinite true) value status e h k = record { value_is = h; status_is = k }
 log_b_of_infinity f mode (infinite false) value status e h k = record { value_is = h; status_is = k }
-log_b_of_infinity f mode (finite b n) value status e h k = absurd (not_infinite (eqb n 0) e)
+log_b_of_infinity f mode (finite b n) value status e h k = absurd (no_infinity (eqb n 0) e)
 
 -- the infinity, negated
 negated_infinity : (kind : NonfiniteBehavior) (base : ℕ)

@@ -25,12 +25,6 @@ nans_in_order f b s c t =
     then (if b then positive_nans_in_order f t s else positive_nans_in_order f s t)
     else b
 
--- the significand of a NaN
-abbrev pub nan_significand : Datum → ℕ
-nan_significand (nan b s) = s
-nan_significand (finite b n) = 0
-nan_significand (infinite b) = 0
-
 -- two data that are not NaNs: the first is less (a), or they are equal, but not +0 and -0 (c)
 abbrev pub numbers_in_order : Datum → Datum → Bool
 numbers_in_order x y = is_below x y || (is_equal x y && (is_negative x || not (is_negative y)))

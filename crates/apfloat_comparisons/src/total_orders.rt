@@ -6,7 +6,7 @@ ghost use Rattle.apfloat_model.specs.bits.Layout.{trailing_bits};
 ghost use Rattle.apfloat_ieee.specs.FlaggedTypes.{format_of};
 ghost use Rattle.apfloat_comparisons.specs.TotalOrder.{total_order, total_order_mag, total_cmp};
 ghost use Rattle.apfloat_comparisons.specs.TotalOrder.{numbers_in_order, nans_in_order, positive_nans_in_order};
-ghost use Rattle.apfloat_comparisons.specs.TotalOrder.{nan_significand};
+ghost use Rattle.apfloat_model.specs.formats.Nan.{nan_significand};
 
 use apfloat_base::Float;
 use apfloat_ieee::{Flagged, IeeeFloat};

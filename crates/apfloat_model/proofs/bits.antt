@@ -1,3 +1,4 @@
 pub mod Encodings
 pub mod EncodedOnce
 pub mod FieldsOf
+pub mod NanSignificands

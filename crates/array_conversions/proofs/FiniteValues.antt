@@ -11,7 +11,8 @@ use Rattle.array_conversions.specs.declared.saturation.FiniteNan.TheVariants.{Ke
 use Rattle.array_conversions.specs.declared.saturation.ValueClass.TheVariants.{Number, Infinity, NotANumber}
 use Rattle.array_conversions.specs.Saturation.{IsFiniteConversion, class_of, saturated}
 
-pub nan_kept : (f g : Format) (mode : Round) (x value : Datum) (status : ℕ) (loses : Bool) → class_of x ≡ NotANumber
+pub nan_kept : (f g : Format) (mode : Round) (x value : Datum) (status : ℕ) (loses : Bool)
+    → class_of x ≡ NotANumber
     → IsConversion f g mode x value status loses → IsFiniteConversion Kept f g mode x value status loses
 nan_kept f g mode (nan b s) value status loses e h = h
 nan_kept f g mode (infinite b) value status loses e h = cc
@@ -78,7 +79,8 @@ number_past g (finite b n) rounded e past = rw past refl
 number_past g (infinite b) rounded e past = cc
 number_past g (nan b s) rounded e past = cc
 
-pub number_within : (g : Format) (x rounded : Datum) → is_finite rounded ≡ true → rounded ≡ saturated g x rounded
+pub number_within : (g : Format) (x rounded : Datum) → is_finite rounded ≡ true
+    → rounded ≡ saturated g x rounded
 number_within g (finite b n) rounded within = rw within refl
 number_within g (infinite b) rounded within = refl
 number_within g (nan b s) rounded within = refl

@@ -37,7 +37,8 @@ code_member d code lawful =
 
 -- ---- from a code
 
-pub read_exactly : (d : Constants) (f : Format) (code : ℕ) (value : Datum) (status : ℕ) (loses : Bool) → IsLawful d
+pub read_exactly : (d : Constants) (f : Format) (code : ℕ) (value : Datum) (status : ℕ) (loses : Bool)
+    → IsLawful d
     → AreNumbersOf d f → IsExactlyConverted (format_with d) f (datum_of d code) value status loses
     → value ≡ datum_of d code
 read_exactly d f code value status loses lawful same h =

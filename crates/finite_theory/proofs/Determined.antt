@@ -42,7 +42,8 @@ next_down_once f x v w s t h k =
 value_once : (f : Format) (mode : Round) (x : Datum) (places : ℤ)
     → Determines (λ (value : Datum). IsSettledValue (IsScaling f mode x places) f value)
 value_once f mode x places v w h k =
-    h.value_is ∙ ap (settled f) (scaling_once f mode x places h.given k.given h.is_given k.is_given) ∙ sym k.value_is
+    h.value_is ∙ ap (settled f) (scaling_once f mode x places h.given k.given h.is_given k.is_given)
+    ∙ sym k.value_is
 
 -- ---- texts
 

@@ -36,7 +36,8 @@ infinity_settled f g mode (finite b n) given value status flags loses lost kind 
 infinity_settled f g mode (nan b s) given value status flags loses lost kind is h e i l = absurd (false≢true is)
 
 pub nan_settled : (f g : Format) (mode : Round) (x given value : Datum) (status flags : ℕ) (loses lost : Bool)
-    → is_nan x ≡ true → IsConversion f g mode x given status loses → value ≡ settled g given → flags ≡ invalid_bit
+    → is_nan x ≡ true → IsConversion f g mode x given status loses → value ≡ settled g given
+    → flags ≡ invalid_bit
     → lost ≡ true → IsSettledConversion f g mode x value flags lost
 nan_settled f g mode (nan b s) given value status flags loses lost is h e i l = record {
   value_is = e ∙ ap (settled g) h.value_is;

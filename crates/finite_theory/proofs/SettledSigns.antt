@@ -29,7 +29,8 @@ number_finite kind true b n = zero_finite kind b
 number_finite kind false b n = refl
 
 -- the negation of a number is a number
-pub negated_finite : (kind : NonfiniteBehavior) (x : Datum) → is_finite x ≡ true → is_finite (negated kind x) ≡ true
+pub negated_finite : (kind : NonfiniteBehavior) (x : Datum) → is_finite x ≡ true
+    → is_finite (negated kind x) ≡ true
 negated_finite kind (finite b n) h = number_finite kind (eqb n 0) b n
 negated_finite kind (infinite b) h = absurd (false≢true h)
 negated_finite kind (nan b s) h = absurd (false≢true h)
@@ -57,7 +58,8 @@ settled_above f mode n value status h = record {
   value_is = h.value_is;
 }
 
-pub settled_below : (c : Constants) (d : CodeConstants) (mode : Round) (n : ℕ) (value : Datum) (status : ℕ) → IsLawful c
+pub settled_below : (c : Constants) (d : CodeConstants) (mode : Round) (n : ℕ) (value : Datum) (status : ℕ)
+    → IsLawful c
     → AreNumbersOf d (format_with c) → 0 < n
     → IsSettled (IsFromUnsigned (format_with c) (swapped mode) n) (format_with c) value status
     → IsSettled (IsFromSigned (format_with c) mode (neg_ℤ (pos n))) (format_with c)

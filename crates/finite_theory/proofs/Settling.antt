@@ -3,7 +3,7 @@ use Rattle.std.proofs.Common.{◌≡◌, ℕ, Bool, true, false, cond, eqb, ltb,
 use Rattle.std.specs.Prelude.{ℤ, pos}
 use Rattle.std.specs.Bool.{MatchBool}
 use Rattle.std.proofs.lemmas.Bool.{eqb-true, false≢true}
-use Rattle.apfloat_model.specs.declared.kinds.Category.TheVariants.{Infinity, NaN, Normal, Zero}
+use Rattle.apfloat_model.specs.declared.kinds.Category.TheVariants.{Infinity, NaN}
 use Rattle.apfloat_model.specs.declared.kinds.NonfiniteBehavior.{NonfiniteBehavior}
 use Rattle.apfloat_model.specs.declared.kinds.NonfiniteBehavior.TheVariants.{IEEE754, NanOnly, NanNegativeZero}
 use Rattle.apfloat_model.specs.declared.kinds.Round.{Round}
@@ -12,9 +12,10 @@ use Rattle.apfloat_model.specs.declared.status.StatusAnd.{StatusAnd}
 use Rattle.apfloat_model.specs.arithmetic.Exponents.{IsExactInverse, IsFraction, IsFrexp}
 use Rattle.apfloat_model.specs.formats.Datum.{Datum, finite, infinite, nan}
 use Rattle.apfloat_model.specs.formats.Format.{Format, largest, nan_base}
-use Rattle.apfloat_model.specs.order.Classes.{category_of, is_finite, is_infinite, is_nan, is_negative}
+use Rattle.apfloat_model.specs.order.Classes.{category_of, is_finite, is_nan, is_negative}
 use Rattle.apfloat_model.specs.rounding.Flags.{Gives, bits_of}
 use Rattle.apfloat_model.specs.rounding.Rounding.{IsDelivered, leads_out, past_largest, zero_sign}
+use Rattle.apfloat_model.proofs.order.Categories.{no_infinity, no_nan}
 use Rattle.finite_theory.specs.Laws.{AreSaturated, AreSettledFinite}
 use Rattle.finite_theory.specs.Settled.{IsSettled, settled, settled_answer}
 
@@ -32,35 +33,6 @@ finite_kept f (nan b s) h = absurd (false≢true h)
 
 -- ---- by its category
 
-pub normal_finite : (x : Datum) → category_of x ≡ Normal → is_finite x ≡ true
-normal_finite (finite b n) h = refl
-normal_finite (infinite b) h = cc
-normal_finite (nan b s) h = cc
-
-pub zero_finite : (x : Datum) → category_of x ≡ Zero → is_finite x ≡ true
-zero_finite (finite b n) h = refl
-zero_finite (infinite b) h = cc
-zero_finite (nan b s) h = cc
-
--- a number is normal or zero, and nothing else is infinite or a NaN
-no_infinity : (none : Bool) → cond none Zero Normal ≡ Infinity → ⊥
-no_infinity true h = cc
-no_infinity false h = cc
-
-no_nan : (none : Bool) → cond none Zero Normal ≡ NaN → ⊥
-no_nan true h = cc
-no_nan false h = cc
-
-pub infinite_category : (x : Datum) → category_of x ≡ Infinity → is_infinite x ≡ true
-infinite_category (infinite b) h = refl
-infinite_category (finite b n) h = absurd (no_infinity (eqb n 0) h)
-infinite_category (nan b s) h = cc
-
-pub nan_category : (x : Datum) → category_of x ≡ NaN → is_nan x ≡ true
-nan_category (nan b s) h = refl
-nan_category (finite b n) h = absurd (no_nan (eqb n 0) h)
-nan_category (infinite b) h = cc
-
 pub nan_kept : (f : Format) (x : Datum) → category_of x ≡ NaN → settled f x ≡ finite false 0
 nan_kept f (nan b s) h = refl
 nan_kept f (finite b n) h = absurd (no_nan (eqb n 0) h)
@@ -74,7 +46,8 @@ infinite_kept f (nan b s) most negative h sign e = cc
 
 -- ---- answers
 
-pub answer_settled : (f : Format) (Says : Datum → ℕ → Type 0) (answer result : StatusAnd Datum) → Gives Says answer
+pub answer_settled : (f : Format) (Says : Datum → ℕ → Type 0) (answer result : StatusAnd Datum)
+    → Gives Says answer
     → result.status ≡ answer.status → result.value ≡ settled f answer.value → Gives (IsSettled Says f) result
 answer_settled f Says answer result h same value = record {
   given = answer.value;
@@ -96,7 +69,8 @@ fraction_by : (f : Format) (none b : Bool) (n : ℕ) (value : Datum) (exponent :
 fraction_by f true b n value exponent h = ap is_finite h.0
 fraction_by f false b n value exponent h = ap is_finite h.is
 
-pub fraction_finite : (f : Format) (x value : Datum) (exponent : ℤ) → is_finite x ≡ true → IsFrexp f x value exponent
+pub fraction_finite : (f : Format) (x value : Datum) (exponent : ℤ) → is_finite x ≡ true
+    → IsFrexp f x value exponent
     → is_finite value ≡ true
 fraction_finite f (finite b n) value exponent number h = fraction_by f (eqb n 0) b n value exponent h
 fraction_finite f (infinite b) value exponent number h = absurd (false≢true number)

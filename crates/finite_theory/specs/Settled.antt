@@ -45,7 +45,8 @@ IsSettledConversion f g mode (nan b s) value status loses_info =
 IsSettledConversion f g mode (infinite b) value status loses_info =
     IsConverted (finite b (largest g)) invalid_bit true value status loses_info
 IsSettledConversion f g mode (finite b n) value status loses_info =
-    IsSettled (λ (given : Datum) (flags : ℕ). IsConversion f g mode (finite b n) given flags loses_info) g value status
+    IsSettled
+    (λ (given : Datum) (flags : ℕ). IsConversion f g mode (finite b n) given flags loses_info) g value status
 
 -- A text of an infinity or a NaN is read as what stands for it, with no flag.
 abbrev pub settled_answer : Format → StatusAnd Datum → StatusAnd Datum

@@ -14,7 +14,8 @@ pub record ArePackedTo (bits : ℕ) (codes bytes : List ℕ) (code byte : ℕ) :
   pub same_number : number_of_digits 8 (take byte bytes) ≡ number_of_digits bits (take code codes)
 
 -- the whole lists
-pub packed_whole : (bits : ℕ) (codes bytes : List ℕ) (code byte : ℕ) → length codes ≤ code → length bytes ≤ byte
+pub packed_whole : (bits : ℕ) (codes bytes : List ℕ) (code byte : ℕ) → length codes ≤ code
+    → length bytes ≤ byte
     → All (λ n. n < 2 ^ bits) codes → ArePackedTo bits codes bytes code byte → ArePacked bits codes bytes
 packed_whole bits codes bytes code byte l k fit so_far = record {
   codes_fit = fit;
@@ -32,14 +33,16 @@ length_set (x ∷ xs) zero y = refl
 length_set (x ∷ xs) (suc i) y = ap suc (length_set xs i y)
 
 -- it is written
-pub set_next : (xs front group : List ℕ) (n next y : ℕ) → next ≡ n + 1 → n < length xs → take n xs ≡ front ++ group
+pub set_next : (xs front group : List ℕ) (n next y : ℕ) → next ≡ n + 1 → n < length xs
+    → take n xs ≡ front ++ group
     → take next (slice_set xs n y) ≡ front ++ (group ++ y ∷ [])
 set_next xs front group n next y e l so_far =
     ap (λ (m : ℕ). take m (slice_set xs n y)) e ∙ take_more_set xs n y l
     ∙ ap (λ (zs : List ℕ). zs ++ y ∷ []) so_far ∙ append_assoc front group (y ∷ [])
 
 -- it is read
-pub read_next : (xs front group : List ℕ) (n next d : ℕ) → next ≡ n + 1 → n < length xs → take n xs ≡ front ++ group
+pub read_next : (xs front group : List ℕ) (n next d : ℕ) → next ≡ n + 1 → n < length xs
+    → take n xs ≡ front ++ group
     → take next xs ≡ front ++ (group ++ get_or xs n d ∷ [])
 read_next xs front group n next d e l so_far =
     ap (λ (m : ℕ). take m xs) e ∙ take_more xs n d l
@@ -61,13 +64,15 @@ one_more bits codes bytes more_codes more_bytes group three code byte next last 
       same_bits = ap (λ (n : ℕ). 8 * n) count ∙ bits_are ∙ ap (λ (n : ℕ). bits * n) (sym size);
       same_number = ap (number_of_digits 8) f
           ∙ groups_more bits (take byte bytes) three (take code codes) group
-          (ap (λ (n : ℕ). 8 * n) front ∙ places ∙ ap (λ (n : ℕ). bits * n) (sym before)) so_far.same_number same
+          (ap (λ (n : ℕ). 8 * n) front ∙ places
+          ∙ ap (λ (n : ℕ). bits * n) (sym before)) so_far.same_number same
           ∙ ap (number_of_digits bits) (sym e);
     }
 
 -- ---- the numbers of a group
 
-pub byte_of_fours : (byte : ℕ) → number_of_digits 8 (byte ∷ []) ≡ number_of_digits 4 ((byte % 16) ∷ (byte / 16) ∷ [])
+pub byte_of_fours : (byte : ℕ)
+    → number_of_digits 8 (byte ∷ []) ≡ number_of_digits 4 ((byte % 16) ∷ (byte / 16) ∷ [])
 byte_of_fours byte =
     let whole : byte / 16 * 16 + byte % 16 ≡ byte = div-add-mod' byte 16 in
     omega (arith, whole)

@@ -1,4 +1,4 @@
 mod Digits
-mod All
+pub mod All
 mod Groups
 mod Once

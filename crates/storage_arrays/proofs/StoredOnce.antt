@@ -170,7 +170,8 @@ HasLaw (OutOf source target) =
 -- the conversion of a value determines the number in its bytes and the outcome
 pub converted_at_once : (overflow : Overflow) (mode : Round) (ends : Ends) (input bytes other : List ℕ)
     (outcome also : Outcome) → HasLaw ends → IsConvertedAt overflow mode ends input bytes outcome
-    → IsConvertedAt overflow mode ends input other also → (number_of bytes ≡ number_of other) × (outcome ≡ also)
+    → IsConvertedAt overflow mode ends input other also
+    → (number_of bytes ≡ number_of other) × (outcome ≡ also)
 converted_at_once overflow mode (Into source target) input bytes other outcome also law h j =
     stored_once overflow (constants_in source) target mode (number_of input) (number_of bytes) (number_of other)
     outcome also h j

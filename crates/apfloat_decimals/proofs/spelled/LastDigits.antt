@@ -147,7 +147,8 @@ count_room first second n text room =
     omega (arith, upper, both, room)
 
 -- the upper digits are those of a lesser number
-pub upper_few : (second count n : ℕ) → second ≤ count → n < 10 ^ count → n / 10 ^ second < 10 ^ (count - second)
+pub upper_few : (second count n : ℕ) → second ≤ count → n < 10 ^ count
+    → n / 10 ^ second < 10 ^ (count - second)
 upper_few second count n within few =
     let all : count - second + second ≡ count = omega (arith, within) in
     let split : 10 ^ count ≡ 10 ^ (count - second) * 10 ^ second =
@@ -172,7 +173,8 @@ none_joined count n text none =
 pub all_last : (n : ℕ) → n < 2 ^ 128 → last_digits (length (decimal n)) n ≡ decimal n
 unfolding last_digits
 all_last n few =
-    decimal_by_steps_wide (λ (m : ℕ) (ds : List ℕ). last_digits (length ds) m ≡ ds) one more n (omega (arith, few))
+    decimal_by_steps_wide (λ (m : ℕ) (ds : List ℕ). last_digits (length ds) m ≡ ds) one more n
+    (omega (arith, few))
   where
     one : (m : ℕ) → m < 10 → last_digits (length ((48 + m) ∷ [])) m ≡ (48 + m) ∷ []
     one m l = let same : 48 + m % 10 ≡ 48 + m = omega (arith, l) in ap (λ (k : ℕ). k ∷ []) same
@@ -194,7 +196,8 @@ zeros_last (suc count) =
     ∙ ap (λ (k : ℕ). replicate k 48) next
 
 -- leading zeros and the digits of a number are its last digits
-pub padded_last : (places n : ℕ) → length (decimal n) ≤ places → n < 2 ^ 128 → last_digits places n ≡ padded places n
+pub padded_last : (places n : ℕ) → length (decimal n) ≤ places → n < 2 ^ 128
+    → last_digits places n ≡ padded places n
 padded_last places n within few =
     let digits = length (decimal n) in
     let none : n / 10 ^ digits ≡ 0 = div-eq_of_lt (below_power n few) in

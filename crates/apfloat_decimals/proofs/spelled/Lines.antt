@@ -89,7 +89,8 @@ below_one_length n places few within =
 
 -- appending these parts one by one appends the number
 pub below_one_joined : (n count places : ℕ) (text first second third : List ℕ) → n < 2 ^ 128
-    → count ≡ length (decimal n) → count ≤ places → first ≡ text ++ (48 ∷ []) → second ≡ first ++ codes "."
+    → count ≡ length (decimal n) → count ≤ places → first ≡ text ++ (48 ∷ [])
+    → second ≡ first ++ codes "."
     → third ≡ second ++ replicate (places - count) 48 → third ++ decimal n ≡ text ++ pointed n places
 below_one_joined n count places text first second third few counted within one two three =
     let rest : List ℕ = replicate (places - length (decimal n)) 48 ++ decimal n in

@@ -25,6 +25,12 @@ quiet_bit f = quiet_bit_of f.nonfinite f.precision
 
 -- ---- a significand
 
+-- the significand of a NaN; of any other datum 0
+abbrev pub nan_significand : Datum → ℕ
+nan_significand (nan b s) = s
+nan_significand (infinite b) = 0
+nan_significand (finite b n) = 0
+
 -- signaling: not all the quiet bits are set
 abbrev pub is_signaling : Format → ℕ → Bool
 is_signaling f significand = not (eqb (bit_and significand (quiet_bits f)) (quiet_bits f))

@@ -1,6 +1,6 @@
 use Rattle.apfloat_ieee.specs.FlaggedTypes.{format_of, layout_of}
-use Rattle.apfloat_augmented.specs.Payloads.{nan_significand}
-use Rattle.apfloat_augmented.proofs.NanSignificands.{nan_trailing}
+use Rattle.apfloat_model.specs.formats.Nan.{nan_significand}
+use Rattle.apfloat_model.proofs.bits.NanSignificands.{nan_trailing}
 use Rattle.apfloat_augmented.proofs.PayloadValues.{payload_is}
 use Rattle.apfloat_augmented.proofs.payloads.payload_of_nan.Goals as goal
 

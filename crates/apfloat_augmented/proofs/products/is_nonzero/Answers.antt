@@ -1,6 +1,6 @@
 use Rattle.std.proofs.Common.{sym, ◌∙◌}
 use Rattle.apfloat_ieee.specs.FlaggedTypes.{format_of}
-use Rattle.apfloat_augmented.proofs.Cases.{normal_finite}
+use Rattle.apfloat_model.proofs.order.Categories.{normal_finite}
 use Rattle.apfloat_augmented.proofs.Numbers.{number_in}
 use Rattle.apfloat_augmented.proofs.ProductCases.{some_of_normal, zero_of_category, infinity_of_category, nan_of_category}
 use Rattle.apfloat_augmented.proofs.products.is_nonzero.Goals as goal

@@ -1,6 +1,6 @@
 use Rattle.std.proofs.Common.{sym, ◌∙◌}
 use Rattle.apfloat_ieee.specs.FlaggedTypes.{format_of}
-use Rattle.apfloat_augmented.proofs.Cases.{zero_finite, normal_finite}
+use Rattle.apfloat_model.proofs.order.Categories.{zero_finite, normal_finite}
 use Rattle.apfloat_augmented.proofs.Numbers.{number_in}
 use Rattle.apfloat_augmented.proofs.sums.is_number.Goals as goal
 

@@ -3,7 +3,8 @@ use Rattle.apfloat_model.specs.formats.Nan.{invalid_if}
 use Rattle.apfloat_model.specs.rounding.Negation.{negated}
 use Rattle.apfloat_ieee.specs.FlaggedTypes.{format_of}
 use Rattle.apfloat_comparisons.proofs.Logarithms.{log_b_of_nan, log_b_of_infinity, log_b_of_zero, log_b_of_number}
-use Rattle.apfloat_comparisons.proofs.Logarithms.{nan_category, same_wide}
+use Rattle.apfloat_model.proofs.order.Categories.{nan_category}
+use Rattle.apfloat_comparisons.proofs.Logarithms.{same_wide}
 use Rattle.apfloat_comparisons.proofs.exponents.log_b.Goals as goal
 
 pub quieted-requires : goal.quieted-requires

@@ -1,5 +1,5 @@
 use Rattle.apfloat_ieee.specs.FlaggedTypes.{format_of, layout_of}
-use Rattle.apfloat_comparisons.proofs.NanSignificands.{nan_trailing}
+use Rattle.apfloat_model.proofs.bits.NanSignificands.{nan_trailing}
 use Rattle.apfloat_comparisons.proofs.total_orders.significand_of_nan.Goals as goal
 
 pub returns : goal.returns

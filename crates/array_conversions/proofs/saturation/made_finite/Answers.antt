@@ -28,5 +28,6 @@ returns-in-Infinity g c = λ f mode x class sign h.
 pub returns-in-Number : goal.returns-in-Number
 returns-in-Number g c = λ f mode x class sign h.
     rw (c.and-in-Number.ensures.value, c.and-in-Number.ensures.status)
-    (number_saturated c.args.nans f (format_of g.T.Flagged) mode x c.args.answer.value _ _ _ (class ∙ c.in-Number.is) h
+    (number_saturated c.args.nans f (format_of g.T.Flagged) mode x c.args.answer.value _ _ _
+    (class ∙ c.in-Number.is) h
     (c.saturated.ensures x class sign))

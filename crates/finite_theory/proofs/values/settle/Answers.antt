@@ -1,6 +1,7 @@
 use Rattle.std.proofs.Common.{sym, ◌∙◌}
 use Rattle.apfloat_ieee.specs.Types.{format_of}
-use Rattle.finite_theory.proofs.Settling.{finite_kept, infinite_kept, nan_kept, normal_finite, zero_finite}
+use Rattle.apfloat_model.proofs.order.Categories.{normal_finite, zero_finite}
+use Rattle.finite_theory.proofs.Settling.{finite_kept, infinite_kept, nan_kept}
 use Rattle.finite_theory.proofs.values.settle.Goals as goal
 
 pub returns-in-Normal : goal.returns-in-Normal

@@ -6,12 +6,12 @@ use Rattle.apfloat_model.specs.declared.kinds.NonfiniteBehavior.{NonfiniteBehavi
 use Rattle.apfloat_model.specs.declared.kinds.NonfiniteBehavior.TheVariants.{IEEE754, NanOnly, NanNegativeZero}
 use Rattle.apfloat_model.specs.formats.Format.{Format, smallest_normalized, nan_base_of}
 use Rattle.apfloat_model.specs.formats.Datum.{Datum}
+use Rattle.apfloat_model.specs.formats.Nan.{nan_significand}
 use Rattle.apfloat_model.specs.order.Classes.{is_nan}
 use Rattle.apfloat_model.specs.bits.Layout.{Layout, Fields, all_ones, trailing_bits, fields_of, has_all_ones}
 use Rattle.apfloat_model.specs.bits.Layout.{implied_number, implied_datum, written_datum}
 use Rattle.apfloat_model.specs.bits.Layout.{datum_of_fields, datum_of}
 use Rattle.apfloat_model.proofs.general.Choices.{if_case}
-use Rattle.apfloat_comparisons.specs.TotalOrder.{nan_significand}
 
 -- if the datum is a NaN, this is its significand
 abbrev IsOfNan : ℕ → Datum → Type 0
