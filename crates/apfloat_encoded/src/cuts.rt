@@ -3,9 +3,8 @@
 ghost use Rattle.std.specs.Prelude.{◌≡◌, ℕ, ◌+◌, ◌-◌, ◌*◌, ◌%◌, ◌^◌, ◌<◌, ◌≤◌, pos, if◌then◌else◌, IfSome};
 ghost use Rattle.apfloat_model.specs.bits.Layout.{IsEncodedBy};
 ghost use Rattle.apfloat_model.specs.formats.Datum.{finite};
-ghost use Rattle.apfloat_model.specs.rounding.Enclosure.{IsEnclosed, rounds_up};
+ghost use Rattle.apfloat_model.specs.rounding.Enclosure.{IsEnclosed};
 ghost use Rattle.apfloat_model.specs.rounding.Flags.{bits_of};
-ghost use Rattle.apfloat_model.specs.rounding.Rounding.{points_away};
 ghost use Rattle.apfloat_model.specs.rounding.Standing.{StandsFor};
 ghost use Rattle.apfloat_ieee.specs.FlaggedTypes.{constants_of, format_of, layout_of};
 ghost use Rattle.apfloat_rounding.specs.Cuts.{loss_at};
@@ -16,6 +15,7 @@ use crate::encoded::Encoded;
 use crate::numbers::exponents;
 use apfloat_base::{ExpInt, Round, Status};
 use apfloat_ieee::Flagged;
+use apfloat_rounding::rounding::{moves_past, next_word_if};
 
 /// The place, if a significand with all its digits there is a normal number, and the next one too, whatever it is.
 #[inline(always)]
@@ -32,39 +32,6 @@ pub(crate) fn inner_place<S: Flagged>(place: ExpInt) -> Option<u32>
     } else {
         None
     }
-}
-
-/// Whether a directed mode rounds a magnitude of this sign up, away from zero.
-#[inline(always)]
-fn is_outward(mode: Round, negative: bool) -> bool
-    ensures { result ≡ points_away mode negative }
-{
-    ((mode == Round::TowardPositive) & !negative) | ((mode == Round::TowardNegative) & negative)
-}
-
-/// Whether the mode moves a significand up because of the rest below it, in units of which its last digit is
-/// `2 * half`.
-#[inline(always)]
-fn moves_past(mode: Round, negative: bool, rest: u64, half: u64, odd: bool) -> bool
-    requires { 0 < half }
-    ensures { result ≡ rounds_up mode negative (loss_at rest half) odd }
-{
-    if mode == Round::NearestTiesToEven {
-        return rest > half - u64::from(odd);
-    }
-    if mode == Round::NearestTiesToAway {
-        return rest >= half;
-    }
-    is_outward(mode, negative) & (rest != 0)
-}
-
-/// The next number if `moved`, otherwise the number itself.
-#[inline(always)]
-fn next_if(number: u64, moved: bool) -> u64
-    requires { number < 2 ^ 63 }
-    ensures { result ≡ (if moved then number + 1 else number) }
-{
-    if moved { number + 1 } else { number }
 }
 
 /// The status of a rounding that cuts off a rest.
@@ -150,7 +117,7 @@ pub(crate) fn encode_cut<S: Flagged>(
         → IsEncodedNumber (constants_of S.Flagged) round negative amount parts result }
 {
     let moved = moves_past(round, negative, rest, half, kept % 2 == 1);
-    let picked = next_if(kept, moved);
+    let picked = next_word_if(kept, moved);
     let bits = bits_at::<S>(negative, picked, place);
     Encoded {
         bits: bits as u128,

@@ -7,20 +7,20 @@ use Rattle.apfloat_encoded.proofs.Kept.{word_room}
 use Rattle.apfloat_encoded.proofs.Roundings.{inner_delivered, moved_high, moved_low}
 use Rattle.apfloat_encoded.proofs.cuts.encode_cut.Goals as goal
 
-pub next_if-picked-requires : goal.next_if-picked-requires
-next_if-picked-requires g c = word_room g.S.Flagged.PRECISION c.args.kept c.requires.word.precise c.requires.fits
+pub next_word_if-picked-requires : goal.next_word_if-picked-requires
+next_word_if-picked-requires g c = word_room g.S.Flagged.PRECISION c.args.kept c.requires.word.precise c.requires.fits
 
 pub bits_at-bits-requires-clause-full : goal.bits_at-bits-requires-clause-full
 bits_at-bits-requires-clause-full g c =
     let low = moved_low c.moves_past-moved.result c.args.kept in
     let full = c.requires.full in
-    rw c.next_if-picked.ensures (omega (arith, low, full))
+    rw c.next_word_if-picked.ensures (omega (arith, low, full))
 
 pub bits_at-bits-requires-clause-fits : goal.bits_at-bits-requires-clause-fits
 bits_at-bits-requires-clause-fits g c =
     let high = moved_high c.moves_past-moved.result c.args.kept in
     let fits = c.requires.fits in
-    rw c.next_if-picked.ensures (omega (arith, high, fits))
+    rw c.next_word_if-picked.ensures (omega (arith, high, fits))
 
 pub returns : goal.returns
 returns g c = λ amount parts some enclosed stands. record {
@@ -35,5 +35,5 @@ returns g c = λ amount parts some enclosed stands. record {
       subst
       (λ (n : ℕ). IsEncodedBy (format_of g.S.Flagged) (layout_of g.S.Flagged) c.bits_at-bits.result
       (finite c.args.negative (n * 2 ^ c.args.place)))
-      c.next_if-picked.ensures c.bits_at-bits.ensures;
+      c.next_word_if-picked.ensures c.bits_at-bits.ensures;
 }
