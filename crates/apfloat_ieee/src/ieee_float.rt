@@ -32,7 +32,7 @@ pub struct IeeeFloat<S: Flagged> {
 }
 
 /// A nonzero number: its significand, whose integer bit is set, and the exponent of its last digit.
-#[derive(Clone, Copy, Debug)]
+#[derive(Clone, Copy)]
 pub struct Number {
     /// The digits, as an integer. Those of a denormal value below its quantum are zero.
     pub significand: u128,

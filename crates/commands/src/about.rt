@@ -12,7 +12,7 @@ use std::io::Write;
 const VERSION: &str = "0.1.0";
 
 /// A question about a program.
-#[derive(Clone, Copy, PartialEq, Eq, Debug)]
+#[derive(Clone, Copy)]
 pub enum About {
     /// How it is called.
     Help,

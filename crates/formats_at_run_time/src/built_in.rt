@@ -90,7 +90,7 @@ macro_rules! kind_of_code {
 }
 
 /// The built-in formats that have bits.
-#[derive(Clone, Copy, PartialEq, Eq, Debug)]
+#[derive(Clone, Copy)]
 pub enum BuiltInFormat {
     /// Binary16.
     Half,
@@ -121,7 +121,7 @@ pub enum BuiltInFormat {
 }
 
 /// The built-in kinds of values.
-#[derive(Clone, Copy, PartialEq, Eq, Debug)]
+#[derive(Clone, Copy)]
 pub enum BuiltInKind {
     /// Values of a format.
     OfFormat(BuiltInFormat),
