@@ -219,7 +219,7 @@ fn is_outward(mode: Round, negative: bool) -> bool
 /// Whether the mode moves a significand up because of the rest below it, in units of which its last digit is
 /// `2 * half`.
 #[inline(always)]
-fn moves_past(mode: Round, negative: bool, rest: u64, half: u64, odd: bool) -> bool
+pub fn moves_past(mode: Round, negative: bool, rest: u64, half: u64, odd: bool) -> bool
     requires { 0 < half }
     ensures { result ≡ rounds_up mode negative (loss_at rest half) odd }
 {
@@ -258,7 +258,7 @@ fn pick(precision: u32, cut: Cut, mode: Round, negative: bool) -> u128
 
 /// The next word if `moved`, otherwise the word itself.
 #[inline(always)]
-fn next_word_if(word: u64, moved: bool) -> u64
+pub fn next_word_if(word: u64, moved: bool) -> u64
     requires { word < 2 ^ 63 }
     ensures { result ≡ (if moved then word + 1 else word) }
 {
@@ -638,7 +638,7 @@ struct Pieces {
 
 /// 2 to the power of `exponent`, in a word.
 #[inline(always)]
-fn word_power(exponent: u32) -> u64
+pub fn word_power(exponent: u32) -> u64
     requires { exponent < 64 }
     ensures { result ≡ 2 ^ exponent }
 {
@@ -647,7 +647,7 @@ fn word_power(exponent: u32) -> u64
 
 /// The lowest `places` binary digits of a word.
 #[inline(always)]
-fn low_of_word(word: u64, places: u32) -> u64
+pub fn low_of_word(word: u64, places: u32) -> u64
     requires { places < 64 }
     ensures { result ≡ word % 2 ^ places }
 {
