@@ -256,8 +256,9 @@ rest_inexact rest half f z =
     (cases_lt rest 1)
 
 -- the digits above the binary point represent the amount with the loss of those below it
-pub word_cut_stands : (s places shift half rest amount parts : ℕ) → s < 2 ^ 62 → (places ≤ 63 → shift ≡ places)
-    → (63 < places → shift ≡ 63) → 0 < shift → half ≡ 2 ^ (shift - 1) → rest ≡ s % 2 ^ shift → 0 < parts
+pub word_cut_stands : (s places shift half rest amount parts : ℕ) → s < 2 ^ 62
+    → (places ≤ 63 → shift ≡ places) → (63 < places → shift ≡ 63) → 0 < shift
+    → half ≡ 2 ^ (shift - 1) → rest ≡ s % 2 ^ shift → 0 < parts
     → amount * 2 ^ places ≡ s * parts → StandsFor (s / 2 ^ shift) (loss_at rest half) amount parts
 word_cut_stands s places shift half rest amount parts l n f z h r u e =
     let l' : 2 * s < 2 ^ 63 = omega (arith, l) in
