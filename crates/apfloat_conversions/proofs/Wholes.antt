@@ -3,7 +3,7 @@ use Rattle.std.proofs.Common.{◌≡◌, ℕ, ◌+◌, ◌-◌, ◌*◌, ◌/◌
 use Rattle.std.proofs.Math.Nat.{mul-mod_left, mul-div_cancel, div-eq_of_lt-le, div-one, mul-le-mul_right, mul-le-mul_left, pow-le-pow_right, mul-lt-mul_of_pos_right}
 use Rattle.std.proofs.lemmas.Nat.{div-add-mod', pow-add, pow_pos}
 use Rattle.std.proofs.lemmas.Int.{ints}
-use Rattle.std.proofs.lemmas.Bool.{cases_eq, eq-eqb, ne_eqb}
+use Rattle.std.proofs.lemmas.Bool.{cases_eq, cases_lt, eq-eqb, ne_eqb}
 use Rattle.apfloat_model.specs.declared.kinds.Round.{Round}
 use Rattle.apfloat_model.specs.declared.kinds.Round.TheVariants.{TowardZero}
 use Rattle.apfloat_model.specs.declared.loss.Loss.{Loss}
@@ -16,11 +16,14 @@ use Rattle.apfloat_model.specs.rounding.Rounding.{takes_above, pick_between, sig
 use Rattle.apfloat_model.specs.whole_numbers.WholeNumbers.{whole_pick, whole_quanta, inexact_unless, IsRoundToIntegral}
 use Rattle.apfloat_model.proofs.general.Powers.{two_pos, twice_half}
 use Rattle.apfloat_model.proofs.rounding.Deliveries.{signed_some}
-use Rattle.apfloat_model.proofs.rounding.Losses.{stands_to, stands_past}
+use Rattle.apfloat_model.proofs.rounding.Losses.{stands_to, stands_past, cut_at}
 use Rattle.apfloat_model.proofs.rounding.KeptDigits.{stands_cancel}
 use Rattle.apfloat_model.proofs.rounding.Picks.{kept, takes_less, takes_half, takes_more}
 use Rattle.apfloat_model.proofs.arithmetic.SingleScalings.{scaled_stands}
 use Rattle.apfloat_model.proofs.general.Choices.{off_both}
+use Rattle.apfloat_rounding.specs.Cuts.{loss_at}
+use Rattle.apfloat_rounding.proofs.CutRests.{loss_some, rest_below, rest_stands}
+use Rattle.apfloat_rounding.proofs.QuantumCuts.{less_than_half, word_stands}
 
 -- an integer that is an odd multiple of the distance to the next one is odd
 whole_odd : (q : ℕ) → eqb (q / (q + 1 - q) % 2) 1 ≡ eqb (q % 2) 1
@@ -240,6 +243,31 @@ pub whole_multiple : (q amount parts : ℕ) → amount ≡ q * parts → true �
 whole_multiple q amount parts e = sym (eq-eqb (amount % parts) 0 (ap (λ (x : ℕ). x % parts) e ∙ mul-mod_left q parts))
 
 -- ---- digits after the dot, cut in one word
+
+-- a rest is exact if it is 0
+pub rest_exact : (rest half : ℕ) → eqb rest 0 ≡ true → loss_at rest half ≡ ExactlyZero
+rest_exact rest half t = rw t refl
+
+pub rest_inexact : (rest half : ℕ) → eqb rest 0 ≡ false → loss_at rest half ≡ ExactlyZero → ⊥
+rest_inexact rest half f z =
+    ⊎_elim
+    (λ (a : rest < 1). let b = sym f ∙ eq-eqb rest 0 (omega arith) in cc)
+    (λ (a : 1 ≤ rest). loss_some rest half (omega arith) z)
+    (cases_lt rest 1)
+
+-- the digits above the binary point represent the amount with the loss of those below it
+pub word_cut_stands : (s places shift half rest amount parts : ℕ) → s < 2 ^ 62
+    → (places ≤ 63 → shift ≡ places) → (63 < places → shift ≡ 63) → 0 < shift
+    → half ≡ 2 ^ (shift - 1) → rest ≡ s % 2 ^ shift → 0 < parts
+    → amount * 2 ^ places ≡ s * parts → StandsFor (s / 2 ^ shift) (loss_at rest half) amount parts
+word_cut_stands s places shift half rest amount parts l n f z h r u e =
+    let l' : 2 * s < 2 ^ 63 = omega (arith, l) in
+    let b = rest_below s shift half rest z h r in
+    let g = cut_at s shift half rest ExactlyZero (loss_at rest half) z h r
+    (λ q x v w t. rest_stands q half rest x v w b t) (s * parts) parts u refl in
+    cut_whole_stands s (s / 2 ^ shift) places amount parts (loss_at rest half) e
+    (word_stands s 63 places shift (s * parts) parts (loss_at rest half) l' n f
+    (less_than_half s 63 (s * parts) parts l' u refl) g)
 
 pub fits_longer : (s p k : ℕ) → s < 2 ^ p → p ≤ k → s < 2 ^ k
 fits_longer s p k l h = let a : 2 ^ p ≤ 2 ^ k = pow-le-pow_right two_pos h in omega (arith, l, a)

@@ -1,11 +1,13 @@
 //! Conversions from and to integers.
 
-ghost use Rattle.std.specs.Prelude.{◌≡◌, ◌-◌, ◌*◌, ◌^◌, ◌<◌, ◌≤◌, pos, if◌then◌else◌};
+ghost use Rattle.std.specs.Int.{cast_signed, w128};
+ghost use Rattle.std.specs.Prelude.{◌≡◌, ◌-◌, ◌*◌, ◌^◌, ◌<◌, ◌≤◌, pos, false, if◌then◌else◌};
 ghost use Rattle.apfloat_model.specs.formats.Datum.{finite};
+ghost use Rattle.apfloat_model.specs.formats.Nan.{invalid_bit};
 ghost use Rattle.apfloat_model.specs.rounding.Flags.{bits_of};
 ghost use Rattle.apfloat_model.specs.whole_numbers.WholeNumbers.{IsFromUnsigned, inexact_unless};
 ghost use Rattle.apfloat_model.specs.arithmetic.Exact.{signed};
-ghost use Rattle.apfloat_model.specs.whole_numbers.WholeNumbersOut.{invalid_whole, to_signed, to_unsigned};
+ghost use Rattle.apfloat_model.specs.whole_numbers.WholeNumbersOut.{exact_or_not, invalid_whole, to_signed, to_unsigned};
 ghost use Rattle.apfloat_rounding.specs.Shapes.{format_at};
 ghost use Rattle.apfloat_rounding.specs.Stored.{IsStored, IsNormal, datum_at, number_of, quanta_of, GivesAt};
 ghost use Rattle.apfloat_conversions.specs.Results.{GivesSigned, GivesWhole, IsLimited};
@@ -112,6 +114,14 @@ fn limit_of(width: u32, negative: bool) -> u128
     if negative { 0 } else { greatest(width) }
 }
 
+/// By how much the greatest magnitude with this sign is below a power of two.
+#[inline(always)]
+fn below_power(negative: bool) -> u128
+    ensures { result ≡ (if negative then 0 else 1) }
+{
+    u128::from(!negative)
+}
+
 /// The greatest magnitude of a signed integer of `width` binary digits with this sign.
 #[inline(always)]
 fn signed_limit(width: u32, negative: bool) -> u128
@@ -120,8 +130,18 @@ fn signed_limit(width: u32, negative: bool) -> u128
     ensures value { result ≡ signed_limit width negative }
     ensures fits { result ≤ signed_limit 128 negative }
 {
-    let end = power_of_two(width - 1);
-    if negative { end } else { end - 1 }
+    power_of_two(width - 1) - below_power(negative)
+}
+
+/// The integer of that magnitude with this sign, in 128-bit two's complement. The magnitude is negated before the sign
+/// is asked for, so that the compiler makes a choice of it and no branch: a processor cannot predict the sign.
+#[inline(always)]
+fn bits_with_sign(negative: bool, magnitude: u128) -> u128
+    requires { magnitude ≤ signed_limit 128 negative }
+    ensures { cast_signed w128 result ≡ signed negative magnitude }
+{
+    let negated = magnitude.wrapping_neg();
+    if negative { negated } else { magnitude }
 }
 
 /// The integer of that magnitude with this sign.
@@ -130,12 +150,34 @@ fn with_sign(negative: bool, magnitude: u128) -> i128
     requires { magnitude ≤ signed_limit 128 negative }
     ensures { result ≡ signed negative magnitude }
 {
-    if !negative {
-        magnitude as i128
-    } else if magnitude == 1 << 127 {
-        i128::MIN
+    bits_with_sign(negative, magnitude).cast_signed()
+}
+
+/// The status of an integer, by whether it is in range.
+#[inline(always)]
+fn status_within(fits: bool, exact: bool) -> Status
+    ensures { bits_of result ≡ (if fits then inexact_unless exact else invalid_bit) }
+{
+    if fits {
+        status_of(exact)
     } else {
-        -(magnitude as i128)
+        Status::INVALID_OP
+    }
+}
+
+/// An integer if it is at most `limit`, and else the limit, with `INVALID_OP`. There is no branch on which of them it
+/// is: for an unsigned integer the sign decides that, which a processor cannot predict.
+#[inline(always)]
+fn within_limit(whole: Whole, limit: u128) -> Unsigned
+    ensures past { limit < whole.magnitude → GivesWhole (invalid_whole (pos limit)) result }
+    ensures within { whole.magnitude ≤ limit
+        → GivesWhole (exact_or_not (pos whole.magnitude) whole.exact false) result }
+    ensures fits { result.answer.value ≤ limit }
+{
+    let fits = whole.magnitude <= limit;
+    Unsigned {
+        answer: status_within(fits, whole.exact).and(whole.magnitude.min(limit)),
+        is_exact: whole.exact & fits,
     }
 }
 
@@ -150,16 +192,7 @@ fn magnitude_within(shape: Shape, x: Unpacked, limit: u128, round: Round) -> Uns
 {
     match whole_of(shape, x, round) {
         None => out_of_range(limit),
-        Some(whole) => {
-            if whole.magnitude > limit {
-                out_of_range(limit)
-            } else {
-                Unsigned {
-                    answer: status_of(whole.exact).and(whole.magnitude),
-                    is_exact: whole.exact,
-                }
-            }
-        }
+        Some(whole) => within_limit(whole, limit),
     }
 }
 

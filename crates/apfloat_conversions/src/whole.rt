@@ -8,12 +8,10 @@ ghost use Rattle.apfloat_conversions.specs.Wholes.{IsPicked, IsPickedWithin};
 
 use apfloat_model::{ExpInt, Loss, Round};
 use apfloat_rounding::exponents::last_exponent;
-use apfloat_rounding::rounding::moves_up;
+use apfloat_rounding::rounding::{low_of_word, moves_past, moves_up, next_word_if, word_power};
 use apfloat_rounding::shape::Shape;
 use apfloat_rounding::unpacked::Unpacked;
-use apfloat_words::{
-    Shifted, is_exact, loss_of_rest, low_digits, power_of_two, shift_right, steps_between,
-};
+use apfloat_words::{is_exact, power_of_two, shift_right, steps_between};
 
 /// The magnitude of the integer that a number was rounded to, and whether it is exact.
 #[derive(Clone, Copy)]
@@ -35,50 +33,25 @@ fn word_places(places: u32) -> u32
     if places > 63 { 63 } else { places }
 }
 
-/// Half of the unit of the digit above the lowest `places` ones, in one word.
+/// At most 62 digits, the lowest `places` of them after the binary point, rounded by the mode to an integer in one
+/// word. There is no branch on the digits, since a processor cannot predict them.
 #[inline(always)]
-fn half_in_word(places: u32) -> u128
-    requires some { 0 < places }
-    requires short { places ≤ 63 }
-    ensures { result ≡ 2 ^ (places - 1) }
-{
-    u128::from(1_u64 << (places - 1))
-}
-
-/// `shift_right` of at most 62 digits, with nothing lost below them, in one word.
-#[inline(always)]
-fn shift_word(significand: u128, places: u32) -> Shifted
+fn round_in_word(significand: u128, places: u32, round: Round, negative: bool) -> Whole
     requires short { significand < 2 ^ 62 }
     requires some { 0 < places }
-    ensures quotient { result.significand ≡ significand / 2 ^ places }
-    ensures stands { (amount unit : ℕ) → 0 < unit
-        → StandsFor significand Loss.ExactlyZero amount unit
-        → StandsFor result.significand result.loss amount (2 ^ places * unit) }
+    ensures bound { result.magnitude ≤ significand / 2 ^ places + 1 }
+    ensures picked { (amount parts : ℕ) → 0 < parts → amount * 2 ^ places ≡ significand * parts
+        → IsPicked round negative amount parts result }
 {
     let word = significand as u64;
     let shift = word_places(places);
-    let half = half_in_word(shift);
-    let rest = low_digits(u128::from(word), shift);
-    Shifted {
-        significand: u128::from(word >> shift),
-        loss: loss_of_rest(rest, half, Loss::ExactlyZero),
-    }
-}
-
-/// `shift_right` of a significand with nothing lost below it, in one word if the precision allows it.
-#[inline(always)]
-fn cut_at_dot(precision: u32, significand: u128, places: u32) -> Shifted
-    requires fits { significand < 2 ^ precision }
-    requires some { 0 < places }
-    ensures quotient { result.significand ≡ significand / 2 ^ places }
-    ensures stands { (amount unit : ℕ) → 0 < unit
-        → StandsFor significand Loss.ExactlyZero amount unit
-        → StandsFor result.significand result.loss amount (2 ^ places * unit) }
-{
-    if precision <= 62 {
-        shift_word(significand, places)
-    } else {
-        shift_right(significand, places, Loss::ExactlyZero)
+    let half = word_power(shift - 1);
+    let rest = low_of_word(word, shift);
+    let kept = word >> shift;
+    let moved = moves_past(round, negative, rest, half, kept % 2 == 1);
+    Whole {
+        magnitude: u128::from(next_word_if(kept, moved)),
+        exact: rest == 0,
     }
 }
 
@@ -98,7 +71,10 @@ fn round_fraction(
     ensures picked { (amount parts : ℕ) → 0 < parts → amount * 2 ^ places ≡ significand * parts
         → IsPicked round negative amount parts result }
 {
-    let kept = cut_at_dot(precision, significand, places);
+    if precision <= 62 {
+        return round_in_word(significand, places, round, negative);
+    }
+    let kept = shift_right(significand, places, Loss::ExactlyZero);
     let exact = is_exact(kept.loss);
     if moves_up(round, negative, kept.loss, kept.significand % 2 == 1) {
         Whole {

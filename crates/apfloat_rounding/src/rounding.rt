@@ -638,7 +638,7 @@ struct Pieces {
 
 /// 2 to the power of `exponent`, in a word.
 #[inline(always)]
-fn word_power(exponent: u32) -> u64
+pub fn word_power(exponent: u32) -> u64
     requires { exponent < 64 }
     ensures { result ≡ 2 ^ exponent }
 {
@@ -647,7 +647,7 @@ fn word_power(exponent: u32) -> u64
 
 /// The lowest `places` binary digits of a word.
 #[inline(always)]
-fn low_of_word(word: u64, places: u32) -> u64
+pub fn low_of_word(word: u64, places: u32) -> u64
     requires { places < 64 }
     ensures { result ≡ word % 2 ^ places }
 {

@@ -472,12 +472,12 @@ impl<S: Semantics> PartialOrd for IeeeFloat<S> {
             return self.inner().partial_cmp(&other.inner());
         }
         // Two numbers: the library's order of magnitudes, where the signs do not decide. This is faster than its order
-        // of all values, which has cases for each.
+        // of all values, which has cases for each. The signs choose between results that are there already, since a
+        // processor cannot predict a branch on them.
+        let magnitudes = self.inner().cmp_abs_normal(other.inner());
+        let on_one_side = if self.value.negative { magnitudes.reverse() } else { magnitudes };
         let by_sign = other.value.negative.cmp(&self.value.negative);
-        Some(by_sign.then_with(|| {
-            let magnitudes = self.inner().cmp_abs_normal(other.inner());
-            if self.value.negative { magnitudes.reverse() } else { magnitudes }
-        }))
+        Some(if by_sign.is_eq() { on_one_side } else { by_sign })
     }
 }
 

@@ -1,18 +1,17 @@
-use Rattle.std.proofs.Common.{◌-◌, ◌^◌, ◌≤◌, arith}
+use Rattle.std.proofs.Common.{◌≡◌, ℕ, ◌-◌, ◌^◌, ◌≤◌, Bool, true, false, cond, arith}
 use Rattle.std.proofs.Math.Nat.{pow-le-pow_right}
 use Rattle.apfloat_model.proofs.general.Powers.{two_pos}
+use Rattle.apfloat_conversions.specs.Wholes.{signed_limit}
 use Rattle.apfloat_conversions.proofs.integers.signed_limit.Goals as goal
 
-pub returns-then-negative-clause-fits : goal.returns-then-negative-clause-fits
-returns-then-negative-clause-fits c =
-    let high = c.requires.high in
-    let short : c.args.width - 1 ≤ 127 = omega (arith, high) in
-    let most : 2 ^ (c.args.width - 1) ≤ 2 ^ 127 = pow-le-pow_right two_pos short in
-    rw (c.if-negative.true, c.power_of_two-end.ensures) most
+limit_fits : (negative : Bool) (end less : ℕ) → end ≤ 2 ^ 127 → less ≡ cond negative 0 1
+    → end - less ≤ signed_limit 128 negative
+limit_fits true end less m e = omega (arith, m)
+limit_fits false end less m e = omega (arith, m, e)
 
-pub returns-else-negative-clause-fits : goal.returns-else-negative-clause-fits
-returns-else-negative-clause-fits c =
+pub returns-clause-fits : goal.returns-clause-fits
+returns-clause-fits c =
     let high = c.requires.high in
     let short : c.args.width - 1 ≤ 127 = omega (arith, high) in
-    let most : 2 ^ (c.args.width - 1) ≤ 2 ^ 127 = pow-le-pow_right two_pos short in
-    rw (c.if-negative.false, c.power_of_two-end.ensures) (omega (arith, most))
+    let most : c.power_of_two.result ≤ 2 ^ 127 = rw c.power_of_two.ensures (pow-le-pow_right two_pos short) in
+    limit_fits c.args.negative c.power_of_two.result c.below_power.result most c.below_power.ensures

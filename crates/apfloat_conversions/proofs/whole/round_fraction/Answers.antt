@@ -3,33 +3,37 @@ use Rattle.std.proofs.Math.Nat.{pow-le-pow_right}
 use Rattle.apfloat_model.proofs.general.Powers.{two_pos}
 use Rattle.apfloat_model.specs.rounding.Standing.{StandsFor}
 use Rattle.apfloat_model.proofs.rounding.PickedPoints.{kept_moved, kept_stayed}
-use Rattle.apfloat_conversions.proofs.Wholes.{whole_at, exact_at, cut_whole_stands, cut_below}
-use Rattle.apfloat_conversions.proofs.whole.round_fraction.Goals.{After-cut_at_dot-kept}
+use Rattle.apfloat_conversions.proofs.Wholes.{whole_at, exact_at, cut_whole_stands, cut_below, fits_longer}
+use Rattle.apfloat_conversions.proofs.whole.round_fraction.Goals.{After-shift_right-kept}
 use Rattle.apfloat_conversions.proofs.whole.round_fraction.Goals as goal
+
+pub round_in_word-requires-clause-short : goal.round_in_word-requires-clause-short
+round_in_word-requires-clause-short c =
+    fits_longer c.args.significand c.args.precision 62 c.requires.fits (omega arith)
 
 pub overflow_add-result : goal.overflow_add-result
 overflow_add-result c =
     let a : 2 ^ c.args.precision ≤ 2 ^ 125 = pow-le-pow_right two_pos c.requires.precise in
     record {
       fits =
-          cut_below c.args.significand c.cut_at_dot-kept.result.significand c.args.places
-          (omega (arith, a, c.requires.fits)) c.cut_at_dot-kept.ensures.quotient;
+          cut_below c.args.significand c.shift_right-kept.result.significand c.args.places
+          (omega (arith, a, c.requires.fits)) c.shift_right-kept.ensures.quotient;
     }
 
 -- the kept digits, with the loss, represent the value in any units
-stands : (state : After-cut_at_dot-kept) (amount parts : ℕ) → 0 < parts
+stands : (state : After-shift_right-kept) (amount parts : ℕ) → 0 < parts
     → amount * 2 ^ state.args.places ≡ state.args.significand * parts
-    → StandsFor state.cut_at_dot-kept.result.significand state.cut_at_dot-kept.result.loss amount parts
+    → StandsFor state.shift_right-kept.result.significand state.shift_right-kept.result.loss amount parts
 stands c amount parts p e =
-    cut_whole_stands c.args.significand c.cut_at_dot-kept.result.significand c.args.places amount parts
-    c.cut_at_dot-kept.result.loss e
-    (c.cut_at_dot-kept.ensures.stands (c.args.significand * parts) parts p refl)
+    cut_whole_stands c.args.significand c.shift_right-kept.result.significand c.args.places amount parts
+    c.shift_right-kept.result.loss e
+    (c.shift_right-kept.ensures.stands (c.args.significand * parts) parts p refl)
 
 pub returns-then-moves_up-clause-picked : goal.returns-then-moves_up-clause-picked
 returns-then-moves_up-clause-picked c = λ amount parts p e.
-    let q = c.cut_at_dot-kept.result.significand in
-    let loss = c.cut_at_dot-kept.result.loss in
-    let s = stands (goal.at.returns-then-moves_up-clause-picked c).After-cut_at_dot-kept amount parts p e in
+    let q = c.shift_right-kept.result.significand in
+    let loss = c.shift_right-kept.result.loss in
+    let s = stands (goal.at.returns-then-moves_up-clause-picked c).After-shift_right-kept amount parts p e in
     record {
       magnitude_is =
           kept_moved c.args.round c.args.negative loss q c.moves_up.result c.moves_up.ensures c.if-moves_up.true ∙
@@ -41,9 +45,9 @@ returns-then-moves_up-clause-picked c = λ amount parts p e.
 
 pub returns-else-moves_up-clause-picked : goal.returns-else-moves_up-clause-picked
 returns-else-moves_up-clause-picked c = λ amount parts p e.
-    let q = c.cut_at_dot-kept.result.significand in
-    let loss = c.cut_at_dot-kept.result.loss in
-    let s = stands (goal.at.returns-else-moves_up-clause-picked c).After-cut_at_dot-kept amount parts p e in
+    let q = c.shift_right-kept.result.significand in
+    let loss = c.shift_right-kept.result.loss in
+    let s = stands (goal.at.returns-else-moves_up-clause-picked c).After-shift_right-kept amount parts p e in
     record {
       magnitude_is =
           kept_stayed c.args.round c.args.negative loss q c.moves_up.result c.moves_up.ensures c.if-moves_up.false ∙
