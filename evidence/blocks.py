@@ -7,7 +7,8 @@ A value is a fraction. The scale of a block is found by comparing the greatest o
 each element by rounding the quotient on the list of the numbers of its format. The rows show blocks of
 four singles; the checksums are of 1,500 blocks of 32 elements, whose singles a linear congruence draws.
 `--laws` tries what no contract says: products that wide formats have exactly, and blocks that are
-quantized again.
+quantized again. Of NVFP4 the rows show the same blocks with four scales of their tensor, and the
+checksums are of 500 blocks of 16 elements, ten of them to a tensor.
 """
 
 from dataclasses import dataclass
@@ -156,6 +157,45 @@ def mx_dequantize(element, target, mode, scale, codes):
     return [product(target, mode, bool(c & element.sign), abs(element.number(c)) * by) for c in codes]
 
 
+# ---- NVFP4
+
+
+def tensor_scale(source, values):
+    """The single by which a tensor of finite values is scaled."""
+    greatest = max(magnitude(source, x) for x in values)
+    value, _ = product(SINGLE, Mode.EVEN, False, greatest / 2688)
+    if isinstance(value, Infinite):
+        return Finite(False, SINGLE.largest)
+    return value if value.quanta else Finite(False, 1 << SINGLE.scale)
+
+
+def nv_scale(mode, tensor, greatest):
+    """The code of the scale of a block."""
+    if greatest == 0:
+        return 0
+    code, _ = E4M3.quantize(mode, False, greatest / (6 * tensor))
+    return max(code, 1)
+
+
+def nv_quantize(source, mode, tensor, values):
+    """The codes, the code of the scale, and the flags."""
+    if any(is_nan(x) or isinstance(x, Infinite) for x in values):
+        return [0] * len(values), 127, [OK] * len(values)
+    by = magnitude(SINGLE, tensor)
+    scale = nv_scale(mode, by, max(magnitude(source, x) for x in values))
+    divisor = E4M3.number(max(scale, 1)) * by
+    found = [E2M1.quantize(mode, x.negative, magnitude(source, x) / divisor) for x in values]
+    return [code for code, _ in found], scale, [status for _, status in found]
+
+
+def nv_dequantize(target, mode, tensor, scale, codes):
+    """The values of a block, and their flags."""
+    if scale == 127:
+        return [(qnan(target), OK)] * len(codes)
+    by = E4M3.number(scale) * magnitude(SINGLE, tensor)
+    return [product(target, mode, bool(c & E2M1.sign), abs(E2M1.number(c)) * by) for c in codes]
+
+
 # ---- what is drawn
 
 
@@ -199,6 +239,18 @@ def mx_sum(element, mode, blocks=60, size=32):
     return checksum
 
 
+def nv_sum(mode, blocks=100, size=16):
+    """The checksum of blocks of NVFP4, ten of them to a tensor."""
+    draw, checksum = Draw(200), 0
+    for _ in range(blocks // 10):
+        values = [decoded(SINGLE, draw.single()) for _ in range(10 * size)]
+        tensor = tensor_scale(SINGLE, values)
+        checksum = extended(checksum, encoded(SINGLE, tensor))
+        for first in range(0, 10 * size, size):
+            checksum = block_sum(checksum, nv_quantize(SINGLE, mode, tensor, values[first : first + size]))
+    return checksum
+
+
 # ---- rows
 
 
@@ -222,6 +274,9 @@ SPECIAL = (
 DRAWN = Draw(1)
 
 BLOCKS = (*SPECIAL, *(tuple(DRAWN.single() for _ in range(4)) for _ in range(8)))
+
+
+NV_CASES = (*((mode, 0x3A000001) for mode in MODES), *((Mode.EVEN, x) for x in (0x3F800000, 1, 0x7F7FFFFF)))
 
 
 def row(answer):
@@ -299,6 +354,27 @@ def try_again():
     print(f"blocks quantized again: {kept} kept, {same} with their codes; {lost} of e4m3fn lost values")
 
 
+def nv_main():
+    """Prints what there is of NVFP4."""
+    rows, back = [], []
+    for mode, tensor in NV_CASES:
+        scale = decoded(SINGLE, tensor)
+        for bits in BLOCKS:
+            answer = nv_quantize(SINGLE, mode, scale, [decoded(SINGLE, x) for x in bits])
+            rows.append(row(answer))
+            back.append(back_again(nv_dequantize(SINGLE, mode, scale, answer[1], answer[0])))
+    table("NV_CASES", "(Round, u32)", [f"    (Round::{WORDS[mode]}, 0x{x:x})," for mode, x in NV_CASES])
+    table("NV_ROWS", "Row", rows)
+    table("NV_BACK", "[u32; 4]", back)
+    table("NV_SUMS", "(Round, u64)", [f"    (Round::{WORDS[mode]}, 0x{nv_sum(mode):x})," for mode in MODES])
+    scales = []
+    for bits in BLOCKS:
+        values = [decoded(SINGLE, x) for x in bits]
+        whole = all(isinstance(x, Finite) for x in values)
+        scales.append(f"Some(0x{encoded(SINGLE, tensor_scale(SINGLE, values)):x})" if whole else "None")
+    table("NV_SCALES", "Option<u128>", [f"    {scale}," for scale in scales])
+
+
 def main():
     """Prints the file, or tries the laws."""
     if argv[1:] == ["--laws"]:
@@ -321,6 +397,7 @@ def main():
     table("CASES", "Case", cases)
     table("ROWS", "Row", rows)
     table("BACK", "[u32; 4]", back)
+    nv_main()
 
 
 if __name__ == "__main__":

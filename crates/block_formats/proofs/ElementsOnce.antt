@@ -20,7 +20,7 @@ use Rattle.block_formats.specs.declared.elements.ElementFormat.TheVariants.{E5M2
 use Rattle.block_formats.specs.Elements.{IsElement, IsQuotientBy, e2m1fn, e2m3fn, e3m2fn, element_datum}
 use Rattle.block_formats.specs.Elements.{format_of_element, width}
 
-e4m3fn_interchange : IsInterchange (format_with e4m3fn_constants) (layout_with e4m3fn_constants)
+pub e4m3fn_interchange : IsInterchange (format_with e4m3fn_constants) (layout_with e4m3fn_constants)
 e4m3fn_interchange = record {
   precise = lit≤ tt;
   some = lit≤ tt;
@@ -30,7 +30,7 @@ e4m3fn_interchange = record {
   explicit = refl;
 }
 
-e5m2_interchange : IsInterchange (format_with e5m2_constants) (layout_with e5m2_constants)
+pub e5m2_interchange : IsInterchange (format_with e5m2_constants) (layout_with e5m2_constants)
 e5m2_interchange = record {
   precise = lit≤ tt;
   some = lit≤ tt;
