@@ -37,7 +37,8 @@ pub record IsStoredNumber (c : Constants) (quanta : ℕ) : Type 0 where
   pub on_grid : IsOnGrid c.precision quanta
   pub within : quanta ≤ largest (stored_format c)
 
-stored_number : (c : Constants) (code : ℕ) → IsLawful c → IsStoredNumber c (point c.precision (magnitude_of c code))
+pub stored_number : (c : Constants) (code : ℕ) → IsLawful c
+    → IsStoredNumber c (point c.precision (magnitude_of c code))
 stored_number c code law =
     let low = law.precision_low in
     let some : 0 < c.precision = omega (arith, low) in
@@ -49,10 +50,10 @@ stored_number c code law =
       within = let at = largest_point c law in omega (arith, most, at);
     }
 
-pub e3m2fn_law : IsLawful e3m2fn
+e3m2fn_law : IsLawful e3m2fn
 e3m2fn_law = lawful_from_test _ refl
 
-pub e2m3fn_law : IsLawful e2m3fn
+e2m3fn_law : IsLawful e2m3fn
 e2m3fn_law = lawful_from_test _ refl
 
 pub e2m1fn_law : IsLawful e2m1fn

@@ -57,8 +57,8 @@ moved_within g precision span scale exponent n has within =
     let top = top_below precision (span + k) g.precision g.span has.digits ends in
     omega (arith, most, moved, together, top)
 
-pub exact_product : (g : Format) (mode : Round) (negative : Bool) (precision span scale exponent n : ℕ) (value : Datum)
-    (status : ℕ) → HasProducts g precision span scale exponent → IsOnGrid precision n
+pub exact_product : (g : Format) (mode : Round) (negative : Bool) (precision span scale exponent n : ℕ)
+    (value : Datum) (status : ℕ) → HasProducts g precision span scale exponent → IsOnGrid precision n
     → n ≤ (2 ^ precision - 1) * 2 ^ span
     → IsDelivered g mode negative (n * 2 ^ exponent * 2 ^ g.scale) (2 ^ scale) value status
     → IsExactIn g negative (n * 2 ^ (exponent + g.scale - scale)) value status
@@ -67,8 +67,8 @@ exact_product g mode negative precision span scale exponent n value status has g
     let on : IsOnGrid g.precision point =
     wider_grid precision g.precision point has.digits (moved_on_grid precision n (exponent + g.scale - scale) grid) in
     let most = moved_within g precision span scale exponent n has within in
-    let sign : zero_sign g.nonfinite negative ≡ negative = ap (λ (x : NonfiniteBehavior). zero_sign x negative) has.kind
-    in
+    let sign : zero_sign g.nonfinite negative ≡ negative =
+    ap (λ (x : NonfiniteBehavior). zero_sign x negative) has.kind in
     let exact = exact_delivered g mode negative point (n * 2 ^ exponent * 2 ^ g.scale) (2 ^ scale) (pow_pos scale) on
     most (moved_point n exponent scale g.scale has.quantum) in
     let once = delivered_once g mode negative (n * 2 ^ exponent * 2 ^ g.scale) (2 ^ scale) value

@@ -6,7 +6,7 @@ use Rattle.std.proofs.lemmas.Nat.{pow-add, pow_pos}
 use Rattle.apfloat_model.specs.declared.kinds.Round.{Round}
 use Rattle.apfloat_model.specs.formats.Datum.{Datum, finite}
 use Rattle.apfloat_model.specs.formats.Format.{Format}
-use Rattle.apfloat_model.specs.formats.Formats.{double_constants, e4m3fn_constants, single_constants}
+use Rattle.apfloat_model.specs.formats.Formats.{double_constants, e4m3fn_constants}
 use Rattle.apfloat_model.specs.formats.Lawful.{format_with}
 use Rattle.apfloat_model.specs.formats.Members.{IsFiniteOf}
 use Rattle.apfloat_model.specs.order.Classes.{quanta_of}
@@ -14,6 +14,7 @@ use Rattle.apfloat_model.specs.rounding.Grid.{IsOnGrid}
 use Rattle.apfloat_model.specs.rounding.Rounding.{IsDelivered}
 use Rattle.apfloat_decimals.specs.ShortestSearch.{IsPositive}
 use Rattle.apfloat_format_of.specs.FormatOf.{IsProductTo}
+use Rattle.block_formats.specs.Nvfp4.{single_format}
 use Rattle.block_formats.proofs.ExactProducts.{HasProducts, IsExactIn, exact_product}
 
 -- ---- over plain numbers
@@ -80,12 +81,10 @@ moved_back x k s t e =
 abbrev pub double_format : Format
 double_format = format_with double_constants
 
-abbrev pub single_format : Format
-single_format = format_with single_constants
-
 -- of a format with few digits
 pub joint_exact : (p span scale : ℕ) (mode : Round) (b : Bool) (m n : ℕ) (value : Datum) (status : ℕ)
-    → HasProducts double_format (p + 24) (span + 253) (scale + 149) 0 → IsOnGrid p m → m ≤ (2 ^ p - 1) * 2 ^ span
+    → HasProducts double_format (p + 24) (span + 253) (scale + 149) 0 → IsOnGrid p m
+    → m ≤ (2 ^ p - 1) * 2 ^ span
     → IsFiniteOf single_format false n
     → IsDelivered double_format mode b (m * n * 2 ^ 1074) (2 ^ (scale + 149)) value status
     → IsExactIn double_format b (m * n * 2 ^ (1074 - (scale + 149))) value status
@@ -93,7 +92,8 @@ joint_exact p span scale mode b m n value status has grid within single h =
     let same : m * n * 2 ^ 0 ≡ m * n = omega arith in
     exact_product double_format mode b (p + 24) (span + 253) (scale + 149) 0 (m * n) value status has
     (product_on_grid p 24 m n grid single.on_grid) (product_within p 24 span 253 m n within single.within)
-    (subst (λ (x : ℕ). IsDelivered double_format mode b (x * 2 ^ 1074) (2 ^ (scale + 149)) value status) (sym same) h)
+    (subst (λ (x : ℕ). IsDelivered double_format mode b (x * 2 ^ 1074) (2 ^ (scale + 149)) value status)
+    (sym same) h)
 
 -- ---- a scale times the tensor's
 
@@ -110,8 +110,8 @@ pub joint_is : (mode : Round) (x y value : Datum) (status : ℕ) → IsPositive 
 joint_is mode x y value status p q h =
     let h' = subst (λ (d : Datum). IsProductTo (format_with e4m3fn_constants) single_format double_format mode
     (finite false (quanta_of x)) d value status) q.is
-    (subst (λ (d : Datum). IsProductTo (format_with e4m3fn_constants) single_format double_format mode d y value status)
-    p.is h) in
+    (subst (λ (d : Datum). IsProductTo (format_with e4m3fn_constants) single_format double_format mode d y value
+    status) p.is h) in
     joint_exact 4 14 9 mode false (quanta_of x) (quanta_of y) value status scale_room p.member.on_grid
     (scale_within (quanta_of x) p.member.within) q.member h'
 

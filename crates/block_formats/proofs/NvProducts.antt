@@ -1,27 +1,23 @@
 -- Elements of NVFP4 times both scales.
 use Rattle.std.proofs.Common.{lit≤}
 use Rattle.std.proofs.Common.{◌≡◌, ℕ, ◌+◌, ◌-◌, ◌*◌, ◌^◌, ◌<◌, ◌≤◌, Bool, false, refl, sym, ap, ◌∙◌, subst, arith}
-use Rattle.std.proofs.lemmas.Nat.{mod_below, pow-add, pow_pos}
+use Rattle.std.proofs.lemmas.Nat.{pow-add, pow_pos}
 use Rattle.apfloat_model.specs.arithmetic.Exact.{product_sign}
 use Rattle.apfloat_model.specs.declared.kinds.Round.{Round}
 use Rattle.apfloat_model.specs.formats.Datum.{Datum, finite}
 use Rattle.apfloat_model.specs.formats.Format.{Format}
 use Rattle.apfloat_model.specs.formats.Members.{IsFiniteOf}
 use Rattle.apfloat_model.specs.order.Classes.{is_negative, quanta_of}
-use Rattle.apfloat_model.specs.rounding.Grid.{IsOnGrid}
 use Rattle.apfloat_model.specs.rounding.Rounding.{IsDelivered}
 use Rattle.apfloat_format_of.specs.Extended.{number, seen}
 use Rattle.apfloat_format_of.specs.FormatOf.{IsProductOf, IsProductTo}
-use Rattle.storage_formats.specs.Codes.{is_negative_code, largest_index, magnitude_of, point}
-use Rattle.storage_formats.specs.LawTest.{lawful_from_test}
-use Rattle.storage_formats.specs.Storage.{IsLawful}
-use Rattle.storage_formats.proofs.Points.{point_on_grid}
-use Rattle.storage_formats.proofs.StoredPicks.{largest_point, not_greater}
+use Rattle.storage_formats.specs.Codes.{is_negative_code, magnitude_of, point}
 use Rattle.block_formats.specs.declared.elements.ElementFormat.TheVariants.{E2M1FN, E4M3FN}
 use Rattle.block_formats.specs.Elements.{e2m1fn, element_datum, format_of_element}
-use Rattle.block_formats.specs.Nvfp4.{scale_in, scale_quanta}
+use Rattle.block_formats.specs.Nvfp4.{scale_in, scale_quanta, single_format}
+use Rattle.block_formats.proofs.ElementNumbers.{e2m1fn_law, stored_number}
 use Rattle.block_formats.proofs.ExactProducts.{HasProducts, IsExactIn}
-use Rattle.block_formats.proofs.JointScales.{double_format, joint_exact, single_format}
+use Rattle.block_formats.proofs.JointScales.{double_format, joint_exact}
 use Rattle.block_formats.proofs.NvScales.{number_of_code}
 use Rattle.block_formats.proofs.Quotients.{sign_over_positive}
 use Rattle.block_formats.proofs.SameFractions.{delivered_across}
@@ -30,30 +26,19 @@ use Rattle.block_formats.proofs.SameFractions.{delivered_across}
 abbrev pub quanta_in : ℕ → ℕ
 quanta_in code = point 2 (magnitude_of e2m1fn code)
 
-e2m1fn_law : IsLawful e2m1fn
-e2m1fn_law = lawful_from_test _ refl
-
-quanta_on_grid : (code : ℕ) → IsOnGrid 2 (quanta_in code)
-quanta_on_grid code = point_on_grid 2 (magnitude_of e2m1fn code) (lit≤ tt)
-
-quanta_within : (code : ℕ) → quanta_in code ≤ (2 ^ 2 - 1) * 2 ^ 2
-quanta_within code =
-    let below = mod_below code (2 ^ 3) (pow_pos 3) in
-    let most = not_greater 2 (magnitude_of e2m1fn code) (largest_index e2m1fn) (lit≤ tt) (omega (arith, below)) in
-    let at = largest_point e2m1fn e2m1fn_law in
-    omega (arith, most, at)
-
 element_room : HasProducts double_format 26 255 150 0
 element_room = record { kind = refl; digits = lit≤ tt; quantum = lit≤ tt; room = lit≤ tt }
 
 -- an element times the tensor's scale, in double
-pub element_by : (mode : Round) (code tensor : ℕ) (value : Datum) (status : ℕ) → IsFiniteOf single_format false tensor
+pub element_by : (mode : Round) (code tensor : ℕ) (value : Datum) (status : ℕ)
+    → IsFiniteOf single_format false tensor
     → IsProductOf double_format mode (seen (format_of_element E2M1FN) double_format (element_datum E2M1FN code))
     (number false tensor 149) value status
     → value ≡ finite (is_negative_code e2m1fn code) (quanta_in code * tensor * 2 ^ (1074 - 150))
 element_by mode code tensor value status single h =
+    let element = stored_number e2m1fn code e2m1fn_law in
     (joint_exact 2 2 1 mode (is_negative_code e2m1fn code) (quanta_in code) tensor value status element_room
-    (quanta_on_grid code) (quanta_within code) single
+    element.on_grid element.within single
     (subst (λ (b : Bool). IsDelivered double_format mode b (quanta_in code * tensor * 2 ^ 1074) (2 ^ 150) value status)
     (sign_over_positive (is_negative_code e2m1fn code)) h)).value_is
 
@@ -76,11 +61,11 @@ scaled_by g mode code scale tensor element by value status precise l e f h =
     let b : Bool = is_negative_code e2m1fn code in
     let n : ℕ = quanta_in code in
     let q : ℕ = scale_quanta scale in
-    let h' = subst (λ (d : Datum). IsProductTo double_format scale_in g mode (finite b (n * tensor * 2 ^ (1074 - 150))) d
-    value status) (f ∙ number_of_code scale l)
+    let h' = subst (λ (d : Datum). IsProductTo double_format scale_in g mode
+    (finite b (n * tensor * 2 ^ (1074 - 150))) d value status) (f ∙ number_of_code scale l)
     (subst (λ (d : Datum). IsProductTo double_format scale_in g mode d by value status) e h) in
-    delivered_across g mode b (n * (q * tensor) * 2 ^ g.scale) (2 ^ 159) (n * tensor * 2 ^ (1074 - 150) * q * 2 ^ g.scale)
-    (2 ^ 1083) value status precise (pow_pos 159) (pow_pos 1083)
+    delivered_across g mode b (n * (q * tensor) * 2 ^ g.scale) (2 ^ 159)
+    (n * tensor * 2 ^ (1074 - 150) * q * 2 ^ g.scale) (2 ^ 1083) value status precise (pow_pos 159) (pow_pos 1083)
     (joint_fraction n q tensor g.scale (1074 - 150) 159 1083 refl)
-    (subst (λ (s : Bool). IsDelivered g mode s (n * tensor * 2 ^ (1074 - 150) * q * 2 ^ g.scale) (2 ^ 1083) value status)
-    (sign_over_positive b) h')
+    (subst (λ (s : Bool). IsDelivered g mode s (n * tensor * 2 ^ (1074 - 150) * q * 2 ^ g.scale) (2 ^ 1083) value
+    status) (sign_over_positive b) h')

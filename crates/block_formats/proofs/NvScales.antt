@@ -17,7 +17,7 @@ use Rattle.apfloat_decimals.specs.ShortestSearch.{IsPositive}
 use Rattle.storage_formats.specs.Conversions.{saturated_value}
 use Rattle.block_formats.specs.declared.elements.ElementFormat.TheVariants.{E4M3FN}
 use Rattle.block_formats.specs.Elements.{IsSaturatedIn, element_datum}
-use Rattle.block_formats.specs.Nvfp4.{IsNvScale, IsScaleIn, is_positive, nan_scale, scale_in, scale_quanta, single_format}
+use Rattle.block_formats.specs.Nvfp4.{IsNvScale, IsScaleIn, IsScaleOfSome, is_positive, nan_scale, scale_quanta}
 use Rattle.block_formats.specs.Nvfp4.{unless_zero}
 use Rattle.block_formats.proofs.Greatest.{max_right, normal_quanta}
 
@@ -84,7 +84,8 @@ zero_goes (nan b k) other e none = cc
 pub normal_sign : (x : Datum) → x ≡ finite false (quanta_of x) → is_negative x ≡ false
 normal_sign x e = ap is_negative e
 
-saturated_some : (test : Bool) (m n : ℕ) → cond test (finite false m) (finite false n) ≡ finite false (cond test m n)
+saturated_some : (test : Bool) (m n : ℕ)
+    → cond test (finite false m) (finite false n) ≡ finite false (cond test m n)
 saturated_some true m n = refl
 saturated_some false m n = refl
 
@@ -102,9 +103,11 @@ quotient_own g mode negative amount parts quotient status s h =
     let h' = subst (λ (b : Bool). IsSaturatedIn g mode b amount parts quotient status) s h in
     saturated_own g h'.pick quotient h'.value_is
 
-pub scale_in_of : (g : Format) (mode : Round) (negative : Bool) (amount parts least : ℕ) (quotient other scale : Datum)
-    (status : ℕ) → negative ≡ false → IsSaturatedIn g mode negative amount parts quotient status
-    → other ≡ finite false least → scale ≡ unless_zero quotient other → IsScaleIn g mode amount parts least scale
+pub scale_in_of : (g : Format) (mode : Round) (negative : Bool) (amount parts least : ℕ)
+    (quotient other scale : Datum) (status : ℕ) → negative ≡ false
+    → IsSaturatedIn g mode negative amount parts quotient status
+    → other ≡ finite false least → scale ≡ unless_zero quotient other
+    → IsScaleIn g mode amount parts least scale
 scale_in_of g mode negative amount parts least quotient other scale status s h o e =
     let h' = subst (λ (b : Bool). IsSaturatedIn g mode b amount parts quotient status) s h in
     record {
@@ -175,16 +178,12 @@ pub record IsScaleOf (f : Format) (mode : Round) (tensor greatest code : ℕ) (s
 pub scale_of_code : (f : Format) (mode : Round) (tensor greatest code : ℕ) (zeros : Bool) (scale : Datum)
     → code < nan_scale → zeros ≡ eqb greatest 0 → (zeros ≡ true → code ≡ 0)
     → (zeros ≡ false → element_datum E4M3FN code ≡ scale) → 0 < quanta_of scale
-    → MatchBool (eqb greatest 0) (scale ≡ finite false 1)
-    (IsScaleIn scale_in mode (greatest * 2 ^ (scale_in.scale + single_format.scale)) (2 ^ f.scale * (6 * tensor)) 1 scale)
+    → MatchBool (eqb greatest 0) (scale ≡ finite false 1) (IsScaleOfSome f mode tensor greatest scale)
     → IsScaleOf f mode tensor greatest code scale
 scale_of_code f mode tensor greatest code zeros scale below z none some positive h = by_test (eqb greatest 0) refl h
   where
-    Holds : Datum → Type 0
-    Holds d = IsScaleIn scale_in mode (greatest * 2 ^ (scale_in.scale + single_format.scale)) (2 ^ f.scale * (6 * tensor))
-        1 d
-
-    by_test : (test : Bool) → eqb greatest 0 ≡ test → MatchBool test (scale ≡ finite false 1) (Holds scale)
+    by_test : (test : Bool) → eqb greatest 0 ≡ test
+        → MatchBool test (scale ≡ finite false 1) (IsScaleOfSome f mode tensor greatest scale)
         → IsScaleOf f mode tensor greatest code scale
     by_test true e k =
         let zero_code : code ≡ 0 = none (z ∙ e) in
@@ -196,6 +195,6 @@ scale_of_code f mode tensor greatest code zeros scale below z none some positive
         let same = some (z ∙ e) in
         let quanta : scale_quanta code ≡ quanta_of scale = ap quanta_of same in
         record {
-          is_scale = (below, rw e (subst (λ (d : Datum). Holds d) (sym same) k));
+          is_scale = (below, rw e (subst (λ (d : Datum). IsScaleOfSome f mode tensor greatest d) (sym same) k));
           divisor_is = max_right 1 (scale_quanta code) (omega (arith, quanta, positive)) ∙ quanta;
         }

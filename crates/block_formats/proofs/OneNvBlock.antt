@@ -24,8 +24,8 @@ use Rattle.block_formats.specs.Laws.{IsNvDequantizedOnce, IsNvQuantizedOnce, IsT
 use Rattle.block_formats.specs.Magnitudes.{are_finite, greatest_magnitude}
 use Rattle.block_formats.specs.MxBlocks.{IsBlockOfNan}
 use Rattle.block_formats.specs.Nvfp4.{IsNvBlock, IsNvBlockOfNumbers, IsNvRead, IsNvScale, IsNvScaled, IsNvWritten}
-use Rattle.block_formats.specs.Nvfp4.{IsRefused, IsScaleIn, IsScaledTensor, IsTooWide, is_positive, nan_scale, scale_in}
-use Rattle.block_formats.specs.Nvfp4.{scale_quanta, single_format, unless_zero}
+use Rattle.block_formats.specs.Nvfp4.{IsRefused, IsScaleIn, IsScaleOfSome, IsScaledTensor, IsTooWide, is_positive}
+use Rattle.block_formats.specs.Nvfp4.{nan_scale, scale_in, scale_quanta, single_format, unless_zero}
 use Rattle.block_formats.specs.Places.{AreCounted}
 use Rattle.block_formats.proofs.ElementsOnce.{code_of_element_once, quotient_by_once}
 use Rattle.block_formats.proofs.OneBlock.{nan_once, not_both, same_block}
@@ -33,7 +33,8 @@ use Rattle.block_formats.proofs.PlacesOnce.{counted_once}
 
 -- ---- scales
 
-scale_in_once : (g : Format) (mode : Round) (amount parts least : ℕ) → Determines (IsScaleIn g mode amount parts least)
+scale_in_once : (g : Format) (mode : Round) (amount parts least : ℕ)
+    → Determines (IsScaleIn g mode amount parts least)
 scale_in_once g mode amount parts least scale other x y =
     let same = pick_unique g.precision mode false amount parts x.pick y.pick x.is_pick y.is_pick in
     x.is ∙ ap (λ (p : ℕ). unless_zero (saturated_value g false p) (finite false least)) same ∙ sym y.is
@@ -57,14 +58,13 @@ code_once Holds once code other l k x y =
 nv_scale_once : (f : Format) (mode : Round) (tensor greatest : ℕ) → Determines (IsNvScale f mode tensor greatest)
 nv_scale_once f mode tensor greatest code other x y = by_test (eqb greatest 0) x.1 y.1
   where
-    Holds : Datum → Type 0
-    Holds d = IsScaleIn scale_in mode (greatest * 2 ^ (scale_in.scale + single_format.scale)) (2 ^ f.scale * (6 * tensor))
-        1 d
-
-    by_test : (test : Bool) → MatchBool test (code ≡ 0) (Holds (element_datum E4M3FN code))
-        → MatchBool test (other ≡ 0) (Holds (element_datum E4M3FN other)) → code ≡ other
+    by_test : (test : Bool)
+        → MatchBool test (code ≡ 0) (IsScaleOfSome f mode tensor greatest (element_datum E4M3FN code))
+        → MatchBool test (other ≡ 0) (IsScaleOfSome f mode tensor greatest (element_datum E4M3FN other))
+        → code ≡ other
     by_test true p q = p ∙ sym q
-    by_test false p q = code_once Holds (scale_in_once _ _ _ _ _) code other x.0 y.0 p q
+    by_test false p q =
+        code_once (IsScaleOfSome f mode tensor greatest) (scale_in_once _ _ _ _ _) code other x.0 y.0 p q
 
 -- ---- into a block
 
@@ -77,8 +77,8 @@ numbers_once f mode tensor values codes others block other x y =
     let elements : AreCounted (IsQuotientBy E2M1FN f mode divisor unit) values others other.counts =
     subst (λ (s : ℕ). AreCounted (IsQuotientBy E2M1FN f mode (max 1 (scale_quanta s) * tensor) unit) values others
     other.counts) (sym scale) y.elements in
-    let same = counted_once (IsQuotientBy E2M1FN f mode divisor unit) (quotient_by_once E2M1FN f mode divisor unit) values
-    codes others block.counts other.counts x.elements elements in
+    let same = counted_once (IsQuotientBy E2M1FN f mode divisor unit) (quotient_by_once E2M1FN f mode divisor unit)
+    values codes others block.counts other.counts x.elements elements in
     (same.0, same_block block other scale same.1 (x.finite_is ∙ sym y.finite_is))
 
 block_once : (f : Format) (mode : Round) (tensor : ℕ) (values : List Datum)
@@ -101,7 +101,8 @@ pub nv_quantized_once : IsNvQuantizedOnce
 nv_quantized_once f mode tensor values before =
     match_case DeterminesBoth (eqb (length values) 0) _ _ (refused_once Empty before)
     (match_case DeterminesBoth (eqb (length before) (length values)) _ _
-    (match_case DeterminesBoth (is_positive tensor) _ _ (written_once f mode _ values) (refused_once TensorScale before))
+    (match_case DeterminesBoth (is_positive tensor) _ _ (written_once f mode _ values)
+    (refused_once TensorScale before))
     (refused_once Lengths before))
 
 -- ---- out of a block
@@ -114,12 +115,13 @@ nv_scaled_once g mode tensor scale code =
 read_once : (g : Format) (mode : Round) (tensor scale : ℕ) (codes : List ℕ)
     → DeterminesBoth (IsNvRead g mode tensor scale codes)
 read_once g mode tensor scale codes after other answer reply x y =
-    let same = counted_once (IsNvScaled g mode tensor scale) (nv_scaled_once g mode tensor scale) codes after other x.counts
-    y.counts x.elements y.elements in
+    let same = counted_once (IsNvScaled g mode tensor scale) (nv_scaled_once g mode tensor scale) codes after other
+    x.counts y.counts x.elements y.elements in
     (same.0, x.is ∙ ap Ok same.1 ∙ sym y.is)
 
 either_once : (g : Format) (mode : Round) (tensor scale : ℕ) (codes : List ℕ) (before : List Datum)
-    → DeterminesBoth (λ after answer. IsNvRead g mode tensor scale codes after answer ⊎ IsTooWide codes before after answer)
+    → DeterminesBoth (λ after answer. IsNvRead g mode tensor scale codes after answer
+    ⊎ IsTooWide codes before after answer)
 either_once g mode tensor scale codes before after other answer reply (inl x) (inl y) =
     read_once g mode tensor scale codes after other answer reply x y
 either_once g mode tensor scale codes before after other answer reply (inl x) (inr y) =

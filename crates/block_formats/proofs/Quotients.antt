@@ -48,7 +48,8 @@ saturated_is : (g : Format) (negative past leads : Bool) (pick : ℕ) (value res
     → zero_sign g.nonfinite negative ≡ negative
     → value ≡ cond past (cond leads (past_largest g.nonfinite (nan_base g) negative) (finite negative (largest g)))
     (signed_quanta g.nonfinite negative pick)
-    → (is_finite value ≡ true → result ≡ value) → (is_finite value ≡ false → result ≡ finite negative (largest g))
+    → (is_finite value ≡ true → result ≡ value)
+    → (is_finite value ≡ false → result ≡ finite negative (largest g))
     → result ≡ cond past (finite negative (largest g)) (finite negative pick)
 saturated_is g negative true true pick value result z v kept past =
     past (ap is_finite v ∙ past_not_finite g.nonfinite (nan_base g) negative)
@@ -59,7 +60,8 @@ saturated_is g negative false leads pick value result z v kept past =
 
 pub saturated_of : (g : Format) (mode : Round) (negative : Bool) (amount parts status : ℕ) (value result : Datum)
     → zero_sign g.nonfinite negative ≡ negative → IsDelivered g mode negative amount parts value status
-    → (is_finite value ≡ true → result ≡ value) → (is_finite value ≡ false → result ≡ finite negative (largest g))
+    → (is_finite value ≡ true → result ≡ value)
+    → (is_finite value ≡ false → result ≡ finite negative (largest g))
     → IsSaturatedIn g mode negative amount parts result status
 saturated_of g mode negative amount parts status value result z h kept past = record {
   pick = h.pick;

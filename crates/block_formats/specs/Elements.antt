@@ -61,8 +61,8 @@ element_datum E2M1FN code = datum_of e2m1fn code
 
 -- The magnitude amount / parts quanta of g with that sign, rounded once. Past the largest number there is nothing but
 -- that number, in each mode; the flags are those of the rounding.
-pub record IsSaturatedIn (g : Format) (mode : Round) (negative : Bool) (amount parts : ℕ) (value : Datum) (status : ℕ)
-    : Type 0 where
+pub record IsSaturatedIn (g : Format) (mode : Round) (negative : Bool) (amount parts : ℕ) (value : Datum)
+    (status : ℕ) : Type 0 where
   pub pick : ℕ
   pub is_pick : IsPick g.precision mode negative amount parts pick
   pub value_is : value ≡ saturated_value g negative pick

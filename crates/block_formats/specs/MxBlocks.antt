@@ -43,8 +43,8 @@ IsBlock element f mode values codes block =
     (IsBlockOfNan nan_code values codes block)
 
 -- the answer of a call, and the codes before and after it: nothing is written with an error
-abbrev pub IsQuantized : ElementFormat → Format → Round → List Datum → List ℕ → List ℕ → Result Block BlockError
-    → Type 0
+abbrev pub IsQuantized : ElementFormat → Format → Round → List Datum → List ℕ → List ℕ
+    → Result Block BlockError → Type 0
 IsQuantized element f mode values before after (Ok block) =
     (0 < length values) × (length before ≡ length values) × IsBlock element f mode values after block
 IsQuantized element f mode values before after (Err Empty) = (length values ≡ 0) × (after ≡ before)

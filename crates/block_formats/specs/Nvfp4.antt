@@ -69,14 +69,18 @@ nan_scale = 127
 abbrev pub scale_quanta : ℕ → ℕ
 scale_quanta code = quanta_of (element_datum E4M3FN code)
 
--- The scale of a block whose greatest magnitude is that many quanta of f: that over 6 times the scale of the tensor,
--- rounded once, and the least number in place of 0; 0 for a block of zeros.
+-- The scale of a block whose greatest magnitude is that many quanta of f, and not 0: that over 6 times the scale of
+-- the tensor, rounded once, and the least number in place of 0.
+abbrev pub IsScaleOfSome : Format → Round → ℕ → ℕ → Datum → Type 0
+IsScaleOfSome f mode tensor greatest scale =
+    IsScaleIn scale_in mode (greatest * 2 ^ (scale_in.scale + single_format.scale)) (2 ^ f.scale * (6 * tensor)) 1
+    scale
+
+-- the code of that scale, and 0 for a block of zeros
 abbrev pub IsNvScale : Format → Round → ℕ → ℕ → ℕ → Type 0
 IsNvScale f mode tensor greatest code =
     (code < nan_scale)
-    × MatchBool (eqb greatest 0) (code ≡ 0)
-    (IsScaleIn scale_in mode (greatest * 2 ^ (scale_in.scale + single_format.scale)) (2 ^ f.scale * (6 * tensor)) 1
-    (element_datum E4M3FN code))
+    × MatchBool (eqb greatest 0) (code ≡ 0) (IsScaleOfSome f mode tensor greatest (element_datum E4M3FN code))
 
 -- ---- errors
 
@@ -113,7 +117,8 @@ pub record IsNvWritten (f : Format) (mode : Round) (tensor : ℕ) (values : List
   pub is_block : IsNvBlock f mode tensor values after block
 
 -- the answer of a call, and the codes before and after it; the first error is told
-abbrev pub IsNvQuantized : Format → Round → Datum → List Datum → List ℕ → List ℕ → Result Block Nvfp4Error → Type 0
+abbrev pub IsNvQuantized : Format → Round → Datum → List Datum → List ℕ → List ℕ
+    → Result Block Nvfp4Error → Type 0
 IsNvQuantized f mode tensor values before after answer =
     MatchBool (eqb (length values) 0) (IsRefused Empty before after answer)
     (MatchBool (eqb (length before) (length values))
@@ -143,8 +148,8 @@ pub record IsTooWide (codes : List ℕ) (before after : List Datum) (answer : Re
   pub wide : Any (λ code. 16 ≤ code) codes
   pub refused : IsRefused CodeTooWide before after answer
 
-abbrev pub IsNvDequantized : Format → Round → Datum → ℕ → List ℕ → List Datum → List Datum → Result Counts Nvfp4Error
-    → Type 0
+abbrev pub IsNvDequantized : Format → Round → Datum → ℕ → List ℕ → List Datum → List Datum
+    → Result Counts Nvfp4Error → Type 0
 IsNvDequantized g mode tensor scale codes before after answer =
     MatchBool (eqb (length codes) 0) (IsRefused Empty before after answer)
     (MatchBool (eqb (length before) (length codes))

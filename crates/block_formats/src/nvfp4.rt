@@ -121,9 +121,9 @@ fn scaled<G: Flagged>(scale: u8, tensor: Single, code: u8, round: Round) -> Stat
 ///
 /// # Errors
 ///
-/// `Empty` if there are no codes, `Lengths` if there are not as many values as codes, `TensorScale` if that scale is not
-/// a positive number, `BlockScale` if the scale of the block has a sign, `CodeTooWide` if a code has more than 4 bits.
-/// Nothing is written then.
+/// `Empty` if there are no codes, `Lengths` if there are not as many values as codes, `TensorScale` if that scale is
+/// not a positive number, `BlockScale` if the scale of the block has a sign, `CodeTooWide` if a code has more than 4
+/// bits. Nothing is written then.
 pub fn dequantize_nvfp4_block<G: Flagged>(
     scale: u8,
     codes: &[u8],

@@ -1,6 +1,6 @@
 //! The scales of NVFP4: that of a tensor, that of a block, and their product.
 
-ghost use Rattle.std.specs.Prelude.{◌≡◌, ℕ, ◌+◌, ◌*◌, ◌^◌, ◌<◌, true, false, eqb};
+ghost use Rattle.std.specs.Prelude.{◌≡◌, ℕ, ◌*◌, ◌^◌, ◌<◌, true, false, eqb};
 ghost use Rattle.std.specs.Bool.{MatchBool};
 ghost use Rattle.apfloat_model.specs.formats.Datum.{finite};
 ghost use Rattle.apfloat_model.specs.formats.Formats.{double_constants, e4m3fn_constants, half_constants};
@@ -9,8 +9,8 @@ ghost use Rattle.apfloat_model.specs.formats.Lawful.{format_with};
 ghost use Rattle.apfloat_model.specs.order.Classes.{quanta_of};
 ghost use Rattle.apfloat_ieee.specs.Types.{format_of};
 ghost use Rattle.apfloat_decimals.specs.ShortestSearch.{IsPositive};
-ghost use Rattle.block_formats.specs.Nvfp4.{IsScaleIn, IsTensorAnswer, IsTensorScale, is_positive, scale_in};
-ghost use Rattle.block_formats.specs.Nvfp4.{nan_scale, single_format, unless_zero};
+ghost use Rattle.block_formats.specs.Nvfp4.{IsScaleOfSome, IsTensorAnswer, IsTensorScale, is_positive, nan_scale};
+ghost use Rattle.block_formats.specs.Nvfp4.{unless_zero};
 ghost use Rattle.block_formats.specs.declared.elements.ElementFormat.TheVariants.{E4M3FN};
 ghost use Rattle.block_formats.specs.Elements.{element_datum};
 
@@ -123,9 +123,8 @@ pub(crate) fn scale_for<S: Semantics>(
     requires sign { greatest ≡ finite false (quanta_of greatest) }
     requires tensor { IsPositive (format_with single_constants) tensor }
     ensures value { MatchBool (eqb (quanta_of greatest) 0) (result ≡ finite false 1)
-        (IsScaleIn scale_in round
-        (quanta_of greatest * 2 ^ (scale_in.scale + single_format.scale))
-        (2 ^ (format_of S.Semantics).scale * (6 * quanta_of tensor)) 1 result) }
+        (IsScaleOfSome (format_of S.Semantics) round (quanta_of tensor) (quanta_of greatest)
+        result) }
     ensures positive { IsPositive (format_with e4m3fn_constants) result }
 {
     if greatest.is_zero() {

@@ -13,8 +13,8 @@ pub fn dequantized_blocks_have_one_answer()
     ensures { IsDequantizedOnce }
 {}
 
-/// `Double` has the product of each number of an element format and each scale of the microscaling formats: dequantizing
-/// into it delivers that product, and raises no flag.
+/// `Double` has the product of each number of an element format and each scale of the microscaling formats:
+/// dequantizing into it delivers that product, and raises no flag.
 pub fn blocks_are_exact_in_double()
     ensures { IsExactIntoDouble }
 {}

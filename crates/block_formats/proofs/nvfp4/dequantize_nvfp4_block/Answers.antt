@@ -1,7 +1,6 @@
 use Rattle.std.proofs.Common.{◌≡◌, ℕ, ◌≤◌, ◌∙◌, get_or, inl, inr, length, refl, sym, subst, arith}
 use Rattle.std.proofs.lemmas.Bool.{eq-eqb, le-leb, lt-leb, ne_eqb}
 use Rattle.std.proofs.lemmas.Option.{slice_get-get_or}
-use Rattle.apfloat_model.specs.formats.Datum.{Datum}
 use Rattle.apfloat_model.specs.order.Classes.{quanta_of}
 use Rattle.apfloat_model.specs.rounding.Flags.{bits_of}
 use Rattle.apfloat_model.proofs.general.Choices.{match_false, match_true}
@@ -61,12 +60,11 @@ loop-index-preserved g c =
     let size = c.loop-index.invariant.0 in
     let here = slice_get-get_or c.args.codes.now c.loop-index.index 0 (omega (arith, c.loop-index-test.true)) in (
       length_set c.loop-index.values c.loop-index.index c.scaled-answer.result.value ∙ size,
-      one_written (λ (code : ℕ) (value : Datum) (status : ℕ). IsNvScaled (format_of g.G.Flagged) c.args.round
-          (quanta_of c.args.tensor) c.args.scale code value status) c.loop-index.index c.args.codes.now
-          c.loop-index.values c.loop-index.counts c.with-counts.result (get_or c.args.codes.now c.loop-index.index 0)
-          c.scaled-answer.result.value (bits_of c.scaled-answer.result.status)
-          (omega (arith, size, c.loop-index-test.true)) here c.scaled-answer.ensures c.with-counts.ensures
-          c.loop-index.invariant.1,
+      one_written (IsNvScaled (format_of g.G.Flagged) c.args.round (quanta_of c.args.tensor) c.args.scale)
+          c.loop-index.index c.args.codes.now c.loop-index.values c.loop-index.counts c.with-counts.result
+          (get_or c.args.codes.now c.loop-index.index 0) c.scaled-answer.result.value
+          (bits_of c.scaled-answer.result.status) (omega (arith, size, c.loop-index-test.true)) here
+          c.scaled-answer.ensures c.with-counts.ensures c.loop-index.invariant.1,
     )
 
 pub returns : goal.returns
@@ -82,10 +80,10 @@ returns g c =
       counts = c.loop-index.counts;
       is = refl;
       narrow = c.are_narrow.ensures.yes c.if-not-are_narrow.false;
-      elements = all_written (λ (code : ℕ) (value : Datum) (status : ℕ). IsNvScaled (format_of g.G.Flagged) c.args.round
-          (quanta_of c.args.tensor) c.args.scale code value status) c.args.codes.now c.loop-index.values
-          c.loop-index.counts c.loop-index.invariant.0
-          (subst (λ (n : ℕ). AreWritten (λ (code : ℕ) (value : Datum) (status : ℕ). IsNvScaled (format_of g.G.Flagged)
-          c.args.round (quanta_of c.args.tensor) c.args.scale code value status) n c.args.codes.now c.loop-index.values
-          c.loop-index.counts) last c.loop-index.invariant.1);
+      elements = all_written
+          (IsNvScaled (format_of g.G.Flagged) c.args.round (quanta_of c.args.tensor) c.args.scale)
+          c.args.codes.now c.loop-index.values c.loop-index.counts c.loop-index.invariant.0
+          (subst (λ (n : ℕ). AreWritten
+          (IsNvScaled (format_of g.G.Flagged) c.args.round (quanta_of c.args.tensor) c.args.scale) n
+          c.args.codes.now c.loop-index.values c.loop-index.counts) last c.loop-index.invariant.1);
     })))))

@@ -1,5 +1,4 @@
-use Rattle.std.proofs.Common.{◌≡◌, ℕ, length}
-use Rattle.apfloat_model.specs.formats.Datum.{Datum}
+use Rattle.std.proofs.Common.{◌≡◌, length}
 use Rattle.apfloat_model.specs.order.Classes.{quanta_of}
 use Rattle.apfloat_ieee.specs.FlaggedTypes.{format_of}
 use Rattle.block_formats.specs.Nvfp4.{IsNvScaled}
@@ -10,5 +9,5 @@ use Rattle.block_formats.proofs.nvfp4.dequantize_nvfp4_block.Given as goal
 abbrev pub invariant-loop-index : goal.invariant-loop-index
 invariant-loop-index g l =
     (length l.values ≡ length l.codes)
-    × AreWritten (λ (code : ℕ) (value : Datum) (status : ℕ). IsNvScaled (format_of g.G.Flagged) l.round
-    (quanta_of l.tensor) l.scale code value status) l.index l.codes l.values l.counts
+    × AreWritten (IsNvScaled (format_of g.G.Flagged) l.round (quanta_of l.tensor) l.scale) l.index l.codes l.values
+    l.counts

@@ -35,14 +35,14 @@ returns g c =
     let t : ℕ = quanta_of c.args.tensor in
     let own = own_quanta greatest (greatest_magnitude c.args.values.now) c.greatest_of-greatest.ensures.value in
     let some = c.scale_for-scale.ensures.positive.some in
-    let chosen = scale_of_code f c.args.round t (quanta_of greatest) code c.is_zero.result scale c.code_for.ensures.below
-    (c.is_zero.ensures ∙ zero_test greatest own) c.code_for.ensures.zero c.code_for.ensures.some some
-    c.scale_for-scale.ensures.value in
+    let chosen = scale_of_code f c.args.round t (quanta_of greatest) code c.is_zero.result scale
+    c.code_for.ensures.below (c.is_zero.ensures ∙ zero_test greatest own) c.code_for.ensures.zero
+    c.code_for.ensures.some some c.scale_for-scale.ensures.value in
     let divisor = chosen.divisor_is in
     match_true _ _ _ (sym c.are_finite.ensures ∙ c.if-not-are_finite.false)
     (record {
-      scale_is = subst (λ (n : ℕ). IsNvScale f c.args.round t n code) (ap quanta_of c.greatest_of-greatest.ensures.value)
-          chosen.is_scale;
+      scale_is = subst (λ (n : ℕ). IsNvScale f c.args.round t n code)
+          (ap quanta_of c.greatest_of-greatest.ensures.value) chosen.is_scale;
       elements = c.write_quotients-counts.ensures (max 1 (scale_quanta code) * t) (2 ^ 158)
           (mul-pos (subst (λ (n : ℕ). 0 < n) (sym divisor) some) c.requires.tensor.some)
           (ap (λ (n : ℕ). n * t * 2 ^ 1074) divisor ∙ sym c.joint_scale-joint.ensures.value);

@@ -7,8 +7,8 @@ use Rattle.block_formats.proofs.nvfp4_scales.one.Goals as goal
 
 pub returns-clause-positive : goal.returns-clause-positive
 returns-clause-positive c =
-    positive_quanta (format_with single_constants) c.from_bits.result 1 149 (2 ^ 149) c.from_bits.ensures.read (lit≤ tt)
-    refl (lit≤ tt) (lit≤ tt)
+    positive_quanta (format_with single_constants) c.from_bits.result 1 149 (2 ^ 149) c.from_bits.ensures.read
+    (lit≤ tt) refl (lit≤ tt) (lit≤ tt)
 
 pub returns-clause-value : goal.returns-clause-value
 returns-clause-value c = c.from_bits.ensures.read

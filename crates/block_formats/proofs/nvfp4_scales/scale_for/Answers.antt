@@ -29,8 +29,8 @@ unless_zero-requires-clause-x g c =
     (ap is_negative c.requires.sign)
     (c.saturated_quotient-quotient.ensures (q * 2 ^ 158) parts
     (mul-pos (pow_pos scale) (mul-pos (lit≤ tt) c.requires.tensor.some))
-    (sixth_ratio q (quanta_of c.joint_scale-divisor.result) (quanta_of c.six.result) scale t 158 9 1074 c.six.ensures.value
-    c.joint_scale-divisor.ensures.value))
+    (sixth_ratio q (quanta_of c.joint_scale-divisor.result) (quanta_of c.six.result) scale t 158 9 1074
+    c.six.ensures.value c.joint_scale-divisor.ensures.value))
 
 -- the quotient by the product of 6 and the tensor's scale
 pub returns-clause-value : goal.returns-clause-value
@@ -45,6 +45,6 @@ returns-clause-value g c =
     (bits_of c.saturated_quotient-quotient.result.status) (ap is_negative c.requires.sign)
     (c.saturated_quotient-quotient.ensures (q * 2 ^ 158) parts
     (mul-pos (pow_pos scale) (mul-pos (lit≤ tt) c.requires.tensor.some))
-    (sixth_ratio q (quanta_of c.joint_scale-divisor.result) (quanta_of c.six.result) scale t 158 9 1074 c.six.ensures.value
-    c.joint_scale-divisor.ensures.value))
+    (sixth_ratio q (quanta_of c.joint_scale-divisor.result) (quanta_of c.six.result) scale t 158 9 1074
+    c.six.ensures.value c.joint_scale-divisor.ensures.value))
     c.least-2.ensures.value c.unless_zero.ensures.value)
