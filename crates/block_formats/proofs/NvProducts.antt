@@ -1,13 +1,11 @@
 -- Elements of NVFP4 times both scales.
 use Rattle.std.proofs.Common.{lit≤}
-use Rattle.std.proofs.Common.{◌≡◌, ℕ, ◌+◌, ◌-◌, ◌*◌, ◌^◌, ◌<◌, ◌≤◌, Bool, false, refl, sym, ap, ◌∙◌, subst, arith}
+use Rattle.std.proofs.Common.{◌≡◌, ℕ, ◌+◌, ◌-◌, ◌*◌, ◌^◌, ◌<◌, Bool, false, refl, ap, ◌∙◌, subst, arith}
 use Rattle.std.proofs.lemmas.Nat.{pow-add, pow_pos}
-use Rattle.apfloat_model.specs.arithmetic.Exact.{product_sign}
 use Rattle.apfloat_model.specs.declared.kinds.Round.{Round}
 use Rattle.apfloat_model.specs.formats.Datum.{Datum, finite}
 use Rattle.apfloat_model.specs.formats.Format.{Format}
 use Rattle.apfloat_model.specs.formats.Members.{IsFiniteOf}
-use Rattle.apfloat_model.specs.order.Classes.{is_negative, quanta_of}
 use Rattle.apfloat_model.specs.rounding.Rounding.{IsDelivered}
 use Rattle.apfloat_format_of.specs.Extended.{number, seen}
 use Rattle.apfloat_format_of.specs.FormatOf.{IsProductOf, IsProductTo}
@@ -16,7 +14,7 @@ use Rattle.block_formats.specs.declared.elements.ElementFormat.TheVariants.{E2M1
 use Rattle.block_formats.specs.Elements.{e2m1fn, element_datum, format_of_element}
 use Rattle.block_formats.specs.Nvfp4.{scale_in, scale_quanta, single_format}
 use Rattle.block_formats.proofs.ElementNumbers.{e2m1fn_law, stored_number}
-use Rattle.block_formats.proofs.ExactProducts.{HasProducts, IsExactIn}
+use Rattle.block_formats.proofs.ExactProducts.{HasProducts}
 use Rattle.block_formats.proofs.JointScales.{double_format, joint_exact}
 use Rattle.block_formats.proofs.NvScales.{number_of_code}
 use Rattle.block_formats.proofs.Quotients.{sign_over_positive}

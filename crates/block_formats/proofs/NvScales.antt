@@ -1,17 +1,15 @@
 -- The scales of NVFP4.
-use Rattle.std.proofs.Common.{lit≤, if◌then◌else◌}
 use Rattle.std.proofs.Common.{◌≡◌, ℕ, zero, suc, ◌+◌, ◌*◌, ◌^◌, ◌<◌, ◌≤◌, max, Bool, true, false, cond, not, ◌&&◌, eqb, ltb}
 use Rattle.std.proofs.Common.{refl, sym, ap, ◌∙◌, subst, arith}
 use Rattle.std.specs.Bool.{MatchBool}
-use Rattle.std.proofs.lemmas.Bool.{agree_below_at, and_from, and_parts, lt-ltb, ltb-true}
+use Rattle.std.proofs.lemmas.Bool.{agree_below_at, lt-ltb, ltb-true}
 use Rattle.std.proofs.lemmas.Nat.{pow-add}
 use Rattle.apfloat_model.specs.declared.kinds.Category.TheVariants.{Normal}
 use Rattle.apfloat_model.specs.declared.kinds.Round.{Round}
 use Rattle.apfloat_model.specs.formats.Datum.{Datum, finite, infinite, nan}
 use Rattle.apfloat_model.specs.formats.Format.{Format, largest}
 use Rattle.apfloat_model.specs.formats.Members.{IsFiniteOf, IsMember}
-use Rattle.apfloat_model.specs.order.Classes.{category_of, is_finite, is_negative, is_zero, quanta_of}
-use Rattle.apfloat_model.specs.rounding.Grid.{IsOnGrid}
+use Rattle.apfloat_model.specs.order.Classes.{category_of, is_finite, is_negative, quanta_of}
 use Rattle.apfloat_model.proofs.general.Choices.{not_zero}
 use Rattle.apfloat_decimals.specs.ShortestSearch.{IsPositive}
 use Rattle.storage_formats.specs.Conversions.{saturated_value}

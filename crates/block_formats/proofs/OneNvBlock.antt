@@ -1,12 +1,11 @@
 -- Blocks of NVFP4 have one answer.
 use Rattle.std.proofs.Common.{◌≡◌, ◌⊎◌, ℕ, ◌+◌, ◌*◌, ◌^◌, ◌<◌, max, Bool, true, false, eqb, leb, List, length, sym, ap, ◌∙◌}
-use Rattle.std.proofs.Common.{subst, inl, inr, arith, Result, Ok, Err}
+use Rattle.std.proofs.Common.{subst, inl, inr, arith, Ok, Err}
 use Rattle.std.specs.Bool.{MatchBool}
 use Rattle.apfloat_model.specs.Determined.{Determines, DeterminesBoth}
 use Rattle.apfloat_model.specs.declared.kinds.Round.{Round}
 use Rattle.apfloat_model.specs.formats.Datum.{Datum, finite}
 use Rattle.apfloat_model.specs.formats.Format.{Format}
-use Rattle.apfloat_model.specs.order.Classes.{is_negative}
 use Rattle.apfloat_model.specs.rounding.Answer.{IsAnswer}
 use Rattle.apfloat_model.specs.rounding.Rounding.{IsDelivered}
 use Rattle.apfloat_model.proofs.Once.{Once, answer_once}
@@ -14,9 +13,7 @@ use Rattle.apfloat_model.proofs.general.Choices.{match_case, match_one}
 use Rattle.apfloat_model.proofs.rounding.Laws.{delivered_once}
 use Rattle.apfloat_model.proofs.rounding.Picks.{pick_unique}
 use Rattle.storage_formats.specs.Conversions.{saturated_value}
-use Rattle.block_formats.specs.declared.counts.Counts.{Counts}
 use Rattle.block_formats.specs.declared.elements.ElementFormat.TheVariants.{E2M1FN, E4M3FN}
-use Rattle.block_formats.specs.declared.mx.Block.{Block}
 use Rattle.block_formats.specs.declared.nvfp4_errors.Nvfp4Error.{Nvfp4Error}
 use Rattle.block_formats.specs.declared.nvfp4_errors.Nvfp4Error.TheVariants.{Empty, Lengths, TensorScale, BlockScale}
 use Rattle.block_formats.specs.Elements.{IsQuotientBy, element_datum}

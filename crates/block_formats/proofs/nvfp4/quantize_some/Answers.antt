@@ -1,4 +1,4 @@
-use Rattle.std.proofs.Common.{ℕ, ◌*◌, ◌^◌, ◌<◌, ap, eqb, max, refl, sym, subst, ◌∙◌, length, replicate}
+use Rattle.std.proofs.Common.{ℕ, ◌*◌, ◌^◌, ◌<◌, ap, max, refl, sym, subst, ◌∙◌, length, replicate}
 use Rattle.std.proofs.Math.Nat.{mul-pos}
 use Rattle.apfloat_model.specs.order.Classes.{quanta_of}
 use Rattle.apfloat_model.proofs.general.Choices.{match_false, match_true}

@@ -1,7 +1,6 @@
-use Rattle.std.proofs.Common.{◌*◌, ◌^◌, ap, lit≤, refl}
+use Rattle.std.proofs.Common.{lit≤, refl}
 use Rattle.apfloat_model.specs.formats.Formats.{e4m3fn_constants}
 use Rattle.apfloat_model.specs.formats.Lawful.{format_with}
-use Rattle.apfloat_model.specs.order.Classes.{quanta_of}
 use Rattle.block_formats.proofs.NvScales.{positive_quanta}
 use Rattle.block_formats.proofs.nvfp4_scales.least.Goals as goal
 
