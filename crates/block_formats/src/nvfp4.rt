@@ -1,15 +1,13 @@
 //! Blocks of NVFP4: elements `E2M1FN`, a scale `Float8E4M3FN` for each block, and a single for the whole tensor.
 
-ghost use Rattle.std.specs.Prelude.{◌≡◌, ℕ, ◌+◌, ◌*◌, ◌^◌, ◌<◌, ◌≤◌, true, false, length, eqb};
-ghost use Rattle.apfloat_model.specs.formats.Formats.{double_constants, e4m3fn_constants, single_constants};
+ghost use Rattle.std.specs.Prelude.{◌≡◌, ◌<◌, ◌≤◌, length};
+ghost use Rattle.apfloat_model.specs.formats.Formats.{single_constants};
 ghost use Rattle.apfloat_model.specs.formats.Lawful.{format_with};
 ghost use Rattle.apfloat_model.specs.order.Classes.{quanta_of};
 ghost use Rattle.apfloat_model.specs.rounding.Flags.{bits_of};
 ghost use Rattle.apfloat_ieee.specs.FlaggedTypes.{format_of as flagged_format_of};
 ghost use Rattle.apfloat_ieee.specs.Types.{format_of};
 ghost use Rattle.apfloat_decimals.specs.ShortestSearch.{IsPositive};
-ghost use Rattle.block_formats.specs.declared.elements.ElementFormat.TheVariants.{E2M1FN, E4M3FN};
-ghost use Rattle.block_formats.specs.Elements.{element_datum};
 ghost use Rattle.block_formats.specs.Nvfp4.{IsNvBlock, IsNvDequantized, IsNvQuantized, IsNvScaled};
 
 use crate::counts::Counts;

@@ -1,6 +1,6 @@
 //! The scales of NVFP4: that of a tensor, that of a block, and their product.
 
-ghost use Rattle.std.specs.Prelude.{◌≡◌, ℕ, ◌*◌, ◌^◌, ◌<◌, true, false, eqb};
+ghost use Rattle.std.specs.Prelude.{◌≡◌, ◌*◌, ◌^◌, ◌<◌, true, false, eqb};
 ghost use Rattle.std.specs.Bool.{MatchBool};
 ghost use Rattle.apfloat_model.specs.formats.Datum.{finite};
 ghost use Rattle.apfloat_model.specs.formats.Formats.{double_constants, e4m3fn_constants, half_constants};
