@@ -1,14 +1,14 @@
--- Blocks that double has exactly.
+-- Blocks that double, single and bfloat have exactly.
 use Rattle.std.proofs.Common.{lit≤}
-use Rattle.std.proofs.Common.{◌≡◌, ℕ, ◌+◌, ◌-◌, ◌*◌, ◌^◌, ◌<◌, ◌≤◌, Bool, true, false, eqb, refl, sym, ap, ◌∙◌, subst}
+use Rattle.std.proofs.Common.{◌≡◌, ℕ, ◌+◌, ◌-◌, ◌*◌, ◌^◌, ◌<◌, Bool, true, false, eqb, refl, sym, ap, ◌∙◌, subst}
 use Rattle.std.proofs.Common.{arith}
 use Rattle.std.specs.Bool.{MatchBool}
 use Rattle.std.proofs.lemmas.Bool.{ne_eqb, MatchBool-at_false}
 use Rattle.std.proofs.lemmas.Nat.{pow-add}
 use Rattle.apfloat_model.specs.declared.kinds.Round.{Round}
 use Rattle.apfloat_model.specs.formats.Datum.{Datum, finite, infinite, nan}
-use Rattle.apfloat_model.specs.formats.Format.{Format, largest}
-use Rattle.apfloat_model.specs.formats.Formats.{double_constants}
+use Rattle.apfloat_model.specs.formats.Format.{Format}
+use Rattle.apfloat_model.specs.formats.Formats.{bfloat_constants, double_constants, single_constants}
 use Rattle.apfloat_model.specs.formats.Lawful.{format_with}
 use Rattle.apfloat_model.specs.formats.Nan.{qnan}
 use Rattle.apfloat_model.specs.order.Classes.{is_finite, quanta_of}
@@ -17,22 +17,13 @@ use Rattle.apfloat_model.specs.rounding.Rounding.{IsDelivered, ok_bits}
 use Rattle.apfloat_format_of.specs.FormatOf.{IsProductTo}
 use Rattle.storage_formats.specs.Scales.{nan_code, scale_format, scale_of}
 use Rattle.block_formats.specs.declared.elements.ElementFormat.{ElementFormat}
-use Rattle.block_formats.specs.declared.elements.ElementFormat.TheVariants.{E5M2, E4M3FN, E3M2FN, E2M3FN, E2M1FN}
 use Rattle.block_formats.specs.Elements.{element_datum, format_of_element, width}
-use Rattle.block_formats.specs.Laws.{IsExactIntoDouble, IsExactlyScaled}
+use Rattle.block_formats.specs.Laws.{IsExactIntoBFloat, IsExactIntoDouble, IsExactIntoSingle, IsExactlyScaled}
 use Rattle.block_formats.specs.MxBlocks.{IsScaled}
 use Rattle.block_formats.proofs.ElementNumbers.{element_number}
 use Rattle.block_formats.proofs.ExactProducts.{HasProducts, exact_product}
 use Rattle.block_formats.proofs.Quotients.{sign_over_positive}
-
--- the greatest number of an element format has all digits set, or all but the last one
-largest_most : (element : ElementFormat) → let f = format_of_element element in
-    largest f ≤ (2 ^ f.precision - 1) * 2 ^ f.span
-largest_most E5M2 = lit≤ tt
-largest_most E4M3FN = lit≤ tt
-largest_most E3M2FN = lit≤ tt
-largest_most E2M3FN = lit≤ tt
-largest_most E2M1FN = lit≤ tt
+use Rattle.block_formats.proofs.exact.Rooms.{room_in, short}
 
 -- the product of a scale and a number
 product_is : (element : ElementFormat) (g : Format) (mode : Round) (scale : ℕ) (x value : Datum) (status : ℕ)
@@ -66,7 +57,7 @@ scaled_exactly element g mode scale code value status below narrow number has h 
     let x : Datum = element_datum element code in
     let p = product_is element g mode scale x value status (λ e. omega (arith, e, below)) number h in
     let member = element_number element code narrow number in
-    let most = largest_most element in
+    let most = (short element).most in
     let within = member.within in
     let exact = exact_product g mode p.0 f.precision f.span (f.scale + 127) scale (quanta_of x) value status has
     member.on_grid (omega (arith, most, within)) p.2 in
@@ -90,18 +81,32 @@ scaled_exactly element g mode scale code value status below narrow number has h 
       status_is = exact.status_is;
     }
 
--- ---- double
-
-double_room : (element : ElementFormat) (scale : ℕ) → scale < nan_code
-    → HasProducts (format_with double_constants) (format_of_element element).precision
-    (format_of_element element).span ((format_of_element element).scale + 127) scale
-double_room E5M2 scale l = record { kind = refl; digits = lit≤ tt; quantum = omega arith; room = omega (arith, l) }
-double_room E4M3FN scale l = record { kind = refl; digits = lit≤ tt; quantum = omega arith; room = omega (arith, l) }
-double_room E3M2FN scale l = record { kind = refl; digits = lit≤ tt; quantum = omega arith; room = omega (arith, l) }
-double_room E2M3FN scale l = record { kind = refl; digits = lit≤ tt; quantum = omega arith; room = omega (arith, l) }
-double_room E2M1FN scale l = record { kind = refl; digits = lit≤ tt; quantum = omega arith; room = omega (arith, l) }
+-- ---- double, single and bfloat
 
 pub exact_into_double : IsExactIntoDouble
-exact_into_double element mode scale code value status below narrow number h =
+exact_into_double element scale below mode code value status narrow number h =
+    let s = short element in
+    let quantum = s.quantum in
+    let exponents = s.exponents in
     scaled_exactly element (format_with double_constants) mode scale code value status below narrow number
-    (double_room element scale below) h
+    (room_in element (format_with double_constants) scale refl (lit≤ tt) (omega (arith, quantum))
+    (omega (arith, exponents, below))) h
+
+pub exact_into_single : IsExactIntoSingle
+exact_into_single element scale top mode code value status narrow number h =
+    let s = short element in
+    let quantum = s.quantum in
+    let some = s.exponents_low in
+    scaled_exactly element (format_with single_constants) mode scale code value status (omega (arith, top, some)) narrow
+    number
+    (room_in element (format_with single_constants) scale refl (lit≤ tt) (omega (arith, quantum))
+    (omega (arith, top)))
+    h
+
+pub exact_into_bfloat : IsExactIntoBFloat
+exact_into_bfloat element scale top quantum mode code value status narrow number h =
+    let some = (short element).exponents_low in
+    scaled_exactly element (format_with bfloat_constants) mode scale code value status (omega (arith, top, some)) narrow
+    number
+    (room_in element (format_with bfloat_constants) scale refl (lit≤ tt) quantum (omega (arith, top)))
+    h

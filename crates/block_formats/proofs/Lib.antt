@@ -19,3 +19,5 @@ mod NvProducts
 mod OneNvBlock
 mod ElementNumbers
 mod ExactBlocks
+mod exact
+mod again

@@ -5,7 +5,7 @@ use Rattle.block_formats.specs.declared.counts.Counts.{Counts}
 use Rattle.block_formats.specs.Places.{AreCounted, AreInPlaces, counts_of}
 
 -- the places after the first one
-rest_in_places : {A B : Type 0} → (Holds : A → B → ℕ → Type 0) (x : A) (xs : List A) (y : B) (ys : List B)
+pub rest_in_places : {A B : Type 0} → (Holds : A → B → ℕ → Type 0) (x : A) (xs : List A) (y : B) (ys : List B)
     (status : ℕ) (flags : List ℕ) → AreInPlaces Holds (x ∷ xs) (y ∷ ys) (status ∷ flags)
     → AreInPlaces Holds xs ys flags
 rest_in_places Holds x xs y ys status flags all =

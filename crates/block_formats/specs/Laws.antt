@@ -1,19 +1,19 @@
 -- Theorems about blocks.
-use Rattle.std.specs.Prelude.{◌≡◌, ℕ, ◌+◌, ◌*◌, ◌^◌, ◌<◌, Bool, true, List, Result}
+use Rattle.std.specs.Prelude.{◌≡◌, ℕ, ◌+◌, ◌*◌, ◌^◌, ◌<◌, ◌≤◌, Bool, true, List, Result}
 use Rattle.apfloat_model.specs.Determined.{Determines, DeterminesBoth}
 use Rattle.apfloat_model.specs.declared.kinds.Round.{Round}
 use Rattle.apfloat_model.specs.formats.Datum.{Datum, finite}
 use Rattle.apfloat_model.specs.formats.Format.{Format}
-use Rattle.apfloat_model.specs.formats.Formats.{double_constants}
+use Rattle.apfloat_model.specs.formats.Formats.{bfloat_constants, double_constants, single_constants}
 use Rattle.apfloat_model.specs.formats.Lawful.{format_with}
 use Rattle.apfloat_model.specs.order.Classes.{is_finite}
 use Rattle.apfloat_model.specs.rounding.Rounding.{ok_bits}
-use Rattle.storage_formats.specs.Scales.{nan_code, scale_format}
+use Rattle.storage_formats.specs.Scales.{largest_code, nan_code, scale_format}
 use Rattle.block_formats.specs.declared.counts.Counts.{Counts}
 use Rattle.block_formats.specs.declared.elements.ElementFormat.{ElementFormat}
 use Rattle.block_formats.specs.declared.errors.BlockError.{BlockError}
 use Rattle.block_formats.specs.declared.mx.Block.{Block}
-use Rattle.block_formats.specs.Elements.{element_datum, format_of_element, width}
+use Rattle.block_formats.specs.Elements.{element_datum, format_of_element, max_exp, width}
 use Rattle.block_formats.specs.MxBlocks.{IsDequantized, IsQuantized, IsScaled}
 use Rattle.block_formats.specs.Nvfp4.{IsNvDequantized, IsNvQuantized, IsTensorAnswer}
 
@@ -46,13 +46,30 @@ pub record IsExactlyScaled (element : ElementFormat) (g : Format) (scale code : 
   pub same : quanta * 2 ^ ((format_of_element element).scale + scale_format.scale) ≡ number * 2 ^ scale * 2 ^ g.scale
   pub status_is : status ≡ ok_bits
 
--- every number of each element format, times each scale, is in double
+-- the format g has each number of the element format, times that scale
+abbrev pub IsExactInto : Format → ElementFormat → ℕ → Type 0
+IsExactInto g element scale =
+    (mode : Round) (code : ℕ) (value : Datum) (status : ℕ)
+    → code < 2 ^ width element → is_finite (element_datum element code) ≡ true
+    → IsScaled element g mode scale code value status → IsExactlyScaled element g scale code value status
+
 abbrev pub IsExactIntoDouble : Type 0
 IsExactIntoDouble =
-    (element : ElementFormat) (mode : Round) (scale code : ℕ) (value : Datum) (status : ℕ)
-    → scale < nan_code → code < 2 ^ width element → is_finite (element_datum element code) ≡ true
-    → IsScaled element (format_with double_constants) mode scale code value status
-    → IsExactlyScaled element (format_with double_constants) scale code value status
+    (element : ElementFormat) (scale : ℕ) → scale < nan_code
+    → IsExactInto (format_with double_constants) element scale
+
+-- below 2 ^ 128: the exponent of the scale and that of the largest element are together at most 127
+abbrev pub IsExactIntoSingle : Type 0
+IsExactIntoSingle =
+    (element : ElementFormat) (scale : ℕ) → scale + max_exp element ≤ largest_code
+    → IsExactInto (format_with single_constants) element scale
+
+-- the same, if the quantum of the elements times the scale is a number of bfloat
+abbrev pub IsExactIntoBFloat : Type 0
+IsExactIntoBFloat =
+    (element : ElementFormat) (scale : ℕ) → scale + max_exp element ≤ largest_code
+    → (format_of_element element).scale + scale_format.scale ≤ scale + (format_with bfloat_constants).scale
+    → IsExactInto (format_with bfloat_constants) element scale
 
 -- ---- NVFP4
 

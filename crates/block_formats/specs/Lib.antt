@@ -5,3 +5,4 @@ pub mod MxScales
 pub mod MxBlocks
 pub mod Nvfp4
 pub mod Laws
+pub mod Again

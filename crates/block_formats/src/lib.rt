@@ -27,7 +27,8 @@ pub use nvfp4::{NVFP4_BLOCK, dequantize_nvfp4_block, quantize_nvfp4_block};
 pub use nvfp4_errors::Nvfp4Error;
 pub use nvfp4_scales::tensor_scale;
 pub use theorems::{
-    blocks_are_exact_in_double, dequantized_blocks_have_one_answer,
-    dequantized_nvfp4_blocks_have_one_answer, nvfp4_blocks_have_one_answer,
-    quantized_blocks_have_one_answer, tensor_scales_have_one_answer,
+    blocks_are_exact_in_bfloat, blocks_are_exact_in_double, blocks_are_exact_in_single,
+    blocks_quantized_again_keep_their_values, dequantized_blocks_have_one_answer,
+    dequantized_nvfp4_blocks_have_one_answer, finite_blocks_are_exact,
+    nvfp4_blocks_have_one_answer, quantized_blocks_have_one_answer, tensor_scales_have_one_answer,
 };
