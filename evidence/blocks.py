@@ -6,9 +6,9 @@
 A value is a fraction. The scale of a block is found by comparing the greatest one with powers of two, and
 each element by rounding the quotient on the list of the numbers of its format. The rows show blocks of
 four singles; the checksums are of 1,500 blocks of 32 elements, whose singles a linear congruence draws.
-`--laws` tries what no contract says: products that wide formats have exactly, and blocks that are
-quantized again. Of NVFP4 the rows show the same blocks with four scales of their tensor, and the
-checksums are of 500 blocks of 16 elements, ten of them to a tensor.
+`--laws` tries the theorems on blocks that formats have exactly and on blocks that are quantized again,
+and that they would be false without their bounds. Of NVFP4 the rows show the same blocks with four
+scales of their tensor, and the checksums are of 500 blocks of 16 elements, ten of them to a tensor.
 """
 
 from dataclasses import dataclass
@@ -316,41 +316,57 @@ def exact(element, target, scale, code):
 
 
 def try_products():
-    """Products of all finite codes and all scales."""
+    """Each scale and each finite code: the target has all products of a scale just where it has to."""
     for element in ELEMENTS:
         for scale in range(255):
             low = scale - 127 + element.max_exp <= 127
-            for code in (1, 2, 3, element.finite // 2 + 1, element.finite - 2, element.finite - 1):
-                assert exact(element, DOUBLE, scale, code)
-                assert not low or exact(element, SINGLE, scale, code)
-                assert not low or element.bits == 8 or exact(element, BFLOAT, scale, code)
-    assert not exact(E2M1, SINGLE, 254, 7)
-    assert not exact(E4M3, BFLOAT, 0, 1)
-    print("products of each scale: exact where they have to be")
+            for target in (DOUBLE, SINGLE, BFLOAT):
+                room = (low or target is DOUBLE) and element.scale + 127 <= scale + target.scale
+                assert room == all(exact(element, target, scale, code) for code in range(element.finite))
+    print("products of each scale: all exact just where they have to be")
+
+
+def try_singles():
+    """Blocks of singles of each exponent come back exactly."""
+    blocks = 0
+    for element in ELEMENTS:
+        for field in range(255):
+            bits = (field << 23 | 0x7FFFFF, field << 23, field << 23 | 0x80600000, 0x80000001, field << 22)
+            values = [decoded(SINGLE, x) for x in bits]
+            for mode in MODES:
+                codes, scale, _ = mx_quantize(element, SINGLE, mode, values)
+                assert scale + element.max_exp <= 254
+                assert all(status == OK for _, status in mx_dequantize(element, SINGLE, mode, scale, codes))
+                blocks += 1
+    print(f"blocks of singles: {blocks} came back exactly")
+
+
+def has_place(element, scale, greatest):
+    """Whether the greatest element does not reach 480 in E4M3FN."""
+    place = (greatest & -greatest).bit_length() - 1
+    return element is not E4M3 or greatest >> max(place, 0) != 15 or place + scale < 14
 
 
 def try_again():
-    """Random blocks, dequantized and quantized again."""
-    draw, lost, kept, same = Draw(3), 0, 0, 0
-    for turn in range(2000):
-        element = ELEMENTS[turn % 5]
-        scale = draw.word() % 255 if turn % 7 else draw.word() % 4
-        few = 1 + draw.word() % element.finite
-        codes = [draw.word() % few | (draw.word() & 1) * element.sign for _ in range(8)]
-        values = [v for v, _ in mx_dequantize(element, DOUBLE, Mode.EVEN, scale, codes)]
-        again, lower, flags = mx_quantize(element, DOUBLE, MODES[turn // 5 % 5], values)
-        greatest = max(element.quanta(c % element.sign) for c in codes)
-        odd = greatest >> (greatest & -greatest).bit_length() - 1 if greatest else 0
-        old = [element.number(c) * Fraction(2) ** scale for c in codes]
-        new = [element.number(c) * Fraction(2) ** lower for c in again]
-        if element is E4M3 and odd == 15:
-            lost += old != new
-            continue
-        kept += 1
-        assert old == new and not any(flags)
-        if scale == 0 or greatest >= 1 << element.scale + element.max_exp:
-            same += 1
-            assert again == codes and lower == scale
+    """Blocks with each greatest element, dequantized and quantized again."""
+    kept, same, lost = 0, 0, 0
+    for element in ELEMENTS:
+        top = 1 << element.scale + element.max_exp
+        for scale in (*range(22), *range(22, 253, 33), 253, 254):
+            for most in range(element.finite):
+                below = (*range(most % 7, most, 7), *(element.sign | x for x in range(most % 5, most, 5)))
+                codes = [0, element.sign, most, element.sign | most, *below]
+                values = [v for v, _ in mx_dequantize(element, DOUBLE, Mode.EVEN, scale, codes)]
+                mode = MODES[(scale + most) % 5]
+                again, lower, flags = mx_quantize(element, DOUBLE, mode, values)
+                old = [element.number(c) * Fraction(2) ** scale for c in codes]
+                new = [element.number(c) * Fraction(2) ** lower for c in again]
+                signs = all((c ^ d) & element.sign == 0 for c, d in zip(codes, again))
+                keeps = has_place(element, scale, element.quanta(most))
+                assert keeps == (old == new) == (not any(flags)) and signs
+                stays = element.quanta(most) >= top or scale == 0
+                assert stays == (again == codes and lower == scale) or not keeps
+                kept, same, lost = kept + keeps, same + (keeps and stays), lost + (not keeps)
     print(f"blocks quantized again: {kept} kept, {same} with their codes; {lost} of e4m3fn lost values")
 
 
@@ -379,6 +395,7 @@ def main():
     """Prints the file, or tries the laws."""
     if argv[1:] == ["--laws"]:
         try_products()
+        try_singles()
         try_again()
         return
     print("//! Blocks of small values with a common scale, computed by `evidence/blocks.py`.")
