@@ -6,8 +6,9 @@
 A value is a fraction. The scale of a block is found by comparing the greatest one with powers of two, and
 each element by rounding the quotient on the list of the numbers of its format. The rows show blocks of
 four singles; the checksums are of 1,500 blocks of 32 elements, whose singles a linear congruence draws.
-`--laws` tries what no contract says: products that wide formats have exactly, and blocks that are
-quantized again.
+`--laws` tries the theorems on blocks that formats have exactly and on blocks that are quantized again,
+and that they would be false without their bounds. Of NVFP4 the rows show the same blocks with four
+scales of their tensor, and the checksums are of 500 blocks of 16 elements, ten of them to a tensor.
 """
 
 from dataclasses import dataclass
@@ -156,6 +157,45 @@ def mx_dequantize(element, target, mode, scale, codes):
     return [product(target, mode, bool(c & element.sign), abs(element.number(c)) * by) for c in codes]
 
 
+# ---- NVFP4
+
+
+def tensor_scale(source, values):
+    """The single by which a tensor of finite values is scaled."""
+    greatest = max(magnitude(source, x) for x in values)
+    value, _ = product(SINGLE, Mode.EVEN, False, greatest / 2688)
+    if isinstance(value, Infinite):
+        return Finite(False, SINGLE.largest)
+    return value if value.quanta else Finite(False, 1 << SINGLE.scale)
+
+
+def nv_scale(mode, tensor, greatest):
+    """The code of the scale of a block."""
+    if greatest == 0:
+        return 0
+    code, _ = E4M3.quantize(mode, False, greatest / (6 * tensor))
+    return max(code, 1)
+
+
+def nv_quantize(source, mode, tensor, values):
+    """The codes, the code of the scale, and the flags."""
+    if any(is_nan(x) or isinstance(x, Infinite) for x in values):
+        return [0] * len(values), 127, [OK] * len(values)
+    by = magnitude(SINGLE, tensor)
+    scale = nv_scale(mode, by, max(magnitude(source, x) for x in values))
+    divisor = E4M3.number(max(scale, 1)) * by
+    found = [E2M1.quantize(mode, x.negative, magnitude(source, x) / divisor) for x in values]
+    return [code for code, _ in found], scale, [status for _, status in found]
+
+
+def nv_dequantize(target, mode, tensor, scale, codes):
+    """The values of a block, and their flags."""
+    if scale == 127:
+        return [(qnan(target), OK)] * len(codes)
+    by = E4M3.number(scale) * magnitude(SINGLE, tensor)
+    return [product(target, mode, bool(c & E2M1.sign), abs(E2M1.number(c)) * by) for c in codes]
+
+
 # ---- what is drawn
 
 
@@ -199,6 +239,18 @@ def mx_sum(element, mode, blocks=60, size=32):
     return checksum
 
 
+def nv_sum(mode, blocks=100, size=16):
+    """The checksum of blocks of NVFP4, ten of them to a tensor."""
+    draw, checksum = Draw(200), 0
+    for _ in range(blocks // 10):
+        values = [decoded(SINGLE, draw.single()) for _ in range(10 * size)]
+        tensor = tensor_scale(SINGLE, values)
+        checksum = extended(checksum, encoded(SINGLE, tensor))
+        for first in range(0, 10 * size, size):
+            checksum = block_sum(checksum, nv_quantize(SINGLE, mode, tensor, values[first : first + size]))
+    return checksum
+
+
 # ---- rows
 
 
@@ -222,6 +274,9 @@ SPECIAL = (
 DRAWN = Draw(1)
 
 BLOCKS = (*SPECIAL, *(tuple(DRAWN.single() for _ in range(4)) for _ in range(8)))
+
+
+NV_CASES = (*((mode, 0x3A000001) for mode in MODES), *((Mode.EVEN, x) for x in (0x3F800000, 1, 0x7F7FFFFF)))
 
 
 def row(answer):
@@ -261,48 +316,86 @@ def exact(element, target, scale, code):
 
 
 def try_products():
-    """Products of all finite codes and all scales."""
+    """Each scale and each finite code: the target has all products of a scale just where it has to."""
     for element in ELEMENTS:
         for scale in range(255):
             low = scale - 127 + element.max_exp <= 127
-            for code in (1, 2, 3, element.finite // 2 + 1, element.finite - 2, element.finite - 1):
-                assert exact(element, DOUBLE, scale, code)
-                assert not low or exact(element, SINGLE, scale, code)
-                assert not low or element.bits == 8 or exact(element, BFLOAT, scale, code)
-    assert not exact(E2M1, SINGLE, 254, 7)
-    assert not exact(E4M3, BFLOAT, 0, 1)
-    print("products of each scale: exact where they have to be")
+            for target in (DOUBLE, SINGLE, BFLOAT):
+                room = (low or target is DOUBLE) and element.scale + 127 <= scale + target.scale
+                assert room == all(exact(element, target, scale, code) for code in range(element.finite))
+    print("products of each scale: all exact just where they have to be")
+
+
+def try_singles():
+    """Blocks of singles of each exponent come back exactly."""
+    blocks = 0
+    for element in ELEMENTS:
+        for field in range(255):
+            bits = (field << 23 | 0x7FFFFF, field << 23, field << 23 | 0x80600000, 0x80000001, field << 22)
+            values = [decoded(SINGLE, x) for x in bits]
+            for mode in MODES:
+                codes, scale, _ = mx_quantize(element, SINGLE, mode, values)
+                assert scale + element.max_exp <= 254
+                assert all(status == OK for _, status in mx_dequantize(element, SINGLE, mode, scale, codes))
+                blocks += 1
+    print(f"blocks of singles: {blocks} came back exactly")
+
+
+def has_place(element, scale, greatest):
+    """Whether the greatest element does not reach 480 in E4M3FN."""
+    place = (greatest & -greatest).bit_length() - 1
+    return element is not E4M3 or greatest >> max(place, 0) != 15 or place + scale < 14
 
 
 def try_again():
-    """Random blocks, dequantized and quantized again."""
-    draw, lost, kept, same = Draw(3), 0, 0, 0
-    for turn in range(2000):
-        element = ELEMENTS[turn % 5]
-        scale = draw.word() % 255 if turn % 7 else draw.word() % 4
-        few = 1 + draw.word() % element.finite
-        codes = [draw.word() % few | (draw.word() & 1) * element.sign for _ in range(8)]
-        values = [v for v, _ in mx_dequantize(element, DOUBLE, Mode.EVEN, scale, codes)]
-        again, lower, flags = mx_quantize(element, DOUBLE, MODES[turn // 5 % 5], values)
-        greatest = max(element.quanta(c % element.sign) for c in codes)
-        odd = greatest >> (greatest & -greatest).bit_length() - 1 if greatest else 0
-        old = [element.number(c) * Fraction(2) ** scale for c in codes]
-        new = [element.number(c) * Fraction(2) ** lower for c in again]
-        if element is E4M3 and odd == 15:
-            lost += old != new
-            continue
-        kept += 1
-        assert old == new and not any(flags)
-        if scale == 0 or greatest >= 1 << element.scale + element.max_exp:
-            same += 1
-            assert again == codes and lower == scale
+    """Blocks with each greatest element, dequantized and quantized again."""
+    kept, same, lost = 0, 0, 0
+    for element in ELEMENTS:
+        top = 1 << element.scale + element.max_exp
+        for scale in (*range(22), *range(22, 253, 33), 253, 254):
+            for most in range(element.finite):
+                below = (*range(most % 7, most, 7), *(element.sign | x for x in range(most % 5, most, 5)))
+                codes = [0, element.sign, most, element.sign | most, *below]
+                values = [v for v, _ in mx_dequantize(element, DOUBLE, Mode.EVEN, scale, codes)]
+                mode = MODES[(scale + most) % 5]
+                again, lower, flags = mx_quantize(element, DOUBLE, mode, values)
+                old = [element.number(c) * Fraction(2) ** scale for c in codes]
+                new = [element.number(c) * Fraction(2) ** lower for c in again]
+                signs = all((c ^ d) & element.sign == 0 for c, d in zip(codes, again))
+                keeps = has_place(element, scale, element.quanta(most))
+                assert keeps == (old == new) == (not any(flags)) and signs
+                stays = element.quanta(most) >= top or scale == 0
+                assert stays == (again == codes and lower == scale) or not keeps
+                kept, same, lost = kept + keeps, same + (keeps and stays), lost + (not keeps)
     print(f"blocks quantized again: {kept} kept, {same} with their codes; {lost} of e4m3fn lost values")
+
+
+def nv_main():
+    """Prints what there is of NVFP4."""
+    rows, back = [], []
+    for mode, tensor in NV_CASES:
+        scale = decoded(SINGLE, tensor)
+        for bits in BLOCKS:
+            answer = nv_quantize(SINGLE, mode, scale, [decoded(SINGLE, x) for x in bits])
+            rows.append(row(answer))
+            back.append(back_again(nv_dequantize(SINGLE, mode, scale, answer[1], answer[0])))
+    table("NV_CASES", "(Round, u32)", [f"    (Round::{WORDS[mode]}, 0x{x:x})," for mode, x in NV_CASES])
+    table("NV_ROWS", "Row", rows)
+    table("NV_BACK", "[u32; 4]", back)
+    table("NV_SUMS", "(Round, u64)", [f"    (Round::{WORDS[mode]}, 0x{nv_sum(mode):x})," for mode in MODES])
+    scales = []
+    for bits in BLOCKS:
+        values = [decoded(SINGLE, x) for x in bits]
+        whole = all(isinstance(x, Finite) for x in values)
+        scales.append(f"Some(0x{encoded(SINGLE, tensor_scale(SINGLE, values)):x})" if whole else "None")
+    table("NV_SCALES", "Option<u128>", [f"    {scale}," for scale in scales])
 
 
 def main():
     """Prints the file, or tries the laws."""
     if argv[1:] == ["--laws"]:
         try_products()
+        try_singles()
         try_again()
         return
     print("//! Blocks of small values with a common scale, computed by `evidence/blocks.py`.")
@@ -321,6 +414,7 @@ def main():
     table("CASES", "Case", cases)
     table("ROWS", "Row", rows)
     table("BACK", "[u32; 4]", back)
+    nv_main()
 
 
 if __name__ == "__main__":

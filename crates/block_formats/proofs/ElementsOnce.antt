@@ -20,7 +20,7 @@ use Rattle.block_formats.specs.declared.elements.ElementFormat.TheVariants.{E5M2
 use Rattle.block_formats.specs.Elements.{IsElement, IsQuotientBy, e2m1fn, e2m3fn, e3m2fn, element_datum}
 use Rattle.block_formats.specs.Elements.{format_of_element, width}
 
-e4m3fn_interchange : IsInterchange (format_with e4m3fn_constants) (layout_with e4m3fn_constants)
+pub e4m3fn_interchange : IsInterchange (format_with e4m3fn_constants) (layout_with e4m3fn_constants)
 e4m3fn_interchange = record {
   precise = lit≤ tt;
   some = lit≤ tt;
@@ -30,7 +30,7 @@ e4m3fn_interchange = record {
   explicit = refl;
 }
 
-e5m2_interchange : IsInterchange (format_with e5m2_constants) (layout_with e5m2_constants)
+pub e5m2_interchange : IsInterchange (format_with e5m2_constants) (layout_with e5m2_constants)
 e5m2_interchange = record {
   precise = lit≤ tt;
   some = lit≤ tt;
@@ -69,8 +69,9 @@ code_of_element_once E2M3FN code other l k e =
 code_of_element_once E2M1FN code other l k e =
     code_once e2m1fn code other (element_datum E2M1FN other) (lawful_from_test e2m1fn refl) l k e refl
 
-pub element_once : (element : ElementFormat) (mode : Round) (negative : Bool) (amount parts code other status flags : ℕ)
-    → code < 2 ^ width element → other < 2 ^ width element → IsElement element mode negative amount parts code status
+pub element_once : (element : ElementFormat) (mode : Round) (negative : Bool)
+    (amount parts code other status flags : ℕ) → code < 2 ^ width element → other < 2 ^ width element
+    → IsElement element mode negative amount parts code status
     → IsElement element mode negative amount parts other flags → (code ≡ other) × (status ≡ flags)
 element_once element mode b amount parts code other status flags l k x y =
     let g = format_of_element element in

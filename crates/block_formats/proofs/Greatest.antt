@@ -59,8 +59,8 @@ finite_at (y ∷ xs) (suc i) x h e =
     finite_at xs i x p.1 e
 
 -- one more that is finite, and one that is not
-pub finite_more : (xs : List Datum) (i : ℕ) (x : Datum) → are_finite (take i xs) ≡ true → slice_get xs i ≡ Some x
-    → is_finite x ≡ true → are_finite (take (i + 1) xs) ≡ true
+pub finite_more : (xs : List Datum) (i : ℕ) (x : Datum) → are_finite (take i xs) ≡ true
+    → slice_get xs i ≡ Some x → is_finite x ≡ true → are_finite (take (i + 1) xs) ≡ true
 finite_more [] i x h e f = cc
 finite_more (y ∷ xs) zero x h e f = rw (ap is_finite (some_same y x e) ∙ f) refl
 finite_more (y ∷ xs) (suc i) x h e f =
@@ -136,7 +136,8 @@ normal_quanta (finite b (suc m)) e = omega arith
 normal_quanta (infinite b) e = cc
 normal_quanta (nan b s) e = cc
 
-pub no_quanta : (x : Datum) → is_finite x ≡ true → (category_of x ≡ Normal → ⊥) → (n : ℕ) → max (quanta_of x) n ≡ n
+pub no_quanta : (x : Datum) → is_finite x ≡ true → (category_of x ≡ Normal → ⊥) → (n : ℕ)
+    → max (quanta_of x) n ≡ n
 no_quanta (finite b zero) h none n = max_right 0 n (omega arith)
 no_quanta (finite b (suc m)) h none n =
     let off : eqb (suc m) 0 ≡ false = ne_eqb (suc m) 0 (λ e. omega (arith, e)) in
@@ -145,7 +146,8 @@ no_quanta (infinite b) h none n = cc
 no_quanta (nan b s) h none n = cc
 
 -- the test of a value that is not below zero
-pub zero_test : (x : Datum) → x ≡ finite false (quanta_of x) → is_zero_category (category_of x) ≡ eqb (quanta_of x) 0
+pub zero_test : (x : Datum) → x ≡ finite false (quanta_of x)
+    → is_zero_category (category_of x) ≡ eqb (quanta_of x) 0
 zero_test x e = zero_agrees x ∙ ap is_zero e
 
 -- the number 0 is a member of each format

@@ -12,3 +12,12 @@ mod Counted
 mod ElementsOnce
 mod PlacesOnce
 mod OneBlock
+mod ExactProducts
+mod JointScales
+mod NvScales
+mod NvProducts
+mod OneNvBlock
+mod ElementNumbers
+mod ExactBlocks
+mod exact
+mod again

@@ -40,7 +40,7 @@ block_scale_once element f greatest =
     match_one Determines (eqb greatest 0) (λ code. code ≡ 0) (IsScaleOfNumber element f greatest)
     (λ code other x y. x ∙ sym y) (scale_of_number_once element f greatest)
 
-same_block : (block other : Block) → block.scale ≡ other.scale → block.counts ≡ other.counts
+pub same_block : (block other : Block) → block.scale ≡ other.scale → block.counts ≡ other.counts
     → block.is_finite ≡ other.is_finite → block ≡ other
 same_block block other e f g =
     ap (λ (s : ℕ). record { scale = s; counts = block.counts; is_finite = block.is_finite }) e
@@ -60,17 +60,19 @@ numbers_once element f mode values codes others block other x y =
     other.counts x.elements elements in
     (same.0, same_block block other scale same.1 (x.finite_is ∙ sym y.finite_is))
 
-nan_once : (values : List Datum) → DeterminesBoth (IsBlockOfNan values)
-nan_once values codes others block other x y = (
+pub nan_once : (nan : ℕ) (values : List Datum) → DeterminesBoth (IsBlockOfNan nan values)
+nan_once nan values codes others block other x y = (
   x.codes_are ∙ sym y.codes_are,
-  same_block block other (x.scale_is ∙ sym y.scale_is) (x.counted ∙ sym y.counted) (x.finite_is ∙ sym y.finite_is),
+  same_block block other (x.scale_is ∙ sym y.scale_is) (x.counted ∙ sym y.counted)
+      (x.finite_is ∙ sym y.finite_is),
 )
 
 block_once : (element : ElementFormat) (f : Format) (mode : Round) (values : List Datum)
     → DeterminesBoth (IsBlock element f mode values)
 block_once element f mode values =
-    match_case DeterminesBoth (are_finite values) (IsBlockOfNumbers element f mode values) (IsBlockOfNan values)
-    (numbers_once element f mode values) (nan_once values)
+    match_case DeterminesBoth (are_finite values) (IsBlockOfNumbers element f mode values)
+    (IsBlockOfNan nan_code values)
+    (numbers_once element f mode values) (nan_once nan_code values)
 
 none_some : (n : ℕ) → n ≡ 0 → 0 < n → ⊥
 none_some n e l = omega (arith, e, l)
@@ -109,7 +111,8 @@ scaled_once element g mode scale code =
     (scale_of scale) v w r s)
 
 -- no code has both few bits and more
-not_both : (bits : ℕ) (codes : List ℕ) → All (λ code. code < 2 ^ bits) codes → Any (λ code. 2 ^ bits ≤ code) codes → ⊥
+pub not_both : (bits : ℕ) (codes : List ℕ) → All (λ code. code < 2 ^ bits) codes
+    → Any (λ code. 2 ^ bits ≤ code) codes → ⊥
 not_both bits codes few (place, code, within, is, wide) =
     let low : code < 2 ^ bits = subst (λ (n : ℕ). n < 2 ^ bits) is (few place code within) in
     omega (arith, low, wide)

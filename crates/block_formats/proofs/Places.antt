@@ -1,7 +1,7 @@
 -- One more element is written in its place.
 use Rattle.std.proofs.Common.{◌≡◌, ℕ, zero, suc, ◌+◌, ◌-◌, ◌^◌, ◌<◌, ◌≤◌, Bool, true, false, cond, refl, sym, ap, ◌∙◌, subst}
-use Rattle.std.proofs.Common.{⊎_elim, arith, List, [], ◌∷◌, ◌++◌, length, take, Some}
-use Rattle.std.specs.Prelude.{All, get_or, slice_get, slice_set, unwrap_or}
+use Rattle.std.proofs.Common.{⊎_elim, arith, List, [], ◌∷◌, ◌++◌, length, Some}
+use Rattle.std.specs.Prelude.{slice_get, slice_set, unwrap_or}
 use Rattle.std.proofs.lemmas.Bool.{cases_lt}
 use Rattle.std.proofs.lemmas.List.{length_push}
 use Rattle.std.proofs.lemmas.Option.{slice_get_within}
@@ -11,7 +11,8 @@ use Rattle.block_formats.specs.Places.{AreCounted, HaveRoom, count_raised, count
 
 -- ---- a write to a list
 
-pub get_set : {X : Type 0} → (xs : List X) (i : ℕ) (y : X) → i < length xs → slice_get (slice_set xs i y) i ≡ Some y
+pub get_set : {X : Type 0} → (xs : List X) (i : ℕ) (y : X) → i < length xs
+    → slice_get (slice_set xs i y) i ≡ Some y
 get_set [] i y l = absurd (omega (arith, l))
 get_set (x ∷ xs) zero y l = refl
 get_set (x ∷ xs) (suc i) y l = get_set xs i y (omega (arith, l))
@@ -31,31 +32,6 @@ length_set (x ∷ xs) (suc i) y = ap suc (length_set xs i y)
 
 pub some_same : {X : Type 0} → (a b : X) → Some a ≡ Some b → a ≡ b
 some_same a b e = ap (λ o. unwrap_or o a) e
-
--- ---- what holds of all
-
-pub all_first : {X : Type 0} → (P : X → Type 0) (x : X) (xs : List X) → All P (x ∷ xs) → P x
-all_first P x xs h = h 0 x (omega arith)
-
-pub all_rest : {X : Type 0} → (P : X → Type 0) (x : X) (xs : List X) → All P (x ∷ xs) → All P xs
-all_rest P x xs h = λ k d l. h (suc k) d (omega (arith, l))
-
-pub all_at : {X : Type 0} → (P : X → Type 0) (xs : List X) (i : ℕ) (x : X) → All P xs → slice_get xs i ≡ Some x → P x
-all_at P [] i x h e = cc
-all_at P (y ∷ xs) zero x h e = subst P (some_same y x e) (all_first P y xs h)
-all_at P (y ∷ xs) (suc i) x h e = all_at P xs i x (all_rest P y xs h) e
-
-all_push : {X : Type 0} → (P : X → Type 0) (xs : List X) (x : X) → All P xs → P x → (k : ℕ) (d : X)
-    → k < length (xs ++ x ∷ []) → P (get_or (xs ++ x ∷ []) k d)
-all_push P [] x h p zero d l = p
-all_push P [] x h p (suc k) d l = absurd (omega (arith, l))
-all_push P (y ∷ xs) x h p zero d l = h 0 d (omega arith)
-all_push P (y ∷ xs) x h p (suc k) d l = all_push P xs x (all_rest P y xs h) p k d (omega (arith, l))
-
--- one more of a list
-pub all_more : {X : Type 0} → (P : X → Type 0) (xs : List X) (i : ℕ) (x : X) → All P (take i xs) → P x
-    → take (i + 1) xs ≡ take i xs ++ x ∷ [] → All P (take (i + 1) xs)
-all_more {X} P xs i x h p e = subst (λ (ys : List X). All P ys) (sym e) (all_push P (take i xs) x h p)
 
 -- ---- counts
 
@@ -107,8 +83,8 @@ room_for flags counts e l =
 
 -- ---- the elements before a place
 
-pub record AreWritten {A B : Type 0} (Holds : A → B → ℕ → Type 0) (count : ℕ) (read : List A) (written : List B)
-    (counts : Counts) : Type 0 where
+pub record AreWritten {A B : Type 0} (Holds : A → B → ℕ → Type 0) (count : ℕ) (read : List A)
+    (written : List B) (counts : Counts) : Type 0 where
   pub flags : List ℕ
   pub flags_size : length flags ≡ count
   pub each : (place : ℕ) (x : A) (y : B) (status : ℕ) → place < count → slice_get read place ≡ Some x
@@ -124,8 +100,9 @@ none_written Holds read written = record {
   counted = refl;
 }
 
-pub one_written : {A B : Type 0} → (Holds : A → B → ℕ → Type 0) (count : ℕ) (read : List A) (written : List B)
-    (counts more : Counts) (x : A) (y : B) (status : ℕ) → count < length written → slice_get read count ≡ Some x
+pub one_written : {A B : Type 0} → (Holds : A → B → ℕ → Type 0) (count : ℕ) (read : List A)
+    (written : List B) (counts more : Counts) (x : A) (y : B) (status : ℕ) → count < length written
+    → slice_get read count ≡ Some x
     → Holds x y status → more ≡ with_status counts status → AreWritten Holds count read written counts
     → AreWritten Holds (count + 1) read (slice_set written count y) more
 one_written {A} {B} Holds count read written counts more x y status l at here counted so_far = record {
@@ -153,7 +130,8 @@ one_written {A} {B} Holds count read written counts more x y status l at here co
       (cases_lt place count);
 }
 
-pub all_written : {A B : Type 0} → (Holds : A → B → ℕ → Type 0) (read : List A) (written : List B) (counts : Counts)
+pub all_written : {A B : Type 0} → (Holds : A → B → ℕ → Type 0) (read : List A) (written : List B)
+    (counts : Counts)
     → length written ≡ length read → AreWritten Holds (length read) read written counts
     → AreCounted Holds read written counts
 all_written Holds read written counts size all = record {

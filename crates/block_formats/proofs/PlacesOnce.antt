@@ -5,7 +5,7 @@ use Rattle.block_formats.specs.declared.counts.Counts.{Counts}
 use Rattle.block_formats.specs.Places.{AreCounted, AreInPlaces, counts_of}
 
 -- the places after the first one
-rest_in_places : {A B : Type 0} → (Holds : A → B → ℕ → Type 0) (x : A) (xs : List A) (y : B) (ys : List B)
+pub rest_in_places : {A B : Type 0} → (Holds : A → B → ℕ → Type 0) (x : A) (xs : List A) (y : B) (ys : List B)
     (status : ℕ) (flags : List ℕ) → AreInPlaces Holds (x ∷ xs) (y ∷ ys) (status ∷ flags)
     → AreInPlaces Holds xs ys flags
 rest_in_places Holds x xs y ys status flags all =
@@ -17,8 +17,8 @@ rest_in_places Holds x xs y ys status flags all =
       each = λ place a b s. all.each (suc place) a b s;
     }
 
-in_places_once : {A B : Type 0} → (Holds : A → B → ℕ → Type 0) → ((x : A) → Once (Holds x)) → (read : List A)
-    (written others : List B) (flags more : List ℕ) → AreInPlaces Holds read written flags
+in_places_once : {A B : Type 0} → (Holds : A → B → ℕ → Type 0) → ((x : A) → Once (Holds x))
+    → (read : List A) (written others : List B) (flags more : List ℕ) → AreInPlaces Holds read written flags
     → AreInPlaces Holds read others more → (written ≡ others) × (flags ≡ more)
 in_places_once Holds once [] [] [] [] [] p q = (refl, refl)
 in_places_once Holds once [] (y ∷ ys) others flags more p q = let s = p.same_size in absurd (omega (arith, s))
@@ -39,8 +39,8 @@ in_places_once Holds once (x ∷ xs) (y ∷ ys) (z ∷ zs) (s ∷ ss) (t ∷ ts)
       ap (λ k. k ∷ ss) first.1 ∙ ap (λ ks. t ∷ ks) rest.1,
     )
 
-pub counted_once : {A B : Type 0} → (Holds : A → B → ℕ → Type 0) → ((x : A) → Once (Holds x)) → (read : List A)
-    (written others : List B) (counts more : Counts) → AreCounted Holds read written counts
+pub counted_once : {A B : Type 0} → (Holds : A → B → ℕ → Type 0) → ((x : A) → Once (Holds x))
+    → (read : List A) (written others : List B) (counts more : Counts) → AreCounted Holds read written counts
     → AreCounted Holds read others more → (written ≡ others) × (counts ≡ more)
 counted_once Holds once read written others counts more p q =
     let same = in_places_once Holds once read written others p.flags q.flags p.in_places q.in_places in

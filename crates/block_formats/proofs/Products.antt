@@ -80,7 +80,8 @@ product_in f h g mode x y value status amount places precise is some p same =
 
 -- the same of the number of a storage format that the half is
 pub product_of_half : (c : Constants) (h g : Format) (mode : Round) (code : ℕ) (half y value : Datum)
-    (status amount places : ℕ) → 0 < g.precision → half ≡ finite (is_negative (datum_of c code)) (quanta_of half)
+    (status amount places : ℕ) → 0 < g.precision
+    → half ≡ finite (is_negative (datum_of c code)) (quanta_of half)
     → quanta_of half * 2 ^ (stored_format c).scale ≡ quanta_of (datum_of c code) * 2 ^ 24
     → y ≡ finite false (quanta_of y) → 0 < quanta_of y
     → IsProductTo (library_format half_constants) h g mode half y value status
@@ -100,8 +101,8 @@ pub product_case : (known element : ElementFormat) (g : Format) (mode : Round) (
     → IsProductOf g mode (seen (format_of_element known) g (element_datum known code)) (number false amount places)
     value status)
     → (amount places : ℕ) → amount * 2 ^ t ≡ n * 2 ^ places
-    → IsProductOf g mode (seen (format_of_element element) g (element_datum element code)) (number false amount places)
-    value status
+    → IsProductOf g mode (seen (format_of_element element) g (element_datum element code))
+    (number false amount places) value status
 product_case known element g mode code n t value status e h =
     subst (λ (k : ElementFormat). (amount places : ℕ) → amount * 2 ^ t ≡ n * 2 ^ places
     → IsProductOf g mode (seen (format_of_element k) g (element_datum k code)) (number false amount places) value

@@ -17,7 +17,7 @@ use Rattle.apfloat_model.proofs.general.Choices.{not_zero}
 use Rattle.apfloat_format_of.specs.FormatOf.{IsQuotientTo}
 use Rattle.storage_formats.specs.Quotients.{IsRatioOf}
 use Rattle.block_formats.specs.declared.elements.ElementFormat.{ElementFormat}
-use Rattle.block_formats.specs.Elements.{IsElement, IsElementIn, format_of_element}
+use Rattle.block_formats.specs.Elements.{IsElement, IsSaturatedIn, format_of_element}
 use Rattle.block_formats.proofs.SameFractions.{delivered_across}
 
 -- ---- saturating
@@ -48,7 +48,8 @@ saturated_is : (g : Format) (negative past leads : Bool) (pick : ℕ) (value res
     → zero_sign g.nonfinite negative ≡ negative
     → value ≡ cond past (cond leads (past_largest g.nonfinite (nan_base g) negative) (finite negative (largest g)))
     (signed_quanta g.nonfinite negative pick)
-    → (is_finite value ≡ true → result ≡ value) → (is_finite value ≡ false → result ≡ finite negative (largest g))
+    → (is_finite value ≡ true → result ≡ value)
+    → (is_finite value ≡ false → result ≡ finite negative (largest g))
     → result ≡ cond past (finite negative (largest g)) (finite negative pick)
 saturated_is g negative true true pick value result z v kept past =
     past (ap is_finite v ∙ past_not_finite g.nonfinite (nan_base g) negative)
@@ -57,16 +58,16 @@ saturated_is g negative false leads pick value result z v kept past =
     kept (ap is_finite v ∙ finite_choice (eqb pick 0) (zero_sign g.nonfinite negative) negative 0 pick) ∙ v
     ∙ signed_same g.nonfinite negative pick z
 
-pub element_of : (g : Format) (datum : ℕ → Datum) (mode : Round) (negative : Bool) (amount parts code status : ℕ)
-    (value result : Datum) → zero_sign g.nonfinite negative ≡ negative
-    → IsDelivered g mode negative amount parts value status → (is_finite value ≡ true → result ≡ value)
-    → (is_finite value ≡ false → result ≡ finite negative (largest g)) → datum code ≡ result
-    → IsElementIn g datum mode negative amount parts code status
-element_of g datum mode negative amount parts code status value result z h kept past is = record {
+pub saturated_of : (g : Format) (mode : Round) (negative : Bool) (amount parts status : ℕ) (value result : Datum)
+    → zero_sign g.nonfinite negative ≡ negative → IsDelivered g mode negative amount parts value status
+    → (is_finite value ≡ true → result ≡ value)
+    → (is_finite value ≡ false → result ≡ finite negative (largest g))
+    → IsSaturatedIn g mode negative amount parts result status
+saturated_of g mode negative amount parts status value result z h kept past = record {
   pick = h.pick;
   is_pick = h.is_pick;
-  value_is = is ∙ saturated_is g negative (ltb (largest g) h.pick) (leads_out mode negative) h.pick value result z
-      h.value_is kept past;
+  value_is = saturated_is g negative (ltb (largest g) h.pick) (leads_out mode negative) h.pick value result z h.value_is
+      kept past;
   status_is = h.status_is;
 }
 

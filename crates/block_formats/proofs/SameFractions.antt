@@ -9,7 +9,8 @@ use Rattle.apfloat_odd.proofs.SameDeliveries.{same_delivered}
 use Rattle.apfloat_odd.proofs.Sides.{SameSides}
 
 -- a / b and c / d are on the same side of every point
-pub same_fraction : (digits fine a b c d : ℕ) → 0 < b → 0 < d → a * d ≡ c * b → SameSides digits fine a b c d
+pub same_fraction : (digits fine a b c d : ℕ) → 0 < b → 0 < d → a * d ≡ c * b
+    → SameSides digits fine a b c d
 same_fraction digits fine a b c d p q e =
     let both : a * fine * d ≡ c * fine * b =
     let x : a * d * fine ≡ c * b * fine = ap (λ (y : ℕ). y * fine) e in omega (arith, x) in

@@ -61,12 +61,17 @@ element_datum E2M1FN code = datum_of e2m1fn code
 
 -- The magnitude amount / parts quanta of g with that sign, rounded once. Past the largest number there is nothing but
 -- that number, in each mode; the flags are those of the rounding.
-pub record IsElementIn (g : Format) (datum : ℕ → Datum) (mode : Round) (negative : Bool)
-    (amount parts code status : ℕ) : Type 0 where
+pub record IsSaturatedIn (g : Format) (mode : Round) (negative : Bool) (amount parts : ℕ) (value : Datum)
+    (status : ℕ) : Type 0 where
   pub pick : ℕ
   pub is_pick : IsPick g.precision mode negative amount parts pick
-  pub value_is : datum code ≡ saturated_value g negative pick
+  pub value_is : value ≡ saturated_value g negative pick
   pub status_is : status ≡ delivered_status g mode negative amount parts pick
+
+-- the same as a code, which means that value
+abbrev pub IsElementIn : Format → (ℕ → Datum) → Round → Bool → ℕ → ℕ → ℕ → ℕ → Type 0
+IsElementIn g datum mode negative amount parts code status =
+    IsSaturatedIn g mode negative amount parts (datum code) status
 
 abbrev pub IsElement : ElementFormat → Round → Bool → ℕ → ℕ → ℕ → ℕ → Type 0
 IsElement element mode negative amount parts code status =

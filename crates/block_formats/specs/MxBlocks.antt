@@ -30,9 +30,9 @@ pub record IsBlockOfNumbers (element : ElementFormat) (f : Format) (mode : Round
       code status) values codes block.counts
   pub finite_is : block.is_finite ≡ true
 
--- what the specification leaves open: the scale is the NaN, and all elements are zero
-pub record IsBlockOfNan (values : List Datum) (codes : List ℕ) (block : Block) : Type 0 where
-  pub scale_is : block.scale ≡ nan_code
+-- what the specification leaves open: the scale is the NaN, which has that code, and all elements are zero
+pub record IsBlockOfNan (nan : ℕ) (values : List Datum) (codes : List ℕ) (block : Block) : Type 0 where
+  pub scale_is : block.scale ≡ nan
   pub codes_are : codes ≡ replicate (length values) 0
   pub counted : block.counts ≡ counts_of (replicate (length values) ok_bits)
   pub finite_is : block.is_finite ≡ false
@@ -40,11 +40,11 @@ pub record IsBlockOfNan (values : List Datum) (codes : List ℕ) (block : Block)
 abbrev pub IsBlock : ElementFormat → Format → Round → List Datum → List ℕ → Block → Type 0
 IsBlock element f mode values codes block =
     MatchBool (are_finite values) (IsBlockOfNumbers element f mode values codes block)
-    (IsBlockOfNan values codes block)
+    (IsBlockOfNan nan_code values codes block)
 
 -- the answer of a call, and the codes before and after it: nothing is written with an error
-abbrev pub IsQuantized : ElementFormat → Format → Round → List Datum → List ℕ → List ℕ → Result Block BlockError
-    → Type 0
+abbrev pub IsQuantized : ElementFormat → Format → Round → List Datum → List ℕ → List ℕ
+    → Result Block BlockError → Type 0
 IsQuantized element f mode values before after (Ok block) =
     (0 < length values) × (length before ≡ length values) × IsBlock element f mode values after block
 IsQuantized element f mode values before after (Err Empty) = (length values ≡ 0) × (after ≡ before)

@@ -47,8 +47,8 @@ pub record HaveRoom (counts : Counts) : Type 0 where
   pub inexact : counts.inexact < 2 ^ 64 - 1
 
 -- what holds in each place, and the counts
-pub record AreCounted {A B : Type 0} (Holds : A → B → ℕ → Type 0) (read : List A) (written : List B) (counts : Counts)
-    : Type 0 where
+pub record AreCounted {A B : Type 0} (Holds : A → B → ℕ → Type 0) (read : List A) (written : List B)
+    (counts : Counts) : Type 0 where
   pub flags : List ℕ
   pub in_places : AreInPlaces Holds read written flags
   pub counted : counts ≡ counts_of flags

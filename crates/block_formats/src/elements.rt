@@ -17,7 +17,8 @@ ghost use Rattle.storage_formats.specs.Codes.{datum_of};
 ghost use Rattle.storage_formats.specs.Quotients.{IsRatioOf};
 ghost use Rattle.storage_formats.specs.Storage.{format_with as stored_format};
 ghost use Rattle.storage_formats.specs.Types.{constants_of as stored_constants};
-ghost use Rattle.block_formats.specs.Elements.{IsElement, IsElementIn, element_datum, format_of_element};
+ghost use Rattle.block_formats.specs.Elements.{IsElement, IsElementIn, IsSaturatedIn, element_datum};
+ghost use Rattle.block_formats.specs.Elements.{format_of_element};
 ghost use Rattle.block_formats.specs.Elements.{max_exp, width};
 
 use apfloat_base::{ExpInt, Float, FloatConvert, Round, StatusAnd};
@@ -86,8 +87,26 @@ fn saturated<T: Semantics>(value: IeeeFloat<T>, negative: bool) -> IeeeFloat<T>
     if negative { -largest } else { largest }
 }
 
-/// The quotient of a finite value and a positive one as a code of a format of 8 bits, rounded once and saturating.
-pub(crate) fn ieee_quotient<T: Semantics, S: Semantics, R: Semantics>(
+/// The quotient of a finite value and a positive one, rounded once, and the largest number in place of what is past it.
+pub(crate) fn saturated_quotient<T: Semantics, S: Semantics, R: Semantics>(
+    x: IeeeFloat<S>,
+    y: IeeeFloat<R>,
+    round: Round,
+) -> StatusAnd<IeeeFloat<T>>
+    requires signed { (negative : Bool)
+        → zero_sign (format_of T.Semantics).nonfinite negative ≡ negative }
+    requires finite { is_finite x ≡ true }
+    requires positive { IsPositive (format_of R.Semantics) y }
+    ensures { let g = format_of T.Semantics in (amount parts : ℕ) → 0 < parts
+        → IsRatioOf (format_of S.Semantics) (format_of R.Semantics) g x y amount parts
+        → Gives (IsSaturatedIn g round (is_negative x) amount parts) result }
+{
+    let answer = divide::<T, S, R>(x, y, round);
+    answer.status.and(saturated(answer.value, x.is_negative()))
+}
+
+/// The same as a code of a format of 8 bits.
+fn ieee_quotient<T: Semantics, S: Semantics, R: Semantics>(
     x: IeeeFloat<S>,
     y: IeeeFloat<R>,
     round: Round,
@@ -104,9 +123,8 @@ pub(crate) fn ieee_quotient<T: Semantics, S: Semantics, R: Semantics>(
         parts) result }
     ensures below { result.value < 2 ^ T.BITS }
 {
-    let answer = divide::<T, S, R>(x, y, round);
-    let value = saturated(answer.value, x.is_negative());
-    answer.status.and(value.to_bits() as u8)
+    let answer = saturated_quotient::<T, S, R>(x, y, round);
+    answer.status.and(answer.value.to_bits() as u8)
 }
 
 /// The same as a code of a storage format.

@@ -1,6 +1,6 @@
 //! Blocks of the microscaling formats (OCP Microscaling Formats 1.0): elements, and one scale that is a power of two.
 
-ghost use Rattle.std.specs.Prelude.{◌≡◌, ℕ, ◌+◌, ◌*◌, ◌^◌, ◌<◌, ◌≤◌, true, false, length, All, Any, replicate};
+ghost use Rattle.std.specs.Prelude.{◌≡◌, ℕ, ◌+◌, ◌*◌, ◌^◌, ◌<◌, ◌≤◌, true, false, length, replicate};
 ghost use Rattle.apfloat_model.specs.rounding.Flags.{bits_of};
 ghost use Rattle.apfloat_ieee.specs.FlaggedTypes.{format_of as flagged_format_of};
 ghost use Rattle.apfloat_ieee.specs.Types.{format_of};
@@ -19,6 +19,7 @@ use crate::magnitudes::{are_finite, greatest_of};
 use crate::mx_scales::{power_of, scale_for};
 use apfloat_base::{Float, Round, Status, StatusAnd};
 use apfloat_ieee::{Flagged, IeeeFloat, Semantics};
+use packed_codes::are_narrow;
 
 /// How many elements a block has in each format of that specification; the calls here take any number.
 pub const BLOCK: usize = 32;
@@ -29,7 +30,7 @@ const NAN_SCALE: u8 = 255;
 /// A block beside its elements.
 #[derive(Clone, Copy, PartialEq, Eq, Debug)]
 pub struct Block {
-    /// The code of the scale, of `E8M0FNU`.
+    /// The code of the scale: of `E8M0FNU`, or of `Float8E4M3FN` in NVFP4.
     pub scale: u8,
     /// How many elements raised each flag.
     pub counts: Counts,
@@ -122,20 +123,6 @@ pub fn quantize_block<S: Semantics>(
         return Err(BlockError::Lengths);
     }
     Ok(quantize_some(element, values, round, codes))
-}
-
-/// Whether each code has only that many bits.
-pub(crate) fn are_narrow(bits: u32, codes: &[u8]) -> bool
-    requires { bits ≤ 8 }
-    ensures yes { result ≡ true → All (λ code. code < 2 ^ bits) codes.now }
-    ensures no { result ≡ false → Any (λ code. 2 ^ bits ≤ code) codes.now }
-{
-    for index in 0..codes.len() {
-        if u32::from(codes[index]) >= 1 << bits {
-            return false;
-        }
-    }
-    true
 }
 
 /// An element times the scale with that code, rounded once.

@@ -2,10 +2,15 @@
 //! packed codes by hand.
 
 use crate::asserts::same;
-use crate::block_rows::{BACK, BLOCKS, CASES, ROWS};
+use crate::block_rows::{
+    BACK, BLOCKS, CASES, NV_BACK, NV_CASES, NV_ROWS, NV_SCALES, NV_SUMS, ROWS,
+};
 use apfloat_base::{Float, Round};
 use apfloat_formats::Single;
-use block_formats::{Block, BlockError, ElementFormat, dequantize_block, quantize_block};
+use block_formats::{
+    Block, BlockError, ElementFormat, Nvfp4Error, dequantize_block, dequantize_nvfp4_block,
+    quantize_block, quantize_nvfp4_block, tensor_scale,
+};
 use packed_codes::{PackingError, pack_fours, pack_sixes, unpack_fours, unpack_sixes};
 use std::process::Abort;
 
@@ -48,7 +53,7 @@ fn wide(bits: [u32; 4]) -> [u128; 4] {
 }
 
 /// The scale and the counts.
-fn answer_of(answer: Result<Block, BlockError>) -> Option<(u8, [usize; 3])> {
+fn answer_of<E: Drop>(answer: Result<Block, E>) -> Option<(u8, [usize; 3])> {
     match answer {
         Ok(block) => {
             let counts = block.counts;
@@ -109,7 +114,7 @@ fn extended(checksum: u64, value: u64) -> u64 {
 }
 
 /// The checksum with one more block.
-fn with_block(checksum: u64, codes: &[u8], answer: Result<Block, BlockError>) -> u64 {
+fn with_block<E: Drop>(checksum: u64, codes: &[u8], answer: Result<Block, E>) -> u64 {
     let mut sum = checksum;
     for code in codes {
         sum = extended(sum, u64::from(*code));
@@ -163,6 +168,105 @@ fn refused(rt: HostRuntime) {
     let mut values = [one; 2];
     let answer = dequantize_block(ElementFormat::E2M1FN, 127, &[1, 16], mode, &mut values);
     same(&rt, answer.err(), Some(BlockError::CodeTooWide), codes);
+}
+
+fn check_nvfp4_row(
+    rt: &impl Abort,
+    (round, tensor): (Round, u32),
+    bits: [u32; 4],
+    (packed, scale, counts): Row,
+    back: [u32; 4],
+) {
+    let mut codes = [0u8; 4];
+    let answer = quantize_nvfp4_block(&singles(bits), single(tensor), round, &mut codes);
+    same(rt, answer_of(answer), Some((scale, counts)), bits);
+    same(rt, u32::from_le_bytes(codes), packed, bits);
+    let mut values = [single(0); 4];
+    let answer = dequantize_nvfp4_block(scale, &codes, single(tensor), round, &mut values);
+    same(rt, answer.is_ok(), true, bits);
+    same(rt, bits_of(values), wide(back), bits);
+}
+
+#[test]
+fn nvfp4_rows(rt: HostRuntime) {
+    for c in 0..8 {
+        for i in 0..16 {
+            let row = 16 * c + i;
+            check_nvfp4_row(&rt, NV_CASES[c], BLOCKS[i], NV_ROWS[row], NV_BACK[row]);
+        }
+    }
+    for i in 0..16 {
+        let scale = match tensor_scale(&singles(BLOCKS[i])) {
+            Ok(scale) => Some(scale.to_bits()),
+            Err(_) => None,
+        };
+        same(&rt, scale, NV_SCALES[i], BLOCKS[i]);
+    }
+}
+
+/// The scale of the tensor of the next 160 values.
+fn drawn_scale(first: u64) -> Single {
+    let mut state = first;
+    let mut values = [single(0); 160];
+    for index in 0..160 {
+        state = next_state(state);
+        values[index] = drawn(state);
+    }
+    match tensor_scale(&values) {
+        Ok(scale) => scale,
+        Err(_) => single(0),
+    }
+}
+
+/// The checksum of ten tensors of ten blocks of 16 elements.
+fn nvfp4_checksum(round: Round) -> u64 {
+    let (mut state, mut checksum) = (200, 0);
+    for _ in 0..10 {
+        let tensor = drawn_scale(state);
+        checksum = extended(checksum, (tensor.to_bits() % 0x1_0000_0000) as u64);
+        for _ in 0..10 {
+            let mut values = [single(0); 16];
+            for index in 0..16 {
+                state = next_state(state);
+                values[index] = drawn(state);
+            }
+            let mut codes = [0u8; 16];
+            let answer = quantize_nvfp4_block(&values, tensor, round, &mut codes);
+            checksum = with_block(checksum, &codes, answer);
+        }
+    }
+    checksum
+}
+
+#[test]
+fn nvfp4_checksums(rt: HostRuntime) {
+    for case in &NV_SUMS {
+        let (round, sum) = *case;
+        same(&rt, nvfp4_checksum(round), sum, round);
+    }
+}
+
+/// What is refused by name, with nothing written.
+#[test]
+fn nvfp4_refused(rt: HostRuntime) {
+    let one = single(0x3f80_0000);
+    let mode = Round::NearestTiesToEven;
+    let mut codes = [9u8; 2];
+    let none: [Single; 0] = [];
+    let answer = quantize_nvfp4_block(&none, one, mode, &mut codes);
+    same(&rt, answer.err(), Some(Nvfp4Error::Empty), codes);
+    let answer = quantize_nvfp4_block(&[one], one, mode, &mut codes);
+    same(&rt, answer.err(), Some(Nvfp4Error::Lengths), codes);
+    let answer = quantize_nvfp4_block(&[one, one], -one, mode, &mut codes);
+    same(&rt, answer.err(), Some(Nvfp4Error::TensorScale), codes);
+    same(&rt, codes, [9, 9], "nothing is written");
+    let mut values = [one; 2];
+    let answer = dequantize_nvfp4_block(128, &[1, 2], one, mode, &mut values);
+    same(&rt, answer.err(), Some(Nvfp4Error::BlockScale), codes);
+    let answer = dequantize_nvfp4_block(56, &[1, 16], one, mode, &mut values);
+    same(&rt, answer.err(), Some(Nvfp4Error::CodeTooWide), codes);
+    let answer = tensor_scale(&[one, Single::infinity()]);
+    same(&rt, answer.err(), Some(Nvfp4Error::NotFinite), codes);
 }
 
 /// A group of each layout, and back.

@@ -9,5 +9,5 @@ use Rattle.block_formats.proofs.mx.dequantize_block.Given as goal
 abbrev pub invariant-loop-index : goal.invariant-loop-index
 invariant-loop-index g l =
     (length l.values ≡ length l.codes)
-    × AreWritten (λ (code : ℕ) (value : Datum) (status : ℕ). IsScaled l.element (format_of g.G.Flagged) l.round l.scale
-    code value status) l.index l.codes l.values l.counts
+    × AreWritten (λ (code : ℕ) (value : Datum) (status : ℕ). IsScaled l.element (format_of g.G.Flagged) l.round
+    l.scale code value status) l.index l.codes l.values l.counts
