@@ -83,7 +83,8 @@ def between(choices):
     if choices.random() < 0.4:
         above = form.largest + (1 << form.largest.bit_length() - form.precision - 1) * choices.randrange(4)
         x = source.signed(source.near(above << source.form.scale, 1 << form.scale))
-    return asked(choices.choice(list(SATURATING)), source.form.name, form.name, choices.choice(_MODES), word_of(source, x))
+    call = choices.choice(list(SATURATING))
+    return asked(call, source.form.name, form.name, choices.choice(_MODES), word_of(source, x))
 
 
 def all_questions(_choices):
