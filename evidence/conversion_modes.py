@@ -36,14 +36,14 @@ def moves(mode, points, below, exact):
     return parts(digits, points, below, exact) + random >= 1 << digits
 
 
-def store(form, x, mode, largest_for_nan):
+def store(form, x, mode, largest_for_nan, source=HALF):
     """The code, the flags, and whether information is lost."""
     if is_nan(x):
         return form.count - 1 if largest_for_nan else 0, INVALID_OP, True
     sign = form.count if x.negative else 0
     if isinstance(x, Infinite):
         return sign + form.count - 1, INVALID_OP, True
-    exact = Fraction(x.quanta, 1 << HALF.scale)
+    exact = Fraction(x.quanta, 1 << source.scale)
     points = form.points
     index = bisect_right(points, exact) - 1
     if index < form.count and points[index] == exact:

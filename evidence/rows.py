@@ -49,7 +49,8 @@ _CALL_SUBJECTS = {
     "round_to_integral is_integer": "rounding to integral values",
     "from_u128_r from_u128 from_i128_r from_i128": "conversions from integers",
     "to_u128_r to_u128 to_i128_r to_i128 through_i128": "conversions to integers",
-    "convert_r convert from": "conversions between formats, and with the wide format",
+    "convert_r convert from convert_saturate convert_saturate_finite convert_saturate_all "
+    "convert_stochastic": "conversions between formats, and with the wide format",
     "from_str_r from_str": "texts",
     "read_decimal shortest rounded exact from_decimal_r shortest_decimal": "decimals",
     "to_bits neg abs copy_sign": "bits and signs",

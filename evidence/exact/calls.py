@@ -19,6 +19,7 @@ from exact import (
     operations,
     remainders,
     status,
+    stored,
     words,
 )
 from exact.data import Finite
@@ -139,6 +140,8 @@ def answered_in(call, kind_word, mode, operands):
     """The answer in a mode."""
     if "@" in kind_word:
         return answered_on_machine(call, kind_word, mode, operands)
+    if stored.is_one(call, kind_word):
+        return answered_of_storage(call, kind_word, mode, operands)
     if call in odd.CALLS:
         return answered_to_odd(call, kind_word, operands)
     if kind_word.startswith("x87>x87p"):
@@ -216,6 +219,13 @@ def answered_conversion(source_word, target_word, mode, operand):
     value, flags, loses = conversions.convert(source.format, target.format, x, mode)
     more = (("loses_info", yes_or_no(loses)),)
     return Answer(words.word_of(target, value), status.names(flags), more)
+
+
+def answered_of_storage(call, kind_word, mode, operands):
+    """A conversion with a storage format, or one that saturates."""
+    word, flags, loses = stored.converted(call, kind_word, mode, operands)
+    more = () if loses is None else (("loses_info", yes_or_no(loses)),)
+    return Answer(word, status.names(flags), more)
 
 
 def answered_from(source_word, target_word, operand):

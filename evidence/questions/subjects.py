@@ -19,6 +19,7 @@ from questions import (
     operations,
     products,
     roots,
+    storage,
 )
 
 
@@ -45,6 +46,8 @@ SUBJECTS = {
     "hexadecimal": each_drawn(hexadecimal.question),
     "augmented": each_drawn(augmented.question),
     "eight_bit_conversions": later_formats.eight_bit_conversions,
+    "storage": each_drawn(storage.question),
+    "all_storage": storage.all_questions,
     "hard_roots": hard_roots.questions,
     "hard_products": hard_products.questions,
     "hard_sums": hard_sums.questions,

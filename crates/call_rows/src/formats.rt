@@ -24,6 +24,8 @@ pub(crate) fn answer_of_call(formats: Formats, request: Request, text: &str) -> 
         Formats::OnMachine(_)
         | Formats::BetweenOnMachine(_, _)
         | Formats::ToFewerDigits(_)
+        | Formats::ToStorage(_, _)
+        | Formats::FromStorage(_, _)
         | Formats::OfFlags => Err(CallFault::Support),
     }
 }

@@ -13,6 +13,8 @@ pub enum CallFault {
     Operands,
     /// An operand is not a value of the format.
     Operand,
+    /// Random digits are not of this form.
+    Random(&'static str),
     /// The formats do not have the call.
     Support,
     /// The flags cannot be those of the call, which are of this form.

@@ -42,6 +42,7 @@ impl<'a> CallRow<'a> {
             CallFault::Value(form) => RowError::Word("no value of the call", self.value, form),
             CallFault::ValueBits(width) => bits_error("no value of the call", self.value, width),
             CallFault::Operands => operand_error(self.operands, form_of(self.call)),
+            CallFault::Random(form) => { RowError::Word("no random digits", self.operands, form) }
             CallFault::Operand => {
                 value_error(
                     self.operands,

@@ -23,6 +23,8 @@ pub enum Form {
     ValueAndDigits,
     /// A value and a number of hexadecimal digits after the dot.
     ValueAndPlaces,
+    /// A value, a number of random digits, and these as a number.
+    ValueAndRandom,
     /// An unsigned integer.
     Unsigned,
     /// A signed integer.
@@ -46,7 +48,8 @@ impl Form {
             | Form::ValueAndWidth
             | Form::ValueAndCount
             | Form::ValueAndDigits
-            | Form::ValueAndPlaces => 1,
+            | Form::ValueAndPlaces
+            | Form::ValueAndRandom => 1,
             Form::TwoValues => 2,
             Form::ThreeValues => 3,
             _ => 0,
@@ -66,6 +69,7 @@ impl Form {
             Form::ValueAndCount => "a value and a count of 1 to 36 digits",
             Form::ValueAndDigits => "a value and a count of 1 to 128 digits",
             Form::ValueAndPlaces => "a value and a count of at most 31 digits",
+            Form::ValueAndRandom => "a value, a count of digits and a random number",
             Form::Unsigned => "an integer of 128 bits without a sign",
             Form::Signed => "an integer of 128 bits",
             Form::Payload => "hexadecimal digits or `None`",

@@ -4,6 +4,7 @@ use crate::call::Call;
 use crate::fewer_digits::FewerDigits;
 use crate::machine_format::MachineFormat;
 use crate::row_format::RowFormat;
+use crate::storage::StorageName;
 use formats_at_run_time::{BuiltInFormat, FlaggedFormat};
 
 /// The formats of a row.
@@ -25,6 +26,10 @@ pub enum Formats {
     OnMachine(MachineFormat),
     /// From a built-in format to another on a machine.
     BetweenOnMachine(BuiltInFormat, MachineFormat),
+    /// From a built-in format to a storage format.
+    ToStorage(BuiltInFormat, StorageName),
+    /// From a storage format to a built-in format.
+    FromStorage(StorageName, FlaggedFormat),
     /// None, for operations on flags.
     OfFlags,
 }
@@ -72,7 +77,10 @@ impl Formats {
         match self {
             Formats::Pairs | Formats::FromPairs => Some(128),
             Formats::One(format) | Formats::Between(format, _) => format.width(),
-            Formats::BetweenOnMachine(format, _) => RowFormat::plain(format).width(),
+            Formats::BetweenOnMachine(format, _) | Formats::ToStorage(format, _) => {
+                RowFormat::plain(format).width()
+            }
+            Formats::FromStorage(format, _) => Some(format.width),
             Formats::OnMachine(target) => target.with_flags().width(),
             Formats::ToFewerDigits(_) => Some(80),
             Formats::ToPairs | Formats::OfFlags => None,
@@ -102,6 +110,14 @@ impl Formats {
     fn between(source: &str, target: &str) -> Option<Formats> {
         match (RowFormat::named(source), RowFormat::named(target)) {
             (Some(source), Some(target)) => Some(Formats::Between(source, target)),
+            (Some(RowFormat::BuiltIn(format, _)), None) => match StorageName::named(target) {
+                Some(target) => Some(Formats::ToStorage(format, target)),
+                None => None,
+            },
+            (None, Some(RowFormat::BuiltIn(_, format))) => match StorageName::named(source) {
+                Some(source) => Some(Formats::FromStorage(source, format)),
+                None => None,
+            },
             _ => None,
         }
     }

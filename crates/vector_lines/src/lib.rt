@@ -32,6 +32,7 @@ mod reading;
 mod request;
 mod row_error;
 mod row_format;
+mod storage;
 mod summary;
 mod table;
 mod testfloat;
@@ -52,11 +53,12 @@ pub use machine_format::MachineFormat;
 pub use operands::{Operand, Operands, any_value, two_values, value_of};
 pub use operations::{
     AugmentedCall, FlagsCall, FormatOfCall, GeneralCall, OddCall, OperationCall, OrderCall,
-    PayloadCall, ToIntegerCall,
+    PayloadCall, SaturateCall, ToIntegerCall,
 };
 pub use program::{check_lines, run};
 pub use quanta::Quanta;
 pub use request::{Answered, Calls, Request};
 pub use row_format::{CallInFormat, OtherFormat, RowFormat};
+pub use storage::StorageName;
 pub use text::{Text, shown};
 pub use widths::mask;

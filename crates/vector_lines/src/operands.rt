@@ -138,6 +138,17 @@ impl Operands {
             _ => None,
         }
     }
+
+    /// A value, a number of digits and an integer without a sign, separated by spaces.
+    pub fn value_and_random(text: &str) -> Option<Operands> {
+        let Some((rest, random)) = text.rsplit_once(' ') else {
+            return None;
+        };
+        match (Operands::value_and_integer(rest), Operand::unsigned(random)) {
+            (Some(read), Some(third)) => Some(Operands { third, ..read }),
+            _ => None,
+        }
+    }
 }
 
 impl Operand {

@@ -38,6 +38,10 @@ pub enum OperationCall {
     Augmented(AugmentedCall),
     /// An operation on the payload of a NaN (9.7).
     OfPayload(PayloadCall),
+    /// A conversion that saturates.
+    Saturate(SaturateCall),
+    /// A conversion rounded with random digits.
+    ConvertStochastic,
     /// An operation on flags (5.7.4).
     OfFlags(FlagsCall),
     /// On a machine, a minimum, if true, or a maximum by a rule.
@@ -113,6 +117,17 @@ pub enum PayloadCall {
     Get,
     Set,
     SetSignaling,
+}
+
+/// What a conversion that saturates makes the largest number of its sign.
+#[derive(Clone, Copy)]
+pub enum SaturateCall {
+    /// Numbers that overflow.
+    Numbers,
+    /// Infinities too.
+    Infinities,
+    /// NaNs too, with sign plus.
+    All,
 }
 
 /// An operation on flags.
@@ -355,6 +370,19 @@ static OPERATIONS: &[(&str, OperationCall)] = &[
         "set_payload_signaling",
         OperationCall::OfPayload(PayloadCall::SetSignaling),
     ),
+    (
+        "convert_saturate",
+        OperationCall::Saturate(SaturateCall::Numbers),
+    ),
+    (
+        "convert_saturate_finite",
+        OperationCall::Saturate(SaturateCall::Infinities),
+    ),
+    (
+        "convert_saturate_all",
+        OperationCall::Saturate(SaturateCall::All),
+    ),
+    ("convert_stochastic", OperationCall::ConvertStochastic),
     ("lower_flags", OperationCall::OfFlags(FlagsCall::Lower)),
     ("raise_flags", OperationCall::OfFlags(FlagsCall::Raise)),
     ("test_flags", OperationCall::OfFlags(FlagsCall::Test)),
@@ -433,7 +461,9 @@ impl OperationCall {
             OperationCall::OfOne(_)
             | OperationCall::DigitCount
             | OperationCall::WriteHex
-            | OperationCall::OfPayload(_) => Form::OneValue,
+            | OperationCall::OfPayload(_)
+            | OperationCall::Saturate(_) => Form::OneValue,
+            OperationCall::ConvertStochastic => Form::ValueAndRandom,
             OperationCall::WriteHexRounded => Form::ValueAndPlaces,
             OperationCall::ScaleB => Form::ValueAndExponent,
             OperationCall::ToInteger(_) => Form::ValueAndWidth,
@@ -449,7 +479,8 @@ impl OperationCall {
             | OperationCall::ScaleB
             | OperationCall::ToInteger(_)
             | OperationCall::WriteDigits
-            | OperationCall::WriteHexRounded => true,
+            | OperationCall::WriteHexRounded
+            | OperationCall::Saturate(_) => true,
             OperationCall::OfOne(call) => {
                 matches!(call, GeneralCall::LogB | GeneralCall::RoundToIntegralIn)
             }
