@@ -2,18 +2,21 @@
 
     python3 evidence/conversion_modes.py | diff - crates/layer_tests/src/stored_mode_rows.rt
 
-As evidence/storage_formats.py, a value is looked up between its neighbours among the fractions that the
-codes mean. With random digits every random number is tried too: how many of them take the upper neighbour
-is the number of whole parts that the value is above the lower one.
+As evidence/storage_formats.py and evidence/projections.py, a value is looked up between its neighbours among
+the fractions that the codes mean. With random digits every random number is tried too: how many of them take
+the upper neighbour is the number of whole parts that the value is above the lower one. For every format of
+P3109 of 3 to 8 bits this is checked between each two codes, as is what is taken to odd, what becomes of each
+code, and what is past the largest number.
 """
 
 from bisect import bisect_right
 from fractions import Fraction
 
 from exact.bits import decoded
-from exact.data import Infinite, is_nan
+from exact.data import Finite, Infinite, is_nan
 from exact.formats import HALF
 from exact.status import INEXACT, INVALID_OP, OK, OVERFLOW, UNDERFLOW
+from projections import NOT_A_NUMBER, TESTED, family
 from storage_formats import FORMATS, extended
 
 ELEMENTS = FORMATS[:3]
@@ -64,28 +67,94 @@ def checksum(form, mode, largest_for_nan):
     return total
 
 
-def try_counts(form):
-    """Counts the random numbers that take the upper neighbour."""
-    points = form.points
-    for below in range(form.count - 1):
-        for share in range(1, 16):
+def project(form, source, x, mode):
+    """The same in a format of P3109: random digits lead past the largest number, and to odd does not."""
+    return form.store_by(source, x, lambda below, exact: moves(mode, form.points, below, exact), mode is not None)
+
+
+def projections_checksum(form, mode):
+    """Each 61st half, stored in a format of P3109."""
+    total = 0
+    for bits in range(0, 65536, 61):
+        total = extended(total, *project(form, HALF, decoded(HALF, bits), mode))
+    return total
+
+
+def try_counts(points, last, shares, widths):
+    """Counts the random numbers that take the upper neighbour of a value, in sixteenths between two points."""
+    for below in range(last):
+        for share in shares:
             exact = points[below] + (points[below + 1] - points[below]) * Fraction(share, 16)
-            for digits in (1, 2, 3, 6):
+            for digits in widths:
                 taken = sum(moves((digits, r), points, below, exact) for r in range(1 << digits))
                 assert taken == (share << digits) // 16
-        assert not any(moves((3, r), points, below, points[below]) for r in range(8))
+        assert not any(moves((3, r), points, below, points[below]) for r in (0, 7))
+
+
+def significand(form, index):
+    """The digits of a number of a format of P3109, down to the last one that it has there."""
+    written = form.precision - 1
+    return (index & (1 << written) - 1) + (1 << written if index >> written else 0)
+
+
+class Source:
+    """A format that has every fraction with this denominator."""
+
+    payload_mask = 0
+
+    def __init__(self, scale):
+        self.scale = scale
+
+
+def try_projection(form):
+    """Codes stay, the odd one of two is taken to odd, and past the largest number is what the mode leads to."""
+    written = form.precision - 1
+    source = Source(form.bias + written + 4)
+    last = form.largest_index
+
+    def stored(exact, mode, negative=False):
+        return project(form, source, Finite(negative, int(exact * (1 << source.scale))), mode)
+
+    for code in range(1 << form.bits):
+        value = form.value(code)
+        if isinstance(value, Fraction) and value:
+            for mode in (None, (3, 7)):
+                assert stored(abs(value), mode, value < 0) == (code, OK, False)
+    for below in range(last):
+        lower, upper = form.magnitude(below), form.magnitude(below + 1)
+        for share in (1, 8, 15):
+            code, status, loses = stored(lower + (upper - lower) * Fraction(share, 16), None)
+            assert loses and code in (below, below + 1) and code % 2 == 1
+            assert form.precision == 1 or significand(form, code) % 2 == 1
+            assert status == (UNDERFLOW | INEXACT if code < 1 << written else INEXACT)
+    for exact in (form.magnitude(last + 1), 3 * form.magnitude(last + 1)):
+        assert stored(exact, None) == (last, INEXACT, True)
+        for random in (0, 7):
+            assert stored(exact, (3, random)) == (form.infinity(False), OVERFLOW | INEXACT, True)
+    assert form.extended or form.value(form.infinity(False)) == NOT_A_NUMBER
 
 
 def main():
     """Prints the file."""
+    for form in family(3, 8):
+        try_projection(form)
+        try_counts(form.points, form.largest_index, (1, 7, 8, 13), (1, 2))
     print("//! Conversions to odd and with random digits, computed by `evidence/conversion_modes.py`.")
     print("\nuse crate::stored_values::ModeSums;")
     for form in ELEMENTS:
-        try_counts(form)
+        try_counts(form.points, form.count - 1, range(1, 16), (1, 2, 3, 6))
         print(f"\npub(crate) static BY_MODE_{form.name}: ModeSums = [")
         for i, mode in enumerate(MODES):
             print(f"    0x{checksum(form, mode, i % 2 == 1):x},")
         print("];")
+    print("\n/// The formats of P3109 as in `projection_rows`.")
+    print(f"pub(crate) static PROJECTED_BY_MODE: [ModeSums; {len(TESTED)}] = [")
+    for form in TESTED:
+        print("    [")
+        for mode in MODES:
+            print(f"        0x{projections_checksum(form, mode):x},")
+        print("    ],")
+    print("];")
 
 
 if __name__ == "__main__":

@@ -15,6 +15,7 @@ from exact import arithmetic, bits, decimals, remainders, roots, status, texts
 from exact.data import Finite, Infinite, NaN, is_signaling, qnan, quieted
 from exact.formats import LATER_FORMATS, PROGRAM_FORMATS, with_ieee_flags
 from exact.rounding import Mode
+from storage_formats import FORMATS as STORED
 
 FORMATS = {format.name: format for format in (*PROGRAM_FORMATS, *LATER_FORMATS)}
 OPERATIONS = {
@@ -27,6 +28,8 @@ OPERATIONS = {
     "fma": ("fused sum A * B + C", arithmetic.multiply_add),
     "sqrt": ("square root of A", roots.square_root),
 }
+# Storage formats of which all numbers are shown.
+ELEMENTS = {form.name.lower(): form for form in STORED[:3]}
 RULES = {
     Mode.EVEN: "to nearest, ties to even",
     Mode.UP: "toward positive",
@@ -108,6 +111,8 @@ def explained(words):
     format = FORMATS[words[0]]
     if len(words) == 2:
         return given(format, words[0], words[1])
+    if words[1] in ELEMENTS:
+        return converted(format, words)
     name, operation = OPERATIONS[words[1]]
     mode = Mode(words[2])
     data = [operand(format, word)[0] for word in words[3:]]
@@ -120,8 +125,39 @@ def explained(words):
         reason, value, flags = on_machine(machine, format, words[1], operation, data, mode)
         lines += reason
     lines += shown(format, "result", value)
-    raised = [text for flag, text in CLAUSES.items() if flags & flag] or ["none"]
-    return lines + [("flags   " if i == 0 else "        ") + text for i, text in enumerate(raised)]
+    return lines + raised(flags)
+
+
+def converted(format, words):
+    """The lines of a conversion into a storage format, with all its numbers of the result's sign."""
+    form, mode = ELEMENTS[words[1]], Mode(words[2])
+    x, _, _ = operand(format, words[3])
+    code, flags, _ = form.store(format, x, mode)
+    negative = code >= form.count
+    signed = sorted((-m if negative else m, c) for c, m in enumerate(form.points[: form.count]))
+    lines = [f"{words[0]} A in {words[1]}, {RULES[mode]}", "", *given(format, "A", words[3]), ""]
+    numbers = []
+    for value, magnitude in signed:
+        taken = magnitude == code % form.count
+        whole, rest = divmod(abs(value), 1)
+        sign = "-" if negative else ""
+        digits = f"{int(rest * 10**4):04}".rstrip("0") or "0"
+        written = magnitude + form.count * negative
+        text = f"{'result' if taken else '':<7} {written:02x} = {sign}{int(whole)}.{digits}"
+        numbers.append((value, text))
+    texts_of = [text for _, text in numbers]
+    if isinstance(x, Finite):
+        exact = Fraction(x.signed_quanta, 1) / Fraction(2) ** format.scale
+        if all(value != exact for value, _ in numbers):
+            place = sum(value < exact for value, _ in numbers)
+            texts_of.insert(place, "        ----------- A")
+    return lines + texts_of + [""] + raised(flags)
+
+
+def raised(flags):
+    """The lines of the flags."""
+    told = [text for flag, text in CLAUSES.items() if flags & flag] or ["none"]
+    return [("flags   " if i == 0 else "        ") + text for i, text in enumerate(told)]
 
 
 def computed(format, word, operation, data, mode):

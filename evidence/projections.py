@@ -102,6 +102,14 @@ class Projection:
 
     def store(self, source, x, mode):
         """The code, the flags, and whether information is lost."""
+
+        def moves(below, exact):
+            return self.moves(mode, x.negative, below, exact)
+
+        return self.store_by(source, x, moves, not is_nan(x) and overflows(mode, x.negative))
+
+    def store_by(self, source, x, moves, leads_out):
+        """The same, given whether the point above another one is taken, and what is past the largest number."""
         if is_nan(x):
             status = INVALID_OP if is_signaling(source, x) else OK
             return self.nan_code, status, source.payload_mask != 0
@@ -114,9 +122,9 @@ class Projection:
         if x.quanta == 0:
             return 0, INEXACT if x.negative else OK, x.negative
         exact = Fraction(x.quanta, 1 << source.scale)
-        index, is_exact = self.pick(mode, x.negative, exact)
+        index, is_exact = self.pick(exact, moves)
         if index > self.largest_index:
-            if overflows(mode, x.negative):
+            if leads_out:
                 return self.infinity(x.negative), OVERFLOW | INEXACT, True
             return self.coded(x.negative, self.largest_index), INEXACT, True
         code = self.coded(x.negative, index)
@@ -124,26 +132,29 @@ class Projection:
             return code, OK, False
         return code, UNDERFLOW | INEXACT if index < 1 << self.precision - 1 else INEXACT, True
 
-    def pick(self, mode, negative, exact):
-        """The number of the point that the mode takes, and whether it is the value itself.
-
-        Where a tie goes to even, the even code is taken: that is the even significand, if it has a last digit.
-        """
+    def pick(self, exact, moves):
+        """The number of the point that is taken, and whether it is the value itself."""
         points = self.points
         below = bisect_right(points, exact) - 1
         if below + 1 == len(points):
             return below, False
         if points[below] == exact:
             return below, True
-        to_lower, to_upper = exact - points[below], points[below + 1] - exact
-        above = {
+        return below + moves(below, exact), False
+
+    def moves(self, mode, negative, below, exact):
+        """Whether the mode takes the point above.
+
+        Where a tie goes to even, the even code is taken: that is the even significand, if it has a last digit.
+        """
+        to_lower, to_upper = exact - self.points[below], self.points[below + 1] - exact
+        return {
             Mode.UP: not negative,
             Mode.DOWN: negative,
             Mode.ZERO: False,
             Mode.EVEN: to_upper < to_lower or (to_upper == to_lower and below % 2 == 1),
             Mode.AWAY: to_upper <= to_lower,
         }[mode]
-        return below + above, False
 
 
 def family(least, greatest):

@@ -13,6 +13,7 @@ ghost use Rattle.apfloat_decimals.specs.ShortestSearch.{IsWithinQuad};
 use crate::explanation::{
     Between, Exact, Explanation, Meaning, NanSource, Operand, Place, Reading, Shown, Side, Widths,
 };
+use crate::grid::Grid;
 use crate::on_machine::{nan_source, on_machine};
 use crate::question::{Operation, Question};
 use apfloat_decimals::{read_decimal, shortest};
@@ -145,6 +146,10 @@ fn explanation<S: Semantics>(
             nan_source(machine, operation, x, y, z, plain.value),
         ),
     };
+    let grid = match operation {
+        Operation::Into(element) => Some(Grid::of(element, x, round)),
+        _ => None,
+    };
     let a = operand(first);
     let b = operand(second);
     let c = operand(third);
@@ -155,6 +160,7 @@ fn explanation<S: Semantics>(
         status: answer.status,
         nan_source,
         place,
+        grid,
     }
 }
 
@@ -176,7 +182,7 @@ pub fn computed<S: Flagged>(
     round: Round,
 ) -> StatusAnd<IeeeFloat<S>> {
     match operation {
-        Operation::Value => Status::OK.and(x),
+        Operation::Value | Operation::Into(_) => Status::OK.and(x),
         Operation::OfTwo(arithmetic) => arithmetic.answer(x, y, round),
         Operation::FusedSum => x.wide_mul_add_r(y, z, round),
         Operation::SquareRoot => x.sqrt_r(round),

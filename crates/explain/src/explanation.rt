@@ -1,5 +1,6 @@
 //! The data of an explanation, independent of the format.
 
+use crate::grid::Grid;
 use apfloat_decimals::Decimal;
 use rustc_apfloat::{ExpInt, Status};
 
@@ -144,4 +145,6 @@ pub struct Explanation {
     pub nan_source: Option<NanSource>,
     /// Where the exact result is.
     pub place: Place,
+    /// What the operand becomes in a storage format, if it is converted.
+    pub grid: Option<Grid>,
 }

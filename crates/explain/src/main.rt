@@ -10,6 +10,7 @@
 
 mod compute;
 mod explanation;
+mod grid;
 mod on_machine;
 mod picture;
 mod question;

@@ -45,7 +45,7 @@ fn settled_bits<T: Flagged>(
     let z = IeeeFloat::<T>::from_bits(c);
     let answer = computed(operation, x, y, z, round);
     let given = match operation {
-        Operation::Value => answer,
+        Operation::Value | Operation::Into(_) => answer,
         Operation::OfTwo(_) => settled(machine, x, y, answer),
         Operation::FusedSum => match settled_fused(machine, x, y, z, answer) {
             Some(fused) => fused,

@@ -3,6 +3,7 @@
 use crate::explanation::{
     Between, Exact, Explanation, Meaning, NanSource, Operand, Place, Reading, Shown, Side, Widths,
 };
+use crate::grid::{Element, Grid};
 use crate::question::{Operation, Question};
 use apfloat_decimals::Decimal;
 use apfloat_machines::{FusedOrder, Machine, NanChoice};
@@ -27,6 +28,10 @@ pub fn write_explanation<W: Write>(
     }
     write_question(question, out)?;
     write_operands(widths, question.operation.operand_count(), explanation, out)?;
+    if let Some(grid) = explanation.grid {
+        write_grid(grid, out)?;
+        return write_flags(grid.status, in_colour, out);
+    }
     write_place(widths, question.round, &explanation.place, in_colour, out)?;
     if let (Some((machine, _)), Some(source)) = (question.machine, explanation.nan_source) {
         write_nan_source(machine, question.operation, source, out)?;
@@ -93,6 +98,9 @@ fn name_of(operation: Operation) -> &'static str {
         Operation::OfTwo(Arithmetic::TruncatedRemainder) => "remainder of A by B (cut)",
         Operation::FusedSum => "fused sum A * B + C",
         Operation::SquareRoot => "square root of A",
+        Operation::Into(Element::E2M1FN) => "A in e2m1fn",
+        Operation::Into(Element::E2M3FN) => "A in e2m3fn",
+        Operation::Into(Element::E3M2FN) => "A in e3m2fn",
     }
 }
 
@@ -308,6 +316,55 @@ fn write_way<W: Write>(
     writeln!(out, "        {:parts$}{start}^{end}", "")?;
     write_head(widths, "upper", &between.upper, out)?;
     writeln!(out)
+}
+
+/// Writes the numbers of a storage format with the sign of the result, in order, and where A is among them.
+fn write_grid<W: Write>(grid: Grid, out: &mut W) -> io::Result<()> {
+    let count = grid.element.count();
+    let negative = grid.taken >= count;
+    if negative && grid.is_beyond() {
+        write_between(out)?;
+    }
+    for place in 0..count {
+        let index = if negative { count - 1 - place } else { place };
+        let code = if negative { count + index } else { index };
+        write_point(grid, code, index, negative, out)?;
+        if code == grid.lower && code != grid.upper {
+            write_between(out)?;
+        }
+    }
+    if !negative && grid.is_beyond() {
+        write_between(out)?;
+    }
+    writeln!(out)
+}
+
+/// Writes that A is between two numbers, or past the last one.
+fn write_between<W: Write>(out: &mut W) -> io::Result<()> {
+    writeln!(out, "        ----------- A")
+}
+
+/// Writes a number of a storage format, exactly, and whether it is the result.
+fn write_point<W: Write>(
+    grid: Grid,
+    code: u8,
+    index: u8,
+    negative: bool,
+    out: &mut W,
+) -> io::Result<()> {
+    let label = if code == grid.taken { "result" } else { "" };
+    let sign = if negative { "-" } else { "" };
+    let sixteenths = grid.element.sixteenths(index);
+    let whole = sixteenths / 16;
+    let (mut fraction, mut width) = ((sixteenths % 16) * 625, 4);
+    while width > 1 && fraction % 10 == 0 {
+        fraction /= 10;
+        width -= 1;
+    }
+    writeln!(
+        out,
+        "{label:<7} {code:02x} = {sign}{whole}.{fraction:0width$}"
+    )
 }
 
 /// Writes which neighbour is the result, and why.

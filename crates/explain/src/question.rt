@@ -1,5 +1,6 @@
 //! The question that the words of a command line ask.
 
+use crate::grid::Element;
 use apfloat_machines::Machine;
 use formats_at_run_time::{Arithmetic, BuiltInFormat, BuiltInKind, IeeeFormat, mode_named};
 use rustc_apfloat::Round;
@@ -18,6 +19,7 @@ FORMAT   half single double quad bfloat e5m2 e4m3fn e4m3fnuz x87 e4m3
 OP       add sub mul div rem mod   of A and B
          fma                       A times B plus C
          sqrt                      of A
+         e2m1fn e2m3fn e3m2fn      A in that format, among all its numbers
 MODE     even    to the nearest value, ties to even
          up      toward positive
          down    toward negative
@@ -49,7 +51,9 @@ not enough memory for them, and 1 if a write fails.
 ";
 
 /// The words of the operations.
-pub static OPERATIONS: &[&str] = &["add", "sub", "mul", "div", "rem", "mod", "fma", "sqrt"];
+pub static OPERATIONS: &[&str] = &[
+    "add", "sub", "mul", "div", "rem", "mod", "fma", "sqrt", "e2m1fn", "e2m3fn", "e3m2fn",
+];
 
 /// The options.
 pub static OPTIONS: &[&str] = &["--help", "-h", "--machine", "--version"];
@@ -103,6 +107,8 @@ pub enum Operation {
     FusedSum,
     /// The square root of a value.
     SquareRoot,
+    /// A value in a storage format.
+    Into(Element),
 }
 
 impl Operation {
@@ -117,14 +123,17 @@ impl Operation {
             "mod" => Some(Operation::OfTwo(Arithmetic::TruncatedRemainder)),
             "fma" => Some(Operation::FusedSum),
             "sqrt" => Some(Operation::SquareRoot),
-            _ => None,
+            _ => match Element::named(word) {
+                Some(element) => Some(Operation::Into(element)),
+                None => None,
+            },
         }
     }
 
     /// How many operands it has.
     pub fn operand_count(self) -> usize {
         match self {
-            Operation::Value | Operation::SquareRoot => 1,
+            Operation::Value | Operation::SquareRoot | Operation::Into(_) => 1,
             Operation::OfTwo(_) => 2,
             Operation::FusedSum => 3,
         }
@@ -244,8 +253,11 @@ impl<'a> Question<'a> {
     }
 }
 
-/// Whether no result of a machine is known: in a format that machines do not have, and of a fused sum if it has none.
+/// Whether no result of a machine is known: in a format that machines do not have, of a conversion, and of a fused sum
+/// if it has none.
 fn is_lacking(machine: Machine, format: BuiltInFormat, operation: Operation) -> bool {
     let is_fused = matches!(operation, Operation::FusedSum);
-    IeeeFormat::of(BuiltInKind::OfFormat(format)).is_none() || (is_fused && !machine.has_fused())
+    IeeeFormat::of(BuiltInKind::OfFormat(format)).is_none()
+        || matches!(operation, Operation::Into(_))
+        || (is_fused && !machine.has_fused())
 }

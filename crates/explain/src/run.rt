@@ -14,7 +14,7 @@ const FORMAT_WORDS: &str =
     "half single double quad bfloat e5m2 e4m3fn e4m3fnuz x87 e4m3 e5m2fnuz e4m3b11fnuz tf32";
 
 /// The operations, for messages.
-const OPERATION_WORDS: &str = "add sub mul div rem mod fma sqrt";
+const OPERATION_WORDS: &str = "add sub mul div rem mod fma sqrt e2m1fn e2m3fn e3m2fn";
 
 /// The modes, for messages.
 const MODE_WORDS: &str = "even up down zero away";

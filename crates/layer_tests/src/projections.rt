@@ -1,14 +1,18 @@
-//! Checksums of formats of IEEE P3109, whose expected values were computed with fractions (`evidence/projections.py`).
+//! Checksums of formats of IEEE P3109, whose expected values were computed with fractions (`evidence/projections.py`,
+//! `evidence/conversion_modes.py`).
 
 ghost use Rattle.std.specs.Prelude.{refl, true, false};
 ghost use Rattle.storage_formats.specs.ProjectionLawTest.{projection_from_test};
 
 use crate::projection_rows::CHECKSUMS;
-use crate::stored_values::MODES;
-use apfloat_base::{Category, Flags, Float, Round};
+use crate::stored_mode_rows::PROJECTED_BY_MODE;
+use crate::stored_values::{MODES, ModeSums, mode_of};
+use apfloat_base::{Category, Flags, Float, Round, StatusAnd};
 use apfloat_formats::{DoubleS, Half};
 use std::cmp::Ordering;
-use storage_formats::{Binary8P1UF, Binary8P3, Binary8P4, Binary8P5, Projected, Projection};
+use storage_formats::{
+    Binary8P1UF, Binary8P3, Binary8P4, Binary8P5, ConversionRound, Projected, Projection,
+};
 
 /// `binary3p1sf`.
 #[derive(Clone, Copy)]
@@ -154,13 +158,25 @@ fn order<F: Projection>(last: u16) -> u64 {
     checksum
 }
 
+/// A half, stored.
+fn stored<F: Projection>(
+    x: Half,
+    mode: ConversionRound,
+    loses_info: &mut bool,
+) -> StatusAnd<Projected<F>> {
+    match mode {
+        ConversionRound::Ieee(round) => Projected::from_value(x, round, loses_info),
+        _ => Projected::from_value_by(x, mode, loses_info),
+    }
+}
+
 /// Every 61st half, stored.
-fn from_halves<F: Projection>(mode: Round) -> u64 {
+fn from_halves<F: Projection>(mode: ConversionRound) -> u64 {
     let mut checksum = 0;
     for count in 0..1075u32 {
         let mut loses_info = false;
         let x = Half::from_bits(u128::from(61 * count));
-        let got = Projected::<F>::from_value(x, mode, &mut loses_info);
+        let got = stored::<F>(x, mode, &mut loses_info);
         let word = u64::from(got.value.to_bits()) * 64
             + u64::from(got.status.bits()) * 2
             + u64::from(loses_info);
@@ -169,15 +185,24 @@ fn from_halves<F: Projection>(mode: Round) -> u64 {
     checksum
 }
 
+/// The same in the modes of conversions.
+fn mode_sums<F: Projection>() -> ModeSums {
+    let mut sums = [0; 8];
+    for index in 0..8 {
+        sums[index] = from_halves::<F>(mode_of(index));
+    }
+    sums
+}
+
 fn sums<F: Projection>(last: u16) -> [u64; 7] {
     [
         values::<F>(last),
         order::<F>(last),
-        from_halves::<F>(MODES[0]),
-        from_halves::<F>(MODES[1]),
-        from_halves::<F>(MODES[2]),
-        from_halves::<F>(MODES[3]),
-        from_halves::<F>(MODES[4]),
+        from_halves::<F>(ConversionRound::Ieee(MODES[0])),
+        from_halves::<F>(ConversionRound::Ieee(MODES[1])),
+        from_halves::<F>(ConversionRound::Ieee(MODES[2])),
+        from_halves::<F>(ConversionRound::Ieee(MODES[3])),
+        from_halves::<F>(ConversionRound::Ieee(MODES[4])),
     ]
 }
 
@@ -195,5 +220,22 @@ fn formats_of_p3109(rt: HostRuntime) {
     ];
     for i in 0..8 {
         assert_eq!(rt; got[i], CHECKSUMS[i], "{i}");
+    }
+}
+
+#[test]
+fn modes_of_p3109(rt: HostRuntime) {
+    let got = [
+        mode_sums::<Binary8P3>(),
+        mode_sums::<Binary8P4>(),
+        mode_sums::<Binary8P5>(),
+        mode_sums::<Binary8P1UF>(),
+        mode_sums::<Binary3P1SF>(),
+        mode_sums::<Binary6P2UE>(),
+        mode_sums::<Binary8P4SF>(),
+        mode_sums::<Binary15P8SE>(),
+    ];
+    for i in 0..8 {
+        assert_eq!(rt; got[i], PROJECTED_BY_MODE[i], "{i}");
     }
 }

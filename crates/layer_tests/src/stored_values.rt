@@ -208,7 +208,7 @@ static RANDOM: [(u32, u32); 7] = [
 ];
 
 /// The mode of a checksum.
-fn mode_of(index: usize) -> ConversionRound
+pub(crate) fn mode_of(index: usize) -> ConversionRound
     requires { index < 8 }
 {
     if index == 0 {

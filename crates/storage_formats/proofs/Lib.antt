@@ -17,6 +17,7 @@ mod ProjectedPicks
 mod ProjectedCodes
 mod ProjectedValues
 mod ProjectedOnce
+mod RandomCodes
 mod ProjectedOrder
 mod ProjectedNeighbours
 mod QuotientPicks

@@ -11,13 +11,19 @@ use Rattle.apfloat_model.specs.formats.Format.{Format}
 use Rattle.apfloat_model.specs.order.Classes.{is_infinite, is_nan, is_negative, quanta_of}
 use Rattle.apfloat_model.specs.rounding.Rounding.{IsPick, ok_bits}
 use Rattle.apfloat_model.proofs.general.Powers.{twice_half}
-use Rattle.apfloat_model.proofs.rounding.Picks.{pick_unique}
+use Rattle.storage_formats.specs.declared.modes.ConversionRound.{ConversionRound}
+use Rattle.storage_formats.specs.declared.modes.ConversionRound.TheVariants.{Ieee}
 use Rattle.storage_formats.specs.Codes.{point}
+use Rattle.storage_formats.specs.Modes.{IsPickBy, ieee_mode}
 use Rattle.storage_formats.specs.ProjectionLaws.{IsProjectedOnce}
-use Rattle.storage_formats.specs.Projections.{IsCodeOf, IsCodePick, IsPointPick, IsProjectedNumber, IsProjection, Projection, index_between, is_negative_code, largest_index, magnitude_of, nan_code, projected_datum, projected_status, projected_value, sign_bits, unsigned_codes}
+use Rattle.storage_formats.specs.ProjectionModeLaws.{AreProjectionsOfModes, IsProjectedByOnce}
+use Rattle.storage_formats.specs.ProjectionModes.{IsCodePickBy, IsIntoProjectionBy, IsPointPickBy, IsProjectedNumberBy, index_by}
+use Rattle.storage_formats.specs.Projections.{IsCodeOf, IsCodePick, IsIntoProjection, IsPointPick, IsProjectedNumber, IsProjection, Projection, is_negative_code, largest_index, magnitude_of, nan_code, projected_datum, projected_format, projected_status, projected_value, sign_bits, unsigned_codes}
+use Rattle.storage_formats.proofs.ModesOnce.{pick_by_once}
 use Rattle.storage_formats.proofs.OneAnswer.{AreSame, code_is}
 use Rattle.storage_formats.proofs.Points.{one_number, points_in_order}
 use Rattle.storage_formats.proofs.ProjectedCodes.{four_codes}
+use Rattle.storage_formats.proofs.RandomCounts.{picks_of_model}
 
 -- ---- picks
 
@@ -44,23 +50,25 @@ low_once p amount parts a b some from to from' to' =
         omega (arith, at, above, below))
         (cases_lt (i + 1) j)
 
-code_pick_once : (p : ℕ) (mode : Round) (negative : Bool) (amount parts i j : ℕ) → 0 < p
-    → IsCodePick p mode negative amount parts i → IsCodePick p mode negative amount parts j → i ≡ j
+code_pick_once : (p : ℕ) (mode : ConversionRound) (negative : Bool) (amount parts i j : ℕ) → 0 < p
+    → IsCodePickBy p mode negative amount parts i → IsCodePickBy p mode negative amount parts j → i ≡ j
 code_pick_once p mode negative amount parts i j some x y =
     let same = low_once p amount parts x.low y.low some x.from x.to y.from y.to in
-    x.is ∙ ap (λ (n : ℕ). index_between p mode negative amount parts n) same ∙ sym y.is
+    x.is ∙ ap (λ (n : ℕ). index_by p mode negative amount parts n) same ∙ sym y.is
 
-pub point_pick_once : (p : ℕ) (mode : Round) (negative : Bool) (amount parts i j : ℕ) → 0 < p
-    → IsPointPick p mode negative amount parts i → IsPointPick p mode negative amount parts j → i ≡ j
+pub point_pick_once : (p : ℕ) (mode : ConversionRound) (negative : Bool) (amount parts i j : ℕ) → 0 < p
+    → IsPointPickBy p mode negative amount parts i → IsPointPickBy p mode negative amount parts j → i ≡ j
 point_pick_once p mode negative amount parts i j some = by_digits (eqb p 1)
   where
     by_digits : (one : Bool)
-        → MatchBool one (IsCodePick p mode negative amount parts i) (IsPick p mode negative amount parts (point p i))
-        → MatchBool one (IsCodePick p mode negative amount parts j) (IsPick p mode negative amount parts (point p j))
+        → MatchBool one (IsCodePickBy p mode negative amount parts i)
+        (IsPickBy p mode negative amount parts (point p i))
+        → MatchBool one (IsCodePickBy p mode negative amount parts j)
+        (IsPickBy p mode negative amount parts (point p j))
         → i ≡ j
     by_digits true x y = code_pick_once p mode negative amount parts i j some x y
     by_digits false x y =
-        one_number p i j some (pick_unique p mode negative amount parts (point p i) (point p j) x y)
+        one_number p i j some (pick_by_once p mode negative amount parts (point p i) (point p j) x y)
 
 -- ---- codes
 
@@ -195,9 +203,9 @@ given_once c given bits lossy code other status flags loses lost law l k x y = (
   x.loses_is ∙ sym y.loses_is,
 )
 
-number_once : (c : Projection) (f : Format) (mode : Round) (b : Bool) (n code other status flags : ℕ)
+number_once : (c : Projection) (f : Format) (mode : ConversionRound) (b : Bool) (n code other status flags : ℕ)
     (loses lost : Bool) → IsProjection c → code < 2 ^ c.bits → other < 2 ^ c.bits
-    → IsProjectedNumber c f mode b n code status loses → IsProjectedNumber c f mode b n other flags lost
+    → IsProjectedNumberBy c f mode b n code status loses → IsProjectedNumberBy c f mode b n other flags lost
     → AreSame code status loses other flags lost
 number_once c f mode b n code other status flags loses lost law l k x y =
     let v = x.is_rounded in
@@ -205,17 +213,18 @@ number_once c f mode b n code other status flags loses lost law l k x y =
     let same : v.index ≡ w.index =
     point_pick_once c.precision mode b _ (2 ^ f.scale) v.index w.index law.precision_low v.is_pick w.is_pick in
     let told : status ≡ flags =
-    v.status_is ∙ ap (λ (i : ℕ). projected_status c mode b _ (2 ^ f.scale) i) same ∙ sym w.status_is in (
+    v.status_is ∙ ap (λ (i : ℕ). projected_status c (ieee_mode mode) b _ (2 ^ f.scale) i) same
+    ∙ sym w.status_is in (
       projected_code_once c code other law l k
-          (v.value_is ∙ ap (λ (i : ℕ). projected_value c mode b i) same ∙ sym w.value_is),
+          (v.value_is ∙ ap (λ (i : ℕ). projected_value c (ieee_mode mode) b i) same ∙ sym w.value_is),
       told,
       x.loses_is ∙ ap (λ (s : ℕ). not (eqb s ok_bits)) told ∙ sym y.loses_is,
     )
 
-pub projected_once : IsProjectedOnce
-projected_once c f mode (nan b s) code other status flags loses lost law l k x y =
+pub projected_by_once : IsProjectedByOnce
+projected_by_once c f mode (nan b s) code other status flags loses lost law l k x y =
     given_once c _ _ _ code other status flags loses lost law l k x y
-projected_once c f mode (infinite b) code other status flags loses lost law l k x y =
+projected_by_once c f mode (infinite b) code other status flags loses lost law l k x y =
     by_sign (b && not c.signed) c.extended x y
   where
     by_sign : (none extended : Bool)
@@ -229,17 +238,92 @@ projected_once c f mode (infinite b) code other status flags loses lost law l k 
     by_sign true extended x y = given_once c _ _ _ code other status flags loses lost law l k x y
     by_sign false true x y = given_once c _ _ _ code other status flags loses lost law l k x y
     by_sign false false x y = given_once c _ _ _ code other status flags loses lost law l k x y
-projected_once c f mode (finite b zero) code other status flags loses lost law l k x y =
+projected_by_once c f mode (finite b zero) code other status flags loses lost law l k x y =
     given_once c _ _ _ code other status flags loses lost law l k x y
-projected_once c f mode (finite b (suc n)) code other status flags loses lost law l k x y =
+projected_by_once c f mode (finite b (suc n)) code other status flags loses lost law l k x y =
     let some : eqb (suc n) 0 ≡ false = ne_eqb (suc n) 0 (λ e. omega (arith, e)) in
     by_sign (b && not c.signed) (MatchBool-at_false _ _ some x) (MatchBool-at_false _ _ some y)
   where
     by_sign : (none : Bool)
         → MatchBool none (IsCodeOf c (nan false 0) 1 true code status loses)
-        (IsProjectedNumber c f mode b (suc n) code status loses)
+        (IsProjectedNumberBy c f mode b (suc n) code status loses)
         → MatchBool none (IsCodeOf c (nan false 0) 1 true other flags lost)
-        (IsProjectedNumber c f mode b (suc n) other flags lost)
+        (IsProjectedNumberBy c f mode b (suc n) other flags lost)
         → AreSame code status loses other flags lost
     by_sign true x y = given_once c _ _ _ code other status flags loses lost law l k x y
     by_sign false x y = number_once c f mode b (suc n) code other status flags loses lost law l k x y
+
+-- ---- the five modes
+
+-- a pick of the model, and one of a mode of conversions
+point_pick_of : (p : ℕ) (mode : Round) (negative : Bool) (amount parts index : ℕ)
+    → IsPointPickBy p (Ieee mode) negative amount parts index → IsPointPick p mode negative amount parts index
+point_pick_of p mode negative amount parts index = by_digits (eqb p 1)
+  where
+    by_digits : (one : Bool)
+        → MatchBool one (IsCodePickBy p (Ieee mode) negative amount parts index)
+        (IsPickBy p (Ieee mode) negative amount parts (point p index))
+        → MatchBool one (IsCodePick p mode negative amount parts index)
+        (IsPick p mode negative amount parts (point p index))
+    by_digits true x = record { low = x.low; from = x.from; to = x.to; is = x.is }
+    by_digits false x = picks_of_model p mode negative amount parts (point p index) x
+
+point_pick_by : (p : ℕ) (mode : Round) (negative : Bool) (amount parts index : ℕ)
+    → IsPointPick p mode negative amount parts index → IsPointPickBy p (Ieee mode) negative amount parts index
+point_pick_by p mode negative amount parts index = by_digits (eqb p 1)
+  where
+    by_digits : (one : Bool)
+        → MatchBool one (IsCodePick p mode negative amount parts index)
+        (IsPick p mode negative amount parts (point p index))
+        → MatchBool one (IsCodePickBy p (Ieee mode) negative amount parts index)
+        (IsPickBy p (Ieee mode) negative amount parts (point p index))
+    by_digits true x = record { low = x.low; from = x.from; to = x.to; is = x.is }
+    by_digits false x =
+        record { below = x.below; above = x.above; is_below = x.is_below; is_above = x.is_above; is = x.is }
+
+-- only a number is rounded
+by_number : (none without : Bool) (A B C D : Type 0) → (C → D)
+    → MatchBool none A (MatchBool without B C) → MatchBool none A (MatchBool without B D)
+by_number true without A B C D h x = x
+by_number false true A B C D h x = x
+by_number false false A B C D h x = h x
+
+pub projections_of_modes : AreProjectionsOfModes
+projections_of_modes c f mode (nan b s) code status loses x = x
+projections_of_modes c f mode (infinite b) code status loses x = x
+projections_of_modes c f mode (finite b n) code status loses x =
+    by_number (eqb n 0) (b && not c.signed) _ _ _ _
+    (λ (y : IsProjectedNumberBy c f (Ieee mode) b n code status loses).
+    let r = y.is_rounded in
+    record {
+      is_rounded = record {
+        index = r.index;
+        is_pick = point_pick_of c.precision mode b (n * 2 ^ (projected_format c).scale) (2 ^ f.scale) r.index r.is_pick;
+        value_is = r.value_is;
+        status_is = r.status_is;
+      };
+      loses_is = y.loses_is;
+    }) x
+
+modes_of_projection : (c : Projection) (f : Format) (mode : Round) (x : Datum) (code status : ℕ) (loses : Bool)
+    → IsIntoProjection c f mode x code status loses → IsIntoProjectionBy c f (Ieee mode) x code status loses
+modes_of_projection c f mode (nan b s) code status loses x = x
+modes_of_projection c f mode (infinite b) code status loses x = x
+modes_of_projection c f mode (finite b n) code status loses x =
+    by_number (eqb n 0) (b && not c.signed) _ _ _ _
+    (λ (y : IsProjectedNumber c f mode b n code status loses).
+    let r = y.is_rounded in
+    record {
+      is_rounded = record {
+        index = r.index;
+        is_pick = point_pick_by c.precision mode b (n * 2 ^ (projected_format c).scale) (2 ^ f.scale) r.index r.is_pick;
+        value_is = r.value_is;
+        status_is = r.status_is;
+      };
+      loses_is = y.loses_is;
+    }) x
+
+pub projected_once : IsProjectedOnce
+projected_once c f mode x code other status flags loses lost law l k y z =
+    projected_by_once c f (Ieee mode) x code other status flags loses lost law l k
+    (modes_of_projection c f mode x code status loses y) (modes_of_projection c f mode x other flags lost z)

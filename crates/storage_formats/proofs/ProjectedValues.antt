@@ -15,32 +15,34 @@ use Rattle.apfloat_model.specs.rounding.Negation.{negated}
 use Rattle.apfloat_model.specs.order.Classes.{category_of, is_negative, quanta_of}
 use Rattle.apfloat_model.specs.rounding.Rounding.{IsDelivered, inexact_bit, leads_out, ok_bits, signed_quanta, zero_sign}
 use Rattle.storage_formats.specs.Codes.{point}
-use Rattle.storage_formats.specs.Picks.{IsPointAt}
-use Rattle.storage_formats.specs.Projections.{IsCodeOf, IsIntoProjection, IsPointPick, IsProjected, IsProjectedNumber, IsProjection, IsWithoutCode, Projection, largest_index, past_value, projected_datum, projected_format}
+use Rattle.storage_formats.specs.declared.modes.ConversionRound.{ConversionRound}
+use Rattle.storage_formats.specs.Picks.{IsProjectedAt}
+use Rattle.storage_formats.specs.ProjectionModes.{IsIntoProjectionBy, IsProjectedBy, IsProjectedNumberBy}
+use Rattle.storage_formats.specs.Projections.{IsCodeOf, IsProjection, IsWithoutCode, Projection, largest_index, past_value, projected_datum, projected_format}
 use Rattle.storage_formats.proofs.CodesCompared.{not_below_number}
 use Rattle.storage_formats.proofs.ProjectedCodes.{four_codes}
 
 -- ---- in
 
 pub past_projected : (c : Projection) (mode : Round) (negative : Bool) (amount parts index code status : ℕ)
-    → largest_index c < index → IsPointPick c.precision mode negative amount parts index
+    → largest_index c < index
     → projected_datum c code
     ≡ cond (leads_out mode negative) (past_value c negative) (finite negative (point c.precision (largest_index c)))
-    → status ≡ cond (leads_out mode negative) 20 16 → IsProjected c mode negative amount parts code status
-past_projected c mode negative amount parts index code status l pick value flags =
+    → status ≡ cond (leads_out mode negative) 20 16 → IsProjectedAt c mode negative amount parts index code status
+past_projected c mode negative amount parts index code status l value flags =
     let past : ltb (largest_index c) index ≡ true = lt-ltb (largest_index c) index l in
-    record { index = index; is_pick = pick; value_is = rw past value; status_is = rw past flags }
+    record { value_is = rw past value; status_is = rw past flags }
 
 pub within_projected : (c : Projection) (mode : Round) (negative : Bool) (amount parts index code status : ℕ)
-    (exact : Bool) → index ≤ largest_index c → IsPointAt c.precision mode negative amount parts index exact
+    (exact : Bool) → index ≤ largest_index c → exact ≡ eqb (point c.precision index * parts) amount
     → projected_datum c code ≡ signed_quanta NanNegativeZero negative (point c.precision index)
     → status ≡ cond exact 0 (cond (ltb index (2 ^ (c.precision - 1))) 24 16)
-    → IsProjected c mode negative amount parts code status
-within_projected c mode negative amount parts index code status exact l x value flags =
+    → IsProjectedAt c mode negative amount parts index code status
+within_projected c mode negative amount parts index code status exact l same value flags =
     let within : ltb (largest_index c) index ≡ false = le-ltb (largest_index c) index l in
     let told = flags
-    ∙ ap (λ (b : Bool). cond b 0 (cond (ltb index (2 ^ (c.precision - 1))) 24 16)) x.exact_is in
-    record { index = index; is_pick = x.is_pick; value_is = rw within value; status_is = rw within told }
+    ∙ ap (λ (b : Bool). cond b 0 (cond (ltb index (2 ^ (c.precision - 1))) 24 16)) same in
+    record { value_is = rw within value; status_is = rw within told }
 
 -- a number that is not zero keeps its sign
 pub number_signed : (p index : ℕ) (negative : Bool) → 0 < p → 0 < index
@@ -71,33 +73,35 @@ no_nan : (none : Bool) → cond none Zero Normal ≡ NaN → ⊥
 no_nan true h = cc
 no_nan false h = cc
 
-pub nan_into : (c : Projection) (f : Format) (mode : Round) (x : Datum) (code status : ℕ) (loses : Bool)
-    → category_of x ≡ NaN → projected_datum c code ≡ nan false 0 → status ≡ invalid_if (is_signaling_nan f x)
-    → loses ≡ not (eqb (payload_mask f) 0) → IsIntoProjection c f mode x code status loses
+pub nan_into : (c : Projection) (f : Format) (mode : ConversionRound) (x : Datum) (code status : ℕ) (loses : Bool)
+    → category_of x ≡ NaN → projected_datum c code ≡ nan false 0
+    → status ≡ invalid_if (is_signaling_nan f x) → loses ≡ not (eqb (payload_mask f) 0)
+    → IsIntoProjectionBy c f mode x code status loses
 nan_into c f mode (nan b s) code status loses is value flags lost =
     record { value_is = value; status_is = flags; loses_is = lost }
 nan_into c f mode (finite b n) code status loses is value flags lost = absurd (no_nan (eqb n 0) is)
 nan_into c f mode (infinite b) code status loses is value flags lost = cc
 
-number_by : (c : Projection) (f : Format) (mode : Round) (b none unsigned : Bool) (n code status : ℕ) (loses : Bool)
-    → cond none Zero Normal ≡ Normal → unsigned ≡ false
-    → IsProjectedNumber c f mode b n code status loses
+number_by : (c : Projection) (f : Format) (mode : ConversionRound) (b none unsigned : Bool) (n code status : ℕ)
+    (loses : Bool) → cond none Zero Normal ≡ Normal → unsigned ≡ false
+    → IsProjectedNumberBy c f mode b n code status loses
     → MatchBool none (IsCodeOf c (finite false 0) (cond b inexact_bit ok_bits) b code status loses)
-    (MatchBool unsigned (IsWithoutCode c code status loses) (IsProjectedNumber c f mode b n code status loses))
+    (MatchBool unsigned (IsWithoutCode c code status loses) (IsProjectedNumberBy c f mode b n code status loses))
 number_by c f mode b true unsigned n code status loses is known h = cc
 number_by c f mode b false true n code status loses is known h = absurd (false≢true (sym known))
 number_by c f mode b false false n code status loses is known h = h
 
-pub number_into : (c : Projection) (f : Format) (mode : Round) (x : Datum) (code status : ℕ) (loses negative : Bool)
-    → category_of x ≡ Normal → negative ≡ is_negative x → (negative && not c.signed) ≡ false
-    → IsProjected c mode negative (quanta_of x * 2 ^ (projected_format c).scale) (2 ^ f.scale) code status
-    → loses ≡ not (eqb status ok_bits) → IsIntoProjection c f mode x code status loses
+pub number_into : (c : Projection) (f : Format) (mode : ConversionRound) (x : Datum) (code status : ℕ)
+    (loses negative : Bool) → category_of x ≡ Normal → negative ≡ is_negative x
+    → (negative && not c.signed) ≡ false
+    → IsProjectedBy c mode negative (quanta_of x * 2 ^ (projected_format c).scale) (2 ^ f.scale) code status
+    → loses ≡ not (eqb status ok_bits) → IsIntoProjectionBy c f mode x code status loses
 number_into c f mode (finite b n) code status loses negative is sign known h lost =
     number_by c f mode b (eqb n 0) (b && not c.signed) n code status loses is
     (ap (λ (d : Bool). d && not c.signed) (sym sign) ∙ known)
     (record {
-      is_rounded = subst (λ (d : Bool). IsProjected c mode d (n * 2 ^ (projected_format c).scale) (2 ^ f.scale) code
-          status) sign h;
+      is_rounded = subst (λ (d : Bool). IsProjectedBy c mode d (n * 2 ^ (projected_format c).scale) (2 ^ f.scale)
+          code status) sign h;
       loses_is = lost;
     })
 number_into c f mode (infinite b) code status loses negative is sign known h lost = cc
@@ -117,7 +121,8 @@ positive_quanta kind (infinite b) is = cc
 positive_quanta kind (nan b s) is = cc
 
 -- what has a code has a sign only if the format has one
-pub signed_if : (negative signed : Bool) → (negative && not signed) ≡ false → negative ≡ true → signed ≡ true
+pub signed_if : (negative signed : Bool) → (negative && not signed) ≡ false → negative ≡ true
+    → signed ≡ true
 signed_if true true e h = refl
 signed_if true false e h = absurd (false≢true (sym e))
 signed_if false signed e h = absurd (false≢true h)
@@ -148,7 +153,8 @@ infinity_converted c f g mode code negative value status loses is h =
     subst (λ (x : Datum). IsConversion (projected_format c) g mode x value status loses) (sym is) h
 
 pub zero_converted : (c : Projection) (f g : Format) (mode : Round) (code : ℕ) (value : Datum) (status : ℕ)
-    (loses : Bool) → projected_datum c code ≡ finite false 0 → IsConversion f g mode (finite false 0) value status loses
+    (loses : Bool) → projected_datum c code ≡ finite false 0
+    → IsConversion f g mode (finite false 0) value status loses
     → IsConversion (projected_format c) g mode (projected_datum c code) value status loses
 zero_converted c f g mode code value status loses is h =
     subst (λ (x : Datum). IsConversion (projected_format c) g mode x value status loses) (sym is) h
@@ -156,7 +162,8 @@ zero_converted c f g mode code value status loses is h =
 pub number_converted : (c : Projection) (g : Format) (mode : Round) (code index : ℕ) (negative : Bool) (value : Datum)
     (status : ℕ) (loses : Bool) → 0 < c.precision → 0 < index
     → projected_datum c code ≡ finite negative (point c.precision index)
-    → IsDelivered g mode negative (point c.precision index * 2 ^ g.scale) (2 ^ (projected_format c).scale) value status
+    → IsDelivered g mode negative (point c.precision index * 2 ^ g.scale) (2 ^ (projected_format c).scale) value
+    status
     → loses ≡ not (eqb status ok_bits)
     → IsConversion (projected_format c) g mode (projected_datum c code) value status loses
 number_converted c g mode code index negative value status loses some p is h l =

@@ -28,7 +28,7 @@ reaching top share (suc n) l =
     (cases_lt (share + n) top)
 
 -- tests that agree below n count the same
-same_count : (one other : ℕ → Bool) (n : ℕ) → ((k : ℕ) → k < n → one k ≡ other k)
+pub same_count : (one other : ℕ → Bool) (n : ℕ) → ((k : ℕ) → k < n → one k ≡ other k)
     → count_below one n ≡ count_below other n
 same_count one other zero h = refl
 same_count one other (suc n) h =

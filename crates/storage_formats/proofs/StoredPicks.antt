@@ -28,7 +28,8 @@ pub moved_point : (p m c : ℕ) → 0 < p → m < 2 ^ p → (c ≡ 0) ⊎ (2 ^ (
 moved_point p m c some fits full true = at_next p m c some fits full
 moved_point p m c some fits full false = at_index p m c some fits full
 
-pub exact_cases : (exact : Bool) (a b : ℕ) → (exact ≡ true → a ≡ b) → (exact ≡ false → a ≡ b → ⊥) → exact ≡ eqb a b
+pub exact_cases : (exact : Bool) (a b : ℕ) → (exact ≡ true → a ≡ b) → (exact ≡ false → a ≡ b → ⊥)
+    → exact ≡ eqb a b
 exact_cases true a b when unless = sym (eq-eqb a b (when refl))
 exact_cases false a b when unless = sym (ne_eqb a b (unless refl))
 
@@ -54,8 +55,8 @@ picked_at p mode negative m c amount parts index loss moved exact some q i h mov
 -- ---- the largest number
 
 -- in a format with that many biased exponents
-largest_at : (p half exponents codes : ℕ) → 0 < p → half ≡ 2 ^ (p - 1) → 2 ≤ exponents → codes ≡ exponents * half
-    → point p (codes - 1) ≡ (2 ^ p - 1) * 2 ^ (exponents - 2)
+largest_at : (p half exponents codes : ℕ) → 0 < p → half ≡ 2 ^ (p - 1) → 2 ≤ exponents
+    → codes ≡ exponents * half → point p (codes - 1) ≡ (2 ^ p - 1) * 2 ^ (exponents - 2)
 largest_at p half exponents codes some h two e =
     let double : 2 * 2 ^ (p - 1) ≡ 2 ^ p = twice_half p some in
     let one : 1 ≤ 2 ^ (p - 1) = pow_pos (p - 1) in
@@ -103,7 +104,8 @@ tiny_is p index some =
     let one : 1 ≤ h = pow_pos (p - 1) in
     let at₀ : point p (index_of p h 0) ≡ h * 2 ^ 0 =
     at_index p h 0 some (omega (arith, double, one)) (inl refl) in
-    let at : point p h ≡ h = ap (λ (n : ℕ). point p n) (let e : h ≡ h + 0 * h = omega arith in e) ∙ at₀ ∙ omega arith in
+    let at : point p h ≡ h =
+    ap (λ (n : ℕ). point p n) (let e : h ≡ h + 0 * h = omega arith in e) ∙ at₀ ∙ omega arith in
     let more = not_greater p h index some l in
     le-ltb index h l ∙ sym (le-ltb (point p index) h (omega (arith, at, more))))
     (cases_lt index h)
@@ -121,8 +123,8 @@ past_delivered c mode negative amount parts index code status law l value flags 
     record { value_is = rw past value; status_is = rw past flags }
 
 pub within_delivered : (c : Constants) (mode : Round) (negative : Bool) (amount parts index code status : ℕ)
-    (exact : Bool) → IsLawful c → exact ≡ eqb (point c.precision index * parts) amount → index ≤ largest_index c
-    → datum_of c code ≡ finite negative (point c.precision index)
+    (exact : Bool) → IsLawful c → exact ≡ eqb (point c.precision index * parts) amount
+    → index ≤ largest_index c → datum_of c code ≡ finite negative (point c.precision index)
     → status ≡ cond exact 0 (cond (ltb index (2 ^ (c.precision - 1))) 24 16)
     → IsPointDelivered c mode negative amount parts index code status
 within_delivered c mode negative amount parts index code status exact law same l value flags =

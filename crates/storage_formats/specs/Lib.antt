@@ -19,4 +19,6 @@ pub mod Projections
 pub mod ProjectionLaws
 pub mod ProjectionLawTest
 pub mod ProjectionTypes
+pub mod ProjectionModes
+pub mod ProjectionModeLaws
 pub mod Quotients

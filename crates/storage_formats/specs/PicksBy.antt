@@ -4,7 +4,8 @@ use Rattle.std.specs.Prelude.{if◌then◌else◌}
 use Rattle.std.specs.Prelude.{◌≡◌, ℕ, ◌*◌, Bool, false, eqb}
 use Rattle.storage_formats.specs.declared.modes.ConversionRound.{ConversionRound}
 use Rattle.storage_formats.specs.Codes.{point}
-use Rattle.storage_formats.specs.Modes.{IsPickBy, takes_next}
+use Rattle.storage_formats.specs.Modes.{takes_next}
+use Rattle.storage_formats.specs.ProjectionModes.{IsPointPickBy}
 
 -- whether a magnitude moves to the point above it; one that is a point does not
 abbrev pub moves : ConversionRound → Bool → ℕ → ℕ → Bool → Bool
@@ -12,7 +13,7 @@ moves mode negative below_by above_by odd =
     if eqb below_by 0 then false else takes_next mode negative below_by above_by odd
 
 -- the point with that number is picked, and is the magnitude itself or not
-pub record IsPickedBy (precision : ℕ) (mode : ConversionRound) (negative : Bool) (amount parts index : ℕ)
+pub record IsPointAt (precision : ℕ) (mode : ConversionRound) (negative : Bool) (amount parts index : ℕ)
     (exact : Bool) : Type 0 where
-  pub is_pick : IsPickBy precision mode negative amount parts (point precision index)
+  pub is_pick : IsPointPickBy precision mode negative amount parts index
   pub exact_is : exact ≡ eqb (point precision index * parts) amount

@@ -21,7 +21,7 @@ use apfloat_base::{Category, Float, Round, Status, StatusAnd};
 use apfloat_ieee::{IeeeFloat, Semantics};
 
 /// The mode of IEEE 754 that treats a pick past the largest number alike.
-fn ieee_mode(mode: ConversionRound) -> Round
+pub(crate) fn ieee_mode(mode: ConversionRound) -> Round
     ensures { result ≡ ieee_mode mode }
 {
     match mode {

@@ -46,7 +46,8 @@ pub use theorems::{
     codes_are_in_order, conversions_by_mode_have_one_answer, conversions_have_one_answer,
     e3m4_conversions_have_one_answer, exact_values_never_move, next_values_are_nearest,
     one_is_in_the_middle, picks_are_those_of_the_model, picks_of_codes_are_picks,
-    projections_have_one_answer, random_numbers_are_counted, scales_have_one_answer,
-    unsigned_conversions_have_one_answer,
+    projections_by_mode_are_projections, projections_by_mode_have_one_answer,
+    projections_have_one_answer, random_codes_are_counted, random_numbers_are_counted,
+    scales_have_one_answer, unsigned_conversions_have_one_answer,
 };
 pub use unsigned::UE4M3;

@@ -5,8 +5,7 @@ ghost use Rattle.std.specs.Prelude.{if◌then◌else◌};
 ghost use Rattle.apfloat_model.specs.rounding.Bounds.{IsWithin, unit_bound, place_bound};
 ghost use Rattle.apfloat_model.specs.rounding.Standing.{StandsFor, up, down};
 ghost use Rattle.storage_formats.specs.Codes.{index_of};
-ghost use Rattle.storage_formats.specs.Picks.{IsPointAt};
-ghost use Rattle.storage_formats.specs.PicksBy.{IsPickedBy, moves};
+ghost use Rattle.storage_formats.specs.PicksBy.{IsPointAt, moves};
 
 use crate::cuts::{cut, parts_of_rest};
 use crate::modes::{ConversionRound, RandomDigits};
@@ -79,7 +78,8 @@ fn takes_next(
     }
 }
 
-/// The point that is picked for `digits * 2^unit` quanta in a mode of conversions.
+/// The point that is picked for `digits * 2^unit` quanta in a mode of conversions. The odd number is that of the odd
+/// significand, unless the precision is one digit, where each significand is odd.
 pub(crate) fn pick_by(
     precision: u32,
     digits: u128,
@@ -94,39 +94,12 @@ pub(crate) fn pick_by(
     requires within { IsWithin unit_bound unit }
     ensures { (amount parts : ℕ) → 0 < parts
         → amount * 2 ^ down unit ≡ digits * (parts * 2 ^ up unit)
-        → IsPickedBy precision mode negative amount parts result.index result.exact }
-{
-    let kept = cut(precision, digits, unit);
-    let below = index_of(precision, kept.significand, kept.place);
-    let odd = kept.significand % 2 == 1;
-    let moves = takes_next(mode, negative, digits, kept.places, kept.loss, odd);
-    Picked {
-        index: moved_index(below, moves),
-        exact: is_exact(kept.loss),
-    }
-}
-
-/// The point that is picked. A tie to even goes to the even number: that of the even significand, unless the precision
-/// is one digit, where each significand is odd.
-pub(crate) fn pick_point(
-    precision: u32,
-    digits: u128,
-    unit: ExpInt,
-    mode: Round,
-    negative: bool,
-) -> Picked
-    requires some { 0 < precision }
-    requires precise { precision ≤ 15 }
-    requires low { 2 ^ 124 ≤ digits }
-    requires high { digits < 2 ^ 125 }
-    requires within { IsWithin unit_bound unit }
-    ensures { (amount parts : ℕ) → 0 < parts
-        → amount * 2 ^ down unit ≡ digits * (parts * 2 ^ up unit)
         → IsPointAt precision mode negative amount parts result.index result.exact }
 {
     let kept = cut(precision, digits, unit);
     let below = index_of(precision, kept.significand, kept.place);
-    let moves = moves_up(mode, negative, kept.loss, below % 2 == 1);
+    let odd = below % 2 == 1;
+    let moves = takes_next(mode, negative, digits, kept.places, kept.loss, odd);
     Picked {
         index: moved_index(below, moves),
         exact: is_exact(kept.loss),

@@ -1,6 +1,7 @@
 //! Conversions of the values of a format into a format of IEEE P3109.
 
-ghost use Rattle.std.specs.Prelude.{◌≡◌, ℕ, ◌*◌, ◌^◌, ◌<◌, ◌≤◌, ◌&&◌, if◌then◌else◌, not, true};
+ghost use Rattle.std.specs.Prelude.{◌≡◌, ℕ, ◌*◌, ◌^◌, ◌<◌, ◌≤◌, ◌&&◌};
+ghost use Rattle.std.specs.Prelude.{eqb, if◌then◌else◌, not, true};
 ghost use Rattle.apfloat_model.specs.formats.Datum.{finite};
 ghost use Rattle.apfloat_model.specs.order.Classes.{quanta_of};
 ghost use Rattle.apfloat_model.specs.rounding.Flags.{Gives, bits_of};
@@ -8,12 +9,17 @@ ghost use Rattle.apfloat_model.specs.rounding.Rounding.{leads_out};
 ghost use Rattle.apfloat_ieee.specs.Types.{format_of};
 ghost use Rattle.apfloat_decimals.specs.ShortestSearch.{IsPositive};
 ghost use Rattle.storage_formats.specs.Codes.{point};
-ghost use Rattle.storage_formats.specs.Picks.{IsPointAt};
+ghost use Rattle.storage_formats.specs.Picks.{IsProjectedAt};
+ghost use Rattle.storage_formats.specs.ProjectionModes.{IsIntoProjectionBy, IsProjectedBy};
 ghost use Rattle.storage_formats.specs.ProjectionTypes.{projection_of};
-ghost use Rattle.storage_formats.specs.Projections.{IsInfinityOf, IsIntoProjection, IsPointPick, IsProjected, IsWithoutCode, exponent_bits, largest_index, past_value, projected_datum, projected_format};
+ghost use Rattle.storage_formats.specs.Projections.{IsInfinityOf, IsIntoProjection, IsWithoutCode};
+ghost use Rattle.storage_formats.specs.Projections.{exponent_bits, largest_index, past_value};
+ghost use Rattle.storage_formats.specs.Projections.{projected_datum, projected_format};
 
 use crate::from_value::{leads_out, status_of_nan, status_past, status_within};
-use crate::picks::{Picked, pick_point};
+use crate::from_value_by::ieee_mode;
+use crate::modes::ConversionRound;
+use crate::picks::{Picked, pick_by};
 use crate::projected::{Projected, largest_index};
 use crate::projection::Projection;
 use crate::quanta::in_quanta;
@@ -59,8 +65,8 @@ fn past_value<F: Projection>(mode: Round, negative: bool) -> Projected<F>
 fn past<F: Projection>(mode: Round, negative: bool) -> StatusAnd<Projected<F>>
     requires { negative ≡ true → F.SIGNED ≡ true }
     ensures { (amount parts index : ℕ) → largest_index (projection_of F.Projection) < index
-        → IsPointPick F.PRECISION mode negative amount parts index
-        → Gives (IsProjected (projection_of F.Projection) mode negative amount parts) result }
+        → Gives (IsProjectedAt (projection_of F.Projection) mode negative amount parts index)
+        result }
 {
     status_past(mode, negative).and(past_value(mode, negative))
 }
@@ -73,8 +79,9 @@ fn deliver_pick<F: Projection>(
 ) -> StatusAnd<Projected<F>>
     requires { negative ≡ true → F.SIGNED ≡ true }
     ensures { (amount parts : ℕ)
-        → IsPointAt F.PRECISION mode negative amount parts picked.index picked.exact
-        → Gives (IsProjected (projection_of F.Projection) mode negative amount parts) result }
+        → picked.exact ≡ eqb (point F.PRECISION picked.index * parts) amount
+        → Gives (IsProjectedAt (projection_of F.Projection) mode negative amount parts
+        picked.index) result }
 {
     if picked.index > u128::from(largest_index::<F>()) {
         return past(mode, negative);
@@ -86,18 +93,18 @@ fn deliver_pick<F: Projection>(
 /// A positive value, rounded once as a value with that sign.
 fn round_positive<S: Semantics, F: Projection>(
     x: IeeeFloat<S>,
-    mode: Round,
+    mode: ConversionRound,
     negative: bool,
 ) -> StatusAnd<Projected<F>>
     requires positive { IsPositive (format_of S.Semantics) x }
     requires sign { negative ≡ true → F.SIGNED ≡ true }
-    ensures { let c = projection_of F.Projection in Gives (IsProjected c mode negative
+    ensures { let c = projection_of F.Projection in Gives (IsProjectedBy c mode negative
         (quanta_of x * 2 ^ (projected_format c).scale) (2 ^ (format_of S.Semantics).scale)) result }
 {
     let number = in_quanta(x, scale::<F>());
     let precision = F::PRECISION as u32;
-    let picked = pick_point(precision, number.digits, number.unit, mode, negative);
-    deliver_pick(picked, mode, negative)
+    let picked = pick_by(precision, number.digits, number.unit, mode, negative);
+    deliver_pick(picked, ieee_mode(mode), negative)
 }
 
 /// The infinity of that sign.
@@ -147,6 +154,23 @@ impl<F: Projection> Projected<F> {
         ensures { IsIntoProjection (projection_of F.Projection) (format_of S.Semantics) round x
             result.value (bits_of result.status) loses_info.new }
     {
+        Self::from_value_by(x, ConversionRound::Ieee(round), loses_info)
+    }
+
+    /// A value of any format, rounded once in a mode of conversions, with the flags of that rounding. In a mode of IEEE
+    /// 754 it is the conversion of `from_value`.
+    ///
+    /// To odd the result is the neighbour whose code is odd, and the largest number, with INEXACT, past it. With random
+    /// digits it is the infinity there, or the NaN in its place, with OVERFLOW and INEXACT, as to nearest. A value that
+    /// the format has is unchanged in each mode, with each random number; all else is as in `from_value`.
+    pub fn from_value_by<S: Semantics>(
+        x: IeeeFloat<S>,
+        mode: ConversionRound,
+        loses_info: &mut bool,
+    ) -> StatusAnd<Self>
+        ensures { IsIntoProjectionBy (projection_of F.Projection) (format_of S.Semantics) mode x
+            result.value (bits_of result.status) loses_info.new }
+    {
         let negative = x.is_negative();
         match x.category() {
             Category::NaN => {
@@ -172,7 +196,7 @@ impl<F: Projection> Projected<F> {
                 if lacks_sign::<F>(negative) {
                     return without_code(loses_info);
                 }
-                let answer = round_positive(x.abs(), round, negative);
+                let answer = round_positive(x.abs(), mode, negative);
                 *loses_info = answer.status != Status::OK;
                 answer
             }

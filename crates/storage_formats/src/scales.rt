@@ -6,7 +6,8 @@ ghost use Rattle.apfloat_model.specs.arithmetic.Conversions.{IsConversion, IsExa
 ghost use Rattle.apfloat_model.specs.order.Classes.{quanta_of};
 ghost use Rattle.apfloat_model.specs.rounding.Bounds.{IsWithin};
 ghost use Rattle.apfloat_model.specs.rounding.Flags.{Gives, bits_of};
-ghost use Rattle.apfloat_model.specs.rounding.Rounding.{leads_out, ok_bits, overflow_bit, underflow_bit, inexact_bit};
+ghost use Rattle.apfloat_model.specs.rounding.Rounding.{leads_out, ok_bits};
+ghost use Rattle.apfloat_model.specs.rounding.Rounding.{overflow_bit, underflow_bit, inexact_bit};
 ghost use Rattle.apfloat_model.specs.rounding.Standing.{up, down};
 ghost use Rattle.apfloat_ieee.specs.FlaggedTypes.{format_of as flagged_format_of};
 ghost use Rattle.apfloat_ieee.specs.Types.{format_of};

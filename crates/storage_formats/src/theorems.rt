@@ -5,7 +5,12 @@ ghost use Rattle.storage_formats.specs.Float8E3M4.{IsE3M4Once};
 ghost use Rattle.storage_formats.specs.ModeLaws.{ArePicksOfModel, AreRandomNumbersCounted, IsIntoByOnce};
 ghost use Rattle.storage_formats.specs.ModeLaws.{IsIntoOfModel, StaysExact};
 ghost use Rattle.storage_formats.specs.Quotients.{IsQuotientOnce};
-ghost use Rattle.storage_formats.specs.ProjectionLaws.{AreCodePicksPicks, AreNextValues, IsOneInTheMiddle, IsProjectedOnce};
+ghost use Rattle.storage_formats.specs.ProjectionLaws.{AreCodePicksPicks, AreNextValues};
+ghost use Rattle.storage_formats.specs.ProjectionLaws.{IsOneInTheMiddle, IsProjectedOnce};
+ghost use Rattle.storage_formats.specs.ProjectionModeLaws.{AreCodePicksPicksBy};
+ghost use Rattle.storage_formats.specs.ProjectionModeLaws.{AreProjectionsOfModes};
+ghost use Rattle.storage_formats.specs.ProjectionModeLaws.{AreRandomCodesCounted};
+ghost use Rattle.storage_formats.specs.ProjectionModeLaws.{IsProjectedByOnce};
 
 /// A conversion into a storage format has one answer.
 pub fn conversions_have_one_answer()
@@ -77,4 +82,22 @@ pub fn projections_have_one_answer()
 /// In a format of P3109, `next_up` and `next_down` give the nearest value in that direction, if there is one.
 pub fn next_values_are_nearest()
     ensures { AreNextValues }
+{}
+
+/// A conversion into a format of P3109 by a mode of conversions has one answer.
+pub fn projections_by_mode_have_one_answer()
+    ensures { IsProjectedByOnce }
+{}
+
+/// In a mode of IEEE 754 that conversion is the one of `Projections`. With two digits or more, the pick by codes is the
+/// one by significands.
+pub fn projections_by_mode_are_projections()
+    ensures conversions { AreProjectionsOfModes }
+    ensures picks { AreCodePicksPicksBy }
+{}
+
+/// Of all random numbers, exactly as many take a value to the next code as it has parts of the distance above the code
+/// below.
+pub fn random_codes_are_counted()
+    ensures { AreRandomCodesCounted }
 {}

@@ -23,5 +23,5 @@ returns g c =
     (pow_pos f.scale) number in
     let delivered = rw c.ieee_mode.ensures at c.deliver_pick.ensures in
     saturated_by d c.args.mode c.args.negative amount parts c.pick_by-picked.result.index
-    c.deliver_pick.result.value (bits_of c.deliver_pick.result.status) c.pick_by-picked.result.exact picked
-    (delivered amount parts picked.exact_is)
+    c.deliver_pick.result.value (bits_of c.deliver_pick.result.status) c.pick_by-picked.result.exact
+    g.F.StorageFormat.lawful picked (delivered amount parts picked.exact_is)

@@ -13,7 +13,7 @@ returns-then-picked-from g c = λ amount parts x.
     let d = projection_of g.F.Projection in
     let l : largest_index d < c.args.picked.index =
     omega (arith, c.largest_index.ensures, c.from.ensures, c.if-picked-from.true) in
-    c.past.ensures amount parts c.args.picked.index l x.is_pick
+    c.past.ensures amount parts c.args.picked.index l
 
 pub returns : goal.returns
 returns g c = λ amount parts x.

@@ -6,8 +6,8 @@ use Rattle.storage_formats.proofs.ProjectedValues.{past_projected}
 use Rattle.storage_formats.proofs.projected_from.past.Goals as goal
 
 pub returns : goal.returns
-returns g c = λ amount parts index l pick.
+returns g c = λ amount parts index l.
     let d = projection_of g.F.Projection in
     past_projected d c.args.mode c.args.negative amount parts index c.and.result.value (bits_of c.and.result.status) l
-    pick (ap (λ (code : ℕ). projected_datum d code) c.and.ensures.value ∙ c.past_value.ensures)
+    (ap (λ (code : ℕ). projected_datum d code) c.and.ensures.value ∙ c.past_value.ensures)
     (ap bits_of c.and.ensures.status ∙ c.status_past.ensures)

@@ -17,5 +17,12 @@ returns g c =
     let exact = exponent_fits c.in_quanta-number.result.unit c.in_quanta-number.ensures.within in
     let unit = to_z-of_z w32 c.in_quanta-number.result.unit exact in
     let number = rw c.scale.ensures.value at c.in_quanta-number.ensures.number in
-    let picked = rw (unit, c.PRECISION-precision.ensures) at c.pick_point-picked.ensures in
-    c.deliver_pick.ensures amount parts (picked amount parts (pow_pos f.scale) number)
+    let picked = (rw (unit, c.PRECISION-precision.ensures) at c.pick_by-picked.ensures) amount parts
+    (pow_pos f.scale) number in
+    let delivered = (rw c.ieee_mode.ensures at c.deliver_pick.ensures) amount parts picked.exact_is in
+    record {
+      index = c.pick_by-picked.result.index;
+      is_pick = picked.is_pick;
+      value_is = delivered.value_is;
+      status_is = delivered.status_is;
+    }
