@@ -60,7 +60,8 @@ fits_of (Ok wanted) given room conversion e =
     let both = if_fitting_ok
     (lengths_fit (conversion_widths wanted).source (conversion_widths wanted).target given room) wanted conversion e in
     subst
-    (λ (c : KnownConversion). lengths_fit (conversion_widths c).source (conversion_widths c).target given room ≡ true)
+    (λ (c : KnownConversion).
+    lengths_fit (conversion_widths c).source (conversion_widths c).target given room ≡ true)
     both.1 both.0
 
 -- the lengths of a conversion that is not refused fit

@@ -42,7 +42,8 @@ pub has_infinities_on : (machine : Machine) (m : MachineFormat) → HasInfinitie
 has_infinities_on machine m = either_has_infinities (is_tiny_before machine m.tiny_before) m.format
 
 either_has_width : (tiny_before : Bool) (format : IeeeFormat)
-    → (flagged_constants (if tiny_before then BeforeRounding format else AfterRounding format)).bits ≡ width_of format
+    → (flagged_constants (if tiny_before then BeforeRounding format else AfterRounding format)).bits
+    ≡ width_of format
 either_has_width true format = refl
 either_has_width false format = refl
 

@@ -136,7 +136,8 @@ second_number true c y e = (both_true (is_number c y) (not (is_zero (value_of c 
 second_number false c y e = e
 
 second_divides : (divided : Bool) (c : Constants) (y : ℕ)
-    → (if divided then is_divisor c y else is_number c y) ≡ true → divided ≡ true → is_zero (value_of c y) ≡ false
+    → (if divided then is_divisor c y else is_number c y) ≡ true → divided ≡ true
+    → is_zero (value_of c y) ≡ false
 second_divides true c y e some =
     not_true (is_zero (value_of c y)) (both_true (is_number c y) (not (is_zero (value_of c y))) e).1
 second_divides false c y e some = absurd (false≢true some)
@@ -243,5 +244,6 @@ conversion_known None target x f = cc
 conversion_known (Some kind) target x f = rw f refl
 
 -- only a fused sum has a third operand
-pub third_unused : (code to x y z w : ℕ) → eqb code 7 ≡ false → machine_call code to x y z ≡ machine_call code to x y w
+pub third_unused : (code to x y z w : ℕ) → eqb code 7 ≡ false
+    → machine_call code to x y z ≡ machine_call code to x y w
 third_unused code to x y z w e = rw e refl

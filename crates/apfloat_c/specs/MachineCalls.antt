@@ -253,7 +253,8 @@ known_machine_call kind mode call machine =
 -- ---- results in a format
 
 -- an operation on two data
-abbrev pub IsMachineOfTwo : Format → Machine → Arithmetic → Round → Datum → Datum → StatusAnd Datum → Type 0
+abbrev pub IsMachineOfTwo : Format → Machine → Arithmetic → Round → Datum → Datum → StatusAnd Datum
+    → Type 0
 IsMachineOfTwo f machine Sum mode x y given = Gives (IsMachineSum f machine mode x y) given
 IsMachineOfTwo f machine Difference mode x y given = Gives (IsMachineDifference f machine mode x y) given
 IsMachineOfTwo f machine Product mode x y given = Gives (IsMachineProduct f machine mode x y) given
@@ -283,7 +284,8 @@ IsMachineAnswer c machine mode (OfTwo arithmetic x y) answer =
     (IsMachineOfTwo (format_with c) machine arithmetic mode (value_of c x) (value_of c y)) answer
 IsMachineAnswer c machine mode (FusedSum x y z) answer =
     IsValue (in_format c)
-    (λ given. Gives (IsMachineFusedSum (format_with c) machine mode (value_of c x) (value_of c y) (value_of c z)) given)
+    (λ given.
+    Gives (IsMachineFusedSum (format_with c) machine mode (value_of c x) (value_of c y) (value_of c z)) given)
     answer
 IsMachineAnswer c machine mode (SquareRoot x) answer =
     IsValue (in_format c) (λ given. Gives (IsMachineRoot (format_with c) machine mode (value_of c x)) given) answer
@@ -334,7 +336,8 @@ IsMachineLeftIn (of_format c) machine mode operation old new code =
 IsMachineLeftIn of_pairs machine mode operation old new code = ⊥
 
 -- what a conversion of bits of a kind, which may be too wide, leaves
-abbrev pub IsMachineConversionLeft : Kind → Machine → Round → ℕ → Kind → Answer → Answer → ℕ → Type 0
+abbrev pub IsMachineConversionLeft : Kind → Machine → Round → ℕ → Kind → Answer → Answer → ℕ
+    → Type 0
 IsMachineConversionLeft (of_format c) machine mode x target old new code =
     IsLeftBy (unless (fits c.bits x) wide_operand) (IsMachineConverted c machine mode (value_of c x) target)
     old new code
