@@ -11,8 +11,8 @@ use std::io;
 use std::io::{ErrorKind, Read, Write};
 use std::rt::Clock;
 
-/// The greatest number of values in a block.
-const BLOCK: usize = 1 << 14;
+/// The greatest number of values in a block: as many as a table for singles needs to pay (`array_conversions`).
+const BLOCK: usize = 1 << 16;
 
 /// What a stream contained.
 #[derive(Clone, Copy, Debug)]
