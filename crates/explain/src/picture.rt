@@ -344,6 +344,19 @@ fn write_between<W: Write>(out: &mut W) -> io::Result<()> {
     writeln!(out, "        ----------- A")
 }
 
+/// Ten-thousandths without zeros at the end, and with how many digits they are written.
+fn without_zeros(fraction: u32) -> (u32, usize) {
+    if fraction % 1000 == 0 {
+        (fraction / 1000, 1)
+    } else if fraction % 100 == 0 {
+        (fraction / 100, 2)
+    } else if fraction % 10 == 0 {
+        (fraction / 10, 3)
+    } else {
+        (fraction, 4)
+    }
+}
+
 /// Writes a number of a storage format, exactly, and whether it is the result.
 fn write_point<W: Write>(
     grid: Grid,
@@ -356,11 +369,7 @@ fn write_point<W: Write>(
     let sign = if negative { "-" } else { "" };
     let sixteenths = grid.element.sixteenths(index);
     let whole = sixteenths / 16;
-    let (mut fraction, mut width) = ((sixteenths % 16) * 625, 4);
-    while width > 1 && fraction % 10 == 0 {
-        fraction /= 10;
-        width -= 1;
-    }
+    let (fraction, width) = without_zeros((sixteenths % 16) * 625);
     writeln!(
         out,
         "{label:<7} {code:02x} = {sign}{whole}.{fraction:0width$}"
