@@ -321,13 +321,22 @@ fn write_way<W: Write>(
 /// Writes the numbers of a storage format with the sign of the result, in order, and where A is among them.
 fn write_grid<W: Write>(grid: Grid, out: &mut W) -> io::Result<()> {
     let count = grid.element.count();
+    let last = count.saturating_sub(1);
     let negative = grid.taken >= count;
     if negative && grid.is_beyond() {
         write_between(out)?;
     }
     for place in 0..count {
-        let index = if negative { count - 1 - place } else { place };
-        let code = if negative { count + index } else { index };
+        let index = if negative {
+            last.saturating_sub(place)
+        } else {
+            place
+        };
+        let code = if negative {
+            index.saturating_add(count)
+        } else {
+            index
+        };
         write_point(grid, code, index, negative, out)?;
         if code == grid.lower && code != grid.upper {
             write_between(out)?;
