@@ -17,7 +17,9 @@ mod mx_scales;
 mod theorems;
 
 pub use counts::Counts;
-pub use elements::ElementFormat;
+pub use elements::{ElementFormat, quotient_code};
 pub use errors::BlockError;
-pub use mx::{BLOCK, Block, dequantize_block, quantize_block};
+pub use magnitudes::greater;
+pub use mx::{BLOCK, Block, dequantize_block, quantize_block, scaled};
+pub use mx_scales::{power_of, scale_for};
 pub use theorems::{dequantized_blocks_have_one_answer, quantized_blocks_have_one_answer};

@@ -139,7 +139,7 @@ pub(crate) fn are_narrow(bits: u32, codes: &[u8]) -> bool
 }
 
 /// An element times the scale with that code, rounded once.
-fn scaled<G: Flagged>(
+pub fn scaled<G: Flagged>(
     element: ElementFormat,
     scale: u8,
     code: u8,
