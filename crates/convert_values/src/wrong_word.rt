@@ -1,31 +1,11 @@
 //! Which word of a command line is wrong.
 
-use commands::{MODES, WrongWord};
+use commands::{FORMATS, MODES, WrongWord, suggested};
 use formats_at_run_time::{BuiltInKind, mode_named};
 use storage_arrays::StoredFormat;
 
-/// The formats of streams: those that are built in, and storage formats.
-static FORMATS: &[&str] = &[
-    "half",
-    "single",
-    "double",
-    "quad",
-    "bfloat",
-    "e5m2",
-    "e4m3fn",
-    "e4m3fnuz",
-    "x87",
-    "e4m3",
-    "e5m2fnuz",
-    "e4m3b11fnuz",
-    "tf32",
-    "e2m1fn",
-    "e2m3fn",
-    "e3m2fn",
-    "e3m4",
-    "e8m0fnu",
-    "ue4m3",
-];
+/// The storage formats.
+static STORED: &[&str] = &["e2m1fn", "e2m3fn", "e3m2fn", "e3m4", "e8m0fnu", "ue4m3"];
 
 /// The options before a format.
 static OPTIONS: &[&str] = &[
@@ -88,13 +68,13 @@ fn wrong_name(names: &[String]) -> Option<WrongWord<'_>> {
         Some(WrongWord {
             fault,
             word: source.as_str(),
-            known: FORMATS,
+            known: formats_near(source.as_str()),
         })
     } else if !is_format(target.as_str()) {
         Some(WrongWord {
             fault,
             word: target.as_str(),
-            known: FORMATS,
+            known: formats_near(target.as_str()),
         })
     } else if mode_named(mode.as_str()).is_none() {
         Some(WrongWord {
@@ -104,6 +84,15 @@ fn wrong_name(names: &[String]) -> Option<WrongWord<'_>> {
         })
     } else {
         None
+    }
+}
+
+/// The formats among which the one is that was meant, if one is one edit away.
+fn formats_near(word: &str) -> &'static [&'static str] {
+    if suggested(word, FORMATS).is_some() {
+        FORMATS
+    } else {
+        STORED
     }
 }
 

@@ -1,0 +1,4 @@
+pub mod Lengths
+pub mod Values
+pub mod Quantized
+pub mod Dequantized
