@@ -1,6 +1,6 @@
 //! Arrays of values out of blocks.
 
-ghost use Rattle.std.specs.Prelude.{◌≡◌, ◌*◌, ◌^◌, ◌<◌, ◌≤◌, All, length};
+ghost use Rattle.std.specs.Prelude.{◌≡◌, ◌*◌, ◌^◌, ◌<◌, ◌≤◌, All, Ok, length};
 ghost use Rattle.rustc_apfloat.specs.FlaggedTypes.{constants_of};
 ghost use Rattle.array_conversions.specs.Calls.{at_format};
 ghost use Rattle.formats_at_run_time.specs.FlaggedKinds.{flagged_constants};
@@ -52,9 +52,26 @@ impl Dequantization {
             IsDequantizedArray self blocks scales.now codes.now values.old values.new result }
     {
         let width = width(self.target.built_in(), Extended::Packed);
-        if let Err(error) = blocks_of(self.length, width, values.len(), scales.len(), codes.len()) {
-            return Err(error);
+        match blocks_of(self.length, width, values.len(), scales.len(), codes.len()) {
+            Err(error) => Err(error),
+            Ok(_) => self.dequantize_each(width, scales, codes, values),
         }
+    }
+
+    /// The same with these lengths.
+    fn dequantize_each(
+        self,
+        width: usize,
+        scales: &[u8],
+        codes: &[u8],
+        values: &mut [u8],
+    ) -> Result<Counts, ArrayError>
+        requires width { width ≡ width_out self }
+        requires codes { length codes.now ≡ length scales.now * self.length }
+        requires values { length values.old ≡ length codes.now * width }
+        ensures { IsDequantizedArray self (Ok (length scales.now)) scales.now codes.now values.old
+            values.new result }
+    {
         if !are_narrow(self.element.bits(), codes) {
             return Err(ArrayError::CodeTooWide);
         }

@@ -92,6 +92,7 @@ impl Quantization {
         codes: &mut [u8],
     ) -> Counts
         requires width { width ≡ width_in self }
+        requires least { 1 ≤ width }
         requires few { width ≤ 16 }
         requires values { length values.now ≡ blocks * self.length * width }
         requires scales { length scales.old ≡ blocks }
@@ -111,6 +112,7 @@ impl Quantization {
 
     /// Quantizes the block whose first value has that index.
     fn quantize_one(self, width: usize, first: usize, values: &[u8], codes: &mut [u8]) -> Block
+        requires least { 1 ≤ width }
         requires few { width ≤ 16 }
         requires within { (first + length codes.old) * width ≤ length values.now }
         ensures { let c = constants_in self.source in
@@ -150,6 +152,7 @@ impl Quantization {
         values: &[u8],
         codes: &mut [u8],
     ) -> ElementCounts
+        requires least { 1 ≤ width }
         requires few { width ≤ 16 }
         requires within { (first + length codes.old) * width ≤ length values.now }
         requires scale { scale ≤ largest_code }

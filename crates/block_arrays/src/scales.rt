@@ -28,7 +28,9 @@ fn greatest_of<S: Semantics>(
     count: usize,
     bytes: &[u8],
 ) -> Option<IeeeFloat<S>>
-    requires width { width ≤ 16 }
+    requires read { S.PRECISION < S.BITS }
+    requires least { 1 ≤ width }
+    requires few { width ≤ 16 }
     requires within { (first + count) * width ≤ length bytes.now }
     ensures { let xs = values_in (constants_of S.Semantics) width bytes.now first count in
         MatchOption result
@@ -60,7 +62,8 @@ pub(crate) struct ScaleCall<'a> {
 impl InFormat for ScaleCall<'_> {
     type Output = Option<u8>;
 
-    ghost can = { λ it kind. (it.width ≤ 16) × ((it.first + it.count) * it.width ≤ length it.bytes.now) };
+    ghost can = { λ it kind. (1 ≤ it.width) × (it.width ≤ 16)
+        × ((it.first + it.count) * it.width ≤ length it.bytes.now) };
 
     ghost gives = { λ it kind chosen. IfFormat kind
         (λ c. let xs = values_in c it.width it.bytes.now it.first it.count in

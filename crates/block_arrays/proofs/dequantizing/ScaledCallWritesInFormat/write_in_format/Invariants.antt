@@ -7,5 +7,5 @@ use Rattle.block_arrays.proofs.dequantizing.ScaledCallWritesInFormat.write_in_fo
 -- the values before the index
 abbrev pub invariant-loop-index : goal.invariant-loop-index
 invariant-loop-index g l =
-    AreScaled l.self.dequantization (constants_of g.T.Flagged) l.self.width l.self.scales l.self.codes l.index l.bytes
-    l.counts
+    AreScaled l.self.dequantization (constants_of g.T.Flagged) l.self.width l.self.scales.now l.self.codes.now l.index
+    l.bytes l.counts
