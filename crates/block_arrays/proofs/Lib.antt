@@ -2,3 +2,4 @@ mod Fitting
 mod Listed
 mod Made
 mod Scaled
+mod OneArray

@@ -18,7 +18,7 @@ use Rattle.block_formats.specs.declared.ElementFormat.{ElementFormat}
 use Rattle.block_formats.specs.Elements.{width}
 use Rattle.block_formats.specs.MxBlocks.{IsScaled}
 use Rattle.block_arrays.specs.declared.errors.ArrayError.{ArrayError}
-use Rattle.block_arrays.specs.declared.errors.ArrayError.TheVariants.{EmptyBlock, Uneven, Lengths, CodeTooWide}
+use Rattle.block_arrays.specs.declared.errors.ArrayError.TheVariants.{CodeTooWide}
 use Rattle.block_arrays.specs.declared.dequantizing.Dequantization.{Dequantization}
 
 -- how many bytes a value takes

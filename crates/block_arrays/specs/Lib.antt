@@ -2,3 +2,4 @@ pub mod Lengths
 pub mod Values
 pub mod Quantized
 pub mod Dequantized
+pub mod OneArray

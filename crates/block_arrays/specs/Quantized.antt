@@ -1,5 +1,5 @@
 -- Arrays quantized to blocks.
-use Rattle.std.specs.Prelude.{◌≡◌, ℕ, ◌*◌, Bool, if◌then◌else◌, List, [], ◌∷◌, map, Result, Ok, Err}
+use Rattle.std.specs.Prelude.{◌≡◌, ℕ, ◌*◌, if◌then◌else◌, List, [], ◌∷◌, map, Result, Ok, Err}
 use Rattle.rustc_apfloat.specs.Lawful.{format_with}
 use Rattle.formats_at_run_time.specs.BuiltIns.{constants_in}
 use Rattle.array_conversions.specs.declared.counts.Counts.{Counts}

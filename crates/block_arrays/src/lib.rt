@@ -10,8 +10,10 @@ mod errors;
 mod lengths;
 mod quantizing;
 mod scales;
+mod theorems;
 mod values;
 
 pub use dequantizing::Dequantization;
 pub use errors::ArrayError;
 pub use quantizing::Quantization;
+pub use theorems::quantized_arrays_have_one_answer;

@@ -1,5 +1,4 @@
-use Rattle.std.proofs.Common.{length, ◌∙◌}
-use Rattle.apfloat_model.proofs.order.PredicatesAgree.{nan_agrees}
+use Rattle.std.proofs.Common.{length}
 use Rattle.array_conversions.proofs.LittleEndian.{fits}
 use Rattle.block_arrays.proofs.dequantizing.write_scaled.Goals as goal
 

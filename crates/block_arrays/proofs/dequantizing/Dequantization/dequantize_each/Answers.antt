@@ -1,4 +1,4 @@
-use Rattle.std.proofs.Common.{◌≡◌, ℕ, ◌*◌, ◌≤◌, refl, sym, subst}
+use Rattle.std.proofs.Common.{ℕ, ◌*◌, ◌≤◌, refl, sym, subst}
 use Rattle.formats_at_run_time.specs.FlaggedKinds.{flagged_constants, format_without_rule}
 use Rattle.array_conversions.specs.declared.widths.Extended.TheVariants.{Packed}
 use Rattle.array_conversions.specs.Widths.{width_of}

@@ -1,6 +1,4 @@
-use Rattle.std.proofs.Common.{◌≡◌}
 use Rattle.rustc_apfloat.specs.FlaggedTypes.{constants_of}
-use Rattle.array_conversions.specs.declared.counts.Counts.{Counts}
 use Rattle.block_arrays.proofs.Scaled.{AreScaled}
 use Rattle.block_arrays.proofs.dequantizing.ScaledCallWritesInFormat.write_in_format.Given as goal
 

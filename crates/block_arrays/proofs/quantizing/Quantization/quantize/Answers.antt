@@ -1,4 +1,4 @@
-use Rattle.std.proofs.Common.{◌≡◌, ℕ, ◌*◌, length, refl, ap, sym, ◌∙◌, subst}
+use Rattle.std.proofs.Common.{ℕ, ◌*◌, length, refl, ap, sym, ◌∙◌, subst}
 use Rattle.std.specs.Prelude.{Result, Ok, Err}
 use Rattle.block_arrays.specs.declared.errors.ArrayError.{ArrayError}
 use Rattle.block_arrays.specs.Lengths.{blocks_of}

@@ -1,4 +1,4 @@
-use Rattle.std.proofs.Common.{◌≡◌, ℕ, ◌^◌, length}
+use Rattle.std.proofs.Common.{◌^◌, length}
 use Rattle.rustc_apfloat.specs.Lawful.{format_with}
 use Rattle.storage_formats.specs.Scales.{scale_format}
 use Rattle.formats_at_run_time.specs.BuiltIns.{constants_in}
