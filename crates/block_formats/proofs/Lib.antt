@@ -1,13 +1,13 @@
 mod SameFractions
 mod Quotients
 mod Products
-mod Places
-mod Greatest
+pub mod Places
+pub mod Greatest
 mod ScaleCodes
 mod Tops
 mod Halves
-mod Powers
-mod Fractions
+pub mod Powers
+pub mod Fractions
 mod Counted
 mod ElementsOnce
 mod PlacesOnce

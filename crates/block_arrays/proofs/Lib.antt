@@ -1,0 +1,5 @@
+mod Fitting
+mod Listed
+mod Made
+mod Scaled
+mod OneArray
