@@ -439,13 +439,13 @@ uint32_t apfloat_map_array(uint32_t format, uint32_t mode, uint32_t operation, c
  * APFLOAT_E4M3FN, APFLOAT_E3M2FN, APFLOAT_E2M3FN or APFLOAT_E2M1FN; other formats of elements are unknown. A scale and
  * a code of an element take a byte each. APFLOAT_WRONG_LENGTH says that `length` is 0 or does not divide the number of
  * values, that the values end inside one, or that there are not exactly as many codes as values and as many scales as
- * blocks. Nothing is written with an error. */
+ * blocks. Nothing is written with an error. What is said of `results` above holds of all that a call writes. */
 
 /* The scale of each block of `values`, and the codes of its elements: the scale is 2 to the power of the greatest
  * exponent of the block less that of the largest number of the element format, clamped to the scales that there are,
  * and that of zeros is the least one. An element is the exact quotient by the scale, rounded once, and the largest
  * number of its sign in place of what is past it. A block with an infinity or a NaN has the scale that is a NaN, and
- * zeros; `nans` counts its values. No format of a value may be APFLOAT_DOUBLE_PAIR (APFLOAT_NO_SUCH_OPERATION). */
+ * zeros; `nans` counts its values. There are no blocks of APFLOAT_DOUBLE_PAIR (APFLOAT_NO_SUCH_OPERATION). */
 uint32_t apfloat_quantize_blocks(uint32_t format, uint32_t mode, uint32_t element, size_t length,
                                  const uint8_t *values, size_t values_length, uint8_t *scales, size_t scales_length,
                                  uint8_t *codes, size_t codes_length, apfloat_array_answer *answer);

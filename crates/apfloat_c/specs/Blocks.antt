@@ -54,11 +54,11 @@ quantization_of (OfFormat format) round element block =
     Ok (record { source = format_without_rule format; element = element; length = block; round = round })
 quantization_of Pairs round element block = Err no_such_operation
 
--- The faults in their order: the format, the mode, the format of the elements, that there are no blocks of pairs.
+-- The faults in their order: both formats, the mode, that there are no blocks of pairs.
 abbrev pub known_quantization : Option FlaggedKind → Option Round → Option ElementFormat → ℕ → Result Quantization ℕ
 known_quantization kind mode element block =
-    ok_or kind unknown_format >>= λ known. ok_or mode unknown_mode >>= λ round.
-    ok_or element unknown_format >>= λ elements. quantization_of known round elements block
+    ok_or kind unknown_format >>= λ known. ok_or element unknown_format >>= λ elements.
+    ok_or mode unknown_mode >>= λ round. quantization_of known round elements block
 
 abbrev pub dequantization_of : ElementFormat → Round → FlaggedKind → ℕ → Result Dequantization ℕ
 dequantization_of element round (OfFormat format) block =
@@ -68,8 +68,8 @@ dequantization_of element round Pairs block = Err no_such_operation
 abbrev pub known_dequantization : Option ElementFormat → Option Round → Option FlaggedKind → ℕ
     → Result Dequantization ℕ
 known_dequantization element mode kind block =
-    ok_or element unknown_format >>= λ elements. ok_or mode unknown_mode >>= λ round.
-    ok_or kind unknown_format >>= λ known. dequantization_of elements round known block
+    ok_or element unknown_format >>= λ elements. ok_or kind unknown_format >>= λ known.
+    ok_or mode unknown_mode >>= λ round. dequantization_of elements round known block
 
 -- ---- what a call leaves
 

@@ -67,11 +67,11 @@ fn known_quantization(
     let Some(kind) = kind else {
         return Err(UNKNOWN_FORMAT);
     };
-    let Some(round) = mode else {
-        return Err(UNKNOWN_MODE);
-    };
     let Some(element) = element else {
         return Err(UNKNOWN_FORMAT);
+    };
+    let Some(round) = mode else {
+        return Err(UNKNOWN_MODE);
     };
     match kind {
         FlaggedKind::OfFormat(format) => Ok(Quantization {
@@ -96,11 +96,11 @@ fn known_dequantization(
     let Some(element) = element else {
         return Err(UNKNOWN_FORMAT);
     };
-    let Some(round) = mode else {
-        return Err(UNKNOWN_MODE);
-    };
     let Some(kind) = kind else {
         return Err(UNKNOWN_FORMAT);
+    };
+    let Some(round) = mode else {
+        return Err(UNKNOWN_MODE);
     };
     match kind {
         FlaggedKind::OfFormat(target) => Ok(Dequantization {

@@ -2,4 +2,5 @@ mod Fitting
 mod Listed
 mod Made
 mod Scaled
-mod OneArray
+pub mod FormatLaws
+pub mod OneArray

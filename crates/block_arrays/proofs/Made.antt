@@ -8,7 +8,6 @@ use Rattle.array_conversions.specs.Blocks.{AreInPlaces}
 use Rattle.array_conversions.specs.Outcomes.{sum_of}
 use Rattle.array_conversions.proofs.Places.{places_more, places_none}
 use Rattle.block_formats.specs.declared.mx.Block.{Block}
-use Rattle.block_formats.specs.Places.{count_raised, counts_of}
 use Rattle.block_arrays.specs.declared.quantizing.Quantization.{Quantization}
 use Rattle.block_arrays.specs.Quantized.{IsBlockOf, counts_with, no_counts, total_of}
 
@@ -54,17 +53,3 @@ made_more q values index count scales codes new counts block before many all siz
   counted = ap (λ (k : Counts). sum_of k (counts_with q.length block)) so_far.counted
       ∙ sym (total_push q.length no_counts so_far.blocks block);
 }
-
--- an element without flags changes no count
-no_flag : (flags : List ℕ) → counts_of flags ≡ counts_of (0 ∷ flags)
-no_flag flags =
-    let invalid : count_raised 1 flags ≡ count_raised 1 (0 ∷ flags) = omega arith in
-    let overflow : count_raised 4 flags ≡ count_raised 4 (0 ∷ flags) = omega arith in
-    let underflow : count_raised 8 flags ≡ count_raised 8 (0 ∷ flags) = omega arith in
-    let inexact : count_raised 16 flags ≡ count_raised 16 (0 ∷ flags) = omega arith in
-    cc
-
-pub none_raised : (n : ℕ)
-    → record { invalid = 0; overflow = 0; underflow = 0; inexact = 0 } ≡ counts_of (replicate n 0)
-none_raised zero = refl
-none_raised (suc n) = none_raised n ∙ no_flag (replicate n 0)

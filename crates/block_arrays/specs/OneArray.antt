@@ -3,7 +3,9 @@ use Rattle.std.specs.Prelude.{◌≡◌, ℕ, List, length, Result}
 use Rattle.array_conversions.specs.declared.counts.Counts.{Counts}
 use Rattle.array_conversions.specs.Bytes.{AreBytes}
 use Rattle.block_arrays.specs.declared.errors.ArrayError.{ArrayError}
+use Rattle.block_arrays.specs.declared.dequantizing.Dequantization.{Dequantization}
 use Rattle.block_arrays.specs.declared.quantizing.Quantization.{Quantization}
+use Rattle.block_arrays.specs.Dequantized.{IsDequantizedArray, width_out}
 use Rattle.block_arrays.specs.Lengths.{blocks_of}
 use Rattle.block_arrays.specs.Quantized.{IsQuantizedArray, width_in}
 
@@ -22,3 +24,14 @@ IsQuantizedArrayOnce =
     → IsQuantizedArray q (blocks_of q.length (width_in q) (length values) (length before) (length old)) values before
     other_scales old other reply
     → (scales ≡ other_scales) × (codes ≡ other) × (answer ≡ reply)
+
+-- the values and the answer
+abbrev pub IsDequantizedArrayOnce : Type 0
+IsDequantizedArrayOnce =
+    (q : Dequantization) (scales codes before after other : List ℕ) (answer reply : Result Counts ArrayError)
+    → AreLeftIn before after → AreLeftIn before other
+    → IsDequantizedArray q (blocks_of q.length (width_out q) (length before) (length scales) (length codes)) scales
+    codes before after answer
+    → IsDequantizedArray q (blocks_of q.length (width_out q) (length before) (length scales) (length codes)) scales
+    codes before other reply
+    → (after ≡ other) × (answer ≡ reply)

@@ -16,4 +16,4 @@ mod values;
 pub use dequantizing::Dequantization;
 pub use errors::ArrayError;
 pub use quantizing::Quantization;
-pub use theorems::quantized_arrays_have_one_answer;
+pub use theorems::{dequantized_arrays_have_one_answer, quantized_arrays_have_one_answer};

@@ -8,10 +8,10 @@ mod Tops
 mod Halves
 pub mod Powers
 pub mod Fractions
-mod Counted
+pub mod Counted
 mod ElementsOnce
 mod PlacesOnce
-mod OneBlock
+pub mod OneBlock
 mod ExactProducts
 mod JointScales
 mod NvScales

@@ -2,4 +2,4 @@ use Rattle.block_arrays.proofs.OneArray.{quantized_once}
 use Rattle.block_arrays.proofs.theorems.quantized_arrays_have_one_answer.Goals as goal
 
 pub returns : goal.returns
-returns c = quantized_once c.quantized_blocks_have_one_answer.ensures
+returns c = quantized_once

@@ -2,7 +2,7 @@ use Rattle.std.proofs.Common.{ℕ, length, replicate, refl, ap, sym, ◌∙◌}
 use Rattle.apfloat_model.proofs.general.Choices.{match_false, match_true}
 use Rattle.formats_at_run_time.specs.BuiltIns.{constants_in}
 use Rattle.block_arrays.proofs.Listed.{values_length}
-use Rattle.block_arrays.proofs.Made.{none_raised}
+use Rattle.block_formats.proofs.Counted.{none_counted}
 use Rattle.block_arrays.proofs.quantizing.Quantization.quantize_one.Goals as goal
 
 pub run-requires : goal.run-requires
@@ -17,7 +17,7 @@ returns-in-None c =
     (record {
       scale_is = refl;
       codes_are = c.fill.ensures.after (λ y e. e) ∙ ap (λ (n : ℕ). replicate n 0) (sym many);
-      counted = none_raised _;
+      counted = none_counted _;
       finite_is = refl;
     })
 
