@@ -405,7 +405,7 @@ void check_blocks() {
 
     std::vector<value<e4m3fn>> elements(count);
     CHECK(quantize_blocks(values.data(), 4, 2, scales.data(), elements.data(), rounding::upward)->inexact == 0);
-    CHECK(scales[0].bits() == 121 && scales[1].bits() == 121 && elements[0] == value<e4m3fn>(448));
+    CHECK(scales[0].bits() == 121 && scales[1].bits() == 121 && elements[0].bits() == 0x7e);
 
     CHECK(quantize_blocks(values.data(), 4, 0, scales.data(), codes.data()).error() == errc::wrong_length);
     CHECK(quantize_blocks(values.data(), 4, 3, scales.data(), codes.data()).error() == errc::wrong_length);
