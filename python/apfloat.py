@@ -2160,7 +2160,9 @@ class mx:
 
 def _element_of(of: Any) -> Any:
     """The element format that is given, or that has this name."""
-    made = {'e5m2': e5m2, 'e4m3': e4m3fn, 'e3m2': float6_e3m2fn, 'e2m3': float6_e2m3fn, 'e2m1': float4_e2m1fn}
+    made: dict[str, Any] = {
+        'e5m2': e5m2, 'e4m3': e4m3fn, 'e3m2': float6_e3m2fn, 'e2m3': float6_e2m3fn, 'e2m1': float4_e2m1fn,
+    }
     for short, format in made.items():
         if of is format or isinstance(of, str) and of in (short, short + 'fn', format.name, _NAMES_IN_BLOCKS[short]):
             return format
