@@ -1,5 +1,6 @@
 -- A call on blocks leaves one code, and determines what it writes.
-use Rattle.std.proofs.Common.{◌≡◌, ℕ, ◌*◌, ◌%◌, ◌^◌, ◌<◌, List, [], ◌∷◌, length, Option, Some, None, Ok, Err, refl, sym, ap}
+use Rattle.std.proofs.Common.{◌≡◌, ℕ, ◌*◌, ◌%◌, ◌^◌, ◌<◌, List, [], ◌∷◌, length, Option}
+use Rattle.std.proofs.Common.{Some, None, Ok, Err, refl, sym, ap}
 use Rattle.std.proofs.Common.{◌∙◌, subst, arith, lit≤}
 use Rattle.std.specs.Prelude.{⊤, All, Result}
 use Rattle.array_conversions.specs.declared.Counts.{Counts}
@@ -94,9 +95,10 @@ kept_size : (bits codes : ℕ) (old new : List ℕ) → length new ≡ length ol
     → 8 * length old ≡ bits * codes
 kept_size bits codes old new size same = ap (λ (n : ℕ). 8 * n) (sym size) ∙ same
 
-packed_once : ArePackedOnce → (bits group : ℕ) (codes old first second : List ℕ) (made again : Result ⊤ PackingError)
-    → FillGroups bits group → IsLeftIn old first → IsLeftIn old second → IsPackedBy bits group codes old first made
-    → IsPackedBy bits group codes old second again → (first ≡ second) × (made ≡ again)
+packed_once : ArePackedOnce → (bits group : ℕ) (codes old first second : List ℕ)
+    (made again : Result ⊤ PackingError) → FillGroups bits group → IsLeftIn old first → IsLeftIn old second
+    → IsPackedBy bits group codes old first made → IsPackedBy bits group codes old second again
+    → (first ≡ second) × (made ≡ again)
 packed_once once bits group codes old first second (Ok d) (Ok e) fill a b x y =
     (once.bytes bits codes first second (all_bytes first a.are_bytes) (all_bytes second b.are_bytes) x y, refl)
 packed_once once bits group codes old first second (Ok d) (Err Uneven) fill a b x y =

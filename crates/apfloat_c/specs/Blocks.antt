@@ -1,5 +1,6 @@
 -- Calls on arrays in blocks with a common scale.
-use Rattle.std.specs.Prelude.{◌≡◌, ℕ, ◌==◌, ⊤, if◌then◌else◌, List, length, Option, Some, None, ok_or}
+use Rattle.std.specs.Prelude.{◌≡◌, ℕ, ◌==◌, ⊤, if◌then◌else◌, List, length, Option, Some, None}
+use Rattle.std.specs.Prelude.{ok_or}
 use Rattle.std.specs.Prelude.{Result, Ok, Err}
 use Rattle.rustc_apfloat.specs.declared.Round.{Round}
 use Rattle.formats_at_run_time.specs.declared.FlaggedKind.{FlaggedKind}
@@ -55,7 +56,8 @@ quantization_of (OfFormat format) round element block =
 quantization_of Pairs round element block = Err no_such_operation
 
 -- The faults in their order: both formats, the mode, that there are no blocks of pairs.
-abbrev pub known_quantization : Option FlaggedKind → Option Round → Option ElementFormat → ℕ → Result Quantization ℕ
+abbrev pub known_quantization : Option FlaggedKind → Option Round → Option ElementFormat → ℕ
+    → Result Quantization ℕ
 known_quantization kind mode element block =
     ok_or kind unknown_format >>= λ known. ok_or element unknown_format >>= λ elements.
     ok_or mode unknown_mode >>= λ round. quantization_of known round elements block
@@ -86,8 +88,8 @@ pub record IsQuantizedReply (q : Quantization) (values before scales old codes :
       values before scales old codes made
   pub is_reply : IsReply made answer reply code
 
-abbrev pub IsQuantizedCall : Result Quantization ℕ → List ℕ → List ℕ → List ℕ → List ℕ → List ℕ → ArrayAnswer
-    → ArrayAnswer → ℕ → Type 0
+abbrev pub IsQuantizedCall : Result Quantization ℕ → List ℕ → List ℕ → List ℕ → List ℕ → List ℕ
+    → ArrayAnswer → ArrayAnswer → ℕ → Type 0
 IsQuantizedCall (Ok q) values before scales old codes answer reply code =
     IsQuantizedReply q values before scales old codes answer reply code
 IsQuantizedCall (Err error) values before scales old codes answer reply code =
@@ -100,8 +102,8 @@ pub record IsDequantizedReply (q : Dequantization) (scales codes before after : 
       scales codes before after made
   pub is_reply : IsReply made answer reply code
 
-abbrev pub IsDequantizedCall : Result Dequantization ℕ → List ℕ → List ℕ → List ℕ → List ℕ → ArrayAnswer
-    → ArrayAnswer → ℕ → Type 0
+abbrev pub IsDequantizedCall : Result Dequantization ℕ → List ℕ → List ℕ → List ℕ → List ℕ
+    → ArrayAnswer → ArrayAnswer → ℕ → Type 0
 IsDequantizedCall (Ok q) scales codes before after answer reply code =
     IsDequantizedReply q scales codes before after answer reply code
 IsDequantizedCall (Err error) scales codes before after answer reply code =

@@ -1,5 +1,7 @@
 -- Lengths that fit.
-use Rattle.std.proofs.Common.{◌≡◌, ℕ, ◌+◌, ◌*◌, ◌/◌, ◌%◌, ◌<◌, ◌≤◌, ◌==◌, ◌&&◌, Bool, true, false, if◌then◌else◌, refl, sym, ap, ◌∙◌, arith, zero, suc}
+use Rattle.std.proofs.Common.{◌≡◌, ℕ, ◌+◌, ◌*◌, ◌/◌, ◌%◌, ◌<◌, ◌≤◌, ◌==◌}
+use Rattle.std.proofs.Common.{◌&&◌, Bool, true, false, if◌then◌else◌, refl, sym, ap, ◌∙◌, arith, zero}
+use Rattle.std.proofs.Common.{suc}
 use Rattle.std.specs.Prelude.{Result, Ok, Err}
 use Rattle.std.proofs.Math.Nat.{le-mul_of_pos_right, mod-add-div, mul-le-mul_right, mul_comm}
 use Rattle.std.proofs.lemmas.Bool.{and_parts, eqb-false, eqb-true}
@@ -18,8 +20,8 @@ value_within first index count width size before within =
     omega (arith, below, within)
 
 -- and its index is less than their number
-pub index_within : (first index count width size : ℕ) → index < count → 1 ≤ width → (first + count) * width ≤ size
-    → first + index < size
+pub index_within : (first index count width size : ℕ) → index < count → 1 ≤ width
+    → (first + count) * width ≤ size → first + index < size
 index_within first index count width size before some within =
     let value = value_within first index count width size before within in
     let at = le-mul_of_pos_right {m = width} (first + index) (omega (arith, some)) in

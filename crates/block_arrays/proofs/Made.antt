@@ -1,5 +1,6 @@
 -- Blocks that are made one after another.
-use Rattle.std.proofs.Common.{◌≡◌, ℕ, zero, suc, ◌+◌, ◌-◌, ◌*◌, ◌<◌, replicate, refl, sym, ap, ◌∙◌, arith, List, [], ◌∷◌, ◌++◌, length, take}
+use Rattle.std.proofs.Common.{◌≡◌, ℕ, zero, suc, ◌+◌, ◌-◌, ◌*◌, ◌<◌, refl, sym, ap}
+use Rattle.std.proofs.Common.{◌∙◌, arith, List, [], ◌∷◌, ◌++◌, length, take}
 use Rattle.std.specs.Prelude.{map, slice_set}
 use Rattle.std.proofs.lemmas.List.{map-append, take_more_set}
 use borrow.Rule.Slice.PartMut.{put_mid}
@@ -31,14 +32,15 @@ made_none q values scales codes = record {
 }
 
 total_push : (length : ℕ) (before : Counts) (blocks : List Block) (block : Block)
-    → total_of length before (blocks ++ block ∷ []) ≡ sum_of (total_of length before blocks) (counts_with length block)
+    → total_of length before (blocks ++ block ∷ [])
+    ≡ sum_of (total_of length before blocks) (counts_with length block)
 total_push length before [] block = refl
 total_push length before (first ∷ blocks) block =
     total_push length (sum_of before (counts_with length first)) blocks block
 
 -- one more block
-pub made_more : (q : Quantization) (values : List ℕ) (index count : ℕ) (scales codes new : List ℕ) (counts : Counts)
-    (block : Block) → index < count → length scales ≡ count → length codes ≡ count * q.length
+pub made_more : (q : Quantization) (values : List ℕ) (index count : ℕ) (scales codes new : List ℕ)
+    (counts : Counts) (block : Block) → index < count → length scales ≡ count → length codes ≡ count * q.length
     → length new ≡ q.length → IsBlockOf q values index new block → AreMade q values index scales codes counts
     → AreMade q values (index + 1) (slice_set scales index block.scale)
     (put_mid (index * q.length) (index * q.length + q.length - index * q.length) codes new)

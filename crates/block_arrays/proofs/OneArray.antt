@@ -1,5 +1,6 @@
 -- Arrays in blocks have one answer.
-use Rattle.std.proofs.Common.{◌≡◌, ℕ, ◌*◌, ◌^◌, ◌≤◌, List, length, take, refl, sym, ap, ◌∙◌, subst, arith}
+use Rattle.std.proofs.Common.{◌≡◌, ℕ, ◌*◌, ◌^◌, ◌≤◌, List, length, take, refl, sym, ap, ◌∙◌}
+use Rattle.std.proofs.Common.{subst, arith}
 use Rattle.std.specs.Prelude.{map, Result, Ok, Err}
 use Rattle.std.proofs.lemmas.List.{take_all}
 use Rattle.rustc_apfloat.specs.declared.Round.{Round}
@@ -35,8 +36,8 @@ use Rattle.block_arrays.proofs.Fitting.{fitting}
 use Rattle.block_arrays.proofs.FormatLaws.{HasLaw, format_law}
 
 -- bytes that are all determined are equal
-whole_once : (width count : ℕ) (before after other : List ℕ) → length before ≡ count * width → AreLeftIn before after
-    → AreLeftIn before other → take (count * width) after ≡ take (count * width) other → after ≡ other
+whole_once : (width count : ℕ) (before after other : List ℕ) → length before ≡ count * width
+    → AreLeftIn before after → AreLeftIn before other → take (count * width) after ≡ take (count * width) other → after ≡ other
 whole_once width count before after other size a b same =
     let one = a.size in
     let two = b.size in
@@ -125,7 +126,8 @@ values_once q d width scales codes before after other counts more has size a b x
 dequantized_by : (q : Dequantization) (scales codes before after other : List ℕ) (known : Result ℕ ArrayError)
     (answer reply : Result Counts ArrayError)
     → ((count : ℕ) → known ≡ Ok count → length before ≡ length codes * width_out q)
-    → AreLeftIn before after → AreLeftIn before other → IsDequantizedArray q known scales codes before after answer
+    → AreLeftIn before after → AreLeftIn before other
+    → IsDequantizedArray q known scales codes before after answer
     → IsDequantizedArray q known scales codes before other reply → (after ≡ other) × (answer ≡ reply)
 dequantized_by q scales codes before after other (Ok count) (Ok counts) (Ok more) fits a b x y =
     let same = values_once q (flagged_constants q.target) (width_out q) scales codes before after other counts more

@@ -1,5 +1,6 @@
 -- Arrays of values out of blocks.
-use Rattle.std.specs.Prelude.{◌≡◌, ℕ, ◌/◌, ◌^◌, ◌<◌, ◌≤◌, get_or, List, length, All, Any, Result, Ok, Err}
+use Rattle.std.specs.Prelude.{◌≡◌, ℕ, ◌/◌, ◌^◌, ◌<◌, ◌≤◌, get_or, List, length, All, Any}
+use Rattle.std.specs.Prelude.{Result, Ok, Err}
 use Rattle.rustc_apfloat.specs.declared.Round.{Round}
 use Rattle.rustc_apfloat.specs.Classes.{is_nan}
 use Rattle.rustc_apfloat.specs.Datum.{Datum}
@@ -34,7 +35,8 @@ pub record IsScaledCode (element : ElementFormat) (d : Constants) (mode : Round)
   pub nan_is : outcome.is_nan ≡ is_nan value
 
 -- the element with that index, and the scale of its block
-abbrev pub IsScaledAt : Dequantization → Constants → List ℕ → List ℕ → ℕ → List ℕ → Outcome → Type 0
+abbrev pub IsScaledAt : Dequantization → Constants → List ℕ → List ℕ → ℕ → List ℕ → Outcome
+    → Type 0
 IsScaledAt q d scales codes index bytes outcome =
     IsScaledCode q.element d q.round (get_or scales (index / q.length) 0) (get_or codes index 0) bytes outcome
 
@@ -46,8 +48,8 @@ pub record AreDequantized (q : Dequantization) (d : Constants) (width : ℕ) (sc
   pub counted : counts ≡ counts_of outcomes
 
 -- the values before and after the call; nothing is written with an error
-abbrev pub IsDequantizedArray : Dequantization → Result ℕ ArrayError → List ℕ → List ℕ → List ℕ → List ℕ
-    → Result Counts ArrayError → Type 0
+abbrev pub IsDequantizedArray : Dequantization → Result ℕ ArrayError → List ℕ → List ℕ → List ℕ
+    → List ℕ → Result Counts ArrayError → Type 0
 IsDequantizedArray q (Ok count) scales codes before after (Ok counts) =
     All (λ code. code < 2 ^ width q.element) codes
     × AreDequantized q (flagged_constants q.target) (width_out q) scales codes after counts

@@ -52,9 +52,10 @@ pub record AreQuantized (q : Quantization) (values : List ℕ) (count : ℕ) (sc
   pub counted : counts ≡ total_of q.length no_counts blocks
 
 -- the scales and codes before and after the call; nothing is written with an error
-abbrev pub IsQuantizedArray : Quantization → Result ℕ ArrayError → List ℕ → List ℕ → List ℕ → List ℕ → List ℕ
-    → Result Counts ArrayError → Type 0
-IsQuantizedArray q (Ok count) values before scales old codes (Ok counts) = AreQuantized q values count scales codes counts
+abbrev pub IsQuantizedArray : Quantization → Result ℕ ArrayError → List ℕ → List ℕ → List ℕ → List ℕ
+    → List ℕ → Result Counts ArrayError → Type 0
+IsQuantizedArray q (Ok count) values before scales old codes (Ok counts) =
+    AreQuantized q values count scales codes counts
 IsQuantizedArray q (Err error) values before scales old codes (Err other) =
     (other ≡ error) × (scales ≡ before) × (codes ≡ old)
 IsQuantizedArray q (Ok count) values before scales old codes (Err other) = ⊥

@@ -1,5 +1,6 @@
 use Rattle.apfloat_c.proofs.ArraysOnce.{converted_array_once, mapped_array_once}
-use Rattle.apfloat_c.proofs.BlocksOnce.{dequantized_call_once, packed_call_once, quantized_call_once, unpacked_call_once}
+use Rattle.apfloat_c.proofs.BlocksOnce.{dequantized_call_once, packed_call_once, quantized_call_once}
+use Rattle.apfloat_c.proofs.BlocksOnce.{unpacked_call_once}
 use Rattle.apfloat_c.proofs.ExportsOnce.{reply_once}
 use Rattle.apfloat_c.proofs.FlaglessOnce.{flagless_reply_once}
 use Rattle.apfloat_c.proofs.IeeeOnce.{EachHasOne, ieee_reply_once, in_another_reply_once}

@@ -1,4 +1,5 @@
-use Rattle.std.proofs.Common.{◌≡◌, ℕ, ◌+◌, List, ◌∷◌, [], ◌++◌, length, true, false, max, Some, ap, sym, ◌∙◌, refl, subst, arith}
+use Rattle.std.proofs.Common.{◌≡◌, ℕ, ◌+◌, List, ◌∷◌, [], ◌++◌, length, true, false, max, Some}
+use Rattle.std.proofs.Common.{ap, sym, ◌∙◌, refl, subst, arith}
 use Rattle.rustc_apfloat.specs.Datum.{Datum, finite}
 use Rattle.rustc_apfloat.specs.Types.{constants_of, format_of}
 use Rattle.apfloat_model.specs.formats.Members.{IsMember}
@@ -73,7 +74,8 @@ loop-index-preserved g c =
 pub returns : goal.returns
 returns g c =
     let k = constants_of g.S.Semantics in
-    let last : c.loop-index.index ≡ c.args.count = omega (arith, c.loop-index-test.false, c.loop-index.auto.index-end) in
+    let last : c.loop-index.index ≡ c.args.count =
+    omega (arith, c.loop-index-test.false, c.loop-index.auto.index-end) in
     subst
     (λ (n : ℕ). (are_finite (values_in k c.args.width c.args.bytes.now c.args.first n) ≡ true)
     × (c.loop-index.greatest

@@ -30,8 +30,8 @@ returns-in-Err c =
     ∙ ap (λ (w : ℕ). blocks_of c.args.self.length w (length c.args.values.now) (length c.args.scales.now)
     (length c.args.codes.now)) c.width-width.ensures.is in
     subst
-    (λ (r : Result ℕ ArrayError). IsQuantizedArray c.args.self r c.args.values.now c.args.scales.now c.args.scales.now
-    c.args.codes.now c.args.codes.now (Err c.in-Err.error))
+    (λ (r : Result ℕ ArrayError). IsQuantizedArray c.args.self r c.args.values.now c.args.scales.now
+    c.args.scales.now c.args.codes.now c.args.codes.now (Err c.in-Err.error))
     known (refl, refl, refl)
 
 pub returns-in-Ok : goal.returns-in-Ok

@@ -38,8 +38,8 @@ loop-index-preserved c =
     let long : length part ≡ q.length =
     place_size q.length index c.args.blocks c.loop-index.codes c.loop-index-test.true size in
     let here : IsBlockOf q values index new block =
-    subst (λ (n : ℕ). IsBlock q.element (format_with k) q.round (values_in k (width_in q) values (index * q.length) n)
-    new block) long
+    subst (λ (n : ℕ). IsBlock q.element (format_with k) q.round
+    (values_in k (width_in q) values (index * q.length) n) new block) long
     (subst (λ (w : ℕ). IsBlock q.element (format_with k) q.round
     (values_in k w values (index * q.length) (length part)) new block) c.requires.width
     c.quantize_one-block.ensures) in
@@ -60,7 +60,8 @@ returns c =
     omega (arith, c.loop-index-test.false, c.loop-index.auto.index-end) in
     record {
       blocks = made.blocks;
-      places = subst (λ (n : ℕ). AreInPlaces (IsBlockOf q c.args.values.now) q.length n c.loop-index.codes made.blocks)
+      places = subst
+          (λ (n : ℕ). AreInPlaces (IsBlockOf q c.args.values.now) q.length n c.loop-index.codes made.blocks)
           last made.places;
       scales_are =
           sym (take_all c.loop-index.index c.loop-index.scales (omega (arith, many, last))) ∙ made.scales_are;

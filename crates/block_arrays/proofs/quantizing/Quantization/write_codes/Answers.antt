@@ -81,7 +81,8 @@ returns c =
     let last : c.loop-index.index ≡ length codes =
     omega (arith, size, c.loop-index-test.false, c.loop-index.auto.index-end) in
     let xs : List Datum = values_in k c.args.width c.args.values.now c.args.first (length codes) in
-    let many : length xs ≡ length codes = values_length k c.args.width c.args.values.now c.args.first (length codes) in
+    let many : length xs ≡ length codes =
+    values_length k c.args.width c.args.values.now c.args.first (length codes) in
     subst
     (λ (n : ℕ). AreCounted Holds (values_in k c.args.width c.args.values.now c.args.first n) codes
     c.loop-index.counts)

@@ -24,7 +24,8 @@ returns g c =
     c.quotient_code.result.value (bits_of c.quotient_code.result.status))
     c.from_bits-x.ensures.read (
       c.quotient_code.ensures.below,
-      c.quotient_code.ensures.code (quanta_of x * 2 ^ t.scale * 2 ^ 127) parts (mul-pos (pow_pos f.scale) (pow_pos scale))
+      c.quotient_code.ensures.code (quanta_of x * 2 ^ t.scale * 2 ^ 127) parts
+          (mul-pos (pow_pos f.scale) (pow_pos scale))
           (element_fraction (quanta_of x) (quanta_of c.power_of.result) t.scale 133 f.scale (2 ^ scale) (2 ^ 127)
           (divided ∙ ap (λ (n : ℕ). n * 2 ^ 127) (sym c.power_of.ensures.value))),
     )
