@@ -1,5 +1,5 @@
 -- A call on blocks leaves one code, and determines what it writes.
-use Rattle.std.proofs.Common.{◌≡◌, ℕ, ◌*◌, ◌%◌, ◌^◌, ◌<◌, List, [], ◌∷◌, length, Option}
+use Rattle.std.proofs.Common.{◌≡◌, ℕ, ◌*◌, ◌%◌, ◌^◌, ◌<◌, List, [], ◌∷◌, length}
 use Rattle.std.proofs.Common.{Some, None, Ok, Err, refl, sym, ap}
 use Rattle.std.proofs.Common.{◌∙◌, subst, arith, lit≤}
 use Rattle.std.specs.Prelude.{⊤, All, Result}
@@ -10,7 +10,6 @@ use Rattle.packed_codes.specs.declared.PackingError.TheVariants.{Uneven, Lengths
 use Rattle.packed_codes.specs.Laws.{ArePackedOnce}
 use Rattle.packed_codes.specs.Packed.{IsPackedBy, IsUnpackedBy}
 use Rattle.packed_codes.proofs.All.{all_cons, all_none}
-use Rattle.block_formats.specs.declared.ElementFormat.{ElementFormat}
 use Rattle.block_formats.specs.declared.ElementFormat.TheVariants.{E5M2, E4M3FN, E3M2FN, E2M3FN, E2M1FN}
 use Rattle.block_formats.proofs.OneBlock.{not_both}
 use Rattle.block_arrays.specs.declared.ArrayError.{ArrayError}

@@ -3,7 +3,7 @@ use Rattle.std.proofs.Common.{ap, sym, ◌∙◌, refl, subst, arith}
 use Rattle.rustc_apfloat.specs.Datum.{Datum, finite}
 use Rattle.rustc_apfloat.specs.Types.{constants_of, format_of}
 use Rattle.apfloat_model.specs.formats.Members.{IsMember}
-use Rattle.apfloat_model.specs.order.Classes.{is_finite, quanta_of}
+use Rattle.apfloat_model.specs.order.Classes.{quanta_of}
 use Rattle.apfloat_model.proofs.order.PredicatesAgree.{finite_agrees}
 use Rattle.formats_at_run_time.specs.ValueKinds.{value_of}
 use Rattle.block_formats.specs.Magnitudes.{are_finite, greatest_magnitude}
