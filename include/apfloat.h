@@ -77,8 +77,8 @@ typedef struct apfloat_answer {
 #define APFLOAT_E4M3B11FNUZ UINT32_C(18) /* 8 bits, 4 of them the exponent, of bias 11, without infinities and -0 */
 #define APFLOAT_TF32 UINT32_C(19)        /* 19 bits: the exponents of binary32 and the digits of binary16 */
 
-/* Storage formats, of apfloat_convert_array alone (docs/STORAGE_FORMATS.md): for all other functions these codes are
- * unknown. */
+/* Storage formats, of apfloat_convert_array and of blocks alone (docs/STORAGE_FORMATS.md): for all other functions
+ * these codes are unknown. */
 #define APFLOAT_E2M1FN UINT32_C(32)  /* 4 bits: 0, 0.5, 1, 1.5, 2, 3, 4, 6 and their negatives */
 #define APFLOAT_E2M3FN UINT32_C(33)  /* 6 bits, 2 of them the exponent, to 7.5 */
 #define APFLOAT_E3M2FN UINT32_C(34)  /* 6 bits, 3 of them the exponent, to 28 */
@@ -431,6 +431,40 @@ uint32_t apfloat_convert_array(uint32_t format, uint32_t mode, uint32_t to, cons
 uint32_t apfloat_map_array(uint32_t format, uint32_t mode, uint32_t operation, const uint8_t *xs, size_t xs_length,
                            const uint8_t *ys, size_t ys_length, const uint8_t *zs, size_t zs_length,
                            uint8_t *results, size_t results_length, apfloat_array_answer *answer);
+
+/* ---- blocks with a common scale
+ *
+ * The microscaling formats of the OCP (OCP Microscaling Formats 1.0; docs/SMALL_FORMATS.md): each block of `length`
+ * elements, 32 in those formats, has a scale, a code of APFLOAT_E8M0FNU. The elements are of APFLOAT_E5M2,
+ * APFLOAT_E4M3FN, APFLOAT_E3M2FN, APFLOAT_E2M3FN or APFLOAT_E2M1FN; other formats of elements are unknown. A scale and
+ * a code of an element take a byte each. APFLOAT_WRONG_LENGTH says that `length` is 0 or does not divide the number of
+ * values, that the values end inside one, or that there are not exactly as many codes as values and as many scales as
+ * blocks. Nothing is written with an error. What is said of `results` above holds of all that a call writes. */
+
+/* The scale of each block of `values`, and the codes of its elements: the scale is 2 to the power of the greatest
+ * exponent of the block less that of the largest number of the element format, clamped to the scales that there are,
+ * and that of zeros is the least one. An element is the exact quotient by the scale, rounded once, and the largest
+ * number of its sign in place of what is past it. A block with an infinity or a NaN has the scale that is a NaN, and
+ * zeros; `nans` counts its values. There are no blocks of APFLOAT_DOUBLE_PAIR (APFLOAT_NO_SUCH_OPERATION). */
+uint32_t apfloat_quantize_blocks(uint32_t format, uint32_t mode, uint32_t element, size_t length,
+                                 const uint8_t *values, size_t values_length, uint8_t *scales, size_t scales_length,
+                                 uint8_t *codes, size_t codes_length, apfloat_array_answer *answer);
+
+/* The product of each element and the scale of its block in the format `to`, rounded once. If the scale is the NaN, all
+ * are the quiet NaN without a payload. APFLOAT_WIDE_OPERAND says that a code has more bits than its format. */
+uint32_t apfloat_dequantize_blocks(uint32_t element, uint32_t mode, uint32_t to, size_t length,
+                                   const uint8_t *scales, size_t scales_length, const uint8_t *codes,
+                                   size_t codes_length, uint8_t *results, size_t results_length,
+                                   apfloat_array_answer *answer);
+
+/* Codes of 4 bits two in a byte, the first one in its low half, and of 6 bits four in three bytes, from the lowest bit
+ * of the first byte on; and the codes again, one in a byte. There is nothing to pack of elements of 8 bits
+ * (APFLOAT_NO_SUCH_OPERATION). APFLOAT_WRONG_LENGTH says that the codes do not fill whole groups, or that there are not
+ * exactly as many bytes as they fill, and APFLOAT_WIDE_OPERAND that a code has more bits. */
+uint32_t apfloat_pack_codes(uint32_t element, const uint8_t *codes, size_t codes_length, uint8_t *bytes,
+                            size_t bytes_length);
+uint32_t apfloat_unpack_codes(uint32_t element, const uint8_t *bytes, size_t bytes_length, uint8_t *codes,
+                              size_t codes_length);
 
 #ifdef __cplusplus
 }

@@ -1740,6 +1740,69 @@ expected<array_counts> map_array(array_operation operation, std::size_t count, v
     return detail::counts_of(code, answer);
 }
 
+// ---- blocks with a common scale
+
+namespace detail {
+
+// The formats of elements in blocks.
+template <class F>
+struct is_element : std::false_type {};
+template <>
+struct is_element<e5m2> : std::true_type {};
+template <>
+struct is_element<e4m3fn> : std::true_type {};
+template <>
+struct is_element<e3m2fn> : std::true_type {};
+template <>
+struct is_element<e2m3fn> : std::true_type {};
+template <>
+struct is_element<e2m1fn> : std::true_type {};
+
+inline std::size_t blocks_of(std::size_t count, std::size_t length) { return length == 0 ? 0 : count / length; }
+
+} // namespace detail
+
+/// Quantizes `count` values in blocks of `length`, in the microscaling formats of the OCP (apfloat.h): the scale of
+/// each block, and the code of each element, a `value` of `e5m2` or `e4m3fn`, or a `stored` one of `e3m2fn`, `e2m3fn`
+/// or `e2m1fn`. The arrays do not overlap; if one is null and `count` is not 0, or `length` is 0 or does not divide
+/// `count`, the error is wrong_length.
+template <class From, class Code>
+expected<array_counts> quantize_blocks(const value<From> *values, std::size_t count, std::size_t length,
+                                       stored<e8m0fnu> *scales, Code *codes,
+                                       rounding mode = rounding::nearest_even) {
+    static_assert(!From::is_pair, "there are no blocks of pairs of doubles");
+    static_assert(detail::is_element<typename Code::format>::value, "this is no format of elements in blocks");
+    if (!detail::has_lowest_byte_first()) return errc::no_such_operation;
+    const bool is_missing = count != 0 && (values == nullptr || scales == nullptr || codes == nullptr);
+    const std::size_t present = is_missing ? 0 : count;
+    apfloat_array_answer answer = {0, 0, 0, 0, 0, 0, 0, 0, 0};
+    const std::uint32_t code = apfloat_quantize_blocks(
+        From::code, detail::code_of(mode), Code::format::code, length, detail::bytes_of(values),
+        present * sizeof(value<From>), detail::bytes_of(scales), detail::blocks_of(present, length),
+        detail::bytes_of(codes), present, &answer);
+    if (code == APFLOAT_ANSWERED && is_missing) return errc::wrong_length;
+    return detail::counts_of(code, answer);
+}
+
+/// Takes `count` values out of blocks of `length`: each element times the scale of its block, rounded once.
+template <class To, class Code>
+expected<array_counts> dequantize_blocks(const stored<e8m0fnu> *scales, const Code *codes, std::size_t count,
+                                         std::size_t length, value<To> *results,
+                                         rounding mode = rounding::nearest_even) {
+    static_assert(!To::is_pair, "there are no blocks of pairs of doubles");
+    static_assert(detail::is_element<typename Code::format>::value, "this is no format of elements in blocks");
+    if (!detail::has_lowest_byte_first()) return errc::no_such_operation;
+    const bool is_missing = count != 0 && (scales == nullptr || codes == nullptr || results == nullptr);
+    const std::size_t present = is_missing ? 0 : count;
+    apfloat_array_answer answer = {0, 0, 0, 0, 0, 0, 0, 0, 0};
+    const std::uint32_t code = apfloat_dequantize_blocks(
+        Code::format::code, detail::code_of(mode), To::code, length, detail::bytes_of(scales),
+        detail::blocks_of(present, length), detail::bytes_of(codes), present, detail::bytes_of(results),
+        present * sizeof(value<To>), &answer);
+    if (code == APFLOAT_ANSWERED && is_missing) return errc::wrong_length;
+    return detail::counts_of(code, answer);
+}
+
 // ---- literals
 
 namespace detail {

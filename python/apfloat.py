@@ -82,12 +82,12 @@ import sys
 from typing import Any, Callable, Generic, Iterable, Iterator, Self, Sequence, TypeVar, Union, overload
 
 __all__ = [
-    'Array', 'Context', 'DOWNWARD', 'Flags', 'Format', 'Machine', 'Mask', 'NEAREST_AWAY', 'NEAREST_EVEN', 'Refused',
-    'Rounding', 'StorageFormat', 'StoredArray', 'TOWARD_ZERO', 'UPWARD', 'Value', 'bfloat', 'bfloat16', 'context',
-    'double', 'double_pair', 'e4m3', 'e4m3b11fnuz', 'e4m3fn', 'e4m3fnuz', 'e5m2', 'e5m2fnuz', 'float4_e2m1fn',
-    'float6_e2m3fn', 'float6_e3m2fn', 'float8_e3m4', 'float8_e4m3', 'float8_e4m3b11fnuz', 'float8_e4m3fn',
-    'float8_e4m3fnuz', 'float8_e5m2', 'float8_e5m2fnuz', 'float8_e8m0fnu', 'half', 'machine', 'quad', 'single', 'tf32',
-    'ue4m3', 'x87',
+    'Array', 'Blocks', 'Context', 'DOWNWARD', 'Flags', 'Format', 'Machine', 'Mask', 'NEAREST_AWAY', 'NEAREST_EVEN',
+    'Refused', 'Rounding', 'StorageFormat', 'StoredArray', 'TOWARD_ZERO', 'UPWARD', 'Value', 'bfloat', 'bfloat16',
+    'context', 'double', 'double_pair', 'e4m3', 'e4m3b11fnuz', 'e4m3fn', 'e4m3fnuz', 'e5m2', 'e5m2fnuz',
+    'float4_e2m1fn', 'float6_e2m3fn', 'float6_e3m2fn', 'float8_e3m4', 'float8_e4m3', 'float8_e4m3b11fnuz',
+    'float8_e4m3fn', 'float8_e4m3fnuz', 'float8_e5m2', 'float8_e5m2fnuz', 'float8_e8m0fnu', 'half', 'machine', 'mx',
+    'quad', 'single', 'tf32', 'ue4m3', 'x87',
 ]
 
 
@@ -222,6 +222,9 @@ def _parameters() -> dict[str, list[Any]]:
         'error_text': [code, ctypes.POINTER(_Text)],
         'convert_array': [code, code, code, *array, *array, ctypes.POINTER(_ArrayAnswer)],
         'map_array': [code, code, code, *array * 4, ctypes.POINTER(_ArrayAnswer)],
+        'quantize_blocks': [code, code, code, length, *array * 3, ctypes.POINTER(_ArrayAnswer)],
+        'dequantize_blocks': [code, code, code, length, *array * 3, ctypes.POINTER(_ArrayAnswer)],
+        **dict.fromkeys(('pack_codes', 'unpack_codes'), [code, *array * 2]),
     }
 
 
@@ -2044,6 +2047,172 @@ def _array_call(name: str, *arguments: Any, of: Any, shape: tuple[int, ...]) -> 
         raise Refused(code)
     context().flags |= Flags(answer.status)
     return of._made(room.raw[:length], {name: getattr(answer, name) for name in _COUNTED}, shape)
+
+
+# ---- blocks with a common scale
+
+class Blocks:
+    """An array in blocks of elements with a common scale, as `mx.quantize` makes it.
+
+    `scales` are values of `float8_e8m0fnu`, one for each block of the last axis, and `codes` values of the element
+    format in the shape of the array. `counts` says how many roundings raised each flag, and how many values are in
+    blocks whose scale is a NaN.
+    """
+
+    __slots__ = ('scales', 'codes', 'block', 'counts')
+
+    scales: StoredArray
+    codes: Array | StoredArray
+    block: int
+    counts: dict[str, int]
+
+    def __init__(self, scales: StoredArray, codes: Array | StoredArray, block: int, counts: dict[str, int]) -> None:
+        self.scales, self.codes, self.block, self.counts = scales, codes, block, counts
+
+    def __repr__(self) -> str:
+        return f'<{self.codes.format} of shape {self.codes.shape} in blocks of {self.block}>'
+
+    def dequantize(self, format: Format | None = None) -> Array:
+        """The values, each the product of an element and its scale, rounded once to the format, `single` if none is
+        given."""
+        return mx.dequantize(self.scales, self.codes, self.block, format)
+
+    def packed(self) -> bytes:
+        """The codes packed: of 4 bits two in a byte, of 6 bits four in three bytes, and those of 8 bits as they are."""
+        return mx.pack(self.codes)
+
+
+class mx:
+    """The microscaling formats of the OCP: blocks of elements with one scale, a power of two.
+
+    >>> made = mx.quantize(single.array([[1, -2.5, 0.3, 6], [1e6, 0, 7, -1e5]]), 'e2m1', block=2)
+    >>> made.scales
+    float8_e8m0fnu.array([[0.5, 1.0], [131072.0, 16384.0]])
+    >>> made.codes
+    float4_e2m1fn.array([[2.0, -4.0, 0.5, 6.0], [6.0, 0.0, 0.0, -6.0]])
+    >>> made.dequantize()
+    single.array([['1.0', '-2.0', '0.5', '6.0'], ['786432.0', '0.0', '0.0', '-98304.0']])
+    """
+
+    @staticmethod
+    def quantize(of: Any, element: Any = 'e4m3', block: int = 32) -> Blocks:
+        """An array in blocks of so many values of its last axis, rounded in the mode of the context.
+
+        The element format is `float8_e5m2`, `float8_e4m3fn`, `float6_e3m2fn`, `float6_e2m3fn` or `float4_e2m1fn`, or
+        its name, which may be as short as 'e2m1'. The array is an `Array`, a numpy array, or nested lists of numbers,
+        which are rounded to `double`. Flags are added to those of the context.
+
+        >>> mx.quantize([0.5] * 64, 'e4m3').scales
+        float8_e8m0fnu.array([0.001953125, 0.001953125])
+        """
+        values, elements = _values_of(of), _element_of(element)
+        data, shape = bytes(values), values.shape
+        blocks = _blocked(shape, block)
+        count, size = math.prod(blocks), math.prod(shape)
+        scales, codes = ctypes.create_string_buffer(max(count, 1)), ctypes.create_string_buffer(max(size, 1))
+        counts = _block_call('quantize_blocks', values.format.code, context().mode, elements.code, block, data,
+                             len(data), scales, count, codes, size)
+        return Blocks(StoredArray(float8_e8m0fnu, scales.raw[:count], shape=blocks),
+                      elements._made(codes.raw[:size], counts, shape), block, counts)
+
+    @staticmethod
+    def dequantize(scales: Any, codes: Any, block: int = 32, format: Format | None = None) -> Array:
+        """The values of blocks: each code times the scale of its block, rounded once to the format, `single` if none is
+        given, in the mode of the context.
+
+        Scales are an array of `float8_e8m0fnu`, or their bytes, and codes an array of an element format.
+        """
+        target = single if format is None else format
+        elements = _element_of(codes.format)
+        by = bytes(scales if isinstance(scales, (bytes, bytearray)) else float8_e8m0fnu.array(scales))
+        count = math.prod(_blocked(codes.shape, block))
+        if len(by) != count:
+            raise ValueError(f'{len(by)} scales for {count} blocks')
+        data = bytes(codes)
+        length = len(data) * target._bytes
+        room = ctypes.create_string_buffer(max(length, 1))
+        counts = _block_call('dequantize_blocks', elements.code, context().mode, target.code, block, by, count, data,
+                             len(data), room, length)
+        return target._made(room.raw[:length], counts, codes.shape)
+
+    @staticmethod
+    def pack(codes: Any) -> bytes:
+        """The codes of an array of an element format packed, as `Blocks.packed` says.
+
+        >>> mx.pack(float4_e2m1fn.from_bits([1, 2, 3, 4])).hex()
+        '2143'
+        """
+        return _repacked('pack_codes', codes.format, bytes(codes), codes.size * codes.format.width // 8)
+
+    @staticmethod
+    def unpack(packed: bytes, element: Any, shape: tuple[int, ...] | None = None) -> Array | StoredArray:
+        """The array of an element format whose codes are packed in these bytes.
+
+        >>> bytes(mx.unpack(bytes.fromhex('2143'), 'e2m1')).hex()
+        '01020304'
+        """
+        elements = _element_of(element)
+        count = len(packed) * 8 // elements.width
+        data = _repacked('unpack_codes', elements, packed, count)
+        kind = StoredArray if isinstance(elements, StorageFormat) else Array
+        return kind(elements, data, shape=(count,) if shape is None else shape)
+
+
+def _element_of(of: Any) -> Any:
+    """The element format that is given, or that has this name."""
+    made: dict[str, Any] = {
+        'e5m2': e5m2, 'e4m3': e4m3fn, 'e3m2': float6_e3m2fn, 'e2m3': float6_e2m3fn, 'e2m1': float4_e2m1fn,
+    }
+    for short, format in made.items():
+        if of is format or isinstance(of, str) and of in (short, short + 'fn', format.name, _NAMES_IN_BLOCKS[short]):
+            return format
+    raise ValueError(f'{of!r} is no element format: {", ".join(made)} are')
+
+
+# The names of ml_dtypes.
+_NAMES_IN_BLOCKS = {
+    'e5m2': 'float8_e5m2', 'e4m3': 'float8_e4m3fn', 'e3m2': 'float6_e3m2fn', 'e2m3': 'float6_e2m3fn',
+    'e2m1': 'float4_e2m1fn',
+}
+
+
+def _values_of(of: Any) -> Array:
+    """An array of values of a format, of what blocks are made of."""
+    if isinstance(of, Array):
+        return of
+    if isinstance(of, StoredArray):
+        return of.to(single)
+    if hasattr(of, '__array_interface__'):
+        return _of_numpy(of, double)
+    return double.array(of)
+
+
+def _blocked(shape: tuple[int, ...], block: int) -> tuple[int, ...]:
+    """The shape of the scales."""
+    if not shape or block < 1 or shape[-1] % block:
+        raise ValueError(f'shape {shape} is not in blocks of {block}')
+    return (*shape[:-1], shape[-1] // block)
+
+
+def _block_call(name: str, *arguments: Any) -> dict[str, int]:
+    """The counts of a call on blocks, whose flags are added to those of the context."""
+    answer = _ArrayAnswer()
+    code = getattr(_functions, 'apfloat_' + name)(*arguments, ctypes.byref(answer))
+    if code:
+        raise Refused(code)
+    context().flags |= Flags(answer.status)
+    return {name: getattr(answer, name) for name in _COUNTED}
+
+
+def _repacked(name: str, format: Any, data: bytes, length: int) -> bytes:
+    """Codes packed, or taken out of bytes."""
+    if format.width == 8:
+        return data
+    room = ctypes.create_string_buffer(max(length, 1))
+    code = getattr(_functions, 'apfloat_' + name)(format.code, data, len(data), room, length)
+    if code:
+        raise Refused(code)
+    return room.raw[:length]
 
 
 # ---- shapes

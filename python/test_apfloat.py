@@ -1017,6 +1017,86 @@ class StoredTests(unittest.TestCase):
                 numpy.asarray(apfloat.single.array([0.1]), dtype)
 
 
+class BlockTests(unittest.TestCase):
+    """Blocks of elements with a common scale."""
+
+    # Digits, exponent of the largest number, greatest code without a sign, and exponent of the quantum.
+    ELEMENTS = {
+        'e5m2': (3, 15, 0x7b, -16), 'e4m3': (4, 8, 0x7e, -9), 'e3m2': (3, 4, 0x1f, -4), 'e2m3': (4, 2, 0x1f, -3),
+        'e2m1': (2, 2, 0x7, -1),
+    }
+
+    def numbers(self, element):
+        """The numbers of an element format that are not below zero, by their codes."""
+        digits, _, greatest, quantum = self.ELEMENTS[element]
+        lead = 1 << digits - 1
+        return [(code % lead + (lead if code >= lead else 0)) * Fraction(2) ** (quantum + max(code // lead - 1, 0))
+                for code in range(greatest + 1)]
+
+    def quantized(self, element, values):
+        """The scale of a block of fractions and its codes, to nearest with ties to even."""
+        numbers, digits = self.numbers(element), self.ELEMENTS[element]
+        greatest = max(map(abs, values))
+        exponents = [e for e in range(digits[1] - 127, 200) if Fraction(2) ** e <= greatest]
+        exponent = max(exponents, default=digits[1] - 127)
+        scale = min(exponent - digits[1], 127)
+        codes = []
+        for value in values:
+            exact = abs(value) / Fraction(2) ** scale
+            near = min(range(len(numbers)), key=lambda code: (abs(numbers[code] - exact), code % 2))
+            codes.append(near + (len(numbers) if len(numbers) in (8, 32) else 128) * (value < 0))
+        return scale + 127, codes
+
+    def test_numbers(self):
+        drawn = random.Random(7)
+        for element in self.ELEMENTS:
+            values = [drawn.uniform(-2, 2) * 2.0 ** drawn.randrange(-12, 12) for _ in range(192)]
+            values[32:64] = [0.0] * 32
+            made = apfloat.mx.quantize(apfloat.double.array(values).reshape(2, 96), element)
+            wanted = [self.quantized(element, [Fraction(x) for x in values[at:at + 32]]) for at in range(0, 192, 32)]
+            self.assertEqual((made.scales.shape, made.codes.shape, made.block), ((2, 3), (2, 96), 32))
+            self.assertEqual(list(bytes(made.scales)), [scale for scale, _ in wanted])
+            self.assertEqual(list(bytes(made.codes)), [code for _, codes in wanted for code in codes])
+            numbers = self.numbers(element)
+            mask = len(numbers) - 1 if len(numbers) in (8, 32) else 127
+            back = [(-1 if code > mask else 1) * numbers[code & mask] * Fraction(2) ** (scale - 127)
+                    for scale, codes in wanted for code in codes]
+            with Context() as context:
+                self.assertEqual(made.dequantize(apfloat.double).reshape(-1).tolist(), back)
+            self.assertEqual(context.flags, Flags.OK)
+            packed = made.packed()
+            self.assertEqual(len(packed), 192 * made.codes.format.width // 8)
+            self.assertEqual(bytes(apfloat.mx.unpack(packed, element)), bytes(made.codes))
+
+    def test_names(self):
+        for names in ('e5m2', 'float8_e5m2', apfloat.e5m2), ('e4m3', 'e4m3fn', 'float8_e4m3fn', apfloat.e4m3fn), \
+                ('e3m2', 'float6_e3m2fn', apfloat.float6_e3m2fn), ('e2m3', 'float6_e2m3fn', apfloat.float6_e2m3fn), \
+                ('e2m1', 'e2m1fn', 'float4_e2m1fn', apfloat.float4_e2m1fn):
+            for name in names:
+                self.assertIs(apfloat.mx.quantize([1.0], name, 1).codes.format, names[-1])
+
+    def test_nans(self):
+        with Context() as context:
+            made = apfloat.mx.quantize([1.0, math.inf, 1.0, 0.0], 'e2m3', 2)
+        self.assertEqual((bytes(made.scales), bytes(made.codes)), (bytes([255, 125]), bytes([0, 0, 24, 0])))
+        self.assertEqual((made.counts['values'], made.counts['nans'], context.flags), (4, 2, Flags.OK))
+        self.assertEqual([math.isnan(x) for x in made.dequantize().tolist()], [True, True, False, False])
+
+    def test_refused(self):
+        with self.assertRaises(ValueError):
+            apfloat.mx.quantize([1.0] * 31, 'e2m1')
+        with self.assertRaises(ValueError):
+            apfloat.mx.quantize([1.0], 'e2m1', 0)
+        with self.assertRaises(ValueError):
+            apfloat.mx.quantize([1.0], 'e3m4', 1)
+        with self.assertRaises(ValueError):
+            apfloat.mx.dequantize(b'1', apfloat.float4_e2m1fn.from_bits([1, 2]), 1)
+        with self.assertRaises(apfloat.Refused):
+            apfloat.mx.quantize(apfloat.double_pair.array([1]), 'e2m1', 1)
+        with self.assertRaises(apfloat.Refused):
+            apfloat.mx.pack(apfloat.float4_e2m1fn.from_bits([1]))
+
+
 def integers(xs):
     """An array's values as nested lists of integers."""
     if isinstance(xs, list):

@@ -61,6 +61,12 @@ static uint32_t draw_stored(void) {
     return stored[below(6)];
 }
 
+/* The formats of elements in blocks, and once in sixteen times one that may be none. */
+static uint32_t draw_element(void) {
+    static const uint32_t elements[] = {APFLOAT_E5M2, APFLOAT_E4M3FN, APFLOAT_E3M2FN, APFLOAT_E2M3FN, APFLOAT_E2M1FN};
+    return below(16) == 0 ? draw_stored() : elements[below(5)];
+}
+
 static uint32_t draw_mode(void) {
     return below(16) == 0 ? (uint32_t)draw() >> below(32) : below(5);
 }
@@ -192,7 +198,7 @@ static const char *const names[] = {
     "next_down", "compare", "classify", "parse",  "parse_decimal", "shortest", "is_negative",   "neg",
     "abs",       "copy_sign", "min",  "max",      "minimum", "maximum", "qnan",  "snan",          "error_text",
     "version",   "compare_predicate", "total_order", "extremum", "log_b", "scale_b", "integral", "to_format",
-    "machine",   "convert_array", "map_array"};
+    "machine",   "convert_array", "map_array", "quantize_blocks", "dequantize_blocks", "pack_codes", "unpack_codes"};
 #define KINDS (sizeof names / sizeof names[0])
 
 static void call_on_arrays(uint32_t kind) {
@@ -228,6 +234,51 @@ static void call_on_arrays(uint32_t kind) {
     add_bytes(&code, sizeof code);
     add_bytes(&answer, sizeof answer);
     add_bytes(results, sizeof results);
+}
+
+static void call_on_blocks(uint32_t kind) {
+    uint8_t values[256], scales[16], codes[16], packed[16];
+    apfloat_array_answer answer;
+    uint32_t format = draw_format(), mode = draw_mode(), element = draw_element();
+    uint32_t known = known_format(format), bytes = (bits_of[known] + 7) / 8;
+    uint32_t width = known == 0 ? 1 : bytes == 3 ? 4 : bytes;
+    uint32_t length = below(6), blocks = below(4), count = length * blocks;
+    uint32_t bits = element == APFLOAT_E2M1FN ? 4 : element < APFLOAT_E2M1FN ? 8 : 6;
+    apfloat_halves before = {0, 0};
+    for (size_t place = 0; place + width <= sizeof values; place += width) {
+        before = draw_value(format, before);
+        uint64_t words[2] = {before.low, before.high};
+        for (uint32_t byte = 0; byte < width; byte++) values[place + byte] = (uint8_t)(words[byte / 8] >> byte % 8 * 8);
+    }
+    uint32_t mask = below(16) == 0 ? 0xff : (1u << bits) - 1;
+    for (size_t i = 0; i < sizeof codes; i++) {
+        scales[i] = (uint8_t)(below(4) ? 119 + below(16) : draw());
+        codes[i] = (uint8_t)(draw() & mask);
+        packed[i] = (uint8_t)draw();
+    }
+    memset(&answer, 0xa5, sizeof answer);
+    size_t lengths[] = {count * width, blocks, count, bits == 4 ? 2 * below(8) : 4 * below(4), 0};
+    lengths[4] = lengths[3] * bits / 8;
+    if (below(16) == 0) lengths[below(5)] = below(16);
+    uint32_t code;
+    switch (kind) {
+    case 0:
+        code = apfloat_quantize_blocks(format, mode, element, length, values, lengths[0], scales, lengths[1], codes,
+                                       lengths[2], &answer);
+        break;
+    case 1:
+        code = apfloat_dequantize_blocks(element, mode, format, length, scales, lengths[1], codes, lengths[2], values,
+                                         lengths[0], &answer);
+        break;
+    case 2: code = apfloat_pack_codes(element, codes, lengths[3], packed, lengths[4]); break;
+    default: code = apfloat_unpack_codes(element, packed, lengths[4], codes, lengths[3]); break;
+    }
+    add_bytes(&code, sizeof code);
+    add_bytes(&answer, sizeof answer);
+    add_bytes(values, sizeof values);
+    add_bytes(scales, sizeof scales);
+    add_bytes(codes, sizeof codes);
+    add_bytes(packed, sizeof packed);
 }
 
 static void call(size_t kind) {
@@ -306,7 +357,9 @@ static void call(size_t kind) {
              within(format, z));
         break;
     }
-    default: call_on_arrays((uint32_t)kind - 44); break;
+    case 44:
+    case 45: call_on_arrays((uint32_t)kind - 44); break;
+    default: call_on_blocks((uint32_t)kind - 46); break;
     }
 }
 

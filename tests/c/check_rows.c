@@ -547,6 +547,111 @@ static unsigned stored_and_loaded(void) {
     return count;
 }
 
+/* Three blocks of four values of binary32, the last of them with an infinity; their scales and elements in each element
+ * format, to nearest, and the products in binary32, as the classes of evidence/blocks.py compute them. */
+static const uint32_t blocks[] = {0x40e00000, 0x40c00000, 0x40a00000, 0x3e800000, 0x7f7fffff, 0xff7fffff,
+                                  0x3f800000, 0x80000001, 0x7f800000, 0x3f800000, 0x00000000, 0x80000000};
+static const struct blocks_in {
+    uint32_t element;
+    uint8_t scales[COUNT(blocks) / 4], codes[COUNT(blocks)];
+    apfloat_array_answer quantized;
+    uint32_t products[COUNT(blocks)];
+    apfloat_array_answer dequantized;
+} blocks_made[] = {
+    {APFLOAT_E5M2, {0x72, 0xef, 0xff}, {0x7b, 0x7a, 0x79, 0x68, 0x7b, 0xfb, 0x00, 0x80, 0x00, 0x00, 0x00, 0x00},
+     {12, 4, 2, 2, 0, 0, 4, 0x1c, 0},
+     {0x40e00000, 0x40c00000, 0x40a00000, 0x3e800000, 0x7f600000, 0xff600000,
+      0x00000000, 0x80000000, 0x7fc00000, 0x7fc00000, 0x7fc00000, 0x7fc00000},
+     {12, 0, 0, 0, 0, 0, 4, 0x00, 0}},
+    {APFLOAT_E4M3FN, {0x79, 0xf6, 0xff}, {0x7e, 0x7c, 0x7a, 0x58, 0x7e, 0xfe, 0x00, 0x80, 0x00, 0x00, 0x00, 0x00},
+     {12, 4, 2, 2, 0, 0, 4, 0x1c, 0},
+     {0x40e00000, 0x40c00000, 0x40a00000, 0x3e800000, 0x7f600000, 0xff600000,
+      0x00000000, 0x80000000, 0x7fc00000, 0x7fc00000, 0x7fc00000, 0x7fc00000},
+     {12, 0, 0, 0, 0, 0, 4, 0x00, 0}},
+    {APFLOAT_E3M2FN, {0x7d, 0xfa, 0xff}, {0x1f, 0x1e, 0x1d, 0x0c, 0x1f, 0x3f, 0x00, 0x20, 0x00, 0x00, 0x00, 0x00},
+     {12, 4, 2, 2, 0, 0, 4, 0x1c, 0},
+     {0x40e00000, 0x40c00000, 0x40a00000, 0x3e800000, 0x7f600000, 0xff600000,
+      0x00000000, 0x80000000, 0x7fc00000, 0x7fc00000, 0x7fc00000, 0x7fc00000},
+     {12, 0, 0, 0, 0, 0, 4, 0x00, 0}},
+    {APFLOAT_E2M3FN, {0x7f, 0xfc, 0xff}, {0x1e, 0x1c, 0x1a, 0x02, 0x1f, 0x3f, 0x00, 0x20, 0x00, 0x00, 0x00, 0x00},
+     {12, 4, 2, 2, 0, 0, 4, 0x1c, 0},
+     {0x40e00000, 0x40c00000, 0x40a00000, 0x3e800000, 0x7f700000, 0xff700000,
+      0x00000000, 0x80000000, 0x7fc00000, 0x7fc00000, 0x7fc00000, 0x7fc00000},
+     {12, 0, 0, 0, 0, 0, 4, 0x00, 0}},
+    {APFLOAT_E2M1FN, {0x7f, 0xfc, 0xff}, {0x07, 0x07, 0x06, 0x00, 0x07, 0x0f, 0x00, 0x08, 0x00, 0x00, 0x00, 0x00},
+     {12, 7, 3, 3, 0, 0, 4, 0x1c, 0},
+     {0x40c00000, 0x40c00000, 0x40800000, 0x00000000, 0x7f400000, 0xff400000,
+      0x00000000, 0x80000000, 0x7fc00000, 0x7fc00000, 0x7fc00000, 0x7fc00000},
+     {12, 0, 0, 0, 0, 0, 4, 0x00, 0}}};
+
+/* In how many element formats blocks agree, with packed codes. */
+static unsigned blocks_agree(void) {
+    unsigned count = 0;
+    uint8_t values[sizeof blocks], results[sizeof blocks], wanted[sizeof blocks];
+    uint8_t scales[COUNT(blocks) / 4], codes[COUNT(blocks)], packed[COUNT(blocks)], again[COUNT(blocks)];
+    apfloat_array_answer answer;
+    for (size_t i = 0; i < COUNT(blocks); i++) put(values, 4, i, (apfloat_halves){blocks[i], 0});
+    for (size_t i = 0; i < COUNT(blocks_made); i++) {
+        const struct blocks_in *b = &blocks_made[i];
+        for (size_t n = 0; n < COUNT(blocks); n++) put(wanted, 4, n, (apfloat_halves){b->products[n], 0});
+        size_t room = b->element == APFLOAT_E2M1FN ? sizeof codes / 2 : sizeof codes / 4 * 3;
+        bool eight = b->element == APFLOAT_E5M2 || b->element == APFLOAT_E4M3FN;
+        uint32_t packing = eight ? APFLOAT_NO_SUCH_OPERATION : APFLOAT_ANSWERED;
+        if (apfloat_quantize_blocks(APFLOAT_SINGLE, APFLOAT_NEAREST_EVEN, b->element, 4, values, sizeof values, scales,
+                                    sizeof scales, codes, sizeof codes, &answer) == APFLOAT_ANSWERED &&
+            memcmp(scales, b->scales, sizeof scales) == 0 && memcmp(codes, b->codes, sizeof codes) == 0 &&
+            memcmp(&answer, &b->quantized, sizeof answer) == 0 &&
+            apfloat_dequantize_blocks(b->element, APFLOAT_NEAREST_EVEN, APFLOAT_SINGLE, 4, scales, sizeof scales, codes,
+                                      sizeof codes, results, sizeof results, &answer) == APFLOAT_ANSWERED &&
+            memcmp(results, wanted, sizeof results) == 0 && memcmp(&answer, &b->dequantized, sizeof answer) == 0 &&
+            apfloat_pack_codes(b->element, codes, sizeof codes, packed, room) == packing &&
+            apfloat_unpack_codes(b->element, packed, room, again, sizeof again) == packing &&
+            (eight || memcmp(again, codes, sizeof codes) == 0)) count++;
+    }
+    return count;
+}
+
+/* The errors of calls on blocks, each of which leaves what it would write as it was. */
+static unsigned block_refusals(void) {
+    static const uint8_t bytes[16] = {0, 0x10};
+    uint8_t scales[4] = {1, 2}, results[16] = {1, 2, 3}, kept[4], unchanged[16];
+    apfloat_array_answer answer, untouched;
+    memcpy(kept, scales, sizeof kept);
+    memcpy(unchanged, results, sizeof unchanged);
+    memset(&answer, 0xa5, sizeof answer);
+    untouched = answer;
+#define QUANTIZE(format, mode, element, length, given, blocks, codes) \
+    apfloat_quantize_blocks(format, mode, element, length, bytes, given, scales, blocks, results, codes, &answer)
+#define DEQUANTIZE(element, mode, to, length, blocks, codes, room) \
+    apfloat_dequantize_blocks(element, mode, to, length, bytes, blocks, bytes, codes, results, room, &answer)
+    const uint32_t codes[][2] = {
+        {QUANTIZE(0, 0, APFLOAT_E2M1FN, 2, 8, 2, 4), APFLOAT_UNKNOWN_FORMAT},
+        {QUANTIZE(1, 5, APFLOAT_E2M1FN, 2, 8, 2, 4), APFLOAT_UNKNOWN_MODE},
+        {QUANTIZE(1, 0, APFLOAT_E3M4, 2, 8, 2, 4), APFLOAT_UNKNOWN_FORMAT},
+        {QUANTIZE(APFLOAT_DOUBLE_PAIR, 0, APFLOAT_E2M1FN, 1, 16, 1, 1), APFLOAT_NO_SUCH_OPERATION},
+        {QUANTIZE(1, 0, APFLOAT_E2M1FN, 0, 8, 2, 4), APFLOAT_WRONG_LENGTH},
+        {QUANTIZE(1, 0, APFLOAT_E2M1FN, 3, 8, 2, 4), APFLOAT_WRONG_LENGTH},
+        {QUANTIZE(1, 0, APFLOAT_E2M1FN, 2, 7, 2, 4), APFLOAT_WRONG_LENGTH},
+        {QUANTIZE(1, 0, APFLOAT_E2M1FN, 2, 8, 1, 4), APFLOAT_WRONG_LENGTH},
+        {QUANTIZE(1, 0, APFLOAT_E2M1FN, 2, 8, 2, 5), APFLOAT_WRONG_LENGTH},
+        {DEQUANTIZE(0, 0, 1, 2, 2, 4, 8), APFLOAT_UNKNOWN_FORMAT},
+        {DEQUANTIZE(APFLOAT_E2M1FN, 5, 1, 2, 2, 4, 8), APFLOAT_UNKNOWN_MODE},
+        {DEQUANTIZE(APFLOAT_E2M1FN, 0, APFLOAT_E2M1FN, 2, 2, 4, 4), APFLOAT_UNKNOWN_FORMAT},
+        {DEQUANTIZE(APFLOAT_E2M1FN, 0, APFLOAT_DOUBLE_PAIR, 1, 1, 1, 16), APFLOAT_NO_SUCH_OPERATION},
+        {DEQUANTIZE(APFLOAT_E2M1FN, 0, 1, 2, 2, 4, 6), APFLOAT_WRONG_LENGTH},
+        {DEQUANTIZE(APFLOAT_E2M1FN, 0, 1, 2, 2, 4, 8), APFLOAT_WIDE_OPERAND},
+        {apfloat_pack_codes(0, bytes, 4, results, 2), APFLOAT_UNKNOWN_FORMAT},
+        {apfloat_pack_codes(APFLOAT_E5M2, bytes, 4, results, 4), APFLOAT_NO_SUCH_OPERATION},
+        {apfloat_pack_codes(APFLOAT_E2M1FN, bytes, 3, results, 2), APFLOAT_WRONG_LENGTH},
+        {apfloat_pack_codes(APFLOAT_E2M1FN, bytes, 4, results, 2), APFLOAT_WIDE_OPERAND},
+        {apfloat_unpack_codes(APFLOAT_E3M2FN, bytes, 2, results, 4), APFLOAT_WRONG_LENGTH}};
+    unsigned count = 0;
+    for (size_t i = 0; i < COUNT(codes); i++)
+        if (codes[i][0] == codes[i][1] && memcmp(results, unchanged, sizeof results) == 0 &&
+            memcmp(scales, kept, sizeof scales) == 0 && memcmp(&answer, &untouched, sizeof answer) == 0) count++;
+    return count;
+}
+
 /* The errors of calls on arrays, each of which leaves the results and the answer as they were. */
 static unsigned array_refusals(void) {
     static const uint8_t bytes[16] = {0};
@@ -885,5 +990,7 @@ int main(void) {
     printf("%u errors of arrays agree\n", array_refusals());
     printf("%u conversions that saturate agree\n", saturated());
     printf("%u conversions of storage formats agree\n", stored_and_loaded());
+    printf("%u formats of blocks agree\n", blocks_agree());
+    printf("%u errors of blocks agree\n", block_refusals());
     return 0;
 }

@@ -386,6 +386,37 @@ void check_stored_arrays() {
     CHECK(convert_array(values.data(), 1, codes.data(), static_cast<rounding>(7)).error() == errc::unknown_mode);
 }
 
+void check_blocks() {
+    const std::vector<single> values = {single(7.0f), single(6.0f), single(5.0f), single(0.25f),
+                                        std::numeric_limits<single>::infinity(), single(1.0f), single(), single(2.0f)};
+    const std::size_t count = values.size();
+    std::vector<stored<e8m0fnu>> scales(2);
+    std::vector<stored<e2m1fn>> codes(count);
+    const auto made = quantize_blocks(values.data(), count, 4, scales.data(), codes.data());
+    CHECK(made && made->values == 8 && made->inexact == 3 && made->overflow == 1 && made->underflow == 1);
+    CHECK(made->nans == 4 && made->invalid_op == 0);
+    CHECK(scales[0].bits() == 127 && scales[1].bits() == 255);
+    CHECK(codes[0].bits() == 7 && codes[1].bits() == 7 && codes[2].bits() == 6 && codes[3].bits() == 0);
+    std::vector<number> back(count);
+    const auto taken = dequantize_blocks(scales.data(), codes.data(), count, 4, back.data());
+    CHECK(taken && taken->values == 8 && taken->nans == 4 && taken->status.none());
+    CHECK(back[0] == number(6.0) && back[1] == back[0] && back[2] == number(4.0) && back[3] == number());
+    CHECK(is_nan(back[4]) && is_nan(back[7]));
+
+    std::vector<value<e4m3fn>> elements(count);
+    CHECK(quantize_blocks(values.data(), 4, 2, scales.data(), elements.data(), rounding::upward)->inexact == 0);
+    CHECK(scales[0].bits() == 121 && scales[1].bits() == 121 && elements[0].bits() == 0x7e);
+
+    CHECK(quantize_blocks(values.data(), 4, 0, scales.data(), codes.data()).error() == errc::wrong_length);
+    CHECK(quantize_blocks(values.data(), 4, 3, scales.data(), codes.data()).error() == errc::wrong_length);
+    CHECK(quantize_blocks(values.data(), 0, 3, scales.data(), codes.data())->values == 0);
+    stored<e8m0fnu> *no_scales = nullptr;
+    CHECK(quantize_blocks(values.data(), 4, 4, no_scales, codes.data()).error() == errc::wrong_length);
+    CHECK(dequantize_blocks(no_scales, codes.data(), 4, 4, back.data()).error() == errc::wrong_length);
+    CHECK(dequantize_blocks(scales.data(), codes.data(), 4, 2, back.data(), static_cast<rounding>(7)).error() ==
+          errc::unknown_mode);
+}
+
 void check_missing_arrays() {
     const std::vector<single> values(3);
     const auto unchanged = value<e4m3fn>::from_bits(0x55);
@@ -493,6 +524,7 @@ int main(int count, char **) {
     check_hashes();
     check_arrays();
     check_stored_arrays();
+    check_blocks();
     check_missing_arrays();
     check_machines();
     check_operations();

@@ -15,6 +15,7 @@ use Rattle.array_conversions.proofs.PlacesOnce.{FixesPlaces, bytes_take, places_
 use Rattle.storage_arrays.specs.declared.Ends.{Ends}
 use Rattle.storage_arrays.specs.declared.Ends.TheVariants.{Into, OutOf}
 use Rattle.storage_arrays.proofs.StoredOnce.{HasLaw, converted_at_once}
+use Rattle.block_arrays.proofs.FormatLaws.{format_law}
 use Rattle.apfloat_c.specs.declared.array_calls.KnownConversion.{KnownConversion}
 use Rattle.apfloat_c.specs.declared.array_calls.KnownConversion.TheVariants.{BuiltIn, Storage}
 use Rattle.apfloat_c.specs.declared.array_calls.MapCall.{MapCall}
@@ -25,7 +26,7 @@ use Rattle.apfloat_c.specs.ArrayCalls.{bytes_in, conversion_widths}
 use Rattle.apfloat_c.specs.Arrays.{AreConverted, AreMapped, IsElement, IsElementAt, IsValueConverted, answer_with}
 use Rattle.apfloat_c.specs.Arrays.{call_of, counts_of, is_nan_in}
 use Rattle.apfloat_c.specs.OneAnswer.{IsConvertedArrayOnce, IsLeftIn, IsMappedArrayOnce}
-use Rattle.apfloat_c.proofs.ExportsOnce.{format_law, kind_law, kind_once}
+use Rattle.apfloat_c.proofs.ExportsOnce.{kind_law, kind_once}
 
 -- ---- lists
 

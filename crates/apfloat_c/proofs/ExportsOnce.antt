@@ -1,14 +1,14 @@
 -- What an export leaves is determined by its arguments: one code, and one result.
 use Rattle.std.proofs.Common.{◌≡◌, ℕ, ◌^◌, ◌<◌, ◌≤◌, Bool, Option, Some, None, Ok, refl, sym, ap, ◌∙◌, subst, ⊎_elim}
-use Rattle.std.proofs.Common.{true, arith, lit<}
+use Rattle.std.proofs.Common.{arith, lit<}
 use Rattle.std.specs.Int.{w128, cast_unsigned}
 use Rattle.std.specs.Prelude.{ℤ, ⊤}
-use Rattle.std.proofs.lemmas.Bool.{cases_lt, ltb-true}
+use Rattle.std.proofs.lemmas.Bool.{cases_lt}
 use Rattle.rustc_apfloat.specs.declared.Round.{Round}
 use Rattle.rustc_apfloat.specs.declared.StatusAnd.{StatusAnd}
 use Rattle.rustc_apfloat.specs.Datum.{Datum}
 use Rattle.rustc_apfloat.specs.Flags.{bits_of}
-use Rattle.rustc_apfloat.specs.Lawful.{Constants, IsLawful, format_with, layout_with}
+use Rattle.rustc_apfloat.specs.Lawful.{Constants, format_with, layout_with}
 use Rattle.rustc_apfloat.specs.Determined.{Determines, DeterminesBoth}
 use Rattle.rustc_apfloat.specs.Exponents.{IsExactInverse}
 use Rattle.rustc_apfloat.specs.Roots.{IsRoot}
@@ -18,24 +18,20 @@ use Rattle.rustc_apfloat.specs.PairAnswers.{OncePair}
 use Rattle.rustc_apfloat.specs.PairCalls.{IsPairExactInverse}
 use Rattle.rustc_apfloat.specs.PairRoots.{IsPairRoot}
 use Rattle.apfloat_model.proofs.Determined.{determined, gives_once, same_answer, scale_some}
-use Rattle.apfloat_model.proofs.formats.OtherFlags.{other_flags}
 use Rattle.apfloat_model.proofs.bits.Encodings.{lawful_interchange}
 use Rattle.apfloat_model.proofs.Once.{OnceWith, conversion_once, fused_sum_once, root_once}
 use Rattle.apfloat_pair_theory.proofs.calls.PairsDetermined.{pairs_determined}
 use Rattle.apfloat_pair_theory.proofs.calls.PairsOnce.{wide_answer_once}
 use Rattle.apfloat_c.specs.declared.data.Answer.{Answer}
 use Rattle.apfloat_c.specs.declared.data.Halves.{Halves}
-use Rattle.formats_at_run_time.specs.declared.FlaggedFormat.{FlaggedFormat}
-use Rattle.formats_at_run_time.specs.declared.FlaggedFormat.TheVariants.{BuiltIn, AfterRounding, BeforeRounding}
 use Rattle.formats_at_run_time.specs.declared.FlaggedKind.{FlaggedKind}
 use Rattle.formats_at_run_time.specs.declared.FlaggedKind.TheVariants.{OfFormat, Pairs}
-use Rattle.formats_at_run_time.specs.declared.BuiltInFormat.{BuiltInFormat}
-use Rattle.formats_at_run_time.specs.BuiltIns.{constants_in, known_format}
-use Rattle.formats_at_run_time.specs.FlaggedKinds.{flagged_constants, flagged_kind_of, format_of_ieee}
+use Rattle.formats_at_run_time.specs.FlaggedKinds.{flagged_kind_of}
 use Rattle.formats_at_run_time.specs.Once.{AreDetermined}
 use Rattle.formats_at_run_time.specs.Relations.{Relations, in_format, in_pairs}
 use Rattle.formats_at_run_time.specs.ValueKinds.{Kind, of_format, of_pairs, value_of}
 use Rattle.formats_at_run_time.proofs.OfTwoOnce.{of_two_once}
+use Rattle.block_arrays.proofs.FormatLaws.{HasLaw, format_law}
 use Rattle.apfloat_c.specs.declared.exported_call.ExportedCall.{ExportedCall}
 use Rattle.apfloat_c.specs.declared.exported_call.ExportedCall.TheVariants.{OfTwo, FusedSum, SquareRoot, FromUnsigned}
 use Rattle.apfloat_c.specs.declared.exported_call.ExportedCall.TheVariants.{FromSigned, ToUnsigned, ToSigned}
@@ -146,34 +142,9 @@ module _ {A : Type 0} (of_type : Relations A) (inverts : A → Option A → Type
 
 -- ---- the kinds of the codes
 
--- a lawful format, whose encoding is wider than its precision
-pub record HasLaw (constants : Constants) : Type 0 where
-  pub law : IsLawful constants
-  pub wide : constants.precision < constants.bits
-
 abbrev pub KindHasLaw : Kind → Type 0
 KindHasLaw (of_format c) = HasLaw c
 KindHasLaw of_pairs = ⊤
-
--- each built-in format is lawful
-pub built_in_law : (format : BuiltInFormat) → HasLaw (constants_in format)
-built_in_law format =
-    let known = known_format format in
-    record { law = known.lawful; wide = ltb-true _ _ known.wide }
-
--- a lawful format with other flags is lawful
-other_flags_law : (c : Constants) (tiny ieee : Bool) → HasLaw c
-    → HasLaw (record c { tiny_before_rounding = tiny; ieee_flags = ieee })
-other_flags_law c tiny ieee has = record { law = other_flags c tiny ieee has.law; wide = has.wide }
-
--- each format of the codes is lawful
-pub format_law : (format : FlaggedFormat) → HasLaw (flagged_constants format)
-format_law (BuiltIn format) = built_in_law format
-format_law (AfterRounding format) =
-    let c = constants_in (format_of_ieee format) in
-    other_flags_law c c.tiny_before_rounding true (built_in_law (format_of_ieee format))
-format_law (BeforeRounding format) =
-    other_flags_law (constants_in (format_of_ieee format)) true true (built_in_law (format_of_ieee format))
 
 pub kind_law : (known : FlaggedKind) → KindHasLaw (flagged_kind_of known)
 kind_law (OfFormat format) = format_law format

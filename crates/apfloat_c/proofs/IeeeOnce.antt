@@ -28,7 +28,8 @@ use Rattle.apfloat_c.specs.declared.ieee_call.InAnotherCall.TheVariants.{Quotien
 use Rattle.apfloat_c.specs.Answers.{IsValue, one_if}
 use Rattle.apfloat_c.specs.IeeeCalls.{IsExtremumBy, IsIeeeAnswer, IsInAnotherFormat, IsTruth}
 use Rattle.apfloat_c.specs.OneAnswer.{IsIeeeReplyOnce, IsInAnotherReplyOnce}
-use Rattle.apfloat_c.proofs.ExportsOnce.{HasLaw, OnceAnswer, format_determined, format_law, given_once, unchanged}
+use Rattle.apfloat_c.proofs.ExportsOnce.{OnceAnswer, format_determined, given_once, unchanged}
+use Rattle.block_arrays.proofs.FormatLaws.{HasLaw, format_law}
 use Rattle.apfloat_c.proofs.ExportsOnce.{value_once}
 
 -- if a relation has one truth value with one status, it leaves one result

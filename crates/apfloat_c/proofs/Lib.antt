@@ -6,6 +6,7 @@ pub mod TextsOnce
 pub mod ArrayCalls
 pub mod ElementCalls
 pub mod ArraysOnce
+pub mod BlocksOnce
 pub mod ParsedOnce
 pub mod FlaglessOnce
 pub mod IeeeOnce

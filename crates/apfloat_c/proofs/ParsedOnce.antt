@@ -21,7 +21,8 @@ use Rattle.formats_at_run_time.specs.ValueKinds.{Kind, of_format, of_pairs}
 use Rattle.apfloat_c.specs.declared.data.Answer.{Answer}
 use Rattle.apfloat_c.specs.Decimals.{IsDecimalAnswer, IsDecimalOutcome, IsReadInto}
 use Rattle.apfloat_c.specs.OneAnswer.{IsParsedOnce, SameAnswer}
-use Rattle.apfloat_c.proofs.ExportsOnce.{KindHasLaw, OnceAnswer, built_in_law, format_determined, unchanged, value_once}
+use Rattle.apfloat_c.proofs.ExportsOnce.{KindHasLaw, OnceAnswer, format_determined, unchanged, value_once}
+use Rattle.block_arrays.proofs.FormatLaws.{built_in_law}
 
 -- a text has one result
 decimal_answer_once : (kind : Kind) → KindHasLaw kind → (mode : Round) (text : List ℕ)

@@ -8,3 +8,4 @@ pub mod IeeeCalls
 pub mod MachineCalls
 pub mod About
 pub mod OneAnswer
+pub mod Blocks

@@ -4,6 +4,9 @@ use Rattle.rustc_apfloat.specs.declared.Round.{Round}
 use Rattle.formats_at_run_time.specs.declared.BuiltInFormat.{BuiltInFormat}
 use Rattle.formats_at_run_time.specs.declared.FlaggedKind.{FlaggedKind}
 use Rattle.array_conversions.specs.Bytes.{AreBytes}
+use Rattle.block_formats.specs.declared.ElementFormat.{ElementFormat}
+use Rattle.block_arrays.specs.declared.Dequantization.{Dequantization}
+use Rattle.block_arrays.specs.declared.Quantization.{Quantization}
 use Rattle.apfloat_c.specs.declared.array_calls.KnownConversion.{KnownConversion}
 use Rattle.apfloat_c.specs.declared.array_calls.MapCall.{MapCall}
 use Rattle.apfloat_c.specs.declared.array_data.ArrayAnswer.{ArrayAnswer}
@@ -16,6 +19,7 @@ use Rattle.apfloat_c.specs.declared.ieee_call.InAnotherCall.{InAnotherCall}
 use Rattle.apfloat_c.specs.About.{IsErrorText}
 use Rattle.apfloat_c.specs.Answers.{IsReturned, whole}
 use Rattle.apfloat_c.specs.Arrays.{IsConvertedArray, IsMappedArray}
+use Rattle.apfloat_c.specs.Blocks.{IsDequantizedCall, IsPackedCall, IsQuantizedCall, IsUnpackedCall}
 use Rattle.apfloat_c.specs.Decimals.{KnownReading, IsParsed, IsShortestWritten}
 use Rattle.apfloat_c.specs.FlaglessCalls.{IsFlaglessReply}
 use Rattle.apfloat_c.specs.IeeeCalls.{IsIeeeReply, IsInAnotherReply}
@@ -111,3 +115,37 @@ IsMappedArrayOnce =
     → IsMappedArray known xs ys zs old first before after code
     → IsMappedArray known xs ys zs old second before also other
     → (code ≡ other) × (first ≡ second) × (after ≡ also)
+
+-- an array that is quantized to blocks
+abbrev pub IsQuantizedCallOnce : Type 0
+IsQuantizedCallOnce =
+    (known : Result Quantization ℕ) (values before scales other_scales old first second : List ℕ)
+    (answer after also : ArrayAnswer) (code other : ℕ) → IsLeftIn old first → IsLeftIn old second
+    → IsQuantizedCall known values before scales old first answer after code
+    → IsQuantizedCall known values before other_scales old second answer also other
+    → (code ≡ other) × (scales ≡ other_scales) × (first ≡ second) × (after ≡ also)
+
+-- an array that is taken out of blocks
+abbrev pub IsDequantizedCallOnce : Type 0
+IsDequantizedCallOnce =
+    (known : Result Dequantization ℕ) (scales codes old first second : List ℕ) (before after also : ArrayAnswer)
+    (code other : ℕ) → IsLeftIn old first → IsLeftIn old second
+    → IsDequantizedCall known scales codes old first before after code
+    → IsDequantizedCall known scales codes old second before also other
+    → (code ≡ other) × (first ≡ second) × (after ≡ also)
+
+-- codes that are packed into bytes
+abbrev pub IsPackedCallOnce : Type 0
+IsPackedCallOnce =
+    (element : Option ElementFormat) (codes old first second : List ℕ) (code other : ℕ)
+    → IsLeftIn old first → IsLeftIn old second
+    → IsPackedCall element codes old first code → IsPackedCall element codes old second other
+    → (code ≡ other) × (first ≡ second)
+
+-- codes that are taken out of bytes
+abbrev pub IsUnpackedCallOnce : Type 0
+IsUnpackedCallOnce =
+    (element : Option ElementFormat) (bytes old first second : List ℕ) (code other : ℕ)
+    → IsLeftIn old first → IsLeftIn old second
+    → IsUnpackedCall element bytes old first code → IsUnpackedCall element bytes old second other
+    → (code ≡ other) × (first ≡ second)

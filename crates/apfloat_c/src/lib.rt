@@ -9,6 +9,7 @@ mod answers;
 mod array_calls;
 mod array_data;
 mod arrays;
+mod blocks;
 mod by_code;
 mod codes;
 mod data;

@@ -3,8 +3,11 @@
 ghost use Rattle.apfloat_c.specs.OneAnswer.{IsConvertedArrayOnce, IsMappedArrayOnce, IsParsedOnce, IsReplyOnce};
 ghost use Rattle.apfloat_c.specs.OneAnswer.{IsErrorTextOnce, IsFlaglessReplyOnce, IsTextOnce};
 ghost use Rattle.apfloat_c.specs.OneAnswer.{IsIeeeReplyOnce, IsInAnotherReplyOnce, IsMachineReplyOnce};
+ghost use Rattle.apfloat_c.specs.OneAnswer.{IsDequantizedCallOnce, IsPackedCallOnce, IsQuantizedCallOnce};
+ghost use Rattle.apfloat_c.specs.OneAnswer.{IsUnpackedCallOnce};
 
 use apfloat_format_of::theorems::operations_have_one_answer;
+use packed_codes::packed_codes_have_one_answer;
 
 /// The contract of each export allows one code and one result, text or array.
 pub fn one_answer()
@@ -18,6 +21,11 @@ pub fn one_answer()
     ensures error { IsErrorTextOnce }
     ensures converted { IsConvertedArrayOnce }
     ensures mapped { IsMappedArrayOnce }
+    ensures quantized { IsQuantizedCallOnce }
+    ensures dequantized { IsDequantizedCallOnce }
+    ensures packed { IsPackedCallOnce }
+    ensures unpacked { IsUnpackedCallOnce }
 {
     operations_have_one_answer();
+    packed_codes_have_one_answer();
 }

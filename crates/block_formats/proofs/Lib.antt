@@ -1,17 +1,17 @@
 mod SameFractions
 mod Quotients
 mod Products
-mod Places
-mod Greatest
+pub mod Places
+pub mod Greatest
 mod ScaleCodes
 mod Tops
 mod Halves
-mod Powers
-mod Fractions
-mod Counted
+pub mod Powers
+pub mod Fractions
+pub mod Counted
 mod ElementsOnce
 mod PlacesOnce
-mod OneBlock
+pub mod OneBlock
 mod ExactProducts
 mod JointScales
 mod NvScales

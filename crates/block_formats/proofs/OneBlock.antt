@@ -67,7 +67,7 @@ nan_once nan values codes others block other x y = (
       (x.finite_is ∙ sym y.finite_is),
 )
 
-block_once : (element : ElementFormat) (f : Format) (mode : Round) (values : List Datum)
+pub block_once : (element : ElementFormat) (f : Format) (mode : Round) (values : List Datum)
     → DeterminesBoth (IsBlock element f mode values)
 block_once element f mode values =
     match_case DeterminesBoth (are_finite values) (IsBlockOfNumbers element f mode values)
@@ -101,7 +101,7 @@ quantized_once element f mode values before after other (Err CodeTooWide) reply 
 
 -- ---- out of a block
 
-scaled_once : (element : ElementFormat) (g : Format) (mode : Round) (scale code : ℕ)
+pub scaled_once : (element : ElementFormat) (g : Format) (mode : Round) (scale code : ℕ)
     → Once (IsScaled element g mode scale code)
 scaled_once element g mode scale code =
     match_case Once (eqb scale nan_code) (IsAnswer _ _)

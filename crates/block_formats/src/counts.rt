@@ -21,7 +21,7 @@ pub struct Counts {
 
 impl Counts {
     /// The counts of no elements.
-    pub(crate) const NONE: Counts = Counts {
+    pub const NONE: Counts = Counts {
         invalid: 0,
         overflow: 0,
         underflow: 0,
@@ -29,7 +29,7 @@ impl Counts {
     };
 
     /// The counts with one more element.
-    pub(crate) fn with(self, status: Status) -> Counts
+    pub fn with(self, status: Status) -> Counts
         requires { HaveRoom self }
         ensures { result ≡ with_status self (bits_of status) }
     {

@@ -147,7 +147,7 @@ fn stored_quotient<F: StorageFormat, S: Semantics, R: Semantics>(
 }
 
 /// The quotient of a finite value and a positive one as an element, rounded once and saturating.
-pub(crate) fn quotient_code<S: Semantics, R: Semantics>(
+pub fn quotient_code<S: Semantics, R: Semantics>(
     element: ElementFormat,
     x: IeeeFloat<S>,
     y: IeeeFloat<R>,

@@ -20,9 +20,11 @@ mod nvfp4_scales;
 mod theorems;
 
 pub use counts::Counts;
-pub use elements::ElementFormat;
+pub use elements::{ElementFormat, quotient_code};
 pub use errors::BlockError;
-pub use mx::{BLOCK, Block, dequantize_block, quantize_block};
+pub use magnitudes::greater;
+pub use mx::{BLOCK, Block, dequantize_block, quantize_block, scaled};
+pub use mx_scales::{power_of, scale_for};
 pub use nvfp4::{NVFP4_BLOCK, dequantize_nvfp4_block, quantize_nvfp4_block};
 pub use nvfp4_errors::Nvfp4Error;
 pub use nvfp4_scales::tensor_scale;

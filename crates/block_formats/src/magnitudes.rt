@@ -35,7 +35,7 @@ fn larger<S: Semantics>(x: IeeeFloat<S>, y: IeeeFloat<S>) -> IeeeFloat<S>
 }
 
 /// The greater of a value that is not below zero and the magnitude of another.
-fn greater<S: Semantics>(greatest: IeeeFloat<S>, x: IeeeFloat<S>) -> IeeeFloat<S>
+pub fn greater<S: Semantics>(greatest: IeeeFloat<S>, x: IeeeFloat<S>) -> IeeeFloat<S>
     requires greatest { greatest ≡ finite false (quanta_of greatest) }
     requires member { IsMember (format_of S.Semantics) greatest }
     requires finite { is_finite x ≡ true }

@@ -126,7 +126,7 @@ pub fn quantize_block<S: Semantics>(
 }
 
 /// An element times the scale with that code, rounded once.
-fn scaled<G: Flagged>(
+pub fn scaled<G: Flagged>(
     element: ElementFormat,
     scale: u8,
     code: u8,

@@ -41,7 +41,7 @@ fn clamped_code(exponent: ExpInt) -> u8
 }
 
 /// The code of the scale of a block with that greatest magnitude.
-pub(crate) fn scale_for<S: Semantics>(element: ElementFormat, greatest: IeeeFloat<S>) -> u8
+pub fn scale_for<S: Semantics>(element: ElementFormat, greatest: IeeeFloat<S>) -> u8
     requires sign { greatest ≡ finite false (quanta_of greatest) }
     requires member { IsMember (format_of S.Semantics) greatest }
     ensures value { IsBlockScale element (format_of S.Semantics) (quanta_of greatest) result }
@@ -54,7 +54,7 @@ pub(crate) fn scale_for<S: Semantics>(element: ElementFormat, greatest: IeeeFloa
 }
 
 /// The scale with that code as a number; `BFloat` has each of them.
-pub(crate) fn power_of(code: u8) -> IeeeFloat<BFloatS>
+pub fn power_of(code: u8) -> IeeeFloat<BFloatS>
     requires { code ≤ largest_code }
     ensures positive { IsPositive (format_with bfloat_constants) result }
     ensures value { quanta_of result ≡ 2 ^ (code + 6) }

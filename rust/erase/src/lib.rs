@@ -50,6 +50,9 @@ pub const FOR_C: &[&str] = &[
     "formats_at_run_time",
     "array_conversions",
     "storage_arrays",
+    "packed_codes",
+    "block_formats",
+    "block_arrays",
     "apfloat_c",
 ];
 

@@ -1,4 +1,6 @@
 use Rattle.apfloat_c.proofs.ArraysOnce.{converted_array_once, mapped_array_once}
+use Rattle.apfloat_c.proofs.BlocksOnce.{dequantized_call_once, packed_call_once, quantized_call_once}
+use Rattle.apfloat_c.proofs.BlocksOnce.{unpacked_call_once}
 use Rattle.apfloat_c.proofs.ExportsOnce.{reply_once}
 use Rattle.apfloat_c.proofs.FlaglessOnce.{flagless_reply_once}
 use Rattle.apfloat_c.proofs.IeeeOnce.{EachHasOne, ieee_reply_once, in_another_reply_once}
@@ -30,4 +32,8 @@ returns c =
       error = error_text_once;
       converted = converted_array_once;
       mapped = mapped_array_once;
+      quantized = quantized_call_once;
+      dequantized = dequantized_call_once;
+      packed = packed_call_once c.packed_codes_have_one_answer.ensures;
+      unpacked = unpacked_call_once c.packed_codes_have_one_answer.ensures;
     }

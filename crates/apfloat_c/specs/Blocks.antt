@@ -1,0 +1,144 @@
+-- Calls on arrays in blocks with a common scale.
+use Rattle.std.specs.Prelude.{◌≡◌, ℕ, ◌==◌, ⊤, if◌then◌else◌, List, length, Option, Some, None}
+use Rattle.std.specs.Prelude.{ok_or}
+use Rattle.std.specs.Prelude.{Result, Ok, Err}
+use Rattle.rustc_apfloat.specs.declared.Round.{Round}
+use Rattle.formats_at_run_time.specs.declared.FlaggedKind.{FlaggedKind}
+use Rattle.formats_at_run_time.specs.declared.FlaggedKind.TheVariants.{OfFormat, Pairs}
+use Rattle.formats_at_run_time.specs.FlaggedKinds.{format_without_rule}
+use Rattle.array_conversions.specs.declared.Counts.{Counts}
+use Rattle.packed_codes.specs.declared.PackingError.{PackingError}
+use Rattle.packed_codes.specs.declared.PackingError.TheVariants.{Uneven as UnevenCodes, Lengths as CodeLengths}
+use Rattle.packed_codes.specs.declared.PackingError.TheVariants.{CodeTooWide as WideCode}
+use Rattle.packed_codes.specs.Packed.{IsPackedBy, IsUnpackedBy}
+use Rattle.block_formats.specs.declared.ElementFormat.{ElementFormat}
+use Rattle.block_formats.specs.declared.ElementFormat.TheVariants.{E5M2, E4M3FN, E3M2FN, E2M3FN, E2M1FN}
+use Rattle.block_arrays.specs.declared.ArrayError.{ArrayError}
+use Rattle.block_arrays.specs.declared.ArrayError.TheVariants.{EmptyBlock, Uneven, Lengths, CodeTooWide}
+use Rattle.block_arrays.specs.declared.Quantization.{Quantization}
+use Rattle.block_arrays.specs.declared.Dequantization.{Dequantization}
+use Rattle.block_arrays.specs.Dequantized.{IsDequantizedArray, width_out}
+use Rattle.block_arrays.specs.Lengths.{blocks_of}
+use Rattle.block_arrays.specs.Quantized.{IsQuantizedArray, width_in}
+use Rattle.apfloat_c.specs.declared.array_data.ArrayAnswer.{ArrayAnswer}
+use Rattle.apfloat_c.specs.ArrayCalls.{wrong_length}
+use Rattle.apfloat_c.specs.Arrays.{answer_with}
+use Rattle.apfloat_c.specs.KnownCalls.{◌>>=◌, answered, no_such_operation, unknown_format, unknown_mode}
+use Rattle.apfloat_c.specs.MachineCalls.{wide_operand}
+
+-- ---- codes
+
+abbrev pub element_coded : ℕ → Option ElementFormat
+element_coded code =
+    if code == 6 then Some E5M2
+    else if code == 7 then Some E4M3FN
+    else if code == 32 then Some E2M1FN
+    else if code == 33 then Some E2M3FN
+    else if code == 34 then Some E3M2FN
+    else None
+
+abbrev pub array_error : ArrayError → ℕ
+array_error EmptyBlock = wrong_length
+array_error Uneven = wrong_length
+array_error Lengths = wrong_length
+array_error CodeTooWide = wide_operand
+
+abbrev pub packing_error : PackingError → ℕ
+packing_error UnevenCodes = wrong_length
+packing_error CodeLengths = wrong_length
+packing_error WideCode = wide_operand
+
+-- ---- what is asked for
+
+abbrev pub quantization_of : FlaggedKind → Round → ElementFormat → ℕ → Result Quantization ℕ
+quantization_of (OfFormat format) round element block =
+    Ok (record { source = format_without_rule format; element = element; length = block; round = round })
+quantization_of Pairs round element block = Err no_such_operation
+
+-- The faults in their order: both formats, the mode, that there are no blocks of pairs.
+abbrev pub known_quantization : Option FlaggedKind → Option Round → Option ElementFormat → ℕ
+    → Result Quantization ℕ
+known_quantization kind mode element block =
+    ok_or kind unknown_format >>= λ known. ok_or element unknown_format >>= λ elements.
+    ok_or mode unknown_mode >>= λ round. quantization_of known round elements block
+
+abbrev pub dequantization_of : ElementFormat → Round → FlaggedKind → ℕ → Result Dequantization ℕ
+dequantization_of element round (OfFormat format) block =
+    Ok (record { element = element; length = block; target = format; round = round })
+dequantization_of element round Pairs block = Err no_such_operation
+
+abbrev pub known_dequantization : Option ElementFormat → Option Round → Option FlaggedKind → ℕ
+    → Result Dequantization ℕ
+known_dequantization element mode kind block =
+    ok_or element unknown_format >>= λ elements. ok_or kind unknown_format >>= λ known.
+    ok_or mode unknown_mode >>= λ round. dequantization_of elements round known block
+
+-- ---- what a call leaves
+
+-- the code 0 and the counts, or the code of an error and the previous answer
+abbrev pub IsReply : Result Counts ArrayError → ArrayAnswer → ArrayAnswer → ℕ → Type 0
+IsReply (Ok counts) before after code =
+    (code ≡ answered) × (after ≡ answer_with (record { counts = counts; div_by_zero = 0 }))
+IsReply (Err error) before after code = (code ≡ array_error error) × (after ≡ before)
+
+pub record IsQuantizedReply (q : Quantization) (values before scales old codes : List ℕ) (answer reply : ArrayAnswer)
+    (code : ℕ) : Type 0 where
+  pub made : Result Counts ArrayError
+  pub is_made : IsQuantizedArray q (blocks_of q.length (width_in q) (length values) (length before) (length old))
+      values before scales old codes made
+  pub is_reply : IsReply made answer reply code
+
+abbrev pub IsQuantizedCall : Result Quantization ℕ → List ℕ → List ℕ → List ℕ → List ℕ → List ℕ
+    → ArrayAnswer → ArrayAnswer → ℕ → Type 0
+IsQuantizedCall (Ok q) values before scales old codes answer reply code =
+    IsQuantizedReply q values before scales old codes answer reply code
+IsQuantizedCall (Err error) values before scales old codes answer reply code =
+    (code ≡ error) × (scales ≡ before) × (codes ≡ old) × (reply ≡ answer)
+
+pub record IsDequantizedReply (q : Dequantization) (scales codes before after : List ℕ) (answer reply : ArrayAnswer)
+    (code : ℕ) : Type 0 where
+  pub made : Result Counts ArrayError
+  pub is_made : IsDequantizedArray q (blocks_of q.length (width_out q) (length before) (length scales) (length codes))
+      scales codes before after made
+  pub is_reply : IsReply made answer reply code
+
+abbrev pub IsDequantizedCall : Result Dequantization ℕ → List ℕ → List ℕ → List ℕ → List ℕ
+    → ArrayAnswer → ArrayAnswer → ℕ → Type 0
+IsDequantizedCall (Ok q) scales codes before after answer reply code =
+    IsDequantizedReply q scales codes before after answer reply code
+IsDequantizedCall (Err error) scales codes before after answer reply code =
+    (code ≡ error) × (after ≡ before) × (reply ≡ answer)
+
+-- ---- packed codes
+
+-- the code of what packing returned
+abbrev pub packing_code : Result ⊤ PackingError → ℕ
+packing_code (Ok done) = answered
+packing_code (Err error) = packing_error error
+
+pub record IsPackedReply (bits group : ℕ) (codes before after : List ℕ) (code : ℕ) : Type 0 where
+  pub made : Result ⊤ PackingError
+  pub is_made : IsPackedBy bits group codes before after made
+  pub code_is : code ≡ packing_code made
+
+-- codes of 4 and 6 bits alone are packed
+abbrev pub IsPackedCall : Option ElementFormat → List ℕ → List ℕ → List ℕ → ℕ → Type 0
+IsPackedCall None codes before after code = (code ≡ unknown_format) × (after ≡ before)
+IsPackedCall (Some E5M2) codes before after code = (code ≡ no_such_operation) × (after ≡ before)
+IsPackedCall (Some E4M3FN) codes before after code = (code ≡ no_such_operation) × (after ≡ before)
+IsPackedCall (Some E3M2FN) codes before after code = IsPackedReply 6 4 codes before after code
+IsPackedCall (Some E2M3FN) codes before after code = IsPackedReply 6 4 codes before after code
+IsPackedCall (Some E2M1FN) codes before after code = IsPackedReply 4 2 codes before after code
+
+pub record IsUnpackedReply (bits group : ℕ) (bytes before after : List ℕ) (code : ℕ) : Type 0 where
+  pub made : Result ⊤ PackingError
+  pub is_made : IsUnpackedBy bits group bytes before after made
+  pub code_is : code ≡ packing_code made
+
+abbrev pub IsUnpackedCall : Option ElementFormat → List ℕ → List ℕ → List ℕ → ℕ → Type 0
+IsUnpackedCall None bytes before after code = (code ≡ unknown_format) × (after ≡ before)
+IsUnpackedCall (Some E5M2) bytes before after code = (code ≡ no_such_operation) × (after ≡ before)
+IsUnpackedCall (Some E4M3FN) bytes before after code = (code ≡ no_such_operation) × (after ≡ before)
+IsUnpackedCall (Some E3M2FN) bytes before after code = IsUnpackedReply 6 4 bytes before after code
+IsUnpackedCall (Some E2M3FN) bytes before after code = IsUnpackedReply 6 4 bytes before after code
+IsUnpackedCall (Some E2M1FN) bytes before after code = IsUnpackedReply 4 2 bytes before after code

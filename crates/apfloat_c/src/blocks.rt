@@ -1,0 +1,228 @@
+//! The exports that quantize arrays to blocks with a common scale, take arrays out of them, and pack their codes,
+//! declared for C programs in `include/apfloat.h`.
+
+ghost use Rattle.std.specs.Prelude.{◌≡◌};
+ghost use Rattle.formats_at_run_time.specs.FlaggedKinds.{flagged_kind_coded};
+ghost use Rattle.formats_at_run_time.specs.Modes.{mode_coded};
+ghost use Rattle.apfloat_c.specs.Blocks.{IsDequantizedCall, IsPackedCall, IsQuantizedCall, IsUnpackedCall};
+ghost use Rattle.apfloat_c.specs.Blocks.{array_error, element_coded, known_dequantization, known_quantization};
+ghost use Rattle.apfloat_c.specs.Blocks.{packing_error};
+
+use crate::array_data::{ArrayAnswer, ElementCounts};
+use crate::codes::{
+    ANSWERED, NO_SUCH_OPERATION, UNKNOWN_FORMAT, UNKNOWN_MODE, WIDE_OPERAND, WRONG_LENGTH,
+};
+use block_arrays::{ArrayError, Dequantization, Quantization};
+use block_formats::ElementFormat;
+use formats_at_run_time::{FlaggedKind, mode_coded};
+use packed_codes::{PackingError, pack_fours, pack_sixes, unpack_fours, unpack_sixes};
+use rustc_apfloat::Round;
+
+/// The element format with this code.
+fn element_coded(code: u32) -> Option<ElementFormat>
+    ensures { result ≡ element_coded code }
+{
+    match code {
+        6 => Some(ElementFormat::E5M2),
+        7 => Some(ElementFormat::E4M3FN),
+        32 => Some(ElementFormat::E2M1FN),
+        33 => Some(ElementFormat::E2M3FN),
+        34 => Some(ElementFormat::E3M2FN),
+        _ => None,
+    }
+}
+
+/// The code of an error.
+fn array_error(error: ArrayError) -> u32
+    ensures { result ≡ array_error error }
+{
+    match error {
+        ArrayError::EmptyBlock => WRONG_LENGTH,
+        ArrayError::Uneven => WRONG_LENGTH,
+        ArrayError::Lengths => WRONG_LENGTH,
+        ArrayError::CodeTooWide => WIDE_OPERAND,
+    }
+}
+
+/// The code of an error.
+fn packing_error(error: PackingError) -> u32
+    ensures { result ≡ packing_error error }
+{
+    match error {
+        PackingError::Uneven => WRONG_LENGTH,
+        PackingError::Lengths => WRONG_LENGTH,
+        PackingError::CodeTooWide => WIDE_OPERAND,
+    }
+}
+
+/// What quantizes as these codes ask.
+fn known_quantization(
+    kind: Option<FlaggedKind>,
+    mode: Option<Round>,
+    element: Option<ElementFormat>,
+    length: usize,
+) -> Result<Quantization, u32>
+    ensures { result ≡ known_quantization kind mode element length }
+{
+    let Some(kind) = kind else {
+        return Err(UNKNOWN_FORMAT);
+    };
+    let Some(element) = element else {
+        return Err(UNKNOWN_FORMAT);
+    };
+    let Some(round) = mode else {
+        return Err(UNKNOWN_MODE);
+    };
+    match kind {
+        FlaggedKind::OfFormat(format) => Ok(Quantization {
+            source: format.built_in(),
+            element,
+            length,
+            round,
+        }),
+        FlaggedKind::Pairs => Err(NO_SUCH_OPERATION),
+    }
+}
+
+/// What takes values out of blocks as these codes ask.
+fn known_dequantization(
+    element: Option<ElementFormat>,
+    mode: Option<Round>,
+    kind: Option<FlaggedKind>,
+    length: usize,
+) -> Result<Dequantization, u32>
+    ensures { result ≡ known_dequantization element mode kind length }
+{
+    let Some(element) = element else {
+        return Err(UNKNOWN_FORMAT);
+    };
+    let Some(kind) = kind else {
+        return Err(UNKNOWN_FORMAT);
+    };
+    let Some(round) = mode else {
+        return Err(UNKNOWN_MODE);
+    };
+    match kind {
+        FlaggedKind::OfFormat(target) => Ok(Dequantization {
+            element,
+            length,
+            target,
+            round,
+        }),
+        FlaggedKind::Pairs => Err(NO_SUCH_OPERATION),
+    }
+}
+
+/// Quantizes an array to blocks.
+#[unsafe(no_mangle)]
+pub extern "C" fn apfloat_quantize_blocks(
+    format: u32,
+    mode: u32,
+    element: u32,
+    length: usize,
+    values: &[u8],
+    scales: &mut [u8],
+    codes: &mut [u8],
+    answer: &mut ArrayAnswer,
+) -> u32
+    ensures { let known = known_quantization (flagged_kind_coded format) (mode_coded mode)
+        (element_coded element) length in
+        IsQuantizedCall known values.now scales.old scales.new codes.old codes.new answer.old
+        answer.new result }
+{
+    let known = known_quantization(
+        FlaggedKind::coded(format),
+        mode_coded(mode),
+        element_coded(element),
+        length,
+    );
+    match known {
+        Err(error) => error,
+        Ok(quantization) => match quantization.quantize(values, scales, codes) {
+            Err(error) => array_error(error),
+            Ok(counts) => {
+                *answer = ArrayAnswer::of(ElementCounts {
+                    counts,
+                    div_by_zero: 0,
+                });
+                ANSWERED
+            }
+        },
+    }
+}
+
+/// Takes an array out of blocks.
+#[unsafe(no_mangle)]
+pub extern "C" fn apfloat_dequantize_blocks(
+    element: u32,
+    mode: u32,
+    to: u32,
+    length: usize,
+    scales: &[u8],
+    codes: &[u8],
+    results: &mut [u8],
+    answer: &mut ArrayAnswer,
+) -> u32
+    ensures { let known = known_dequantization (element_coded element) (mode_coded mode)
+        (flagged_kind_coded to) length in
+        IsDequantizedCall known scales.now codes.now results.old results.new answer.old answer.new
+        result }
+{
+    let known = known_dequantization(
+        element_coded(element),
+        mode_coded(mode),
+        FlaggedKind::coded(to),
+        length,
+    );
+    match known {
+        Err(error) => error,
+        Ok(dequantization) => match dequantization.dequantize(scales, codes, results) {
+            Err(error) => array_error(error),
+            Ok(counts) => {
+                *answer = ArrayAnswer::of(ElementCounts {
+                    counts,
+                    div_by_zero: 0,
+                });
+                ANSWERED
+            }
+        },
+    }
+}
+
+/// Packs codes into bytes.
+#[unsafe(no_mangle)]
+pub extern "C" fn apfloat_pack_codes(element: u32, codes: &[u8], bytes: &mut [u8]) -> u32
+    ensures { IsPackedCall (element_coded element) codes.now bytes.old bytes.new result }
+{
+    let packed = match element_coded(element) {
+        None => return UNKNOWN_FORMAT,
+        Some(ElementFormat::E5M2) => return NO_SUCH_OPERATION,
+        Some(ElementFormat::E4M3FN) => return NO_SUCH_OPERATION,
+        Some(ElementFormat::E3M2FN) => pack_sixes(codes, bytes),
+        Some(ElementFormat::E2M3FN) => pack_sixes(codes, bytes),
+        Some(ElementFormat::E2M1FN) => pack_fours(codes, bytes),
+    };
+    match packed {
+        Err(error) => packing_error(error),
+        Ok(()) => ANSWERED,
+    }
+}
+
+/// Takes codes out of bytes.
+#[unsafe(no_mangle)]
+pub extern "C" fn apfloat_unpack_codes(element: u32, bytes: &[u8], codes: &mut [u8]) -> u32
+    ensures { IsUnpackedCall (element_coded element) bytes.now codes.old codes.new result }
+{
+    let unpacked = match element_coded(element) {
+        None => return UNKNOWN_FORMAT,
+        Some(ElementFormat::E5M2) => return NO_SUCH_OPERATION,
+        Some(ElementFormat::E4M3FN) => return NO_SUCH_OPERATION,
+        Some(ElementFormat::E3M2FN) => unpack_sixes(bytes, codes),
+        Some(ElementFormat::E2M3FN) => unpack_sixes(bytes, codes),
+        Some(ElementFormat::E2M1FN) => unpack_fours(bytes, codes),
+    };
+    match unpacked {
+        Err(error) => packing_error(error),
+        Ok(()) => ANSWERED,
+    }
+}

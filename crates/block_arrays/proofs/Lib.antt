@@ -1,0 +1,6 @@
+mod Fitting
+mod Listed
+mod Made
+mod Scaled
+pub mod FormatLaws
+pub mod OneArray

@@ -1,0 +1,5 @@
+pub mod Lengths
+pub mod Values
+pub mod Quantized
+pub mod Dequantized
+pub mod OneArray

@@ -1,0 +1,14 @@
+//! Why nothing was written.
+
+/// Why an array was refused.
+#[derive(Clone, Copy, PartialEq)]
+pub enum ArrayError {
+    /// A block has no elements.
+    EmptyBlock,
+    /// The length of a block does not divide the number of values.
+    Uneven,
+    /// The bytes of the values end inside one, or there are not as many codes as values or scales as blocks.
+    Lengths,
+    /// A code has more bits than the element format.
+    CodeTooWide,
+}
