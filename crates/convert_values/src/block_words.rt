@@ -137,6 +137,8 @@ fn form_with(element: ElementFormat, word: &str) -> Result<BlockForm, Option<Wro
 /// The format and the mode of these words.
 fn names_of(words: &[String]) -> Result<(BuiltInFormat, Round), Option<WrongWord<'_>>> {
     match words {
+        // Its value is missing.
+        [word, ..] if word.as_str() == "--block-length" => Err(None),
         [word, ..] if word.as_str().starts_with('-') => Err(Some(WrongWord {
             fault: "no such option of blocks",
             word: word.as_str(),

@@ -27,7 +27,7 @@ pub fn wrong_word(words: &[String]) -> Option<WrongWord<'_>> {
         [word, ..] if is_block_option(word.as_str()) => blocks_named(words).err()?,
         [word, next, ..] if is_option(word.as_str()) && is_block_option(next.as_str()) => {
             Some(WrongWord {
-                fault: "an option that blocks do not have",
+                fault: "no such option of blocks",
                 word: word.as_str(),
                 known: &[],
             })
