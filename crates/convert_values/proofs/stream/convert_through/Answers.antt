@@ -1,14 +1,15 @@
-use Rattle.std.proofs.Common.{rules, ◌≡◌, ◌*◌, ◌≤◌, ◌/◌, ℕ, arith, sym, subst}
-use Rattle.std.proofs.Math.Nat.{div-le_of_le-mul, mul-le-mul_right}
+use Rattle.std.proofs.Common.{rules, ◌≡◌, ◌*◌, ◌≤◌, ◌/◌, ℕ, arith}
+use Rattle.std.proofs.Math.Nat.{mul-le-mul_right, div-le-div_right}
 use Rattle.convert_values.specs.StreamWidths.{stream_widths}
 use Rattle.convert_values.proofs.stream.convert_through.Goals as goal
 
--- if a block has room for as many values in one format, it has room for them in the other
-has_room : (read block source target buffer : ℕ) → read ≤ block * source → buffer ≡ block * target
-    → read / source * target ≤ buffer
-has_room read block source target buffer l is =
-    let few : read / source ≤ block = div-le_of_le-mul source (omega (arith, l)) in
-    subst (λ (x : ℕ). read / source * target ≤ x) (sym is) (mul-le-mul_right target few)
+-- what has room for all that a buffer holds has room for a part of it
+has_room : (part read source target buffer : ℕ) → part ≤ read → read / source * target ≤ buffer
+    → part / source * target ≤ buffer
+has_room part read source target buffer less fits =
+    let fewer : part / source * target ≤ read / source * target =
+    mul-le-mul_right target (div-le-div_right source less) in
+    omega (arith, fewer, fits)
 
 pub convert-block-requires : goal.convert-block-requires
 convert-block-requires g c =

@@ -1,0 +1,3 @@
+mod BlockBytes
+mod BlockLengths
+mod Converted
