@@ -79,7 +79,8 @@ fn convert_through<C: Clock, I: Read, W: Write, V: Write>(
     output: &mut W,
     err: &mut V,
 ) -> Result<Summary, Failure>
-    requires { length read.old / (stream_widths conversion).source
+    requires least { 1 ≤ (stream_widths conversion).source }
+    requires room { length read.old / (stream_widths conversion).source
         * (stream_widths conversion).target ≤ length buffer.items }
 {
     let mut counts = Counts::NONE;
