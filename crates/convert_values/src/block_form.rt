@@ -1,6 +1,7 @@
 //! How a block lies in bytes.
 
-ghost use Rattle.std.specs.Prelude.{◌≡◌, ◌+◌, ◌*◌, ◌%◌, ◌^◌, ◌<◌, ◌≤◌, ◌↔◌, All, length, IsSome, IfSome};
+ghost use Rattle.std.specs.Prelude.{◌≡◌, ◌+◌, ◌*◌, ◌%◌, ◌^◌, ◌<◌, ◌≤◌, ◌↔◌};
+ghost use Rattle.std.specs.Prelude.{All, length, IfSome, IsSome};
 ghost use Rattle.block_formats.specs.Elements.{width};
 ghost use Rattle.packed_codes.specs.Packed.{ArePacked};
 

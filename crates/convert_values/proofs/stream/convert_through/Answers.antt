@@ -4,8 +4,8 @@ use Rattle.convert_values.specs.StreamWidths.{stream_widths}
 use Rattle.convert_values.proofs.stream.convert_through.Goals as goal
 
 -- what has room for all that a buffer holds has room for a part of it
-has_room : (part read source target buffer : ℕ) → 1 ≤ source → part ≤ read → read / source * target ≤ buffer
-    → part / source * target ≤ buffer
+has_room : (part read source target buffer : ℕ) → 1 ≤ source → part ≤ read
+    → read / source * target ≤ buffer → part / source * target ≤ buffer
 has_room part read source target buffer some less fits =
     let within : part / source * source ≤ read = omega (arith, div-mul-le_self part source, less) in
     let fewer : part / source ≤ read / source = (le-div_iff_mul-le some).1 within in
