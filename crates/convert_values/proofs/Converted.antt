@@ -1,7 +1,6 @@
 -- Blocks that are converted one after another.
-use Rattle.std.proofs.Common.{◌≡◌, ℕ, ◌+◌, ◌-◌, ◌*◌, ◌/◌, ◌<◌, ◌≤◌, refl, sym, ap, ◌∙◌, subst, arith}
+use Rattle.std.proofs.Common.{◌≡◌, ℕ, ◌+◌, ◌-◌, ◌*◌, ◌/◌, ◌<◌, refl, sym, ap, ◌∙◌, subst}
 use Rattle.std.proofs.Common.{List, [], ◌∷◌, ◌++◌, length, take}
-use Rattle.std.proofs.lemmas.List.{take_at, take-take}
 use borrow.Rule.Slice.PartMut.{put_mid}
 use Rattle.array_conversions.specs.declared.Counts.{Counts}
 use Rattle.array_conversions.specs.declared.Widths.{Widths}
@@ -61,18 +60,11 @@ converted_next q w index count read written new counts part e before all size he
     (λ all size here. converted_more q index count read written new counts part before all size here so_far)
     all size here
 
--- all blocks, in the front of a buffer
-pub converted_front : (q : BlockConversion) (w : Widths) (read given rest : List ℕ) (room : ℕ) (counts : Counts)
-    → w ≡ block_widths q → length given ≡ length read / w.source * w.target → length given ≤ room
-    → AreConverted q (length read / w.source) (take (length read / w.source * w.source) read) given counts
+-- all blocks, with the widths by their name
+pub converted_all : (q : BlockConversion) (w : Widths) (read bytes : List ℕ) (counts : Counts) → w ≡ block_widths q
+    → AreConverted q (length read / w.source) (take (length read / w.source * w.source) read) bytes counts
     → AreConverted q (length read / (block_widths q).source)
-    (take (length read / (block_widths q).source * (block_widths q).source) read)
-    (take (length read / w.source * w.target) (take room (given ++ rest))) counts
-converted_front q w read given rest room counts e size within here =
-    let filled : ℕ = length read / w.source * w.target in
-    let front : take filled (take room (given ++ rest)) ≡ given =
-    take-take filled room (given ++ rest) (omega (arith, size, within)) ∙ take_at given rest filled size in
-    subst (λ (bytes : List ℕ). AreConverted q (length read / (block_widths q).source)
-    (take (length read / (block_widths q).source * (block_widths q).source) read) bytes counts) (sym front)
-    (subst (λ (v : Widths). AreConverted q (length read / v.source) (take (length read / v.source * v.source) read)
-    given counts) e here)
+    (take (length read / (block_widths q).source * (block_widths q).source) read) bytes counts
+converted_all q w read bytes counts e here =
+    subst (λ (v : Widths). AreConverted q (length read / v.source) (take (length read / v.source * v.source) read)
+    bytes counts) e here

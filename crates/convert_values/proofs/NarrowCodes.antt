@@ -19,7 +19,6 @@ use Rattle.block_formats.specs.Elements.{IsQuotientBy, width}
 use Rattle.block_formats.specs.Magnitudes.{are_finite}
 use Rattle.block_formats.specs.MxBlocks.{IsBlockOfNan, IsBlockOfNumbers}
 use Rattle.block_formats.specs.Places.{AreInPlaces}
-use Rattle.storage_formats.specs.Scales.{nan_code}
 use Rattle.block_arrays.specs.declared.Quantization.{Quantization}
 use Rattle.block_arrays.specs.Quantized.{AreQuantized, IsBlockOf, width_in}
 use Rattle.block_arrays.specs.Values.{values_in}
@@ -42,14 +41,13 @@ zeros (suc n) bound some zero d within = some
 zeros (suc n) bound some (suc k) d within = zeros n bound some k d (omega (arith, within))
 
 of_block : (element : ElementFormat) (f : Format) (mode : Round) (values : List Datum) (codes : List ℕ)
-    (block : Block) (finite : Bool)
-    → MatchBool finite (IsBlockOfNumbers element f mode values codes block)
-    (IsBlockOfNan nan_code values codes block)
+    (block : Block) (nan : ℕ) (finite : Bool)
+    → MatchBool finite (IsBlockOfNumbers element f mode values codes block) (IsBlockOfNan nan values codes block)
     → All (λ code. code < 2 ^ width element) codes
-of_block element f mode values codes block true numbers =
+of_block element f mode values codes block nan true numbers =
     quotients element f mode _ _ values codes numbers.elements.flags numbers.elements.in_places
-of_block element f mode values codes block false nan =
-    subst (λ (xs : List ℕ). All (λ code. code < 2 ^ width element) xs) (sym nan.codes_are)
+of_block element f mode values codes block nan false zeroed =
+    subst (λ (xs : List ℕ). All (λ code. code < 2 ^ width element) xs) (sym zeroed.codes_are)
     (zeros (length values) (2 ^ width element) (pow_pos (width element)))
 
 -- the only place
@@ -71,7 +69,7 @@ first_block q values codes (block ∷ rest) long one each =
     let c = constants_in q.source in
     let xs = values_in c (width_in q) values (0 * q.length) q.length in
     subst (λ (part : List ℕ). All (λ code. code < 2 ^ width q.element) part) (whole q.length codes long)
-    (of_block q.element (format_with c) q.round xs (value_at q.length 0 codes) block (are_finite xs) (each 0))
+    (of_block q.element (format_with c) q.round xs (value_at q.length 0 codes) block _ (are_finite xs) (each 0))
 
 pub quantized_narrow : (q : Quantization) (values scales codes : List ℕ) (counts : Counts)
     → length codes ≡ q.length → AreQuantized q values 1 scales codes counts

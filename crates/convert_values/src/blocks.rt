@@ -82,14 +82,25 @@ impl BlockConversion {
         let whole = count * widths.source;
         let filled = count * widths.target;
         let mut buffer = written;
-        let front = &mut buffer.as_mut_slice()[..filled];
-        let counts = self.convert_each(count, widths, &read[..whole], front);
+        let front = buffer.as_mut_slice();
+        let counts = self.convert_front(count, widths, &read[..whole], front);
         ConvertedBlock {
             counts,
             buffer,
             written: filled,
             left_over: read.len() - whole,
         }
+    }
+
+    /// Converts so many blocks to the front of a buffer.
+    fn convert_front(self, count: usize, widths: Widths, read: &[u8], buffer: &mut [u8]) -> Counts
+        requires widths { widths ≡ block_widths self }
+        requires read { length read.now ≡ count * widths.source }
+        requires room { count * widths.target ≤ length buffer.old }
+        ensures { AreConverted self count read.now (take (count * widths.target) buffer.new) result }
+    {
+        let front = &mut buffer[..count * widths.target];
+        self.convert_each(count, widths, read, front)
     }
 
     /// Converts so many blocks.
