@@ -1,6 +1,6 @@
 -- Blocks that are converted one after another.
-use Rattle.std.proofs.Common.{◌≡◌, ℕ, ◌+◌, ◌-◌, ◌*◌, ◌/◌, ◌<◌, refl, sym, ap, ◌∙◌, subst}
-use Rattle.std.proofs.Common.{List, [], ◌∷◌, ◌++◌, length, take}
+use Rattle.std.proofs.Common.{◌≡◌, ℕ, ◌+◌, ◌-◌, ◌*◌, ◌/◌, ◌<◌, refl}
+use Rattle.std.proofs.Common.{sym, ap, ◌∙◌, subst, List, [], ◌∷◌, ◌++◌, length, take}
 use borrow.Rule.Slice.PartMut.{put_mid}
 use Rattle.array_conversions.specs.declared.Counts.{Counts}
 use Rattle.array_conversions.specs.declared.Widths.{Widths}
@@ -61,7 +61,8 @@ converted_next q w index count read written new counts part e before all size he
     all size here
 
 -- all blocks, with the widths by their name
-pub converted_all : (q : BlockConversion) (w : Widths) (read bytes : List ℕ) (counts : Counts) → w ≡ block_widths q
+pub converted_all : (q : BlockConversion) (w : Widths) (read bytes : List ℕ) (counts : Counts)
+    → w ≡ block_widths q
     → AreConverted q (length read / w.source) (take (length read / w.source * w.source) read) bytes counts
     → AreConverted q (length read / (block_widths q).source)
     (take (length read / (block_widths q).source * (block_widths q).source) read) bytes counts

@@ -1,4 +1,4 @@
-use Rattle.std.proofs.Common.{rules, ◌≡◌, ◌*◌, ◌≤◌, ◌/◌, ℕ, arith}
+use Rattle.std.proofs.Common.{rules, ◌*◌, ◌≤◌, ◌/◌, ℕ, arith}
 use Rattle.std.proofs.Math.Nat.{div-mul-le_self, le-div_iff_mul-le, mul-le-mul_right}
 use Rattle.convert_values.specs.StreamWidths.{stream_widths}
 use Rattle.convert_values.proofs.stream.convert_through.Goals as goal
