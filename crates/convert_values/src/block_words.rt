@@ -84,13 +84,21 @@ fn element_named(form: &str) -> Option<ElementFormat> {
 /// What is wrong with the word for a form.
 fn wrong_form(word: &str) -> WrongWord<'_> {
     let fault = match word {
+        "mxfp6" => "the form is mxfp6e2m3 or mxfp6e3m2",
+        "mxfp8" => "the form is mxfp8e4m3 or mxfp8e5m2",
         "nvfp4" => "a stream has no scale of its whole tensor",
-        _ => "no such form of blocks",
+        _ => {
+            return WrongWord {
+                fault: "no such form of blocks",
+                word,
+                known: FORMS,
+            };
+        }
     };
     WrongWord {
         fault,
         word,
-        known: FORMS,
+        known: &[],
     }
 }
 
