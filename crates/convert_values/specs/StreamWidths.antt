@@ -1,11 +1,13 @@
--- How many bytes a value of a stream takes.
+-- How many bytes a value or a block of a stream takes.
 use Rattle.array_conversions.specs.declared.Widths.{Widths}
 use Rattle.array_conversions.specs.Widths.{source_width, target_width}
 use Rattle.storage_arrays.specs.Arrays.{widths_of}
 use Rattle.convert_values.specs.declared.conversions.StreamConversion.{StreamConversion}
-use Rattle.convert_values.specs.declared.conversions.StreamConversion.TheVariants.{BuiltIn, Stored}
+use Rattle.convert_values.specs.declared.conversions.StreamConversion.TheVariants.{BuiltIn, Stored, Blocks}
+use Rattle.convert_values.specs.Blocks.{block_widths}
 
 abbrev pub stream_widths : StreamConversion → Widths
 stream_widths (BuiltIn conversion overflow) =
     record { source = source_width conversion; target = target_width conversion }
 stream_widths (Stored array) = widths_of array
+stream_widths (Blocks conversion) = block_widths conversion

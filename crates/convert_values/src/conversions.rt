@@ -1,9 +1,11 @@
-//! The conversions of streams: between built-in formats, or into a storage format or out of it.
+//! The conversions of streams: between built-in formats, into a storage format or out of it, or into blocks or out of
+//! them.
 
 ghost use Rattle.std.specs.Prelude.{◌≡◌, ◌*◌, ◌/◌, ◌≤◌, length};
 ghost use Rattle.storage_arrays.specs.Arrays.{widths_of};
 ghost use Rattle.convert_values.specs.StreamWidths.{stream_widths};
 
+use crate::blocks::BlockConversion;
 use array_conversions::{Conversion, ConvertedBlock, Extended, Overflow, Widths};
 use formats_at_run_time::{BuiltInFormat, BuiltInKind, FlaggedFormat, mode_named};
 use storage_arrays::{Ends, StorageArray, StoredFormat};
@@ -15,6 +17,8 @@ pub enum StreamConversion {
     BuiltIn(Conversion, Overflow),
     /// Into a storage format or out of it.
     Stored(StorageArray),
+    /// Into blocks or out of them.
+    Blocks(BlockConversion),
 }
 
 /// The built-in format of this word.
@@ -56,19 +60,38 @@ impl StreamConversion {
         }))
     }
 
-    /// The widths of a value in bytes, before and after its conversion.
+    /// How many values are converted together: those of a block, or one.
+    pub fn values_together(self) -> usize
+        ensures { 1 ≤ result }
+    {
+        match self {
+            StreamConversion::BuiltIn(_, _) | StreamConversion::Stored(_) => 1,
+            StreamConversion::Blocks(blocks) => blocks.form.length,
+        }
+    }
+
+    /// What is converted together.
+    pub fn unit(self) -> &'static str {
+        match self {
+            StreamConversion::BuiltIn(_, _) | StreamConversion::Stored(_) => "value",
+            StreamConversion::Blocks(_) => "block",
+        }
+    }
+
+    /// The widths in bytes of what is converted together, before and after its conversion.
     pub fn widths(self) -> Widths
         ensures is { result ≡ stream_widths self }
         ensures least { 1 ≤ result.source }
-        ensures greatest { (result.source ≤ 16) × (result.target ≤ 16) }
+        ensures greatest { (result.source ≤ 16384) × (result.target ≤ 16384) }
     {
         match self {
             StreamConversion::BuiltIn(conversion, _) => conversion.widths(),
             StreamConversion::Stored(array) => array.widths(),
+            StreamConversion::Blocks(blocks) => blocks.widths(),
         }
     }
 
-    /// Converts the complete values in `read`, each in its place in `written`, which must have room for them.
+    /// Converts the complete values or blocks in `read`, each in its place in `written`, which must have room for them.
     pub fn convert(self, read: &[u8], written: Vec<u8>) -> ConvertedBlock
         requires { (length read.now / (stream_widths self).source) * (stream_widths self).target
             ≤ length written.items }
@@ -80,6 +103,7 @@ impl StreamConversion {
                 conversion.convert_by(overflow, read, written)
             }
             StreamConversion::Stored(array) => convert_block(array, read, written),
+            StreamConversion::Blocks(blocks) => blocks.convert(read, written),
         }
     }
 }

@@ -1,5 +1,6 @@
 //! The words of a command line, as a job for the program.
 
+use crate::block_words::{blocks_named, is_block_option};
 use crate::conversions::StreamConversion;
 use array_conversions::{Extended, FiniteNan, Overflow};
 use commands::About;
@@ -8,6 +9,7 @@ use commands::About;
 pub const HELP: &str = "\
 usage: convert_values [--saturate | --saturate-finite | --saturate-all]
                       [--x87-bytes=10|16] FROM TO MODE
+       convert_values --block FORM [--dequantize] [--block-length N] FORMAT MODE
        convert_values --help | --version
 
 Converts a stream of values to another format: reads little-endian values of the
@@ -30,20 +32,30 @@ MODE      even    to the nearest value, ties to even
                    INVALID_OP
 --x87-bytes=10     a value of the format x87 takes 10 bytes; this is the default
 --x87-bytes=16     it takes 16 bytes; the last 6 are ignored, and written as 0
+--block FORM       values of FORMAT become blocks with a common scale, of the form
+                   mxfp4, mxfp6e2m3, mxfp6e3m2, mxfp8e4m3 or mxfp8e5m2
+--dequantize       such blocks become values of FORMAT
+--block-length N   a block has N values, 1 to 1024; 32 without this option
 --help, -h         writes this text
 --version          writes the name and the version of the program
 
 The last six are storage formats, whose values take a byte each; FROM and TO
-cannot both be one.
+cannot both be one, and FORMAT cannot be one.
+
+A block is its scale in e8m0fnu, a byte, and after it the codes of its values:
+one of 8 bits in a byte, two of 4 bits in a byte or four of 6 bits in three,
+from the lowest bit on.
 
 At the end a line on standard error counts the values, those that raised each
 flag, and the NaNs among the values written. Before that, if standard error is
 a terminal, a line every two seconds says how many values were written.
 
-The exit status is 0; 1 if the stream ended inside a value, 2 for other
-arguments, 3 if there is not enough memory, and 4 if a read or a write failed.
+The exit status is 0; 1 if the stream ended inside a value or a block, 2
+for other arguments, 3 if there is not enough memory, and 4 if a read or a write
+failed.
 
     convert_values single e4m3fn even < singles > bytes
+    convert_values --block mxfp4 single even < singles > blocks
 ";
 
 /// What the program is to do.
@@ -62,6 +74,10 @@ impl Job {
             return Some(Job::About(about));
         }
         match words {
+            [option, ..] if is_block_option(option.as_str()) => match blocks_named(words) {
+                Ok(conversion) => Some(Job::Convert(StreamConversion::Blocks(conversion))),
+                Err(_) => None,
+            },
             [option, others @ ..] => match overflow_named(option.as_str()) {
                 Some(overflow) => Job::converting(overflow, others),
                 None => Job::converting(Overflow::Rounded, words),

@@ -8,6 +8,9 @@
 //! there is not enough memory for the buffers, and 4 if a read or a write failed.
 #![tactic(auto)]
 
+mod block_form;
+mod block_words;
+mod blocks;
 mod conversions;
 mod job;
 mod run;

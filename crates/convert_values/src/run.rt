@@ -63,7 +63,7 @@ fn answer<R: Clock + AllocGlobal, I: Read, W: Write, V: Write>(
         Some(Job::Convert(conversion)) => {
             let progress = Progress::new(is_terminal, rt);
             match convert_stream(rt, conversion, progress, input, output, err) {
-                Ok(summary) => tell(summary, err),
+                Ok(summary) => tell(conversion.unit(), summary, err),
                 Err(failure) => tell_failure(failure, err),
             }
         }
@@ -92,8 +92,8 @@ fn refuse_words<V: Write>(error: io::Error, err: &mut V) -> io::Result<u8> {
     }
 }
 
-/// Reports the counts, and whether the stream ended inside a value.
-fn tell<V: Write>(summary: Summary, err: &mut V) -> io::Result<u8>
+/// Reports the counts, and whether the stream ended inside a value or a block.
+fn tell<V: Write>(unit: &str, summary: Summary, err: &mut V) -> io::Result<u8>
     ensures { IfOk result (λ status. status ≡ summary_status summary) }
 {
     tell_counts(summary.counts, err)?;
@@ -103,7 +103,7 @@ fn tell<V: Write>(summary: Summary, err: &mut V) -> io::Result<u8>
     }
     writeln!(
         err,
-        "convert_values: the stream ended inside a value; bytes after the last whole one: {bytes}"
+        "convert_values: the stream ended inside a {unit}; bytes after the last whole one: {bytes}"
     )?;
     Ok(ENDED_INSIDE)
 }

@@ -1,6 +1,6 @@
 //! Streams of values.
 
-ghost use Rattle.std.specs.Prelude.{◌≡◌, ◌*◌, ◌≤◌, IfOk, length};
+ghost use Rattle.std.specs.Prelude.{◌*◌, ◌/◌, ◌≤◌, IfOk, length};
 ghost use Rattle.convert_values.specs.StreamWidths.{stream_widths};
 
 use crate::conversions::StreamConversion;
@@ -11,15 +11,15 @@ use std::io;
 use std::io::{ErrorKind, Read, Write};
 use std::rt::Clock;
 
-/// The greatest number of values in a block: as many as a table for singles needs to pay (`array_conversions`).
-const BLOCK: usize = 1 << 16;
+/// The greatest number of values in a buffer: as many as a table for singles needs to pay (`array_conversions`).
+const BUFFERED: usize = 1 << 16;
 
 /// What a stream contained.
 #[derive(Clone, Copy, Debug)]
 pub struct Summary {
     /// The counts of its values.
     pub counts: Counts,
-    /// The number of bytes after the last complete value.
+    /// The number of bytes after the last complete value or block.
     pub left_over: usize,
 }
 
@@ -32,7 +32,7 @@ pub enum Failure {
     Reading(io::Error),
     /// A write failed.
     Writing(io::Error),
-    /// The stream has more than 2^64 blocks.
+    /// The stream fills more than 2^64 buffers.
     TooLong,
 }
 
@@ -53,8 +53,9 @@ pub fn convert_stream<R: Clock + AllocGlobal, I: Read, W: Write, V: Write>(
 ) -> Result<Summary, Failure> {
     let alloc = rt.alloc();
     let widths = conversion.widths();
-    let mut read = vec![in alloc; 0u8; BLOCK * widths.source]?;
-    let buffer = vec![in alloc; 0u8; BLOCK * widths.target]?;
+    let count = BUFFERED / conversion.values_together();
+    let mut read = vec![in alloc; 0u8; count * widths.source]?;
+    let buffer = vec![in alloc; 0u8; count * widths.target]?;
     convert_through(
         rt,
         conversion,
@@ -78,8 +79,9 @@ fn convert_through<C: Clock, I: Read, W: Write, V: Write>(
     output: &mut W,
     err: &mut V,
 ) -> Result<Summary, Failure>
-    requires read { length read.old ≡ BLOCK * (stream_widths conversion).source }
-    requires buffer { length buffer.items ≡ BLOCK * (stream_widths conversion).target }
+    requires least { 1 ≤ (stream_widths conversion).source }
+    requires room { length read.old / (stream_widths conversion).source
+        * (stream_widths conversion).target ≤ length buffer.items }
 {
     let mut counts = Counts::NONE;
     let mut buffer = buffer;

@@ -1,5 +1,6 @@
 //! Which word of a command line is wrong.
 
+use crate::block_words::{blocks_named, is_block_option, is_later_option};
 use commands::{FORMATS, MODES, WrongWord, suggested};
 use formats_at_run_time::{BuiltInKind, mode_named};
 use storage_arrays::StoredFormat;
@@ -14,6 +15,7 @@ static OPTIONS: &[&str] = &[
     "--saturate-all",
     "--x87-bytes=10",
     "--x87-bytes=16",
+    "--block",
     "--help",
     "-h",
     "--version",
@@ -22,6 +24,19 @@ static OPTIONS: &[&str] = &[
 /// The first wrong word, if three words and any options before them make a job.
 pub fn wrong_word(words: &[String]) -> Option<WrongWord<'_>> {
     match words {
+        [word, ..] if is_block_option(word.as_str()) => blocks_named(words).err()?,
+        [word, next, ..] if is_option(word.as_str()) && is_block_option(next.as_str()) => {
+            Some(WrongWord {
+                fault: "no such option of blocks",
+                word: word.as_str(),
+                known: &[],
+            })
+        }
+        [word, ..] if is_later_option(word.as_str()) => Some(WrongWord {
+            fault: "an option that stands after `--block FORM`",
+            word: word.as_str(),
+            known: &[],
+        }),
         [word, others @ ..] if is_option(word.as_str()) => wrong_word(others),
         [word, ..] if word.as_str().starts_with('-') => Some(WrongWord {
             fault: "no such option",
@@ -40,6 +55,7 @@ pub fn wrong_word(words: &[String]) -> Option<WrongWord<'_>> {
 /// What is wrong with words none of which is wrong.
 pub fn wrong_form(words: &[String]) -> &'static str {
     match words {
+        [word, ..] if is_block_option(word.as_str()) => "too few words",
         [.., source, target, _] if is_stored(source.as_str()) && is_stored(target.as_str()) => {
             "only one of the formats can be a storage format: convert by way of single"
         }

@@ -1,0 +1,68 @@
+-- The lengths of one block fit.
+use Rattle.std.proofs.Common.{◌≡◌, ℕ, ◌*◌, ◌/◌, ◌%◌, ◌^◌, ◌<◌, ◌≤◌}
+use Rattle.std.proofs.Common.{◌==◌, ◌&&◌, true, false, refl, sym, ap, ◌∙◌, subst, arith, List}
+use Rattle.std.specs.Prelude.{All, Err, IsOk, Ok, Result}
+use Rattle.std.proofs.Math.Nat.{mul-div_cancel, mul-mod_left}
+use Rattle.std.proofs.lemmas.Bool.{and_from, eq-eqb, ne_eqb}
+use Rattle.array_conversions.specs.declared.Counts.{Counts}
+use Rattle.block_formats.specs.Elements.{width}
+use Rattle.block_arrays.specs.declared.ArrayError.{ArrayError}
+use Rattle.block_arrays.specs.declared.ArrayError.TheVariants.{CodeTooWide, EmptyBlock, Lengths, Uneven}
+use Rattle.block_arrays.specs.declared.Dequantization.{Dequantization}
+use Rattle.block_arrays.specs.declared.Quantization.{Quantization}
+use Rattle.block_arrays.specs.Dequantized.{IsDequantizedArray}
+use Rattle.block_arrays.specs.Lengths.{blocks_of}
+use Rattle.block_arrays.specs.Quantized.{AreQuantized, IsQuantizedArray}
+use Rattle.convert_values.proofs.NarrowCodes.{not_both}
+
+one_block : (block width : ℕ) → 1 ≤ block → 1 ≤ width
+    → blocks_of block width (block * width) 1 block ≡ Ok 1
+one_block block width some wide =
+    let count : block * width / width ≡ block = mul-div_cancel block {n = width} wide in
+    let alone : 1 * block ≡ block = omega arith in
+    let one : block / block ≡ 1 = ap (λ (n : ℕ). n / block) (sym alone) ∙ mul-div_cancel 1 {n = block} some in
+    let whole : block % block ≡ 0 = ap (λ (n : ℕ). n % block) (sym alone) ∙ mul-mod_left 1 block in
+    let none : (block == 0) ≡ false = ne_eqb block 0 (λ e. omega (arith, some, e)) in
+    let even : (block * width % width == 0) ≡ true = eq-eqb (block * width % width) 0 (mul-mod_left block width) in
+    let split : (block * width / width % block == 0) ≡ true =
+    eq-eqb (block * width / width % block) 0 (ap (λ (n : ℕ). n % block) count ∙ whole) in
+    let same : ((block == block * width / width) && (1 == block * width / width / block)) ≡ true =
+    and_from (block == block * width / width) (1 == block * width / width / block)
+    (eq-eqb block (block * width / width) (sym count))
+    (eq-eqb 1 (block * width / width / block) (sym (ap (λ (n : ℕ). n / block) count ∙ one))) in
+    rw (none, even, split, same) refl
+
+pub one_block_of : (block width values scales codes : ℕ) → 1 ≤ block → 1 ≤ width → values ≡ block * width
+    → scales ≡ 1 → codes ≡ block → blocks_of block width values scales codes ≡ Ok 1
+one_block_of block width values scales codes some wide v s c =
+    ap (λ (n : ℕ). blocks_of block width n scales codes) v
+    ∙ ap (λ (n : ℕ). blocks_of block width (block * width) n codes) s
+    ∙ ap (λ (n : ℕ). blocks_of block width (block * width) 1 n) c
+    ∙ one_block block width some wide
+
+-- a block is quantized without an error
+pub quantized : (q : Quantization) (values before scales old codes : List ℕ) (known : Result ℕ ArrayError)
+    (answer : Result Counts ArrayError) → known ≡ Ok 1
+    → IsQuantizedArray q known values before scales old codes answer → IsOk answer
+quantized q values before scales old codes (Ok n) (Ok counts) e h = refl
+quantized q values before scales old codes (Ok n) (Err error) e h = absurd h
+quantized q values before scales old codes (Err fault) answer e h = cc
+
+pub quantized_parts : (q : Quantization) (values before scales old codes : List ℕ) (known : Result ℕ ArrayError)
+    (answer : Result Counts ArrayError) (counts : Counts) → known ≡ Ok 1 → answer ≡ Ok counts
+    → IsQuantizedArray q known values before scales old codes answer → AreQuantized q values 1 scales codes counts
+quantized_parts q values before scales old codes known answer counts e f h =
+    subst (λ (r : Result ℕ ArrayError). IsQuantizedArray q r values before scales old codes (Ok counts)) e
+    (subst (λ (a : Result Counts ArrayError). IsQuantizedArray q known values before scales old codes a) f h)
+
+-- and taken apart without one, if its codes are narrow
+pub dequantized : (q : Dequantization) (scales codes before after : List ℕ) (known : Result ℕ ArrayError)
+    (answer : Result Counts ArrayError) → known ≡ Ok 1 → All (λ code. code < 2 ^ width q.element) codes
+    → IsDequantizedArray q known scales codes before after answer → IsOk answer
+dequantized q scales codes before after (Ok n) (Ok counts) e narrow h = refl
+dequantized q scales codes before after (Ok n) (Err CodeTooWide) e narrow h =
+    absurd (not_both (2 ^ width q.element) codes narrow h.0)
+dequantized q scales codes before after (Ok n) (Err EmptyBlock) e narrow h = absurd h
+dequantized q scales codes before after (Ok n) (Err Uneven) e narrow h = absurd h
+dequantized q scales codes before after (Ok n) (Err Lengths) e narrow h = absurd h
+dequantized q scales codes before after (Err fault) answer e narrow h = cc

@@ -1,0 +1,71 @@
+-- Blocks that are converted one after another.
+use Rattle.std.proofs.Common.{◌≡◌, ℕ, ◌+◌, ◌-◌, ◌*◌, ◌/◌, ◌<◌, refl}
+use Rattle.std.proofs.Common.{sym, ap, ◌∙◌, subst, List, [], ◌∷◌, ◌++◌, length, take}
+use borrow.Rule.Slice.PartMut.{put_mid}
+use Rattle.array_conversions.specs.declared.Counts.{Counts}
+use Rattle.array_conversions.specs.declared.Widths.{Widths}
+use Rattle.array_conversions.specs.Blocks.{value_at}
+use Rattle.array_conversions.specs.Outcomes.{sum_of}
+use Rattle.array_conversions.proofs.Places.{places_more, places_none}
+use Rattle.block_arrays.specs.Quantized.{no_counts}
+use Rattle.convert_values.specs.declared.blocks.BlockConversion.{BlockConversion}
+use Rattle.convert_values.specs.Blocks.{AreConverted, IsConverted, block_widths, total_of}
+
+total_push : (before : Counts) (parts : List Counts) (part : Counts)
+    → total_of before (parts ++ part ∷ []) ≡ sum_of (total_of before parts) part
+total_push before [] part = refl
+total_push before (first ∷ parts) part = total_push (sum_of before first) parts part
+
+abbrev IsOneOf : BlockConversion → List ℕ → ℕ → List ℕ → Counts → Type 0
+IsOneOf q read index bytes part = IsConverted q (value_at (block_widths q).source index read) bytes part
+
+pub converted_none : (q : BlockConversion) (read written : List ℕ)
+    → AreConverted q 0 read written no_counts
+converted_none q read written = record {
+  parts = [];
+  places = places_none (IsOneOf q read) (block_widths q).target written;
+  counted = refl;
+}
+
+-- one more block
+pub converted_more : (q : BlockConversion) (index count : ℕ) (read written new : List ℕ) (counts part : Counts)
+    → index < count → length written ≡ count * (block_widths q).target → length new ≡ (block_widths q).target
+    → IsConverted q (value_at (block_widths q).source index read) new part
+    → AreConverted q index read written counts
+    → AreConverted q (index + 1) read
+    (put_mid (index * (block_widths q).target)
+    (index * (block_widths q).target + (block_widths q).target - index * (block_widths q).target) written new)
+    (sum_of counts part)
+converted_more q index count read written new counts part before all size here so_far = record {
+  parts = so_far.parts ++ part ∷ [];
+  places = places_more (IsOneOf q read) (block_widths q).target index count written new so_far.parts part before all
+      size here so_far.places;
+  counted = ap (λ (k : Counts). sum_of k part) so_far.counted ∙ sym (total_push no_counts so_far.parts part);
+}
+
+-- the same, and the widths have a name
+pub converted_next : (q : BlockConversion) (w : Widths) (index count : ℕ) (read written new : List ℕ)
+    (counts part : Counts) → w ≡ block_widths q → index < count → length written ≡ count * w.target
+    → length new ≡ w.target → IsConverted q (value_at w.source index read) new part
+    → AreConverted q index read written counts
+    → AreConverted q (index + 1) read
+    (put_mid (index * w.target) (index * w.target + w.target - index * w.target) written new) (sum_of counts part)
+converted_next q w index count read written new counts part e before all size here so_far =
+    subst
+    (λ (v : Widths). length written ≡ count * v.target → length new ≡ v.target
+    → IsConverted q (value_at v.source index read) new part
+    → AreConverted q (index + 1) read
+    (put_mid (index * v.target) (index * v.target + v.target - index * v.target) written new) (sum_of counts part))
+    (sym e)
+    (λ all size here. converted_more q index count read written new counts part before all size here so_far)
+    all size here
+
+-- all blocks, with the widths by their name
+pub converted_all : (q : BlockConversion) (w : Widths) (read bytes : List ℕ) (counts : Counts)
+    → w ≡ block_widths q
+    → AreConverted q (length read / w.source) (take (length read / w.source * w.source) read) bytes counts
+    → AreConverted q (length read / (block_widths q).source)
+    (take (length read / (block_widths q).source * (block_widths q).source) read) bytes counts
+converted_all q w read bytes counts e here =
+    subst (λ (v : Widths). AreConverted q (length read / v.source) (take (length read / v.source * v.source) read)
+    bytes counts) e here

@@ -1,0 +1,4 @@
+mod BlockBytes
+mod BlockLengths
+mod Converted
+mod NarrowCodes

@@ -1,0 +1,85 @@
+-- The codes of a quantized block have only the bits of their format.
+use Rattle.std.proofs.Common.{◌≡◌, ℕ, zero, suc, ◌+◌, ◌-◌, ◌*◌, ◌^◌, ◌<◌, ◌≤◌, Bool}
+use Rattle.std.proofs.Common.{true, false, ap, ◌∙◌, sym, subst, arith}
+use Rattle.std.proofs.Common.{List, [], ◌∷◌, length, get_or, replicate, take, drop}
+use Rattle.std.specs.Prelude.{All, Any, IfSome, slice_get}
+use Rattle.std.specs.Bool.{MatchBool}
+use Rattle.std.proofs.lemmas.List.{take_all}
+use Rattle.std.proofs.lemmas.Nat.{pow_pos}
+use Rattle.std.proofs.lemmas.Option.{slice_get-get_or}
+use Rattle.rustc_apfloat.specs.declared.Round.{Round}
+use Rattle.rustc_apfloat.specs.Datum.{Datum, finite}
+use Rattle.apfloat_model.specs.formats.Format.{Format}
+use Rattle.rustc_apfloat.specs.Lawful.{format_with}
+use Rattle.formats_at_run_time.specs.BuiltIns.{constants_in}
+use Rattle.array_conversions.specs.declared.Counts.{Counts}
+use Rattle.array_conversions.specs.Blocks.{value_at}
+use Rattle.block_formats.specs.declared.Block.{Block}
+use Rattle.block_formats.specs.declared.ElementFormat.{ElementFormat}
+use Rattle.block_formats.specs.Elements.{IsQuotientBy, width}
+use Rattle.block_formats.specs.Magnitudes.{are_finite}
+use Rattle.block_formats.specs.MxBlocks.{IsBlockOfNan, IsBlockOfNumbers}
+use Rattle.block_formats.specs.Places.{AreInPlaces}
+use Rattle.block_arrays.specs.declared.Quantization.{Quantization}
+use Rattle.block_arrays.specs.Quantized.{AreQuantized, IsBlockOf, width_in}
+use Rattle.block_arrays.specs.Values.{values_in}
+
+quotients : (element : ElementFormat) (f : Format) (mode : Round) (divisor unit : ℕ) (values : List Datum)
+    (codes flags : List ℕ)
+    → AreInPlaces (λ x code status. IsQuotientBy element f mode divisor unit x code status) values codes flags
+    → All (λ code. code < 2 ^ width element) codes
+quotients element f mode divisor unit values codes flags places k d within =
+    let same = places.same_size in
+    let many = places.flags_size in
+    let value = slice_get-get_or values k (finite false 0) (omega (arith, within, same)) in
+    let code = slice_get-get_or codes k d within in
+    let flag = slice_get-get_or flags k 0 (omega (arith, within, same, many)) in
+    (places.each k (get_or values k (finite false 0)) (get_or codes k d) (get_or flags k 0) value code flag).0
+
+zeros : (n bound : ℕ) → 0 < bound → All (λ code. code < bound) (replicate n 0)
+zeros zero bound some k d within = absurd (omega (arith, within))
+zeros (suc n) bound some zero d within = some
+zeros (suc n) bound some (suc k) d within = zeros n bound some k d (omega (arith, within))
+
+of_block : (element : ElementFormat) (f : Format) (mode : Round) (values : List Datum) (codes : List ℕ)
+    (block : Block) (nan : ℕ) (finite : Bool)
+    → MatchBool finite (IsBlockOfNumbers element f mode values codes block) (IsBlockOfNan nan values codes block)
+    → All (λ code. code < 2 ^ width element) codes
+of_block element f mode values codes block nan true numbers =
+    quotients element f mode _ _ values codes numbers.elements.flags numbers.elements.in_places
+of_block element f mode values codes block nan false zeroed =
+    subst (λ (xs : List ℕ). All (λ code. code < 2 ^ width element) xs) (sym zeroed.codes_are)
+    (zeros (length values) (2 ^ width element) (pow_pos (width element)))
+
+-- the only place
+whole : (size : ℕ) (codes : List ℕ) → length codes ≡ size → value_at size 0 codes ≡ codes
+whole size codes long =
+    let none : 0 * size ≡ 0 = omega arith in
+    let all : 0 * size + size - 0 * size ≡ length codes = omega (arith, none, long) in
+    ap (λ (n : ℕ). take (0 * size + size - 0 * size) (drop n codes)) none
+    ∙ ap (λ (n : ℕ). take n codes) all
+    ∙ take_all (length codes) codes (omega arith)
+
+first_block : (q : Quantization) (values codes : List ℕ) (blocks : List Block) → length codes ≡ q.length
+    → length blocks ≡ 1
+    → ((index : ℕ) → IfSome (slice_get blocks index)
+    (λ block. IsBlockOf q values index (value_at q.length index codes) block))
+    → All (λ code. code < 2 ^ width q.element) codes
+first_block q values codes [] long one each = absurd (omega (arith, one))
+first_block q values codes (block ∷ rest) long one each =
+    let c = constants_in q.source in
+    let xs = values_in c (width_in q) values (0 * q.length) q.length in
+    subst (λ (part : List ℕ). All (λ code. code < 2 ^ width q.element) part) (whole q.length codes long)
+    (of_block q.element (format_with c) q.round xs (value_at q.length 0 codes) block _ (are_finite xs) (each 0))
+
+pub quantized_narrow : (q : Quantization) (values scales codes : List ℕ) (counts : Counts)
+    → length codes ≡ q.length → AreQuantized q values 1 scales codes counts
+    → All (λ code. code < 2 ^ width q.element) codes
+quantized_narrow q values scales codes counts long made =
+    first_block q values codes made.blocks long made.places.size made.places.each
+
+pub not_both : (bound : ℕ) (codes : List ℕ) → All (λ code. code < bound) codes
+    → Any (λ code. bound ≤ code) codes → ⊥
+not_both bound codes few (place, code, within, is, wide) =
+    let low : code < bound = subst (λ (n : ℕ). n < bound) is (few place code within) in
+    omega (arith, low, wide)
