@@ -1,9 +1,10 @@
-//! The conversions of streams: between built-in formats, or into a storage format or out of it.
+//! The conversions of streams: between built-in formats, into a storage format or out of it, or with random digits.
 
 ghost use Rattle.std.specs.Prelude.{◌≡◌, ◌*◌, ◌/◌, ◌≤◌, length};
 ghost use Rattle.storage_arrays.specs.Arrays.{widths_of};
 ghost use Rattle.convert_values.specs.StreamWidths.{stream_widths};
 
+use crate::random::{RandomConversion, RandomTarget};
 use array_conversions::{Conversion, ConvertedBlock, Extended, Overflow, Widths};
 use formats_at_run_time::{BuiltInFormat, BuiltInKind, FlaggedFormat, mode_named};
 use storage_arrays::{Ends, StorageArray, StoredFormat};
@@ -15,6 +16,8 @@ pub enum StreamConversion {
     BuiltIn(Conversion, Overflow),
     /// Into a storage format or out of it.
     Stored(StorageArray),
+    /// With random digits.
+    Random(RandomConversion),
 }
 
 /// The built-in format of this word.
@@ -56,6 +59,23 @@ impl StreamConversion {
         }))
     }
 
+    /// The conversion with random digits from the format of the first word to that of the second.
+    pub fn random(
+        extended: Extended,
+        overflow: Overflow,
+        seed: u64,
+        source: &str,
+        target: &str,
+    ) -> Option<StreamConversion> {
+        Some(StreamConversion::Random(RandomConversion {
+            source: built_in_named(source)?,
+            target: RandomTarget::named(target)?,
+            extended,
+            overflow,
+            seed,
+        }))
+    }
+
     /// The widths of a value in bytes, before and after its conversion.
     pub fn widths(self) -> Widths
         ensures is { result ≡ stream_widths self }
@@ -65,11 +85,13 @@ impl StreamConversion {
         match self {
             StreamConversion::BuiltIn(conversion, _) => conversion.widths(),
             StreamConversion::Stored(array) => array.widths(),
+            StreamConversion::Random(conversion) => conversion.widths(),
         }
     }
 
-    /// Converts the complete values in `read`, each in its place in `written`, which must have room for them.
-    pub fn convert(self, read: &[u8], written: Vec<u8>) -> ConvertedBlock
+    /// Converts the complete values in `read`, each in its place in `written`, which must have room for them. The first
+    /// has that position in the stream.
+    pub fn convert(self, first: u64, read: &[u8], written: Vec<u8>) -> ConvertedBlock
         requires { (length read.now / (stream_widths self).source) * (stream_widths self).target
             ≤ length written.items }
         ensures room { length result.buffer.items ≡ length written.items }
@@ -80,6 +102,7 @@ impl StreamConversion {
                 conversion.convert_by(overflow, read, written)
             }
             StreamConversion::Stored(array) => convert_block(array, read, written),
+            StreamConversion::Random(conversion) => conversion.convert(first, read, written),
         }
     }
 }

@@ -10,6 +10,8 @@
 
 mod conversions;
 mod job;
+mod random;
+mod random_numbers;
 mod run;
 mod stream;
 mod wrong_word;
