@@ -1,3 +1,4 @@
 pub mod Statuses
 pub mod StreamWidths
 pub mod RandomWidths
+pub mod RandomNumbers
