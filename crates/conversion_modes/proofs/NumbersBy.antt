@@ -1,5 +1,6 @@
 -- What a conversion in a picked direction is, in the modes of conversions.
-use Rattle.std.proofs.Common.{◌≡◌, ℕ, zero, suc, ◌*◌, ◌^◌, ◌<◌, ◌≤◌, Bool, false, cond, eqb, not, sym, refl, ap, ◌∙◌, arith, ◌-◌, ◌/◌, ◌%◌}
+use Rattle.std.proofs.Common.{◌≡◌, ℕ, zero, suc, ◌*◌, ◌^◌, ◌<◌, ◌≤◌, Bool, false, cond, eqb}
+use Rattle.std.proofs.Common.{not, sym, refl, ap, ◌∙◌, arith, ◌-◌, ◌/◌, ◌%◌}
 use Rattle.std.proofs.Math.Nat.{le_of_mul-le-mul_right}
 use Rattle.std.proofs.lemmas.Bool.{ne_eqb, MatchBool-at_false}
 use Rattle.std.proofs.lemmas.Nat.{pow_pos}
@@ -27,7 +28,8 @@ pub some_quanta : (n : ℕ) → eqb (suc n) 0 ≡ false
 some_quanta n = ne_eqb (suc n) 0 (λ e. omega (arith, e))
 
 pub converted_number : (f g : Format) (mode : Round) (b : Bool) (n : ℕ) (value : Datum) (status : ℕ) (loses : Bool)
-    → IsConversion f g mode (finite b (suc n)) value status loses → IsConvertedNumber f g mode b (suc n) value status loses
+    → IsConversion f g mode (finite b (suc n)) value status loses
+    → IsConvertedNumber f g mode b (suc n) value status loses
 converted_number f g mode b n value status loses x =
     MatchBool-at_false _ (IsConvertedNumber f g mode b (suc n) value status loses) (some_quanta n) x
 

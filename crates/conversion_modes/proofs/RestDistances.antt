@@ -71,8 +71,9 @@ direction_is f digits random half number k q c amount parts u d past away some e
       above = next;
       is_below = below_is f.precision half q c amount parts i;
       is_above = above_is_next f.precision half q c amount parts i l;
-      is = known next (distances q (2 ^ k) r (low * parts) (next * parts) amount (2 ^ d) w from (omega (arith, to)) whole
-          (at q) (at (q + 1)));
+      is = known next
+          (distances q (2 ^ k) r (low * parts) (next * parts) amount (2 ^ d) w from (omega (arith, to)) whole (at q)
+          (at (q + 1)));
     })
     (λ (l : amount ≤ low * parts).
     let same : amount ≡ low * parts = omega (arith, l, from) in

@@ -1,5 +1,5 @@
--- The mode that rounds a magnitude of a sign to the neighbour above it, or to the one below it; and which of them random
--- digits choose.
+-- The mode that rounds a magnitude of a sign to the neighbour above it, or to the one below it; and which of them
+-- random digits choose.
 use Rattle.std.specs.Prelude.{◌≡◌, ℕ, ◌+◌, ◌-◌, ◌*◌, ◌/◌, ◌^◌, Bool, ◌||◌, leb, ltb, if◌then◌else◌}
 use Rattle.apfloat_model.specs.declared.kinds.Round.{Round}
 use Rattle.apfloat_model.specs.declared.kinds.Round.TheVariants.{TowardPositive, TowardNegative, TowardZero}

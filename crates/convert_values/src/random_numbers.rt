@@ -1,5 +1,5 @@
-//! Random numbers by their position: those of SplitMix64, of which the upper 32 bits are taken. A stream that is cut can
-//! be resumed, and another program can compute the same numbers.
+//! Random numbers by their position: those of SplitMix64, of which the upper 32 bits are taken. A stream that is cut
+//! can be resumed, and another program can compute the same numbers.
 
 ghost use Rattle.std.specs.Prelude.{◌≡◌};
 ghost use Rattle.convert_values.specs.RandomNumbers.{IsRandomMode, mixed, random_at};

@@ -12,7 +12,8 @@ returns-then-past c = λ amount parts some h.
     let n : ℕ = 2 ^ c.args.bits.digits in
     let reached : Bool = leb n (n * (c.args.digits % 2 ^ kept.places) / 2 ^ kept.places + c.args.bits.random) in
     direction_is (format_at c.args.shape) c.args.bits.digits c.args.bits.random _ c.args.digits kept.places
-    kept.significand kept.place amount parts (up c.args.unit) (down c.args.unit) c.is_past-past.result c.is_past-past.result some
+    kept.significand kept.place amount parts (up c.args.unit) (down c.args.unit)
+    c.is_past-past.result c.is_past-past.result some
     (rw e at c.cut-kept.ensures.places) c.cut-kept.ensures.quotient h
     ((rw e at c.cut-kept.ensures.encloses) amount parts some h) c.is_past-past.ensures
     (c.if-past.true ∙ ap (λ (b : Bool). b || reached) (sym c.if-past.true))
