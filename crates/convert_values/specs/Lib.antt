@@ -1,3 +1,5 @@
 pub mod Blocks
 pub mod Statuses
 pub mod StreamWidths
+pub mod RandomWidths
+pub mod RandomNumbers

@@ -1,11 +1,12 @@
-//! The conversions of streams: between built-in formats, into a storage format or out of it, or into blocks or out of
-//! them.
+//! The conversions of streams: between built-in formats, into a storage format or out of it, into blocks or out of
+//! them, or with random digits.
 
 ghost use Rattle.std.specs.Prelude.{◌≡◌, ◌*◌, ◌/◌, ◌≤◌, length};
 ghost use Rattle.storage_arrays.specs.Arrays.{widths_of};
 ghost use Rattle.convert_values.specs.StreamWidths.{stream_widths};
 
 use crate::blocks::BlockConversion;
+use crate::random::{RandomConversion, RandomTarget};
 use array_conversions::{Conversion, ConvertedBlock, Extended, Overflow, Widths};
 use formats_at_run_time::{BuiltInFormat, BuiltInKind, FlaggedFormat, mode_named};
 use storage_arrays::{Ends, StorageArray, StoredFormat};
@@ -19,6 +20,8 @@ pub enum StreamConversion {
     Stored(StorageArray),
     /// Into blocks or out of them.
     Blocks(BlockConversion),
+    /// With random digits.
+    Random(RandomConversion),
 }
 
 /// The built-in format of this word.
@@ -60,21 +63,42 @@ impl StreamConversion {
         }))
     }
 
+    /// The conversion with random digits from the format of the first word to that of the second.
+    pub fn random(
+        extended: Extended,
+        overflow: Overflow,
+        seed: u64,
+        source: &str,
+        target: &str,
+    ) -> Option<StreamConversion> {
+        Some(StreamConversion::Random(RandomConversion {
+            source: built_in_named(source)?,
+            target: RandomTarget::named(target)?,
+            extended,
+            overflow,
+            seed,
+        }))
+    }
+
     /// How many values are converted together: those of a block, or one.
     pub fn values_together(self) -> usize
         ensures { 1 ≤ result }
     {
         match self {
-            StreamConversion::BuiltIn(_, _) | StreamConversion::Stored(_) => 1,
             StreamConversion::Blocks(blocks) => blocks.form.length,
+            StreamConversion::BuiltIn(_, _)
+            | StreamConversion::Stored(_)
+            | StreamConversion::Random(_) => 1,
         }
     }
 
     /// What is converted together.
     pub fn unit(self) -> &'static str {
         match self {
-            StreamConversion::BuiltIn(_, _) | StreamConversion::Stored(_) => "value",
             StreamConversion::Blocks(_) => "block",
+            StreamConversion::BuiltIn(_, _)
+            | StreamConversion::Stored(_)
+            | StreamConversion::Random(_) => "value",
         }
     }
 
@@ -88,11 +112,13 @@ impl StreamConversion {
             StreamConversion::BuiltIn(conversion, _) => conversion.widths(),
             StreamConversion::Stored(array) => array.widths(),
             StreamConversion::Blocks(blocks) => blocks.widths(),
+            StreamConversion::Random(conversion) => conversion.widths(),
         }
     }
 
     /// Converts the complete values or blocks in `read`, each in its place in `written`, which must have room for them.
-    pub fn convert(self, read: &[u8], written: Vec<u8>) -> ConvertedBlock
+    /// The first value has that position in the stream.
+    pub fn convert(self, first: u64, read: &[u8], written: Vec<u8>) -> ConvertedBlock
         requires { (length read.now / (stream_widths self).source) * (stream_widths self).target
             ≤ length written.items }
         ensures room { length result.buffer.items ≡ length written.items }
@@ -104,6 +130,7 @@ impl StreamConversion {
             }
             StreamConversion::Stored(array) => convert_block(array, read, written),
             StreamConversion::Blocks(blocks) => blocks.convert(read, written),
+            StreamConversion::Random(conversion) => conversion.convert(first, read, written),
         }
     }
 }

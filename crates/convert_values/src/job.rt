@@ -10,6 +10,8 @@ pub const HELP: &str = "\
 usage: convert_values [--saturate | --saturate-finite | --saturate-all]
                       [--x87-bytes=10|16] FROM TO MODE
        convert_values --block FORM [--dequantize] [--block-length N] FORMAT MODE
+       convert_values [--saturate ..] [--x87-bytes=10|16]
+                      --stochastic SEED FROM TO
        convert_values --help | --version
 
 Converts a stream of values to another format: reads little-endian values of the
@@ -36,11 +38,16 @@ MODE      even    to the nearest value, ties to even
                    mxfp4, mxfp6e2m3, mxfp6e3m2, mxfp8e4m3 or mxfp8e5m2
 --dequantize       such blocks become values of FORMAT
 --block-length N   a block has N values, 1 to 1024; 32 without this option
+--stochastic SEED  in place of a MODE: each number goes to one of its two
+                   neighbours, to either the likelier the nearer it is, as
+                   random numbers decide that follow from SEED, a whole number
+                   below 2^64, and the position in the stream
 --help, -h         writes this text
 --version          writes the name and the version of the program
 
 The last six are storage formats, whose values take a byte each; FROM and TO
-cannot both be one, and FORMAT cannot be one.
+cannot both be one, FORMAT cannot be one, and with --stochastic only TO, of the
+first three.
 
 A block is its scale in e8m0fnu, a byte, and after it the codes of its values:
 one of 8 bits in a byte, two of 4 bits in a byte or four of 6 bits in three,
@@ -89,6 +96,13 @@ impl Job {
     /// The job that converts a stream, if the words name a conversion.
     fn converting(overflow: Overflow, words: &[String]) -> Option<Job> {
         match words {
+            [option, seed, source, target] if is_stochastic(option.as_str()) => {
+                Job::random(overflow, Extended::Packed, seed, source, target)
+            }
+            [layout, option, seed, source, target] if is_stochastic(option.as_str()) => {
+                let extended = extended_named(layout.as_str())?;
+                Job::random(overflow, extended, seed, source, target)
+            }
             [source, target, mode] => {
                 Job::conversion(overflow, Extended::Packed, source, target, mode)
             }
@@ -98,6 +112,20 @@ impl Job {
             }
             _ => None,
         }
+    }
+
+    /// The conversion of these words with random digits.
+    fn random(
+        overflow: Overflow,
+        extended: Extended,
+        seed: &String,
+        source: &String,
+        target: &String,
+    ) -> Option<Job> {
+        let seed = seed_named(seed.as_str())?;
+        let (source, target) = (source.as_str(), target.as_str());
+        let conversion = StreamConversion::random(extended, overflow, seed, source, target)?;
+        Some(Job::Convert(conversion))
     }
 
     /// The conversion of these words.
@@ -136,5 +164,18 @@ fn extended_named(option: &str) -> Option<Extended> {
         "--x87-bytes=10" => Some(Extended::Packed),
         "--x87-bytes=16" => Some(Extended::Padded),
         _ => None,
+    }
+}
+
+/// Whether the option asks for random digits.
+pub fn is_stochastic(option: &str) -> bool {
+    option == "--stochastic"
+}
+
+/// The seed of random numbers that this word is.
+pub fn seed_named(word: &str) -> Option<u64> {
+    match word.parse::<u64>() {
+        Ok(seed) => Some(seed),
+        Err(_) => None,
     }
 }

@@ -13,6 +13,8 @@ mod block_words;
 mod blocks;
 mod conversions;
 mod job;
+mod random;
+mod random_numbers;
 mod run;
 mod stream;
 mod wrong_word;

@@ -91,7 +91,7 @@ fn convert_through<C: Clock, I: Read, W: Write, V: Write>(
             Ok(filled) => filled,
             Err(error) => return Err(Failure::Reading(error)),
         };
-        let block = conversion.convert(&read[..filled], buffer);
+        let block = conversion.convert(counts.values, &read[..filled], buffer);
         counts.add(block.counts);
         if let Err(error) = output.write_all(&block.buffer[..block.written]) {
             return Err(Failure::Writing(error));

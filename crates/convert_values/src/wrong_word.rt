@@ -1,6 +1,7 @@
 //! Which word of a command line is wrong.
 
 use crate::block_words::{blocks_named, is_block_option, is_later_option};
+use crate::job::{is_stochastic, seed_named};
 use commands::{FORMATS, MODES, WrongWord, suggested};
 use formats_at_run_time::{BuiltInKind, mode_named};
 use storage_arrays::StoredFormat;
@@ -16,12 +17,13 @@ static OPTIONS: &[&str] = &[
     "--x87-bytes=10",
     "--x87-bytes=16",
     "--block",
+    "--stochastic",
     "--help",
     "-h",
     "--version",
 ];
 
-/// The first wrong word, if three words and any options before them make a job.
+/// The first wrong word, if three words and any options before them make a job, or two with random digits.
 pub fn wrong_word(words: &[String]) -> Option<WrongWord<'_>> {
     match words {
         [word, ..] if is_block_option(word.as_str()) => blocks_named(words).err()?,
@@ -37,18 +39,43 @@ pub fn wrong_word(words: &[String]) -> Option<WrongWord<'_>> {
             word: word.as_str(),
             known: &[],
         }),
+        [word, seed, others @ ..] if is_stochastic(word.as_str()) => wrong_seed(seed, others),
         [word, others @ ..] if is_option(word.as_str()) => wrong_word(others),
         [word, ..] if word.as_str().starts_with('-') => Some(WrongWord {
             fault: "no such option",
             word: word.as_str(),
             known: OPTIONS,
         }),
-        [_, _, _, word, ..] => Some(WrongWord {
-            fault: "a word too many",
-            word: word.as_str(),
-            known: &[],
-        }),
+        [_, _, _, word, ..] => Some(too_many(word)),
         _ => wrong_name(words),
+    }
+}
+
+/// A word for which there is no place.
+fn too_many(word: &String) -> WrongWord<'_> {
+    WrongWord {
+        fault: "a word too many",
+        word: word.as_str(),
+        known: &[],
+    }
+}
+
+/// The first wrong word of a seed and the words after it.
+fn wrong_seed<'a>(seed: &'a String, others: &'a [String]) -> Option<WrongWord<'a>> {
+    if seed_named(seed.as_str()).is_none() {
+        return Some(WrongWord {
+            fault: "no whole number below 2^64",
+            word: seed.as_str(),
+            known: &[],
+        });
+    }
+    match others {
+        [_, _, word, ..] => Some(too_many(word)),
+        [source, target] => match wrong_format(source.as_str()) {
+            Some(wrong) => Some(wrong),
+            None => wrong_format(target.as_str()),
+        },
+        _ => None,
     }
 }
 
@@ -56,6 +83,14 @@ pub fn wrong_word(words: &[String]) -> Option<WrongWord<'_>> {
 pub fn wrong_form(words: &[String]) -> &'static str {
     match words {
         [word, ..] if is_block_option(word.as_str()) => "too few words",
+        [.., option, _, source, _]
+            if is_stochastic(option.as_str()) && is_stored(source.as_str()) => {
+            "random digits round out of no storage format: convert by way of single"
+        }
+        [.., option, _, _, target]
+            if is_stochastic(option.as_str()) && is_stored(target.as_str()) => {
+            "random digits round into no e3m4, e8m0fnu or ue4m3"
+        }
         [.., source, target, _] if is_stored(source.as_str()) && is_stored(target.as_str()) => {
             "only one of the formats can be a storage format: convert by way of single"
         }
@@ -70,7 +105,12 @@ pub fn wrong_form(words: &[String]) -> &'static str {
 fn is_option(word: &str) -> bool {
     matches!(
         word,
-        "--saturate" | "--saturate-finite" | "--saturate-all" | "--x87-bytes=10" | "--x87-bytes=16"
+        "--saturate"
+            | "--saturate-finite"
+            | "--saturate-all"
+            | "--x87-bytes=10"
+            | "--x87-bytes=16"
+            | "--stochastic"
     )
 }
 
@@ -79,19 +119,10 @@ fn wrong_name(names: &[String]) -> Option<WrongWord<'_>> {
     let [source, target, mode] = names else {
         return None;
     };
-    let fault = "no such format";
-    if !is_format(source.as_str()) {
-        Some(WrongWord {
-            fault,
-            word: source.as_str(),
-            known: formats_near(source.as_str()),
-        })
-    } else if !is_format(target.as_str()) {
-        Some(WrongWord {
-            fault,
-            word: target.as_str(),
-            known: formats_near(target.as_str()),
-        })
+    if let Some(wrong) = wrong_format(source.as_str()) {
+        Some(wrong)
+    } else if let Some(wrong) = wrong_format(target.as_str()) {
+        Some(wrong)
     } else if mode_named(mode.as_str()).is_none() {
         Some(WrongWord {
             fault: "no such mode",
@@ -101,6 +132,18 @@ fn wrong_name(names: &[String]) -> Option<WrongWord<'_>> {
     } else {
         None
     }
+}
+
+/// The word, if it names no format.
+fn wrong_format(word: &str) -> Option<WrongWord<'_>> {
+    if is_format(word) {
+        return None;
+    }
+    Some(WrongWord {
+        fault: "no such format",
+        word,
+        known: formats_near(word),
+    })
 }
 
 /// The formats among which the one is that was meant, if one is one edit away.

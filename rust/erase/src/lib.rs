@@ -39,6 +39,7 @@ pub const LIBRARY: &[&str] = &[
     "apfloat_machines",
     "hex_digits",
     "storage_formats",
+    "conversion_modes",
     "finite_theory",
     "finite_formats",
 ];

@@ -383,6 +383,11 @@ impl<S: Semantics> IeeeFloat<S> {
     }
 
     #[inline]
+    pub(crate) fn of_plain(plain: apfloat_ieee::IeeeFloat<PlainS<S>>) -> Self {
+        Self::from_unpacked(plain.unpacked())
+    }
+
+    #[inline]
     pub(crate) fn plain(self) -> apfloat_ieee::IeeeFloat<PlainS<S>> {
         apfloat_ieee::IeeeFloat::packed(self.value)
     }

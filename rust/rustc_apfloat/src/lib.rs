@@ -39,6 +39,7 @@ pub mod ppc;
 // Beyond the crate `rustc_apfloat`, a module for each crate of the library.
 pub mod augmented;
 pub mod comparisons;
+pub mod conversion_modes;
 pub mod decimal_digits;
 pub mod finite_formats;
 pub mod format_of;

@@ -5,6 +5,7 @@
 
 use rustc_apfloat::augmented;
 use rustc_apfloat::comparisons::{self, Class, Extremum, OnNan, Predicate};
+use rustc_apfloat::conversion_modes::{ConversionRound, RandomDigits, RandomError, convert_by};
 use rustc_apfloat::finite_formats::Float6E3M2FN;
 use rustc_apfloat::ieee::*;
 use rustc_apfloat::storage_formats::{E2M1FN, E2M3FN, E3M2FN, E8M0FNU, Float8E3M4, StorageFormat, StoredFloat, UE4M3};
@@ -639,4 +640,38 @@ fn values_where_there_are_only_numbers() {
 #[should_panic(expected = "no signed integer has this width")]
 fn a_width_out_of_range_panics() {
     let _ = comparisons::convert_to_signed(Small::ZERO, 1, Round::TowardZero);
+}
+
+/// A code of 8 bits with its flags, of a single in a mode of conversions.
+fn converted<T: Semantics>(x: &str, mode: ConversionRound) -> (u128, Status) {
+    let x: Single = x.parse().unwrap();
+    let answer = convert_by::<_, T>(x, mode, &mut false);
+    (answer.value.to_bits(), answer.status)
+}
+
+#[test]
+fn conversions_with_random_digits() {
+    let random = |number| ConversionRound::Stochastic(RandomDigits::new(8, number).unwrap());
+    let (exact, inexact) = (Status::OK, Status::INEXACT);
+    let past = Status::OVERFLOW | inexact;
+    // 1.05 is 102 parts of 256 above 1; 470 is 176 parts above 448, past which is the NaN; 500 is past both.
+    for (x, number, bits, status) in [
+        ("1.05", 153, 0x38, inexact),
+        ("1.05", 154, 0x39, inexact),
+        ("-1.05", 153, 0xb8, inexact),
+        ("-1.05", 154, 0xb9, inexact),
+        ("1.125", 255, 0x39, exact),
+        ("470", 79, 0x7e, inexact),
+        ("470", 80, 0x7f, past),
+        ("500", 0, 0x7f, past),
+        ("0x1p-10", 127, 0x00, Status::UNDERFLOW | inexact),
+        ("0x1p-10", 128, 0x01, Status::UNDERFLOW | inexact),
+    ] {
+        assert_eq!(converted::<Float8E4M3FNS>(x, random(number)), (bits, status), "{x} {number}");
+    }
+    assert_eq!(converted::<Float8E4M3FNS>("1.05", ConversionRound::ToOdd), (0x39, inexact));
+    assert_eq!(converted::<Float8E4M3FNUZS>("-0", ConversionRound::ToOdd), (0x00, inexact));
+    assert_eq!(converted::<Float8E4M3FNS>("1.05", ConversionRound::Ieee(Round::NearestTiesToEven)), (0x38, inexact));
+    assert!(matches!(RandomDigits::new(33, 0), Err(RandomError::DigitCount)));
+    assert!(matches!(RandomDigits::new(8, 256), Err(RandomError::TooWide)));
 }

@@ -1,0 +1,6 @@
+mod RestParts
+mod DirectedResults
+mod RestDistances
+mod Lengths
+mod NumbersBy
+mod OneAnswer

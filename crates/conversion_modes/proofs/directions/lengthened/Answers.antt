@@ -1,0 +1,17 @@
+use Rattle.std.proofs.Common.{arith}
+use Rattle.conversion_modes.proofs.Lengths.{length_fits, length_full, length_whole}
+use Rattle.conversion_modes.proofs.directions.lengthened.Goals as goal
+
+pub returns-clause-value : goal.returns-clause-value
+returns-clause-value c =
+    length_whole c.args.precision c.args.significand 125 (omega arith) c.requires.precise c.requires.fits
+
+pub returns-clause-low : goal.returns-clause-low
+returns-clause-low c =
+    rw (length_whole c.args.precision c.args.significand 125 (omega arith) c.requires.precise c.requires.fits)
+    (length_full c.args.precision c.args.significand 125 c.requires.some c.requires.precise c.requires.full)
+
+pub returns-clause-high : goal.returns-clause-high
+returns-clause-high c =
+    rw (length_whole c.args.precision c.args.significand 125 (omega arith) c.requires.precise c.requires.fits)
+    (length_fits c.args.precision c.args.significand 125 c.requires.precise c.requires.fits)

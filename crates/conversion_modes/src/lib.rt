@@ -1,0 +1,14 @@
+//! Conversions to any format by the modes of conversions (`storage_formats::ConversionRound`): the five of IEEE 754, to
+//! odd, and with random digits.
+//!
+//! Random digits choose one of the two neighbours of a number (`directions`), by the digits that the target does not
+//! keep (`cuts`). The conversion in the directed mode that leads to that neighbour does the rest (`by_mode`).
+#![tactic(auto)]
+
+mod by_mode;
+mod cuts;
+mod directions;
+mod theorems;
+
+pub use by_mode::convert_by;
+pub use theorems::{mode_conversions_are_conversions, mode_conversions_have_one_answer};

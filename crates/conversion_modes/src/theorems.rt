@@ -1,0 +1,15 @@
+//! Theorems about the definitions that the calls cite, as contracts of functions with empty bodies. How many of the
+//! random numbers take a magnitude to the neighbour above is `random_numbers_are_counted` of `storage_formats`, whose
+//! pick is the one here.
+
+ghost use Rattle.conversion_modes.specs.Laws.{AreConversionsOfModel, IsConversionByOnce};
+
+/// A conversion by a mode of conversions has one answer.
+pub fn mode_conversions_have_one_answer()
+    ensures { IsConversionByOnce }
+{}
+
+/// In a mode of IEEE 754 a conversion is that of `convert_r`.
+pub fn mode_conversions_are_conversions()
+    ensures { AreConversionsOfModel }
+{}

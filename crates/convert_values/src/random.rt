@@ -1,0 +1,230 @@
+//! Conversions of streams that random digits round.
+
+ghost use Rattle.std.specs.Prelude.{◌≡◌, ◌*◌, ◌/◌, ◌^◌, ◌<◌, ◌≤◌, length};
+ghost use Rattle.formats_at_run_time.specs.FormatKinds.{IfFormat};
+ghost use Rattle.convert_values.specs.RandomWidths.{bits_in, random_widths};
+
+use crate::random_numbers::mode_at;
+use array_conversions::{
+    Converted, ConvertedBlock, Counts, Extended, FiniteNan, Outcome, Overflow, ValueClass, Widths,
+    number_of, treat, width, write_number,
+};
+use conversion_modes::convert_by;
+use formats_at_run_time::{BuiltInFormat, BuiltInKind, InFormat};
+use rustc_apfloat::ieee::{IeeeFloat, Semantics};
+use rustc_apfloat::{Float, StatusAnd};
+use storage_formats::{
+    ConversionRound, E2M1FN, E2M3FN, E3M2FN, NanResult, StorageFormat, StoredFloat,
+};
+
+/// A format into which random digits round.
+#[derive(Clone, Copy)]
+pub enum RandomTarget {
+    /// A built-in format.
+    BuiltIn(BuiltInFormat),
+    /// The element `e2m1fn`.
+    E2M1FN,
+    /// The element `e2m3fn`.
+    E2M3FN,
+    /// The element `e3m2fn`.
+    E3M2FN,
+}
+
+impl RandomTarget {
+    /// The format of this word, if random digits round into it.
+    pub fn named(word: &str) -> Option<RandomTarget> {
+        match word {
+            "e2m1fn" => Some(RandomTarget::E2M1FN),
+            "e2m3fn" => Some(RandomTarget::E2M3FN),
+            "e3m2fn" => Some(RandomTarget::E3M2FN),
+            _ => Some(RandomTarget::BuiltIn(BuiltInKind::named(word)?.format()?)),
+        }
+    }
+}
+
+/// A conversion of a stream, each value of which is rounded with random digits of its own.
+#[derive(Clone, Copy)]
+pub struct RandomConversion {
+    /// The source format.
+    pub source: BuiltInFormat,
+    /// The target format.
+    pub target: RandomTarget,
+    /// The width of a value of the x87 format.
+    pub extended: Extended,
+    /// What a number that overflows becomes.
+    pub overflow: Overflow,
+    /// The seed of the random numbers.
+    pub seed: u64,
+}
+
+impl RandomConversion {
+    /// The widths of a value in bytes, before and after its conversion.
+    pub fn widths(self) -> Widths
+        ensures is { result ≡ random_widths self }
+        ensures least { (1 ≤ result.source) × (1 ≤ result.target) }
+        ensures greatest { (result.source ≤ 16) × (result.target ≤ 16) }
+    {
+        let source = width(self.source, self.extended);
+        match self.target {
+            RandomTarget::BuiltIn(format) => Widths {
+                source,
+                target: width(format, self.extended),
+            },
+            RandomTarget::E2M1FN => Widths { source, target: 1 },
+            RandomTarget::E2M3FN => Widths { source, target: 1 },
+            RandomTarget::E3M2FN => Widths { source, target: 1 },
+        }
+    }
+
+    /// Converts the complete values in `read`, each in its place in `written`, which must have room for them. The first
+    /// has that position in the stream.
+    pub fn convert(self, first: u64, read: &[u8], written: Vec<u8>) -> ConvertedBlock
+        requires { (length read.now / (random_widths self).source) * (random_widths self).target
+            ≤ length written.items }
+        ensures room { length result.buffer.items ≡ length written.items }
+        ensures within { result.written ≤ length result.buffer.items }
+    {
+        let widths = self.widths();
+        let count = read.len() / widths.source;
+        let whole = count * widths.source;
+        let filled = count * widths.target;
+        let mut buffer = written;
+        let front = &mut buffer.as_mut_slice()[..filled];
+        let counts = self.convert_each(first, widths, count, &read[..whole], front);
+        ConvertedBlock {
+            counts,
+            buffer,
+            written: filled,
+            left_over: read.len() - whole,
+        }
+    }
+
+    /// Converts `count` values, each in its place.
+    fn convert_each(
+        self,
+        first: u64,
+        widths: Widths,
+        count: usize,
+        input: &[u8],
+        output: &mut [u8],
+    ) -> Counts
+        requires widths { widths ≡ random_widths self }
+        requires input { length input.now ≡ count * widths.source }
+        requires output { length output.old ≡ count * widths.target }
+    {
+        let mut counts = Counts::NONE;
+        for index in 0..count {
+            let (from, to) = (index * widths.source, index * widths.target);
+            let source = &input[from..from + widths.source];
+            let target = &mut output[to..to + widths.target];
+            let mode = mode_at(self.seed, first.wrapping_add(index as u64));
+            counts.add(counted(self.convert_value(mode, source, target)));
+        }
+        counts
+    }
+
+    /// Converts one value.
+    fn convert_value(self, mode: ConversionRound, input: &[u8], output: &mut [u8]) -> Outcome
+        requires input { length input.now ≡ (random_widths self).source }
+        requires output { length output.old ≡ (random_widths self).target }
+    {
+        let answer = self.source.run(FromCall {
+            target: self.target,
+            overflow: self.overflow,
+            mode,
+            bits: number_of(input),
+        });
+        write_number(answer.bits, output);
+        answer.outcome
+    }
+}
+
+/// The counts of one value.
+fn counted(outcome: Outcome) -> Counts {
+    let mut counts = Counts::NONE;
+    counts.count(outcome);
+    counts
+}
+
+/// The call that converts a value, made at the type of the source format.
+#[derive(Clone, Copy)]
+struct FromCall {
+    target: RandomTarget,
+    overflow: Overflow,
+    mode: ConversionRound,
+    bits: u128,
+}
+
+impl InFormat for FromCall {
+    type Output = Converted;
+
+    ghost gives = { λ it kind answer. answer.bits < 2 ^ bits_in it.target };
+
+    fn in_format<S: Semantics>(self) -> Converted {
+        let x = IeeeFloat::<S>::from_bits(self.bits);
+        let (mode, overflow) = (self.mode, self.overflow);
+        match self.target {
+            RandomTarget::BuiltIn(format) => format.run(IntoCall { x, mode, overflow }),
+            RandomTarget::E2M1FN => as_element::<S, E2M1FN>(x, mode, overflow),
+            RandomTarget::E2M3FN => as_element::<S, E2M3FN>(x, mode, overflow),
+            RandomTarget::E3M2FN => as_element::<S, E3M2FN>(x, mode, overflow),
+        }
+    }
+}
+
+/// The call that converts a value of the format `S`, made at the type of the target format.
+#[derive_where(Clone, Copy)]
+struct IntoCall<S: Semantics> {
+    x: IeeeFloat<S>,
+    mode: ConversionRound,
+    overflow: Overflow,
+}
+
+impl<S: Semantics> InFormat for IntoCall<S> {
+    type Output = Converted;
+
+    ghost gives = { λ it kind answer. IfFormat kind (λ d. answer.bits < 2 ^ d.bits) };
+
+    fn in_format<T: Semantics>(self) -> Converted {
+        let IntoCall { x, mode, overflow } = self;
+        let mut loses_info = false;
+        let own: StatusAnd<IeeeFloat<T>> = convert_by(x, mode, &mut loses_info);
+        let class = ValueClass::of(x.category());
+        let answer = treat(overflow, class, x.is_negative(), own, &mut loses_info);
+        Converted {
+            bits: answer.value.to_bits(),
+            outcome: Outcome {
+                status: answer.status,
+                is_nan: answer.value.is_nan(),
+            },
+        }
+    }
+}
+
+/// What a NaN becomes in a format without NaNs.
+fn nan_result(overflow: Overflow) -> NanResult {
+    match overflow {
+        Overflow::Finite(FiniteNan::Largest) => NanResult::Largest,
+        _ => NanResult::Zero,
+    }
+}
+
+/// A value as a code of the element format `F`, in which all numbers saturate.
+fn as_element<S: Semantics, F: StorageFormat>(
+    x: IeeeFloat<S>,
+    mode: ConversionRound,
+    overflow: Overflow,
+) -> Converted
+    ensures { result.bits < 2 ^ F.BITS }
+{
+    let mut loses_info = false;
+    let nans = nan_result(overflow);
+    let answer = StoredFloat::<F>::from_value_by(x, mode, nans, &mut loses_info);
+    Converted {
+        bits: u128::from(answer.value.to_bits()),
+        outcome: Outcome {
+            status: answer.status,
+            is_nan: false,
+        },
+    }
+}

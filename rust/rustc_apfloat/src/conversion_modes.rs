@@ -1,0 +1,72 @@
+//! Conversions to every format by two more modes than those of IEEE 754: to odd, and with random digits
+//! (stochastic rounding). `docs/STORAGE_FORMATS.md` of the repository says what they do; the crate `rustc_apfloat` has none of this.
+//!
+//! ```
+//! use rustc_apfloat::conversion_modes::{ConversionRound, RandomDigits, convert_by};
+//! use rustc_apfloat::ieee::{Float8E4M3FNS, Single};
+//!
+//! // 1.05 is 102 of 256 parts above 1, of the distance to the next value, 1.125.
+//! let x: Single = "1.05".parse().unwrap();
+//! let code = |random| {
+//!     let mode = ConversionRound::Stochastic(RandomDigits::new(8, random).unwrap());
+//!     convert_by::<_, Float8E4M3FNS>(x, mode, &mut false).value.to_bits()
+//! };
+//! assert_eq!((code(153), code(154)), (0x38, 0x39));
+//! ```
+
+use crate::erased::{conversion_modes as library, storage_formats};
+use crate::ieee::{IeeeFloat, PlainS, Semantics};
+use crate::status::answered;
+use crate::{Round, StatusAnd};
+
+pub use storage_formats::RandomError;
+
+/// Random binary digits for one conversion, handed in by the caller.
+#[derive(Clone, Copy, Debug)]
+pub struct RandomDigits(storage_formats::RandomDigits);
+
+impl RandomDigits {
+    /// `random` as a number of `digits` binary digits.
+    ///
+    /// # Errors
+    ///
+    /// `DigitCount` unless there are 1 to 32 digits, `TooWide` if `random` has more.
+    pub fn new(digits: u32, random: u32) -> Result<Self, RandomError> {
+        storage_formats::RandomDigits::new(digits, random).map(Self)
+    }
+}
+
+/// How a conversion rounds.
+#[derive(Clone, Copy, Debug)]
+pub enum ConversionRound {
+    /// One of the five modes of IEEE 754.
+    Ieee(Round),
+    /// The neighbour whose significand is odd. What is past the largest value becomes the largest value.
+    ToOdd,
+    /// The upper neighbour, in magnitude, if the random number reaches 2^digits together with the distance of the value
+    /// from the lower one, in units of 2^-digits of the distance of the two, cut to whole ones. Past the largest value
+    /// as to nearest.
+    Stochastic(RandomDigits),
+}
+
+impl ConversionRound {
+    fn given(self) -> storage_formats::ConversionRound {
+        match self {
+            Self::Ieee(round) => storage_formats::ConversionRound::Ieee(round),
+            Self::ToOdd => storage_formats::ConversionRound::ToOdd,
+            Self::Stochastic(bits) => storage_formats::ConversionRound::Stochastic(bits.0),
+        }
+    }
+}
+
+/// A value in another format, rounded once in a mode of conversions, with the flags of that rounding. In a mode of IEEE
+/// 754 it is `convert_r`, and so it is for a NaN, an infinity and a zero. A number that the format has is unchanged. It
+/// does not compile for a target with the flags of IEEE 754-2019.
+pub fn convert_by<S: Semantics, T: Semantics>(
+    x: IeeeFloat<S>,
+    mode: ConversionRound,
+    loses_info: &mut bool,
+) -> StatusAnd<IeeeFloat<T>> {
+    const { assert!(!T::IEEE_FLAGS, "random digits have no flags of IEEE 754-2019") };
+    answered(library::convert_by::<PlainS<S>, PlainS<T>>(x.plain(), mode.given(), loses_info)).map(IeeeFloat::of_plain)
+}
