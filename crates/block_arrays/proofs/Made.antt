@@ -40,8 +40,9 @@ total_push length before (first ∷ blocks) block =
 
 -- one more block
 pub made_more : (q : Quantization) (values : List ℕ) (index count : ℕ) (scales codes new : List ℕ)
-    (counts : Counts) (block : Block) → index < count → length scales ≡ count → length codes ≡ count * q.length
-    → length new ≡ q.length → IsBlockOf q values index new block → AreMade q values index scales codes counts
+    (counts : Counts) (block : Block) → index < count → length scales ≡ count
+    → length codes ≡ count * q.length → length new ≡ q.length → IsBlockOf q values index new block
+    → AreMade q values index scales codes counts
     → AreMade q values (index + 1) (slice_set scales index block.scale)
     (put_mid (index * q.length) (index * q.length + q.length - index * q.length) codes new)
     (sum_of counts (counts_with q.length block))

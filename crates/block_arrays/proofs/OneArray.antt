@@ -37,7 +37,8 @@ use Rattle.block_arrays.proofs.FormatLaws.{HasLaw, format_law}
 
 -- bytes that are all determined are equal
 whole_once : (width count : ℕ) (before after other : List ℕ) → length before ≡ count * width
-    → AreLeftIn before after → AreLeftIn before other → take (count * width) after ≡ take (count * width) other → after ≡ other
+    → AreLeftIn before after → AreLeftIn before other
+    → take (count * width) after ≡ take (count * width) other → after ≡ other
 whole_once width count before after other size a b same =
     let one = a.size in
     let two = b.size in
