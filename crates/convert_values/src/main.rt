@@ -1,11 +1,12 @@
 //! Converts a stream of values from one format to another: `convert_values FROM TO MODE` reads little-endian values in
 //! the format FROM from standard input, and writes them in the format TO to standard output, in order. A line on
-//! standard error counts the values and the flags that their conversions raised.
+//! standard error counts the values and the flags that their conversions raised. `convert_values --block FORM FORMAT
+//! MODE` quantizes values to blocks with a common scale, and with `--dequantize` takes them out of such blocks.
 //!
 //! `HELP` explains the arguments.
 //!
-//! The exit status is 0 if all values were converted, 1 if the stream ended inside a value, 2 for other arguments, 3 if
-//! there is not enough memory for the buffers, and 4 if a read or a write failed.
+//! The exit status is 0 if all values were converted, 1 if the stream ended inside a value or a block, 2 for other
+//! arguments, 3 if there is not enough memory for the buffers, and 4 if a read or a write failed.
 #![tactic(auto)]
 
 mod block_form;

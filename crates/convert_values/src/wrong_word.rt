@@ -11,12 +11,12 @@ static STORED: &[&str] = &["e2m1fn", "e2m3fn", "e3m2fn", "e3m4", "e8m0fnu", "ue4
 
 /// The options before a format.
 static OPTIONS: &[&str] = &[
+    "--block",
     "--saturate",
     "--saturate-finite",
     "--saturate-all",
     "--x87-bytes=10",
     "--x87-bytes=16",
-    "--block",
     "--stochastic",
     "--help",
     "-h",
