@@ -2,6 +2,7 @@
 //! (stochastic rounding). `docs/STORAGE_FORMATS.md` of the repository says what they do; the crate `rustc_apfloat` has none of this.
 //!
 //! ```
+//! use rustc_apfloat::Float;
 //! use rustc_apfloat::conversion_modes::{ConversionRound, RandomDigits, convert_by};
 //! use rustc_apfloat::ieee::{Float8E4M3FNS, Single};
 //!
