@@ -8,9 +8,11 @@ ghost use Rattle.rustc_apfloat.specs.Lawful.{format_with};
 ghost use Rattle.apfloat_machines.specs.Machines.{has_unsigned};
 ghost use Rattle.apfloat_machines.specs.Operations.{IsOffered};
 ghost use Rattle.apfloat_machines.specs.WholeNumbers.{IsMachineSigned, IsMachineUnsigned};
+ghost use Rattle.formats_at_run_time.specs.declared.Arithmetic.TheVariants.{Sum, Difference, Product, Quotient};
 ghost use Rattle.formats_at_run_time.specs.FlaggedKinds.{flagged_constants, flagged_kind_coded};
 ghost use Rattle.formats_at_run_time.specs.Modes.{mode_coded};
 ghost use Rattle.formats_at_run_time.specs.ValueKinds.{of_format, value_of};
+ghost use Rattle.apfloat_c.specs.declared.machine_call.MachineCall.TheVariants.{Operation};
 ghost use Rattle.apfloat_c.specs.declared.machine_call.MachineOperation.TheVariants.{OfTwo, FusedSum, SquareRoot};
 ghost use Rattle.apfloat_c.specs.declared.machine_call.MachineOperation.TheVariants.{IntegralExact, Integral};
 ghost use Rattle.apfloat_c.specs.declared.machine_call.MachineOperation.TheVariants.{ToUnsigned, ToSigned};
@@ -31,11 +33,14 @@ use crate::codes::{
 use crate::data::{Answer, Halves};
 use crate::ieee_answers::{value, written};
 use crate::machine_call::{
-    MachineCall, MachineFormat, MachineOperation, known_conversion, known_operation, machine_call,
-    machine_coded,
+    KnownOperation, MachineCall, MachineFormat, MachineOperation, known_conversion,
+    known_operation, machine_call, machine_coded,
 };
-use crate::usual_operands::{are_usual, are_usual_of_three, both_fit, fits, is_number, is_root_of};
+use crate::usual_operands::{
+    are_normal, are_usual, are_usual_of_three, both_fit, fits, is_number, is_root_of,
+};
 use apfloat_comparisons::round_to_integral_in;
+use apfloat_encoded::convert_normal;
 use apfloat_machines::{
     Machine, MinimumRule, greatest, least, settled, settled_conversion, settled_fused,
     settled_signed, settled_unary, settled_unsigned,
@@ -70,7 +75,7 @@ impl FillsInFormat for OnMachine {
         } = self;
         match operation {
             MachineOperation::OfTwo(arithmetic, x, y) => {
-                of_two_in::<S>(answer, machine, round, arithmetic, x, y)
+                two_in::<S>(answer, machine, round, arithmetic, x, y)
             }
             MachineOperation::FusedSum(x, y, z) => {
                 fused_sum_in::<S>(answer, machine, round, x, y, z)
@@ -96,8 +101,110 @@ impl FillsInFormat for OnMachine {
     }
 }
 
-/// An operation on two values: the plain call, if the operands are usual.
+/// An operation on two values. Those that are computed from bits to bits have a function of their own.
 #[inline(always)]
+fn two_in<S: Flagged>(
+    answer: &mut Answer,
+    machine: Machine,
+    round: Round,
+    arithmetic: Arithmetic,
+    x: u128,
+    y: u128,
+) -> u32
+    requires { S.PRECISION < S.BITS }
+    ensures { IsMachineLeftIn (of_format (constants_of S.Flagged)) machine round
+        (OfTwo arithmetic x y) answer.old answer.new result }
+{
+    match arithmetic {
+        Arithmetic::Sum => sum_in::<S>(answer, machine, round, x, y),
+        Arithmetic::Difference => difference_in::<S>(answer, machine, round, x, y),
+        Arithmetic::Product => product_in::<S>(answer, machine, round, x, y),
+        Arithmetic::Quotient => quotient_in::<S>(answer, machine, round, x, y),
+        Arithmetic::NearestRemainder => of_two_in::<S>(answer, machine, round, arithmetic, x, y),
+        Arithmetic::TruncatedRemainder => of_two_in::<S>(answer, machine, round, arithmetic, x, y),
+    }
+}
+
+/// A sum: the plain one in line, if the operands are normal.
+#[inline(never)]
+fn sum_in<S: Flagged>(answer: &mut Answer, machine: Machine, round: Round, x: u128, y: u128) -> u32
+    requires { S.PRECISION < S.BITS }
+    ensures { IsMachineLeftIn (of_format (constants_of S.Flagged)) machine round
+        (OfTwo Sum x y) answer.old answer.new result }
+{
+    if are_normal::<S>(x, y) {
+        answers::sum_here::<S>(answer, round, x, y);
+        ANSWERED
+    } else {
+        of_two_in::<S>(answer, machine, round, Arithmetic::Sum, x, y)
+    }
+}
+
+/// A difference: the plain one in line, if the operands are normal.
+#[inline(never)]
+fn difference_in<S: Flagged>(
+    answer: &mut Answer,
+    machine: Machine,
+    round: Round,
+    x: u128,
+    y: u128,
+) -> u32
+    requires { S.PRECISION < S.BITS }
+    ensures { IsMachineLeftIn (of_format (constants_of S.Flagged)) machine round
+        (OfTwo Difference x y) answer.old answer.new result }
+{
+    if are_normal::<S>(x, y) {
+        answers::difference_here::<S>(answer, round, x, y);
+        ANSWERED
+    } else {
+        of_two_in::<S>(answer, machine, round, Arithmetic::Difference, x, y)
+    }
+}
+
+/// A product: the plain one in line, if the operands are normal.
+#[inline(never)]
+fn product_in<S: Flagged>(
+    answer: &mut Answer,
+    machine: Machine,
+    round: Round,
+    x: u128,
+    y: u128,
+) -> u32
+    requires { S.PRECISION < S.BITS }
+    ensures { IsMachineLeftIn (of_format (constants_of S.Flagged)) machine round
+        (OfTwo Product x y) answer.old answer.new result }
+{
+    if are_normal::<S>(x, y) {
+        answers::product_here::<S>(answer, round, x, y);
+        ANSWERED
+    } else {
+        of_two_in::<S>(answer, machine, round, Arithmetic::Product, x, y)
+    }
+}
+
+/// A quotient: the plain one, if the operands are usual.
+#[inline(always)]
+fn quotient_in<S: Flagged>(
+    answer: &mut Answer,
+    machine: Machine,
+    round: Round,
+    x: u128,
+    y: u128,
+) -> u32
+    requires { S.PRECISION < S.BITS }
+    ensures { IsMachineLeftIn (of_format (constants_of S.Flagged)) machine round
+        (OfTwo Quotient x y) answer.old answer.new result }
+{
+    if are_usual::<S>(Arithmetic::Quotient, x, y) {
+        answers::quotient::<IeeeFloat<S>>(answer, round, x, y);
+        ANSWERED
+    } else {
+        of_two::<S>(answer, machine, round, Arithmetic::Quotient, x, y)
+    }
+}
+
+/// An operation on two values: the plain call, if the operands are usual.
+#[inline(never)]
 fn of_two_in<S: Flagged>(
     answer: &mut Answer,
     machine: Machine,
@@ -169,7 +276,7 @@ fn of_two<S: Flagged>(
 }
 
 /// A product plus a third value, rounded once: the plain call, if the operands are numbers.
-#[inline(always)]
+#[inline(never)]
 fn fused_sum_in<S: Flagged>(
     answer: &mut Answer,
     machine: Machine,
@@ -183,7 +290,7 @@ fn fused_sum_in<S: Flagged>(
         answer.old answer.new result }
 {
     if machine.has_fused() && are_usual_of_three::<S>(x, y, z) {
-        answers::fused_sum::<S>(answer, round, x, y, z);
+        answers::fused_sum_here::<S>(answer, round, x, y, z);
         ANSWERED
     } else {
         fused_sum::<S>(answer, machine, round, x, y, z)
@@ -268,7 +375,7 @@ fn root<S: Flagged>(answer: &mut Answer, machine: Machine, round: Round, x: u128
 }
 
 /// A value rounded to an integral value, with INEXACT: the plain call, if the operand is a number.
-#[inline(always)]
+#[inline(never)]
 fn integral_exact_in<S: Flagged>(
     answer: &mut Answer,
     machine: Machine,
@@ -280,7 +387,7 @@ fn integral_exact_in<S: Flagged>(
         answer.old answer.new result }
 {
     if is_number::<S>(x) {
-        answers::round_to_integral::<IeeeFloat<S>>(answer, round, x);
+        answers::round_to_integral_here::<IeeeFloat<S>>(answer, round, x);
         ANSWERED
     } else {
         integral_exact::<S>(answer, machine, round, x)
@@ -304,7 +411,7 @@ fn integral_exact<S: Flagged>(answer: &mut Answer, machine: Machine, round: Roun
 }
 
 /// A value rounded to an integral value, without INEXACT.
-#[inline(always)]
+#[inline(never)]
 fn integral_in<S: Flagged>(answer: &mut Answer, machine: Machine, round: Round, x: u128) -> u32
     requires { S.PRECISION < S.BITS }
     ensures { IsMachineLeftIn (of_format (constants_of S.Flagged)) machine round (Integral x)
@@ -318,7 +425,7 @@ fn integral_in<S: Flagged>(answer: &mut Answer, machine: Machine, round: Round, 
 }
 
 /// A value rounded to an integral value, without INEXACT.
-#[inline(never)]
+#[inline(always)]
 fn integral<S: Flagged>(answer: &mut Answer, machine: Machine, round: Round, x: u128)
     requires { S.PRECISION < S.BITS }
     ensures { (format_of S.Flagged).nonfinite ≡ IEEE754
@@ -329,7 +436,7 @@ fn integral<S: Flagged>(answer: &mut Answer, machine: Machine, round: Round, x: 
 }
 
 /// A value as an integer, if its bits fit.
-#[inline(always)]
+#[inline(never)]
 fn to_unsigned_in<S: Flagged>(
     answer: &mut Answer,
     machine: Machine,
@@ -349,7 +456,7 @@ fn to_unsigned_in<S: Flagged>(
 }
 
 /// A value as a signed integer, if its bits fit.
-#[inline(always)]
+#[inline(never)]
 fn to_signed_in<S: Flagged>(
     answer: &mut Answer,
     machine: Machine,
@@ -411,7 +518,7 @@ fn greater_in<S: Flagged>(
 }
 
 /// A value as an integer.
-#[inline(never)]
+#[inline(always)]
 fn to_unsigned<S: Flagged>(
     answer: &mut Answer,
     machine: Machine,
@@ -482,7 +589,7 @@ fn invalid_unsigned<S: Flagged>(
 }
 
 /// A value as a signed integer.
-#[inline(never)]
+#[inline(always)]
 fn to_signed<S: Flagged>(
     answer: &mut Answer,
     machine: Machine,
@@ -607,9 +714,6 @@ impl FillsInFormat for ConversionTo {
             round,
             x,
         } = self;
-        if !fits::<S>(x) {
-            return WIDE_OPERAND;
-        }
         let source = PhantomData;
         target.fill(
             machine,
@@ -620,8 +724,7 @@ impl FillsInFormat for ConversionTo {
                 x,
             },
             answer,
-        );
-        ANSWERED
+        )
     }
 }
 
@@ -638,40 +741,63 @@ struct ConversionOf<S: Flagged> {
 impl<S: Flagged> FillsInFormat for ConversionOf<S> {
     type Place = Answer;
 
-    type Output = ();
+    type Output = u32;
 
-    ghost gives = { λ it kind old new _. let c = constants_of S.Flagged in
-        IsMachineConverted c it.machine it.round (value_of c it.x) kind new };
+    ghost gives = { λ it kind old new code. let source = of_format (constants_of S.Flagged) in
+        IsMachineConversionLeft source it.machine it.round it.x kind old new code };
 
     #[inline(always)]
-    fn fill_in_format<T: Flagged>(self, answer: &mut Answer) {
+    fn fill_in_format<T: Flagged>(self, answer: &mut Answer) -> u32 {
         converted::<S, T>(answer, self.machine, self.round, self.x)
     }
 }
 
-/// A value of the format `S` in the format `T`.
+/// A value of the format `S`, if its bits fit, in the format `T`.
 #[inline(never)]
-fn converted<S: Flagged, T: Flagged>(answer: &mut Answer, machine: Machine, round: Round, x: u128)
+fn converted<S: Flagged, T: Flagged>(
+    answer: &mut Answer,
+    machine: Machine,
+    round: Round,
+    x: u128,
+) -> u32
+    requires source { S.PRECISION < S.BITS }
+    requires target { T.PRECISION < T.BITS }
+    ensures { let source = of_format (constants_of S.Flagged) in
+        IsMachineConversionLeft source machine round x (of_format (constants_of T.Flagged))
+        answer.old answer.new result }
+{
+    if fits::<S>(x) {
+        fitting_converted::<S, T>(answer, machine, round, x);
+        ANSWERED
+    } else {
+        WIDE_OPERAND
+    }
+}
+
+/// A value of the format `S` in the format `T`: from bits to bits, if it is a normal number in both.
+#[inline(always)]
+fn fitting_converted<S: Flagged, T: Flagged>(
+    answer: &mut Answer,
+    machine: Machine,
+    round: Round,
+    x: u128,
+)
     requires source { S.PRECISION < S.BITS }
     requires target { T.PRECISION < T.BITS }
     ensures { let c = constants_of S.Flagged in
         IsMachineConverted c machine round (value_of c x) (of_format (constants_of T.Flagged))
         answer.new }
 {
-    let given = value::<S>(x);
-    if given.is_nan() {
-        converted_nan::<S, T>(answer, machine, round, x);
+    if let Some(number) = convert_normal::<S, T>(x, round) {
+        *answer = answers::with_bits(number);
     } else {
-        let mut loses_info = false;
-        let plain: StatusAnd<IeeeFloat<T>> = given.convert_r(round, &mut loses_info);
-        *answer = written(settled_conversion(machine, given, plain));
+        any_converted::<S, T>(answer, machine, round, x);
     }
 }
 
-/// A NaN, or any value, of the format `S` in the format `T`.
-#[cold]
+/// Any value of the format `S` in the format `T`.
 #[inline(never)]
-fn converted_nan<S: Flagged, T: Flagged>(
+fn any_converted<S: Flagged, T: Flagged>(
     answer: &mut Answer,
     machine: Machine,
     round: Round,
@@ -734,15 +860,7 @@ fn made(
         (IsMachineCallAnswer machine format round call) answer.old answer.new result }
 {
     match call {
-        MachineCall::Operation(operation) => format.fill(
-            machine,
-            OnMachine {
-                machine,
-                round,
-                operation,
-            },
-            answer,
-        ),
+        MachineCall::Operation(operation) => operated(machine, format, round, operation, answer),
         MachineCall::Conversion(x, target) => {
             let source = FlaggedFormat::AfterRounding(format.format).built_in();
             source.fill(
@@ -756,6 +874,27 @@ fn made(
             )
         }
     }
+}
+
+/// Makes an operation, and returns 0, or the error as `made` does.
+#[inline(always)]
+fn operated(
+    machine: Machine,
+    format: MachineFormat,
+    round: Round,
+    operation: MachineOperation,
+    answer: &mut Answer,
+) -> u32
+    ensures { let call = Operation operation in
+        IsLeftBy (machine_fault machine format call)
+        (IsMachineCallAnswer machine format round call) answer.old answer.new result }
+{
+    let call = OnMachine {
+        machine,
+        round,
+        operation,
+    };
+    format.fill(machine, call, answer)
 }
 
 /// What a machine delivers for an operation on values of a format, NaNs and flags included (`docs/MACHINES.md`). `to`
@@ -787,7 +926,7 @@ pub extern "C" fn apfloat_machine(
             4 => on_machine(machine, 4, format, mode, 0, x, y, NOTHING, answer),
             5 => any_on_machine(machine, 5, format, mode, 0, x, y, NOTHING, answer),
             6 => any_on_machine(machine, 6, format, mode, 0, x, y, NOTHING, answer),
-            7 => fused_on_machine(machine, format, mode, x, y, z, answer),
+            7 => on_machine(machine, 7, format, mode, 0, x, y, z, answer),
             8 => on_machine(machine, 8, format, mode, 0, x, NOTHING, NOTHING, answer),
             9 => on_machine(machine, 9, format, mode, 0, x, NOTHING, NOTHING, answer),
             10 => on_machine(machine, 10, format, mode, 0, x, NOTHING, NOTHING, answer),
@@ -825,29 +964,16 @@ fn on_machine(
 {
     match known_operation(machine, operation, format, mode, to, x, y, z) {
         Some(known) => {
-            let call = MachineCall::Operation(known.operation);
-            made(known.machine, known.format, known.round, call, answer)
+            let KnownOperation {
+                machine,
+                format,
+                round,
+                operation,
+            } = known;
+            operated(machine, format, round, operation, answer)
         }
         None => any_on_machine(machine, operation, format, mode, to, x, y, z, answer),
     }
-}
-
-/// The same as `apfloat_machine`, of the fused sum.
-#[inline(never)]
-fn fused_on_machine(
-    machine: u32,
-    format: u32,
-    mode: u32,
-    x: Halves,
-    y: Halves,
-    z: Halves,
-    answer: &mut Answer,
-) -> u32
-    ensures { let call = machine_call 7 0 (whole x) (whole y) (whole z) in
-        IsMachineReply (known_machine_call (flagged_kind_coded format) (mode_coded mode) call
-        (machine_coded machine)) answer.old answer.new result }
-{
-    on_machine(machine, 7, format, mode, 0, x, y, z, answer)
 }
 
 /// The same as `apfloat_machine`, of a conversion.
