@@ -18,6 +18,7 @@ ghost use Rattle.apfloat_c.specs.declared.machine_call.MachineOperation.TheVaria
 ghost use Rattle.apfloat_c.specs.declared.machine_call.MachineOperation.TheVariants.{ToUnsigned, ToSigned};
 ghost use Rattle.apfloat_c.specs.declared.machine_call.MachineOperation.TheVariants.{Least, Greatest};
 ghost use Rattle.apfloat_c.specs.declared.exported_call.ExportedCall.TheVariants.{OfTwo as PlainOfTwo};
+ghost use Rattle.apfloat_c.specs.declared.exported_call.ExportedCall.TheVariants.{RoundToIntegral as PlainIntegral};
 ghost use Rattle.apfloat_c.specs.Answers.{IsKindAnswer, IsLeftBy, whole};
 ghost use Rattle.apfloat_c.specs.MachineCalls.{IsMachineAnswer, IsMachineCallAnswer, IsMachineConverted};
 ghost use Rattle.apfloat_c.specs.MachineCalls.{IsMachineConversionLeft, IsMachineLeft, IsMachineLeftIn};
@@ -37,12 +38,13 @@ use crate::machine_call::{
     known_operation, machine_call, machine_coded,
 };
 use crate::usual_operands::{
-    are_normal, are_usual, are_usual_of_three, both_fit, fits, is_number, is_root_of,
+    are_normal, are_usual, are_usual_of_three, both_fit, fits, is_divisor, is_number, is_root_of,
+    three_words, two_words,
 };
 use apfloat_comparisons::round_to_integral_in;
 use apfloat_encoded::convert_normal;
 use apfloat_machines::{
-    Machine, MinimumRule, greatest, least, settled, settled_conversion, settled_fused,
+    Machine, MinimumRule, default_nan, greatest, least, settled, settled_conversion, settled_fused,
     settled_signed, settled_unary, settled_unsigned,
 };
 use formats_at_run_time::{Arithmetic, FillsInFormat, FlaggedFormat, FlaggedKind, mode_coded};
@@ -101,7 +103,8 @@ impl FillsInFormat for OnMachine {
     }
 }
 
-/// An operation on two values. Those that are computed from bits to bits have a function of their own.
+/// An operation on two values. In a format of at most 64 bits they are passed as words, so that all arguments of the
+/// call are in registers.
 #[inline(always)]
 fn two_in<S: Flagged>(
     answer: &mut Answer,
@@ -115,23 +118,83 @@ fn two_in<S: Flagged>(
     ensures { IsMachineLeftIn (of_format (constants_of S.Flagged)) machine round
         (OfTwo arithmetic x y) answer.old answer.new result }
 {
+    if S::BITS <= 64 {
+        if let Some((x, y)) = two_words(x, y) {
+            two_of_words::<S>(answer, machine, round, arithmetic, x, y)
+        } else {
+            of_two::<S>(answer, machine, round, arithmetic, x, y)
+        }
+    } else {
+        two_of_values::<S>(answer, machine, round, arithmetic, x, y)
+    }
+}
+
+/// An operation on two words. Those that are frequent have a function of their own.
+#[inline(always)]
+fn two_of_words<S: Flagged>(
+    answer: &mut Answer,
+    machine: Machine,
+    round: Round,
+    arithmetic: Arithmetic,
+    x: u64,
+    y: u64,
+) -> u32
+    requires { S.PRECISION < S.BITS }
+    ensures { IsMachineLeftIn (of_format (constants_of S.Flagged)) machine round
+        (OfTwo arithmetic x y) answer.old answer.new result }
+{
     match arithmetic {
-        Arithmetic::Sum => sum_in::<S>(answer, machine, round, x, y),
-        Arithmetic::Difference => difference_in::<S>(answer, machine, round, x, y),
-        Arithmetic::Product => product_in::<S>(answer, machine, round, x, y),
-        Arithmetic::Quotient => quotient_in::<S>(answer, machine, round, x, y),
+        Arithmetic::Sum => sum_of_words::<S>(answer, machine, round, x, y),
+        Arithmetic::Difference => difference_of_words::<S>(answer, machine, round, x, y),
+        Arithmetic::Product => product_of_words::<S>(answer, machine, round, x, y),
+        Arithmetic::Quotient => quotient_of_words::<S>(answer, machine, round, x, y),
+        Arithmetic::NearestRemainder => {
+            of_two_in::<S>(answer, machine, round, arithmetic, x as u128, y as u128)
+        }
+        Arithmetic::TruncatedRemainder => {
+            of_two_in::<S>(answer, machine, round, arithmetic, x as u128, y as u128)
+        }
+    }
+}
+
+/// An operation on two values. Those that are frequent have a function of their own.
+#[inline(always)]
+fn two_of_values<S: Flagged>(
+    answer: &mut Answer,
+    machine: Machine,
+    round: Round,
+    arithmetic: Arithmetic,
+    x: u128,
+    y: u128,
+) -> u32
+    requires { S.PRECISION < S.BITS }
+    ensures { IsMachineLeftIn (of_format (constants_of S.Flagged)) machine round
+        (OfTwo arithmetic x y) answer.old answer.new result }
+{
+    match arithmetic {
+        Arithmetic::Sum => sum_of_values::<S>(answer, machine, round, x, y),
+        Arithmetic::Difference => difference_of_values::<S>(answer, machine, round, x, y),
+        Arithmetic::Product => product_of_values::<S>(answer, machine, round, x, y),
+        Arithmetic::Quotient => quotient_of_values::<S>(answer, machine, round, x, y),
         Arithmetic::NearestRemainder => of_two_in::<S>(answer, machine, round, arithmetic, x, y),
         Arithmetic::TruncatedRemainder => of_two_in::<S>(answer, machine, round, arithmetic, x, y),
     }
 }
 
-/// A sum: the plain one in line, if the operands are normal.
+/// A sum of words: the plain one in line, if they are normal numbers.
 #[inline(never)]
-fn sum_in<S: Flagged>(answer: &mut Answer, machine: Machine, round: Round, x: u128, y: u128) -> u32
+fn sum_of_words<S: Flagged>(
+    answer: &mut Answer,
+    machine: Machine,
+    round: Round,
+    x: u64,
+    y: u64,
+) -> u32
     requires { S.PRECISION < S.BITS }
     ensures { IsMachineLeftIn (of_format (constants_of S.Flagged)) machine round
         (OfTwo Sum x y) answer.old answer.new result }
 {
+    let (x, y) = (x as u128, y as u128);
     if are_normal::<S>(x, y) {
         answers::sum_here::<S>(answer, round, x, y);
         ANSWERED
@@ -140,9 +203,96 @@ fn sum_in<S: Flagged>(answer: &mut Answer, machine: Machine, round: Round, x: u1
     }
 }
 
-/// A difference: the plain one in line, if the operands are normal.
+/// A difference of words: the plain one in line, if they are normal numbers.
 #[inline(never)]
-fn difference_in<S: Flagged>(
+fn difference_of_words<S: Flagged>(
+    answer: &mut Answer,
+    machine: Machine,
+    round: Round,
+    x: u64,
+    y: u64,
+) -> u32
+    requires { S.PRECISION < S.BITS }
+    ensures { IsMachineLeftIn (of_format (constants_of S.Flagged)) machine round
+        (OfTwo Difference x y) answer.old answer.new result }
+{
+    let (x, y) = (x as u128, y as u128);
+    if are_normal::<S>(x, y) {
+        answers::difference_here::<S>(answer, round, x, y);
+        ANSWERED
+    } else {
+        of_two_in::<S>(answer, machine, round, Arithmetic::Difference, x, y)
+    }
+}
+
+/// A product of words: the plain one in line, if they are normal numbers.
+#[inline(never)]
+fn product_of_words<S: Flagged>(
+    answer: &mut Answer,
+    machine: Machine,
+    round: Round,
+    x: u64,
+    y: u64,
+) -> u32
+    requires { S.PRECISION < S.BITS }
+    ensures { IsMachineLeftIn (of_format (constants_of S.Flagged)) machine round
+        (OfTwo Product x y) answer.old answer.new result }
+{
+    let (x, y) = (x as u128, y as u128);
+    if are_normal::<S>(x, y) {
+        answers::product_here::<S>(answer, round, x, y);
+        ANSWERED
+    } else {
+        of_two_in::<S>(answer, machine, round, Arithmetic::Product, x, y)
+    }
+}
+
+/// A quotient of words: the plain one in line, if they are usual.
+#[inline(never)]
+fn quotient_of_words<S: Flagged>(
+    answer: &mut Answer,
+    machine: Machine,
+    round: Round,
+    x: u64,
+    y: u64,
+) -> u32
+    requires { S.PRECISION < S.BITS }
+    ensures { IsMachineLeftIn (of_format (constants_of S.Flagged)) machine round
+        (OfTwo Quotient x y) answer.old answer.new result }
+{
+    let (x, y) = (x as u128, y as u128);
+    if are_usual::<S>(Arithmetic::Quotient, x, y) {
+        answers::quotient_here::<IeeeFloat<S>>(answer, round, x, y);
+        ANSWERED
+    } else {
+        of_two::<S>(answer, machine, round, Arithmetic::Quotient, x, y)
+    }
+}
+
+/// A sum of values: the plain one in line, if they are usual.
+#[inline(never)]
+fn sum_of_values<S: Flagged>(
+    answer: &mut Answer,
+    machine: Machine,
+    round: Round,
+    x: u128,
+    y: u128,
+) -> u32
+    requires { S.PRECISION < S.BITS }
+    ensures { IsMachineLeftIn (of_format (constants_of S.Flagged)) machine round
+        (OfTwo Sum x y) answer.old answer.new result }
+{
+    if are_usual::<S>(Arithmetic::Sum, x, y) {
+        answers::sum_here::<S>(answer, round, x, y);
+        ANSWERED
+    } else {
+        of_two::<S>(answer, machine, round, Arithmetic::Sum, x, y)
+    }
+}
+
+/// A difference of values: the plain one in line, if they are usual.
+#[inline(never)]
+fn difference_of_values<S: Flagged>(
     answer: &mut Answer,
     machine: Machine,
     round: Round,
@@ -153,17 +303,17 @@ fn difference_in<S: Flagged>(
     ensures { IsMachineLeftIn (of_format (constants_of S.Flagged)) machine round
         (OfTwo Difference x y) answer.old answer.new result }
 {
-    if are_normal::<S>(x, y) {
+    if are_usual::<S>(Arithmetic::Difference, x, y) {
         answers::difference_here::<S>(answer, round, x, y);
         ANSWERED
     } else {
-        of_two_in::<S>(answer, machine, round, Arithmetic::Difference, x, y)
+        of_two::<S>(answer, machine, round, Arithmetic::Difference, x, y)
     }
 }
 
-/// A product: the plain one in line, if the operands are normal.
+/// A product of values: the plain one in line, if they are usual.
 #[inline(never)]
-fn product_in<S: Flagged>(
+fn product_of_values<S: Flagged>(
     answer: &mut Answer,
     machine: Machine,
     round: Round,
@@ -174,17 +324,17 @@ fn product_in<S: Flagged>(
     ensures { IsMachineLeftIn (of_format (constants_of S.Flagged)) machine round
         (OfTwo Product x y) answer.old answer.new result }
 {
-    if are_normal::<S>(x, y) {
+    if are_usual::<S>(Arithmetic::Product, x, y) {
         answers::product_here::<S>(answer, round, x, y);
         ANSWERED
     } else {
-        of_two_in::<S>(answer, machine, round, Arithmetic::Product, x, y)
+        of_two::<S>(answer, machine, round, Arithmetic::Product, x, y)
     }
 }
 
-/// A quotient: the plain one, if the operands are usual.
-#[inline(always)]
-fn quotient_in<S: Flagged>(
+/// A quotient of values: the plain one in line, if they are usual.
+#[inline(never)]
+fn quotient_of_values<S: Flagged>(
     answer: &mut Answer,
     machine: Machine,
     round: Round,
@@ -196,7 +346,7 @@ fn quotient_in<S: Flagged>(
         (OfTwo Quotient x y) answer.old answer.new result }
 {
     if are_usual::<S>(Arithmetic::Quotient, x, y) {
-        answers::quotient::<IeeeFloat<S>>(answer, round, x, y);
+        answers::quotient_here::<IeeeFloat<S>>(answer, round, x, y);
         ANSWERED
     } else {
         of_two::<S>(answer, machine, round, Arithmetic::Quotient, x, y)
@@ -275,9 +425,68 @@ fn of_two<S: Flagged>(
     ANSWERED
 }
 
-/// A product plus a third value, rounded once: the plain call, if the operands are numbers.
-#[inline(never)]
+/// A product plus a third value, rounded once, of operands that are passed as words in a format of at most 64 bits.
+#[inline(always)]
 fn fused_sum_in<S: Flagged>(
+    answer: &mut Answer,
+    machine: Machine,
+    round: Round,
+    x: u128,
+    y: u128,
+    z: u128,
+) -> u32
+    requires { S.PRECISION < S.BITS }
+    ensures { IsMachineLeftIn (of_format (constants_of S.Flagged)) machine round (FusedSum x y z)
+        answer.old answer.new result }
+{
+    if S::BITS <= 64 {
+        if let Some((x, y, z)) = three_words(x, y, z) {
+            fused_sum_of_words::<S>(answer, machine, round, x, y, z)
+        } else {
+            fused_sum::<S>(answer, machine, round, x, y, z)
+        }
+    } else {
+        fused_sum_of_values::<S>(answer, machine, round, x, y, z)
+    }
+}
+
+/// A product plus a third value, rounded once, of words.
+#[inline(never)]
+fn fused_sum_of_words<S: Flagged>(
+    answer: &mut Answer,
+    machine: Machine,
+    round: Round,
+    x: u64,
+    y: u64,
+    z: u64,
+) -> u32
+    requires { S.PRECISION < S.BITS }
+    ensures { IsMachineLeftIn (of_format (constants_of S.Flagged)) machine round (FusedSum x y z)
+        answer.old answer.new result }
+{
+    usual_fused_sum::<S>(answer, machine, round, x as u128, y as u128, z as u128)
+}
+
+/// A product plus a third value, rounded once, of values.
+#[inline(never)]
+fn fused_sum_of_values<S: Flagged>(
+    answer: &mut Answer,
+    machine: Machine,
+    round: Round,
+    x: u128,
+    y: u128,
+    z: u128,
+) -> u32
+    requires { S.PRECISION < S.BITS }
+    ensures { IsMachineLeftIn (of_format (constants_of S.Flagged)) machine round (FusedSum x y z)
+        answer.old answer.new result }
+{
+    usual_fused_sum::<S>(answer, machine, round, x, y, z)
+}
+
+/// A product plus a third value, rounded once: the plain one in line, if the operands are numbers.
+#[inline(always)]
+fn usual_fused_sum<S: Flagged>(
     answer: &mut Answer,
     machine: Machine,
     round: Round,
@@ -343,15 +552,19 @@ fn settled_fused_sum<S: Flagged>(
     }
 }
 
-/// The square root of a value: the plain call, if the operand is a positive number.
-#[inline(always)]
+/// The square root of a value: the plain one in line of a positive number or of +0, and of a negative number the
+/// machine's NaN.
+#[inline(never)]
 fn root_in<S: Flagged>(answer: &mut Answer, machine: Machine, round: Round, x: u128) -> u32
     requires { S.PRECISION < S.BITS }
     ensures { IsMachineLeftIn (of_format (constants_of S.Flagged)) machine round (SquareRoot x)
         answer.old answer.new result }
 {
     if is_root_of::<S>(x) {
-        answers::root::<IeeeFloat<S>>(answer, round, x);
+        answers::root_here::<IeeeFloat<S>>(answer, round, x);
+        ANSWERED
+    } else if is_divisor::<S>(x) {
+        *answer = written(Status::INVALID_OP.and(default_nan::<S>(machine)));
         ANSWERED
     } else {
         root::<S>(answer, machine, round, x)
@@ -387,10 +600,23 @@ fn integral_exact_in<S: Flagged>(
         answer.old answer.new result }
 {
     if is_number::<S>(x) {
-        answers::round_to_integral_here::<IeeeFloat<S>>(answer, round, x);
+        plain_integral_exact::<S>(answer, round, x);
         ANSWERED
     } else {
         integral_exact::<S>(answer, machine, round, x)
+    }
+}
+
+/// A value rounded to an integral value, with INEXACT, as the plain call gives it: in line, if it is a word.
+#[inline(always)]
+fn plain_integral_exact<S: Flagged>(answer: &mut Answer, round: Round, x: u128)
+    requires { S.PRECISION < S.BITS }
+    ensures { IsKindAnswer (of_format (constants_of S.Flagged)) round (PlainIntegral x) answer.new }
+{
+    if S::BITS <= 64 {
+        answers::round_to_integral_here::<IeeeFloat<S>>(answer, round, x)
+    } else {
+        answers::round_to_integral::<IeeeFloat<S>>(answer, round, x)
     }
 }
 
@@ -926,7 +1152,7 @@ pub extern "C" fn apfloat_machine(
             4 => on_machine(machine, 4, format, mode, 0, x, y, NOTHING, answer),
             5 => any_on_machine(machine, 5, format, mode, 0, x, y, NOTHING, answer),
             6 => any_on_machine(machine, 6, format, mode, 0, x, y, NOTHING, answer),
-            7 => on_machine(machine, 7, format, mode, 0, x, y, z, answer),
+            7 => fused_on_machine(machine, format, mode, x, y, z, answer),
             8 => on_machine(machine, 8, format, mode, 0, x, NOTHING, NOTHING, answer),
             9 => on_machine(machine, 9, format, mode, 0, x, NOTHING, NOTHING, answer),
             10 => on_machine(machine, 10, format, mode, 0, x, NOTHING, NOTHING, answer),
@@ -976,8 +1202,49 @@ fn on_machine(
     }
 }
 
-/// The same as `apfloat_machine`, of a conversion.
+/// The same as `apfloat_machine`, of the fused sum. Three words leave it enough registers.
+#[inline(always)]
+fn fused_on_machine(
+    machine: u32,
+    format: u32,
+    mode: u32,
+    x: Halves,
+    y: Halves,
+    z: Halves,
+    answer: &mut Answer,
+) -> u32
+    ensures { let call = machine_call 7 0 (whole x) (whole y) (whole z) in
+        IsMachineReply (known_machine_call (flagged_kind_coded format) (mode_coded mode) call
+        (machine_coded machine)) answer.old answer.new result }
+{
+    if let Some((x, y, z)) = three_words(x.number(), y.number(), z.number()) {
+        let (x, y, z) = (Halves::of_word(x), Halves::of_word(y), Halves::of_word(z));
+        on_machine(machine, 7, format, mode, 0, x, y, z, answer)
+    } else {
+        long_fused_on_machine(machine, format, mode, x, y, z, answer)
+    }
+}
+
+/// The same as `fused_on_machine`, of operands that need not be words.
 #[inline(never)]
+fn long_fused_on_machine(
+    machine: u32,
+    format: u32,
+    mode: u32,
+    x: Halves,
+    y: Halves,
+    z: Halves,
+    answer: &mut Answer,
+) -> u32
+    ensures { let call = machine_call 7 0 (whole x) (whole y) (whole z) in
+        IsMachineReply (known_machine_call (flagged_kind_coded format) (mode_coded mode) call
+        (machine_coded machine)) answer.old answer.new result }
+{
+    on_machine(machine, 7, format, mode, 0, x, y, z, answer)
+}
+
+/// The same as `apfloat_machine`, of a conversion.
+#[inline(always)]
 fn converted_on_machine(
     machine: u32,
     format: u32,

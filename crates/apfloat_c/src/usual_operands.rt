@@ -1,7 +1,7 @@
 //! Tests of the operands of machines by their bits: whether they fit in their format, and whether every machine gives
 //! the plain result of them. That is tested before the plain call, so that nothing has to be kept for after it.
 
-ghost use Rattle.std.specs.Prelude.{◌≡◌, ◌+◌, ◌^◌, ◌&&◌, ◌<◌, true, IsTrue};
+ghost use Rattle.std.specs.Prelude.{◌≡◌, ◌+◌, ◌^◌, ◌&&◌, ◌<◌, true, IsTrue, IfSome};
 ghost use Rattle.rustc_apfloat.specs.FlaggedTypes.{constants_of};
 ghost use Rattle.apfloat_c.specs.MachineCalls.{are_usual, are_usual_of_three, divides, fits, is_divisor, is_number};
 ghost use Rattle.apfloat_c.specs.MachineCalls.{is_root_of};
@@ -32,6 +32,30 @@ pub fn both_fit<S: Flagged>(x: u128, y: u128) -> bool
         && fits (constants_of S.Flagged).bits y) }
 {
     fits::<S>(x) && fits::<S>(y)
+}
+
+/// Both as words, if each fits in one.
+#[inline(always)]
+pub fn two_words(x: u128, y: u128) -> Option<(u64, u64)>
+    ensures { IfSome result (λ words. (words.0 ≡ x) × (words.1 ≡ y)) }
+{
+    if x < 1 << 64 && y < 1 << 64 {
+        Some((x as u64, y as u64))
+    } else {
+        None
+    }
+}
+
+/// All three as words, if each fits in one.
+#[inline(always)]
+pub fn three_words(x: u128, y: u128, z: u128) -> Option<(u64, u64, u64)>
+    ensures { IfSome result (λ words. (words.0 ≡ x) × (words.1 ≡ y) × (words.2 ≡ z)) }
+{
+    if x < 1 << 64 && y < 1 << 64 && z < 1 << 64 {
+        Some((x as u64, y as u64, z as u64))
+    } else {
+        None
+    }
 }
 
 /// Whether the bits are those of a number.
@@ -99,7 +123,7 @@ pub fn is_root_of<S: Flagged>(bits: u128) -> bool
 
 /// Whether the bits are those of a number other than zero.
 #[inline(always)]
-fn is_divisor<S: Flagged>(bits: u128) -> bool
+pub fn is_divisor<S: Flagged>(bits: u128) -> bool
     requires { S.PRECISION < S.BITS }
     ensures { result ≡ is_divisor (constants_of S.Flagged) bits }
 {
