@@ -2,7 +2,7 @@ use Rattle.rustc_apfloat.specs.FlaggedTypes.{constants_of}
 use Rattle.formats_at_run_time.specs.declared.Arithmetic.TheVariants.{Difference}
 use Rattle.apfloat_c.specs.MachineCalls.{is_number}
 use Rattle.apfloat_c.proofs.UsualAnswers.{two_true, usual_of_two}
-use Rattle.apfloat_c.proofs.machine_operations.difference_in.Goals as goal
+use Rattle.apfloat_c.proofs.machine_operations.difference_of_words.Goals as goal
 
 pub returns-then-are_normal : goal.returns-then-are_normal
 returns-then-are_normal g c = λ infinite.

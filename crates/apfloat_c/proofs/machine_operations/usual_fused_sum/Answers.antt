@@ -1,7 +1,7 @@
 use Rattle.std.proofs.Common.{sym, ◌∙◌}
 use Rattle.rustc_apfloat.specs.FlaggedTypes.{constants_of}
 use Rattle.apfloat_c.proofs.UsualAnswers.{usual_of_three}
-use Rattle.apfloat_c.proofs.machine_operations.fused_sum_in.Goals as goal
+use Rattle.apfloat_c.proofs.machine_operations.usual_fused_sum.Goals as goal
 
 pub returns-then-are_usual_of_three : goal.returns-then-are_usual_of_three
 returns-then-are_usual_of_three g c = λ infinite.
