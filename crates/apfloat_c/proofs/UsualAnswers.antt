@@ -1,23 +1,21 @@
 -- The plain answer of usual operands is that of every machine.
-use Rattle.std.proofs.Common.{◌≡◌, ℕ, pos, ◌+◌, ◌^◌, ◌<◌, ap, subst, Bool, true, false, not, ◌&&◌, ◌||◌, eqb, Option, Some, None, Result, Ok, refl, if◌then◌else◌}
+use Rattle.std.proofs.Common.{◌≡◌, ℕ, ◌+◌, ◌^◌, ◌<◌, ap, subst, Bool, true, false, not, ◌&&◌, ◌||◌, eqb, Option, Some, None, Result, Ok, refl, if◌then◌else◌}
 use Rattle.std.specs.Prelude.{option_and_then}
 use Rattle.std.specs.Bool.{MatchBool}
 use Rattle.std.proofs.lemmas.Bool.{false≢true, true≢false, and_left, and_right}
 use Rattle.rustc_apfloat.specs.Classes.{is_finite, is_negative, is_zero}
 use Rattle.rustc_apfloat.specs.Datum.{Datum, finite, infinite, nan}
 use Rattle.rustc_apfloat.specs.FusedSums.{IsFusedSum}
-use Rattle.rustc_apfloat.specs.Flags.{Gives, bits_of}
+use Rattle.rustc_apfloat.specs.Flags.{Gives}
 use Rattle.rustc_apfloat.specs.Lawful.{Constants, format_with, layout_with}
 use Rattle.rustc_apfloat.specs.Layout.{fields_of}
 use Rattle.apfloat_encoded.proofs.Reading.{number_read}
 use Rattle.rustc_apfloat.specs.declared.Round.{Round}
 use Rattle.rustc_apfloat.specs.declared.StatusAnd.{StatusAnd}
 use Rattle.apfloat_model.specs.arithmetic.Roots.{IsRoot}
-use Rattle.apfloat_model.specs.formats.Nan.{invalid_bit}
 use Rattle.apfloat_model.specs.whole_numbers.WholeNumbers.{IsRoundToIntegral}
 use Rattle.apfloat_machines.specs.declared.machine.Machine.{Machine}
 use Rattle.apfloat_machines.specs.Machines.{has_fused}
-use Rattle.apfloat_machines.specs.Nans.{default_nan}
 use Rattle.apfloat_machines.specs.Operations.{IsMachineFusedSum, IsMachineIntegralExact, IsMachineRoot}
 use Rattle.formats_at_run_time.specs.declared.Arithmetic.{Arithmetic}
 use Rattle.formats_at_run_time.specs.declared.Arithmetic.TheVariants.{Sum, Difference, Product, Quotient}
@@ -35,7 +33,7 @@ use Rattle.apfloat_c.specs.declared.machine_call.MachineCall.TheVariants.{Conver
 use Rattle.apfloat_c.specs.declared.machine_call.MachineFormat.{MachineFormat}
 use Rattle.apfloat_c.specs.declared.machine_call.MachineOperation.{MachineOperation}
 use Rattle.apfloat_c.specs.declared.machine_call.MachineOperation.TheVariants.{OfTwo, FusedSum, SquareRoot, IntegralExact}
-use Rattle.apfloat_c.specs.Answers.{IsKindAnswer, IsLeftBy, IsWritten}
+use Rattle.apfloat_c.specs.Answers.{IsKindAnswer, IsLeftBy}
 use Rattle.apfloat_c.specs.KnownCalls.{answered, without}
 use Rattle.apfloat_c.specs.MachineCalls.{IsMachineAnswer, IsMachineCallAnswer, IsMachineOfTwo, IsMachineReply}
 use Rattle.apfloat_c.specs.MachineCalls.{MachineRequest, are_usual, are_usual_of_three, conversion_call, divides, fits}
@@ -62,17 +60,6 @@ not_true false e = refl
 of_valid : (invalid : Bool) (Invalid Valid : Type 0) → invalid ≡ false → Valid → MatchBool invalid Invalid Valid
 of_valid true Invalid Valid e holds = absurd (true≢false e)
 of_valid false Invalid Valid e holds = holds
-
--- what is said of invalid operands, of invalid ones
-of_invalid : (invalid : Bool) (Invalid Valid : Type 0) → invalid ≡ true → Invalid → MatchBool invalid Invalid Valid
-of_invalid true Invalid Valid e holds = holds
-of_invalid false Invalid Valid e holds = absurd (false≢true e)
-
--- the second of two, if the first holds and its opposite does not hold with it
-second_true : (x y : Bool) → x ≡ true → (x && not y) ≡ false → y ≡ true
-second_true true true p e = refl
-second_true true false p e = absurd (true≢false e)
-second_true false y p e = absurd (false≢true p)
 
 -- ---- what is left
 
@@ -131,16 +118,6 @@ root_of_finite c machine mode (finite b n) given p q plain =
     of_valid (not (eqb n 0) && b) _ _ (and_right (not (eqb n 0)) b q) plain
 root_of_finite c machine mode (infinite b) given p q plain = absurd (false≢true p)
 root_of_finite c machine mode (nan b s) given p q plain = absurd (false≢true p)
-
-root_of_negative : (c : Constants) (machine : Machine) (mode : Round) (x : Datum) (given : StatusAnd Datum)
-    → is_finite x ≡ true → is_negative x ≡ true → is_zero x ≡ false
-    → given.value ≡ default_nan (format_with c) machine → bits_of given.status ≡ invalid_bit
-    → Gives (IsMachineRoot (format_with c) machine mode x) given
-root_of_negative c machine mode (finite b n) given p q some value status =
-    of_invalid (not (eqb n 0) && b) _ _ (two_true (not (eqb n 0)) b (ap not some) q)
-    (record { value_is = value; status_is = status })
-root_of_negative c machine mode (infinite b) given p q some value status = absurd (false≢true p)
-root_of_negative c machine mode (nan b s) given p q some value status = absurd (false≢true p)
 
 integral_of_finite : (c : Constants) (machine : Machine) (mode : Round) (x : Datum) (given : StatusAnd Datum)
     → is_finite x ≡ true → Gives (IsRoundToIntegral (format_with c) mode x) given
@@ -232,27 +209,6 @@ usual_root c machine mode x old answer e plain =
         holds = root_of_finite c machine mode (value_of c x) plain.given number.1
             (not_true (is_negative (value_of c x)) both.1) plain.holds;
         is_written = plain.is_written;
-      },
-    )
-
--- a negative number has no root
-pub no_root : (c : Constants) (machine : Machine) (mode : Round) (x : ℕ) (old answer : Answer)
-    (given : StatusAnd Datum) → is_root_of c x ≡ false → is_divisor c x ≡ true
-    → given.value ≡ default_nan (format_with c) machine → bits_of given.status ≡ invalid_bit
-    → IsWritten (in_format c) given (pos 0) answer
-    → IsLeftBy (operation_fault_in c.bits machine (SquareRoot x)) (IsMachineAnswer c machine mode (SquareRoot x))
-    old answer answered
-no_root c machine mode x old answer given none e value status written =
-    let both = both_true (is_number c x) (not (is_zero (value_of c x))) e in
-    let number = fits_and_finite c x both.0 in
-    fitting c.bits machine (SquareRoot x) (IsMachineAnswer c machine mode (SquareRoot x)) old answer answered number.0 (
-      refl,
-      record {
-        given = given;
-        holds = root_of_negative c machine mode (value_of c x) given number.1
-            (second_true (is_number c x) (is_negative (value_of c x)) both.0 none)
-            (not_true (is_zero (value_of c x)) both.1) value status;
-        is_written = written;
       },
     )
 
