@@ -1,5 +1,5 @@
 -- The plain answer of usual operands is that of every machine.
-use Rattle.std.proofs.Common.{◌≡◌, ℕ, ◌+◌, ◌^◌, ◌<◌, ap, subst, Bool, true, false, not, ◌&&◌, ◌||◌, eqb, Option, Some, None, Result, Ok, refl, if◌then◌else◌}
+use Rattle.std.proofs.Common.{◌≡◌, ℕ, ◌+◌, ◌^◌, ◌<◌, ap, subst, Bool, true, false, not, ◌&&◌, eqb, Option, Some, None, Result, Ok, refl, if◌then◌else◌}
 use Rattle.std.specs.Prelude.{option_and_then}
 use Rattle.std.specs.Bool.{MatchBool}
 use Rattle.std.proofs.lemmas.Bool.{false≢true, true≢false, and_left, and_right}
@@ -38,7 +38,7 @@ use Rattle.apfloat_c.specs.KnownCalls.{answered, without}
 use Rattle.apfloat_c.specs.MachineCalls.{IsMachineAnswer, IsMachineCallAnswer, IsMachineOfTwo, IsMachineReply}
 use Rattle.apfloat_c.specs.MachineCalls.{MachineRequest, are_usual, are_usual_of_three, conversion_call, divides, fits}
 use Rattle.apfloat_c.specs.MachineCalls.{is_divisor, is_number, is_root_of, known_machine_call, lacking_operation}
-use Rattle.apfloat_c.specs.MachineCalls.{lacking_unless, machine_call, machine_fault, machine_format, operands_fit}
+use Rattle.apfloat_c.specs.MachineCalls.{machine_call, machine_fault, machine_format, operands_fit}
 use Rattle.apfloat_c.specs.MachineCalls.{operation_fault, operation_fault_in, wide_operand}
 use Rattle.apfloat_c.proofs.WrittenAnswers.{answered_if}
 
