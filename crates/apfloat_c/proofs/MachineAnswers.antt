@@ -1,17 +1,27 @@
 -- From the answers of the library to those of a machine.
-use Rattle.std.proofs.Common.{Bool, Option, Some, None}
+use Rattle.std.proofs.Common.{◌≡◌, ℕ, Bool, false, not, eqb, Option, Some, None, refl, sym, subst, pos, arith}
+use Rattle.std.proofs.lemmas.Bool.{ne_eqb}
+use Rattle.apfloat_encoded.specs.declared.Encoded.{Encoded}
+use Rattle.apfloat_encoded.specs.Encoded.{IsConvertedNumber}
 use Rattle.rustc_apfloat.specs.declared.Round.{Round}
 use Rattle.rustc_apfloat.specs.declared.StatusAnd.{StatusAnd}
-use Rattle.rustc_apfloat.specs.Datum.{Datum}
-use Rattle.rustc_apfloat.specs.Lawful.{Constants, format_with}
+use Rattle.rustc_apfloat.specs.Datum.{Datum, finite}
+use Rattle.rustc_apfloat.specs.Flags.{Gives, bits_of}
+use Rattle.rustc_apfloat.specs.Lawful.{Constants, format_with, layout_with}
+use Rattle.rustc_apfloat.specs.Layout.{IsEncodedBy}
+use Rattle.rustc_apfloat.specs.Rounding.{ok_bits}
 use Rattle.apfloat_machines.specs.declared.machine.Machine.{Machine}
+use Rattle.apfloat_machines.specs.Conversions.{IsMachineConversion}
 use Rattle.apfloat_machines.specs.Operations.{AreSettled, IsOffered}
 use Rattle.formats_at_run_time.specs.declared.Arithmetic.{Arithmetic}
 use Rattle.formats_at_run_time.specs.declared.Arithmetic.TheVariants.{Sum, Difference, Product, Quotient}
 use Rattle.formats_at_run_time.specs.declared.Arithmetic.TheVariants.{NearestRemainder, TruncatedRemainder}
 use Rattle.formats_at_run_time.specs.OfTwo.{IsOfTwo}
 use Rattle.formats_at_run_time.specs.Relations.{in_format}
-use Rattle.apfloat_c.specs.MachineCalls.{IsMachineOfTwo}
+use Rattle.formats_at_run_time.specs.ValueKinds.{of_format, value_of}
+use Rattle.apfloat_c.specs.declared.data.Answer.{Answer}
+use Rattle.apfloat_c.specs.Answers.{whole}
+use Rattle.apfloat_c.specs.MachineCalls.{IsMachineConverted, IsMachineOfTwo}
 
 -- what `settled` makes of the answer of an operation on two values is the machine's
 pub settled_of_two : (c : Constants) (machine : Machine) (arithmetic : Arithmetic) (mode : Round) (x y : Datum)
@@ -30,3 +40,29 @@ pub offered : {A : Type 0} (has : Bool) (Says Tells : A → Type 0) (result : Op
     → ((answer : A) → Says answer → Tells answer) → IsOffered has Says result → IsOffered has Tells result
 offered has Says Tells None implies said = said
 offered has Says Tells (Some answer) implies said = (said.0, implies answer said.1)
+
+-- a number other than zero, converted from bits to bits, is what every machine gives
+pub number_on_machine : (c d : Constants) (machine : Machine) (mode : Round) (bits : ℕ) (number : Encoded)
+    (answer : Answer) → IsConvertedNumber c d mode bits number → whole answer.bits ≡ number.bits
+    → answer.status ≡ bits_of number.status → answer.number ≡ pos 0
+    → IsMachineConverted c machine mode (value_of c bits) (of_format d) answer
+number_on_machine c d machine mode bits number answer is bits_are status_is number_is =
+    let it = is.number in
+    let value = finite is.negative it.quanta in
+    let given : StatusAnd Datum = record { status = number.status; value = value } in
+    let some : eqb is.quanta 0 ≡ false = ne_eqb is.quanta 0 (λ e. omega (arith, is.some, e)) in
+    let of_number : Gives (IsMachineConversion (format_with c) (format_with d) machine mode
+    (finite is.negative is.quanta)) given =
+    rw some (not (eqb (bits_of number.status) ok_bits), record { is_delivered = it.is_delivered; loses_is = refl }) in
+    record {
+      given = given;
+      holds =
+          subst (λ (x : Datum). Gives (IsMachineConversion (format_with c) (format_with d) machine mode x) given)
+          (sym is.read) of_number;
+      is_written = record {
+        is_encoded =
+            subst (λ (n : ℕ). IsEncodedBy (format_with d) (layout_with d) n value) (sym bits_are) it.is_encoded;
+        status_is = status_is;
+        number_is = number_is;
+      };
+    }

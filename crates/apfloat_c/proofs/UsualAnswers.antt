@@ -1,5 +1,5 @@
 -- The plain answer of usual operands is that of every machine.
-use Rattle.std.proofs.Common.{◌≡◌, ℕ, Bool, true, false, not, ◌&&◌, ◌||◌, eqb, Option, Some, None, Result, Ok, refl, if◌then◌else◌}
+use Rattle.std.proofs.Common.{◌≡◌, ℕ, ◌+◌, ◌^◌, ◌<◌, ap, subst, Bool, true, false, not, ◌&&◌, eqb, Option, Some, None, Result, Ok, refl, if◌then◌else◌}
 use Rattle.std.specs.Prelude.{option_and_then}
 use Rattle.std.specs.Bool.{MatchBool}
 use Rattle.std.proofs.lemmas.Bool.{false≢true, true≢false, and_left, and_right}
@@ -7,7 +7,9 @@ use Rattle.rustc_apfloat.specs.Classes.{is_finite, is_negative, is_zero}
 use Rattle.rustc_apfloat.specs.Datum.{Datum, finite, infinite, nan}
 use Rattle.rustc_apfloat.specs.FusedSums.{IsFusedSum}
 use Rattle.rustc_apfloat.specs.Flags.{Gives}
-use Rattle.rustc_apfloat.specs.Lawful.{Constants, format_with}
+use Rattle.rustc_apfloat.specs.Lawful.{Constants, format_with, layout_with}
+use Rattle.rustc_apfloat.specs.Layout.{fields_of}
+use Rattle.apfloat_encoded.proofs.Reading.{number_read}
 use Rattle.rustc_apfloat.specs.declared.Round.{Round}
 use Rattle.rustc_apfloat.specs.declared.StatusAnd.{StatusAnd}
 use Rattle.apfloat_model.specs.arithmetic.Roots.{IsRoot}
@@ -36,7 +38,7 @@ use Rattle.apfloat_c.specs.KnownCalls.{answered, without}
 use Rattle.apfloat_c.specs.MachineCalls.{IsMachineAnswer, IsMachineCallAnswer, IsMachineOfTwo, IsMachineReply}
 use Rattle.apfloat_c.specs.MachineCalls.{MachineRequest, are_usual, are_usual_of_three, conversion_call, divides, fits}
 use Rattle.apfloat_c.specs.MachineCalls.{is_divisor, is_number, is_root_of, known_machine_call, lacking_operation}
-use Rattle.apfloat_c.specs.MachineCalls.{lacking_unless, machine_call, machine_fault, machine_format, operands_fit}
+use Rattle.apfloat_c.specs.MachineCalls.{machine_call, machine_fault, machine_format, operands_fit}
 use Rattle.apfloat_c.specs.MachineCalls.{operation_fault, operation_fault_in, wide_operand}
 use Rattle.apfloat_c.proofs.WrittenAnswers.{answered_if}
 
@@ -129,6 +131,15 @@ integral_of_finite c machine mode (nan b s) given p plain = absurd (false≢true
 fits_and_finite : (c : Constants) (x : ℕ) → is_number c x ≡ true
     → (fits c.bits x ≡ true) × (is_finite (value_of c x) ≡ true)
 fits_and_finite c x e = both_true (fits c.bits x) (is_finite (value_of c x)) e
+
+-- a normal number whose exponent is not the greatest
+pub normal_is_number : (c : Constants) (bits biased : ℕ) → c.explicit_integer_bit ≡ false
+    → fits c.bits bits ≡ true → biased ≡ (fields_of (format_with c) (layout_with c) bits).biased_exponent
+    → 0 < biased → biased + 1 < 2 ^ c.exp_bits → is_number c bits ≡ true
+normal_is_number c bits biased implied fitting is some few =
+    let read = number_read c bits implied (subst (λ (n : ℕ). 0 < n) is some)
+    (subst (λ (n : ℕ). n + 1 < 2 ^ c.exp_bits) is few) in
+    two_true (fits c.bits bits) (is_finite (value_of c bits)) fitting (ap is_finite read)
 
 second_number : (divided : Bool) (c : Constants) (y : ℕ)
     → (if divided then is_divisor c y else is_number c y) ≡ true → is_number c y ≡ true

@@ -28,12 +28,22 @@ use std::marker::PhantomData;
 
 /// A result that was computed from bits to bits.
 #[inline(always)]
-fn with_bits(encoded: Encoded) -> Answer
+pub fn with_bits(encoded: Encoded) -> Answer
     ensures bits { whole result.bits ≡ encoded.bits }
     ensures status { result.status ≡ bits_of encoded.status }
     ensures number { result.number ≡ pos 0 }
 {
     Answer::of(encoded.bits, encoded.status, 0)
+}
+
+/// A sum in a format, from bits to bits, in line.
+#[inline(always)]
+pub fn sum_here<S: Flagged>(answer: &mut Answer, round: Round, x: u128, y: u128)
+    requires { S.PRECISION < S.BITS }
+    ensures { let kind = of_format (constants_of S.Flagged) in
+        IsKindAnswer kind round (OfTwo Sum x y) answer.new }
+{
+    *answer = with_bits(add_bits::<S>(x, y, round));
 }
 
 /// A sum in a format, from bits to bits.
@@ -43,7 +53,17 @@ pub fn sum_in<S: Flagged>(answer: &mut Answer, round: Round, x: u128, y: u128)
     ensures { let kind = of_format (constants_of S.Flagged) in
         IsKindAnswer kind round (OfTwo Sum x y) answer.new }
 {
-    *answer = with_bits(add_bits::<S>(x, y, round));
+    sum_here::<S>(answer, round, x, y)
+}
+
+/// A difference in a format, from bits to bits, in line.
+#[inline(always)]
+pub fn difference_here<S: Flagged>(answer: &mut Answer, round: Round, x: u128, y: u128)
+    requires { S.PRECISION < S.BITS }
+    ensures { let kind = of_format (constants_of S.Flagged) in
+        IsKindAnswer kind round (OfTwo Difference x y) answer.new }
+{
+    *answer = with_bits(subtract_bits::<S>(x, y, round));
 }
 
 /// A difference in a format, from bits to bits.
@@ -53,7 +73,17 @@ pub fn difference_in<S: Flagged>(answer: &mut Answer, round: Round, x: u128, y: 
     ensures { let kind = of_format (constants_of S.Flagged) in
         IsKindAnswer kind round (OfTwo Difference x y) answer.new }
 {
-    *answer = with_bits(subtract_bits::<S>(x, y, round));
+    difference_here::<S>(answer, round, x, y)
+}
+
+/// A product in a format, from bits to bits, in line.
+#[inline(always)]
+pub fn product_here<S: Flagged>(answer: &mut Answer, round: Round, x: u128, y: u128)
+    requires { S.PRECISION < S.BITS }
+    ensures { let kind = of_format (constants_of S.Flagged) in
+        IsKindAnswer kind round (OfTwo Product x y) answer.new }
+{
+    *answer = with_bits(multiply_bits::<S>(x, y, round));
 }
 
 /// A product in a format, from bits to bits.
@@ -63,7 +93,7 @@ pub fn product_in<S: Flagged>(answer: &mut Answer, round: Round, x: u128, y: u12
     ensures { let kind = of_format (constants_of S.Flagged) in
         IsKindAnswer kind round (OfTwo Product x y) answer.new }
 {
-    *answer = with_bits(multiply_bits::<S>(x, y, round));
+    product_here::<S>(answer, round, x, y)
 }
 
 /// A sum.
@@ -99,6 +129,17 @@ pub fn product<F: ValueType>(answer: &mut Answer, round: Round, x: u128, y: u128
     *answer = written(x.wide_mul_r(y, round));
 }
 
+/// A quotient, in line.
+#[inline(always)]
+pub fn quotient_here<F: ValueType>(answer: &mut Answer, round: Round, x: u128, y: u128)
+    requires { F.PRECISION < F.BITS }
+    ensures { let of_type = relations_of F.Float.own F.partial_cmp F.takes_root in
+        IsTypeAnswer of_type round (OfTwo Quotient x y) answer.new }
+{
+    let (x, y) = (F::from_bits(x), F::from_bits(y));
+    *answer = written(x.div_r(y, round));
+}
+
 /// A quotient.
 #[inline(never)]
 pub fn quotient<F: ValueType>(answer: &mut Answer, round: Round, x: u128, y: u128)
@@ -106,8 +147,7 @@ pub fn quotient<F: ValueType>(answer: &mut Answer, round: Round, x: u128, y: u12
     ensures { let of_type = relations_of F.Float.own F.partial_cmp F.takes_root in
         IsTypeAnswer of_type round (OfTwo Quotient x y) answer.new }
 {
-    let (x, y) = (F::from_bits(x), F::from_bits(y));
-    *answer = written(x.div_r(y, round));
+    quotient_here::<F>(answer, round, x, y)
 }
 
 /// The remainder by the integer nearest to the quotient.
@@ -132,9 +172,9 @@ pub fn truncated_remainder<F: ValueType>(answer: &mut Answer, round: Round, x: u
     *answer = written(x.c_fmod(y));
 }
 
-/// A product plus a third value, rounded once.
-#[inline(never)]
-pub fn fused_sum<S: Flagged>(answer: &mut Answer, round: Round, x: u128, y: u128, z: u128)
+/// A product plus a third value, rounded once, in line.
+#[inline(always)]
+pub fn fused_sum_here<S: Flagged>(answer: &mut Answer, round: Round, x: u128, y: u128, z: u128)
     requires { S.PRECISION < S.BITS }
     ensures { let kind = of_format (constants_of S.Flagged) in
         IsKindAnswer kind round (FusedSum x y z) answer.new }
@@ -147,6 +187,26 @@ pub fn fused_sum<S: Flagged>(answer: &mut Answer, round: Round, x: u128, y: u128
     *answer = written(x.wide_mul_add_r(y, z, round));
 }
 
+/// A product plus a third value, rounded once.
+#[inline(never)]
+pub fn fused_sum<S: Flagged>(answer: &mut Answer, round: Round, x: u128, y: u128, z: u128)
+    requires { S.PRECISION < S.BITS }
+    ensures { let kind = of_format (constants_of S.Flagged) in
+        IsKindAnswer kind round (FusedSum x y z) answer.new }
+{
+    fused_sum_here::<S>(answer, round, x, y, z)
+}
+
+/// The square root of a value, in line.
+#[inline(always)]
+pub fn root_here<F: ValueType>(answer: &mut Answer, round: Round, x: u128)
+    requires { F.PRECISION < F.BITS }
+    ensures { let of_type = relations_of F.Float.own F.partial_cmp F.takes_root in
+        IsTypeAnswer of_type round (SquareRoot x) answer.new }
+{
+    *answer = written(F::from_bits(x).sqrt_r(round));
+}
+
 /// The square root of a value.
 #[inline(never)]
 pub fn root<F: ValueType>(answer: &mut Answer, round: Round, x: u128)
@@ -154,7 +214,7 @@ pub fn root<F: ValueType>(answer: &mut Answer, round: Round, x: u128)
     ensures { let of_type = relations_of F.Float.own F.partial_cmp F.takes_root in
         IsTypeAnswer of_type round (SquareRoot x) answer.new }
 {
-    *answer = written(F::from_bits(x).sqrt_r(round));
+    root_here::<F>(answer, round, x)
 }
 
 /// An integer.
@@ -209,6 +269,16 @@ pub fn to_signed<F: ValueType>(answer: &mut Answer, round: Round, x: u128, width
     ANSWERED
 }
 
+/// A value rounded to an integral value, in line.
+#[inline(always)]
+pub fn round_to_integral_here<F: ValueType>(answer: &mut Answer, round: Round, x: u128)
+    requires { F.PRECISION < F.BITS }
+    ensures { let of_type = relations_of F.Float.own F.partial_cmp F.takes_root in
+        IsTypeAnswer of_type round (RoundToIntegral x) answer.new }
+{
+    *answer = written(F::from_bits(x).round_to_integral(round));
+}
+
 /// A value rounded to an integral value.
 #[inline(never)]
 pub fn round_to_integral<F: ValueType>(answer: &mut Answer, round: Round, x: u128)
@@ -216,7 +286,7 @@ pub fn round_to_integral<F: ValueType>(answer: &mut Answer, round: Round, x: u12
     ensures { let of_type = relations_of F.Float.own F.partial_cmp F.takes_root in
         IsTypeAnswer of_type round (RoundToIntegral x) answer.new }
 {
-    *answer = written(F::from_bits(x).round_to_integral(round));
+    round_to_integral_here::<F>(answer, round, x)
 }
 
 /// A value times a power of two.

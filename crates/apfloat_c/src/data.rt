@@ -44,6 +44,14 @@ impl Halves {
         self.low as u128 + self.high as u128 * (1 << 64)
     }
 
+    /// The halves of a word.
+    #[inline(always)]
+    pub fn of_word(word: u64) -> Halves
+        ensures { whole result ≡ word }
+    {
+        Halves { low: word, high: 0 }
+    }
+
     /// The halves of 128 bits.
     #[inline(always)]
     pub fn of(number: u128) -> Halves

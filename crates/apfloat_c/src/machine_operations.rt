@@ -8,14 +8,17 @@ ghost use Rattle.rustc_apfloat.specs.Lawful.{format_with};
 ghost use Rattle.apfloat_machines.specs.Machines.{has_unsigned};
 ghost use Rattle.apfloat_machines.specs.Operations.{IsOffered};
 ghost use Rattle.apfloat_machines.specs.WholeNumbers.{IsMachineSigned, IsMachineUnsigned};
+ghost use Rattle.formats_at_run_time.specs.declared.Arithmetic.TheVariants.{Sum, Difference, Product, Quotient};
 ghost use Rattle.formats_at_run_time.specs.FlaggedKinds.{flagged_constants, flagged_kind_coded};
 ghost use Rattle.formats_at_run_time.specs.Modes.{mode_coded};
 ghost use Rattle.formats_at_run_time.specs.ValueKinds.{of_format, value_of};
+ghost use Rattle.apfloat_c.specs.declared.machine_call.MachineCall.TheVariants.{Operation};
 ghost use Rattle.apfloat_c.specs.declared.machine_call.MachineOperation.TheVariants.{OfTwo, FusedSum, SquareRoot};
 ghost use Rattle.apfloat_c.specs.declared.machine_call.MachineOperation.TheVariants.{IntegralExact, Integral};
 ghost use Rattle.apfloat_c.specs.declared.machine_call.MachineOperation.TheVariants.{ToUnsigned, ToSigned};
 ghost use Rattle.apfloat_c.specs.declared.machine_call.MachineOperation.TheVariants.{Least, Greatest};
 ghost use Rattle.apfloat_c.specs.declared.exported_call.ExportedCall.TheVariants.{OfTwo as PlainOfTwo};
+ghost use Rattle.apfloat_c.specs.declared.exported_call.ExportedCall.TheVariants.{RoundToIntegral as PlainIntegral};
 ghost use Rattle.apfloat_c.specs.Answers.{IsKindAnswer, IsLeftBy, whole};
 ghost use Rattle.apfloat_c.specs.MachineCalls.{IsMachineAnswer, IsMachineCallAnswer, IsMachineConverted};
 ghost use Rattle.apfloat_c.specs.MachineCalls.{IsMachineConversionLeft, IsMachineLeft, IsMachineLeftIn};
@@ -31,13 +34,17 @@ use crate::codes::{
 use crate::data::{Answer, Halves};
 use crate::ieee_answers::{value, written};
 use crate::machine_call::{
-    MachineCall, MachineFormat, MachineOperation, known_conversion, known_operation, machine_call,
-    machine_coded,
+    KnownOperation, MachineCall, MachineFormat, MachineOperation, known_conversion,
+    known_operation, machine_call, machine_coded,
 };
-use crate::usual_operands::{are_usual, are_usual_of_three, both_fit, fits, is_number, is_root_of};
+use crate::usual_operands::{
+    are_normal, are_usual, are_usual_of_three, both_fit, fits, is_divisor, is_number, is_root_of,
+    three_words, two_words,
+};
 use apfloat_comparisons::round_to_integral_in;
+use apfloat_encoded::convert_normal;
 use apfloat_machines::{
-    Machine, MinimumRule, greatest, least, settled, settled_conversion, settled_fused,
+    Machine, MinimumRule, default_nan, greatest, least, settled, settled_conversion, settled_fused,
     settled_signed, settled_unary, settled_unsigned,
 };
 use formats_at_run_time::{Arithmetic, FillsInFormat, FlaggedFormat, FlaggedKind, mode_coded};
@@ -70,7 +77,7 @@ impl FillsInFormat for OnMachine {
         } = self;
         match operation {
             MachineOperation::OfTwo(arithmetic, x, y) => {
-                of_two_in::<S>(answer, machine, round, arithmetic, x, y)
+                two_in::<S>(answer, machine, round, arithmetic, x, y)
             }
             MachineOperation::FusedSum(x, y, z) => {
                 fused_sum_in::<S>(answer, machine, round, x, y, z)
@@ -96,8 +103,258 @@ impl FillsInFormat for OnMachine {
     }
 }
 
-/// An operation on two values: the plain call, if the operands are usual.
+/// An operation on two values. In a format of at most 64 bits they are passed as words, so that all arguments of the
+/// call are in registers.
 #[inline(always)]
+fn two_in<S: Flagged>(
+    answer: &mut Answer,
+    machine: Machine,
+    round: Round,
+    arithmetic: Arithmetic,
+    x: u128,
+    y: u128,
+) -> u32
+    requires { S.PRECISION < S.BITS }
+    ensures { IsMachineLeftIn (of_format (constants_of S.Flagged)) machine round
+        (OfTwo arithmetic x y) answer.old answer.new result }
+{
+    if S::BITS <= 64 {
+        if let Some((x, y)) = two_words(x, y) {
+            two_of_words::<S>(answer, machine, round, arithmetic, x, y)
+        } else {
+            of_two::<S>(answer, machine, round, arithmetic, x, y)
+        }
+    } else {
+        two_of_values::<S>(answer, machine, round, arithmetic, x, y)
+    }
+}
+
+/// An operation on two words. Those that are frequent have a function of their own.
+#[inline(always)]
+fn two_of_words<S: Flagged>(
+    answer: &mut Answer,
+    machine: Machine,
+    round: Round,
+    arithmetic: Arithmetic,
+    x: u64,
+    y: u64,
+) -> u32
+    requires { S.PRECISION < S.BITS }
+    ensures { IsMachineLeftIn (of_format (constants_of S.Flagged)) machine round
+        (OfTwo arithmetic x y) answer.old answer.new result }
+{
+    match arithmetic {
+        Arithmetic::Sum => sum_of_words::<S>(answer, machine, round, x, y),
+        Arithmetic::Difference => difference_of_words::<S>(answer, machine, round, x, y),
+        Arithmetic::Product => product_of_words::<S>(answer, machine, round, x, y),
+        Arithmetic::Quotient => quotient_of_words::<S>(answer, machine, round, x, y),
+        Arithmetic::NearestRemainder => {
+            of_two_in::<S>(answer, machine, round, arithmetic, x as u128, y as u128)
+        }
+        Arithmetic::TruncatedRemainder => {
+            of_two_in::<S>(answer, machine, round, arithmetic, x as u128, y as u128)
+        }
+    }
+}
+
+/// An operation on two values. Those that are frequent have a function of their own.
+#[inline(always)]
+fn two_of_values<S: Flagged>(
+    answer: &mut Answer,
+    machine: Machine,
+    round: Round,
+    arithmetic: Arithmetic,
+    x: u128,
+    y: u128,
+) -> u32
+    requires { S.PRECISION < S.BITS }
+    ensures { IsMachineLeftIn (of_format (constants_of S.Flagged)) machine round
+        (OfTwo arithmetic x y) answer.old answer.new result }
+{
+    match arithmetic {
+        Arithmetic::Sum => sum_of_values::<S>(answer, machine, round, x, y),
+        Arithmetic::Difference => difference_of_values::<S>(answer, machine, round, x, y),
+        Arithmetic::Product => product_of_values::<S>(answer, machine, round, x, y),
+        Arithmetic::Quotient => quotient_of_values::<S>(answer, machine, round, x, y),
+        Arithmetic::NearestRemainder => of_two_in::<S>(answer, machine, round, arithmetic, x, y),
+        Arithmetic::TruncatedRemainder => of_two_in::<S>(answer, machine, round, arithmetic, x, y),
+    }
+}
+
+/// A sum of words: the plain one in line, if they are normal numbers.
+#[inline(never)]
+fn sum_of_words<S: Flagged>(
+    answer: &mut Answer,
+    machine: Machine,
+    round: Round,
+    x: u64,
+    y: u64,
+) -> u32
+    requires { S.PRECISION < S.BITS }
+    ensures { IsMachineLeftIn (of_format (constants_of S.Flagged)) machine round
+        (OfTwo Sum x y) answer.old answer.new result }
+{
+    let (x, y) = (x as u128, y as u128);
+    if are_normal::<S>(x, y) {
+        answers::sum_here::<S>(answer, round, x, y);
+        ANSWERED
+    } else {
+        of_two_in::<S>(answer, machine, round, Arithmetic::Sum, x, y)
+    }
+}
+
+/// A difference of words: the plain one in line, if they are normal numbers.
+#[inline(never)]
+fn difference_of_words<S: Flagged>(
+    answer: &mut Answer,
+    machine: Machine,
+    round: Round,
+    x: u64,
+    y: u64,
+) -> u32
+    requires { S.PRECISION < S.BITS }
+    ensures { IsMachineLeftIn (of_format (constants_of S.Flagged)) machine round
+        (OfTwo Difference x y) answer.old answer.new result }
+{
+    let (x, y) = (x as u128, y as u128);
+    if are_normal::<S>(x, y) {
+        answers::difference_here::<S>(answer, round, x, y);
+        ANSWERED
+    } else {
+        of_two_in::<S>(answer, machine, round, Arithmetic::Difference, x, y)
+    }
+}
+
+/// A product of words: the plain one in line, if they are normal numbers.
+#[inline(never)]
+fn product_of_words<S: Flagged>(
+    answer: &mut Answer,
+    machine: Machine,
+    round: Round,
+    x: u64,
+    y: u64,
+) -> u32
+    requires { S.PRECISION < S.BITS }
+    ensures { IsMachineLeftIn (of_format (constants_of S.Flagged)) machine round
+        (OfTwo Product x y) answer.old answer.new result }
+{
+    let (x, y) = (x as u128, y as u128);
+    if are_normal::<S>(x, y) {
+        answers::product_here::<S>(answer, round, x, y);
+        ANSWERED
+    } else {
+        of_two_in::<S>(answer, machine, round, Arithmetic::Product, x, y)
+    }
+}
+
+/// A quotient of words: the plain one in line, if they are usual.
+#[inline(never)]
+fn quotient_of_words<S: Flagged>(
+    answer: &mut Answer,
+    machine: Machine,
+    round: Round,
+    x: u64,
+    y: u64,
+) -> u32
+    requires { S.PRECISION < S.BITS }
+    ensures { IsMachineLeftIn (of_format (constants_of S.Flagged)) machine round
+        (OfTwo Quotient x y) answer.old answer.new result }
+{
+    let (x, y) = (x as u128, y as u128);
+    if are_usual::<S>(Arithmetic::Quotient, x, y) {
+        answers::quotient_here::<IeeeFloat<S>>(answer, round, x, y);
+        ANSWERED
+    } else {
+        of_two::<S>(answer, machine, round, Arithmetic::Quotient, x, y)
+    }
+}
+
+/// A sum of values: the plain one in line, if they are usual.
+#[inline(never)]
+fn sum_of_values<S: Flagged>(
+    answer: &mut Answer,
+    machine: Machine,
+    round: Round,
+    x: u128,
+    y: u128,
+) -> u32
+    requires { S.PRECISION < S.BITS }
+    ensures { IsMachineLeftIn (of_format (constants_of S.Flagged)) machine round
+        (OfTwo Sum x y) answer.old answer.new result }
+{
+    if are_usual::<S>(Arithmetic::Sum, x, y) {
+        answers::sum_here::<S>(answer, round, x, y);
+        ANSWERED
+    } else {
+        of_two::<S>(answer, machine, round, Arithmetic::Sum, x, y)
+    }
+}
+
+/// A difference of values: the plain one in line, if they are usual.
+#[inline(never)]
+fn difference_of_values<S: Flagged>(
+    answer: &mut Answer,
+    machine: Machine,
+    round: Round,
+    x: u128,
+    y: u128,
+) -> u32
+    requires { S.PRECISION < S.BITS }
+    ensures { IsMachineLeftIn (of_format (constants_of S.Flagged)) machine round
+        (OfTwo Difference x y) answer.old answer.new result }
+{
+    if are_usual::<S>(Arithmetic::Difference, x, y) {
+        answers::difference_here::<S>(answer, round, x, y);
+        ANSWERED
+    } else {
+        of_two::<S>(answer, machine, round, Arithmetic::Difference, x, y)
+    }
+}
+
+/// A product of values: the plain one in line, if they are usual.
+#[inline(never)]
+fn product_of_values<S: Flagged>(
+    answer: &mut Answer,
+    machine: Machine,
+    round: Round,
+    x: u128,
+    y: u128,
+) -> u32
+    requires { S.PRECISION < S.BITS }
+    ensures { IsMachineLeftIn (of_format (constants_of S.Flagged)) machine round
+        (OfTwo Product x y) answer.old answer.new result }
+{
+    if are_usual::<S>(Arithmetic::Product, x, y) {
+        answers::product_here::<S>(answer, round, x, y);
+        ANSWERED
+    } else {
+        of_two::<S>(answer, machine, round, Arithmetic::Product, x, y)
+    }
+}
+
+/// A quotient of values: the plain one in line, if they are usual.
+#[inline(never)]
+fn quotient_of_values<S: Flagged>(
+    answer: &mut Answer,
+    machine: Machine,
+    round: Round,
+    x: u128,
+    y: u128,
+) -> u32
+    requires { S.PRECISION < S.BITS }
+    ensures { IsMachineLeftIn (of_format (constants_of S.Flagged)) machine round
+        (OfTwo Quotient x y) answer.old answer.new result }
+{
+    if are_usual::<S>(Arithmetic::Quotient, x, y) {
+        answers::quotient_here::<IeeeFloat<S>>(answer, round, x, y);
+        ANSWERED
+    } else {
+        of_two::<S>(answer, machine, round, Arithmetic::Quotient, x, y)
+    }
+}
+
+/// An operation on two values: the plain call, if the operands are usual.
+#[inline(never)]
 fn of_two_in<S: Flagged>(
     answer: &mut Answer,
     machine: Machine,
@@ -168,7 +425,7 @@ fn of_two<S: Flagged>(
     ANSWERED
 }
 
-/// A product plus a third value, rounded once: the plain call, if the operands are numbers.
+/// A product plus a third value, rounded once, of operands that are passed as words in a format of at most 64 bits.
 #[inline(always)]
 fn fused_sum_in<S: Flagged>(
     answer: &mut Answer,
@@ -182,8 +439,67 @@ fn fused_sum_in<S: Flagged>(
     ensures { IsMachineLeftIn (of_format (constants_of S.Flagged)) machine round (FusedSum x y z)
         answer.old answer.new result }
 {
+    if S::BITS <= 64 {
+        if let Some((x, y, z)) = three_words(x, y, z) {
+            fused_sum_of_words::<S>(answer, machine, round, x, y, z)
+        } else {
+            fused_sum::<S>(answer, machine, round, x, y, z)
+        }
+    } else {
+        fused_sum_of_values::<S>(answer, machine, round, x, y, z)
+    }
+}
+
+/// A product plus a third value, rounded once, of words.
+#[inline(never)]
+fn fused_sum_of_words<S: Flagged>(
+    answer: &mut Answer,
+    machine: Machine,
+    round: Round,
+    x: u64,
+    y: u64,
+    z: u64,
+) -> u32
+    requires { S.PRECISION < S.BITS }
+    ensures { IsMachineLeftIn (of_format (constants_of S.Flagged)) machine round (FusedSum x y z)
+        answer.old answer.new result }
+{
+    usual_fused_sum::<S>(answer, machine, round, x as u128, y as u128, z as u128)
+}
+
+/// A product plus a third value, rounded once, of values.
+#[inline(never)]
+fn fused_sum_of_values<S: Flagged>(
+    answer: &mut Answer,
+    machine: Machine,
+    round: Round,
+    x: u128,
+    y: u128,
+    z: u128,
+) -> u32
+    requires { S.PRECISION < S.BITS }
+    ensures { IsMachineLeftIn (of_format (constants_of S.Flagged)) machine round (FusedSum x y z)
+        answer.old answer.new result }
+{
+    usual_fused_sum::<S>(answer, machine, round, x, y, z)
+}
+
+/// A product plus a third value, rounded once: the plain one in line, if the operands are numbers.
+#[inline(always)]
+fn usual_fused_sum<S: Flagged>(
+    answer: &mut Answer,
+    machine: Machine,
+    round: Round,
+    x: u128,
+    y: u128,
+    z: u128,
+) -> u32
+    requires { S.PRECISION < S.BITS }
+    ensures { IsMachineLeftIn (of_format (constants_of S.Flagged)) machine round (FusedSum x y z)
+        answer.old answer.new result }
+{
     if machine.has_fused() && are_usual_of_three::<S>(x, y, z) {
-        answers::fused_sum::<S>(answer, round, x, y, z);
+        answers::fused_sum_here::<S>(answer, round, x, y, z);
         ANSWERED
     } else {
         fused_sum::<S>(answer, machine, round, x, y, z)
@@ -236,15 +552,19 @@ fn settled_fused_sum<S: Flagged>(
     }
 }
 
-/// The square root of a value: the plain call, if the operand is a positive number.
-#[inline(always)]
+/// The square root of a value: the plain one in line of a positive number or of +0, and of a negative number the
+/// machine's NaN.
+#[inline(never)]
 fn root_in<S: Flagged>(answer: &mut Answer, machine: Machine, round: Round, x: u128) -> u32
     requires { S.PRECISION < S.BITS }
     ensures { IsMachineLeftIn (of_format (constants_of S.Flagged)) machine round (SquareRoot x)
         answer.old answer.new result }
 {
     if is_root_of::<S>(x) {
-        answers::root::<IeeeFloat<S>>(answer, round, x);
+        answers::root_here::<IeeeFloat<S>>(answer, round, x);
+        ANSWERED
+    } else if is_divisor::<S>(x) {
+        *answer = written(Status::INVALID_OP.and(default_nan::<S>(machine)));
         ANSWERED
     } else {
         root::<S>(answer, machine, round, x)
@@ -268,7 +588,7 @@ fn root<S: Flagged>(answer: &mut Answer, machine: Machine, round: Round, x: u128
 }
 
 /// A value rounded to an integral value, with INEXACT: the plain call, if the operand is a number.
-#[inline(always)]
+#[inline(never)]
 fn integral_exact_in<S: Flagged>(
     answer: &mut Answer,
     machine: Machine,
@@ -280,10 +600,23 @@ fn integral_exact_in<S: Flagged>(
         answer.old answer.new result }
 {
     if is_number::<S>(x) {
-        answers::round_to_integral::<IeeeFloat<S>>(answer, round, x);
+        plain_integral_exact::<S>(answer, round, x);
         ANSWERED
     } else {
         integral_exact::<S>(answer, machine, round, x)
+    }
+}
+
+/// A value rounded to an integral value, with INEXACT, as the plain call gives it: in line, if it is a word.
+#[inline(always)]
+fn plain_integral_exact<S: Flagged>(answer: &mut Answer, round: Round, x: u128)
+    requires { S.PRECISION < S.BITS }
+    ensures { IsKindAnswer (of_format (constants_of S.Flagged)) round (PlainIntegral x) answer.new }
+{
+    if S::BITS <= 64 {
+        answers::round_to_integral_here::<IeeeFloat<S>>(answer, round, x)
+    } else {
+        answers::round_to_integral::<IeeeFloat<S>>(answer, round, x)
     }
 }
 
@@ -304,7 +637,7 @@ fn integral_exact<S: Flagged>(answer: &mut Answer, machine: Machine, round: Roun
 }
 
 /// A value rounded to an integral value, without INEXACT.
-#[inline(always)]
+#[inline(never)]
 fn integral_in<S: Flagged>(answer: &mut Answer, machine: Machine, round: Round, x: u128) -> u32
     requires { S.PRECISION < S.BITS }
     ensures { IsMachineLeftIn (of_format (constants_of S.Flagged)) machine round (Integral x)
@@ -318,7 +651,7 @@ fn integral_in<S: Flagged>(answer: &mut Answer, machine: Machine, round: Round, 
 }
 
 /// A value rounded to an integral value, without INEXACT.
-#[inline(never)]
+#[inline(always)]
 fn integral<S: Flagged>(answer: &mut Answer, machine: Machine, round: Round, x: u128)
     requires { S.PRECISION < S.BITS }
     ensures { (format_of S.Flagged).nonfinite ≡ IEEE754
@@ -329,7 +662,7 @@ fn integral<S: Flagged>(answer: &mut Answer, machine: Machine, round: Round, x: 
 }
 
 /// A value as an integer, if its bits fit.
-#[inline(always)]
+#[inline(never)]
 fn to_unsigned_in<S: Flagged>(
     answer: &mut Answer,
     machine: Machine,
@@ -349,7 +682,7 @@ fn to_unsigned_in<S: Flagged>(
 }
 
 /// A value as a signed integer, if its bits fit.
-#[inline(always)]
+#[inline(never)]
 fn to_signed_in<S: Flagged>(
     answer: &mut Answer,
     machine: Machine,
@@ -411,7 +744,7 @@ fn greater_in<S: Flagged>(
 }
 
 /// A value as an integer.
-#[inline(never)]
+#[inline(always)]
 fn to_unsigned<S: Flagged>(
     answer: &mut Answer,
     machine: Machine,
@@ -482,7 +815,7 @@ fn invalid_unsigned<S: Flagged>(
 }
 
 /// A value as a signed integer.
-#[inline(never)]
+#[inline(always)]
 fn to_signed<S: Flagged>(
     answer: &mut Answer,
     machine: Machine,
@@ -607,9 +940,6 @@ impl FillsInFormat for ConversionTo {
             round,
             x,
         } = self;
-        if !fits::<S>(x) {
-            return WIDE_OPERAND;
-        }
         let source = PhantomData;
         target.fill(
             machine,
@@ -620,8 +950,7 @@ impl FillsInFormat for ConversionTo {
                 x,
             },
             answer,
-        );
-        ANSWERED
+        )
     }
 }
 
@@ -638,40 +967,63 @@ struct ConversionOf<S: Flagged> {
 impl<S: Flagged> FillsInFormat for ConversionOf<S> {
     type Place = Answer;
 
-    type Output = ();
+    type Output = u32;
 
-    ghost gives = { λ it kind old new _. let c = constants_of S.Flagged in
-        IsMachineConverted c it.machine it.round (value_of c it.x) kind new };
+    ghost gives = { λ it kind old new code. let source = of_format (constants_of S.Flagged) in
+        IsMachineConversionLeft source it.machine it.round it.x kind old new code };
 
     #[inline(always)]
-    fn fill_in_format<T: Flagged>(self, answer: &mut Answer) {
+    fn fill_in_format<T: Flagged>(self, answer: &mut Answer) -> u32 {
         converted::<S, T>(answer, self.machine, self.round, self.x)
     }
 }
 
-/// A value of the format `S` in the format `T`.
+/// A value of the format `S`, if its bits fit, in the format `T`.
 #[inline(never)]
-fn converted<S: Flagged, T: Flagged>(answer: &mut Answer, machine: Machine, round: Round, x: u128)
+fn converted<S: Flagged, T: Flagged>(
+    answer: &mut Answer,
+    machine: Machine,
+    round: Round,
+    x: u128,
+) -> u32
+    requires source { S.PRECISION < S.BITS }
+    requires target { T.PRECISION < T.BITS }
+    ensures { let source = of_format (constants_of S.Flagged) in
+        IsMachineConversionLeft source machine round x (of_format (constants_of T.Flagged))
+        answer.old answer.new result }
+{
+    if fits::<S>(x) {
+        fitting_converted::<S, T>(answer, machine, round, x);
+        ANSWERED
+    } else {
+        WIDE_OPERAND
+    }
+}
+
+/// A value of the format `S` in the format `T`: from bits to bits, if it is a normal number in both.
+#[inline(always)]
+fn fitting_converted<S: Flagged, T: Flagged>(
+    answer: &mut Answer,
+    machine: Machine,
+    round: Round,
+    x: u128,
+)
     requires source { S.PRECISION < S.BITS }
     requires target { T.PRECISION < T.BITS }
     ensures { let c = constants_of S.Flagged in
         IsMachineConverted c machine round (value_of c x) (of_format (constants_of T.Flagged))
         answer.new }
 {
-    let given = value::<S>(x);
-    if given.is_nan() {
-        converted_nan::<S, T>(answer, machine, round, x);
+    if let Some(number) = convert_normal::<S, T>(x, round) {
+        *answer = answers::with_bits(number);
     } else {
-        let mut loses_info = false;
-        let plain: StatusAnd<IeeeFloat<T>> = given.convert_r(round, &mut loses_info);
-        *answer = written(settled_conversion(machine, given, plain));
+        any_converted::<S, T>(answer, machine, round, x);
     }
 }
 
-/// A NaN, or any value, of the format `S` in the format `T`.
-#[cold]
+/// Any value of the format `S` in the format `T`.
 #[inline(never)]
-fn converted_nan<S: Flagged, T: Flagged>(
+fn any_converted<S: Flagged, T: Flagged>(
     answer: &mut Answer,
     machine: Machine,
     round: Round,
@@ -734,15 +1086,7 @@ fn made(
         (IsMachineCallAnswer machine format round call) answer.old answer.new result }
 {
     match call {
-        MachineCall::Operation(operation) => format.fill(
-            machine,
-            OnMachine {
-                machine,
-                round,
-                operation,
-            },
-            answer,
-        ),
+        MachineCall::Operation(operation) => operated(machine, format, round, operation, answer),
         MachineCall::Conversion(x, target) => {
             let source = FlaggedFormat::AfterRounding(format.format).built_in();
             source.fill(
@@ -756,6 +1100,27 @@ fn made(
             )
         }
     }
+}
+
+/// Makes an operation, and returns 0, or the error as `made` does.
+#[inline(always)]
+fn operated(
+    machine: Machine,
+    format: MachineFormat,
+    round: Round,
+    operation: MachineOperation,
+    answer: &mut Answer,
+) -> u32
+    ensures { let call = Operation operation in
+        IsLeftBy (machine_fault machine format call)
+        (IsMachineCallAnswer machine format round call) answer.old answer.new result }
+{
+    let call = OnMachine {
+        machine,
+        round,
+        operation,
+    };
+    format.fill(machine, call, answer)
 }
 
 /// What a machine delivers for an operation on values of a format, NaNs and flags included (`docs/MACHINES.md`). `to`
@@ -825,16 +1190,44 @@ fn on_machine(
 {
     match known_operation(machine, operation, format, mode, to, x, y, z) {
         Some(known) => {
-            let call = MachineCall::Operation(known.operation);
-            made(known.machine, known.format, known.round, call, answer)
+            let KnownOperation {
+                machine,
+                format,
+                round,
+                operation,
+            } = known;
+            operated(machine, format, round, operation, answer)
         }
         None => any_on_machine(machine, operation, format, mode, to, x, y, z, answer),
     }
 }
 
-/// The same as `apfloat_machine`, of the fused sum.
-#[inline(never)]
+/// The same as `apfloat_machine`, of the fused sum. Three words leave it enough registers.
+#[inline(always)]
 fn fused_on_machine(
+    machine: u32,
+    format: u32,
+    mode: u32,
+    x: Halves,
+    y: Halves,
+    z: Halves,
+    answer: &mut Answer,
+) -> u32
+    ensures { let call = machine_call 7 0 (whole x) (whole y) (whole z) in
+        IsMachineReply (known_machine_call (flagged_kind_coded format) (mode_coded mode) call
+        (machine_coded machine)) answer.old answer.new result }
+{
+    if let Some((x, y, z)) = three_words(x.number(), y.number(), z.number()) {
+        let (x, y, z) = (Halves::of_word(x), Halves::of_word(y), Halves::of_word(z));
+        on_machine(machine, 7, format, mode, 0, x, y, z, answer)
+    } else {
+        long_fused_on_machine(machine, format, mode, x, y, z, answer)
+    }
+}
+
+/// The same as `fused_on_machine`, of operands that need not be words.
+#[inline(never)]
+fn long_fused_on_machine(
     machine: u32,
     format: u32,
     mode: u32,
@@ -851,7 +1244,7 @@ fn fused_on_machine(
 }
 
 /// The same as `apfloat_machine`, of a conversion.
-#[inline(never)]
+#[inline(always)]
 fn converted_on_machine(
     machine: u32,
     format: u32,

@@ -1,11 +1,12 @@
 //! Tests of the operands of machines by their bits: whether they fit in their format, and whether every machine gives
 //! the plain result of them. That is tested before the plain call, so that nothing has to be kept for after it.
 
-ghost use Rattle.std.specs.Prelude.{◌≡◌, ◌&&◌, ◌<◌};
+ghost use Rattle.std.specs.Prelude.{◌≡◌, ◌+◌, ◌^◌, ◌&&◌, ◌<◌, true, IsTrue, IfSome};
 ghost use Rattle.rustc_apfloat.specs.FlaggedTypes.{constants_of};
 ghost use Rattle.apfloat_c.specs.MachineCalls.{are_usual, are_usual_of_three, divides, fits, is_divisor, is_number};
 ghost use Rattle.apfloat_c.specs.MachineCalls.{is_root_of};
 
+use apfloat_encoded::biased_exponent;
 use formats_at_run_time::Arithmetic;
 use rustc_apfloat::Float;
 use rustc_apfloat::ieee::{Flagged, IeeeFloat};
@@ -33,6 +34,30 @@ pub fn both_fit<S: Flagged>(x: u128, y: u128) -> bool
     fits::<S>(x) && fits::<S>(y)
 }
 
+/// Both as words, if each fits in one.
+#[inline(always)]
+pub fn two_words(x: u128, y: u128) -> Option<(u64, u64)>
+    ensures { IfSome result (λ words. (words.0 ≡ x) × (words.1 ≡ y)) }
+{
+    if x < 1 << 64 && y < 1 << 64 {
+        Some((x as u64, y as u64))
+    } else {
+        None
+    }
+}
+
+/// All three as words, if each fits in one.
+#[inline(always)]
+pub fn three_words(x: u128, y: u128, z: u128) -> Option<(u64, u64, u64)>
+    ensures { IfSome result (λ words. (words.0 ≡ x) × (words.1 ≡ y) × (words.2 ≡ z)) }
+{
+    if x < 1 << 64 && y < 1 << 64 && z < 1 << 64 {
+        Some((x as u64, y as u64, z as u64))
+    } else {
+        None
+    }
+}
+
 /// Whether the bits are those of a number.
 #[inline(always)]
 pub fn is_number<S: Flagged>(bits: u128) -> bool
@@ -40,6 +65,51 @@ pub fn is_number<S: Flagged>(bits: u128) -> bool
     ensures { result ≡ is_number (constants_of S.Flagged) bits }
 {
     fits::<S>(bits) && IeeeFloat::<S>::from_bits(bits).is_finite()
+}
+
+/// The number of biased exponents.
+#[inline(always)]
+fn exponents<S: Flagged>() -> u32
+    requires { S.PRECISION < S.BITS }
+    ensures { result ≡ 2 ^ S.EXP_BITS }
+{
+    1 << S::EXP_BITS
+}
+
+/// Whether this is neither the biased exponent of zeros and denormal numbers nor the greatest one.
+#[inline(always)]
+fn is_inner<S: Flagged>(biased: u32) -> bool
+    requires bits { S.PRECISION < S.BITS }
+    requires bound { biased < 2 ^ 22 }
+    ensures { IsTrue result → (0 < biased) × (biased + 1 < 2 ^ S.EXP_BITS) }
+{
+    (biased != 0) & (biased + 1 < exponents::<S>())
+}
+
+/// Whether the bits are those of a normal number, whose exponent is not the greatest. Sums and products from bits to
+/// bits begin with the same test.
+#[inline(always)]
+fn is_normal<S: Flagged>(bits: u128) -> bool
+    requires { S.PRECISION < S.BITS }
+    ensures { IsTrue result → is_number (constants_of S.Flagged) bits ≡ true }
+{
+    if S::EXPLICIT_INTEGER_BIT {
+        return false;
+    }
+    if !fits::<S>(bits) {
+        return false;
+    }
+    is_inner::<S>(biased_exponent::<S>(bits))
+}
+
+/// Whether both are normal numbers, of which every machine gives the plain sum, difference and product.
+#[inline(always)]
+pub fn are_normal<S: Flagged>(x: u128, y: u128) -> bool
+    requires { S.PRECISION < S.BITS }
+    ensures { IsTrue result → (is_number (constants_of S.Flagged) x ≡ true)
+        × (is_number (constants_of S.Flagged) y ≡ true) }
+{
+    is_normal::<S>(x) && is_normal::<S>(y)
 }
 
 /// Whether the bits are those of a positive number or of +0, so that the root is no NaN.
@@ -53,7 +123,7 @@ pub fn is_root_of<S: Flagged>(bits: u128) -> bool
 
 /// Whether the bits are those of a number other than zero.
 #[inline(always)]
-fn is_divisor<S: Flagged>(bits: u128) -> bool
+pub fn is_divisor<S: Flagged>(bits: u128) -> bool
     requires { S.PRECISION < S.BITS }
     ensures { result ≡ is_divisor (constants_of S.Flagged) bits }
 {

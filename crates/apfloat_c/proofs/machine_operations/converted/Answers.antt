@@ -1,20 +1,20 @@
-use Rattle.std.proofs.Common.{subst}
+use Rattle.std.proofs.Common.{sym, ◌∙◌}
 use Rattle.rustc_apfloat.specs.FlaggedTypes.{constants_of}
-use Rattle.rustc_apfloat.specs.Flags.{Gives}
-use Rattle.rustc_apfloat.specs.Lawful.{format_with}
-use Rattle.apfloat_machines.specs.Conversions.{IsMachineConversion}
+use Rattle.formats_at_run_time.specs.ValueKinds.{of_format, value_of}
+use Rattle.apfloat_c.specs.MachineCalls.{IsMachineConverted, fits, wide_operand}
+use Rattle.apfloat_c.proofs.WrittenAnswers.{answered_if, refused_unless}
 use Rattle.apfloat_c.proofs.machine_operations.converted.Goals as goal
 
-pub returns-else-is_nan : goal.returns-else-is_nan
-returns-else-is_nan g c =
-    let f = format_with (constants_of g.S.Flagged) in
-    let to = format_with (constants_of g.T.Flagged) in
-    record {
-      given = c.settled_conversion.result;
-      holds = subst
-          (λ x. Gives (IsMachineConversion f to c.args.machine c.args.round x) c.settled_conversion.result)
-          c.value-given.ensures
-          (c.settled_conversion.ensures.conversion c.args.round c.convert_r-plain.new.loses_info
-          c.convert_r-plain.ensures.converted);
-      is_written = c.written.ensures;
-    }
+pub returns-then-fits : goal.returns-then-fits
+returns-then-fits g c =
+    let k = constants_of g.S.Flagged in
+    answered_if (fits k.bits c.args.x) wide_operand
+    (IsMachineConverted k c.args.machine c.args.round (value_of k c.args.x) (of_format (constants_of g.T.Flagged)))
+    c.args.answer.now c.fitting_converted.new.answer (sym c.fits.ensures ∙ c.if-fits.true) c.fitting_converted.ensures
+
+pub returns-else-fits : goal.returns-else-fits
+returns-else-fits g c =
+    let k = constants_of g.S.Flagged in
+    refused_unless (fits k.bits c.args.x) wide_operand
+    (IsMachineConverted k c.args.machine c.args.round (value_of k c.args.x) (of_format (constants_of g.T.Flagged)))
+    c.args.answer.now (sym c.fits.ensures ∙ c.if-fits.false)

@@ -11,6 +11,6 @@ returns-in-Some c =
     let known = c.in-Some.known in
     replied (flagged_kind_coded c.args.format) known.format (mode_coded c.args.mode) known.round
     (machine_call c.args.operation c.args.to (whole c.args.x) (whole c.args.y) (whole c.args.z))
-    (Operation known.operation) (machine_coded c.args.machine) known.machine c.args.answer.now c.made.new.answer
-    c.made.result c.in-Some.ensures.format c.in-Some.ensures.mode c.in-Some.ensures.call c.in-Some.ensures.machine
-    c.made.ensures
+    (Operation known.operation) (machine_coded c.args.machine) known.machine c.args.answer.now c.operated.new.answer
+    c.operated.result c.in-Some.ensures.format c.in-Some.ensures.mode c.in-Some.ensures.call c.in-Some.ensures.machine
+    c.operated.ensures

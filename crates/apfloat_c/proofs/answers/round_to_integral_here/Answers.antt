@@ -1,5 +1,5 @@
 use Rattle.std.proofs.Common.{subst}
-use Rattle.apfloat_c.proofs.answers.round_to_integral.Goals as goal
+use Rattle.apfloat_c.proofs.answers.round_to_integral_here.Goals as goal
 
 pub returns : goal.returns
 returns g c = record {

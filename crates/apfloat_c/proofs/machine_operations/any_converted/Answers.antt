@@ -3,7 +3,7 @@ use Rattle.rustc_apfloat.specs.FlaggedTypes.{constants_of}
 use Rattle.rustc_apfloat.specs.Flags.{Gives}
 use Rattle.rustc_apfloat.specs.Lawful.{format_with}
 use Rattle.apfloat_machines.specs.Conversions.{IsMachineConversion}
-use Rattle.apfloat_c.proofs.machine_operations.converted_nan.Goals as goal
+use Rattle.apfloat_c.proofs.machine_operations.any_converted.Goals as goal
 
 pub returns : goal.returns
 returns g c =

@@ -1,13 +1,13 @@
 use Rattle.std.proofs.Common.{ℕ, sym, subst}
 use Rattle.rustc_apfloat.specs.FlaggedTypes.{format_of, layout_of}
 use Rattle.rustc_apfloat.specs.Layout.{IsEncodedBy}
-use Rattle.apfloat_c.proofs.answers.difference_in.Goals as goal
+use Rattle.apfloat_c.proofs.answers.product_here.Goals as goal
 
 pub returns : goal.returns
 returns g c =
-    let answer = c.subtract_bits.ensures in
+    let answer = c.multiply_bits.ensures in
     record {
-      given = record { status = c.subtract_bits.result.status; value = answer.value };
+      given = record { status = c.multiply_bits.result.status; value = answer.value };
       holds = answer.says;
       is_written = record {
         is_encoded =

@@ -1,7 +1,7 @@
 use Rattle.std.proofs.Common.{ℕ, sym, subst}
 use Rattle.rustc_apfloat.specs.FlaggedTypes.{format_of, layout_of}
 use Rattle.rustc_apfloat.specs.Layout.{IsEncodedBy}
-use Rattle.apfloat_c.proofs.answers.sum_in.Goals as goal
+use Rattle.apfloat_c.proofs.answers.sum_here.Goals as goal
 
 pub returns : goal.returns
 returns g c =
