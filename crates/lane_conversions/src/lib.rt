@@ -1,0 +1,4 @@
+//! Singles converted to formats of few digits.
+#![tactic(auto)]
+
+mod theorems;
