@@ -1,2 +1,8 @@
 pub mod Cuts
-pub mod Scaled
+pub mod ScaledNumbers
+pub mod Moves
+pub mod Codes
+pub mod Answers
+pub mod Interchanges
+pub mod Reached
+pub mod Singles

@@ -4,30 +4,18 @@ use Rattle.std.proofs.Common.{◌≡◌, ℕ, ◌+◌, ◌-◌, ◌*◌, ◌/◌
 use Rattle.std.proofs.Math.Nat.{add-mul-mod_self_right, div-eq_of_lt, mul-add-div_right, mul-le-mul_right, mul-lt-mul_of_pos_right, pow-le-pow_right}
 use Rattle.std.proofs.lemmas.Nat.{div-add-mod', div_below, le-div, pow-add, pow_pos}
 use Rattle.std.proofs.lemmas.Bool.{cases_eq, cases_lt}
-use Rattle.apfloat_model.specs.declared.loss.Loss.{Loss}
-use Rattle.apfloat_model.specs.rounding.Enclosure.{IsEnclosed}
 use Rattle.apfloat_model.specs.rounding.RoundingToOdd.{odd_quotient}
 use Rattle.apfloat_model.specs.rounding.Standing.{StandsFor}
 use Rattle.apfloat_model.proofs.general.Powers.{two_pos}
-use Rattle.apfloat_model.proofs.rounding.KeptDigits.{enclosed_from, fits_cut, full_cut, stands_cancel}
+use Rattle.apfloat_model.proofs.rounding.KeptDigits.{enclosed_from, fits_cut, full_cut}
 use Rattle.apfloat_rounding.specs.Cuts.{loss_at}
+use Rattle.lane_conversions.specs.Scaled.{IsScaled}
 use Rattle.lane_conversions.proofs.Cuts.{exact_odd, far_below, in_quanta, inexact_odd, odd_cut, odd_of_inexact}
-
--- What is kept of amount / parts quanta: a significand at a place, with the loss of a rest in units of which the lowest
--- kept digit is 2 ^ low. The place and the significand, added, are what is above the rest.
-pub record IsScaled (precision low t amount parts : ℕ) : Type 0 where
-  pub place : ℕ
-  pub kept : ℕ
-  pub code : t / 2 ^ low ≡ place * 2 ^ (precision - 1) + kept
-  pub fits : kept < 2 ^ precision
-  pub full : (place ≡ 0) ⊎ (2 ^ (precision - 1) ≤ kept)
-  pub enclosed : IsEnclosed precision (2 ^ (precision - 1)) kept place amount parts
-  pub stands : StandsFor kept (loss_at (t % 2 ^ low) (2 ^ (low - 1))) amount (2 ^ place * parts)
 
 -- ---- bounds of the quotient rounded to odd
 
 -- below an even bound
-odd_below : (m u h : ℕ) → 0 < u → m < 2 * h * u → odd_quotient m u < 2 * h
+pub odd_below : (m u h : ℕ) → 0 < u → m < 2 * h * u → odd_quotient m u < 2 * h
 odd_below m u h some fits =
     let quotient : m / u < 2 * h = div_below m u (2 * h) some fits in
     ⊎_elim
@@ -215,22 +203,3 @@ scaled_stands precision cut low first e to from m precise room scales some fits 
     (scaled_at precision cut low (low - 4) (e - first) e to from m precise (omega (arith, room))
     (omega (arith, room, scales, over)) fits all))
     (cases_lt e first)
-
--- Zeros below a significand, as those of a value that stands at the top of a wider lane, change nothing.
-pub without_zeros : (precision low t amount parts k : ℕ) → 0 < precision → 0 < parts
-    → IsScaled precision low t (amount * 2 ^ k) (parts * 2 ^ k) → IsScaled precision low t amount parts
-without_zeros precision low t amount parts k some any it =
-    let loss = loss_at (t % 2 ^ low) (2 ^ (low - 1)) in
-    let unit : 2 ^ it.place * (parts * 2 ^ k) ≡ 2 ^ it.place * parts * 2 ^ k = omega arith in
-    let stands : StandsFor it.kept loss amount (2 ^ it.place * parts) =
-    stands_cancel it.kept loss amount (2 ^ it.place * parts) (2 ^ k) (pow_pos k)
-    (subst (λ (x : ℕ). StandsFor it.kept loss (amount * 2 ^ k) x) unit it.stands) in
-    record {
-      place = it.place;
-      kept = it.kept;
-      code = it.code;
-      fits = it.fits;
-      full = it.full;
-      enclosed = enclosed_from precision it.kept it.place loss amount parts some any it.fits it.full stands;
-      stands = stands;
-    }

@@ -1,0 +1,33 @@
+use Rattle.std.proofs.Common.{◌≡◌, ℕ, ◌*◌, ◌/◌, ◌%◌, ◌^◌, eqb, subst, arith}
+use Rattle.std.proofs.lemmas.Bool.{ne_eqb}
+use Rattle.std.proofs.lemmas.Nat.{pow_pos}
+use Rattle.lane_conversions.specs.At.{format_at, layout_at}
+use Rattle.lane_conversions.specs.Scaled.{IsReached}
+use Rattle.lane_conversions.specs.Sides.{IsSideOf}
+use Rattle.lane_conversions.proofs.Singles.{lane_converted, place_of, significand_of, single_read}
+use Rattle.lane_conversions.proofs.lanes.convert_finite.Goals.{then-negative, else-negative}
+use Rattle.lane_conversions.proofs.lanes.convert_finite.Goals as goal
+
+pub returns : goal.returns
+returns c = λ saturates mode single layout is_single sides.
+    let t = c.args.target in
+    let f = format_at t in
+    let a = c.args.bits % 2 ^ 31 in
+    let negative = eqb (c.args.bits / 2 ^ 31) 1 in
+    let side : IsSideOf saturates f mode negative c.if-negative.side =
+    elim c.if-negative.branch [
+      | then-negative w ↦ rw (w.side-is, w.if-negative.true) sides.negative
+      | else-negative w ↦ rw (w.side-is, ne_eqb (c.args.bits / 2 ^ 31) 1 w.if-negative.false) sides.positive
+    ] in
+    let quanta : c.significand.result * 2 ^ c.saturating_sub-place.result ≡ significand_of a * 2 ^ place_of a =
+    (λ i. c.significand.ensures i * 2 ^ c.saturating_sub-place.ensures i) in
+    let reached : IsReached f c.scaled-scaled.result (significand_of a * 2 ^ place_of a * 2 ^ f.scale) (2 ^ 149) =
+    subst (λ (n : ℕ). IsReached f c.scaled-scaled.result (n * 2 ^ f.scale) (2 ^ 149)) quanta
+    c.scaled-scaled.ensures.reached in
+    let precise = t.lawful.precise in
+    lane_converted saturates single layout f (layout_at t) mode negative c.loses_sign.result a c.args.bits
+    c.finish-lane.result
+    (single_read single layout c.args.bits is_single c.ranges.bits.fits c.requires.finite) is_single.scale
+    (omega (arith, precise)) c.loses_sign.ensures
+    (c.finish-lane.ensures saturates mode (significand_of a * 2 ^ place_of a * 2 ^ f.scale) (2 ^ 149) (pow_pos 149) side
+    reached)
