@@ -8,7 +8,6 @@ use Rattle.apfloat_model.specs.rounding.Rounding.{leads_out, raises_overflow}
 use Rattle.apfloat_rounding.specs.Cuts.{loss_at}
 use Rattle.lane_conversions.specs.declared.constants.Addend.{Addend}
 use Rattle.lane_conversions.specs.declared.constants.Side.{Side}
-use Rattle.lane_conversions.specs.declared.constants.Sides.{Sides}
 use Rattle.lane_conversions.specs.Targets.{largest_code}
 
 -- a number of 65536ths, rounded to a whole number
@@ -31,7 +30,3 @@ pub record IsSideOf (saturates : Bool) (f : Format) (mode : Round) (negative : B
   pub addend : IsAddendOf mode negative side.addend
   pub greatest : side.greatest ≡ greatest_code saturates f mode negative
   pub raises : side.raises ≡ raises_overflow f mode negative
-
-pub record AreSidesOf (saturates : Bool) (f : Format) (mode : Round) (sides : Sides) : Type 0 where
-  pub positive : IsSideOf saturates f mode false sides.positive
-  pub negative : IsSideOf saturates f mode true sides.negative

@@ -51,12 +51,3 @@ pub struct Side {
     pub raises: bool,
     ghost short: { greatest < 2 ^ 17 },
 }
-
-/// What a mode does with positive and with negative numbers.
-#[derive(Clone, Copy)]
-pub struct Sides {
-    /// With positive numbers.
-    pub positive: Side,
-    /// With negative numbers.
-    pub negative: Side,
-}

@@ -8,10 +8,11 @@ ghost use Rattle.apfloat_model.specs.formats.Format.{Format};
 ghost use Rattle.lane_conversions.specs.At.{format_at, layout_at};
 ghost use Rattle.lane_conversions.specs.Lanes.{IsConvertedLane, IsRounded};
 ghost use Rattle.lane_conversions.specs.Scaled.{IsReached};
-ghost use Rattle.lane_conversions.specs.Sides.{AreSidesOf, IsSideOf};
+ghost use Rattle.lane_conversions.specs.Sides.{IsSideOf};
 ghost use Rattle.lane_conversions.specs.Targets.{IsSingle, has_one_zero, is_ieee, largest_code, signed_code};
 
-use crate::constants::{Addend, Side, Sides, Target};
+use crate::constants::{Addend, Side, Target};
+use crate::plans::Plan;
 use crate::scaled::scaled;
 use crate::targets::largest_code;
 use apfloat_model::NonfiniteBehavior;
@@ -135,27 +136,27 @@ fn loses_sign(target: Target, negative: bool, magnitude: u32) -> bool
     (target.nonfinite == NonfiniteBehavior::NanNegativeZero) & negative & (magnitude == 0)
 }
 
-/// Converts a finite single to the target.
+/// Converts a finite single.
 #[inline(always)]
-pub fn convert_finite(target: Target, sides: Sides, bits: u32) -> Lane
-    requires finite { bits % 2 ^ 31 < 255 * 2 ^ 23 }
-    ensures { (saturates : Bool) (mode : Mode) (single : Format) (layout : Layout)
-        → IsSingle single layout → AreSidesOf saturates (format_at target) mode sides
-        → IsConvertedLane saturates single layout (format_at target) (layout_at target) mode bits
-        result }
+pub fn convert_finite(plan: Plan, bits: u32) -> Lane
+    requires { bits % 2 ^ 31 < 255 * 2 ^ 23 }
+    ensures below { result.bits < 2 ^ plan.target.bits }
+    ensures converted { (single : Format) (layout : Layout) → IsSingle single layout
+        → IsConvertedLane plan.saturates single layout (format_at plan.target)
+        (layout_at plan.target) plan.round bits result }
 {
     let negative = bits / 0x8000_0000 == 1;
     let magnitude = bits % 0x8000_0000;
     let place = (magnitude / 0x80_0000).saturating_sub(1);
-    let scaled = scaled(target, significand(magnitude), place);
+    let scaled = scaled(plan.target, significand(magnitude), place);
     let side = if negative {
-        sides.negative
+        plan.negative
     } else {
-        sides.positive
+        plan.positive
     };
-    let lane = finish(target, side, negative, scaled);
+    let lane = finish(plan.target, side, negative, scaled);
     Lane {
-        inexact: lane.inexact | loses_sign(target, negative, magnitude),
+        inexact: lane.inexact | loses_sign(plan.target, negative, magnitude),
         ..lane
     }
 }

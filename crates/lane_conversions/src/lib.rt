@@ -8,10 +8,12 @@
 
 mod constants;
 mod lanes;
+mod plans;
 mod scaled;
 mod sides;
 mod targets;
 
-pub use constants::{Addend, Side, Sides, Target};
+pub use constants::{Addend, Side, Target};
 pub use lanes::{Lane, convert_finite, is_finite};
-pub use sides::sides_of;
+pub use plans::Plan;
+pub use sides::plan_of;

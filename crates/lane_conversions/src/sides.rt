@@ -3,9 +3,10 @@
 ghost use Rattle.std.specs.Prelude.{◌≡◌, ◌+◌, ◌-◌, ◌*◌, ◌^◌, ◌<◌, ◌≤◌, if◌then◌else◌};
 ghost use Rattle.apfloat_model.specs.rounding.Rounding.{leads_out};
 ghost use Rattle.lane_conversions.specs.At.{format_at};
-ghost use Rattle.lane_conversions.specs.Sides.{AreSidesOf, IsAddendOf, IsSideOf};
+ghost use Rattle.lane_conversions.specs.Sides.{IsAddendOf, IsSideOf};
 
-use crate::constants::{Addend, Side, Sides, Target};
+use crate::constants::{Addend, Side, Target};
+use crate::plans::Plan;
 use crate::targets::largest_code;
 use apfloat_model::Round;
 
@@ -73,12 +74,17 @@ fn side_of(target: Target, saturates: bool, round: Round, negative: bool) -> Sid
     }
 }
 
-/// What the mode does. If a conversion saturates, the largest value stands for what is past it.
+/// What is done with each number. If a conversion saturates, the largest value stands for what is past it.
 #[inline(never)]
-pub fn sides_of(target: Target, saturates: bool, round: Round) -> Sides
-    ensures { AreSidesOf saturates (format_at target) round result }
+pub fn plan_of(target: Target, saturates: bool, round: Round) -> Plan
+    ensures target { result.target ≡ target }
+    ensures saturates { result.saturates ≡ saturates }
+    ensures round { result.round ≡ round }
 {
-    Sides {
+    Plan {
+        target,
+        saturates,
+        round,
         positive: side_of(target, saturates, round, false),
         negative: side_of(target, saturates, round, true),
     }

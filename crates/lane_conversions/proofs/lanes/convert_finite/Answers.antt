@@ -9,15 +9,16 @@ use Rattle.lane_conversions.proofs.lanes.convert_finite.Goals.{then-negative, el
 use Rattle.lane_conversions.proofs.lanes.convert_finite.Goals as goal
 
 pub returns : goal.returns
-returns c = λ saturates mode single layout is_single sides.
-    let t = c.args.target in
+returns c =
+    let plan = c.args.plan in
+    let t = plan.target in
     let f = format_at t in
     let a = c.args.bits % 2 ^ 31 in
     let negative = eqb (c.args.bits / 2 ^ 31) 1 in
-    let side : IsSideOf saturates f mode negative c.if-negative.side =
+    let side : IsSideOf plan.saturates f plan.round negative c.if-negative.side =
     elim c.if-negative.branch [
-      | then-negative w ↦ rw (w.side-is, w.if-negative.true) sides.negative
-      | else-negative w ↦ rw (w.side-is, ne_eqb (c.args.bits / 2 ^ 31) 1 w.if-negative.false) sides.positive
+      | then-negative w ↦ rw (w.side-is, w.if-negative.true) plan.negative_is
+      | else-negative w ↦ rw (w.side-is, ne_eqb (c.args.bits / 2 ^ 31) 1 w.if-negative.false) plan.positive_is
     ] in
     let quanta : c.significand.result * 2 ^ c.saturating_sub-place.result ≡ significand_of a * 2 ^ place_of a =
     (λ i. c.significand.ensures i * 2 ^ c.saturating_sub-place.ensures i) in
@@ -25,9 +26,14 @@ returns c = λ saturates mode single layout is_single sides.
     subst (λ (n : ℕ). IsReached f c.scaled-scaled.result (n * 2 ^ f.scale) (2 ^ 149)) quanta
     c.scaled-scaled.ensures.reached in
     let precise = t.lawful.precise in
-    lane_converted saturates single layout f (layout_at t) mode negative c.loses_sign.result a c.args.bits
-    c.finish-lane.result
-    (single_read single layout c.args.bits is_single c.ranges.bits.fits c.requires.finite) is_single.scale
-    (omega (arith, precise)) c.loses_sign.ensures
-    (c.finish-lane.ensures saturates mode (significand_of a * 2 ^ place_of a * 2 ^ f.scale) (2 ^ 149) (pow_pos 149) side
-    reached)
+    let rounded =
+    c.finish-lane.ensures plan.saturates plan.round (significand_of a * 2 ^ place_of a * 2 ^ f.scale) (2 ^ 149)
+    (pow_pos 149) side reached in
+    record {
+      below = rounded.is_encoded.below;
+      converted = λ single layout is_single.
+          lane_converted plan.saturates single layout f (layout_at t) plan.round negative c.loses_sign.result a
+          c.args.bits c.finish-lane.result
+          (single_read single layout c.args.bits is_single c.ranges.bits.fits c.requires) is_single.scale
+          (omega (arith, precise)) c.loses_sign.ensures rounded;
+    }
