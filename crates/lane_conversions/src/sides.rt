@@ -75,7 +75,7 @@ fn side_of(target: Target, saturates: bool, round: Round, negative: bool) -> Sid
 }
 
 /// What is done with each number. If a conversion saturates, the largest value stands for what is past it.
-#[inline(never)]
+#[inline(always)]
 pub fn plan_of(target: Target, saturates: bool, round: Round) -> Plan
     ensures target { result.target ≡ target }
     ensures saturates { result.saturates ≡ saturates }
