@@ -23,7 +23,8 @@ use Rattle.array_conversions.proofs.ConversionsBy.{converted_from}
 -- a finite number's conversion, with any treatment of overflow
 finished_by : (overflow : Overflow) (f g : Format) (mode : Round) (negative : Bool) (quanta : ℕ) (rounded : Datum)
     (status : ℕ) (loses : Bool) → IsConversion f g mode (finite negative quanta) rounded status loses
-    → IsConversionBy overflow f g mode (finite negative quanta) (finished (saturates overflow) g negative rounded) status
+    → IsConversionBy overflow f g mode (finite negative quanta)
+    (finished (saturates overflow) g negative rounded) status
     loses
 finished_by Rounded f g mode negative quanta rounded status loses it = it
 finished_by Saturated f g mode negative quanta rounded status loses it =
@@ -32,7 +33,8 @@ finished_by (Finite nans) f g mode negative quanta rounded status loses it =
     record { rounded = rounded; is_conversion = it; value_is = refl }
 
 pub lane_answers : (overflow : Overflow) (c d : Constants) (mode : Round) (bits : ℕ) (lane : Lane)
-    → IsConvertedLane (saturates overflow) (format_with c) (layout_with c) (format_with d) (layout_with d) mode bits lane
+    → IsConvertedLane (saturates overflow) (format_with c) (layout_with c) (format_with d)
+    (layout_with d) mode bits lane
     → IsAnswerFrom overflow c d mode bits (record { bits = lane.bits; outcome = outcome_of lane })
 lane_answers overflow c d mode bits lane it =
     record {
@@ -51,14 +53,17 @@ lane_answers overflow c d mode bits lane it =
 
 -- by the plan
 pub plan_answers : (overflow : Overflow) (c d : Constants) (mode : Round) (plan : Plan) (input output : List ℕ)
-    (bits : ℕ) (lane : Lane) → IsPlanFor overflow d mode plan → bits ≡ number_of input → number_of output ≡ lane.bits
+    (bits : ℕ) (lane : Lane) → IsPlanFor overflow d mode plan → bits ≡ number_of input
+    → number_of output ≡ lane.bits
     → IsConvertedLane plan.saturates (format_with c) (layout_with c) (format_at plan.target) (layout_at plan.target)
     plan.round bits lane
     → IsConvertedBy overflow c d mode input output (outcome_of lane)
 plan_answers overflow c d mode plan input output bits lane is read written it =
-    let there : IsConvertedLane (saturates overflow) (format_with c) (layout_with c) (format_with d) (layout_with d) mode
+    let there : IsConvertedLane (saturates overflow) (format_with c) (layout_with c) (format_with d)
+    (layout_with d) mode
     (number_of input) lane =
-    subst (λ (n : ℕ). IsConvertedLane (saturates overflow) (format_with c) (layout_with c) (format_with d) (layout_with d)
+    subst (λ (n : ℕ). IsConvertedLane (saturates overflow) (format_with c) (layout_with c) (format_with d)
+    (layout_with d)
     mode n lane) read
     (subst (λ (r : Round). IsConvertedLane (saturates overflow) (format_with c) (layout_with c) (format_with d)
     (layout_with d) r bits lane) is.round
@@ -89,11 +94,32 @@ flags_counted : (bits : ℕ) (inexact underflow overflow is_nan : Bool)
 flags_counted bits true true true is_nan = record { inexact = refl; underflow = refl; overflow = refl; invalid = refl }
 flags_counted bits true true false is_nan = record { inexact = refl; underflow = refl; overflow = refl; invalid = refl }
 flags_counted bits true false true is_nan = record { inexact = refl; underflow = refl; overflow = refl; invalid = refl }
-flags_counted bits true false false is_nan = record { inexact = refl; underflow = refl; overflow = refl; invalid = refl }
+flags_counted bits true false false is_nan = record {
+  inexact = refl;
+  underflow = refl;
+  overflow = refl;
+  invalid = refl;
+}
 flags_counted bits false true true is_nan = record { inexact = refl; underflow = refl; overflow = refl; invalid = refl }
-flags_counted bits false true false is_nan = record { inexact = refl; underflow = refl; overflow = refl; invalid = refl }
-flags_counted bits false false true is_nan = record { inexact = refl; underflow = refl; overflow = refl; invalid = refl }
-flags_counted bits false false false is_nan = record { inexact = refl; underflow = refl; overflow = refl; invalid = refl }
+flags_counted bits false true false is_nan = record {
+  inexact = refl;
+  underflow = refl;
+  overflow = refl;
+  invalid = refl;
+}
+flags_counted bits false false true is_nan = record {
+  inexact = refl;
+  underflow = refl;
+  overflow = refl;
+  invalid = refl;
+}
+flags_counted bits false false false is_nan = record {
+  inexact = refl;
+  underflow = refl;
+  overflow = refl;
+  invalid =
+      refl;
+}
 
 pub lane_counted : (lane : Lane) → AreCounted lane
 lane_counted lane = flags_counted lane.bits lane.inexact lane.underflow lane.overflow lane.is_nan

@@ -81,7 +81,8 @@ before_write target index from to k output new is before within =
 
 -- the value of an index from the start of a range on is a value of the range
 in_range : (width index more k : ℕ) (bytes : List ℕ) → k < more
-    → value_at width k (slice_range bytes (index * width) ((index + more) * width)) ≡ value_at width (index + k) bytes
+    → value_at width k (slice_range bytes (index * width) ((index + more) * width))
+    ≡ value_at width (index + k) bytes
 in_range width index more k bytes within =
     let next : suc k * width ≤ more * width = mul-le-mul_right width within in
     let one_more : suc k * width ≡ k * width + width = suc-mul k width in
@@ -155,7 +156,8 @@ block_joined Holds source target index more count input output new counts others
 -- the same for the last values
 pub block_rest : (Holds : List ℕ → List ℕ → Outcome → Type 0) (source target done count : ℕ)
     (input output new : List ℕ) (counts others : Counts)
-    → done ≤ count → count < 2 ^ 64 → length output ≡ count * target → length new ≡ (count - done) * target
+    → done ≤ count → count < 2 ^ 64 → length output ≡ count * target
+    → length new ≡ (count - done) * target
     → IsBlock Holds source target (count - done) (slice_range input (done * source) (count * source)) new others
     → IsBlock Holds source target done input output counts
     → IsBlock Holds source target count input (put_mid (done * target) (count * target - done * target) output new)
@@ -165,13 +167,15 @@ block_rest Holds source target done count input output new counts others before 
     let there : IsBlock Holds source target (count - done)
     (slice_range input (done * source) ((done + (count - done)) * source)) new others =
     subst
-    (λ (n : ℕ). IsBlock Holds source target (count - done) (slice_range input (done * source) (n * source)) new others)
+    (λ (n : ℕ). IsBlock Holds source target (count - done)
+    (slice_range input (done * source) (n * source)) new others)
     (sym all) block in
     subst
     (λ (n : ℕ). IsBlock Holds source target n input (put_mid (done * target) (n * target - done * target) output new)
     (sum_of counts others))
     all
-    (block_joined Holds source target done (count - done) count input output new counts others (omega (arith, before)) few
+    (block_joined Holds source target done (count - done) count input output new counts others
+    (omega (arith, before)) few
     room width there so_far)
 
 -- how many bytes the last values take

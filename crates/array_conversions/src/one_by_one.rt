@@ -14,8 +14,8 @@ use crate::widths::{Widths, bytes_of};
 use rustc_apfloat::Round;
 use rustc_apfloat::ieee::Flagged;
 
-/// Converts `count` values, each in its place. The widths that most values have are constants of their formats, so that the loop knows
-/// how many bytes it reads and writes.
+/// Converts `count` values, each in its place. The widths that most values have are constants of their formats, so that
+/// the loop knows how many bytes it reads and writes.
 #[inline(never)]
 pub fn convert_one_by_one<S: Flagged, T: Flagged>(
     overflow: Overflow,

@@ -61,11 +61,13 @@ moved_least true kept least full = omega (arith, full)
 moved_least false kept least full = omega (arith, full)
 
 some_rest : (rest : ℕ) → (rest ≡ 0 → ⊥) → 0 < rest
-some_rest rest more = ⊎_elim (λ (z : rest < 1). absurd (more (omega (arith, z)))) (λ (p : 1 ≤ rest). omega (arith, p))
+some_rest rest more = ⊎_elim (λ (z : rest < 1). absurd (more (omega (arith, z))))
+    (λ (p : 1 ≤ rest). omega (arith, p))
     (cases_lt rest 1)
 
 -- a scaled number, rounded to a whole number, is the code of what is picked
-picked_code : (precision : ℕ) (mode : Round) (negative : Bool) (t amount parts : ℕ) → 3 ≤ precision → 0 < parts
+picked_code : (precision : ℕ) (mode : Round) (negative : Bool) (t amount parts : ℕ) → 3 ≤ precision
+    → 0 < parts
     → IsScaled precision 16 t amount parts
     → IsPickedCode precision mode negative amount parts (rounded_by mode negative t) (t % 2 ^ 16)
 picked_code precision mode negative t amount parts precise any it =
@@ -157,7 +159,8 @@ has_sign NanNegativeZero bits code some below =
     let same : code % 2 ^ (bits - 1) ≡ code = mod-eq_of_lt below in
     ne_eqb (code % 2 ^ (bits - 1)) 0 (λ e. omega (arith, e, same, some))
 
-signed_number : (f : Format) (layout : Layout) (negative : Bool) (n code : ℕ) → code < 2 ^ (layout.bits - 1) → (n ≡ 0 → code ≡ 0)
+signed_number : (f : Format) (layout : Layout) (negative : Bool) (n code : ℕ) → code < 2 ^ (layout.bits - 1)
+    → (n ≡ 0 → code ≡ 0)
     → (code ≡ 0 → n ≡ 0) → IsSigned f layout negative n code
 signed_number f layout negative n code below forth back =
     ⊎_elim {C = IsSigned f layout negative n code}
@@ -219,9 +222,11 @@ infinity_encoded : (f : Format) (layout : Layout) (negative : Bool) (bits : ℕ)
     → IsEncodedBy f layout bits (infinite negative)
 infinity_encoded f layout negative bits law is implied bits_are =
     let half : ℕ = 2 ^ (f.precision - 1) in
-    let x = fields_with negative (all_ones layout.exponent_bits) (cond f.explicit_integer_bit (smallest_normalized f) 0) in
+    let x = fields_with negative (all_ones layout.exponent_bits)
+    (cond f.explicit_integer_bit (smallest_normalized f) 0) in
     let width : trailing_bits f ≡ f.precision - 1 = cond-false f.explicit_integer_bit _ _ implied in
-    let none : cond f.explicit_integer_bit (smallest_normalized f) 0 ≡ 0 = cond-false f.explicit_integer_bit _ _ implied in
+    let none : cond f.explicit_integer_bit (smallest_normalized f) 0
+    ≡ 0 = cond-false f.explicit_integer_bit _ _ implied in
     let span : f.span + 3 ≡ 2 ^ layout.exponent_bits =
     law.span ∙ ap (λ (k : NonfiniteBehavior). 2 ^ layout.exponent_bits + more_exponents k) is ∙ omega arith in
     let precise = law.precise in
@@ -236,7 +241,8 @@ infinity_encoded f layout negative bits law is implied bits_are =
     omega (arith, ones, top, twice, some) in
     let sized = law.bits in
     let same : bits_of_fields f layout x ≡ bits =
-    rw (width, none) (top_bits negative layout.exponent_bits (f.precision - 1) (all_ones layout.exponent_bits) 0 bits (layout.bits - 1)
+    rw (width, none) (top_bits negative layout.exponent_bits (f.precision - 1) (all_ones layout.exponent_bits) 0 bits
+    (layout.bits - 1)
     (omega (arith, sized, width)) (bits_are ∙ ap (λ (n : ℕ). cond negative (2 ^ (layout.bits - 1)) 0 + n) code)) in
     subst (λ (b : ℕ). IsEncodedBy f layout b (infinite negative)) same
     (fields_encode f layout x (infinite negative) law (infinity_fields_of f layout negative law is))
@@ -258,7 +264,8 @@ nan_encoded f layout negative bits law is implied bits_are =
     let half : ℕ = 2 ^ (f.precision - 1) in
     let x = fields_with negative (all_ones layout.exponent_bits) (nan_base f) in
     let width : trailing_bits f ≡ f.precision - 1 = cond-false f.explicit_integer_bit _ _ implied in
-    let base : nan_base f ≡ 2 ^ (f.precision - 1) - 1 = ap (λ (k : NonfiniteBehavior). nan_base_of k f.precision) is in
+    let base : nan_base f ≡ 2 ^ (f.precision - 1) - 1 = ap (λ (k : NonfiniteBehavior). nan_base_of k f.precision) is
+    in
     let span : f.span + 3 ≡ 2 ^ layout.exponent_bits + 1 =
     law.span ∙ ap (λ (k : NonfiniteBehavior). 2 ^ layout.exponent_bits + more_exponents k) is in
     let precise = law.precise in
@@ -273,12 +280,14 @@ nan_encoded f layout negative bits law is implied bits_are =
     omega (arith, ones, top, twice, some, base) in
     let sized = law.bits in
     let same : bits_of_fields f layout x ≡ bits =
-    rw width (top_bits negative layout.exponent_bits (f.precision - 1) (all_ones layout.exponent_bits) (nan_base f) bits (layout.bits - 1)
+    rw width (top_bits negative layout.exponent_bits (f.precision - 1) (all_ones layout.exponent_bits)
+    (nan_base f) bits (layout.bits - 1)
     (omega (arith, sized, width)) (bits_are ∙ ap (λ (n : ℕ). cond negative (2 ^ (layout.bits - 1)) 0 + n) code)) in
     subst (λ (b : ℕ). IsEncodedBy f layout b (nan negative (nan_base f))) same
     (fields_encode f layout x (nan negative (nan_base f)) law
     (nan_fields_of f layout negative (nan_base f) law (differs f.nonfinite is)
-    (subst (λ (k : NonfiniteBehavior). IsNanSignificand k f.explicit_integer_bit f.precision (nan_base_of k f.precision))
+    (subst (λ (k : NonfiniteBehavior). IsNanSignificand k f.explicit_integer_bit f.precision
+    (nan_base_of k f.precision))
     (sym is) refl)))
 
 -- the one NaN: the sign bit alone
@@ -324,7 +333,8 @@ no_nan NanNegativeZero past within = within
 
 -- a number within the largest value
 number_given : (f : Format) (layout : Layout) (negative : Bool) (place next code : ℕ) → IsInterchange f layout
-    → f.explicit_integer_bit ≡ false → (place ≡ 0) ⊎ (2 ^ (f.precision - 1) ≤ next) → next ≤ 2 ^ f.precision
+    → f.explicit_integer_bit ≡ false → (place ≡ 0) ⊎ (2 ^ (f.precision - 1) ≤ next)
+    → next ≤ 2 ^ f.precision
     → next * 2 ^ place ≤ largest f → code ≡ place * 2 ^ (f.precision - 1) + next
     → code ≤ largest_code f
     → IsGiven f layout negative code (signed_quanta f.nonfinite negative (next * 2 ^ place))
@@ -341,7 +351,8 @@ number_given f layout negative place next code law implied full fits within is l
     absurd (omega (arith, more, none, unit)))
     (cases_lt next 1) in
     let last : place ≡ 0 =
-    ⊎_elim (λ (z : place ≡ 0). z) (λ (h : 2 ^ (f.precision - 1) ≤ next). absurd (omega (arith, h, no_digits, some))) full in
+    ⊎_elim (λ (z : place ≡ 0). z) (λ (h : 2 ^ (f.precision - 1) ≤ next). absurd
+    (omega (arith, h, no_digits, some))) full in
     let nothing : place * 2 ^ (f.precision - 1) ≡ 0 * 2 ^ (f.precision - 1) = ap (λ (x : ℕ). x * half) last in
     omega (arith, is, nothing, no_digits) in
     let back : code ≡ 0 → next * 2 ^ place ≡ 0 = λ none.
@@ -384,7 +395,8 @@ past_given : (kind : NonfiniteBehavior) (f : Format) (layout : Layout) (negative
 past_given IEEE754 f layout negative is law implied =
     record {
       is_encoded =
-          infinity_encoded f layout negative (signed_code f.nonfinite layout.bits negative (largest_code f + 1)) law is implied
+          infinity_encoded f layout negative (signed_code f.nonfinite layout.bits negative (largest_code f + 1)) law is
+          implied
           (ap (λ (x : ℕ). x + (largest_code f + 1))
           (keeps_sign f.nonfinite negative layout.bits (largest_code f + 1)
           (ap (λ (k : NonfiniteBehavior). has_no_sign k layout.bits (largest_code f + 1)) is)));
@@ -394,7 +406,8 @@ past_given IEEE754 f layout negative is law implied =
 past_given NanOnly f layout negative is law implied =
     record {
       is_encoded =
-          nan_encoded f layout negative (signed_code f.nonfinite layout.bits negative (largest_code f + 1)) law is implied
+          nan_encoded f layout negative (signed_code f.nonfinite layout.bits negative (largest_code f + 1)) law is
+          implied
           (ap (λ (x : ℕ). x + (largest_code f + 1))
           (keeps_sign f.nonfinite negative layout.bits (largest_code f + 1)
           (ap (λ (k : NonfiniteBehavior). has_no_sign k layout.bits (largest_code f + 1)) is)));
@@ -449,7 +462,8 @@ beyond_given true true f layout mode negative e law implied =
     (sym (past_saturated f.nonfinite f negative (nan_base f)))
     (largest_given f layout negative law implied))
 beyond_given true false f layout mode negative e law implied = rw e (largest_given f layout negative law implied)
-beyond_given false true f layout mode negative e law implied = rw e (past_given f.nonfinite f layout negative refl law implied)
+beyond_given false true f layout mode negative e law implied = rw e
+    (past_given f.nonfinite f layout negative refl law implied)
 beyond_given false false f layout mode negative e law implied = rw e (largest_given f layout negative law implied)
 
 -- the cap is the largest code, or the one after it
@@ -466,7 +480,8 @@ cap_most false true top = omega arith
 cap_most false false top = omega arith
 
 -- the code that is delivered is that of the value that is delivered
-value_given : (saturates : Bool) (f : Format) (layout : Layout) (mode : Round) (negative : Bool) (amount parts r rest : ℕ)
+value_given : (saturates : Bool) (f : Format) (layout : Layout) (mode : Round) (negative : Bool)
+    (amount parts r rest : ℕ)
     → IsInterchange f layout → f.explicit_integer_bit ≡ false
     → (picked : IsPickedCode f.precision mode negative amount parts r rest)
     → IsGiven f layout negative (min r (greatest_code saturates f mode negative))
@@ -531,7 +546,8 @@ flag_sum false true false raises large = refl
 flag_sum false false normal raises large = refl
 
 -- the status, by the same
-status_sum : (past exact tiny raises some normal : Bool) → exact ≡ not some → (some ≡ true → tiny ≡ not normal)
+status_sum : (past exact tiny raises some normal : Bool) → exact ≡ not some
+    → (some ≡ true → tiny ≡ not normal)
     → ◌≡◌ {A = ℕ} (cond past (cond raises 20 16) (cond some (cond normal 16 24) 0))
     (cond past (cond raises 20 16) (cond exact 0 (cond tiny 24 16)))
 status_sum true exact tiny raises some normal e t = refl
@@ -584,7 +600,8 @@ rounded_most mode negative t =
     moved_most (rounds_up mode negative (loss_at (t % 2 ^ 16) (2 ^ 15)) (eqb (t / 2 ^ 16 % 2) 1)) (t / 2 ^ 16)
     (t / 2 ^ 16 + 1) (omega arith)
 
-flags_given : (f : Format) (layout : Layout) (mode : Round) (negative : Bool) (t amount parts : ℕ) → IsInterchange f layout
+flags_given : (f : Format) (layout : Layout) (mode : Round) (negative : Bool) (t amount parts : ℕ)
+    → IsInterchange f layout
     → reads_halves f ≡ false → 0 < parts → IsScaled f.precision 16 t amount parts
     → (picked : IsPickedCode f.precision mode negative amount parts (rounded_by mode negative t) (t % 2 ^ 16))
     → let some = not (eqb (t % 2 ^ 16) 0) in let past = ltb (largest_code f) (rounded_by mode negative t) in
@@ -634,9 +651,11 @@ flags_given f layout mode negative t amount parts law rule any scaled picked =
 -- ---- the answer
 
 -- what a lane is made of
-pub record IsMade (saturates : Bool) (f : Format) (layout : Layout) (mode : Round) (negative : Bool) (t : ℕ) (lane : Lane)
+pub record IsMade (saturates : Bool) (f : Format) (layout : Layout) (mode : Round) (negative : Bool) (t : ℕ)
+    (lane : Lane)
     : Type 0 where
-  pub bits : lane.bits ≡ signed_code f.nonfinite layout.bits negative (min (rounded_by mode negative t) (greatest_code saturates f mode negative))
+  pub bits : lane.bits ≡ signed_code f.nonfinite layout.bits negative
+      (min (rounded_by mode negative t) (greatest_code saturates f mode negative))
   pub inexact : lane.inexact
       ≡ (not (eqb (t % 2 ^ 16) 0) || ltb (largest_code f) (rounded_by mode negative t))
   pub underflow : lane.underflow
@@ -648,14 +667,16 @@ pub record IsMade (saturates : Bool) (f : Format) (layout : Layout) (mode : Roun
       ≡ (not (is_ieee f.nonfinite)
       && ltb (largest_code f) (min (rounded_by mode negative t) (greatest_code saturates f mode negative)))
 
-made_rounded : (saturates : Bool) (f : Format) (layout : Layout) (mode : Round) (negative : Bool) (t amount parts : ℕ) (lane : Lane)
+made_rounded : (saturates : Bool) (f : Format) (layout : Layout) (mode : Round) (negative : Bool)
+    (t amount parts : ℕ) (lane : Lane)
     → IsInterchange f layout → f.explicit_integer_bit ≡ false → reads_halves f ≡ false
     → 0 < parts → IsMade saturates f layout mode negative t lane → IsScaled f.precision 16 t amount parts
     → IsRounded saturates f layout mode negative amount parts lane
 made_rounded saturates f layout mode negative t amount parts lane law implied rule any made scaled =
     let picked = picked_code f.precision mode negative t amount parts law.precise any scaled in
     let pick = picked.next * 2 ^ picked.place in
-    let given = value_given saturates f layout mode negative amount parts (rounded_by mode negative t) (t % 2 ^ 16) law implied
+    let given = value_given saturates f layout mode negative amount parts (rounded_by mode negative t)
+    (t % 2 ^ 16) law implied
     picked in
     let flags : flags_of lane ≡ delivered_status f mode negative amount parts pick =
     rw (made.underflow, made.inexact, made.overflow)
@@ -672,13 +693,15 @@ made_rounded saturates f layout mode negative t amount parts lane law implied ru
     }
 
 -- the same for a number that is reached, which is past all values if it is not the number itself
-pub lane_rounded : (saturates : Bool) (f : Format) (layout : Layout) (mode : Round) (negative : Bool) (t amount parts : ℕ) (lane : Lane)
+pub lane_rounded : (saturates : Bool) (f : Format) (layout : Layout) (mode : Round) (negative : Bool)
+    (t amount parts : ℕ) (lane : Lane)
     → IsInterchange f layout → f.explicit_integer_bit ≡ false → reads_halves f ≡ false
     → 0 < parts → IsMade saturates f layout mode negative t lane → IsReached f t amount parts
     → IsRounded saturates f layout mode negative amount parts lane
 lane_rounded saturates f layout mode negative t amount parts lane law implied rule any made it =
     let precise = law.precise in
-    let there = made_rounded saturates f layout mode negative t it.reached parts lane law implied rule any made it.scaled
+    let there = made_rounded saturates f layout mode negative t it.reached parts lane law implied rule any made
+    it.scaled
     in
     ⊎_elim
     (λ same. subst (λ (n : ℕ). IsRounded saturates f layout mode negative n parts lane) same there)

@@ -79,7 +79,8 @@ past_beyond f n place precise beyond full =
     (omega (arith, places, full, fits, twice)))
 
 -- a number is past the largest value exactly if its code is
-pub past_by_code : (f : Format) (n place : ℕ) → 3 ≤ f.precision → (place ≡ 0) ⊎ (2 ^ (f.precision - 1) ≤ n)
+pub past_by_code : (f : Format) (n place : ℕ) → 3 ≤ f.precision
+    → (place ≡ 0) ⊎ (2 ^ (f.precision - 1) ≤ n)
     → n ≤ 2 ^ f.precision
     → ltb (largest f) (n * 2 ^ place)
     ≡ ltb (largest_code f) (place * 2 ^ (f.precision - 1) + n)
@@ -121,7 +122,8 @@ low_encoded f layout negative n bits law implied sign low is =
     let width : trailing_bits f ≡ f.precision - 1 = cond-false f.explicit_integer_bit _ _ implied in
     let sized = law.bits in
     let same : bits_of_fields f layout x ≡ bits =
-    rw width (sign_bits negative layout.exponent_bits (f.precision - 1) n bits (layout.bits - 1) (omega (arith, sized, width)) is) in
+    rw width (sign_bits negative layout.exponent_bits (f.precision - 1) n bits (layout.bits - 1)
+    (omega (arith, sized, width)) is) in
     subst (λ (b : ℕ). IsEncodedBy f layout b (finite negative n)) same
     (fields_encode f layout x (finite negative n) law (low_fields_of f layout negative n law low sign))
 

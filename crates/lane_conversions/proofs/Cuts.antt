@@ -108,7 +108,8 @@ in_quanta u loss m w low cut e to place from balance stands =
 
 -- a number with fewer than `digits` digits that is farther below a quantum than all of them is below half of it, and so
 -- is whatever nonzero number stands for it
-pub far_below : (m o low digits e to from : ℕ) → 0 < m → m < 2 ^ digits → 0 < o → o < 2 ^ (low - 1) → 0 < low
+pub far_below : (m o low digits e to from : ℕ) → 0 < m → m < 2 ^ digits → 0 < o → o < 2 ^ (low - 1)
+    → 0 < low
     → digits + e + to + 1 ≤ from
     → StandsFor (o / 2 ^ low) (loss_at (o % 2 ^ low) (2 ^ (low - 1))) (m * 2 ^ e * 2 ^ to) (2 ^ 0 * 2 ^ from)
 far_below m o low digits e to from some fits some_odd short any far =

@@ -44,7 +44,8 @@ module _ (mode : Round) (negative : Bool) (rest half last : ℕ) (some : 0 < hal
   abbrev Said : Loss → Type 0
   Said loss = Carries half rest (added_to mode negative half last) (rounds_up mode negative loss (eqb (last % 2) 1))
 
-  by_loss : (rest ≡ 0 → Said ExactlyZero) → (rest < half → Said LessThanHalf) → (rest ≡ half → Said ExactlyHalf)
+  by_loss : (rest ≡ 0 → Said ExactlyZero) → (rest < half → Said LessThanHalf)
+      → (rest ≡ half → Said ExactlyHalf)
       → (half < rest → Said MoreThanHalf) → Said (loss_at rest half)
   by_loss none less equal more =
       ⊎_elim
@@ -123,7 +124,8 @@ next_by kept rest added unit false some short stays =
     mul-add-div_right some kept (rest + added) ∙ ap (λ (x : ℕ). kept + x) (div-eq_of_lt stays) ∙ omega arith
 
 -- at most all digits of the rest are added, so nothing carries twice
-added_most : (mode : Round) (negative : Bool) (half last : ℕ) → 0 < half → added_to mode negative half last ≤ 2 * half
+added_most : (mode : Round) (negative : Bool) (half last : ℕ) → 0 < half
+    → added_to mode negative half last ≤ 2 * half
 added_most NearestTiesToEven negative half last some = omega (arith, some)
 added_most NearestTiesToAway negative half last some = omega (arith, some)
 added_most TowardZero negative half last some = omega (arith, some)
@@ -162,7 +164,8 @@ rounded_is mode negative t low some =
     ∙ next_by kept rest added (2 ^ low) up (pow_pos low) (omega (arith, rest_below, twice, most)) reaches
 
 -- the constants of a mode
-pub addend_rounds : (mode : Round) (negative : Bool) (always if_odd : ℕ) → always ≡ added_for mode negative (2 ^ 15)
+pub addend_rounds : (mode : Round) (negative : Bool) (always if_odd : ℕ)
+    → always ≡ added_for mode negative (2 ^ 15)
     → if_odd ≡ 2 ^ odd_for mode - 1 → (t : ℕ)
     → (t + (always + bit_and (t / 2 ^ 16) if_odd)) / 2 ^ 16
     ≡ cond (rounds_up mode negative (loss_at (t % 2 ^ 16) (2 ^ 15)) (eqb (t / 2 ^ 16 % 2) 1)) (t / 2 ^ 16 + 1)

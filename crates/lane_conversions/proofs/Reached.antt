@@ -32,7 +32,8 @@ zero_scaled precision parts some any =
     }
 
 -- a significand with all digits, past all places
-past_at : (f : Format) (m e first : ℕ) → f.precision ≤ 24 → 149 ≡ f.scale + (24 - f.precision) + first → 2 ^ 23 ≤ m
+past_at : (f : Format) (m e first : ℕ) → f.precision ≤ 24 → 149 ≡ f.scale + (24 - f.precision) + first
+    → 2 ^ 23 ≤ m
     → first + (f.span + 1) ≤ e → IsPast f (m * 2 ^ e * 2 ^ f.scale) (2 ^ 149)
 past_at f m e first digits scales full far =
     let low : 2 ^ (23 + e + f.scale) ≡ 2 ^ 23 * 2 ^ e * 2 ^ f.scale = pow3 23 e f.scale in
@@ -133,7 +134,8 @@ zero_reached f m place first precise none last =
     ap (λ (n : ℕ). n * 2 ^ (p + 15)) above in
     let sum : 0 ≡ steps f first m place = omega (arith, left, right) in
     let placed : m * 2 ^ place ≡ 0 * 2 ^ place = ap (λ (n : ℕ). n * 2 ^ place) none in
-    let amount : m * 2 ^ place * 2 ^ f.scale ≡ 0 * 2 ^ place * 2 ^ f.scale = ap (λ (n : ℕ). n * 2 ^ f.scale) placed in
+    let amount : m * 2 ^ place * 2 ^ f.scale ≡ 0 * 2 ^ place * 2 ^ f.scale = ap
+    (λ (n : ℕ). n * 2 ^ f.scale) placed in
     record {
       reached = 0;
       scaled =
@@ -195,7 +197,8 @@ pub record AreSteps (f : Format) (t m place : ℕ) : Type 0 where
 
 pub steps_are : (f : Format) (layout : Layout) (min_exp max_exp : ℤ) (m place first places odd above up : ℕ)
     → IsTarget f layout min_exp max_exp → pos f.scale ≡ pos (f.precision - 1) -ℤ min_exp
-    → m < 2 ^ 24 → (place ≡ 0) ⊎ (2 ^ 23 ≤ m) → pos first ≡ (min_exp +ℤ pos 126) → places ≡ f.span + 1
+    → m < 2 ^ 24 → (place ≡ 0) ⊎ (2 ^ 23 ≤ m) → pos first ≡ (min_exp +ℤ pos 126)
+    → places ≡ f.span + 1
     → odd ≡ odd_quotient m (2 ^ (20 - f.precision)) → above ≡ min (place - first) places
     → up ≡ 12 - (first - place)
     → AreSteps f (odd * 2 ^ up % 4294967296 + above * 2 ^ (f.precision + 15) % 4294967296) m place

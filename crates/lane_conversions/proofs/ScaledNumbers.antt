@@ -106,7 +106,8 @@ scaled_at precision cut low w place e to from m precise room balance fits full =
     let power : 2 ^ (precision + 3 + w) ≡ 2 ^ (precision + 3) * 2 ^ w = pow-add 2 (precision + 3) w in
     let same : precision + 4 + w - 1 ≡ precision + 3 + w = omega arith in
     let s_least : 2 ^ (precision + 4 + w - 1) ≤ s =
-    subst (λ (x : ℕ). x ≤ s) (sym power ∙ ap (λ (x : ℕ). 2 ^ x) (sym same)) (mul-le-mul_right (2 ^ w) odd_least) in
+    subst (λ (x : ℕ). x ≤ s) (sym power ∙ ap (λ (x : ℕ). 2 ^ x) (sym same))
+    (mul-le-mul_right (2 ^ w) odd_least) in
     inr (full_cut s (precision + 4 + w) low precision (omega (arith, precise)) (λ _. s_least) (omega (arith, whole))))
     full in
     let stands : StandsFor u (loss_at (s % 2 ^ low) (2 ^ (low - 1))) amount (2 ^ place * 2 ^ from) =

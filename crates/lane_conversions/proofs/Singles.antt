@@ -1,5 +1,5 @@
 -- Finite singles, read from their bits, and their conversions.
-use Rattle.std.proofs.Common.{◌≡◌, ℕ, ◌+◌, ◌-◌, ◌*◌, ◌/◌, ◌%◌, ◌^◌, ◌<◌, ◌≤◌, ◌⊎◌, min, Bool, true, false, cond, not, ◌&&◌, ◌||◌, eqb, refl, sym, ap, ◌∙◌, subst, inl, inr, ⊎_elim, arith}
+use Rattle.std.proofs.Common.{◌≡◌, ℕ, ◌+◌, ◌-◌, ◌*◌, ◌/◌, ◌%◌, ◌^◌, ◌<◌, ◌≤◌, min, Bool, true, false, cond, not, ◌&&◌, ◌||◌, eqb, refl, sym, ap, ◌∙◌, subst, ⊎_elim, arith}
 use Rattle.std.proofs.Math.Nat.{min-eq_left, min-eq_right, mul-le-mul_right}
 use Rattle.std.proofs.lemmas.Nat.{pow_pos}
 use Rattle.std.proofs.lemmas.Bool.{cases_eq, cases_lt, cond-false, eq-eqb, ne_eqb}
@@ -44,7 +44,8 @@ fields_number f layout negative biased trailing kind implied digits few =
     rw (eq-eqb biased 0 none) (ap (finite negative) same))
     (λ (some : biased ≡ 0 → ⊥).
     let least : 1 ≤ biased =
-    ⊎_elim {C = 1 ≤ biased} (λ (z : biased < 1). absurd (some (omega (arith, z)))) (λ (p : 1 ≤ biased). p) (cases_lt biased 1) in
+    ⊎_elim {C = 1 ≤ biased} (λ (z : biased < 1). absurd (some (omega (arith, z)))) (λ (p : 1 ≤ biased). p)
+    (cases_lt biased 1) in
     let one : min biased 1 ≡ 1 = min-eq_right least in
     let significand : smallest_normalized f + trailing ≡ trailing + min biased 1 * 2 ^ 23 =
     omega (arith, unit, one) in
@@ -60,7 +61,8 @@ single_read f layout x single word few =
     let width : trailing_bits f ≡ 23 =
     cond-false f.explicit_integer_bit _ _ single.implied ∙ ap (λ (n : ℕ). n - 1) single.precision in
     let sign : x / 2 ^ (layout.bits - 1) % 2 ≡ x / 2 ^ 31 =
-    ap (λ (n : ℕ). x / 2 ^ (n - 1) % 2) single.bits ∙ (let e : x / 2 ^ 31 % 2 ≡ x / 2 ^ 31 = omega (arith, word) in e) in
+    ap (λ (n : ℕ). x / 2 ^ (n - 1) % 2) single.bits ∙ (let e : x / 2 ^ 31 % 2
+    ≡ x / 2 ^ 31 = omega (arith, word) in e) in
     let biased : x / 2 ^ trailing_bits f % 2 ^ layout.exponent_bits ≡ x % 2 ^ 31 / 2 ^ 23 =
     (λ i. x / 2 ^ width i % 2 ^ single.exponent_bits i)
     ∙ (let e : x / 2 ^ 23 % 2 ^ 8 ≡ x % 2 ^ 31 / 2 ^ 23 = omega arith in e) in
@@ -73,22 +75,6 @@ single_read f layout x single word few =
     (λ i. datum_of_fields f layout (fields_with (eqb (sign i) 1) (biased i) (trailing i)))
     ∙ fields_number f layout (eqb (x / 2 ^ 31) 1) (x % 2 ^ 31 / 2 ^ 23) (x % 2 ^ 31 % 2 ^ 23) single.nonfinite
     single.implied single.precision not_all
-
--- a significand has at most 24 digits, and all of them above the last place
-pub significand_fits : (a : ℕ) → significand_of a < 2 ^ 24
-significand_fits a =
-    ⊎_elim {C = significand_of a < 2 ^ 24}
-    (λ (l : a / 2 ^ 23 < 1).
-    let le : a / 2 ^ 23 ≤ 1 = omega (arith, l) in let e = min-eq_left le in omega (arith, e, l))
-    (λ (l : 1 ≤ a / 2 ^ 23). let e = min-eq_right l in omega (arith, e))
-    (cases_lt (a / 2 ^ 23) 1)
-
-pub significand_full : (a : ℕ) → (place_of a ≡ 0) ⊎ (2 ^ 23 ≤ significand_of a)
-significand_full a =
-    ⊎_elim {C = (place_of a ≡ 0) ⊎ (2 ^ 23 ≤ significand_of a)}
-    (λ (l : a / 2 ^ 23 < 1). inl (omega (arith, l)))
-    (λ (l : 1 ≤ a / 2 ^ 23). let e = min-eq_right l in inr (omega (arith, e)))
-    (cases_lt (a / 2 ^ 23) 1)
 
 -- a number is zero exactly if its magnitude's bits are
 zero_back : (a : ℕ) → significand_of a * 2 ^ place_of a ≡ 0 → a ≡ 0
@@ -153,13 +139,15 @@ with_inexact lane inexact =
       is_nan = lane.is_nan;
     }
 
-module _ (saturates : Bool) (single : Format) (read : Layout) (f : Format) (layout : Layout) (mode : Round) (negative : Bool)
+module _ (saturates : Bool) (single : Format) (read : Layout) (f : Format) (layout : Layout) (mode : Round)
+    (negative : Bool)
     (quanta bits : ℕ) (lane : Lane) (number : datum_of single read bits ≡ finite negative quanta)
     (scale : single.scale ≡ 149) where
   abbrev pub Rounded : Type 0
   Rounded = IsRounded saturates f layout mode negative (quanta * 2 ^ f.scale) (2 ^ 149) lane
 
-  zero_converted : (loses : Bool) → quanta ≡ 0 → 0 < f.precision → loses ≡ loses_zero_sign f negative → Rounded
+  zero_converted : (loses : Bool) → quanta ≡ 0 → 0 < f.precision → loses ≡ loses_zero_sign f negative
+      → Rounded
       → IsConvertedLane saturates single read f layout mode bits (with_inexact lane (lane.inexact || loses))
   zero_converted loses none precise lost it =
       let amount : quanta * 2 ^ f.scale ≡ 0 = ap (λ (n : ℕ). n * 2 ^ f.scale) none ∙ omega arith in
@@ -213,7 +201,8 @@ lane_converted saturates single read f layout mode negative loses a bits lane nu
     let gone : loses ≡ loses_zero_sign f negative =
     lost ∙ ap (λ (b : Bool). has_one_zero f.nonfinite && negative && b) (eq-eqb a 0 none)
     ∙ sym (sign_lost f f.nonfinite negative refl) in
-    zero_converted saturates single read f layout mode negative quanta bits lane number scale loses no_quanta precise gone it)
+    zero_converted saturates single read f layout mode negative quanta bits lane number scale loses no_quanta precise
+    gone it)
     (λ (some : a ≡ 0 → ⊥).
     let kept : loses ≡ false =
     lost ∙ ap (λ (b : Bool). has_one_zero f.nonfinite && negative && b) (ne_eqb a 0 some)

@@ -23,24 +23,21 @@ finished saturates f negative rounded =
     if saturates && not (is_finite rounded) then finite negative (largest f) else rounded
 
 -- the bits, the flags and the outcome are those of the magnitude amount / parts quanta with that sign, rounded once
-pub record IsRounded (saturates : Bool) (f : Format) (layout : Layout) (mode : Round) (negative : Bool) (amount parts : ℕ)
-    (lane : Lane) : Type 0 where
+pub record IsRounded (saturates : Bool) (f : Format) (layout : Layout) (mode : Round) (negative : Bool)
+    (amount parts : ℕ) (lane : Lane) : Type 0 where
   pub rounded : Datum
   pub is_delivered : IsDelivered f mode negative amount parts rounded (flags_of lane)
-  pub is_encoded : IsEncodedBy f layout lane.bits
-      (finished saturates f negative rounded)
+  pub is_encoded : IsEncodedBy f layout lane.bits (finished saturates f negative rounded)
   pub nan_is : lane.is_nan ≡ is_nan (finished saturates f negative rounded)
 
 -- the bits encode a number of one format, and the lane is its conversion to the other
-pub record IsConvertedLane (saturates : Bool) (from : Format) (read : Layout) (f : Format) (layout : Layout) (mode : Round)
-    (bits : ℕ) (lane : Lane) : Type 0 where
+pub record IsConvertedLane (saturates : Bool) (from : Format) (read : Layout) (f : Format) (layout : Layout)
+    (mode : Round) (bits : ℕ) (lane : Lane) : Type 0 where
   pub negative : Bool
   pub quanta : ℕ
   pub number : datum_of from read bits ≡ finite negative quanta
   pub rounded : Datum
   pub loses : Bool
-  pub is_conversion : IsConversion from f mode (finite negative quanta) rounded
-      (flags_of lane) loses
-  pub is_encoded : IsEncodedBy f layout lane.bits
-      (finished saturates f negative rounded)
+  pub is_conversion : IsConversion from f mode (finite negative quanta) rounded (flags_of lane) loses
+  pub is_encoded : IsEncodedBy f layout lane.bits (finished saturates f negative rounded)
   pub nan_is : lane.is_nan ≡ is_nan (finished saturates f negative rounded)

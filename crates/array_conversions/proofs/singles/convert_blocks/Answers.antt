@@ -25,12 +25,14 @@ loop-index-preserved g c =
     let ends : (index * 16 + 16) * target ≡ index * 16 * target + 16 * target = omega arith in
     let width : length c.convert_block.new.output ≡ 16 * target =
     c.convert_block.auto.output
-    ∙ length-between c.loop-index.output (index * 16 * target) ((index * 16 + 16) * target) (omega (arith, size, room))
+    ∙ length-between c.loop-index.output (index * 16 * target) ((index * 16 + 16) * target)
+    (omega (arith, size, room))
     ∙ (let rest : (index * 16 + 16) * target - index * 16 * target ≡ 16 * target = omega (arith, ends) in rest) in
     let next : index * 16 + 16 ≡ (index + 1) * 16 = omega arith in
     rw c.add.ensures
     (block_named (IsConvertedBy c.args.overflow (constants_of g.S.Flagged) (constants_of g.T.Flagged) c.args.round)
-    c.args.widths.source target (index * 16 + 16) ((index + 1) * 16) c.args.input.now c.args.input.now _ _ _ next refl refl
+    c.args.widths.source target (index * 16 + 16) ((index + 1) * 16) c.args.input.now c.args.input.now _ _ _ next refl
+    refl
     (block_joined (IsConvertedBy c.args.overflow (constants_of g.S.Flagged) (constants_of g.T.Flagged) c.args.round)
     c.args.widths.source target (index * 16) 16 c.args.count c.args.input.now c.loop-index.output
     c.convert_block.new.output c.loop-index.counts c.convert_block.result within few size width c.convert_block.ensures

@@ -20,6 +20,8 @@ returns g c =
     rw c.add.ensures
     (block_rest (IsConvertedBy c.args.overflow (constants_of g.S.Flagged) (constants_of g.T.Flagged) c.args.round)
     c.args.widths.source target done c.args.count c.args.input.now c.convert_blocks-counts.new.output
-    c.convert_one_by_one.new.output c.convert_blocks-counts.result c.convert_one_by_one.result before c.ranges.count.fits size
-    (c.convert_one_by_one.auto.output ∙ rest_size target done c.args.count c.convert_blocks-counts.new.output before size)
+    c.convert_one_by_one.new.output c.convert_blocks-counts.result c.convert_one_by_one.result before
+    c.ranges.count.fits size
+    (c.convert_one_by_one.auto.output ∙ rest_size target done c.args.count c.convert_blocks-counts.new.output before
+    size)
     c.convert_one_by_one.ensures c.convert_blocks-counts.ensures)

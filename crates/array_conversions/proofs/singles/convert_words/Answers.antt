@@ -37,7 +37,8 @@ loop-index-preserved c =
           c.loop-index.output c.write_number.new.bytes (counts_with c.loop-index.few c.loop-index.index)
           (outcome_of c.convert_finite-lane.result) c.loop-index-test.true size width
           (plan_answers overflow from to mode c.args.plan (value_at 4 c.loop-index.index input)
-          c.write_number.new.bytes _ c.convert_finite-lane.result is_plan (read c.loop-index.index c.loop-index-test.true)
+          c.write_number.new.bytes _ c.convert_finite-lane.result is_plan
+          (read c.loop-index.index c.loop-index-test.true)
           (c.write_number.ensures ∙ c.from.ensures)
           (c.convert_finite-lane.ensures.converted _ _ is_single))
           (c.loop-index.invariant.block overflow from to mode input is_single is_plan read));

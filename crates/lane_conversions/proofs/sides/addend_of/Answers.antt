@@ -9,8 +9,10 @@ constants c = elim c.match-round.branch [
   | in-NearestTiesToEven w ↦ rw (w.in-NearestTiesToEven.is, w.result-is) (refl, refl)
   | in-NearestTiesToAway w ↦ rw (w.in-NearestTiesToAway.is, w.result-is) (refl, refl)
   | in-TowardZero w ↦ rw (w.in-TowardZero.is, w.result-is) (w.directed.ensures.always, w.directed.ensures.if_odd)
-  | in-TowardPositive w ↦ rw (w.in-TowardPositive.is, w.result-is) (w.directed-in-TowardPositive.ensures.always, w.directed-in-TowardPositive.ensures.if_odd)
-  | in-TowardNegative w ↦ rw (w.in-TowardNegative.is, w.result-is) (w.directed-in-TowardNegative.ensures.always, w.directed-in-TowardNegative.ensures.if_odd)
+  | in-TowardPositive w ↦ rw (w.in-TowardPositive.is, w.result-is)
+      (w.directed-in-TowardPositive.ensures.always, w.directed-in-TowardPositive.ensures.if_odd)
+  | in-TowardNegative w ↦ rw (w.in-TowardNegative.is, w.result-is)
+      (w.directed-in-TowardNegative.ensures.always, w.directed-in-TowardNegative.ensures.if_odd)
 ]
 
 pub returns : goal.returns
