@@ -37,7 +37,7 @@ pub fn convert_block_by<S: Flagged, T: Flagged>(
         input.now output.new result }
 {
     if has_singles::<S, T>(widths) {
-        convert_singles::<S, T>(overflow, round, widths, count, input, output)
+        convert_singles::<S, T>(overflow, round, count, input, output)
     } else if has_byte_table::<S, T>(widths, count) {
         convert_bytes::<S, T>(overflow, round, widths, count, input, output)
     } else if has_short_table::<S, ShortSingleS, T>(widths, count) {

@@ -11,6 +11,7 @@ ghost use Rattle.array_conversions.specs.Bytes.{number_of};
 ghost use Rattle.array_conversions.specs.Outcomes.{one_if, with_outcome};
 ghost use Rattle.array_conversions.specs.Singles.{AreAtMost, AreFinite, AreWordsOf, IsPlanFor, counts_with, outcome_of};
 ghost use Rattle.array_conversions.specs.Values.{IsConvertedBy};
+ghost use Rattle.array_conversions.specs.Widths.{bytes_of};
 
 use crate::bytes::{number_of, write_number};
 use crate::counts::Counts;
@@ -18,7 +19,7 @@ use crate::few_counts::FewCounts;
 use crate::one_by_one::convert_one_by_one;
 use crate::saturation::Overflow;
 use crate::single_targets::{is_single, is_target, saturates, target_of};
-use crate::widths::Widths;
+use crate::widths::{Widths, bytes_of};
 use lane_conversions::{Lane, Plan, convert_finite, is_finite, plan_of};
 use rustc_apfloat::Round;
 use rustc_apfloat::ieee::Flagged;
@@ -209,12 +210,12 @@ fn convert_blocks<S: Flagged, T: Flagged>(
     counts
 }
 
-/// Converts `count` singles, each in its place.
+/// Converts `count` singles, each in its place. The widths are constants, so that the loops know how many bytes they read
+/// and write.
 #[inline(never)]
 pub fn convert_singles<S: Flagged, T: Flagged>(
     overflow: Overflow,
     round: Round,
-    widths: Widths,
     count: usize,
     input: &[u8],
     output: &mut [u8],
@@ -223,14 +224,17 @@ pub fn convert_singles<S: Flagged, T: Flagged>(
     requires written { T.PRECISION < T.BITS }
     requires single { IsSingle (format_of S.Flagged) (layout_of S.Flagged) }
     requires target { IsTarget (format_of T.Flagged) (layout_of T.Flagged) T.MIN_EXP T.MAX_EXP }
-    requires source_width { widths.source ≡ 4 }
-    requires target_width { T.BITS ≤ 8 * widths.target }
-    requires input { length input.now ≡ count * widths.source }
-    requires output { length output.old ≡ count * widths.target }
+    requires width { T.BITS ≤ 8 * bytes_of T.BITS }
+    requires input { length input.now ≡ count * 4 }
+    requires output { length output.old ≡ count * bytes_of T.BITS }
     ensures { let c = constants_of S.Flagged in let d = constants_of T.Flagged in
-        IsBlock (IsConvertedBy overflow c d round) widths.source widths.target count
-        input.now output.new result }
+        IsBlock (IsConvertedBy overflow c d round) 4 (bytes_of T.BITS) count input.now output.new
+        result }
 {
+    let widths = Widths {
+        source: 4,
+        target: bytes_of(T::BITS),
+    };
     let plan = plan_of(target_of::<T>(), saturates(overflow), round);
     let blocks = count / BLOCK;
     let mut counts = convert_blocks::<S, T>(
@@ -244,14 +248,18 @@ pub fn convert_singles<S: Flagged, T: Flagged>(
     counts
 }
 
-/// Whether there are values of singles' width to be converted this way.
+/// Whether there are values of singles' width to be converted this way, to as many bytes as `T` takes.
 #[inline(always)]
 pub fn has_singles<S: Flagged, T: Flagged>(widths: Widths) -> bool
     requires written { T.PRECISION < T.BITS }
     ensures single { IsTrue result → IsSingle (format_of S.Flagged) (layout_of S.Flagged) }
     ensures target { IsTrue result
         → IsTarget (format_of T.Flagged) (layout_of T.Flagged) T.MIN_EXP T.MAX_EXP }
-    ensures width { IsTrue result → widths.source ≡ 4 }
+    ensures source_width { IsTrue result → widths.source ≡ 4 }
+    ensures target_width { IsTrue result → widths.target ≡ bytes_of T.BITS }
 {
-    is_single::<S>() & is_target::<T>() & (widths.source == 4)
+    is_single::<S>()
+        & is_target::<T>()
+        & (widths.source == 4)
+        & (widths.target == bytes_of(T::BITS))
 }
