@@ -210,8 +210,45 @@ fn convert_blocks<S: Flagged, T: Flagged>(
     counts
 }
 
-/// Converts `count` singles, each in its place. The widths are constants, so that the loops know how many bytes they read
-/// and write.
+/// Converts `count` singles, each in its place, by a plan.
+#[inline(always)]
+fn convert_by_plan<S: Flagged, T: Flagged>(
+    plan: Plan,
+    overflow: Overflow,
+    round: Round,
+    count: usize,
+    input: &[u8],
+    output: &mut [u8],
+) -> Counts
+    requires read { S.PRECISION < S.BITS }
+    requires written { T.PRECISION < T.BITS }
+    requires single { IsSingle (format_of S.Flagged) (layout_of S.Flagged) }
+    requires plan { IsPlanFor overflow (constants_of T.Flagged) round plan }
+    requires width { T.BITS ≤ 8 * bytes_of T.BITS }
+    requires input { length input.now ≡ count * 4 }
+    requires output { length output.old ≡ count * bytes_of T.BITS }
+    ensures { let c = constants_of S.Flagged in let d = constants_of T.Flagged in
+        IsBlock (IsConvertedBy overflow c d round) 4 (bytes_of T.BITS) count input.now output.new
+        result }
+{
+    let widths = Widths {
+        source: 4,
+        target: bytes_of(T::BITS),
+    };
+    let blocks = count / BLOCK;
+    let mut counts = convert_blocks::<S, T>(
+        plan, overflow, round, widths, blocks, count, input, output,
+    );
+    let done = blocks * BLOCK;
+    let rest = count - done;
+    let source = &input[done * widths.source..count * widths.source];
+    let target = &mut output[done * widths.target..count * widths.target];
+    counts.add(convert_one_by_one::<S, T>(overflow, round, widths, rest, source, target));
+    counts
+}
+
+/// Converts `count` singles, each in its place. The widths and the format are constants, so that the loops know how many
+/// bytes they read and write, and where a significand is cut; and so is the usual mode.
 #[inline(never)]
 pub fn convert_singles<S: Flagged, T: Flagged>(
     overflow: Overflow,
@@ -231,21 +268,18 @@ pub fn convert_singles<S: Flagged, T: Flagged>(
         IsBlock (IsConvertedBy overflow c d round) 4 (bytes_of T.BITS) count input.now output.new
         result }
 {
-    let widths = Widths {
-        source: 4,
-        target: bytes_of(T::BITS),
-    };
-    let plan = plan_of(target_of::<T>(), saturates(overflow), round);
-    let blocks = count / BLOCK;
-    let mut counts = convert_blocks::<S, T>(
-        plan, overflow, round, widths, blocks, count, input, output,
-    );
-    let done = blocks * BLOCK;
-    let rest = count - done;
-    let source = &input[done * widths.source..count * widths.source];
-    let target = &mut output[done * widths.target..count * widths.target];
-    counts.add(convert_one_by_one::<S, T>(overflow, round, widths, rest, source, target));
-    counts
+    let target = target_of::<T>();
+    let saturates = saturates(overflow);
+    match round {
+        Round::NearestTiesToEven => {
+            let plan = plan_of(target, saturates, Round::NearestTiesToEven);
+            convert_by_plan::<S, T>(plan, overflow, round, count, input, output)
+        }
+        _ => {
+            let plan = plan_of(target, saturates, round);
+            convert_by_plan::<S, T>(plan, overflow, round, count, input, output)
+        }
+    }
 }
 
 /// Whether there are values of singles' width to be converted this way, to as many bytes as `T` takes.

@@ -6,3 +6,4 @@ pub mod Answers
 pub mod Interchanges
 pub mod Reached
 pub mod Singles
+pub mod LowBits

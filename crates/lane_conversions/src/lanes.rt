@@ -12,6 +12,7 @@ ghost use Rattle.lane_conversions.specs.Sides.{IsSideOf};
 ghost use Rattle.lane_conversions.specs.Targets.{IsSingle, has_one_zero, is_ieee, largest_code, signed_code};
 
 use crate::constants::{Addend, Side, Target};
+use crate::magnitudes::{place_of, significand_of};
 use crate::plans::Plan;
 use crate::scaled::scaled;
 use crate::targets::largest_code;
@@ -120,14 +121,6 @@ fn finish(target: Target, side: Side, negative: bool, scaled: u32) -> Lane
     }
 }
 
-/// The significand of a number, with its integer bit, which denormal numbers lack.
-#[inline(always)]
-fn significand(magnitude: u32) -> u32
-    ensures { result ≡ magnitude % 2 ^ 23 + min (magnitude / 2 ^ 23) 1 * 2 ^ 23 }
-{
-    magnitude % 0x80_0000 + (magnitude / 0x80_0000).min(1) * 0x80_0000
-}
-
 /// Whether a zero of this sign loses it.
 #[inline(always)]
 fn loses_sign(target: Target, negative: bool, magnitude: u32) -> bool
@@ -147,8 +140,7 @@ pub fn convert_finite(plan: Plan, bits: u32) -> Lane
 {
     let negative = bits / 0x8000_0000 == 1;
     let magnitude = bits % 0x8000_0000;
-    let place = (magnitude / 0x80_0000).saturating_sub(1);
-    let scaled = scaled(plan.target, significand(magnitude), place);
+    let scaled = scaled(plan.target, significand_of(magnitude), place_of(magnitude));
     let side = if negative {
         plan.negative
     } else {

@@ -8,6 +8,7 @@
 
 mod constants;
 mod lanes;
+mod magnitudes;
 mod plans;
 mod scaled;
 mod sides;

@@ -20,8 +20,8 @@ returns c =
       | then-negative w ↦ rw (w.side-is, w.if-negative.true) plan.negative_is
       | else-negative w ↦ rw (w.side-is, ne_eqb (c.args.bits / 2 ^ 31) 1 w.if-negative.false) plan.positive_is
     ] in
-    let quanta : c.significand.result * 2 ^ c.saturating_sub-place.result ≡ significand_of a * 2 ^ place_of a =
-    (λ i. c.significand.ensures i * 2 ^ c.saturating_sub-place.ensures i) in
+    let quanta : c.significand_of.result * 2 ^ c.place_of.result ≡ significand_of a * 2 ^ place_of a =
+    (λ i. c.significand_of.ensures i * 2 ^ c.place_of.ensures i) in
     let reached : IsReached f c.scaled-scaled.result (significand_of a * 2 ^ place_of a * 2 ^ f.scale) (2 ^ 149) =
     subst (λ (n : ℕ). IsReached f c.scaled-scaled.result (n * 2 ^ f.scale) (2 ^ 149)) quanta
     c.scaled-scaled.ensures.reached in

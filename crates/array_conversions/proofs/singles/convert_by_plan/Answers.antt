@@ -4,7 +4,7 @@ use Rattle.rustc_apfloat.specs.FlaggedTypes.{constants_of}
 use Rattle.array_conversions.specs.Values.{IsConvertedBy}
 use Rattle.array_conversions.specs.Widths.{bytes_of}
 use Rattle.array_conversions.proofs.Joined.{block_rest, block_width, rest_size}
-use Rattle.array_conversions.proofs.singles.convert_singles.Goals as goal
+use Rattle.array_conversions.proofs.singles.convert_by_plan.Goals as goal
 
 pub convert_one_by_one-requires-clause-output : goal.convert_one_by_one-requires-clause-output
 convert_one_by_one-requires-clause-output g c =
