@@ -1,6 +1,6 @@
 -- A converted number is a converted value.
-use Rattle.std.proofs.Common.{◌≡◌, ℕ, ◌+◌, ◌*◌, ◌%◌, ◌^◌, ◌<◌, ◌≤◌, Bool, true, false, List, refl, sym, ap, ◌∙◌, subst, arith}
-use Rattle.apfloat_model.specs.bits.Layout.{Layout, datum_of, IsEncodedBy}
+use Rattle.std.proofs.Common.{◌≡◌, ℕ, Bool, true, false, List, refl, sym, subst}
+use Rattle.apfloat_model.specs.bits.Layout.{Layout}
 use Rattle.apfloat_model.specs.formats.Format.{Format}
 use Rattle.apfloat_model.specs.formats.Datum.{Datum, finite}
 use Rattle.lane_conversions.specs.declared.lanes.Lane.{Lane}
@@ -10,11 +10,10 @@ use Rattle.lane_conversions.specs.Lanes.{IsConvertedLane, finished, flags_of}
 use Rattle.rustc_apfloat.specs.Conversions.{IsConversion}
 use Rattle.rustc_apfloat.specs.Lawful.{Constants, format_with, layout_with}
 use Rattle.rustc_apfloat.specs.declared.Round.{Round}
-use Rattle.array_conversions.specs.declared.converted.Converted.{Converted}
 use Rattle.array_conversions.specs.declared.saturation.Overflow.{Overflow}
 use Rattle.array_conversions.specs.declared.saturation.Overflow.TheVariants.{Rounded, Saturated, Finite}
 use Rattle.array_conversions.specs.Bytes.{number_of}
-use Rattle.array_conversions.specs.Outcomes.{became_nan, raised}
+use Rattle.array_conversions.specs.Outcomes.{raised}
 use Rattle.array_conversions.specs.Saturation.{IsConversionBy}
 use Rattle.array_conversions.specs.Singles.{IsPlanFor, outcome_of, saturates}
 use Rattle.array_conversions.specs.Values.{IsAnswerFrom, IsConvertedBy}

@@ -1,5 +1,5 @@
 -- A block after the values that were converted before it.
-use Rattle.std.proofs.Common.{◌≡◌, ℕ, zero, suc, ◌+◌, ◌-◌, ◌*◌, ◌^◌, ◌<◌, ◌≤◌, Bool, List, [], ◌∷◌, ◌++◌, length, take, drop, if◌then◌else◌, Option, refl, sym, ap, ◌∙◌, subst, ⊎_elim, zero-add, arith}
+use Rattle.std.proofs.Common.{◌≡◌, ℕ, suc, ◌+◌, ◌-◌, ◌*◌, ◌^◌, ◌<◌, ◌≤◌, Bool, List, [], ◌∷◌, ◌++◌, length, take, drop, if◌then◌else◌, Option, refl, sym, ap, ◌∙◌, subst, ⊎_elim, zero-add, arith}
 use Rattle.std.specs.Prelude.{slice_get, slice_range, IfSome, count_by}
 use Rattle.std.proofs.Math.Nat.{min-eq_left, mul-le-mul_right, suc-mul}
 use Rattle.std.proofs.lemmas.Bool.{cases_lt}

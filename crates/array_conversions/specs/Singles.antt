@@ -1,12 +1,9 @@
 -- Blocks of singles, converted by their words.
-use Rattle.std.specs.Prelude.{◌≡◌, ℕ, ◌+◌, ◌*◌, ◌%◌, ◌^◌, ◌<◌, ◌≤◌, List, slice_index, Bool, true, false}
-use Rattle.apfloat_model.specs.bits.Layout.{Layout}
-use Rattle.apfloat_model.specs.formats.Format.{Format}
+use Rattle.std.specs.Prelude.{◌≡◌, ℕ, ◌*◌, ◌%◌, ◌^◌, ◌<◌, ◌≤◌, List, slice_index, Bool, true, false}
 use Rattle.lane_conversions.specs.declared.lanes.Lane.{Lane}
 use Rattle.lane_conversions.specs.declared.plans.Plan.{Plan}
 use Rattle.lane_conversions.specs.At.{format_at, layout_at}
-use Rattle.lane_conversions.specs.Lanes.{IsConvertedLane, flags_of}
-use Rattle.lane_conversions.specs.Targets.{IsSingle}
+use Rattle.lane_conversions.specs.Lanes.{flags_of}
 use Rattle.rustc_apfloat.specs.Lawful.{Constants, format_with, layout_with}
 use Rattle.rustc_apfloat.specs.declared.Round.{Round}
 use Rattle.array_conversions.specs.declared.counts.Counts.{Counts}
@@ -16,7 +13,6 @@ use Rattle.array_conversions.specs.declared.saturation.Overflow.{Overflow}
 use Rattle.array_conversions.specs.declared.saturation.Overflow.TheVariants.{Rounded, Saturated, Finite}
 use Rattle.array_conversions.specs.Blocks.{value_at}
 use Rattle.array_conversions.specs.Bytes.{number_of}
-use Rattle.array_conversions.specs.Outcomes.{counts_of}
 
 -- whether the largest value stands for what is past it
 abbrev pub saturates : Overflow → Bool

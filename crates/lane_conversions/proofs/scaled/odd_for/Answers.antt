@@ -1,4 +1,3 @@
-use Rattle.std.proofs.Common.{◌∙◌, ap}
 use Rattle.lane_conversions.proofs.LowBits.{or_bit}
 use Rattle.lane_conversions.proofs.scaled.odd_for.Goals as goal
 
