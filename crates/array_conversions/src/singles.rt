@@ -175,7 +175,7 @@ fn convert_block<S: Flagged, T: Flagged>(
     }
 }
 
-/// Converts the first values, in blocks of sixteen.
+/// Converts the first values of an array, in blocks of sixteen.
 #[inline(always)]
 fn convert_blocks<S: Flagged, T: Flagged>(
     plan: Plan,
@@ -282,7 +282,7 @@ pub fn convert_singles<S: Flagged, T: Flagged>(
     }
 }
 
-/// Whether there are values of singles' width to be converted this way, to as many bytes as `T` takes.
+/// Whether values of these widths are singles, and converted so to `T`, in the usual number of bytes.
 #[inline(always)]
 pub fn has_singles<S: Flagged, T: Flagged>(widths: Widths) -> bool
     requires written { T.PRECISION < T.BITS }
