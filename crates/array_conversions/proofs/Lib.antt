@@ -9,3 +9,6 @@ pub mod TabledResults
 pub mod ShortSources
 pub mod NormalNumbers
 mod FiniteValues
+pub mod ConvertedLanes
+pub mod Joined
+pub mod SingleTargets

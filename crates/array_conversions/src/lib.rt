@@ -10,9 +10,13 @@ mod conversion;
 mod converted;
 mod counts;
 mod far_numbers;
+mod few_counts;
+mod one_by_one;
 mod one_value;
 mod saturation;
 mod short_sources;
+mod single_targets;
+mod singles;
 mod tables;
 mod widths;
 

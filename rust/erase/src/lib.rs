@@ -49,6 +49,7 @@ pub const FOR_C: &[&str] = &[
     "apfloat_encoded",
     "rustc_apfloat",
     "formats_at_run_time",
+    "lane_conversions",
     "array_conversions",
     "storage_arrays",
     "packed_codes",

@@ -2,7 +2,7 @@ use Rattle.std.proofs.Common.{◌≡◌, ◌*◌, length, ◌∙◌}
 use Rattle.rustc_apfloat.specs.FlaggedTypes.{constants_of}
 use Rattle.array_conversions.specs.Values.{IsConvertedBy}
 use Rattle.array_conversions.proofs.Places.{block_none, block_more, place_size}
-use Rattle.array_conversions.proofs.blocks.convert_each.Goals as goal
+use Rattle.array_conversions.proofs.one_by_one.convert_each.Goals as goal
 
 pub loop-index-init : goal.loop-index-init
 loop-index-init g c =

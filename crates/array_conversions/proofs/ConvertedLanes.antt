@@ -1,0 +1,124 @@
+-- A converted number is a converted value.
+use Rattle.std.proofs.Common.{◌≡◌, ℕ, Bool, true, false, List, refl, sym, subst}
+use Rattle.apfloat_model.specs.bits.Layout.{Layout}
+use Rattle.apfloat_model.specs.formats.Format.{Format}
+use Rattle.apfloat_model.specs.formats.Datum.{Datum, finite}
+use Rattle.lane_conversions.specs.declared.lanes.Lane.{Lane}
+use Rattle.lane_conversions.specs.declared.plans.Plan.{Plan}
+use Rattle.lane_conversions.specs.At.{format_at, layout_at}
+use Rattle.lane_conversions.specs.Lanes.{IsConvertedLane, finished, flags_of}
+use Rattle.rustc_apfloat.specs.Conversions.{IsConversion}
+use Rattle.rustc_apfloat.specs.Lawful.{Constants, format_with, layout_with}
+use Rattle.rustc_apfloat.specs.declared.Round.{Round}
+use Rattle.array_conversions.specs.declared.saturation.Overflow.{Overflow}
+use Rattle.array_conversions.specs.declared.saturation.Overflow.TheVariants.{Rounded, Saturated, Finite}
+use Rattle.array_conversions.specs.Bytes.{number_of}
+use Rattle.array_conversions.specs.Outcomes.{raised}
+use Rattle.array_conversions.specs.Saturation.{IsConversionBy}
+use Rattle.array_conversions.specs.Singles.{IsPlanFor, outcome_of, saturates}
+use Rattle.array_conversions.specs.Values.{IsAnswerFrom, IsConvertedBy}
+use Rattle.array_conversions.proofs.ConversionsBy.{converted_from}
+
+-- a finite number's conversion, with any treatment of overflow
+finished_by : (overflow : Overflow) (f g : Format) (mode : Round) (negative : Bool) (quanta : ℕ) (rounded : Datum)
+    (status : ℕ) (loses : Bool) → IsConversion f g mode (finite negative quanta) rounded status loses
+    → IsConversionBy overflow f g mode (finite negative quanta)
+    (finished (saturates overflow) g negative rounded) status
+    loses
+finished_by Rounded f g mode negative quanta rounded status loses it = it
+finished_by Saturated f g mode negative quanta rounded status loses it =
+    record { rounded = rounded; is_conversion = it; value_is = refl }
+finished_by (Finite nans) f g mode negative quanta rounded status loses it =
+    record { rounded = rounded; is_conversion = it; value_is = refl }
+
+pub lane_answers : (overflow : Overflow) (c d : Constants) (mode : Round) (bits : ℕ) (lane : Lane)
+    → IsConvertedLane (saturates overflow) (format_with c) (layout_with c) (format_with d)
+    (layout_with d) mode bits lane
+    → IsAnswerFrom overflow c d mode bits (record { bits = lane.bits; outcome = outcome_of lane })
+lane_answers overflow c d mode bits lane it =
+    record {
+      value = finished (saturates overflow) (format_with d) it.negative it.rounded;
+      loses = it.loses;
+      is_conversion =
+          subst
+          (λ (x : Datum). IsConversionBy overflow (format_with c) (format_with d) mode x
+          (finished (saturates overflow) (format_with d) it.negative it.rounded) (flags_of lane) it.loses)
+          (sym it.number)
+          (finished_by overflow (format_with c) (format_with d) mode it.negative it.quanta it.rounded (flags_of lane)
+          it.loses it.is_conversion);
+      is_encoded = it.is_encoded;
+      nan_is = it.nan_is;
+    }
+
+-- by the plan
+pub plan_answers : (overflow : Overflow) (c d : Constants) (mode : Round) (plan : Plan) (input output : List ℕ)
+    (bits : ℕ) (lane : Lane) → IsPlanFor overflow d mode plan → bits ≡ number_of input
+    → number_of output ≡ lane.bits
+    → IsConvertedLane plan.saturates (format_with c) (layout_with c) (format_at plan.target) (layout_at plan.target)
+    plan.round bits lane
+    → IsConvertedBy overflow c d mode input output (outcome_of lane)
+plan_answers overflow c d mode plan input output bits lane is read written it =
+    let there : IsConvertedLane (saturates overflow) (format_with c) (layout_with c) (format_with d)
+    (layout_with d) mode
+    (number_of input) lane =
+    subst (λ (n : ℕ). IsConvertedLane (saturates overflow) (format_with c) (layout_with c) (format_with d)
+    (layout_with d)
+    mode n lane) read
+    (subst (λ (r : Round). IsConvertedLane (saturates overflow) (format_with c) (layout_with c) (format_with d)
+    (layout_with d) r bits lane) is.round
+    (subst (λ (b : Bool). IsConvertedLane b (format_with c) (layout_with c) (format_with d) (layout_with d) plan.round
+    bits lane) is.saturates_is
+    (subst (λ (l : Layout). IsConvertedLane plan.saturates (format_with c) (layout_with c) (format_with d) l plan.round
+    bits lane) is.layout
+    (subst (λ (f : Format). IsConvertedLane plan.saturates (format_with c) (layout_with c) f (layout_at plan.target)
+    plan.round bits lane) is.format it)))) in
+    converted_from overflow c d mode input output (record { bits = lane.bits; outcome = outcome_of lane })
+    (lane_answers overflow c d mode (number_of input) lane there) written
+
+-- ---- counts
+
+-- the flags of a lane, by its parts
+pub record AreCounted (lane : Lane) : Type 0 where
+  pub inexact : raised 16 (outcome_of lane) ≡ lane.inexact
+  pub underflow : raised 8 (outcome_of lane) ≡ lane.underflow
+  pub overflow : raised 4 (outcome_of lane) ≡ lane.overflow
+  pub invalid : raised 1 (outcome_of lane) ≡ false
+
+abbrev pub lane_with : ℕ → Bool → Bool → Bool → Bool → Lane
+lane_with bits inexact underflow overflow is_nan =
+    record { bits = bits; inexact = inexact; underflow = underflow; overflow = overflow; is_nan = is_nan }
+
+flags_counted : (bits : ℕ) (inexact underflow overflow is_nan : Bool)
+    → AreCounted (lane_with bits inexact underflow overflow is_nan)
+flags_counted bits true true true is_nan = record { inexact = refl; underflow = refl; overflow = refl; invalid = refl }
+flags_counted bits true true false is_nan = record { inexact = refl; underflow = refl; overflow = refl; invalid = refl }
+flags_counted bits true false true is_nan = record { inexact = refl; underflow = refl; overflow = refl; invalid = refl }
+flags_counted bits true false false is_nan = record {
+  inexact = refl;
+  underflow = refl;
+  overflow = refl;
+  invalid = refl;
+}
+flags_counted bits false true true is_nan = record { inexact = refl; underflow = refl; overflow = refl; invalid = refl }
+flags_counted bits false true false is_nan = record {
+  inexact = refl;
+  underflow = refl;
+  overflow = refl;
+  invalid = refl;
+}
+flags_counted bits false false true is_nan = record {
+  inexact = refl;
+  underflow = refl;
+  overflow = refl;
+  invalid = refl;
+}
+flags_counted bits false false false is_nan = record {
+  inexact = refl;
+  underflow = refl;
+  overflow = refl;
+  invalid =
+      refl;
+}
+
+pub lane_counted : (lane : Lane) → AreCounted lane
+lane_counted lane = flags_counted lane.bits lane.inexact lane.underflow lane.overflow lane.is_nan

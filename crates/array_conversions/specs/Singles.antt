@@ -1,0 +1,59 @@
+-- Blocks of singles, converted by their words.
+use Rattle.std.specs.Prelude.{◌≡◌, ℕ, ◌*◌, ◌%◌, ◌^◌, ◌<◌, ◌≤◌, List, slice_index, Bool, true, false}
+use Rattle.lane_conversions.specs.declared.lanes.Lane.{Lane}
+use Rattle.lane_conversions.specs.declared.plans.Plan.{Plan}
+use Rattle.lane_conversions.specs.At.{format_at, layout_at}
+use Rattle.lane_conversions.specs.Lanes.{flags_of}
+use Rattle.rustc_apfloat.specs.Lawful.{Constants, format_with, layout_with}
+use Rattle.rustc_apfloat.specs.declared.Round.{Round}
+use Rattle.array_conversions.specs.declared.counts.Counts.{Counts}
+use Rattle.array_conversions.specs.declared.counts.Outcome.{Outcome}
+use Rattle.array_conversions.specs.declared.few_counts.FewCounts.{FewCounts}
+use Rattle.array_conversions.specs.declared.saturation.Overflow.{Overflow}
+use Rattle.array_conversions.specs.declared.saturation.Overflow.TheVariants.{Rounded, Saturated, Finite}
+use Rattle.array_conversions.specs.Blocks.{value_at}
+use Rattle.array_conversions.specs.Bytes.{number_of}
+
+-- whether the largest value stands for what is past it
+abbrev pub saturates : Overflow → Bool
+saturates Rounded = false
+saturates Saturated = true
+saturates (Finite nans) = true
+
+-- the plan is that of conversions to the format
+pub record IsPlanFor (overflow : Overflow) (d : Constants) (mode : Round) (plan : Plan) : Type 0 where
+  pub format : format_at plan.target ≡ format_with d
+  pub layout : layout_at plan.target ≡ layout_with d
+  pub saturates_is : plan.saturates ≡ saturates overflow
+  pub round : plan.round ≡ mode
+
+-- the number of values and the counts of a block without infinities and NaNs
+abbrev pub counts_with : FewCounts → ℕ → Counts
+counts_with few values =
+    record {
+      values = values;
+      inexact = few.inexact;
+      underflow = few.underflow;
+      overflow = few.overflow;
+      invalid = 0;
+      nans = few.nans;
+    }
+
+abbrev pub outcome_of : Lane → Outcome
+outcome_of lane = record { status = record { 0 = flags_of lane }; is_nan = lane.is_nan }
+
+-- each count is at most that
+pub record AreAtMost (most : ℕ) (few : FewCounts) : Type 0 where
+  pub inexact : few.inexact ≤ most
+  pub underflow : few.underflow ≤ most
+  pub overflow : few.overflow ≤ most
+  pub nans : few.nans ≤ most
+
+-- the words are those of the bytes
+abbrev pub AreWordsOf : List ℕ → List ℕ → Type 0
+AreWordsOf words bytes =
+    (index : ℕ) → index < 16 → slice_index words index ≡ number_of (value_at 4 index bytes)
+
+-- none of the words is that of an infinity or a NaN
+abbrev pub AreFinite : List ℕ → Type 0
+AreFinite words = (index : ℕ) → index < 16 → slice_index words index % 2 ^ 31 < 255 * 2 ^ 23

@@ -1,0 +1,232 @@
+-- A single's significand at its place is scaled to a target.
+use Rattle.std.proofs.Common.{◌≡◌, ℕ, ◌+◌, ◌-◌, ◌*◌, ◌/◌, ◌%◌, ◌^◌, ◌<◌, ◌≤◌, ◌⊎◌, min, refl, sym, ap, ◌∙◌, subst, inl, inr, ⊎_elim, arith, ℤ, pos, ◌+ℤ◌, ◌-ℤ◌}
+use Rattle.std.proofs.Math.Nat.{min-eq_left, min-eq_right, mod-eq_of_lt, mul-le-mul_left, mul-le-mul_right, pow-le-pow_right, zero-div, zero-mod}
+use Rattle.std.proofs.lemmas.Int.{ints}
+use Rattle.std.proofs.lemmas.Nat.{pow-add, pow_pos}
+use Rattle.std.proofs.lemmas.Bool.{cases_lt}
+use Rattle.apfloat_model.specs.bits.Layout.{Layout}
+use Rattle.apfloat_model.specs.declared.loss.Loss.TheVariants.{ExactlyZero}
+use Rattle.apfloat_model.specs.formats.Format.{Format}
+use Rattle.apfloat_model.specs.rounding.RoundingToOdd.{odd_quotient}
+use Rattle.apfloat_model.specs.rounding.Standing.{StandsFor}
+use Rattle.apfloat_model.proofs.general.Powers.{pow3, two_pos}
+use Rattle.apfloat_model.proofs.rounding.KeptDigits.{enclosed_from}
+use Rattle.lane_conversions.specs.Scaled.{IsPast, IsReached, IsScaled}
+use Rattle.lane_conversions.specs.Targets.{IsTarget}
+use Rattle.lane_conversions.proofs.Cuts.{exact_odd}
+use Rattle.lane_conversions.proofs.Interchanges.{places_below}
+use Rattle.lane_conversions.proofs.ScaledNumbers.{odd_below, scaled_stands}
+
+-- zero is scaled to zero
+zero_scaled : (precision parts : ℕ) → 0 < precision → 0 < parts → IsScaled precision 16 0 0 parts
+zero_scaled precision parts some any =
+    let stands : StandsFor 0 ExactlyZero 0 (2 ^ 0 * parts) = omega arith in
+    record {
+      place = 0;
+      kept = 0;
+      code = omega arith;
+      fits = pow_pos precision;
+      full = inl refl;
+      enclosed = enclosed_from precision 0 0 ExactlyZero 0 parts some any (pow_pos precision) (inl refl) stands;
+      stands = stands;
+    }
+
+-- a significand with all digits, past all places
+past_at : (f : Format) (m e first : ℕ) → f.precision ≤ 24 → 149 ≡ f.scale + (24 - f.precision) + first
+    → 2 ^ 23 ≤ m
+    → first + (f.span + 1) ≤ e → IsPast f (m * 2 ^ e * 2 ^ f.scale) (2 ^ 149)
+past_at f m e first digits scales full far =
+    let low : 2 ^ (23 + e + f.scale) ≡ 2 ^ 23 * 2 ^ e * 2 ^ f.scale = pow3 23 e f.scale in
+    let placed : 2 ^ 23 * 2 ^ e * 2 ^ f.scale ≤ m * 2 ^ e * 2 ^ f.scale =
+    mul-le-mul_right (2 ^ f.scale) (mul-le-mul_right (2 ^ e) full) in
+    let room : f.precision + f.span + 149 ≤ 23 + e + f.scale = omega (arith, digits, scales, far) in
+    let least : 2 ^ (f.precision + f.span + 149) ≤ 2 ^ (23 + e + f.scale) = pow-le-pow_right two_pos room in
+    let power : 2 ^ (f.precision + f.span + 149) ≡ 2 ^ (f.precision + f.span) * 2 ^ 149 =
+    pow-add 2 (f.precision + f.span) 149 in
+    record { some = pow_pos 149; from = omega (arith, low, placed, least, power) }
+
+-- the steps, without wrapping around
+steps : Format → ℕ → ℕ → ℕ → ℕ
+steps f first m place =
+    odd_quotient m (2 ^ (20 - f.precision)) * 2 ^ (12 - (first - place))
+    + min (place - first) (f.span + 1) * 2 ^ (f.precision + 15)
+
+-- a nonzero significand at a place that is not past the first one past all values
+near_reached : (f : Format) (m place first : ℕ) → 3 ≤ f.precision → f.precision ≤ 11
+    → 149 ≡ f.scale + (24 - f.precision) + first → 0 < m → m < 2 ^ 24 → (place ≡ 0) ⊎ (2 ^ 23 ≤ m)
+    → IsScaled f.precision 16
+    (odd_quotient m (2 ^ (20 - f.precision)) * 2 ^ (12 - (first - place)) + (place - first) * 2 ^ (f.precision + 15))
+    (m * 2 ^ place * 2 ^ f.scale) (2 ^ 149)
+near_reached f m place first precise digits scales some fits full =
+    let p = f.precision in
+    let cut : p + 4 + (20 - p) ≡ 24 = omega (arith, digits) in
+    let cut_full : p + 3 + (20 - p) ≡ 23 = omega (arith, digits) in
+    let up : 16 - 4 - (first - place) ≡ 12 - (first - place) = refl in
+    let unit : p - 1 + 16 ≡ p + 15 = omega (arith, precise) in
+    subst
+    (λ (n : ℕ). IsScaled p 16
+    (odd_quotient m (2 ^ (20 - p)) * 2 ^ (12 - (first - place)) + (place - first) * 2 ^ n)
+    (m * 2 ^ place * 2 ^ f.scale) (2 ^ 149)) unit
+    (scaled_stands p (20 - p) 16 first place f.scale 149 m precise (omega (arith, digits))
+    (omega (arith, scales, digits)) some (subst (λ (n : ℕ). m < 2 ^ n) (sym cut) fits)
+    (subst (λ (n : ℕ). (place ≡ 0) ⊎ (2 ^ n ≤ m)) (sym cut_full) full))
+
+some_reached : (f : Format) (m place first : ℕ) → 3 ≤ f.precision → f.precision ≤ 11
+    → 149 ≡ f.scale + (24 - f.precision) + first → 0 < m → m < 2 ^ 24 → (place ≡ 0) ⊎ (2 ^ 23 ≤ m)
+    → IsReached f (steps f first m place) (m * 2 ^ place * 2 ^ f.scale) (2 ^ 149)
+unfolding steps
+some_reached f m place first precise digits scales some fits full =
+    let p = f.precision in
+    let last = first + (f.span + 1) in
+    let odd = odd_quotient m (2 ^ (20 - p)) in
+    ⊎_elim {C = IsReached f (steps f first m place) (m * 2 ^ place * 2 ^ f.scale) (2 ^ 149)}
+    (λ (far : last < place).
+    let digits_full : 2 ^ 23 ≤ m =
+    ⊎_elim (λ (z : place ≡ 0). absurd (omega (arith, z, far))) (λ (h : 2 ^ 23 ≤ m). h) full in
+    let capped : last - first ≡ min (place - first) (f.span + 1) =
+    let over : f.span + 1 ≤ place - first = omega (arith, far) in
+    let is = min-eq_right over in omega (arith, is) in
+    let down : first - last ≡ first - place = omega (arith, far) in
+    let at : IsScaled p 16 (odd * 2 ^ (12 - (first - last)) + (last - first) * 2 ^ (p + 15))
+    (m * 2 ^ last * 2 ^ f.scale) (2 ^ 149) =
+    near_reached f m last first precise digits scales some fits (inr digits_full) in
+    record {
+      reached = m * 2 ^ last * 2 ^ f.scale;
+      scaled =
+          subst (λ (n : ℕ). IsScaled p 16 (odd * 2 ^ (12 - n) + min (place - first) (f.span + 1) * 2 ^ (p + 15))
+          (m * 2 ^ last * 2 ^ f.scale) (2 ^ 149)) down
+          (subst (λ (n : ℕ). IsScaled p 16 (odd * 2 ^ (12 - (first - last)) + n * 2 ^ (p + 15))
+          (m * 2 ^ last * 2 ^ f.scale) (2 ^ 149)) capped at);
+      alike = inr (
+        past_at f m last first (omega (arith, digits)) scales digits_full (omega arith),
+        past_at f m place first (omega (arith, digits)) scales digits_full (omega (arith, far)),
+      );
+    })
+    (λ (near : place ≤ last).
+    let same : place - first ≡ min (place - first) (f.span + 1) =
+    let under : place - first ≤ f.span + 1 = omega (arith, near) in sym (min-eq_left under) in
+    record {
+      reached = m * 2 ^ place * 2 ^ f.scale;
+      scaled =
+          subst (λ (n : ℕ). IsScaled p 16 (odd * 2 ^ (12 - (first - place)) + n * 2 ^ (p + 15))
+          (m * 2 ^ place * 2 ^ f.scale) (2 ^ 149)) same
+          (near_reached f m place first precise digits scales some fits full);
+      alike = inl refl;
+    })
+    (cases_lt last place)
+
+zero_reached : (f : Format) (m place first : ℕ) → 3 ≤ f.precision → m ≡ 0 → place ≡ 0
+    → IsReached f (steps f first m place) (m * 2 ^ place * 2 ^ f.scale) (2 ^ 149)
+unfolding steps
+zero_reached f m place first precise none last =
+    let p = f.precision in
+    let quotient : 0 / 2 ^ (20 - p) ≡ 0 = zero-div (2 ^ (20 - p)) in
+    let rest : 0 % 2 ^ (20 - p) ≡ 0 = zero-mod (2 ^ (20 - p)) in
+    let odd : odd_quotient m (2 ^ (20 - p)) ≡ 0 =
+    ap (λ (n : ℕ). odd_quotient n (2 ^ (20 - p))) none
+    ∙ exact_odd (0 / 2 ^ (20 - p)) (0 % 2 ^ (20 - p)) rest ∙ quotient in
+    let above : min (place - first) (f.span + 1) ≡ 0 =
+    let is : place - first ≡ 0 = omega (arith, last) in
+    ap (λ (n : ℕ). min n (f.span + 1)) is ∙ min-eq_left (let least : 0 ≤ f.span + 1 = omega arith in least) in
+    let left : odd_quotient m (2 ^ (20 - p)) * 2 ^ (12 - (first - place)) ≡ 0 * 2 ^ (12 - (first - place)) =
+    ap (λ (n : ℕ). n * 2 ^ (12 - (first - place))) odd in
+    let right : min (place - first) (f.span + 1) * 2 ^ (p + 15) ≡ 0 * 2 ^ (p + 15) =
+    ap (λ (n : ℕ). n * 2 ^ (p + 15)) above in
+    let sum : 0 ≡ steps f first m place = omega (arith, left, right) in
+    let placed : m * 2 ^ place ≡ 0 * 2 ^ place = ap (λ (n : ℕ). n * 2 ^ place) none in
+    let amount : m * 2 ^ place * 2 ^ f.scale ≡ 0 * 2 ^ place * 2 ^ f.scale = ap
+    (λ (n : ℕ). n * 2 ^ f.scale) placed in
+    record {
+      reached = 0;
+      scaled =
+          subst (λ (n : ℕ). IsScaled p 16 n 0 (2 ^ 149)) sum
+          (zero_scaled p (2 ^ 149) (omega (arith, precise)) (pow_pos 149));
+      alike = inl (omega (arith, amount));
+    }
+
+-- the steps stay in a word
+steps_below : (f : Format) (layout : Layout) (min_exp max_exp : ℤ) (m place first : ℕ)
+    → IsTarget f layout min_exp max_exp → m < 2 ^ 24
+    → (odd_quotient m (2 ^ (20 - f.precision)) * 2 ^ (12 - (first - place)) ≤ 2 ^ 27)
+    × (min (place - first) (f.span + 1) * 2 ^ (f.precision + 15) ≤ 2 ^ 31)
+steps_below f layout min_exp max_exp m place first is fits =
+    let p = f.precision in
+    let precise = is.precise in
+    let digits = is.digits in
+    let odd = odd_quotient m (2 ^ (20 - p)) in
+    let cut : 1 + (p + 3) + (20 - p) ≡ 24 = omega (arith, digits) in
+    let parts : 2 ^ (1 + (p + 3) + (20 - p)) ≡ 2 ^ 1 * 2 ^ (p + 3) * 2 ^ (20 - p) = pow3 1 (p + 3) (20 - p) in
+    let below : m < 2 * 2 ^ (p + 3) * 2 ^ (20 - p) =
+    subst (λ (n : ℕ). m < n) (ap (λ (n : ℕ). 2 ^ n) (sym cut) ∙ parts) fits in
+    let odd_fits : odd < 2 * 2 ^ (p + 3) = odd_below m (2 ^ (20 - p)) (2 ^ (p + 3)) (pow_pos (20 - p)) below in
+    let short : p + 3 ≤ 14 = omega (arith, digits) in
+    let few : 2 ^ (p + 3) ≤ 2 ^ 14 = pow-le-pow_right two_pos short in
+    let odd_most : odd ≤ 2 ^ 15 = omega (arith, odd_fits, few) in
+    let up_most : 12 - (first - place) ≤ 12 = omega arith in
+    let up : 2 ^ (12 - (first - place)) ≤ 2 ^ 12 = pow-le-pow_right two_pos up_most in
+    let left : odd * 2 ^ (12 - (first - place)) ≤ 2 ^ 15 * 2 ^ (12 - (first - place)) =
+    mul-le-mul_right (2 ^ (12 - (first - place))) odd_most in
+    let left_most : 2 ^ 15 * 2 ^ (12 - (first - place)) ≤ 2 ^ 15 * 2 ^ 12 = mul-le-mul_left (2 ^ 15) up in
+    let places = places_below f layout min_exp max_exp is in
+    let above : min (place - first) (f.span + 1) ≤ f.span + 2 =
+    ⊎_elim {C = min (place - first) (f.span + 1) ≤ f.span + 2}
+    (λ (l : place - first < f.span + 1).
+    let le : place - first ≤ f.span + 1 = omega (arith, l) in
+    let e = min-eq_left le in omega (arith, e, l))
+    (λ (l : f.span + 1 ≤ place - first). let e = min-eq_right l in omega (arith, e))
+    (cases_lt (place - first) (f.span + 1)) in
+    let unit : p - 1 + 16 ≡ p + 15 = omega (arith, precise) in
+    let power : 2 ^ (p + 15) ≡ 2 ^ (p - 1) * 2 ^ 16 = ap (λ (n : ℕ). 2 ^ n) (sym unit) ∙ pow-add 2 (p - 1) 16 in
+    let right : min (place - first) (f.span + 1) * 2 ^ (p + 15) ≤ (f.span + 2) * 2 ^ (p + 15) =
+    mul-le-mul_right (2 ^ (p + 15)) above in
+    let moved : (f.span + 2) * 2 ^ (p + 15) ≡ (f.span + 2) * 2 ^ (p - 1) * 2 ^ 16 =
+    ap (λ (n : ℕ). (f.span + 2) * n) power ∙ omega arith in
+    let most : (f.span + 2) * 2 ^ (p - 1) * 2 ^ 16 ≤ 2 ^ 15 * 2 ^ 16 = mul-le-mul_right (2 ^ 16) places in
+    (omega (arith, left, left_most), omega (arith, right, moved, most))
+
+-- the scales balance
+balance : (precision scale first : ℕ) (min_exp : ℤ) → 3 ≤ precision → precision ≤ 11
+    → pos scale ≡ pos (precision - 1) -ℤ min_exp → pos first ≡ (min_exp +ℤ pos 126)
+    → 149 ≡ scale + (24 - precision) + first
+balance precision scale first min_exp precise digits there is = omega (arith, ints, precise, digits, there, is)
+
+-- what the code computes
+pub record AreSteps (f : Format) (t m place : ℕ) : Type 0 where
+  pub reached : IsReached f t (m * 2 ^ place * 2 ^ f.scale) (2 ^ 149)
+  pub below : t + 2 ^ 17 < 2 ^ 32
+
+pub steps_are : (f : Format) (layout : Layout) (min_exp max_exp : ℤ) (m place first places odd above up : ℕ)
+    → IsTarget f layout min_exp max_exp → pos f.scale ≡ pos (f.precision - 1) -ℤ min_exp
+    → m < 2 ^ 24 → (place ≡ 0) ⊎ (2 ^ 23 ≤ m) → pos first ≡ (min_exp +ℤ pos 126)
+    → places ≡ f.span + 1
+    → odd ≡ odd_quotient m (2 ^ (20 - f.precision)) → above ≡ min (place - first) places
+    → up ≡ 12 - (first - place)
+    → AreSteps f (odd * 2 ^ up % 4294967296 + above * 2 ^ (f.precision + 15) % 4294967296) m place
+unfolding steps
+steps_are f layout min_exp max_exp m place first places odd above up is scale fits full first_is places_is odd_is
+    above_is up_is =
+    let p = f.precision in
+    let scales = balance p f.scale first min_exp is.precise is.digits scale first_is in
+    let below = steps_below f layout min_exp max_exp m place first is fits in
+    let left_is : odd * 2 ^ up ≡ odd_quotient m (2 ^ (20 - p)) * 2 ^ (12 - (first - place)) =
+    (λ i. odd_is i * 2 ^ up_is i) in
+    let right_is : above * 2 ^ (p + 15) ≡ min (place - first) (f.span + 1) * 2 ^ (p + 15) =
+    ap (λ (n : ℕ). n * 2 ^ (p + 15)) (above_is ∙ ap (min (place - first)) places_is) in
+    let left : odd * 2 ^ up % 4294967296 ≡ odd * 2 ^ up = mod-eq_of_lt (omega (arith, left_is, below.0)) in
+    let right : above * 2 ^ (p + 15) % 4294967296 ≡ above * 2 ^ (p + 15) =
+    mod-eq_of_lt (omega (arith, right_is, below.1)) in
+    let sum : steps f first m place ≡ odd * 2 ^ up % 4294967296 + above * 2 ^ (p + 15) % 4294967296 =
+    omega (arith, left, right, left_is, right_is) in
+    let it : IsReached f (steps f first m place) (m * 2 ^ place * 2 ^ f.scale) (2 ^ 149) =
+    ⊎_elim {C = IsReached f (steps f first m place) (m * 2 ^ place * 2 ^ f.scale) (2 ^ 149)}
+    (λ (z : m < 1).
+    let none : m ≡ 0 = omega (arith, z) in
+    let last : place ≡ 0 =
+    ⊎_elim (λ (e : place ≡ 0). e) (λ (h : 2 ^ 23 ≤ m). absurd (omega (arith, h, z))) full in
+    zero_reached f m place first is.precise none last)
+    (λ (some : 1 ≤ m). some_reached f m place first is.precise is.digits scales some fits full)
+    (cases_lt m 1) in
+    record {
+      reached = subst (λ (n : ℕ). IsReached f n (m * 2 ^ place * 2 ^ f.scale) (2 ^ 149)) sum it;
+      below = omega (arith, left, right, left_is, right_is, below.0, below.1);
+    }

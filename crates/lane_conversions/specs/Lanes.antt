@@ -1,0 +1,43 @@
+-- One number, from bits to bits.
+use Rattle.std.specs.Prelude.{◌≡◌, ℕ, ◌+◌, Bool, not, ◌&&◌, if◌then◌else◌}
+use Rattle.apfloat_model.specs.arithmetic.Conversions.{IsConversion}
+use Rattle.apfloat_model.specs.bits.Layout.{IsEncodedBy, Layout, datum_of}
+use Rattle.apfloat_model.specs.declared.kinds.Round.{Round}
+use Rattle.apfloat_model.specs.order.Classes.{is_finite, is_nan}
+use Rattle.apfloat_model.specs.formats.Datum.{Datum, finite}
+use Rattle.apfloat_model.specs.formats.Format.{Format, largest}
+use Rattle.apfloat_model.specs.rounding.Rounding.{IsDelivered, inexact_bit, overflow_bit, underflow_bit}
+use Rattle.lane_conversions.specs.declared.lanes.Lane.{Lane}
+
+abbrev pub flag_if : ℕ → Bool → ℕ
+flag_if flag holds = if holds then flag else 0
+
+-- the flags, as bits
+abbrev pub flags_of : Lane → ℕ
+flags_of lane =
+    flag_if inexact_bit lane.inexact + flag_if underflow_bit lane.underflow + flag_if overflow_bit lane.overflow
+
+-- what a number becomes that is rounded to that datum, where conversions may saturate
+abbrev pub finished : Bool → Format → Bool → Datum → Datum
+finished saturates f negative rounded =
+    if saturates && not (is_finite rounded) then finite negative (largest f) else rounded
+
+-- the bits, the flags and the outcome are those of the magnitude amount / parts quanta with that sign, rounded once
+pub record IsRounded (saturates : Bool) (f : Format) (layout : Layout) (mode : Round) (negative : Bool)
+    (amount parts : ℕ) (lane : Lane) : Type 0 where
+  pub rounded : Datum
+  pub is_delivered : IsDelivered f mode negative amount parts rounded (flags_of lane)
+  pub is_encoded : IsEncodedBy f layout lane.bits (finished saturates f negative rounded)
+  pub nan_is : lane.is_nan ≡ is_nan (finished saturates f negative rounded)
+
+-- the bits encode a number of one format, and the lane is its conversion to the other
+pub record IsConvertedLane (saturates : Bool) (from : Format) (read : Layout) (f : Format) (layout : Layout)
+    (mode : Round) (bits : ℕ) (lane : Lane) : Type 0 where
+  pub negative : Bool
+  pub quanta : ℕ
+  pub number : datum_of from read bits ≡ finite negative quanta
+  pub rounded : Datum
+  pub loses : Bool
+  pub is_conversion : IsConversion from f mode (finite negative quanta) rounded (flags_of lane) loses
+  pub is_encoded : IsEncodedBy f layout lane.bits (finished saturates f negative rounded)
+  pub nan_is : lane.is_nan ≡ is_nan (finished saturates f negative rounded)

@@ -1,0 +1,5 @@
+pub mod Targets
+pub mod At
+pub mod Scaled
+pub mod Sides
+pub mod Lanes

@@ -1,0 +1,32 @@
+-- The constants by which numbers of one sign are rounded and delivered.
+use Rattle.std.specs.Prelude.{◌≡◌, ℕ, ◌+◌, ◌/◌, ◌%◌, ◌^◌, Bool, not, ◌&&◌, eqb, if◌then◌else◌}
+use Rattle.std.specs.Int.RustNames.{bit_and}
+use Rattle.apfloat_model.specs.declared.kinds.Round.{Round}
+use Rattle.apfloat_model.specs.formats.Format.{Format}
+use Rattle.apfloat_model.specs.rounding.Enclosure.{rounds_up}
+use Rattle.apfloat_model.specs.rounding.Rounding.{leads_out, raises_overflow}
+use Rattle.apfloat_rounding.specs.Cuts.{loss_at}
+use Rattle.lane_conversions.specs.declared.constants.Addend.{Addend}
+use Rattle.lane_conversions.specs.declared.constants.Side.{Side}
+use Rattle.lane_conversions.specs.Targets.{largest_code}
+
+-- a number of 65536ths, rounded to a whole number
+abbrev pub rounded_by : Round → Bool → ℕ → ℕ
+rounded_by mode negative t =
+    if rounds_up mode negative (loss_at (t % 2 ^ 16) (2 ^ 15)) (eqb (t / 2 ^ 16 % 2) 1) then t / 2 ^ 16 + 1
+    else t / 2 ^ 16
+
+-- what is added carries into the whole number exactly if the mode rounds up
+pub record IsAddendOf (mode : Round) (negative : Bool) (addend : Addend) : Type 0 where
+  pub rounds : (t : ℕ) → (t + (addend.always + bit_and (t / 2 ^ 16) addend.if_odd)) / 2 ^ 16
+      ≡ rounded_by mode negative t
+
+-- the greatest encoding that is delivered
+abbrev pub greatest_code : Bool → Format → Round → Bool → ℕ
+greatest_code saturates f mode negative =
+    if leads_out mode negative && not saturates then largest_code f + 1 else largest_code f
+
+pub record IsSideOf (saturates : Bool) (f : Format) (mode : Round) (negative : Bool) (side : Side) : Type 0 where
+  pub addend : IsAddendOf mode negative side.addend
+  pub greatest : side.greatest ≡ greatest_code saturates f mode negative
+  pub raises : side.raises ≡ raises_overflow f mode negative

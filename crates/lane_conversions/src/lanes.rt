@@ -1,0 +1,154 @@
+//! One number, from bits to bits.
+
+ghost use Rattle.std.specs.Prelude.{◌≡◌, ◌⊎◌, ℕ, ◌+◌, ◌-◌, ◌*◌, ◌/◌, ◌%◌, ◌^◌, ◌<◌, ◌≤◌, min, Bool, not, ◌&&◌, nat_eq, ltb, leb, if◌then◌else◌};
+ghost use Rattle.std.specs.Int.RustNames.{bit_and};
+ghost use Rattle.apfloat_model.specs.declared.kinds.Round.{Round as Mode};
+ghost use Rattle.apfloat_model.specs.bits.Layout.{Layout};
+ghost use Rattle.apfloat_model.specs.formats.Format.{Format};
+ghost use Rattle.lane_conversions.specs.At.{format_at, layout_at};
+ghost use Rattle.lane_conversions.specs.Lanes.{IsConvertedLane, IsRounded};
+ghost use Rattle.lane_conversions.specs.Scaled.{IsReached};
+ghost use Rattle.lane_conversions.specs.Sides.{IsSideOf};
+ghost use Rattle.lane_conversions.specs.Targets.{IsSingle, has_one_zero, is_ieee, largest_code, signed_code};
+
+use crate::constants::{Addend, Side, Target};
+use crate::magnitudes::{place_of, significand_of};
+use crate::plans::Plan;
+use crate::scaled::scaled;
+use crate::targets::largest_code;
+use apfloat_model::NonfiniteBehavior;
+
+/// A converted number.
+#[derive(Clone, Copy)]
+pub struct Lane {
+    /// The bits of its encoding.
+    pub bits: u32,
+    /// Whether it raised `INEXACT`.
+    pub inexact: bool,
+    /// Whether it raised `UNDERFLOW`.
+    pub underflow: bool,
+    /// Whether it raised `OVERFLOW`.
+    pub overflow: bool,
+    /// Whether it became a NaN.
+    pub is_nan: bool,
+}
+
+/// Whether the bits of a single encode a number.
+#[inline(always)]
+pub fn is_finite(bits: u32) -> bool
+    ensures { result ≡ ltb (bits % 2 ^ 31) (255 * 2 ^ 23) }
+{
+    bits % 0x8000_0000 < 0x7f80_0000
+}
+
+/// The encoding that a number is rounded to, as if exponents went on past the greatest one.
+#[inline(always)]
+fn rounded(addend: Addend, scaled: u32) -> u32
+    requires { scaled + 2 ^ 17 < 2 ^ 32 }
+    ensures { result
+        ≡ (scaled + (addend.always + bit_and (scaled / 2 ^ 16) addend.if_odd)) / 2 ^ 16 }
+{
+    (scaled + (addend.always + (scaled / 0x1_0000 & addend.if_odd))) / 0x1_0000
+}
+
+/// Whether an encoding without its sign is past that of the largest value.
+#[inline(always)]
+fn is_past(target: Target, code: u32) -> bool
+    ensures { result ≡ ltb (largest_code (format_at target)) code }
+{
+    code > largest_code(target)
+}
+
+/// Whether a result is not tiny: by the digits that are kept, or by its encoding.
+#[inline(always)]
+fn is_normal(target: Target, kept: u32, rounded: u32) -> bool
+    ensures { result ≡ (if target.tiny_before_rounding then leb (2 ^ (target.precision - 1)) kept
+        else leb (2 ^ (target.precision - 1)) rounded) }
+{
+    let normal = 1 << (target.precision - 1);
+    if target.tiny_before_rounding {
+        kept >= normal
+    } else {
+        rounded >= normal
+    }
+}
+
+/// Whether an encoding without its sign is that of a NaN.
+#[inline(always)]
+fn is_nan_code(target: Target, code: u32) -> bool
+    ensures { result ≡ (not (is_ieee target.nonfinite)
+        && ltb (largest_code (format_at target)) code) }
+{
+    (target.nonfinite != NonfiniteBehavior::IEEE754) & is_past(target, code)
+}
+
+/// An encoding with its sign. Without negative zeros, the sign bit alone is the NaN, and a zero has no sign.
+#[inline(always)]
+fn with_sign(target: Target, negative: bool, code: u32) -> u32
+    requires small { code < 2 ^ 17 }
+    ensures { result ≡ signed_code target.nonfinite target.bits negative code }
+{
+    let sign = 1 << (target.bits - 1);
+    let is_bare = (target.nonfinite == NonfiniteBehavior::NanNegativeZero) & (code % sign == 0);
+    if negative & !is_bare {
+        code + sign
+    } else {
+        code
+    }
+}
+
+/// A scaled number, rounded and encoded.
+#[inline(always)]
+fn finish(target: Target, side: Side, negative: bool, scaled: u32) -> Lane
+    requires scaled { scaled + 2 ^ 17 < 2 ^ 32 }
+    ensures { (saturates : Bool) (mode : Mode) (amount parts : ℕ) → 0 < parts
+        → IsSideOf saturates (format_at target) mode negative side
+        → IsReached (format_at target) scaled amount parts
+        → IsRounded saturates (format_at target) (layout_at target) mode negative amount parts
+        result }
+{
+    let rounded = rounded(side.addend, scaled);
+    let code = rounded.min(side.greatest);
+    let past = is_past(target, rounded);
+    let inexact = (scaled % 0x1_0000 != 0) | past;
+    let normal = is_normal(target, scaled / 0x1_0000, rounded);
+    Lane {
+        bits: with_sign(target, negative, code),
+        inexact,
+        underflow: inexact & !normal,
+        overflow: past & side.raises,
+        is_nan: is_nan_code(target, code),
+    }
+}
+
+/// Whether a zero of this sign loses it.
+#[inline(always)]
+fn loses_sign(target: Target, negative: bool, magnitude: u32) -> bool
+    ensures { result ≡ (has_one_zero target.nonfinite && negative && nat_eq magnitude 0) }
+{
+    (target.nonfinite == NonfiniteBehavior::NanNegativeZero) & negative & (magnitude == 0)
+}
+
+/// Converts a finite single.
+#[inline(always)]
+pub fn convert_finite(plan: Plan, bits: u32) -> Lane
+    requires { bits % 2 ^ 31 < 255 * 2 ^ 23 }
+    ensures below { result.bits < 2 ^ plan.target.bits }
+    ensures converted { (single : Format) (layout : Layout) → IsSingle single layout
+        → IsConvertedLane plan.saturates single layout (format_at plan.target)
+        (layout_at plan.target) plan.round bits result }
+{
+    let negative = bits / 0x8000_0000 == 1;
+    let magnitude = bits % 0x8000_0000;
+    let scaled = scaled(plan.target, significand_of(magnitude), place_of(magnitude));
+    let side = if negative {
+        plan.negative
+    } else {
+        plan.positive
+    };
+    let lane = finish(plan.target, side, negative, scaled);
+    Lane {
+        inexact: lane.inexact | loses_sign(plan.target, negative, magnitude),
+        ..lane
+    }
+}

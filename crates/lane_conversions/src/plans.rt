@@ -1,0 +1,25 @@
+//! What is done with each number.
+
+ghost use Rattle.std.specs.Prelude.{true, false};
+ghost use Rattle.lane_conversions.specs.At.{format_at};
+ghost use Rattle.lane_conversions.specs.Sides.{IsSideOf};
+
+use crate::constants::{Side, Target};
+use apfloat_model::Round;
+
+/// A conversion of singles: to this format, in this mode, with the constants that follow from them.
+#[derive(Clone, Copy)]
+pub struct Plan {
+    /// The format.
+    pub target: Target,
+    /// Whether the largest value stands for what is past it.
+    pub saturates: bool,
+    /// The rounding mode.
+    pub round: Round,
+    /// What the mode does with positive numbers.
+    pub positive: Side,
+    /// What it does with negative numbers.
+    pub negative: Side,
+    ghost positive_is: { IsSideOf saturates (format_at target) round false positive },
+    ghost negative_is: { IsSideOf saturates (format_at target) round true negative },
+}
