@@ -69,6 +69,6 @@ pub fn convert_by<S: Semantics, T: Semantics>(
     mode: ConversionRound,
     loses_info: &mut bool,
 ) -> StatusAnd<IeeeFloat<T>> {
-    const { assert!(!T::IEEE_FLAGS, "the target has the flags of IEEE 754-2019, which conversions in these modes lack") };
+    const { assert!(!T::IEEE_FLAGS, "no conversion in these modes has the flags of IEEE 754-2019") };
     answered(library::convert_by::<PlainS<S>, PlainS<T>>(x.plain(), mode.given(), loses_info)).map(IeeeFloat::of_plain)
 }
