@@ -7,5 +7,5 @@ pub mod Decimals
 pub mod IeeeCalls
 pub mod MachineCalls
 pub mod About
-pub mod OneAnswer
 pub mod Blocks
+pub mod OneAnswer

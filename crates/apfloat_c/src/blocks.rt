@@ -32,7 +32,7 @@ fn element_coded(code: u32) -> Option<ElementFormat>
     }
 }
 
-/// The code of an error.
+/// The code of an error of an array.
 fn array_error(error: ArrayError) -> u32
     ensures { result ≡ array_error error }
 {
@@ -44,7 +44,7 @@ fn array_error(error: ArrayError) -> u32
     }
 }
 
-/// The code of an error.
+/// The code of an error of packing.
 fn packing_error(error: PackingError) -> u32
     ensures { result ≡ packing_error error }
 {

@@ -34,7 +34,7 @@ pub fn both_fit<S: Flagged>(x: u128, y: u128) -> bool
     fits::<S>(x) && fits::<S>(y)
 }
 
-/// Both as words, if each fits in one.
+/// Both as words, or none, where the general way is as good.
 #[inline(always)]
 pub fn two_words(x: u128, y: u128) -> Option<(u64, u64)>
     ensures { IfSome result (λ words. (words.0 ≡ x) × (words.1 ≡ y)) }
@@ -46,7 +46,7 @@ pub fn two_words(x: u128, y: u128) -> Option<(u64, u64)>
     }
 }
 
-/// All three as words, if each fits in one.
+/// All three as words, or none, where the general way is as good.
 #[inline(always)]
 pub fn three_words(x: u128, y: u128, z: u128) -> Option<(u64, u64, u64)>
     ensures { IfSome result (λ words. (words.0 ≡ x) × (words.1 ≡ y) × (words.2 ≡ z)) }

@@ -3,7 +3,6 @@
 ghost use Rattle.std.specs.Prelude.{◌≡◌, ◌*◌, ◌^◌, ◌<◌, ◌≤◌, All, Ok, length};
 ghost use Rattle.rustc_apfloat.specs.FlaggedTypes.{constants_of};
 ghost use Rattle.array_conversions.specs.Calls.{at_format};
-ghost use Rattle.formats_at_run_time.specs.FlaggedKinds.{flagged_constants};
 ghost use Rattle.block_formats.specs.Elements.{width};
 ghost use Rattle.block_arrays.specs.Dequantized.{AreDequantized, IsDequantizedArray, IsScaledCode, width_out};
 ghost use Rattle.block_arrays.specs.Lengths.{blocks_of};
