@@ -1,4 +1,3 @@
-mod RestParts
 mod DirectedResults
 mod RestDistances
 mod Lengths

@@ -13,7 +13,7 @@
 //! format keeps there (`cuts`), and the mode moves them or not.
 #![tactic(auto)]
 
-mod cuts;
+pub mod cuts;
 mod float8_e3m4;
 mod format;
 mod from_value;
