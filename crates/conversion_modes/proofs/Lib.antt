@@ -3,3 +3,6 @@ mod RestDistances
 mod Lengths
 mod NumbersBy
 mod OneAnswer
+mod ElementsBy
+mod UnsignedBy
+mod ElementsOnce
