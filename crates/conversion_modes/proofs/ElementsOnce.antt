@@ -1,5 +1,5 @@
 -- Conversions by the modes of conversions into `e3m4`, and into `e4m3fn` without a sign, have one answer.
-use Rattle.std.proofs.Common.{◌≡◌, ℕ, ◌<◌, Bool, true, false, sym, refl, ◌∙◌, subst, arith, lit≤}
+use Rattle.std.proofs.Common.{ℕ, ◌<◌, true, false, refl, subst, arith, lit≤}
 use Rattle.apfloat_model.specs.bits.Interchange.{IsInterchange}
 use Rattle.apfloat_model.specs.bits.Layout.{IsEncodedBy}
 use Rattle.apfloat_model.specs.formats.Datum.{Datum, finite, infinite, nan}

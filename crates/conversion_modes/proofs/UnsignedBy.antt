@@ -1,5 +1,5 @@
 -- Conversions by the modes of conversions into `e4m3fn` without a sign.
-use Rattle.std.proofs.Common.{◌≡◌, ℕ, zero, suc, Bool, true, false, cond, eqb, ltb, sym, refl, ap, ◌∙◌}
+use Rattle.std.proofs.Common.{◌≡◌, ℕ, zero, suc, Bool, true, false, eqb, ltb, sym, ap, ◌∙◌}
 use Rattle.std.proofs.lemmas.Bool.{false≢true, MatchBool-at_false}
 use Rattle.apfloat_model.specs.declared.kinds.Round.{Round}
 use Rattle.apfloat_model.specs.declared.kinds.Round.TheVariants.{NearestTiesToEven, TowardZero}

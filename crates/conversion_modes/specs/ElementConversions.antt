@@ -1,6 +1,6 @@
 -- Conversions into storage formats whose numbers are those of a format of the model: `e3m4`, and `e4m3fn` without a
 -- sign.
-use Rattle.std.specs.Prelude.{◌≡◌, ℕ, ◌<◌, Bool, eqb}
+use Rattle.std.specs.Prelude.{◌≡◌, ℕ, ◌<◌, Bool}
 use Rattle.std.specs.Bool.{MatchBool}
 use Rattle.apfloat_model.specs.formats.Datum.{Datum, finite, infinite, nan}
 use Rattle.apfloat_model.specs.formats.Format.{Format}

@@ -1,8 +1,7 @@
-use Rattle.std.proofs.Common.{ap, sym, ◌∙◌}
+use Rattle.std.proofs.Common.{sym, ◌∙◌}
 use Rattle.apfloat_ieee.specs.Types.{format_of}
-use Rattle.apfloat_model.specs.rounding.Flags.{bits_of}
 use Rattle.apfloat_model.proofs.order.PredicatesAgree.{finite_agrees}
-use Rattle.conversion_modes.proofs.UnsignedBy.{negative_unsigned, positive_unsigned, sign_by, special_unsigned}
+use Rattle.conversion_modes.proofs.UnsignedBy.{sign_by, special_unsigned}
 use Rattle.conversion_modes.proofs.elements.unsigned_by.Goals as goal
 
 pub returns-then-not-is_finite : goal.returns-then-not-is_finite
