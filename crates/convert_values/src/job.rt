@@ -46,8 +46,7 @@ MODE      even    to the nearest value, ties to even
 --version          writes the name and the version of the program
 
 The last six are storage formats, whose values take a byte each; FROM and TO
-cannot both be one, FORMAT cannot be one, and with --stochastic only TO, of the
-first three.
+cannot both be one, FORMAT cannot be one, and with --stochastic only TO.
 
 A block is its scale in e8m0fnu, a byte, and after it the codes of its values:
 one of 8 bits in a byte, two of 4 bits in a byte or four of 6 bits in three,

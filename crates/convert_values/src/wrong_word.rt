@@ -87,10 +87,6 @@ pub fn wrong_form(words: &[String]) -> &'static str {
             if is_stochastic(option.as_str()) && is_stored(source.as_str()) => {
             "random digits round out of no storage format: convert by way of single"
         }
-        [.., option, _, _, target]
-            if is_stochastic(option.as_str()) && is_stored(target.as_str()) => {
-            "random digits round into no e3m4, e8m0fnu or ue4m3"
-        }
         [.., source, target, _] if is_stored(source.as_str()) && is_stored(target.as_str()) => {
             "only one of the formats can be a storage format: convert by way of single"
         }
