@@ -7,20 +7,27 @@ The random numbers are the upper 32 bits of SplitMix64, by the position of a val
 """
 
 import sys
+from bisect import bisect_right
 from fractions import Fraction
 from pathlib import Path
 
+import e3m4
 from conversion_modes import ELEMENTS, store
 from exact.bits import decoded, encoded
 from exact.conversions import convert
-from exact.data import Finite, infinity, is_nan, number
+from exact.data import Finite, Infinite, infinity, is_nan, number
 from exact.formats import FORMATS
 from exact.rounding import Mode
 from exact.status import INEXACT, INVALID_OP, OK, OVERFLOW, UNDERFLOW
+from storage_formats import Scales, Unsigned
 
 WORD = (1 << 64) - 1
 LINES = Path(__file__).parent.parent / "tests" / "streams" / "conversions"
 STORED = dict(zip(("e2m1fn", "e2m3fn", "e3m2fn"), ELEMENTS))
+
+# The storage formats with NaNs, with their numbers in order, the code of the largest one, and what is past it.
+WITH_NANS = {"e3m4": (e3m4.FORM, 111, 112), "ue4m3": (Unsigned(), 126, 127), "e8m0fnu": (Scales(), 254, 255)}
+SMALLEST_NORMAL = {"e3m4": 16, "ue4m3": 8, "e8m0fnu": 0}
 
 
 def random_at(seed, position):
@@ -64,6 +71,42 @@ def treated(overflow, target, x, value, flags):
     return value, flags
 
 
+def stored(word, source, x, random):
+    """The code in a storage format with NaNs, and the flags."""
+    form, largest, past = WITH_NANS[word]
+    if not isinstance(x, Finite) or x.quanta == 0 or x.negative and word != "e3m4":
+        return form.store(source, x, Mode.EVEN)[:2]
+    sign = 0x80 if x.negative else 0
+    exact = Fraction(x.quanta, 1 << source.scale)
+    if exact < form.points[0]:
+        return 0, UNDERFLOW | INEXACT
+    index = bisect_right(form.points, exact) - 1
+    is_exact = form.points[index] == exact
+    if index <= largest and not is_exact:
+        share = (exact - form.points[index]) / (form.points[index + 1] - form.points[index])
+        index += (share.numerator << 32) // share.denominator + random >= 1 << 32
+    if index > largest:
+        return sign + past, OVERFLOW | INEXACT
+    return sign + index, OK if is_exact else UNDERFLOW | INEXACT if index < SMALLEST_NORMAL[word] else INEXACT
+
+
+def treated_code(overflow, word, x, code, flags):
+    """The same with what a saturating option says of numbers, infinities and NaNs."""
+    largest = WITH_NANS[word][1] + (0x80 if word == "e3m4" and getattr(x, "negative", False) else 0)
+    if isinstance(x, Finite):
+        return (largest if overflow and flags & OVERFLOW else code), flags
+    if overflow == "--saturate-all" and is_nan(x):
+        return WITH_NANS[word][1], INVALID_OP
+    if overflow in ("--saturate-finite", "--saturate-all") and isinstance(x, Infinite) and flags != INVALID_OP:
+        return largest, INEXACT
+    return code, flags
+
+
+def is_nan_code(word, code):
+    """Whether a code of a storage format with NaNs is one."""
+    return code % 128 > 112 if word == "e3m4" else code == WITH_NANS[word][2]
+
+
 def width(form):
     """How many bytes a value takes."""
     least = (form.bits + 7) // 8
@@ -82,6 +125,10 @@ def converted(overflow, seed, source_word, target_word, read):
             code, flags, _ = store(form, x, (32, random), overflow == "--saturate-all", source)
             written += bytes([code])
             is_not_a_number = False
+        elif target_word in WITH_NANS:
+            code, flags = treated_code(overflow, target_word, x, *stored(target_word, source, x, random))
+            written += bytes([code])
+            is_not_a_number = is_nan_code(target_word, code)
         else:
             target = FORMATS[target_word]
             value, flags = treated(overflow, target, x, *rounded(source, target, x, random))

@@ -1,3 +1,4 @@
 pub mod Directions
 pub mod ModeConversions
 pub mod Laws
+pub mod ElementConversions

@@ -17,7 +17,7 @@ use apfloat_odd::to_odd;
 use storage_formats::{ConversionRound, RandomDigits};
 
 /// The mode of IEEE 754 in which what is not rounded is converted.
-fn ieee_mode(mode: ConversionRound) -> Round
+pub(crate) fn ieee_mode(mode: ConversionRound) -> Round
     ensures { result ≡ ieee_mode mode }
 {
     match mode {

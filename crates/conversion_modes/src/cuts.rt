@@ -1,13 +1,14 @@
 //! A number cut at the last digit that a precision keeps of it, and the part of that digit that is cut off.
 
-ghost use Rattle.std.specs.Prelude.{◌≡◌, ◌⊎◌, ℕ, ◌+◌, ◌-◌, ◌*◌, ◌/◌, ◌%◌, ◌^◌, ◌<◌, ◌≤◌, pos, neg_ℤ, ◌≤ℤ◌, leb};
-ghost use Rattle.apfloat_model.specs.rounding.Bounds.{IsWithin, unit_bound, place_bound};
+ghost use Rattle.std.specs.Prelude.{◌≡◌, ◌⊎◌, ℕ, ◌+◌, ◌-◌, ◌*◌, ◌/◌, ◌%◌, ◌^◌, ◌<◌, ◌≤◌, leb};
+ghost use Rattle.apfloat_model.specs.rounding.Bounds.{IsWithin, unit_bound};
 ghost use Rattle.apfloat_model.specs.rounding.Enclosure.{IsEnclosed};
 ghost use Rattle.apfloat_model.specs.rounding.Standing.{up, down};
 
 use apfloat_base::ExpInt;
 use apfloat_model::Loss;
-use apfloat_words::{low_digits, power_of_two, shift_right};
+use apfloat_words::{power_of_two, shift_right};
+use storage_formats::cuts::{kept_place, parts_of_rest, steps_up};
 
 /// The number of digits of what is cut, which no format exceeds.
 pub(crate) const DIGITS: u32 = 125;
@@ -18,33 +19,6 @@ pub(crate) struct Kept {
     pub significand: u128,
     pub place: u32,
     pub places: u32,
-}
-
-/// The place of the lowest kept digit of a number with `DIGITS` digits at `unit`; places and units are counted from the
-/// quantum.
-fn kept_place(precision: u32, unit: ExpInt) -> u32
-    requires precise { precision ≤ 125 }
-    requires within { IsWithin unit_bound unit }
-    ensures near { result < place_bound }
-    ensures covers { 125 + up unit ≤ result + precision + down unit }
-    ensures reached { (result ≡ 0) ⊎ (125 + up unit ≡ result + precision + down unit) }
-{
-    let top = DIGITS as ExpInt + unit;
-    if top > precision as ExpInt {
-        (top - precision as ExpInt) as u32
-    } else {
-        0
-    }
-}
-
-/// How far the place is above the unit.
-fn steps_up(unit: ExpInt, place: u32) -> u32
-    requires above { unit ≤ℤ pos place }
-    requires near { place ≤ place_bound }
-    requires far { neg_ℤ (pos unit_bound) ≤ℤ unit }
-    ensures { result + up unit ≡ place + down unit }
-{
-    (place as ExpInt - unit) as u32
 }
 
 /// A number with `DIGITS` digits at `unit`, cut to the digits that the precision keeps of it.
@@ -62,27 +36,13 @@ pub(crate) fn cut(precision: u32, number: u128, unit: ExpInt) -> Kept
         → amount * 2 ^ down unit ≡ number * (parts * 2 ^ up unit)
         → IsEnclosed precision (2 ^ (precision - 1)) result.significand result.place amount parts }
 {
-    let place = kept_place(precision, unit);
+    let place = kept_place(precision, DIGITS, unit);
     let places = steps_up(unit, place);
     let shifted = shift_right(number, places, Loss::ExactlyZero);
     Kept {
         significand: shifted.significand,
         place,
         places,
-    }
-}
-
-/// Of 2^digits parts of the lowest kept digit, how many whole ones the rest is that was cut off.
-fn parts_of_rest(number: u128, places: u32, digits: u32) -> u64
-    requires few { digits ≤ 32 }
-    ensures value { result ≡ 2 ^ digits * (number % 2 ^ places) / 2 ^ places }
-    ensures below { result < 2 ^ digits }
-{
-    if places <= digits {
-        (low_digits(number, places) as u64) << (digits - places)
-    } else {
-        let shifted = shift_right(number, places - digits, Loss::ExactlyZero);
-        low_digits(shifted.significand, digits) as u64
     }
 }
 

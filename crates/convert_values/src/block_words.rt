@@ -86,7 +86,7 @@ fn wrong_form(word: &str) -> WrongWord<'_> {
     let fault = match word {
         "mxfp6" => "the form is mxfp6e2m3 or mxfp6e3m2",
         "mxfp8" => "the form is mxfp8e4m3 or mxfp8e5m2",
-        "nvfp4" => "a stream has no scale of its whole tensor",
+        "nvfp4" => "a stream has no scale for its whole tensor",
         _ => {
             return WrongWord {
                 fault: "no such form of blocks",
@@ -182,7 +182,7 @@ fn format_named(word: &str) -> Option<BuiltInFormat> {
 /// What is wrong with the word for a format.
 fn wrong_format(word: &str) -> WrongWord<'_> {
     let fault = match StoredFormat::named(word) {
-        Some(_) => "values of a storage format become no blocks",
+        Some(_) => "values of a storage format cannot become blocks",
         None => "no such format",
     };
     WrongWord {

@@ -97,7 +97,8 @@ impl BlockConversion {
         requires widths { widths ≡ block_widths self }
         requires read { length read.now ≡ count * widths.source }
         requires room { count * widths.target ≤ length buffer.old }
-        ensures { AreConverted self count read.now (take (count * widths.target) buffer.new) result }
+        ensures { AreConverted self count read.now (take (count * widths.target) buffer.new)
+            result }
     {
         let front = &mut buffer[..count * widths.target];
         self.convert_each(count, widths, read, front)

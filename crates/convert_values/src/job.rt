@@ -38,16 +38,14 @@ MODE      even    to the nearest value, ties to even
                    mxfp4, mxfp6e2m3, mxfp6e3m2, mxfp8e4m3 or mxfp8e5m2
 --dequantize       such blocks become values of FORMAT
 --block-length N   a block has N values, 1 to 1024; 32 without this option
---stochastic SEED  in place of a MODE: each number goes to one of its two
-                   neighbours, to either the likelier the nearer it is, as
-                   random numbers decide that follow from SEED, a whole number
-                   below 2^64, and the position in the stream
+--stochastic SEED  in place of a MODE: random digits take each number to one of
+                   its two neighbours, the nearer one more often; SEED is a
+                   whole number below 2^64
 --help, -h         writes this text
 --version          writes the name and the version of the program
 
-The last six are storage formats, whose values take a byte each; FROM and TO
-cannot both be one, FORMAT cannot be one, and with --stochastic only TO, of the
-first three.
+The last six formats are storage formats, whose values take a byte each. FROM
+and TO cannot both be one, FORMAT cannot, and with --stochastic only TO can.
 
 A block is its scale in e8m0fnu, a byte, and after it the codes of its values:
 one of 8 bits in a byte, two of 4 bits in a byte or four of 6 bits in three,

@@ -1,7 +1,8 @@
 //! Converts a stream of values from one format to another: `convert_values FROM TO MODE` reads little-endian values in
 //! the format FROM from standard input, and writes them in the format TO to standard output, in order. A line on
 //! standard error counts the values and the flags that their conversions raised. `convert_values --block FORM FORMAT
-//! MODE` quantizes values to blocks with a common scale, and with `--dequantize` takes them out of such blocks.
+//! MODE` quantizes values to blocks with a common scale, and with `--dequantize` takes them out of such blocks; with
+//! `--stochastic SEED` random digits round.
 //!
 //! `HELP` explains the arguments.
 //!

@@ -2,19 +2,21 @@
 
 ghost use Rattle.std.specs.Prelude.{◌≡◌, ◌*◌, ◌/◌, ◌^◌, ◌<◌, ◌≤◌, length};
 ghost use Rattle.formats_at_run_time.specs.FormatKinds.{IfFormat};
+ghost use Rattle.storage_arrays.specs.Formats.{bits_in as stored_bits};
 ghost use Rattle.convert_values.specs.RandomWidths.{bits_in, random_widths};
 
 use crate::random_numbers::mode_at;
 use array_conversions::{
-    Converted, ConvertedBlock, Counts, Extended, FiniteNan, Outcome, Overflow, ValueClass, Widths,
-    number_of, treat, width, write_number,
+    Converted, ConvertedBlock, Counts, Extended, Outcome, Overflow, ValueClass, Widths, number_of,
+    treat, width, write_number,
 };
-use conversion_modes::convert_by;
+use conversion_modes::{convert_by, e3m4_by, unsigned_by};
 use formats_at_run_time::{BuiltInFormat, BuiltInKind, InFormat};
 use rustc_apfloat::ieee::{IeeeFloat, Semantics};
 use rustc_apfloat::{Float, StatusAnd};
+use storage_arrays::StoredFormat;
 use storage_formats::{
-    ConversionRound, E2M1FN, E2M3FN, E3M2FN, NanResult, StorageFormat, StoredFloat,
+    ConversionRound, E2M1FN, E2M3FN, E3M2FN, E8M0FNU, NanResult, StorageFormat, StoredFloat,
 };
 
 /// A format into which random digits round.
@@ -22,22 +24,16 @@ use storage_formats::{
 pub enum RandomTarget {
     /// A built-in format.
     BuiltIn(BuiltInFormat),
-    /// The element `e2m1fn`.
-    E2M1FN,
-    /// The element `e2m3fn`.
-    E2M3FN,
-    /// The element `e3m2fn`.
-    E3M2FN,
+    /// A storage format.
+    Stored(StoredFormat),
 }
 
 impl RandomTarget {
     /// The format of this word, if random digits round into it.
     pub fn named(word: &str) -> Option<RandomTarget> {
-        match word {
-            "e2m1fn" => Some(RandomTarget::E2M1FN),
-            "e2m3fn" => Some(RandomTarget::E2M3FN),
-            "e3m2fn" => Some(RandomTarget::E3M2FN),
-            _ => Some(RandomTarget::BuiltIn(BuiltInKind::named(word)?.format()?)),
+        match StoredFormat::named(word) {
+            Some(format) => Some(RandomTarget::Stored(format)),
+            None => Some(RandomTarget::BuiltIn(BuiltInKind::named(word)?.format()?)),
         }
     }
 }
@@ -70,9 +66,7 @@ impl RandomConversion {
                 source,
                 target: width(format, self.extended),
             },
-            RandomTarget::E2M1FN => Widths { source, target: 1 },
-            RandomTarget::E2M3FN => Widths { source, target: 1 },
-            RandomTarget::E3M2FN => Widths { source, target: 1 },
+            RandomTarget::Stored(_) => Widths { source, target: 1 },
         }
     }
 
@@ -165,9 +159,7 @@ impl InFormat for FromCall {
         let (mode, overflow) = (self.mode, self.overflow);
         match self.target {
             RandomTarget::BuiltIn(format) => format.run(IntoCall { x, mode, overflow }),
-            RandomTarget::E2M1FN => as_element::<S, E2M1FN>(x, mode, overflow),
-            RandomTarget::E2M3FN => as_element::<S, E2M3FN>(x, mode, overflow),
-            RandomTarget::E3M2FN => as_element::<S, E3M2FN>(x, mode, overflow),
+            RandomTarget::Stored(format) => as_stored(format, x, mode, overflow),
         }
     }
 }
@@ -201,30 +193,60 @@ impl<S: Semantics> InFormat for IntoCall<S> {
     }
 }
 
-/// What a NaN becomes in a format without NaNs.
-fn nan_result(overflow: Overflow) -> NanResult {
-    match overflow {
-        Overflow::Finite(FiniteNan::Largest) => NanResult::Largest,
-        _ => NanResult::Zero,
+/// A value as a code of the element format `F`.
+fn element<S: Semantics, F: StorageFormat>(x: IeeeFloat<S>, mode: ConversionRound) -> StatusAnd<u8>
+    ensures { result.value < 2 ^ F.BITS }
+{
+    let mut loses_info = false;
+    let answer = StoredFloat::<F>::from_value_by(x, mode, NanResult::Zero, &mut loses_info);
+    answer.status.and(answer.value.to_bits())
+}
+
+/// A value as a code of a storage format, rounded once.
+fn code_by<S: Semantics>(
+    format: StoredFormat,
+    x: IeeeFloat<S>,
+    mode: ConversionRound,
+) -> StatusAnd<u8>
+    ensures { result.value < 2 ^ stored_bits format }
+{
+    let mut loses_info = false;
+    match format {
+        StoredFormat::E2M1FN => element::<S, E2M1FN>(x, mode),
+        StoredFormat::E2M3FN => element::<S, E2M3FN>(x, mode),
+        StoredFormat::E3M2FN => element::<S, E3M2FN>(x, mode),
+        StoredFormat::E3M4 => {
+            let answer = e3m4_by(x, mode, &mut loses_info);
+            answer.status.and(answer.value.to_bits())
+        }
+        StoredFormat::E8M0FNU => {
+            let answer = E8M0FNU::from_value_by(x, mode, &mut loses_info);
+            answer.status.and(answer.value.to_bits())
+        }
+        StoredFormat::UE4M3 => {
+            let answer = unsigned_by(x, mode, &mut loses_info);
+            answer.status.and(answer.value.to_bits())
+        }
     }
 }
 
-/// A value as a code of the element format `F`, in which all numbers saturate.
-fn as_element<S: Semantics, F: StorageFormat>(
+/// The same with this treatment of overflow.
+fn as_stored<S: Semantics>(
+    format: StoredFormat,
     x: IeeeFloat<S>,
     mode: ConversionRound,
     overflow: Overflow,
 ) -> Converted
-    ensures { result.bits < 2 ^ F.BITS }
+    ensures { result.bits < 2 ^ stored_bits format }
 {
-    let mut loses_info = false;
-    let nans = nan_result(overflow);
-    let answer = StoredFloat::<F>::from_value_by(x, mode, nans, &mut loses_info);
+    let own = code_by(format, x, mode);
+    let class = ValueClass::of(x.category());
+    let answer = format.treated(overflow, class, x.is_negative(), own);
     Converted {
-        bits: u128::from(answer.value.to_bits()),
+        bits: u128::from(answer.value),
         outcome: Outcome {
             status: answer.status,
-            is_nan: false,
+            is_nan: format.is_nan(answer.value),
         },
     }
 }

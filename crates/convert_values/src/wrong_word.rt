@@ -70,6 +70,11 @@ fn wrong_seed<'a>(seed: &'a String, others: &'a [String]) -> Option<WrongWord<'a
         });
     }
     match others {
+        [word, ..] if word.as_str().starts_with('-') => Some(WrongWord {
+            fault: "an option after the seed",
+            word: word.as_str(),
+            known: &[],
+        }),
         [_, _, word, ..] => Some(too_many(word)),
         [source, target] => match wrong_format(source.as_str()) {
             Some(wrong) => Some(wrong),
@@ -85,11 +90,7 @@ pub fn wrong_form(words: &[String]) -> &'static str {
         [word, ..] if is_block_option(word.as_str()) => "too few words",
         [.., option, _, source, _]
             if is_stochastic(option.as_str()) && is_stored(source.as_str()) => {
-            "random digits round out of no storage format: convert by way of single"
-        }
-        [.., option, _, _, target]
-            if is_stochastic(option.as_str()) && is_stored(target.as_str()) => {
-            "random digits round into no e3m4, e8m0fnu or ue4m3"
+            "random digits do not round values of a storage format: convert by way of single"
         }
         [.., source, target, _] if is_stored(source.as_str()) && is_stored(target.as_str()) => {
             "only one of the formats can be a storage format: convert by way of single"

@@ -130,7 +130,7 @@ impl StoredFormat {
     }
 
     /// Whether a code is that of a NaN.
-    pub(crate) fn is_nan(self, byte: u8) -> bool
+    pub fn is_nan(self, byte: u8) -> bool
         ensures { result ≡ is_nan (datum_in self byte) }
     {
         match self {

@@ -82,7 +82,7 @@ impl StoredFormat {
     }
 
     /// What a conversion of a value of this class and sign gives, if `own` is its conversion without saturation.
-    fn treated(
+    pub fn treated(
         self,
         overflow: Overflow,
         class: ValueClass,

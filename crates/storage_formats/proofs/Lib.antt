@@ -2,16 +2,17 @@ pub mod Points
 pub mod StoredPicks
 mod StoredNumbers
 mod ScalePicks
+mod ScaleModes
 pub mod OneAnswer
 mod CodesCompared
 mod Converted
-mod UnsignedSigns
+pub mod UnsignedSigns
 mod RandomCounts
 mod MovesScaled
 mod RestLosses
 mod ModePicks
 mod ModesOnce
-mod NarrowCodes
+pub mod NarrowCodes
 mod CodePicks
 mod ProjectedPicks
 mod ProjectedCodes

@@ -1,6 +1,6 @@
 -- The point that a mode of conversions picks, from the digits that a cut keeps; what is delivered for it.
-use Rattle.std.proofs.Common.{◌≡◌, ℕ, ◌+◌, ◌-◌, ◌*◌, ◌/◌, ◌%◌, ◌^◌, ◌<◌, ◌≤◌, Bool, true, false, cond, eqb}
-use Rattle.std.proofs.Common.{sym, ap, ◌∙◌, subst, ⊎_elim, arith}
+use Rattle.std.proofs.Common.{◌≡◌, ℕ, ◌+◌, ◌-◌, ◌*◌, ◌/◌, ◌%◌, ◌^◌, ◌<◌, ◌≤◌, Bool, false, cond, eqb}
+use Rattle.std.proofs.Common.{sym, ap, ◌∙◌, ⊎_elim, arith}
 use Rattle.std.proofs.Math.Nat.{mul-div_cancel, mul-le-mul_right, mul-pos}
 use Rattle.std.proofs.lemmas.Bool.{cases_lt, eq-eqb, ne_eqb, MatchBool-at_false}
 use Rattle.std.proofs.lemmas.Nat.{pow_pos, div-add-mod', mod_below}
@@ -128,26 +128,33 @@ moves_kept mode negative odd number k m c amount parts u d q e of a =
 
 -- ---- the pick by codes
 
+-- between two codes whose numbers, in units of the amount, are `at` and `next`
+pub code_between : (mode : ConversionRound) (negative : Bool) (amount at next low : ℕ) (moved : Bool) → at ≤ amount
+    → moved ≡ moves mode negative (amount - at) (next - amount) (eqb (low % 2) 1)
+    → cond moved (low + 1) low
+    ≡ cond (eqb at amount) low
+    (cond (takes_next mode negative (amount - at) (next - amount) (eqb (low % 2) 1)) (low + 1) low)
+code_between mode negative amount at next low moved from e =
+    let odd : Bool = eqb (low % 2) 1 in
+    let above : Bool = takes_next mode negative (amount - at) (next - amount) odd in
+    ⊎_elim
+    (λ (l : at < amount).
+    let off : eqb at amount ≡ false = ne_eqb at amount (λ z. omega (arith, z, l)) in
+    ap (λ (b : Bool). cond b (low + 1) low) (e ∙ takes mode negative odd (amount - at) _ (omega (arith, l)))
+    ∙ sym (ap (λ (b : Bool). cond b low (cond above (low + 1) low)) off))
+    (λ (l : amount ≤ at).
+    let same : at ≡ amount = omega (arith, l, from) in
+    ap (λ (b : Bool). cond b (low + 1) low) (e ∙ stays mode negative odd (amount - at) _ (omega (arith, same)))
+    ∙ sym (ap (λ (b : Bool). cond b low (cond above (low + 1) low)) (eq-eqb at amount same)))
+    (cases_lt at amount)
+
 pub index_is : (p : ℕ) (mode : ConversionRound) (negative : Bool) (amount parts low : ℕ) (moved : Bool)
     → point p low * parts ≤ amount
     → moved
     ≡ moves mode negative (amount - point p low * parts) (point p (low + 1) * parts - amount) (eqb (low % 2) 1)
     → cond moved (low + 1) low ≡ index_by p mode negative amount parts low
 index_is p mode negative amount parts low moved from e =
-    let by : ℕ = amount - point p low * parts in
-    let odd : Bool = eqb (low % 2) 1 in
-    let next : Bool = takes_next mode negative by (point p (low + 1) * parts - amount) odd in
-    ⊎_elim
-    (λ (l : point p low * parts < amount).
-    let off : eqb (point p low * parts) amount ≡ false =
-    ne_eqb (point p low * parts) amount (λ z. omega (arith, z, l)) in
-    ap (λ (b : Bool). cond b (low + 1) low) (e ∙ takes mode negative odd by _ (omega (arith, l)))
-    ∙ sym (ap (λ (b : Bool). cond b low (cond next (low + 1) low)) off))
-    (λ (l : amount ≤ point p low * parts).
-    let same : point p low * parts ≡ amount = omega (arith, l, from) in
-    ap (λ (b : Bool). cond b (low + 1) low) (e ∙ stays mode negative odd by _ (omega (arith, same)))
-    ∙ sym (ap (λ (b : Bool). cond b low (cond next (low + 1) low)) (eq-eqb (point p low * parts) amount same)))
-    (cases_lt (point p low * parts) amount)
+    code_between mode negative amount (point p low * parts) (point p (low + 1) * parts) low moved from e
 
 -- ---- what is delivered
 

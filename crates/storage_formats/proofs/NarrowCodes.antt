@@ -168,7 +168,7 @@ same_exactly g (nan b s) value status loses h = h
 -- ---- in: a pick of at most 15.5 is delivered with the same flags, and any other is past the largest number
 
 -- 992 quanta are 15.5
-within_both : (mode : Round) (b : Bool) (amount parts pick : ℕ) → pick ≤ 992
+pub within_both : (mode : Round) (b : Bool) (amount parts pick : ℕ) → pick ≤ 992
     → (delivered_value wide_format mode b pick ≡ delivered_value e3m4_format mode b pick)
     × (delivered_status wide_format mode b amount parts pick ≡ delivered_status e3m4_format mode b amount parts pick)
 within_both mode b amount parts pick l =
@@ -295,7 +295,7 @@ special_code code l other =
     (cases_lt x.biased_exponent 15)
 
 -- what is delivered there tells the pick
-picked_quanta : (mode : Round) (b past none leads : Bool) (pick : ℕ)
+pub picked_quanta : (mode : Round) (b past none leads : Bool) (pick : ℕ)
     → is_finite (cond past (cond leads (infinite b) (finite b 253952)) (cond none (finite b 0) (finite b pick))) ≡ true
     → (past ≡ true → 253952 < pick) → (none ≡ true → pick ≡ 0)
     → quanta_of (cond past (cond leads (infinite b) (finite b 253952)) (cond none (finite b 0) (finite b pick))) ≤ pick
@@ -341,11 +341,11 @@ special_converted f mode (finite b n) given status loses number h = absurd (fals
 special_converted f mode (infinite b) given status loses number h = h
 special_converted f mode (nan b s) given status loses number h = h
 
-quanta_finite : (none b : Bool) (n : ℕ) → is_finite (cond none (finite b 0) (finite b n)) ≡ true
+pub quanta_finite : (none b : Bool) (n : ℕ) → is_finite (cond none (finite b 0) (finite b n)) ≡ true
 quanta_finite true b n = refl
 quanta_finite false b n = refl
 
-lost_past : (leads : Bool) (status : ℕ) → status ≡ cond leads 20 16 → true ≡ not (eqb status 0)
+pub lost_past : (leads : Bool) (status : ℕ) → status ≡ cond leads 20 16 → true ≡ not (eqb status 0)
 lost_past true status e = ap (λ (n : ℕ). not (eqb n 0)) (sym e)
 lost_past false status e = ap (λ (n : ℕ). not (eqb n 0)) (sym e)
 

@@ -20,7 +20,7 @@ use Rattle.apfloat_model.proofs.rounding.Picks.{pick_unique}
 use Rattle.storage_formats.specs.Codes.{datum_of}
 use Rattle.storage_formats.specs.Conversions.{IsGiven, IsSaturated, IsStoredNumber, saturated_value}
 use Rattle.storage_formats.specs.Laws.{IsIntoOnce, IsScaleOnce, IsUnsignedOnce}
-use Rattle.storage_formats.specs.Scales.{IsCode, IsPickedCode, IsPickedScale, IsScaleOf}
+use Rattle.storage_formats.specs.Scales.{IsCode, IsPickedScale, IsScaleOf}
 use Rattle.storage_formats.specs.Scales.{delivered_code, picked_code, scale_format, scale_status}
 use Rattle.storage_formats.specs.Storage.{Constants, IsLawful, format_with}
 use Rattle.storage_formats.specs.Unsigned.{signed_format, signed_layout, unsigned_datum}
@@ -118,7 +118,7 @@ into_once c f mode (finite b (suc n)) code other status flags loses lost law l k
 
 -- ---- scales
 
-scale_code_once : (given bits : ℕ) (lossy : Bool) (code other status flags : ℕ) (loses lost : Bool)
+pub scale_code_once : (given bits : ℕ) (lossy : Bool) (code other status flags : ℕ) (loses lost : Bool)
     → IsCode given bits lossy code status loses → IsCode given bits lossy other flags lost
     → AreSame code status loses other flags lost
 scale_code_once given bits lossy code other status flags loses lost x y =
@@ -133,34 +133,35 @@ not_below amount parts low other to from l =
     mul-le-mul_right parts (pow-le-pow_right two_pos next) in
     omega (arith, to, from, more)
 
-low_once : (mode : Round) (amount parts code other : ℕ) (x : IsPickedCode mode amount parts code)
-    → (y : IsPickedCode mode amount parts other) → x.low ≡ y.low
-low_once mode amount parts code other x y =
+pub low_once : (amount parts low other : ℕ) → 2 ^ low * parts ≤ amount → amount < 2 ^ (low + 1) * parts
+    → 2 ^ other * parts ≤ amount → amount < 2 ^ (other + 1) * parts → low ≡ other
+low_once amount parts low other from to start end =
     ⊎_elim
-    (λ (l : x.low < y.low). absurd (not_below amount parts x.low y.low x.to y.from l))
-    (λ (l : y.low ≤ x.low).
+    (λ (l : low < other). absurd (not_below amount parts low other to start l))
+    (λ (l : other ≤ low).
     ⊎_elim
-    (λ (k : y.low < x.low). absurd (not_below amount parts y.low x.low y.to x.from k))
-    (λ (k : x.low ≤ y.low). omega (arith, l, k))
-    (cases_lt y.low x.low))
-    (cases_lt x.low y.low)
+    (λ (k : other < low). absurd (not_below amount parts other low end from k))
+    (λ (k : low ≤ other). omega (arith, l, k))
+    (cases_lt other low))
+    (cases_lt low other)
 
-least_or_not : (mode : Round) (amount parts code : ℕ) → amount < parts → IsPickedCode mode amount parts code → ⊥
-least_or_not mode amount parts code l x =
-    let from = x.from in
-    let one : 1 ≤ 2 ^ x.low = pow_pos x.low in
-    let least : 1 * parts ≤ 2 ^ x.low * parts = mul-le-mul_right parts one in
+pub least_or_not : (amount parts low : ℕ) → amount < parts → 2 ^ low * parts ≤ amount → ⊥
+least_or_not amount parts low l from =
+    let one : 1 ≤ 2 ^ low = pow_pos low in
+    let least : 1 * parts ≤ 2 ^ low * parts = mul-le-mul_right parts one in
     omega (arith, l, from, least)
 
 scale_picked_once : (mode : Round) (amount parts code other : ℕ) → IsPickedScale mode amount parts code
     → IsPickedScale mode amount parts other → code ≡ other
 scale_picked_once mode amount parts code other (inl x) (inl y) = x.1 ∙ sym y.1
 scale_picked_once mode amount parts code other (inl x) (inr y) =
-    absurd (least_or_not mode amount parts other x.0 y)
+    absurd (least_or_not amount parts y.low x.0 y.from)
 scale_picked_once mode amount parts code other (inr x) (inl y) =
-    absurd (least_or_not mode amount parts code y.0 x)
+    absurd (least_or_not amount parts x.low y.0 x.from)
 scale_picked_once mode amount parts code other (inr x) (inr y) =
-    x.is ∙ ap (λ (n : ℕ). picked_code mode amount parts n) (low_once mode amount parts code other x y) ∙ sym y.is
+    x.is
+    ∙ ap (λ (n : ℕ). picked_code mode amount parts n) (low_once amount parts x.low y.low x.from x.to y.from y.to)
+    ∙ sym y.is
 
 scale_number_once : (f : Format) (mode : Round) (n code other status flags : ℕ) (loses lost : Bool)
     → IsScaleOf f mode n code status loses → IsScaleOf f mode n other flags lost

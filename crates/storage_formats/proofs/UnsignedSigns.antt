@@ -9,7 +9,7 @@ use Rattle.apfloat_model.specs.order.Classes.{is_finite, is_negative}
 use Rattle.apfloat_model.specs.rounding.Rounding.{leads_out}
 use Rattle.storage_formats.specs.Unsigned.{signed_format}
 
-kept_sign : (past leads none negative : Bool) (base most quanta : ℕ)
+pub kept_sign : (past leads none negative : Bool) (base most quanta : ℕ)
     → is_negative (cond past (cond leads (nan negative base) (finite negative most))
     (cond none (finite negative 0) (finite negative quanta))) ≡ negative
 kept_sign true true none negative base most quanta = refl

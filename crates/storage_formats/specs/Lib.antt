@@ -2,6 +2,7 @@ pub mod Storage
 pub mod Codes
 pub mod Conversions
 pub mod Scales
+pub mod ScaleModes
 pub mod Types
 pub mod Picks
 pub mod Laws

@@ -23,8 +23,8 @@ pub(crate) struct Kept {
 
 /// The place of the lowest kept digit of a number with `count` digits at `unit`; places and units are counted from the
 /// quantum.
-fn kept_place(precision: u32, count: u32, unit: ExpInt) -> u32
-    requires precise { precision ≤ 15 }
+pub fn kept_place(precision: u32, count: u32, unit: ExpInt) -> u32
+    requires precise { precision ≤ 125 }
     requires short { count ≤ 128 }
     requires within { IsWithin unit_bound unit }
     ensures near { result < place_bound }
@@ -40,7 +40,7 @@ fn kept_place(precision: u32, count: u32, unit: ExpInt) -> u32
 }
 
 /// How far the place is above the unit.
-fn steps_up(unit: ExpInt, place: u32) -> u32
+pub fn steps_up(unit: ExpInt, place: u32) -> u32
     requires above { unit ≤ℤ pos place }
     requires near { place ≤ place_bound }
     requires far { neg_ℤ (pos unit_bound) ≤ℤ unit }
@@ -104,7 +104,7 @@ pub(crate) fn cut(precision: u32, digits: u128, unit: ExpInt) -> Kept
 }
 
 /// Of 2^digits parts of the lowest kept digit, how many whole ones the rest is that was cut off.
-pub(crate) fn parts_of_rest(number: u128, places: u32, digits: u32) -> u64
+pub fn parts_of_rest(number: u128, places: u32, digits: u32) -> u64
     requires few { digits ≤ 32 }
     ensures value { result ≡ 2 ^ digits * (number % 2 ^ places) / 2 ^ places }
     ensures below { result < 2 ^ digits }

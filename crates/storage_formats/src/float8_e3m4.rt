@@ -23,7 +23,7 @@ use std::marker::Model;
 
 /// The same digits and the same least exponent, with one bit of exponent more.
 #[derive(Clone, Copy)]
-pub(crate) struct WideE3M4S;
+pub struct WideE3M4S;
 
 impl Semantics for WideE3M4S {
     const BITS: usize = 9;
@@ -128,7 +128,7 @@ fn widened(code: u8) -> u16
 }
 
 /// The code of eight bits, of an infinity, a NaN, or a number of at most 15.5.
-fn narrowed(code: u16) -> u8
+pub fn narrowed(code: u16) -> u8
     requires { IsNarrow code }
     ensures { result ≡ narrowed code }
 {
@@ -142,7 +142,7 @@ fn narrowed(code: u16) -> u8
 }
 
 /// What is delivered past 15.5.
-fn past(round: Round, negative: bool) -> StatusAnd<Float8E3M4>
+pub fn past(round: Round, negative: bool) -> StatusAnd<Float8E3M4>
     ensures value { e3m4_datum result.value
         ≡ (if leads_out round negative then infinite negative else finite negative 992) }
     ensures status { bits_of result.status

@@ -13,8 +13,8 @@
 //! format keeps there (`cuts`), and the mode moves them or not.
 #![tactic(auto)]
 
-mod cuts;
-mod float8_e3m4;
+pub mod cuts;
+pub mod float8_e3m4;
 mod format;
 mod from_value;
 mod from_value_by;
@@ -32,7 +32,7 @@ mod scales;
 mod stored;
 mod theorems;
 mod to_value;
-mod unsigned;
+pub mod unsigned;
 
 pub use float8_e3m4::Float8E3M4;
 pub use format::StorageFormat;
@@ -48,6 +48,7 @@ pub use theorems::{
     one_is_in_the_middle, picks_are_those_of_the_model, picks_of_codes_are_picks,
     projections_by_mode_are_projections, projections_by_mode_have_one_answer,
     projections_have_one_answer, random_codes_are_counted, random_numbers_are_counted,
-    scales_have_one_answer, unsigned_conversions_have_one_answer,
+    scales_by_mode_are_scales, scales_by_mode_have_one_answer, scales_have_one_answer,
+    unsigned_conversions_have_one_answer,
 };
 pub use unsigned::UE4M3;

@@ -57,7 +57,7 @@ fn reaches_whole(parts: u64, bits: RandomDigits) -> bool
 
 /// Whether the mode takes the point above a number of which `places` digits were cut off with that loss. `odd` says
 /// whether what was kept is odd.
-fn takes_next(
+pub(crate) fn takes_next(
     mode: ConversionRound,
     negative: bool,
     number: u128,

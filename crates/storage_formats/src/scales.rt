@@ -12,17 +12,19 @@ ghost use Rattle.apfloat_model.specs.rounding.Standing.{up, down};
 ghost use Rattle.apfloat_ieee.specs.FlaggedTypes.{format_of as flagged_format_of};
 ghost use Rattle.apfloat_ieee.specs.Types.{format_of};
 ghost use Rattle.apfloat_decimals.specs.ShortestSearch.{IsPositive};
-ghost use Rattle.storage_formats.specs.Scales.{IsDeliveredScale, IsScale, largest_code, nan_code};
-ghost use Rattle.storage_formats.specs.Scales.{scale_format, scale_of};
+ghost use Rattle.storage_formats.specs.ScaleModes.{IsDeliveredScaleBy, IsScaleBy};
+ghost use Rattle.storage_formats.specs.Scales.{IsScale, largest_code, nan_code, scale_format, scale_of};
 
 use crate::cuts::DIGITS;
 use crate::from_value::{leads_out, status_of_nan, status_past};
+use crate::from_value_by::ieee_mode;
 use crate::grid_points::{Point, convert_point};
+use crate::modes::ConversionRound;
+use crate::picks::takes_next;
 use crate::quanta::in_quanta;
 use apfloat_base::{Category, ExpInt, Flags, Float, Round, Status, StatusAnd};
 use apfloat_ieee::{Flagged, IeeeFloat, Semantics};
 use apfloat_model::Loss;
-use apfloat_rounding::rounding::moves_up;
 use apfloat_words::{is_exact, shift_right};
 use std::marker::Model;
 
@@ -101,32 +103,33 @@ fn code_at(unit: ExpInt) -> u32
 }
 
 /// A positive number with 125 digits, the last of which is at `unit`, rounded once.
-fn round_digits(digits: u128, unit: ExpInt, mode: Round) -> StatusAnd<E8M0FNU>
+fn round_digits(digits: u128, unit: ExpInt, mode: ConversionRound) -> StatusAnd<E8M0FNU>
     requires low { 2 ^ 124 ≤ digits }
     requires high { digits < 2 ^ 125 }
     requires within { IsWithin (2 ^ 23) unit }
     ensures { (amount parts : ℕ) → 0 < parts
         → amount * 2 ^ down unit ≡ digits * (parts * 2 ^ up unit)
-        → Gives (IsDeliveredScale mode amount parts) result }
+        → Gives (IsDeliveredScaleBy mode amount parts) result }
 {
     if unit < -FIRST {
         return least();
     }
     let low = code_at(unit);
     let first = shift_right(digits, DIGITS - 1, Loss::ExactlyZero);
-    let moves = moves_up(mode, false, first.loss, low % 2 == 1);
+    let odd = low % 2 == 1;
+    let moves = takes_next(mode, false, digits, DIGITS - 1, first.loss, odd);
     let picked = moved_code(low, moves);
     if picked > u32::from(LARGEST) {
-        past(mode)
+        past(ieee_mode(mode))
     } else {
         within(picked, is_exact(first.loss))
     }
 }
 
 /// A positive value, rounded once.
-fn round_positive<S: Semantics>(x: IeeeFloat<S>, mode: Round) -> StatusAnd<E8M0FNU>
+fn round_positive<S: Semantics>(x: IeeeFloat<S>, mode: ConversionRound) -> StatusAnd<E8M0FNU>
     requires { IsPositive (format_of S.Semantics) x }
-    ensures { Gives (IsDeliveredScale mode (quanta_of x * 2 ^ 127)
+    ensures { Gives (IsDeliveredScaleBy mode (quanta_of x * 2 ^ 127)
         (2 ^ (format_of S.Semantics).scale)) result }
 {
     let number = in_quanta(x, BIAS);
@@ -170,6 +173,24 @@ impl E8M0FNU {
         ensures { IsScale (format_of S.Semantics) round x result.value (bits_of result.status)
             loses_info.new }
     {
+        E8M0FNU::from_value_by(x, ConversionRound::Ieee(round), loses_info)
+    }
+
+    /// A value of any format, rounded once in a mode of conversions, with the flags of that rounding. In a mode of IEEE
+    /// 754 it is the conversion of `from_value`.
+    ///
+    /// A number between two scales becomes the one with the odd code, or the one that random digits choose. Past the
+    /// largest scale the result is the NaN for random digits, as to nearest, and that scale to odd, though its code is
+    /// even. What is below the least scale becomes that scale in each mode, and so do NaNs, infinities, zeros and what
+    /// is below zero what `from_value` makes of them.
+    pub fn from_value_by<S: Semantics>(
+        x: IeeeFloat<S>,
+        mode: ConversionRound,
+        loses_info: &mut bool,
+    ) -> StatusAnd<Self>
+        ensures { IsScaleBy (format_of S.Semantics) mode x result.value (bits_of result.status)
+            loses_info.new }
+    {
         match x.category() {
             Category::NaN => {
                 *loses_info = S::NAN_PAYLOAD_MASK != 0;
@@ -193,7 +214,7 @@ impl E8M0FNU {
                     *loses_info = true;
                     return Status::INVALID_OP.and(E8M0FNU { code: NAN });
                 }
-                let answer = round_positive(x, round);
+                let answer = round_positive(x, mode);
                 *loses_info = answer.status != Status::OK;
                 answer
             }

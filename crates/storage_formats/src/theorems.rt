@@ -4,6 +4,7 @@ ghost use Rattle.storage_formats.specs.Laws.{AreCodesInOrder, IsIntoOnce, IsScal
 ghost use Rattle.storage_formats.specs.Float8E3M4.{IsE3M4Once};
 ghost use Rattle.storage_formats.specs.ModeLaws.{ArePicksOfModel, AreRandomNumbersCounted, IsIntoByOnce};
 ghost use Rattle.storage_formats.specs.ModeLaws.{IsIntoOfModel, StaysExact};
+ghost use Rattle.storage_formats.specs.ScaleModes.{AreScalesOfModes, IsScaleByOnce};
 ghost use Rattle.storage_formats.specs.Quotients.{IsQuotientOnce};
 ghost use Rattle.storage_formats.specs.ProjectionLaws.{AreCodePicksPicks, AreNextValues};
 ghost use Rattle.storage_formats.specs.ProjectionLaws.{IsOneInTheMiddle, IsProjectedOnce};
@@ -20,6 +21,16 @@ pub fn conversions_have_one_answer()
 /// A conversion into a scale has one answer.
 pub fn scales_have_one_answer()
     ensures { IsScaleOnce }
+{}
+
+/// A conversion into a scale by a mode of conversions has one answer.
+pub fn scales_by_mode_have_one_answer()
+    ensures { IsScaleByOnce }
+{}
+
+/// In a mode of IEEE 754 that conversion is the one of `Scales`.
+pub fn scales_by_mode_are_scales()
+    ensures { AreScalesOfModes }
 {}
 
 /// A conversion into `UE4M3` has one answer.

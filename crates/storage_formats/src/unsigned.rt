@@ -37,7 +37,7 @@ impl Model for UE4M3 {
 }
 
 /// The code of a value that is not below zero.
-fn code_of(x: Float8E4M3FN) -> UE4M3
+pub fn code_of(x: Float8E4M3FN) -> UE4M3
     requires { is_negative x ≡ false }
     ensures { unsigned_datum result ≡ x }
 {

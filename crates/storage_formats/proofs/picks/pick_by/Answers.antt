@@ -1,4 +1,4 @@
-use Rattle.std.proofs.Common.{◌+◌, ◌*◌, ◌^◌, ℕ, cond, eqb, ap, ◌∙◌, subst, w32}
+use Rattle.std.proofs.Common.{◌+◌, ◌*◌, ◌^◌, ℕ, cond, ap, ◌∙◌, subst, w32}
 use Rattle.std.proofs.lemmas.Int.{to_z-of_z}
 use Rattle.apfloat_model.specs.rounding.Standing.{StandsFor, up, down}
 use Rattle.storage_formats.proofs.ProjectedPicks.{point_at}
