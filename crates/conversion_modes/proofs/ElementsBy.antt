@@ -70,7 +70,8 @@ odd_least below above l = either (is_odd_below below above)
     either true = omega arith
     either false = l
 
-ordered : (below above amount parts : ℕ) → 0 < parts → IsBelow 5 below amount parts → IsAbove 5 above amount parts
+ordered : (below above amount parts : ℕ) → 0 < parts → IsBelow 5 below amount parts
+    → IsAbove 5 above amount parts
     → below ≤ above
 ordered below above amount parts some x y =
     let under = x.not_above in
@@ -79,7 +80,8 @@ ordered below above amount parts some x y =
     le_of_mul-le-mul_right between some
 
 within_delivered : (mode : ConversionRound) (b : Bool) (amount parts : ℕ) (value : Datum) (status : ℕ) → 0 < parts
-    → is_finite value ≡ true → quanta_of value ≤ 992 → IsDeliveredBy wide_format mode b amount parts value status
+    → is_finite value ≡ true → quanta_of value ≤ 992
+    → IsDeliveredBy wide_format mode b amount parts value status
     → IsDeliveredBy e3m4_format mode b amount parts value status
 within_delivered (Ieee mode) b amount parts value status some number low d =
     narrow_delivered mode b amount parts value status d
@@ -172,7 +174,8 @@ number_of f g mode b n value status loses x =
 
 pub within_by : (f : Format) (mode : ConversionRound) (x given : Datum) (status code : ℕ) (loses : Bool)
     → is_finite x ≡ true → IsSided code given → code % 256 < 112
-    → IsConversionBy f wide_format mode x given status loses → IsConversionBy f e3m4_format mode x given status loses
+    → IsConversionBy f wide_format mode x given status loses
+    → IsConversionBy f e3m4_format mode x given status loses
 within_by f mode (finite b zero) given status code loses number side low h =
     within_converted f (ieee_mode mode) (finite b zero) given status code loses number side low h
 within_by f mode (finite b (suc n)) given status code loses number side low h =

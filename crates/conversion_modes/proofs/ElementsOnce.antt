@@ -49,7 +49,8 @@ unsigned_by_once f mode (finite true n) code other status flags loses lost l k h
 unsigned_by_once f mode (finite false n) code other status flags loses lost l k h j =
     let same = conversion_once f signed_format mode (finite false n) (unsigned_datum code) (unsigned_datum other)
     status flags loses lost h j in
-    let is = subst (λ (d : Datum). IsEncodedBy signed_format signed_layout code d) same.0 (unsigned_encoded code l) in (
+    let is = subst (λ (d : Datum). IsEncodedBy signed_format signed_layout code d) same.0
+    (unsigned_encoded code l) in (
       encoded_once signed_format signed_layout (unsigned_datum other) code other signed_interchange is
           (unsigned_encoded other k),
       same.1,

@@ -15,7 +15,8 @@ pub length_full : (p s n : ℕ) → 0 < p → p ≤ n → 2 ^ (p - 1) ≤ s → 
 length_full p s n some l h = full_shifted s p (n - p) n some (λ _. h) (omega (arith, l))
 
 -- no digit leaves the word
-pub length_whole : (p s n : ℕ) → n ≤ 128 → p ≤ n → s < 2 ^ p → s * 2 ^ (n - p) % 2 ^ 128 ≡ s * 2 ^ (n - p)
+pub length_whole : (p s n : ℕ) → n ≤ 128 → p ≤ n → s < 2 ^ p
+    → s * 2 ^ (n - p) % 2 ^ 128 ≡ s * 2 ^ (n - p)
 length_whole p s n k l h =
     let fits = length_fits p s n l h in
     let room : 2 ^ n ≤ 2 ^ 128 = pow-le-pow_right two_pos k in

@@ -33,8 +33,10 @@ pub converted_number : (f g : Format) (mode : Round) (b : Bool) (n : ℕ) (value
 converted_number f g mode b n value status loses x =
     MatchBool-at_false _ (IsConvertedNumber f g mode b (suc n) value status loses) (some_quanta n) x
 
-pub number_by : (f g : Format) (mode : ConversionRound) (b : Bool) (n : ℕ) (value : Datum) (status : ℕ) (loses : Bool)
-    → IsNumberBy f g mode b (suc n) value status loses → IsConversionBy f g mode (finite b (suc n)) value status loses
+pub number_by : (f g : Format) (mode : ConversionRound) (b : Bool) (n : ℕ) (value : Datum) (status : ℕ)
+    (loses : Bool)
+    → IsNumberBy f g mode b (suc n) value status loses
+    → IsConversionBy f g mode (finite b (suc n)) value status loses
 number_by f g mode b n value status loses x =
     match_false (eqb (suc n) 0) _ (IsNumberBy f g mode b (suc n) value status loses) (some_quanta n) x
 

@@ -18,7 +18,8 @@ use Rattle.conversion_modes.specs.Laws.{AreConversionsOfModel, IsConversionByOnc
 use Rattle.conversion_modes.specs.ModeConversions.{IsDeliveredBy, IsNumberBy}
 use Rattle.conversion_modes.proofs.NumbersBy.{some_quanta}
 
-delivered_by_once : (g : Format) (mode : ConversionRound) (negative : Bool) (amount parts : ℕ) (v w : Datum) (s t : ℕ)
+delivered_by_once : (g : Format) (mode : ConversionRound) (negative : Bool) (amount parts : ℕ) (v w : Datum)
+    (s t : ℕ)
     → IsDeliveredBy g mode negative amount parts v s → IsDeliveredBy g mode negative amount parts w t
     → (v ≡ w) × (s ≡ t)
 delivered_by_once g (Ieee mode) negative amount parts v w s t x y =

@@ -16,7 +16,8 @@ record AreDistances (by to r k v w : ℕ) : Type 0 where
   both : (by + to) * v ≡ k * w
 
 distances : (q k r low high amount v w : ℕ) → low ≤ amount → amount ≤ high → amount * v ≡ (q * k + r) * w
-    → low * v ≡ q * (k * w) → high * v ≡ (q + 1) * (k * w) → AreDistances (amount - low) (high - amount) r k v w
+    → low * v ≡ q * (k * w) → high * v ≡ (q + 1) * (k * w)
+    → AreDistances (amount - low) (high - amount) r k v w
 distances q k r low high amount v w from to is lower upper =
     let by : ℕ = amount - low in
     let rest : ℕ = high - amount in

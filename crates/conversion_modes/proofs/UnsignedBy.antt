@@ -45,7 +45,8 @@ positive_unsigned f mode (nan b s) code status loses number positive h = absurd 
 
 -- ---- the sign is kept
 
-delivered_sign : (mode : Round) (b : Bool) (pick : ℕ) → is_negative (delivered_value signed_format mode b pick) ≡ b
+delivered_sign : (mode : Round) (b : Bool) (pick : ℕ)
+    → is_negative (delivered_value signed_format mode b pick) ≡ b
 delivered_sign mode b pick =
     kept_sign (ltb (largest signed_format) pick) (leads_out mode b) (eqb pick 0) b (nan_base signed_format)
     (largest signed_format) pick

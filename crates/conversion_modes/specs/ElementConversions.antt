@@ -34,5 +34,6 @@ IsE3M4ByOnce =
 abbrev pub IsUnsignedByOnce : Type 0
 IsUnsignedByOnce =
     (f : Format) (mode : ConversionRound) (x : Datum) (code other status flags : ℕ) (loses lost : Bool)
-    → code < 128 → other < 128 → IsUnsignedBy f mode x code status loses → IsUnsignedBy f mode x other flags lost
+    → code < 128 → other < 128 → IsUnsignedBy f mode x code status loses
+    → IsUnsignedBy f mode x other flags lost
     → (code ≡ other) × (status ≡ flags) × (loses ≡ lost)

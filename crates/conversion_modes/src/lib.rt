@@ -1,9 +1,9 @@
-//! Conversions to any format by the modes of conversions (`storage_formats::ConversionRound`): the five of IEEE 754, to
-//! odd, and with random digits.
+//! Conversions to any format by the modes of conversions (`storage_formats::ConversionRound`): the five of IEEE 754,
+//! to odd, and with random digits.
 //!
 //! Random digits choose one of the two neighbours of a number (`directions`), by the digits that the target does not
-//! keep (`cuts`). The conversion in the directed mode that leads to that neighbour does the rest (`by_mode`). Two storage
-//! formats, whose numbers are those of a format of the model, are converted into by way of such a format (`elements`).
+//! keep (`cuts`). The conversion in the directed mode that leads to that neighbour does the rest (`by_mode`). Two
+//! storage formats have the numbers of a format of the model, and are converted into by way of it (`elements`).
 #![tactic(auto)]
 
 mod by_mode;

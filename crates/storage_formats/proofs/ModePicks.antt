@@ -129,7 +129,8 @@ moves_kept mode negative odd number k m c amount parts u d q e of a =
 -- ---- the pick by codes
 
 -- between two codes whose numbers, in units of the amount, are `at` and `next`
-pub code_between : (mode : ConversionRound) (negative : Bool) (amount at next low : ℕ) (moved : Bool) → at ≤ amount
+pub code_between : (mode : ConversionRound) (negative : Bool) (amount at next low : ℕ) (moved : Bool)
+    → at ≤ amount
     → moved ≡ moves mode negative (amount - at) (next - amount) (eqb (low % 2) 1)
     → cond moved (low + 1) low
     ≡ cond (eqb at amount) low

@@ -27,7 +27,8 @@ picked_once mode amount parts code other (inl x) (inr y) = absurd (least_or_not 
 picked_once mode amount parts code other (inr x) (inl y) = absurd (least_or_not amount parts x.low y.0 x.from)
 picked_once mode amount parts code other (inr x) (inr y) =
     x.is
-    ∙ ap (λ (n : ℕ). picked_code_by mode amount parts n) (low_once amount parts x.low y.low x.from x.to y.from y.to)
+    ∙ ap (λ (n : ℕ). picked_code_by mode amount parts n)
+    (low_once amount parts x.low y.low x.from x.to y.from y.to)
     ∙ sym y.is
 
 number_once : (f : Format) (mode : ConversionRound) (n code other status flags : ℕ) (loses lost : Bool)

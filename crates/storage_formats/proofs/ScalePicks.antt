@@ -125,7 +125,8 @@ exact_scale mode amount parts low picked loss moved false some h is at when unle
 
 -- ---- what is delivered
 
-pub least_delivered : (mode : ConversionRound) (amount parts code status : ℕ) → amount < parts → code ≡ 0 → status ≡ 24
+pub least_delivered : (mode : ConversionRound) (amount parts code status : ℕ) → amount < parts
+    → code ≡ 0 → status ≡ 24
     → IsDeliveredScaleBy mode amount parts code status
 least_delivered mode amount parts code status l at flags =
     let off : eqb (2 ^ 0 * parts) amount ≡ false = ne_eqb (2 ^ 0 * parts) amount (λ e. omega (arith, e, l)) in
@@ -142,7 +143,8 @@ scale_past mode amount parts picked code status x l at flags =
     record { picked = picked; is_picked = inr x; code_is = rw past at; status_is = rw past flags }
 
 pub scale_within : (mode : ConversionRound) (amount parts picked code status : ℕ) (exact : Bool)
-    → IsPickedCodeBy mode amount parts picked → eqb (2 ^ picked * parts) amount ≡ exact → picked ≤ 254 → code ≡ picked
+    → IsPickedCodeBy mode amount parts picked → eqb (2 ^ picked * parts) amount ≡ exact → picked ≤ 254
+    → code ≡ picked
     → status ≡ cond exact 0 16 → IsDeliveredScaleBy mode amount parts code status
 scale_within mode amount parts picked code status exact x same l at flags =
     let within : ltb 254 picked ≡ false = le-ltb 254 picked l in

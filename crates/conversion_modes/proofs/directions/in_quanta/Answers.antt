@@ -19,4 +19,5 @@ returns-clause-number g c =
     let unit = to_z-of_z w32 c.unit_of.result (record { sfits = c.unit_of.type_inv }) in
     rw (unit, c.lengthened.ensures.value)
     (length_in_quanta (quanta_of c.args.x) c.number-number.result.significand (125 - c.PRECISION-precision.result)
-    f.scale c.args.scale exponent (exponent +ℤ pos f.scale) c.unit_of.result c.number-number.ensures.number refl value)
+    f.scale c.args.scale exponent
+    (exponent +ℤ pos f.scale) c.unit_of.result c.number-number.ensures.number refl value)
