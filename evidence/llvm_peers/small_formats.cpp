@@ -16,8 +16,8 @@
 //     random   singles and doubles, to every small format
 //     pairs    sums, differences, products, quotients and remainders of all pairs of codes of the six formats of 8 bits
 //     triples  fused sums of all triples of codes of these formats; not in `all`
-//     fused    fused sums in these formats and in tf32, half, bfloat and single: half of the addends nearly cancel the
-//              product, and a quarter are subnormal
+//     fused    fused sums in these formats and in tf32, half, bfloat, single and double: in three quarters of them the
+//              product and the addend nearly cancel, and in most of these the addend is subnormal
 //
 // Differences are counted in groups, by the call, the format of the result, the operands and both results. For each
 // group it prints how many calls differ in each mode (even, up, down, zero, away) and the first of them. The file ROWS
@@ -73,6 +73,10 @@ static const std::vector<Format> FORMATS = {
 };
 enum { EIGHT_BITS = 6, SMALL = 10, SHORT = 12, SINGLE = 12, DOUBLE = 13, ALL = 14 };
 
+static uint64_t mask_of(const Format &format) { return ~UINT64_C(0) >> (64 - format.bits); }
+
+static uint64_t sign_of(const Format &format) { return UINT64_C(1) << (format.bits - 1); }
+
 static const struct {
     const char *word;
     uint32_t code;
@@ -118,7 +122,7 @@ static std::string kind_of(const APFloat &x) {
     return x.isDenormal() ? "subnormal" : "normal";
 }
 
-// The operands of a group: the first kind of these that one of them is.
+// What one of the operands is: the first of these kinds.
 static std::string operands_of(const Format &format, const std::vector<uint64_t> &operands) {
     bool nan = false, signaling = false, infinite = false, zero = false;
     for (uint64_t bits : operands) {
@@ -276,7 +280,7 @@ static uint64_t bits_of(const Format &format, double x) {
 }
 
 static void at_and_beside(const Format &source, const Format &target, double point) {
-    uint64_t middle = bits_of(source, point), sign = UINT64_C(1) << (source.bits - 1);
+    uint64_t middle = bits_of(source, point), sign = sign_of(source);
     for (uint64_t bits = middle < 2 ? 0 : middle - 2; bits <= middle + 2; bits++) {
         convert(source, target, bits);
         convert(source, target, bits | sign);
@@ -285,7 +289,7 @@ static void at_and_beside(const Format &source, const Format &target, double poi
 
 static void specials(const Format &source, const Format &target) {
     int trailing = source.bits == 32 ? 23 : 52;
-    uint64_t sign = UINT64_C(1) << (source.bits - 1), infinity = sign - (UINT64_C(1) << trailing);
+    uint64_t sign = sign_of(source), infinity = sign - (UINT64_C(1) << trailing);
     std::vector<uint64_t> magnitudes = {0, 1, 2, (UINT64_C(1) << trailing) - 1, UINT64_C(1) << trailing, infinity - 1,
                                         infinity};
     for (int i = 0; i < trailing; i++) {
@@ -308,15 +312,15 @@ static void at_points() {
 
 // Half of them of any bits, and half near the numbers of the target.
 static uint64_t drawn(const Format &source, const Format &target) {
-    uint64_t any = word(), mask = source.bits == 64 ? ~UINT64_C(0) : (UINT64_C(1) << source.bits) - 1;
-    if (word() % 2) return any & mask;
+    uint64_t any = word();
+    if (word() % 2) return any & mask_of(source);
     int trailing = source.bits == 32 ? 23 : 52, bias = source.bits == 32 ? 127 : 1023;
     int64_t least = APFloat::semanticsMinExponent(target.semantics()) -
                     (int64_t)APFloat::semanticsPrecision(target.semantics()) - 3;
     int64_t field = between(least, APFloat::semanticsMaxExponent(target.semantics()) + 3) + bias;
     int64_t greatest = 2 * bias + 1;
     uint64_t kept = (uint64_t)std::clamp<int64_t>(field, 0, greatest) << trailing;
-    // Most of the others have few digits below those of the target, so that ties are frequent.
+    // Three quarters of these end in zeros, so that ties are frequent.
     int zeros = word() % 4 ? (int)between(0, trailing - 2) : 0;
     uint64_t digits = any >> (64 - trailing) >> zeros << zeros;
     return (any & 1) << (source.bits - 1) | kept | digits;
@@ -402,42 +406,96 @@ static void triples() {
                 for (uint64_t z = 0; z < 256; z++) fused_sum(FORMATS[i], x, y, z);
 }
 
-// An addend that nearly cancels a product, by a few units of its last place, a subnormal one, or any.
-static uint64_t drawn_addend(const Format &format, uint64_t mask, uint64_t x, uint64_t y) {
-    int digits = (int)APFloat::semanticsPrecision(format.semantics()) - 1;
-    uint64_t sign = UINT64_C(1) << (format.bits - 1), any = word() & mask;
-    if (word() % 4 == 0) return any & (sign | ((UINT64_C(1) << digits) - 1));
-    if (word() % 3 == 0) return any;
-    APFloat product = format.value(x);
-    product.multiply(format.value(y), APFloat::rmNearestTiesToEven);
-    uint64_t opposite = product.bitcastToAPInt().getZExtValue() ^ sign;
-    return (opposite + (uint64_t)between(-2, 2)) & mask;
+static uint64_t drawn_subnormal(const Format &format) {
+    int trailing = (int)APFloat::semanticsPrecision(format.semantics()) - 1;
+    return word() & (sign_of(format) | ((UINT64_C(1) << trailing) - 1));
+}
+
+// The opposite of a value, or of one that is at most two units of the last place from it.
+static uint64_t near_opposite(const Format &format, const APFloat &x) {
+    uint64_t opposite = x.bitcastToAPInt().getZExtValue() ^ sign_of(format);
+    return (opposite + (uint64_t)between(-2, 2)) & mask_of(format);
+}
+
+// The inverse of an odd number modulo 2^64: each step doubles the digits that are right.
+static uint64_t inverse(uint64_t odd) {
+    uint64_t found = odd;
+    for (int right = 3; right < 64; right *= 2) found *= 2 - odd * found;
+    return found;
+}
+
+static uint64_t scaled(const Format &format, uint64_t number, int64_t power) {
+    APFloat x(format.semantics());
+    x.convertFromAPInt(APInt(64, number), false, APFloat::rmNearestTiesToEven);
+    return scalbn(x, (int)power, APFloat::rmNearestTiesToEven).bitcastToAPInt().getZExtValue();
+}
+
+// A product of m * 2^k + 1 units and a subnormal addend of -m * 2^k, or both with the other sign: k exceeds the
+// precision by 1 to 4, so that the sum is far below the smallest value.
+static void drawn_cancelling_sum(const Format &format) {
+    int precision = (int)APFloat::semanticsPrecision(format.semantics()), k;
+    int64_t least = APFloat::semanticsMinExponent(format.semantics());
+    uint64_t x, y;
+    do {
+        k = precision + (int)between(1, 4);
+        x = word() >> (64 - precision) | UINT64_C(1) << (precision - 1) | 1;
+        y = inverse(x) & ((UINT64_C(1) << k) - 1);
+    } while (y >> precision);
+    uint64_t m = (uint64_t)((unsigned __int128)x * y >> k), sign = word() % 2 ? sign_of(format) : 0;
+    int64_t power = between(least, precision - 1 - k) - (precision - 1);
+    uint64_t left = scaled(format, x, power), right = scaled(format, y, least - (precision - 1) - k - power);
+    if (m != 0) fused_sum(format, left ^ sign, right, m | (sign ^ sign_of(format)));
+}
+
+static void drawn_fused_sum(const Format &format) {
+    uint64_t x = word() & mask_of(format), y = word() & mask_of(format), z = word() & mask_of(format);
+    APFloat product = format.value(x), quotient = product;
+    switch (word() % 4) {
+    case 0:
+        break;
+    case 1:
+        product.multiply(format.value(y), APFloat::rmNearestTiesToEven);
+        z = near_opposite(format, product);
+        break;
+    case 2:
+        if (word() % 4) z = drawn_subnormal(format);
+        quotient = format.value(z);
+        quotient.divide(format.value(x), APFloat::rmNearestTiesToEven);
+        y = near_opposite(format, quotient);
+        break;
+    default:
+        return drawn_cancelling_sum(format);
+    }
+    fused_sum(format, x, y, z);
 }
 
 static void fused(long count) {
-    for (int i = 0; i < DOUBLE; i++) {
-        const Format &format = FORMATS[i];
-        if (format.is_stored()) continue;
-        uint64_t mask = (UINT64_C(1) << format.bits) - 1;
-        for (long n = 0; n < count; n++) {
-            uint64_t x = word() & mask, y = word() & mask;
-            fused_sum(format, x, y, drawn_addend(format, mask, x, y));
-        }
-    }
+    for (const Format &format : FORMATS)
+        if (!format.is_stored())
+            for (long n = 0; n < count; n++) drawn_fused_sum(format);
 }
+
+static const struct {
+    const char *word;
+    void (*run)(long count);
+    bool is_in_all;
+} SUBJECTS[] = {{"codes", [](long) { codes(); }, true},     {"points", [](long) { at_points(); }, true},
+                {"random", at_random, true},                {"pairs", [](long) { pairs(); }, true},
+                {"triples", [](long) { triples(); }, false}, {"fused", fused, true}};
 
 int main(int argc, char **argv) {
     if (argc < 4 || argc > 5) return 2;
-    std::string subject = argv[1];
+    std::string wanted = argv[1];
     state = strtoull(argv[2], nullptr, 10);
     long count = strtol(argv[3], nullptr, 10);
     if (argc == 5 && !(rows = fopen(argv[4], "w"))) return 2;
-    bool all = subject == "all";
-    if (all || subject == "codes") codes(), print_groups("codes");
-    if (all || subject == "points") at_points(), print_groups("points");
-    if (all || subject == "random") at_random(count), print_groups("random");
-    if (all || subject == "pairs") pairs(), print_groups("pairs");
-    if (all || subject == "fused") fused(count), print_groups("fused");
-    if (subject == "triples") triples(), print_groups("triples");
-    return rows && fclose(rows) ? 1 : 0;
+    bool is_known = false;
+    for (const auto &subject : SUBJECTS) {
+        if (wanted != subject.word && !(wanted == "all" && subject.is_in_all)) continue;
+        is_known = true;
+        subject.run(count);
+        print_groups(subject.word);
+    }
+    if (rows && fclose(rows)) return 1;
+    return is_known ? 0 : 2;
 }
