@@ -1,8 +1,10 @@
-/* Compares arrays, of which long ones are converted by tables, with calls on single values, which have none: all
- * 2^32 singles to each format of 8 bits, and all values of these formats to every format; values and counts.
+/* Compares arrays, which are converted sixteen singles at a time or by tables, with calls on single values, which
+ * have neither: all 2^32 singles to each format of 8 or 16 bits, and all values of the formats of 8 bits to every
+ * format; values and counts.
  *
  *     cc -O2 -Iinclude evidence/arrays.c libapfloat_c.a -o arrays
- *     arrays [MODE [SATURATING [RULE]]]      0 to 4; 0 or 1; 0, 1 or 3, as in the code of a format
+ *     arrays [MODE [SATURATING [RULE [FORMAT]]]]      0 to 4; 0 or 1; 0, 1 or 3, as in the code of a format; the only
+ *                                                     format to which singles are converted
  *
  * The singles of an array are in an order in which neighbours differ in every field. */
 #include "apfloat.h"
@@ -82,12 +84,14 @@ int main(int argc, char **argv) {
     uint32_t mode = argc > 1 ? (uint32_t)atoi(argv[1]) : 0;
     int saturate = argc > 2 && atoi(argv[2]);
     uint32_t rule = argc > 3 ? (uint32_t)atoi(argv[3]) : 0;
+    const char *only = argc > 4 ? argv[4] : NULL;
     for (size_t i = 0; i < MOST; i++) input[i] = (uint8_t)(i * 37);
     for (int from = BYTES; from < FORMATS; from++)
         for (int to = 0; to < FORMATS; to++)
             if (!rule || formats[to].ieee) check(formats[from], formats[to], rule, mode, saturate, 1024);
-    for (int to = BYTES; to < FORMATS; to++) {
-        if (rule && !formats[to].ieee) continue;
+    for (int to = 0; to < FORMATS; to++) {
+        if (formats[to].bytes > 2 || (rule && !formats[to].ieee)) continue;
+        if (only && strcmp(only, formats[to].name)) continue;
         for (uint64_t place = 0; place < UINT64_C(1) << 32; place += MOST) {
             for (size_t i = 0; i < MOST; i++) {
                 uint32_t x = single_at(place + i);
