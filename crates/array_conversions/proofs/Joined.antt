@@ -189,8 +189,8 @@ rest_size target done count bytes before size =
     ∙ (let rest : count * target - done * target ≡ (count - done) * target = omega (arith, whole, parts) in rest)
 
 -- the same block, with its width renamed
-pub block_width : (Holds : List ℕ → List ℕ → Outcome → Type 0) (source target other count : ℕ) (input output : List ℕ)
-    (counts : Counts) → target ≡ other → IsBlock Holds source target count input output counts
+pub block_width : (Holds : List ℕ → List ℕ → Outcome → Type 0) (source target other count : ℕ)
+    (input output : List ℕ) (counts : Counts) → target ≡ other → IsBlock Holds source target count input output counts
     → IsBlock Holds source other count input output counts
 block_width Holds source target other count input output counts same block =
     subst (λ (n : ℕ). IsBlock Holds source n count input output counts) same block

@@ -247,8 +247,8 @@ fn convert_by_plan<S: Flagged, T: Flagged>(
     counts
 }
 
-/// Converts `count` singles, each in its place. The widths and the format are constants, so that the loops know how many
-/// bytes they read and write, and where a significand is cut; and so is the usual mode.
+/// Converts `count` singles, each in its place. The widths and the format are constants, so that the loops know how
+/// many bytes they read and write, and where a significand is cut; and so is the usual mode.
 #[inline(never)]
 pub fn convert_singles<S: Flagged, T: Flagged>(
     overflow: Overflow,

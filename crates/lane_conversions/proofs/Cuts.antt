@@ -1,4 +1,5 @@
--- A quotient rounded to odd and moved up: what is above some places, and the rest below them, stand for the exact number.
+-- A quotient rounded to odd and moved up: what is above some places, and the rest below them, stand for the exact
+-- number.
 use Rattle.std.proofs.Common.{◌≡◌, ℕ, ◌+◌, ◌-◌, ◌*◌, ◌/◌, ◌%◌, ◌^◌, ◌<◌, ◌≤◌, Bool, cond, sym, ap, ◌∙◌, subst, ⊎_elim, arith}
 use Rattle.std.proofs.Math.Nat.{div-eq_of_lt, lt-div-mul-add, mod-eq_of_lt, mul-le-mul_right, mul-lt-mul_of_pos_right, mul-pos, pow-le-pow_right}
 use Rattle.std.proofs.lemmas.Nat.{div-add-mod', mod_below, pow-add, pow_pos}

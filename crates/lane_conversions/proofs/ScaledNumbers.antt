@@ -1,5 +1,5 @@
--- The lemma over plain numbers: what the steps make of m * 2 ^ e quanta of one format is that number's encoding in another
--- one, with `low` more digits, as far as rounding can tell.
+-- The lemma over plain numbers: what the steps make of m * 2 ^ e quanta of one format is that number's encoding in
+-- another one, with `low` more digits, as far as rounding can tell.
 use Rattle.std.proofs.Common.{◌≡◌, ℕ, ◌+◌, ◌-◌, ◌*◌, ◌/◌, ◌%◌, ◌^◌, ◌<◌, ◌≤◌, ◌⊎◌, refl, sym, ap, ◌∙◌, subst, inl, inr, ⊎_elim, arith}
 use Rattle.std.proofs.Math.Nat.{add-mul-mod_self_right, div-eq_of_lt, mul-add-div_right, mul-le-mul_right, mul-lt-mul_of_pos_right, pow-le-pow_right}
 use Rattle.std.proofs.lemmas.Nat.{div-add-mod', div_below, le-div, pow-add, pow_pos}
