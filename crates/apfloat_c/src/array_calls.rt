@@ -11,9 +11,10 @@ ghost use Rattle.apfloat_c.specs.ArrayCalls.{operation_coded};
 ghost use Rattle.apfloat_c.specs.Arrays.{IsValueConverted};
 
 use crate::codes::{NO_SUCH_OPERATION, UNKNOWN_FORMAT, UNKNOWN_MODE, WRONG_LENGTH};
-use array_conversions::{ArrayConversion, Counts, Extended, FiniteNan, Overflow, Widths, width};
+use array_conversions::{ArrayConversion, Counts, Extended, Widths, width};
 use formats_at_run_time::{Arithmetic, FlaggedFormat, FlaggedKind, mode_coded};
 use rustc_apfloat::Round;
+use saturating_conversions::{FiniteNan, Overflow};
 use storage_arrays::{Ends, StorageArray, StoredFormat};
 
 /// A rounding mode, and what an overflow gives.

@@ -1,21 +1,18 @@
--- Conversions with any treatment of overflow, and the largest value of a sign.
-use Rattle.std.proofs.Common.{◌≡◌, ℕ, ◌<◌, Bool, true, false, List, refl, subst, sym}
-use Rattle.apfloat_model.specs.declared.kinds.NonfiniteBehavior.{NonfiniteBehavior}
+-- Conversions with any treatment of overflow.
+use Rattle.std.proofs.Common.{◌≡◌, ℕ, Bool, List, subst, sym}
 use Rattle.rustc_apfloat.specs.declared.Round.{Round}
 use Rattle.rustc_apfloat.specs.Flags.{bits_of}
-use Rattle.rustc_apfloat.specs.Datum.{Datum, finite}
+use Rattle.rustc_apfloat.specs.Datum.{Datum}
 use Rattle.rustc_apfloat.specs.Classes.{is_nan}
 use Rattle.rustc_apfloat.specs.Lawful.{Constants, format_with, layout_with}
 use Rattle.rustc_apfloat.specs.Layout.{datum_of, IsEncodedBy}
-use Rattle.rustc_apfloat.specs.Negation.{negated}
 use Rattle.array_conversions.specs.declared.converted.Converted.{Converted}
 use Rattle.array_conversions.specs.declared.counts.Outcome.{Outcome}
-use Rattle.array_conversions.specs.declared.saturation.Overflow.{Overflow}
-use Rattle.array_conversions.specs.declared.saturation.Overflow.TheVariants.{Rounded, Saturated, Finite}
+use Rattle.saturating_conversions.specs.declared.saturation.Overflow.{Overflow}
+use Rattle.saturating_conversions.specs.declared.saturation.Overflow.TheVariants.{Rounded, Saturated, Finite}
 use Rattle.array_conversions.specs.Bytes.{number_of}
-use Rattle.array_conversions.specs.Saturation.{IsConversionBy}
+use Rattle.saturating_conversions.specs.Saturation.{IsConversionBy}
 use Rattle.array_conversions.specs.Values.{IsAnswerFrom, IsConvertedBy}
-use Rattle.apfloat_model.proofs.general.Choices.{not_zero}
 
 -- a value, its bytes and its outcome make a converted value, with any treatment of overflow
 converted_by : (overflow : Overflow) (c d : Constants) (mode : Round) (input output : List ℕ) (outcome : Outcome)
@@ -39,8 +36,3 @@ pub converted_from : (overflow : Overflow) (c d : Constants) (mode : Round) (inp
 converted_from overflow c d mode input output answer it written =
     converted_by overflow c d mode input output answer.outcome it.value it.loses it.is_conversion
     (subst (λ (n : ℕ). IsEncodedBy (format_with d) (layout_with d) n it.value) (sym written) it.is_encoded) it.nan_is
-
--- negating a nonzero number changes its sign
-pub negated_some : (kind : NonfiniteBehavior) (quanta : ℕ) → 0 < quanta
-    → negated kind (finite false quanta) ≡ finite true quanta
-negated_some kind quanta some = rw (not_zero quanta some) refl

@@ -10,11 +10,11 @@ use Rattle.lane_conversions.specs.Lanes.{IsConvertedLane, finished, flags_of}
 use Rattle.rustc_apfloat.specs.Conversions.{IsConversion}
 use Rattle.rustc_apfloat.specs.Lawful.{Constants, format_with, layout_with}
 use Rattle.rustc_apfloat.specs.declared.Round.{Round}
-use Rattle.array_conversions.specs.declared.saturation.Overflow.{Overflow}
-use Rattle.array_conversions.specs.declared.saturation.Overflow.TheVariants.{Rounded, Saturated, Finite}
+use Rattle.saturating_conversions.specs.declared.saturation.Overflow.{Overflow}
+use Rattle.saturating_conversions.specs.declared.saturation.Overflow.TheVariants.{Rounded, Saturated, Finite}
 use Rattle.array_conversions.specs.Bytes.{number_of}
 use Rattle.array_conversions.specs.Outcomes.{raised}
-use Rattle.array_conversions.specs.Saturation.{IsConversionBy}
+use Rattle.saturating_conversions.specs.Saturation.{IsConversionBy}
 use Rattle.array_conversions.specs.Singles.{IsPlanFor, outcome_of, saturates}
 use Rattle.array_conversions.specs.Values.{IsAnswerFrom, IsConvertedBy}
 use Rattle.array_conversions.proofs.ConversionsBy.{converted_from}

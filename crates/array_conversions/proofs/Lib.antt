@@ -8,7 +8,6 @@ pub mod OneBlock
 pub mod TabledResults
 pub mod ShortSources
 pub mod NormalNumbers
-mod FiniteValues
 pub mod ConvertedLanes
 pub mod Joined
 pub mod SingleTargets

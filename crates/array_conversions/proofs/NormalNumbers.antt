@@ -11,10 +11,10 @@ use Rattle.rustc_apfloat.specs.Lawful.{Constants, format_with, layout_with}
 use Rattle.rustc_apfloat.specs.Layout.{IsEncodedBy}
 use Rattle.rustc_apfloat.specs.Rounding.{ok_bits}
 use Rattle.array_conversions.specs.declared.converted.Converted.{Converted}
-use Rattle.array_conversions.specs.declared.saturation.Overflow.{Overflow}
-use Rattle.array_conversions.specs.declared.saturation.Overflow.TheVariants.{Rounded, Saturated, Finite}
+use Rattle.saturating_conversions.specs.declared.saturation.Overflow.{Overflow}
+use Rattle.saturating_conversions.specs.declared.saturation.Overflow.TheVariants.{Rounded, Saturated, Finite}
 use Rattle.array_conversions.specs.FarNumbers.{with_overflow}
-use Rattle.array_conversions.specs.Saturation.{IsConversionBy}
+use Rattle.saturating_conversions.specs.Saturation.{IsConversionBy}
 use Rattle.array_conversions.specs.Values.{IsAnswerFrom}
 use Rattle.array_conversions.proofs.FarNumbers.{number_converted}
 

@@ -14,15 +14,15 @@ use Rattle.apfloat_model.proofs.bits.EncodedOnce.{encoded_once}
 use Rattle.apfloat_model.proofs.bits.Encodings.{lawful_interchange}
 use Rattle.array_conversions.specs.declared.counts.Counts.{Counts}
 use Rattle.array_conversions.specs.declared.counts.Outcome.{Outcome}
-use Rattle.array_conversions.specs.declared.saturation.Overflow.{Overflow}
-use Rattle.array_conversions.specs.declared.saturation.Overflow.TheVariants.{Rounded, Saturated, Finite}
-use Rattle.array_conversions.specs.declared.saturation.FiniteNan.{FiniteNan}
-use Rattle.array_conversions.specs.declared.saturation.FiniteNan.TheVariants.{Kept, Largest}
+use Rattle.saturating_conversions.specs.declared.saturation.Overflow.{Overflow}
+use Rattle.saturating_conversions.specs.declared.saturation.Overflow.TheVariants.{Rounded, Saturated, Finite}
+use Rattle.saturating_conversions.specs.declared.saturation.FiniteNan.{FiniteNan}
+use Rattle.saturating_conversions.specs.declared.saturation.FiniteNan.TheVariants.{Kept, Largest}
 use Rattle.array_conversions.specs.Blocks.{AreInPlaces, IsBlock, value_at}
 use Rattle.array_conversions.specs.Bytes.{AreBytes, number_of}
 use Rattle.array_conversions.specs.OneBlock.{IsBlockOnce}
 use Rattle.array_conversions.specs.Outcomes.{counts_of}
-use Rattle.array_conversions.specs.Saturation.{IsConversionBy, IsFiniteConversion, IsSaturatedConversion, saturated}
+use Rattle.saturating_conversions.specs.Saturation.{IsConversionBy, IsFiniteConversion, IsSaturatedConversion, saturated}
 use Rattle.array_conversions.specs.Values.{IsConvertedBy}
 use Rattle.array_conversions.proofs.PlacesOnce.{FixesPlaces, places_once}
 

@@ -28,10 +28,10 @@ use Rattle.apfloat_odd.specs.Odd.{is_odd_below, odd_between}
 use Rattle.apfloat_odd.proofs.OddPoints.{AgreesAtEven, odd_agrees, odd_below_is}
 use Rattle.apfloat_odd.proofs.RoundedOnce.{delivered_once_more}
 use Rattle.array_conversions.specs.declared.converted.Converted.{Converted}
-use Rattle.array_conversions.specs.declared.saturation.Overflow.{Overflow}
-use Rattle.array_conversions.specs.declared.saturation.Overflow.TheVariants.{Rounded, Saturated, Finite}
+use Rattle.saturating_conversions.specs.declared.saturation.Overflow.{Overflow}
+use Rattle.saturating_conversions.specs.declared.saturation.Overflow.TheVariants.{Rounded, Saturated, Finite}
 use Rattle.array_conversions.specs.Bytes.{number_of}
-use Rattle.array_conversions.specs.Saturation.{IsConversionBy}
+use Rattle.saturating_conversions.specs.Saturation.{IsConversionBy}
 use Rattle.array_conversions.specs.ShortSources.{IsCoarseFor, IsShortFor, is_nan_of, short_of}
 use Rattle.array_conversions.specs.Values.{IsAnswerFrom}
 use Rattle.array_conversions.proofs.FarNumbers.{scale_is}

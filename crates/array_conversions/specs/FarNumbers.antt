@@ -10,10 +10,10 @@ use Rattle.rustc_apfloat.specs.Rounding.{IsDelivered}
 use Rattle.rustc_apfloat.specs.Lawful.{Constants, format_with, layout_with}
 use Rattle.rustc_apfloat.specs.Layout.{datum_of, IsEncodedBy}
 use Rattle.array_conversions.specs.declared.converted.Converted.{Converted}
-use Rattle.array_conversions.specs.declared.saturation.Overflow.{Overflow}
-use Rattle.array_conversions.specs.declared.saturation.Overflow.TheVariants.{Rounded, Saturated, Finite}
+use Rattle.saturating_conversions.specs.declared.saturation.Overflow.{Overflow}
+use Rattle.saturating_conversions.specs.declared.saturation.Overflow.TheVariants.{Rounded, Saturated, Finite}
 use Rattle.array_conversions.specs.Outcomes.{one_if}
-use Rattle.array_conversions.specs.Saturation.{saturated}
+use Rattle.saturating_conversions.specs.Saturation.{saturated}
 
 -- a magnitude of amount / parts quanta that is on that side
 pub record IsPast (g : Format) (amount parts : ℕ) : Type 0 where

@@ -1,6 +1,5 @@
 pub mod Bytes
 pub mod Outcomes
-pub mod Saturation
 pub mod Values
 pub mod FarNumbers
 pub mod Blocks

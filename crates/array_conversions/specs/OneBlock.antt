@@ -3,7 +3,7 @@ use Rattle.std.specs.Prelude.{◌≡◌, ℕ, ◌*◌, ◌<◌, List, length}
 use Rattle.rustc_apfloat.specs.declared.Round.{Round}
 use Rattle.rustc_apfloat.specs.Lawful.{Constants, IsLawful}
 use Rattle.array_conversions.specs.declared.counts.Counts.{Counts}
-use Rattle.array_conversions.specs.declared.saturation.Overflow.{Overflow}
+use Rattle.saturating_conversions.specs.declared.saturation.Overflow.{Overflow}
 use Rattle.array_conversions.specs.Blocks.{IsBlock}
 use Rattle.array_conversions.specs.Bytes.{AreBytes}
 use Rattle.array_conversions.specs.Values.{IsConvertedBy}

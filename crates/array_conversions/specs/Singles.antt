@@ -9,8 +9,8 @@ use Rattle.rustc_apfloat.specs.declared.Round.{Round}
 use Rattle.array_conversions.specs.declared.counts.Counts.{Counts}
 use Rattle.array_conversions.specs.declared.counts.Outcome.{Outcome}
 use Rattle.array_conversions.specs.declared.few_counts.FewCounts.{FewCounts}
-use Rattle.array_conversions.specs.declared.saturation.Overflow.{Overflow}
-use Rattle.array_conversions.specs.declared.saturation.Overflow.TheVariants.{Rounded, Saturated, Finite}
+use Rattle.saturating_conversions.specs.declared.saturation.Overflow.{Overflow}
+use Rattle.saturating_conversions.specs.declared.saturation.Overflow.TheVariants.{Rounded, Saturated, Finite}
 use Rattle.array_conversions.specs.Blocks.{value_at}
 use Rattle.array_conversions.specs.Bytes.{number_of}
 

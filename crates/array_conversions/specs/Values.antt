@@ -9,11 +9,11 @@ use Rattle.rustc_apfloat.specs.Lawful.{Constants, format_with, layout_with}
 use Rattle.rustc_apfloat.specs.Layout.{datum_of, IsEncodedBy}
 use Rattle.array_conversions.specs.declared.converted.Converted.{Converted}
 use Rattle.array_conversions.specs.declared.counts.Outcome.{Outcome}
-use Rattle.array_conversions.specs.declared.saturation.Overflow.{Overflow}
-use Rattle.array_conversions.specs.declared.saturation.Overflow.TheVariants.{Rounded, Saturated, Finite}
-use Rattle.array_conversions.specs.declared.saturation.FiniteNan.{FiniteNan}
+use Rattle.saturating_conversions.specs.declared.saturation.Overflow.{Overflow}
+use Rattle.saturating_conversions.specs.declared.saturation.Overflow.TheVariants.{Rounded, Saturated, Finite}
+use Rattle.saturating_conversions.specs.declared.saturation.FiniteNan.{FiniteNan}
 use Rattle.array_conversions.specs.Bytes.{number_of}
-use Rattle.array_conversions.specs.Saturation.{IsConversionBy, IsFiniteConversion, IsSaturatedConversion}
+use Rattle.saturating_conversions.specs.Saturation.{IsConversionBy, IsFiniteConversion, IsSaturatedConversion}
 
 -- The input bytes encode a value of the first format, and the output bytes are the canonical encoding of its conversion
 -- to the second. Bytes beyond the width of the first format are ignored, those beyond the width of the second are 0.

@@ -11,11 +11,11 @@ ghost use Rattle.array_conversions.specs.Blocks.{IsBlock};
 
 use crate::blocks::convert_block_by;
 use crate::counts::Counts;
-use crate::saturation::Overflow;
 use crate::widths::{Extended, Widths, width};
 use formats_at_run_time::{BuiltInFormat, FlaggedFormat, WritesInFormat};
 use rustc_apfloat::Round;
 use rustc_apfloat::ieee::Flagged;
+use saturating_conversions::Overflow;
 use std::marker::PhantomData;
 
 /// A conversion of arrays. Values of the x87 format take ten bytes. The rule of flags is that of the target.

@@ -11,11 +11,11 @@ ghost use Rattle.array_conversions.specs.Blocks.{IsBlock};
 use crate::blocks::convert_block_by;
 use crate::conversion::Conversion;
 use crate::counts::Counts;
-use crate::saturation::Overflow;
 use crate::widths::Widths;
 use formats_at_run_time::InFormat;
 use rustc_apfloat::Round;
 use rustc_apfloat::ieee::Semantics;
+use saturating_conversions::Overflow;
 use std::marker::PhantomData;
 
 /// The call that converts a block, made at the type of the source format.

@@ -9,12 +9,12 @@ ghost use Rattle.array_conversions.specs.OneBlock.{IsBlockOnce};
 use crate::byte_sources::{convert_bytes, has_byte_table};
 use crate::counts::Counts;
 use crate::one_by_one::convert_one_by_one;
-use crate::saturation::Overflow;
 use crate::short_sources::{ShortHalfS, ShortSingleS, convert_shortened, has_short_table};
 use crate::singles::{convert_singles, has_singles};
 use crate::widths::Widths;
 use rustc_apfloat::Round;
 use rustc_apfloat::ieee::Flagged;
+use saturating_conversions::Overflow;
 
 /// Converts `count` values, each in its place: the bytes of the first value to the bytes of the first value, and so on.
 /// `overflow` says what a number that overflows becomes.

@@ -8,11 +8,11 @@ ghost use Rattle.array_conversions.specs.Bytes.{number_of};
 ghost use Rattle.array_conversions.specs.Values.{IsConvertedBy};
 
 use crate::counts::{Counts, Outcome};
-use crate::saturation::Overflow;
 use crate::tables::{fill_table, look_up};
 use crate::widths::Widths;
 use rustc_apfloat::Round;
 use rustc_apfloat::ieee::Flagged;
+use saturating_conversions::Overflow;
 
 /// The number of places in a table of all bytes.
 const PLACES: usize = 256;

@@ -9,10 +9,10 @@ ghost use Rattle.array_conversions.specs.Blocks.{IsBlock};
 
 use crate::block_call::BlockCall;
 use crate::counts::Counts;
-use crate::saturation::Overflow;
 use crate::widths::{Extended, Widths, width};
 use formats_at_run_time::{BuiltInFormat, BuiltInKind, mode_named};
 use rustc_apfloat::Round;
+use saturating_conversions::Overflow;
 
 /// The source and the target format, the rounding mode, and the width of a value of the x87 format.
 #[derive(Clone, Copy)]

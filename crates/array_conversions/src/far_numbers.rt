@@ -7,14 +7,14 @@ ghost use Rattle.rustc_apfloat.specs.Datum.{finite};
 ghost use Rattle.rustc_apfloat.specs.FlaggedTypes.{constants_of, format_of, layout_of};
 ghost use Rattle.rustc_apfloat.specs.Layout.{fields_of};
 ghost use Rattle.array_conversions.specs.FarNumbers.{AreFarAnswers, IsAnswerTo, IsFar, IsFarPlace, far_place, with_overflow};
-ghost use Rattle.array_conversions.specs.Saturation.{saturated};
+ghost use Rattle.saturating_conversions.specs.Saturation.{saturated};
 
 use crate::converted::Converted;
 use crate::counts::Outcome;
-use crate::saturation::{Overflow, largest_of_sign};
 use apfloat_encoded::{biased_exponent, is_minus};
 use rustc_apfloat::ieee::{Flagged, IeeeFloat, Loss, deliver};
 use rustc_apfloat::{ExpInt, Float, Round, StatusAnd};
+use saturating_conversions::{Overflow, largest_of_sign};
 
 /// The results for numbers below half of the smallest positive value, then for numbers past all values; each first for
 /// positive numbers, then for negative ones.

@@ -9,10 +9,10 @@ ghost use Rattle.array_conversions.specs.Blocks.{IsBlock};
 use crate::counts::{Counts, Outcome};
 use crate::far_numbers::{FarAnswers, far_answers_for};
 use crate::one_value::{convert_slowly, convert_value};
-use crate::saturation::Overflow;
 use crate::widths::{Widths, bytes_of};
 use rustc_apfloat::Round;
 use rustc_apfloat::ieee::Flagged;
+use saturating_conversions::Overflow;
 
 /// Converts `count` values, each in its place. The widths that most values have are constants of their formats, so that
 /// the loop knows how many bytes it reads and writes.

@@ -9,10 +9,10 @@ use crate::bytes::{number_of, write_number};
 use crate::converted::Converted;
 use crate::counts::Outcome;
 use crate::far_numbers::{FarAnswers, far_place};
-use crate::saturation::{Overflow, convert_by};
 use apfloat_encoded::{Encoded, convert_normal};
 use rustc_apfloat::ieee::{Flagged, IeeeFloat};
 use rustc_apfloat::{Float, Round, StatusAnd};
+use saturating_conversions::{Overflow, convert_by};
 
 /// Converts the value in little-endian bytes to the format `T`, into the bytes of `output`. `far` has the results for
 /// numbers far out of the range of `T`, if they were computed.

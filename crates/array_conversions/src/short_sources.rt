@@ -14,11 +14,11 @@ ghost use Rattle.array_conversions.specs.Values.{IsConvertedBy};
 use crate::bytes::number_of;
 use crate::counts::{Counts, Outcome};
 use crate::one_value::convert_slowly;
-use crate::saturation::Overflow;
 use crate::tables::{fill_table, look_up};
 use crate::widths::Widths;
 use rustc_apfloat::ieee::{Flagged, NonfiniteBehavior, Semantics};
 use rustc_apfloat::{ExpInt, Round};
+use saturating_conversions::Overflow;
 
 /// Six digits with the exponents of singles.
 #[derive(Clone, Copy)]

@@ -7,9 +7,9 @@ ghost use Rattle.rustc_apfloat.specs.FlaggedTypes.{format_of, layout_of};
 ghost use Rattle.rustc_apfloat.specs.Standing.{reads_halves};
 ghost use Rattle.array_conversions.specs.Singles.{saturates};
 
-use crate::saturation::Overflow;
 use lane_conversions::Target;
 use rustc_apfloat::ieee::{Flagged, NonfiniteBehavior};
+use saturating_conversions::Overflow;
 
 /// Whether the largest value stands for what is past it.
 #[inline(always)]

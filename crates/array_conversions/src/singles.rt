@@ -17,12 +17,12 @@ use crate::bytes::{number_of, write_number};
 use crate::counts::Counts;
 use crate::few_counts::FewCounts;
 use crate::one_by_one::convert_one_by_one;
-use crate::saturation::Overflow;
 use crate::single_targets::{is_single, is_target, saturates, target_of};
 use crate::widths::{Widths, bytes_of};
 use lane_conversions::{Lane, Plan, convert_finite, is_finite, plan_of};
 use rustc_apfloat::Round;
 use rustc_apfloat::ieee::Flagged;
+use saturating_conversions::Overflow;
 
 /// How many values are converted at once.
 const BLOCK: usize = 16;

@@ -10,9 +10,9 @@ use crate::bytes::write_number;
 use crate::counts::Outcome;
 use crate::far_numbers::far_answers_for;
 use crate::one_value::convert_bits;
-use crate::saturation::Overflow;
 use rustc_apfloat::Round;
 use rustc_apfloat::ieee::Flagged;
+use saturating_conversions::Overflow;
 
 /// Fills a table with the results for the values whose bits are its `count` places, each in `width` bytes.
 pub fn fill_table<S: Flagged, T: Flagged>(

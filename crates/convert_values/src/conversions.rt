@@ -7,8 +7,9 @@ ghost use Rattle.convert_values.specs.StreamWidths.{stream_widths};
 
 use crate::blocks::BlockConversion;
 use crate::random::{RandomConversion, RandomTarget};
-use array_conversions::{Conversion, ConvertedBlock, Extended, Overflow, Widths};
+use array_conversions::{Conversion, ConvertedBlock, Extended, Widths};
 use formats_at_run_time::{BuiltInFormat, BuiltInKind, FlaggedFormat, mode_named};
+use saturating_conversions::Overflow;
 use storage_arrays::{Ends, StorageArray, StoredFormat};
 
 /// A conversion of a stream.

@@ -4,7 +4,7 @@ use Rattle.rustc_apfloat.specs.Classes.{is_nan, is_negative}
 use Rattle.rustc_apfloat.specs.Datum.{Datum, finite, nan}
 use Rattle.storage_formats.specs.Scales.{scale_of}
 use Rattle.array_conversions.specs.declared.ValueClass.TheVariants.{Number, NotANumber}
-use Rattle.array_conversions.specs.Saturation.{class_of}
+use Rattle.saturating_conversions.specs.Saturation.{class_of}
 
 abbrev scale_if : Bool → ℕ → Datum
 scale_if none code = if none then nan false 0 else finite false (2 ^ code)

@@ -13,7 +13,7 @@ use Rattle.array_conversions.specs.declared.Outcome.{Outcome}
 use Rattle.array_conversions.specs.declared.Overflow.{Overflow}
 use Rattle.array_conversions.specs.declared.Widths.{Widths}
 use Rattle.array_conversions.specs.Bytes.{number_of}
-use Rattle.array_conversions.specs.Saturation.{IsConversionBy}
+use Rattle.saturating_conversions.specs.Saturation.{IsConversionBy}
 use Rattle.array_conversions.specs.Widths.{width_of}
 use Rattle.storage_arrays.specs.declared.formats.StoredFormat.{StoredFormat}
 use Rattle.storage_arrays.specs.declared.array.Ends.{Ends}

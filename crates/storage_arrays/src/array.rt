@@ -9,12 +9,11 @@ ghost use Rattle.array_conversions.specs.Bytes.{number_of};
 ghost use Rattle.storage_arrays.specs.Arrays.{IsConverted, IsLoaded, IsStoredAs, widths_of};
 
 use crate::formats::StoredFormat;
-use array_conversions::{
-    Converted, Counts, Extended, Outcome, Overflow, Widths, number_of, width, write_number,
-};
+use array_conversions::{Converted, Counts, Extended, Outcome, Widths, number_of, width, write_number};
 use formats_at_run_time::{BuiltInFormat, FlaggedFormat, InFlaggedFormat, InFormat};
 use rustc_apfloat::ieee::{Flagged, IeeeFloat, Semantics};
 use rustc_apfloat::{Float, Round, StatusAnd};
+use saturating_conversions::Overflow;
 
 /// The source and the target format, of which one is a storage format. The rule of flags is that of the target.
 #[derive(Clone, Copy)]

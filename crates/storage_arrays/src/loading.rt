@@ -10,13 +10,13 @@ ghost use Rattle.storage_formats.specs.Scales.{scale_format, scale_of};
 ghost use Rattle.storage_formats.specs.Storage.{format_with};
 ghost use Rattle.storage_formats.specs.Types.{constants_of};
 ghost use Rattle.storage_formats.specs.Unsigned.{unsigned_datum};
-ghost use Rattle.array_conversions.specs.Saturation.{IsConversionBy, class_of};
+ghost use Rattle.saturating_conversions.specs.Saturation.{IsConversionBy, class_of};
 ghost use Rattle.storage_arrays.specs.Formats.{datum_in, format_in};
 
 use crate::formats::StoredFormat;
-use array_conversions::{Overflow, ValueClass, convert_by, treat};
 use rustc_apfloat::ieee::{Flagged, Float8E4M3FN, IeeeFloat};
 use rustc_apfloat::{Category, Float, Round, StatusAnd};
+use saturating_conversions::{Overflow, ValueClass, convert_by, treat};
 use storage_formats::{E2M1FN, E2M3FN, E3M2FN, E8M0FNU, Float8E3M4, StorageFormat, StoredFloat};
 
 /// The number of a code of the format `F` in another format, rounded once.

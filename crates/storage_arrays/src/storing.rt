@@ -9,14 +9,14 @@ ghost use Rattle.rustc_apfloat.specs.Format.{Format};
 ghost use Rattle.rustc_apfloat.specs.Types.{format_of};
 ghost use Rattle.storage_formats.specs.Conversions.{IsInto};
 ghost use Rattle.storage_formats.specs.Types.{constants_of};
-ghost use Rattle.array_conversions.specs.Saturation.{class_of};
+ghost use Rattle.saturating_conversions.specs.Saturation.{class_of};
 ghost use Rattle.storage_arrays.specs.Formats.{bits_in};
 ghost use Rattle.storage_arrays.specs.Stored.{IsFiniteCode, IsOwn, IsStored, IsStoredBy, saturated_code};
 
 use crate::formats::StoredFormat;
-use array_conversions::{FiniteNan, Overflow, ValueClass};
 use rustc_apfloat::ieee::{IeeeFloat, Semantics};
 use rustc_apfloat::{Flags, Float, Round, Status, StatusAnd};
+use saturating_conversions::{FiniteNan, Overflow, ValueClass};
 use storage_formats::{
     E2M1FN, E2M3FN, E3M2FN, E8M0FNU, Float8E3M4, StorageFormat, StoredFloat, UE4M3,
 };

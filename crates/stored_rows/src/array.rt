@@ -1,7 +1,8 @@
 //! Conversions with storage formats that saturate: those of an array of one value.
 
-use array_conversions::{Counts, Extended, FiniteNan, Overflow, number_of};
+use array_conversions::{Counts, Extended, number_of};
 use rustc_apfloat::{Flags, Round, Status};
+use saturating_conversions::{FiniteNan, Overflow};
 use storage_arrays::{Ends, StorageArray};
 use vector_lines::{RowAnswer, SaturateCall, ValueField};
 

@@ -3,10 +3,10 @@
 use crate::array::overflow_of;
 use crate::calls::converted;
 use apfloat_ieee::AnyFloat;
-use array_conversions::{Overflow, ValueClass, treat};
 use formats_at_run_time::InFlaggedFormat;
 use rustc_apfloat::ieee::{Flagged, IeeeFloat, QuadS};
 use rustc_apfloat::{Float, Round, StatusAnd};
+use saturating_conversions::{Overflow, ValueClass, treat};
 use vector_lines::{Answered, CallFault, Request, RowFormat, SaturateCall, any_value};
 
 /// What a conversion between built-in formats that saturates returns.

@@ -50,6 +50,7 @@ pub const FOR_C: &[&str] = &[
     "rustc_apfloat",
     "formats_at_run_time",
     "lane_conversions",
+    "saturating_conversions",
     "array_conversions",
     "storage_arrays",
     "packed_codes",

@@ -4,7 +4,7 @@ use Rattle.rustc_apfloat.specs.Flags.{bits_of}
 use Rattle.rustc_apfloat.specs.FlaggedTypes.{constants_of}
 use Rattle.rustc_apfloat.specs.Lawful.{format_with}
 use Rattle.apfloat_model.proofs.order.PredicatesAgree.{nan_agrees}
-use Rattle.array_conversions.specs.Saturation.{IsConversionBy}
+use Rattle.saturating_conversions.specs.Saturation.{IsConversionBy}
 use Rattle.array_conversions.proofs.one_value.convert_near.Goals as goal
 
 pub returns : goal.returns

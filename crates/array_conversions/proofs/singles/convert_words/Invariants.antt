@@ -3,7 +3,7 @@ use Rattle.lane_conversions.specs.Targets.{IsSingle}
 use Rattle.rustc_apfloat.specs.Lawful.{Constants, format_with, layout_with}
 use Rattle.rustc_apfloat.specs.declared.Round.{Round}
 use Rattle.array_conversions.specs.declared.few_counts.FewCounts.{FewCounts}
-use Rattle.array_conversions.specs.declared.saturation.Overflow.{Overflow}
+use Rattle.saturating_conversions.specs.declared.saturation.Overflow.{Overflow}
 use Rattle.array_conversions.specs.Blocks.{IsBlock}
 use Rattle.array_conversions.specs.Singles.{AreAtMost, AreWordsOf, IsPlanFor, counts_with}
 use Rattle.array_conversions.specs.Values.{IsConvertedBy}

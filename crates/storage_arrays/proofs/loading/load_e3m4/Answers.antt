@@ -2,7 +2,7 @@ use Rattle.std.proofs.Common.{sym, subst, ℕ}
 use Rattle.rustc_apfloat.specs.FlaggedTypes.{format_of}
 use Rattle.rustc_apfloat.specs.Flags.{bits_of}
 use Rattle.storage_formats.specs.Float8E3M4.{e3m4_datum, e3m4_format}
-use Rattle.array_conversions.specs.Saturation.{IsConversionBy}
+use Rattle.saturating_conversions.specs.Saturation.{IsConversionBy}
 use Rattle.storage_arrays.proofs.loading.load_e3m4.Goals as goal
 
 pub returns : goal.returns

@@ -4,7 +4,7 @@ use Rattle.rustc_apfloat.specs.Flags.{bits_of}
 use Rattle.storage_formats.specs.Codes.{datum_of}
 use Rattle.storage_formats.specs.Storage.{format_with}
 use Rattle.storage_formats.specs.Types.{constants_of}
-use Rattle.array_conversions.specs.Saturation.{IsConversionBy}
+use Rattle.saturating_conversions.specs.Saturation.{IsConversionBy}
 use Rattle.storage_arrays.proofs.loading.load_element.Goals as goal
 
 pub returns : goal.returns

@@ -2,7 +2,7 @@ use Rattle.std.proofs.Common.{sym, subst, ℕ}
 use Rattle.rustc_apfloat.specs.FlaggedTypes.{format_of}
 use Rattle.rustc_apfloat.specs.Flags.{bits_of}
 use Rattle.storage_formats.specs.Scales.{scale_format, scale_of}
-use Rattle.array_conversions.specs.Saturation.{IsConversionBy}
+use Rattle.saturating_conversions.specs.Saturation.{IsConversionBy}
 use Rattle.storage_arrays.proofs.ScaleClasses.{scale_sign}
 use Rattle.storage_arrays.proofs.loading.load_scale.Goals as goal
 

@@ -6,10 +6,10 @@ use Rattle.rustc_apfloat.specs.Classes.{category_of, is_finite, is_negative}
 use Rattle.rustc_apfloat.specs.Conversions.{IsConversion}
 use Rattle.rustc_apfloat.specs.Datum.{Datum, finite, infinite, nan}
 use Rattle.rustc_apfloat.specs.Format.{Format, largest}
-use Rattle.array_conversions.specs.declared.saturation.FiniteNan.{FiniteNan}
-use Rattle.array_conversions.specs.declared.saturation.FiniteNan.TheVariants.{Kept, Largest}
-use Rattle.array_conversions.specs.declared.saturation.ValueClass.TheVariants.{Number, Infinity, NotANumber}
-use Rattle.array_conversions.specs.Saturation.{IsFiniteConversion, class_of, saturated}
+use Rattle.saturating_conversions.specs.declared.saturation.FiniteNan.{FiniteNan}
+use Rattle.saturating_conversions.specs.declared.saturation.FiniteNan.TheVariants.{Kept, Largest}
+use Rattle.saturating_conversions.specs.declared.saturation.ValueClass.TheVariants.{Number, Infinity, NotANumber}
+use Rattle.saturating_conversions.specs.Saturation.{IsFiniteConversion, class_of, saturated}
 
 pub nan_kept : (f g : Format) (mode : Round) (x value : Datum) (status : ℕ) (loses : Bool)
     → class_of x ≡ NotANumber

@@ -3,8 +3,8 @@ use Rattle.rustc_apfloat.specs.Datum.{finite}
 use Rattle.rustc_apfloat.specs.Flags.{bits_of}
 use Rattle.rustc_apfloat.specs.FlaggedTypes.{format_of}
 use Rattle.rustc_apfloat.specs.Format.{largest}
-use Rattle.array_conversions.proofs.FiniteValues.{infinity_largest, nan_kept, nan_largest, number_saturated}
-use Rattle.array_conversions.proofs.saturation.made_finite.Goals as goal
+use Rattle.saturating_conversions.proofs.FiniteValues.{infinity_largest, nan_kept, nan_largest, number_saturated}
+use Rattle.saturating_conversions.proofs.saturation.made_finite.Goals as goal
 
 pub returns-in-Kept : goal.returns-in-Kept
 returns-in-Kept g c = λ f mode x class sign h.

@@ -1,6 +1,6 @@
 use Rattle.std.proofs.Common.{◌∙◌}
-use Rattle.array_conversions.proofs.FiniteValues.{nan_class, infinite_class, zero_class, normal_class}
-use Rattle.array_conversions.proofs.saturation.ValueClass.of.Goals as goal
+use Rattle.saturating_conversions.proofs.FiniteValues.{nan_class, infinite_class, zero_class, normal_class}
+use Rattle.saturating_conversions.proofs.saturation.ValueClass.of.Goals as goal
 
 pub returns-in-NaN : goal.returns-in-NaN
 returns-in-NaN c = λ x h. nan_class x (h ∙ c.in-NaN.is)

@@ -4,8 +4,8 @@ use Rattle.rustc_apfloat.specs.FlaggedTypes.{format_of}
 use Rattle.rustc_apfloat.specs.Format.{largest}
 use Rattle.rustc_apfloat.specs.Negation.{negated}
 use Rattle.apfloat_model.proofs.whole_numbers.SignedNumbers.{largest_some}
-use Rattle.array_conversions.proofs.ConversionsBy.{negated_some}
-use Rattle.array_conversions.proofs.saturation.largest_of_sign.Goals as goal
+use Rattle.saturating_conversions.proofs.Negations.{negated_some}
+use Rattle.saturating_conversions.proofs.saturation.largest_of_sign.Goals as goal
 
 pub returns-then-negative : goal.returns-then-negative
 returns-then-negative g c =

@@ -8,7 +8,7 @@ ghost use Rattle.rustc_apfloat.specs.Format.{Format, largest};
 ghost use Rattle.rustc_apfloat.specs.FlaggedTypes.{format_of};
 ghost use Rattle.rustc_apfloat.specs.Conversions.{IsConversion};
 ghost use Rattle.rustc_apfloat.specs.declared.Round.{Round};
-ghost use Rattle.array_conversions.specs.Saturation.{IsConversionBy, IsFiniteConversion, class_of, saturated};
+ghost use Rattle.saturating_conversions.specs.Saturation.{IsConversionBy, IsFiniteConversion, class_of, saturated};
 
 use rustc_apfloat::ieee::{Flagged, IeeeFloat};
 use rustc_apfloat::{Category, Float, FloatConvert, Round, Status, StatusAnd};

@@ -7,12 +7,12 @@ use Rattle.rustc_apfloat.specs.Nan.{invalid_bit}
 use Rattle.rustc_apfloat.specs.Rounding.{inexact_bit}
 use Rattle.rustc_apfloat.specs.Classes.{is_finite, is_negative}
 use Rattle.rustc_apfloat.specs.Conversions.{IsConversion, IsConverted}
-use Rattle.array_conversions.specs.declared.saturation.Overflow.{Overflow}
-use Rattle.array_conversions.specs.declared.saturation.Overflow.TheVariants.{Rounded, Saturated, Finite}
-use Rattle.array_conversions.specs.declared.saturation.FiniteNan.{FiniteNan}
-use Rattle.array_conversions.specs.declared.saturation.FiniteNan.TheVariants.{Kept, Largest}
-use Rattle.array_conversions.specs.declared.saturation.ValueClass.{ValueClass}
-use Rattle.array_conversions.specs.declared.saturation.ValueClass.TheVariants.{Number, Infinity, NotANumber}
+use Rattle.saturating_conversions.specs.declared.saturation.Overflow.{Overflow}
+use Rattle.saturating_conversions.specs.declared.saturation.Overflow.TheVariants.{Rounded, Saturated, Finite}
+use Rattle.saturating_conversions.specs.declared.saturation.FiniteNan.{FiniteNan}
+use Rattle.saturating_conversions.specs.declared.saturation.FiniteNan.TheVariants.{Kept, Largest}
+use Rattle.saturating_conversions.specs.declared.saturation.ValueClass.{ValueClass}
+use Rattle.saturating_conversions.specs.declared.saturation.ValueClass.TheVariants.{Number, Infinity, NotANumber}
 
 -- what a datum is, as far as saturation asks
 abbrev pub class_of : Datum → ValueClass

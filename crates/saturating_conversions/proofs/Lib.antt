@@ -1,0 +1,2 @@
+mod FiniteValues
+mod Negations
