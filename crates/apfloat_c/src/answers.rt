@@ -20,7 +20,7 @@ use crate::codes::{
     one_if, order_code,
 };
 use crate::data::Answer;
-use apfloat_encoded::{Encoded, add_bits, multiply_bits, subtract_bits};
+use apfloat_encoded::{Encoded, add_bits, multiply_bits, root_bits, subtract_bits};
 use formats_at_run_time::{FillsInFormat, FlaggedKind, ValueType};
 use rustc_apfloat::ieee::{Flagged, IeeeFloat};
 use rustc_apfloat::{Float, FloatConvert, Round, Status, StatusAnd};
@@ -195,6 +195,16 @@ pub fn fused_sum<S: Flagged>(answer: &mut Answer, round: Round, x: u128, y: u128
         IsKindAnswer kind round (FusedSum x y z) answer.new }
 {
     fused_sum_here::<S>(answer, round, x, y, z)
+}
+
+/// A square root in a format, from bits to bits.
+#[inline(never)]
+pub fn root_in<S: Flagged>(answer: &mut Answer, round: Round, x: u128)
+    requires { S.PRECISION < S.BITS }
+    ensures { let kind = of_format (constants_of S.Flagged) in
+        IsKindAnswer kind round (SquareRoot x) answer.new }
+{
+    *answer = with_bits(root_bits::<S>(x, round));
 }
 
 /// The square root of a value, in line.

@@ -117,10 +117,7 @@ fn call_in_format<S: Flagged>(map: MapCall, x: u128, y: u128, z: u128, answer: &
             }
         },
         ElementOperation::FusedSum => FusedSumCall { x, y, z }.in_format::<S>(round, answer),
-        ElementOperation::SquareRoot => {
-            let operation = SquareRootCall { x };
-            InType { operation }.in_format::<S>(round, answer)
-        }
+        ElementOperation::SquareRoot => SquareRootCall { x }.in_format::<S>(round, answer),
     }
 }
 
@@ -149,10 +146,7 @@ fn call_in_pairs(map: MapCall, x: u128, y: u128, z: u128, answer: &mut Answer) -
             }
         },
         ElementOperation::FusedSum => FusedSumCall { x, y, z }.in_pairs(round, answer),
-        ElementOperation::SquareRoot => {
-            let operation = SquareRootCall { x };
-            InType { operation }.in_pairs(round, answer)
-        }
+        ElementOperation::SquareRoot => SquareRootCall { x }.in_pairs(round, answer),
     }
 }
 /// The number of the bytes from this place on; 0 if there are no bytes at all.

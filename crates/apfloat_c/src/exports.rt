@@ -190,7 +190,7 @@ pub extern "C" fn apfloat_sqrt(format: u32, mode: u32, x: Halves, answer: &mut A
         IsReturned (known_call (flagged_kind_coded format) (mode_coded mode) call)
         answer.old answer.new result }
 {
-    reply(format, mode, SquareRootCall { x: x.number() }, answer)
+    reply_in_kind(format, mode, SquareRootCall { x: x.number() }, answer)
 }
 
 /// A value in another format; `number` says whether information was lost. Pairs of doubles have no conversion.

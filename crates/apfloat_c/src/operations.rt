@@ -20,7 +20,7 @@ ghost use Rattle.apfloat_c.specs.KnownCalls.{known_in};
 use crate::answers::{
     class, comparison, converted, difference, difference_in, exponent, fraction, from_signed,
     from_unsigned, fused_sum, nearest_remainder, next_down, next_up, product, product_in, quotient,
-    read, root, round_to_integral, scaled, sum, sum_in, to_signed, to_unsigned,
+    read, root, root_in, round_to_integral, scaled, sum, sum_in, to_signed, to_unsigned,
     truncated_remainder,
 };
 use crate::codes::{ANSWERED, NO_SUCH_OPERATION, UNKNOWN_FORMAT, UNKNOWN_MODE};
@@ -280,12 +280,18 @@ pub struct SquareRootCall {
     pub x: u128,
 }
 
-impl Operation for SquareRootCall {
+impl KindOperation for SquareRootCall {
     ghost call = { λ it. SquareRoot it.x };
 
     #[inline(always)]
-    fn made_in<V: ValueType>(self, round: Round, answer: &mut Answer) -> u32 {
-        root::<V>(answer, round, self.x);
+    fn in_format<S: Flagged>(self, round: Round, answer: &mut Answer) -> u32 {
+        root_in::<S>(answer, round, self.x);
+        ANSWERED
+    }
+
+    #[inline(always)]
+    fn in_pairs(self, round: Round, answer: &mut Answer) -> u32 {
+        root::<DoubleDouble>(answer, round, self.x);
         ANSWERED
     }
 }

@@ -4,3 +4,4 @@ pub mod Roundings
 pub mod Kept
 pub mod Operands
 pub mod EncodedOnce
+pub mod RootAnswers

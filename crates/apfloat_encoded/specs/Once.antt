@@ -1,6 +1,7 @@
 -- Answers from bits to bits are unique.
 use Rattle.std.specs.Prelude.{◌≡◌, ℕ, ◌<◌}
 use Rattle.apfloat_model.specs.arithmetic.Products.{IsProduct}
+use Rattle.apfloat_model.specs.arithmetic.Roots.{IsRoot}
 use Rattle.apfloat_model.specs.arithmetic.Sums.{IsDifference, IsSum}
 use Rattle.apfloat_model.specs.declared.kinds.Round.{Round}
 use Rattle.apfloat_model.specs.formats.Datum.{Datum}
@@ -18,7 +19,16 @@ IsEncodedOnce Says =
     → IsEncodedAnswer c (Says (format_with c) mode (value_in c x) (value_in c y)) second
     → (first.bits ≡ second.bits) × (bits_of first.status ≡ bits_of second.status)
 
+-- the same for an operation on one value
+abbrev pub IsEncodedOnceOfOne : (Format → Round → Datum → Datum → ℕ → Type 0) → Type 0
+IsEncodedOnceOfOne Says =
+    (c : Constants) (mode : Round) (x : ℕ) (first second : Encoded) → IsLawful c → c.precision < c.bits
+    → IsEncodedAnswer c (Says (format_with c) mode (value_in c x)) first
+    → IsEncodedAnswer c (Says (format_with c) mode (value_in c x)) second
+    → (first.bits ≡ second.bits) × (bits_of first.status ≡ bits_of second.status)
+
 pub record AreEncodedOnce : Type 0 where
   pub sums : IsEncodedOnce IsSum
   pub differences : IsEncodedOnce IsDifference
   pub products : IsEncodedOnce IsProduct
+  pub roots : IsEncodedOnceOfOne IsRoot

@@ -1,4 +1,5 @@
-//! Sums, differences, products and conversions from encodings to encodings, for callers that have bits and want bits.
+//! Sums, differences, products, roots and conversions from encodings to encodings, for callers that have bits and want
+//! bits.
 //!
 //! A value is unpacked to compute with it, and packed to write its bits, and both ways treat zeros, denormal numbers,
 //! infinities and NaNs apart. Where operands and the result are normal numbers of formats of at most 64 bits with an
@@ -11,6 +12,7 @@ mod cuts;
 mod encoded;
 mod numbers;
 mod products;
+mod roots;
 mod sums;
 mod theorems;
 mod totals;
@@ -19,5 +21,6 @@ pub use conversions::convert_normal;
 pub use encoded::Encoded;
 pub use numbers::{biased_exponent, is_minus};
 pub use products::multiply_bits;
+pub use roots::root_bits;
 pub use sums::{add_bits, subtract_bits};
 pub use theorems::encoded_answers_are_unique;
