@@ -14,6 +14,7 @@ mod few_counts;
 mod one_by_one;
 mod one_value;
 mod saturation;
+mod short_singles;
 mod short_sources;
 mod single_targets;
 mod singles;
