@@ -83,7 +83,8 @@ scaled_at precision more cut low w place e to from m precise guarded room balanc
     let cut_sum = sum_cut s low precision place in
     let unit : 0 < 2 ^ cut = pow_pos cut in
     -- at most precision + more + 1 digits
-    let digits : 2 ^ (precision + more + 1 + cut) ≡ 2 ^ (precision + more + 1) * 2 ^ cut = pow-add 2 (precision + more + 1) cut in
+    let digits : 2 ^ (precision + more + 1 + cut) ≡ 2 ^ (precision + more + 1) * 2 ^ cut =
+    pow-add 2 (precision + more + 1) cut in
     let even : 2 ^ (precision + more + 1) ≡ 2 * 2 ^ (precision + more) =
     let one_more : 1 + (precision + more) ≡ precision + more + 1 = omega arith in
     ap (λ (x : ℕ). 2 ^ x) (sym one_more) ∙ pow-add 2 1 (precision + more) in
@@ -91,7 +92,8 @@ scaled_at precision more cut low w place e to from m precise guarded room balanc
     subst (λ (x : ℕ). m < x) (digits ∙ ap (λ (x : ℕ). x * 2 ^ cut) even) fits in
     let odd_fits : o < 2 ^ (precision + more + 1) =
     subst (λ (x : ℕ). o < x) (sym even) (odd_below m (2 ^ cut) (2 ^ (precision + more)) unit below) in
-    let moved : 2 ^ (precision + more + 1 + w) ≡ 2 ^ (precision + more + 1) * 2 ^ w = pow-add 2 (precision + more + 1) w in
+    let moved : 2 ^ (precision + more + 1 + w) ≡ 2 ^ (precision + more + 1) * 2 ^ w =
+    pow-add 2 (precision + more + 1) w in
     let s_fits : s < 2 ^ (precision + more + 1 + w) =
     subst (λ (x : ℕ). s < x) (sym moved) (mul-lt-mul_of_pos_right odd_fits (pow_pos w)) in
     let u_fits : u < 2 ^ precision = fits_cut s (precision + more + 1 + w) low precision s_fits (omega (arith, room)) in
@@ -108,7 +110,8 @@ scaled_at precision more cut low w place e to from m precise guarded room balanc
     let s_least : 2 ^ (precision + more + 1 + w - 1) ≤ s =
     subst (λ (x : ℕ). x ≤ s) (sym power ∙ ap (λ (x : ℕ). 2 ^ x) (sym same))
     (mul-le-mul_right (2 ^ w) odd_least) in
-    inr (full_cut s (precision + more + 1 + w) low precision (omega (arith, precise)) (λ _. s_least) (omega (arith, whole))))
+    inr (full_cut s (precision + more + 1 + w) low precision (omega (arith, precise)) (λ _. s_least)
+    (omega (arith, whole))))
     full in
     let stands : StandsFor u (loss_at (s % 2 ^ low) (2 ^ (low - 1))) amount (2 ^ place * 2 ^ from) =
     in_quanta u (loss_at (s % 2 ^ low) (2 ^ (low - 1))) m w low cut e to place from balance
@@ -136,7 +139,8 @@ scaled_far precision more cut low e to from m precise room some fits far =
     let o = odd_quotient m (2 ^ cut) in
     let unit : 0 < 2 ^ cut = pow_pos cut in
     let amount = m * 2 ^ e * 2 ^ to in
-    let digits : 2 ^ (precision + more + 1 + cut) ≡ 2 ^ (precision + more + 1) * 2 ^ cut = pow-add 2 (precision + more + 1) cut in
+    let digits : 2 ^ (precision + more + 1 + cut) ≡ 2 ^ (precision + more + 1) * 2 ^ cut =
+    pow-add 2 (precision + more + 1) cut in
     let even : 2 ^ (precision + more + 1) ≡ 2 * 2 ^ (precision + more) =
     let one_more : 1 + (precision + more) ≡ precision + more + 1 = omega arith in
     ap (λ (x : ℕ). 2 ^ x) (sym one_more) ∙ pow-add 2 1 (precision + more) in
@@ -167,9 +171,11 @@ scaled_far precision more cut low e to from m precise room some fits far =
 
 -- ---- the lemma
 
--- A significand is rounded to odd to more + 1 digits more than the target has. `e` and `first` are biased exponents of the source less 1: that of the number, and that of the target's least normal
--- number; `to` and `from` are the scales of target and source.
-pub scaled_stands : (precision more cut low first e to from m : ℕ) → 3 ≤ precision → 1 ≤ more → precision + more + 2 ≤ low
+-- A significand is rounded to odd to more + 1 digits more than the target has. `e` and `first` are biased exponents of
+-- the source less 1: that of the number, and that of the target's least normal number; `to` and `from` are the scales
+-- of target and source.
+pub scaled_stands : (precision more cut low first e to from m : ℕ) → 3 ≤ precision → 1 ≤ more
+    → precision + more + 2 ≤ low
     → from ≡ to + (cut + (more + 1)) + first → 0 < m → m < 2 ^ (precision + more + 1 + cut)
     → (e ≡ 0) ⊎ (2 ^ (precision + more + cut) ≤ m)
     → IsScaled precision low
@@ -185,7 +191,8 @@ scaled_stands precision more cut low first e to from m precise guarded room scal
     ⊎_elim {C = Goal (low - (more + 1) - (first - e)) (e - first)}
     (λ (near : first - e < low - more).
     subst (λ (x : ℕ). Goal (low - (more + 1) - (first - e)) x) place
-    (scaled_at precision more cut low (low - (more + 1) - (first - e)) 0 e to from m precise guarded (omega (arith, room))
+    (scaled_at precision more cut low (low - (more + 1) - (first - e)) 0 e to from m precise guarded
+    (omega (arith, room))
     (omega (arith, room, scales, under, near)) fits (inl refl)))
     (λ (far : low - more ≤ first - e).
     let w : 0 ≡ low - (more + 1) - (first - e) = omega (arith, room, far) in

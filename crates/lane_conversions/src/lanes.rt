@@ -97,8 +97,8 @@ fn with_sign(target: Target, negative: bool, code: u32) -> u32
     }
 }
 
-/// A rounded number, encoded and with its flags. `code` is what is delivered for it, and `some` says whether digits were
-/// lost.
+/// A rounded number, encoded and with its flags. `code` is what is delivered for it, and `some` says whether digits
+/// were lost.
 #[inline(always)]
 pub(crate) fn delivered(
     target: Target,
