@@ -47,8 +47,8 @@ pub record IsTarget (f : Format) (layout : Layout) (min_exp max_exp : ℤ) : Typ
   pub greatest : max_exp ≤ℤ pos 127
   pub rule : reads_halves f ≡ false
 
--- the upper sixteen bits of a single have more digits than the target, and none of its denormal numbers is within the
--- significand of a denormal single
+-- at most 8 bits and 6 digits, so that the upper half of a single has at least two digits more, and a least normal
+-- number far above denormal singles
 pub record IsShort (layout : Layout) (precision : ℕ) (min_exp : ℤ) : Type 0 where
   pub bits : layout.bits ≤ 8
   pub digits : precision ≤ 6
