@@ -1,4 +1,4 @@
-/* Compares arrays, which are converted sixteen singles at a time or by tables, with calls on single values, which
+/* Compares arrays, which are converted many singles at a time or by tables, with calls on single values, which
  * have neither: all 2^32 singles to each format of 8 or 16 bits, and all values of the formats of 8 bits to every
  * format; values and counts.
  *

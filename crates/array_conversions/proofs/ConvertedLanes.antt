@@ -4,7 +4,9 @@ use Rattle.apfloat_model.specs.bits.Layout.{Layout}
 use Rattle.apfloat_model.specs.formats.Format.{Format}
 use Rattle.apfloat_model.specs.formats.Datum.{Datum, finite}
 use Rattle.lane_conversions.specs.declared.lanes.Lane.{Lane}
+use Rattle.lane_conversions.specs.declared.constants.Target.{Target}
 use Rattle.lane_conversions.specs.declared.plans.Plan.{Plan}
+use Rattle.lane_conversions.specs.declared.plans.ShortPlan.{ShortPlan}
 use Rattle.lane_conversions.specs.At.{format_at, layout_at}
 use Rattle.lane_conversions.specs.Lanes.{IsConvertedLane, finished, flags_of}
 use Rattle.rustc_apfloat.specs.Conversions.{IsConversion}
@@ -15,6 +17,7 @@ use Rattle.saturating_conversions.specs.declared.saturation.Overflow.TheVariants
 use Rattle.array_conversions.specs.Bytes.{number_of}
 use Rattle.array_conversions.specs.Outcomes.{raised}
 use Rattle.saturating_conversions.specs.Saturation.{IsConversionBy}
+use Rattle.array_conversions.specs.ShortSingles.{IsShortPlanFor}
 use Rattle.array_conversions.specs.Singles.{IsPlanFor, outcome_of, saturates}
 use Rattle.array_conversions.specs.Values.{IsAnswerFrom, IsConvertedBy}
 use Rattle.array_conversions.proofs.ConversionsBy.{converted_from}
@@ -51,13 +54,13 @@ lane_answers overflow c d mode bits lane it =
     }
 
 -- by the plan
-pub plan_answers : (overflow : Overflow) (c d : Constants) (mode : Round) (plan : Plan) (input output : List ℕ)
-    (bits : ℕ) (lane : Lane) → IsPlanFor overflow d mode plan → bits ≡ number_of input
+answers_by : (overflow : Overflow) (c d : Constants) (mode : Round) (target : Target) (by : Bool) (round : Round)
+    (input output : List ℕ) (bits : ℕ) (lane : Lane) → format_at target ≡ format_with d
+    → layout_at target ≡ layout_with d → by ≡ saturates overflow → round ≡ mode → bits ≡ number_of input
     → number_of output ≡ lane.bits
-    → IsConvertedLane plan.saturates (format_with c) (layout_with c) (format_at plan.target) (layout_at plan.target)
-    plan.round bits lane
+    → IsConvertedLane by (format_with c) (layout_with c) (format_at target) (layout_at target) round bits lane
     → IsConvertedBy overflow c d mode input output (outcome_of lane)
-plan_answers overflow c d mode plan input output bits lane is read written it =
+answers_by overflow c d mode target by round input output bits lane format layout by_is round_is read written it =
     let there : IsConvertedLane (saturates overflow) (format_with c) (layout_with c) (format_with d)
     (layout_with d) mode
     (number_of input) lane =
@@ -65,15 +68,34 @@ plan_answers overflow c d mode plan input output bits lane is read written it =
     (layout_with d)
     mode n lane) read
     (subst (λ (r : Round). IsConvertedLane (saturates overflow) (format_with c) (layout_with c) (format_with d)
-    (layout_with d) r bits lane) is.round
-    (subst (λ (b : Bool). IsConvertedLane b (format_with c) (layout_with c) (format_with d) (layout_with d) plan.round
-    bits lane) is.saturates_is
-    (subst (λ (l : Layout). IsConvertedLane plan.saturates (format_with c) (layout_with c) (format_with d) l plan.round
-    bits lane) is.layout
-    (subst (λ (f : Format). IsConvertedLane plan.saturates (format_with c) (layout_with c) f (layout_at plan.target)
-    plan.round bits lane) is.format it)))) in
+    (layout_with d) r bits lane) round_is
+    (subst (λ (b : Bool). IsConvertedLane b (format_with c) (layout_with c) (format_with d) (layout_with d) round
+    bits lane) by_is
+    (subst (λ (l : Layout). IsConvertedLane by (format_with c) (layout_with c) (format_with d) l round bits lane) layout
+    (subst (λ (f : Format). IsConvertedLane by (format_with c) (layout_with c) f (layout_at target) round bits lane)
+    format it)))) in
     converted_from overflow c d mode input output (record { bits = lane.bits; outcome = outcome_of lane })
     (lane_answers overflow c d mode (number_of input) lane there) written
+
+pub plan_answers : (overflow : Overflow) (c d : Constants) (mode : Round) (plan : Plan) (input output : List ℕ)
+    (bits : ℕ) (lane : Lane) → IsPlanFor overflow d mode plan → bits ≡ number_of input
+    → number_of output ≡ lane.bits
+    → IsConvertedLane plan.saturates (format_with c) (layout_with c) (format_at plan.target) (layout_at plan.target)
+    plan.round bits lane
+    → IsConvertedBy overflow c d mode input output (outcome_of lane)
+plan_answers overflow c d mode plan input output bits lane is read written it =
+    answers_by overflow c d mode plan.target plan.saturates plan.round input output bits lane is.format is.layout
+    is.saturates_is is.round read written it
+
+pub short_plan_answers : (overflow : Overflow) (c d : Constants) (mode : Round) (plan : ShortPlan)
+    (input output : List ℕ) (bits : ℕ) (lane : Lane) → IsShortPlanFor overflow d mode plan → bits ≡ number_of input
+    → number_of output ≡ lane.bits
+    → IsConvertedLane plan.saturates (format_with c) (layout_with c) (format_at plan.target) (layout_at plan.target)
+    plan.round bits lane
+    → IsConvertedBy overflow c d mode input output (outcome_of lane)
+short_plan_answers overflow c d mode plan input output bits lane is read written it =
+    answers_by overflow c d mode plan.target plan.saturates plan.round input output bits lane is.format is.layout
+    is.saturates_is is.round read written it
 
 -- ---- counts
 

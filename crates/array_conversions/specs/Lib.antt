@@ -10,3 +10,4 @@ pub mod Words
 pub mod Tables
 pub mod ShortSources
 pub mod Singles
+pub mod ShortSingles

@@ -9,8 +9,9 @@ ghost use Rattle.array_conversions.specs.OneBlock.{IsBlockOnce};
 use crate::byte_sources::{convert_bytes, has_byte_table};
 use crate::counts::Counts;
 use crate::one_by_one::convert_one_by_one;
+use crate::short_singles::convert_all_singles;
 use crate::short_sources::{ShortHalfS, ShortSingleS, convert_shortened, has_short_table};
-use crate::singles::{convert_singles, has_singles};
+use crate::singles::has_singles;
 use crate::widths::Widths;
 use rustc_apfloat::Round;
 use rustc_apfloat::ieee::Flagged;
@@ -37,7 +38,7 @@ pub fn convert_block_by<S: Flagged, T: Flagged>(
         input.now output.new result }
 {
     if has_singles::<S, T>(widths) {
-        convert_singles::<S, T>(overflow, round, count, input, output)
+        convert_all_singles::<S, T>(overflow, round, count, input, output)
     } else if has_byte_table::<S, T>(widths, count) {
         convert_bytes::<S, T>(overflow, round, widths, count, input, output)
     } else if has_short_table::<S, ShortSingleS, T>(widths, count) {

@@ -13,3 +13,16 @@ pub struct FewCounts {
     /// Those whose converted value is a NaN.
     pub nans: u32,
 }
+
+/// The same in words of sixteen bits, for blocks that are converted in those.
+#[derive(Clone, Copy)]
+pub struct ShortCounts {
+    /// Those that raised `INEXACT`.
+    pub inexact: u16,
+    /// Those that raised `UNDERFLOW`.
+    pub underflow: u16,
+    /// Those that raised `OVERFLOW`.
+    pub overflow: u16,
+    /// Those whose converted value is a NaN.
+    pub nans: u16,
+}

@@ -13,6 +13,7 @@ mod far_numbers;
 mod few_counts;
 mod one_by_one;
 mod one_value;
+mod short_singles;
 mod short_sources;
 mod single_targets;
 mod singles;

@@ -2,7 +2,7 @@
 
 ghost use Rattle.std.specs.Prelude.{◌≡◌, ◌<◌, ◌≤◌, pos, negsuc, ◌≤ℤ◌, false, IsTrue};
 ghost use Rattle.lane_conversions.specs.At.{format_at, layout_at};
-ghost use Rattle.lane_conversions.specs.Targets.{IsSingle, IsTarget};
+ghost use Rattle.lane_conversions.specs.Targets.{IsShort, IsSingle, IsTarget};
 ghost use Rattle.rustc_apfloat.specs.FlaggedTypes.{format_of, layout_of};
 ghost use Rattle.rustc_apfloat.specs.Standing.{reads_halves};
 ghost use Rattle.array_conversions.specs.Singles.{saturates};
@@ -68,6 +68,14 @@ pub fn is_target<T: Flagged>() -> bool
         → IsTarget (format_of T.Flagged) (layout_of T.Flagged) T.MIN_EXP T.MAX_EXP }
 {
     is_short::<T>() & has_exponents::<T>() & has_plain_rule::<T>()
+}
+
+/// Whether the upper sixteen bits of a single are enough for `T`.
+#[inline(always)]
+pub fn is_short_target<T: Flagged>() -> bool
+    ensures { IsTrue result → IsShort (layout_of T.Flagged) T.PRECISION T.MIN_EXP }
+{
+    (T::BITS <= 8) & (T::PRECISION <= 6) & (T::MIN_EXP >= -119)
 }
 
 /// The constants of `T`.

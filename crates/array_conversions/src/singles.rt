@@ -29,7 +29,7 @@ const BLOCK: usize = 16;
 
 /// The bits of a single.
 #[inline(always)]
-fn word_of(bytes: &[u8]) -> u32
+pub(crate) fn word_of(bytes: &[u8]) -> u32
     requires { length bytes.now ≡ 4 }
     ensures { result ≡ number_of bytes.now }
 {

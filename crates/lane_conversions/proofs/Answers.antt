@@ -66,13 +66,13 @@ some_rest rest more = ⊎_elim (λ (z : rest < 1). absurd (more (omega (arith, z
     (cases_lt rest 1)
 
 -- a scaled number, rounded to a whole number, is the code of what is picked
-picked_code : (precision : ℕ) (mode : Round) (negative : Bool) (t amount parts : ℕ) → 3 ≤ precision
+picked_code : (precision low : ℕ) (mode : Round) (negative : Bool) (t amount parts : ℕ) → 3 ≤ precision
     → 0 < parts
-    → IsScaled precision 16 t amount parts
-    → IsPickedCode precision mode negative amount parts (rounded_by mode negative t) (t % 2 ^ 16)
-picked_code precision mode negative t amount parts precise any it =
-    let half = 2 ^ 15 in
-    let rest = t % 2 ^ 16 in
+    → IsScaled precision low t amount parts
+    → IsPickedCode precision mode negative amount parts (rounded_by low mode negative t) (t % 2 ^ low)
+picked_code precision low mode negative t amount parts precise any it =
+    let half = 2 ^ (low - 1) in
+    let rest = t % 2 ^ low in
     let loss = loss_at rest half in
     let moved = rounds_up mode negative loss (eqb (it.kept % 2) 1) in
     -- the code has the parity of the significand, since 2 ^ (precision - 1) is even
@@ -82,17 +82,17 @@ picked_code precision mode negative t amount parts precise any it =
     ap (λ (x : ℕ). 2 * 2 ^ x) (sym places) ∙ twice_half (precision - 1) (omega (arith, precise)) in
     let even : it.place * 2 ^ (precision - 1) ≡ 2 * (it.place * 2 ^ (precision - 2)) =
     ap (λ (x : ℕ). it.place * x) (sym twice) ∙ omega arith in
-    let digit : t / 2 ^ 16 % 2 ≡ it.kept % 2 = omega (arith, code, even) in
-    let parity : eqb (t / 2 ^ 16 % 2) 1 ≡ eqb (it.kept % 2) 1 = ap (λ (x : ℕ). eqb x 1) digit in
-    let sum : rounded_by mode negative t ≡ cond moved (t / 2 ^ 16 + 1) (t / 2 ^ 16) =
-    ap (λ (b : Bool). cond (rounds_up mode negative loss b) (t / 2 ^ 16 + 1) (t / 2 ^ 16)) parity in
+    let digit : t / 2 ^ low % 2 ≡ it.kept % 2 = omega (arith, code, even) in
+    let parity : eqb (t / 2 ^ low % 2) 1 ≡ eqb (it.kept % 2) 1 = ap (λ (x : ℕ). eqb x 1) digit in
+    let sum : rounded_by low mode negative t ≡ cond moved (t / 2 ^ low + 1) (t / 2 ^ low) =
+    ap (λ (b : Bool). cond (rounds_up mode negative loss b) (t / 2 ^ low + 1) (t / 2 ^ low)) parity in
     let is_pick : IsPick precision mode negative amount parts (cond moved (it.kept + 1) it.kept * 2 ^ it.place) =
     picked_if_moved precision mode negative it.kept it.place amount parts
     (cond moved (it.kept + 1) it.kept * 2 ^ it.place) loss moved refl refl any it.enclosed it.stands in
     record {
       place = it.place;
       next = cond moved (it.kept + 1) it.kept;
-      code_is = sum ∙ moved_code moved (t / 2 ^ 16) (it.place * 2 ^ (precision - 1)) it.kept code;
+      code_is = sum ∙ moved_code moved (t / 2 ^ low) (it.place * 2 ^ (precision - 1)) it.kept code;
       fits = moved_most moved it.kept (2 ^ precision) it.fits;
       full = ⊎_elim (λ (z : it.place ≡ 0). inl z)
           (λ (f : 2 ^ (precision - 1) ≤ it.kept). inr (moved_least moved it.kept (2 ^ (precision - 1)) f)) it.full;
@@ -595,45 +595,45 @@ past_is_normal true half kept r by_kept by_code = le-leb half kept by_kept
 past_is_normal false half kept r by_kept by_code = le-leb half r by_code
 
 -- what is rounded to is at most one more than what is kept
-rounded_most : (mode : Round) (negative : Bool) (t : ℕ) → rounded_by mode negative t ≤ t / 2 ^ 16 + 1
-rounded_most mode negative t =
-    moved_most (rounds_up mode negative (loss_at (t % 2 ^ 16) (2 ^ 15)) (eqb (t / 2 ^ 16 % 2) 1)) (t / 2 ^ 16)
-    (t / 2 ^ 16 + 1) (omega arith)
+rounded_most : (low : ℕ) (mode : Round) (negative : Bool) (t : ℕ) → rounded_by low mode negative t ≤ t / 2 ^ low + 1
+rounded_most low mode negative t =
+    moved_most (rounds_up mode negative (loss_at (t % 2 ^ low) (2 ^ (low - 1))) (eqb (t / 2 ^ low % 2) 1)) (t / 2 ^ low)
+    (t / 2 ^ low + 1) (omega arith)
 
-flags_given : (f : Format) (layout : Layout) (mode : Round) (negative : Bool) (t amount parts : ℕ)
+flags_given : (low : ℕ) (f : Format) (layout : Layout) (mode : Round) (negative : Bool) (t amount parts : ℕ)
     → IsInterchange f layout
-    → reads_halves f ≡ false → 0 < parts → IsScaled f.precision 16 t amount parts
-    → (picked : IsPickedCode f.precision mode negative amount parts (rounded_by mode negative t) (t % 2 ^ 16))
-    → let some = not (eqb (t % 2 ^ 16) 0) in let past = ltb (largest_code f) (rounded_by mode negative t) in
-    let normal = cond f.tiny_before_rounding (leb (2 ^ (f.precision - 1)) (t / 2 ^ 16))
-    (leb (2 ^ (f.precision - 1)) (rounded_by mode negative t)) in
+    → reads_halves f ≡ false → 0 < parts → IsScaled f.precision low t amount parts
+    → (picked : IsPickedCode f.precision mode negative amount parts (rounded_by low mode negative t) (t % 2 ^ low))
+    → let some = not (eqb (t % 2 ^ low) 0) in let past = ltb (largest_code f) (rounded_by low mode negative t) in
+    let normal = cond f.tiny_before_rounding (leb (2 ^ (f.precision - 1)) (t / 2 ^ low))
+    (leb (2 ^ (f.precision - 1)) (rounded_by low mode negative t)) in
     flag_if 16 (some || past) + flag_if 8 ((some || past) && not normal)
     + flag_if 4 (past && raises_overflow f mode negative)
     ≡ delivered_status f mode negative amount parts (picked.next * 2 ^ picked.place)
-flags_given f layout mode negative t amount parts law rule any scaled picked =
+flags_given low f layout mode negative t amount parts law rule any scaled picked =
     let precise = law.precise in
-    let r = rounded_by mode negative t in
-    let kept = t / 2 ^ 16 in
+    let r = rounded_by low mode negative t in
+    let kept = t / 2 ^ low in
     let half : ℕ = 2 ^ (f.precision - 1) in
     let pick = picked.next * 2 ^ picked.place in
     let past = ltb (largest_code f) r in
-    let some = not (eqb (t % 2 ^ 16) 0) in
+    let some = not (eqb (t % 2 ^ low) 0) in
     let normal = cond f.tiny_before_rounding (leb half kept) (leb half r) in
     let past_is : ltb (largest f) pick ≡ past =
     past_by_code f picked.next picked.place precise picked.full picked.fits
     ∙ ap (λ (x : ℕ). ltb (largest_code f) x) (sym picked.code_is) in
     let full = greatest_full f.nonfinite f.precision precise in
-    let most = rounded_most mode negative t in
+    let most = rounded_most low mode negative t in
     let large : past ≡ true → normal ≡ true = λ e.
     let above : largest_code f < r = ltb-true (largest_code f) r e in
     past_is_normal f.tiny_before_rounding half kept r (omega (arith, full, above, most)) (omega (arith, full, above)) in
     let exact_is : eqb (pick * parts) amount ≡ not some =
     ⊎_elim
-    (λ (none : t % 2 ^ 16 ≡ 0).
-    eq-eqb (pick * parts) amount (picked.exact none) ∙ rw (eq-eqb (t % 2 ^ 16) 0 none) refl)
-    (λ (more : t % 2 ^ 16 ≡ 0 → ⊥).
-    ne_eqb (pick * parts) amount (picked.inexact more) ∙ rw (ne_eqb (t % 2 ^ 16) 0 more) refl)
-    (cases_eq (t % 2 ^ 16) 0) in
+    (λ (none : t % 2 ^ low ≡ 0).
+    eq-eqb (pick * parts) amount (picked.exact none) ∙ rw (eq-eqb (t % 2 ^ low) 0 none) refl)
+    (λ (more : t % 2 ^ low ≡ 0 → ⊥).
+    ne_eqb (pick * parts) amount (picked.inexact more) ∙ rw (ne_eqb (t % 2 ^ low) 0 more) refl)
+    (cases_eq (t % 2 ^ low) 0) in
     let by_amount : ltb amount (smallest_normalized f * parts) ≡ not (leb half kept) =
     sym (tiny_before f.precision half scaled.kept scaled.place amount parts any scaled.enclosed)
     ∙ code_below half scaled.place scaled.kept kept scaled.full scaled.code ∙ below_or_from kept half in
@@ -651,36 +651,36 @@ flags_given f layout mode negative t amount parts law rule any scaled picked =
 -- ---- the answer
 
 -- what a lane is made of
-pub record IsMade (saturates : Bool) (f : Format) (layout : Layout) (mode : Round) (negative : Bool) (t : ℕ)
+pub record IsMade (low : ℕ) (saturates : Bool) (f : Format) (layout : Layout) (mode : Round) (negative : Bool) (t : ℕ)
     (lane : Lane)
     : Type 0 where
   pub bits : lane.bits ≡ signed_code f.nonfinite layout.bits negative
-      (min (rounded_by mode negative t) (greatest_code saturates f mode negative))
+      (min (rounded_by low mode negative t) (greatest_code saturates f mode negative))
   pub inexact : lane.inexact
-      ≡ (not (eqb (t % 2 ^ 16) 0) || ltb (largest_code f) (rounded_by mode negative t))
+      ≡ (not (eqb (t % 2 ^ low) 0) || ltb (largest_code f) (rounded_by low mode negative t))
   pub underflow : lane.underflow
-      ≡ (lane.inexact && not (cond f.tiny_before_rounding (leb (2 ^ (f.precision - 1)) (t / 2 ^ 16))
-      (leb (2 ^ (f.precision - 1)) (rounded_by mode negative t))))
+      ≡ (lane.inexact && not (cond f.tiny_before_rounding (leb (2 ^ (f.precision - 1)) (t / 2 ^ low))
+      (leb (2 ^ (f.precision - 1)) (rounded_by low mode negative t))))
   pub overflow : lane.overflow
-      ≡ (ltb (largest_code f) (rounded_by mode negative t) && raises_overflow f mode negative)
+      ≡ (ltb (largest_code f) (rounded_by low mode negative t) && raises_overflow f mode negative)
   pub nan_is : lane.is_nan
       ≡ (not (is_ieee f.nonfinite)
-      && ltb (largest_code f) (min (rounded_by mode negative t) (greatest_code saturates f mode negative)))
+      && ltb (largest_code f) (min (rounded_by low mode negative t) (greatest_code saturates f mode negative)))
 
-made_rounded : (saturates : Bool) (f : Format) (layout : Layout) (mode : Round) (negative : Bool)
+pub made_rounded : (low : ℕ) (saturates : Bool) (f : Format) (layout : Layout) (mode : Round) (negative : Bool)
     (t amount parts : ℕ) (lane : Lane)
     → IsInterchange f layout → f.explicit_integer_bit ≡ false → reads_halves f ≡ false
-    → 0 < parts → IsMade saturates f layout mode negative t lane → IsScaled f.precision 16 t amount parts
+    → 0 < parts → IsMade low saturates f layout mode negative t lane → IsScaled f.precision low t amount parts
     → IsRounded saturates f layout mode negative amount parts lane
-made_rounded saturates f layout mode negative t amount parts lane law implied rule any made scaled =
-    let picked = picked_code f.precision mode negative t amount parts law.precise any scaled in
+made_rounded low saturates f layout mode negative t amount parts lane law implied rule any made scaled =
+    let picked = picked_code f.precision low mode negative t amount parts law.precise any scaled in
     let pick = picked.next * 2 ^ picked.place in
-    let given = value_given saturates f layout mode negative amount parts (rounded_by mode negative t)
-    (t % 2 ^ 16) law implied
+    let given = value_given saturates f layout mode negative amount parts (rounded_by low mode negative t)
+    (t % 2 ^ low) law implied
     picked in
     let flags : flags_of lane ≡ delivered_status f mode negative amount parts pick =
     rw (made.underflow, made.inexact, made.overflow)
-    (flags_given f layout mode negative t amount parts law rule any scaled picked) in
+    (flags_given low f layout mode negative t amount parts law rule any scaled picked) in
     record {
       rounded = delivered_value f mode negative pick;
       is_delivered = record { pick = pick; is_pick = picked.is_pick; value_is = refl; status_is = flags };
@@ -696,11 +696,11 @@ made_rounded saturates f layout mode negative t amount parts lane law implied ru
 pub lane_rounded : (saturates : Bool) (f : Format) (layout : Layout) (mode : Round) (negative : Bool)
     (t amount parts : ℕ) (lane : Lane)
     → IsInterchange f layout → f.explicit_integer_bit ≡ false → reads_halves f ≡ false
-    → 0 < parts → IsMade saturates f layout mode negative t lane → IsReached f t amount parts
+    → 0 < parts → IsMade 16 saturates f layout mode negative t lane → IsReached f t amount parts
     → IsRounded saturates f layout mode negative amount parts lane
 lane_rounded saturates f layout mode negative t amount parts lane law implied rule any made it =
     let precise = law.precise in
-    let there = made_rounded saturates f layout mode negative t it.reached parts lane law implied rule any made
+    let there = made_rounded 16 saturates f layout mode negative t it.reached parts lane law implied rule any made
     it.scaled
     in
     ⊎_elim

@@ -7,3 +7,5 @@ pub mod Interchanges
 pub mod Reached
 pub mod Singles
 pub mod LowBits
+pub mod UpperHalves
+pub mod PlacedNumbers

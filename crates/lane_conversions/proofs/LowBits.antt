@@ -3,7 +3,7 @@ use Rattle.std.proofs.Common.{◌≡◌, ℕ, ◌+◌, ◌-◌, ◌*◌, ◌/◌
 use Rattle.std.specs.Int.RustNames.{bit_or}
 use Rattle.std.specs.Int.Bits.{or_zero_r}
 use Rattle.std.proofs.lemmas.Nat.{div-add-mod', mod_below, or_block}
-use Rattle.std.proofs.lemmas.Bool.{cases_lt}
+use Rattle.std.proofs.lemmas.Bool.{cases_eq, cases_lt, eq-eqb, ne_eqb}
 use Rattle.apfloat_model.specs.rounding.RoundingToOdd.{odd_for_rest}
 
 -- the bits above the lowest one are kept
@@ -41,3 +41,15 @@ by_rest q false = or_one q
 -- a quotient rounded to odd
 pub or_bit : (q r : ℕ) → bit_or q (cond (not (eqb r 0)) 1 0) ≡ odd_for_rest q r
 or_bit q r = by_rest q (eqb r 0)
+
+-- 1 for a nonzero rest, without a comparison
+pub one_for : (r : ℕ) → r < 2 ^ 16 → (r + 65535) / 65536 ≡ cond (not (eqb r 0)) 1 0
+one_for r below =
+    ⊎_elim {C = (r + 65535) / 65536 ≡ cond (not (eqb r 0)) 1 0}
+    (λ (z : r ≡ 0).
+    let e : (r + 65535) / 65536 ≡ 0 = omega (arith, z) in
+    e ∙ sym (ap (λ (b : Bool). cond (not b) 1 0) (eq-eqb r 0 z)))
+    (λ (n : r ≡ 0 → ⊥).
+    let e : (r + 65535) / 65536 ≡ 1 = omega (arith, below, n) in
+    e ∙ sym (ap (λ (b : Bool). cond (not b) 1 0) (ne_eqb r 0 n)))
+    (cases_eq r 0)

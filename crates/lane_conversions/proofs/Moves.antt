@@ -1,5 +1,5 @@
 -- A constant that is added below the last kept digit carries into it exactly if the mode rounds up.
-use Rattle.std.proofs.Common.{◌≡◌, ℕ, ◌+◌, ◌-◌, ◌*◌, ◌/◌, ◌%◌, ◌^◌, ◌<◌, ◌≤◌, Bool, true, false, cond, eqb, refl, sym, ap, ◌∙◌, subst, ⊎_elim, lit<, arith}
+use Rattle.std.proofs.Common.{◌≡◌, ℕ, ◌+◌, ◌-◌, ◌*◌, ◌/◌, ◌%◌, ◌^◌, ◌<◌, ◌≤◌, Bool, true, false, cond, eqb, refl, sym, ap, ◌∙◌, subst, ⊎_elim, arith}
 use Rattle.std.proofs.Math.Nat.{div-eq_of_lt, mul-add-div_right}
 use Rattle.std.specs.Int.RustNames.{bit_and}
 use Rattle.std.proofs.lemmas.Nat.{and_mask, div-add-mod', mod_below, pow_pos}
@@ -164,15 +164,25 @@ rounded_is mode negative t low some =
     ∙ next_by kept rest added (2 ^ low) up (pow_pos low) (omega (arith, rest_below, twice, most)) reaches
 
 -- the constants of a mode
-pub addend_rounds : (mode : Round) (negative : Bool) (always if_odd : ℕ)
-    → always ≡ added_for mode negative (2 ^ 15)
+pub addend_rounds : (low : ℕ) (mode : Round) (negative : Bool) (always if_odd : ℕ) → 0 < low
+    → always ≡ added_for mode negative (2 ^ (low - 1))
     → if_odd ≡ 2 ^ odd_for mode - 1 → (t : ℕ)
-    → (t + (always + bit_and (t / 2 ^ 16) if_odd)) / 2 ^ 16
-    ≡ cond (rounds_up mode negative (loss_at (t % 2 ^ 16) (2 ^ 15)) (eqb (t / 2 ^ 16 % 2) 1)) (t / 2 ^ 16 + 1)
-    (t / 2 ^ 16)
-addend_rounds mode negative always if_odd always_is odd_is t =
-    let last : bit_and (t / 2 ^ 16) if_odd ≡ t / 2 ^ 16 % 2 ^ odd_for mode =
-    ap (λ (n : ℕ). bit_and (t / 2 ^ 16) n) odd_is ∙ and_mask (t / 2 ^ 16) (odd_for mode) in
-    let added : always + bit_and (t / 2 ^ 16) if_odd ≡ added_to mode negative (2 ^ 15) (t / 2 ^ 16) =
+    → (t + (always + bit_and (t / 2 ^ low) if_odd)) / 2 ^ low
+    ≡ cond (rounds_up mode negative (loss_at (t % 2 ^ low) (2 ^ (low - 1))) (eqb (t / 2 ^ low % 2) 1))
+    (t / 2 ^ low + 1) (t / 2 ^ low)
+addend_rounds low mode negative always if_odd some always_is odd_is t =
+    let last : bit_and (t / 2 ^ low) if_odd ≡ t / 2 ^ low % 2 ^ odd_for mode =
+    ap (λ (n : ℕ). bit_and (t / 2 ^ low) n) odd_is ∙ and_mask (t / 2 ^ low) (odd_for mode) in
+    let added : always + bit_and (t / 2 ^ low) if_odd ≡ added_to mode negative (2 ^ (low - 1)) (t / 2 ^ low) =
     omega (arith, always_is, last) in
-    ap (λ (n : ℕ). (t + n) / 2 ^ 16) added ∙ rounded_is mode negative t 16 (lit< tt)
+    ap (λ (n : ℕ). (t + n) / 2 ^ low) added ∙ rounded_is mode negative t low some
+
+-- less than all digits of the rest are added, but for the one that is missing
+pub added_below : (mode : Round) (negative : Bool) (half : ℕ) → 0 < half → added_for mode negative half < 2 * half
+added_below NearestTiesToEven negative half some = omega (arith, some)
+added_below NearestTiesToAway negative half some = omega (arith, some)
+added_below TowardZero negative half some = omega (arith, some)
+added_below TowardPositive true half some = omega (arith, some)
+added_below TowardPositive false half some = omega (arith, some)
+added_below TowardNegative true half some = omega (arith, some)
+added_below TowardNegative false half some = omega (arith, some)

@@ -11,6 +11,7 @@ use Rattle.apfloat_model.specs.rounding.RoundingToOdd.{odd_quotient}
 use Rattle.apfloat_model.specs.rounding.Standing.{StandsFor}
 use Rattle.apfloat_model.proofs.general.Powers.{pow3, two_pos}
 use Rattle.apfloat_model.proofs.rounding.KeptDigits.{enclosed_from}
+use Rattle.apfloat_rounding.specs.Cuts.{loss_at}
 use Rattle.lane_conversions.specs.Scaled.{IsPast, IsReached, IsScaled}
 use Rattle.lane_conversions.specs.Targets.{IsTarget}
 use Rattle.lane_conversions.proofs.Cuts.{exact_odd}
@@ -18,17 +19,19 @@ use Rattle.lane_conversions.proofs.Interchanges.{places_below}
 use Rattle.lane_conversions.proofs.ScaledNumbers.{odd_below, scaled_stands}
 
 -- zero is scaled to zero
-zero_scaled : (precision parts : ℕ) → 0 < precision → 0 < parts → IsScaled precision 16 0 0 parts
-zero_scaled precision parts some any =
+pub zero_scaled : (precision low parts : ℕ) → 0 < precision → 0 < parts → IsScaled precision low 0 0 parts
+zero_scaled precision low parts some any =
+    let none : 0 / 2 ^ low ≡ 0 = zero-div (2 ^ low) in
+    let rest : 0 % 2 ^ low ≡ 0 = zero-mod (2 ^ low) in
     let stands : StandsFor 0 ExactlyZero 0 (2 ^ 0 * parts) = omega arith in
     record {
       place = 0;
       kept = 0;
-      code = omega arith;
+      code = omega (arith, none);
       fits = pow_pos precision;
       full = inl refl;
       enclosed = enclosed_from precision 0 0 ExactlyZero 0 parts some any (pow_pos precision) (inl refl) stands;
-      stands = stands;
+      stands = subst (λ (n : ℕ). StandsFor 0 (loss_at n (2 ^ (low - 1))) 0 (2 ^ 0 * parts)) (sym rest) stands;
     }
 
 -- a significand with all digits, past all places
@@ -59,7 +62,7 @@ near_reached : (f : Format) (m place first : ℕ) → 3 ≤ f.precision → f.pr
     (m * 2 ^ place * 2 ^ f.scale) (2 ^ 149)
 near_reached f m place first precise digits scales some fits full =
     let p = f.precision in
-    let cut : p + 4 + (20 - p) ≡ 24 = omega (arith, digits) in
+    let cut : p + 3 + 1 + (20 - p) ≡ 24 = omega (arith, digits) in
     let cut_full : p + 3 + (20 - p) ≡ 23 = omega (arith, digits) in
     let up : 16 - 4 - (first - place) ≡ 12 - (first - place) = refl in
     let unit : p - 1 + 16 ≡ p + 15 = omega (arith, precise) in
@@ -67,7 +70,7 @@ near_reached f m place first precise digits scales some fits full =
     (λ (n : ℕ). IsScaled p 16
     (odd_quotient m (2 ^ (20 - p)) * 2 ^ (12 - (first - place)) + (place - first) * 2 ^ n)
     (m * 2 ^ place * 2 ^ f.scale) (2 ^ 149)) unit
-    (scaled_stands p (20 - p) 16 first place f.scale 149 m precise (omega (arith, digits))
+    (scaled_stands p 3 (20 - p) 16 first place f.scale 149 m precise (omega arith) (omega (arith, digits))
     (omega (arith, scales, digits)) some (subst (λ (n : ℕ). m < 2 ^ n) (sym cut) fits)
     (subst (λ (n : ℕ). (place ≡ 0) ⊎ (2 ^ n ≤ m)) (sym cut_full) full))
 
@@ -140,7 +143,7 @@ zero_reached f m place first precise none last =
       reached = 0;
       scaled =
           subst (λ (n : ℕ). IsScaled p 16 n 0 (2 ^ 149)) sum
-          (zero_scaled p (2 ^ 149) (omega (arith, precise)) (pow_pos 149));
+          (zero_scaled p 16 (2 ^ 149) (omega (arith, precise)) (pow_pos 149));
       alike = inl (omega (arith, amount));
     }
 

@@ -1,5 +1,5 @@
 -- One number, from bits to bits.
-use Rattle.std.specs.Prelude.{◌≡◌, ℕ, ◌+◌, Bool, not, ◌&&◌, if◌then◌else◌}
+use Rattle.std.specs.Prelude.{◌≡◌, ℕ, ◌+◌, ◌-◌, ◌^◌, Bool, not, ◌&&◌, ◌||◌, ltb, leb, if◌then◌else◌}
 use Rattle.apfloat_model.specs.arithmetic.Conversions.{IsConversion}
 use Rattle.apfloat_model.specs.bits.Layout.{IsEncodedBy, Layout, datum_of}
 use Rattle.apfloat_model.specs.declared.kinds.Round.{Round}
@@ -8,6 +8,7 @@ use Rattle.apfloat_model.specs.formats.Datum.{Datum, finite}
 use Rattle.apfloat_model.specs.formats.Format.{Format, largest}
 use Rattle.apfloat_model.specs.rounding.Rounding.{IsDelivered, inexact_bit, overflow_bit, underflow_bit}
 use Rattle.lane_conversions.specs.declared.lanes.Lane.{Lane}
+use Rattle.lane_conversions.specs.Targets.{is_ieee, largest_code, signed_code}
 
 abbrev pub flag_if : ℕ → Bool → ℕ
 flag_if flag holds = if holds then flag else 0
@@ -16,6 +17,17 @@ flag_if flag holds = if holds then flag else 0
 abbrev pub flags_of : Lane → ℕ
 flags_of lane =
     flag_if inexact_bit lane.inexact + flag_if underflow_bit lane.underflow + flag_if overflow_bit lane.overflow
+
+-- the bits and the flags of a lane: by what is kept, what that is rounded to, and what is delivered for it
+pub record IsDeliveredLane (f : Format) (bits : ℕ) (raises negative : Bool) (kept rounded code : ℕ) (some : Bool)
+    (lane : Lane) : Type 0 where
+  pub bits_are : lane.bits ≡ signed_code f.nonfinite bits negative code
+  pub inexact : lane.inexact ≡ (some || ltb (largest_code f) rounded)
+  pub underflow : lane.underflow
+      ≡ (lane.inexact && not (if f.tiny_before_rounding then leb (2 ^ (f.precision - 1)) kept
+      else leb (2 ^ (f.precision - 1)) rounded))
+  pub overflow : lane.overflow ≡ (ltb (largest_code f) rounded && raises)
+  pub nan_is : lane.is_nan ≡ (not (is_ieee f.nonfinite) && ltb (largest_code f) code)
 
 -- what a number becomes that is rounded to that datum, where conversions may saturate
 abbrev pub finished : Bool → Format → Bool → Datum → Datum

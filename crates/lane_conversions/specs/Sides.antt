@@ -1,5 +1,5 @@
 -- The constants by which numbers of one sign are rounded and delivered.
-use Rattle.std.specs.Prelude.{◌≡◌, ℕ, ◌+◌, ◌/◌, ◌%◌, ◌^◌, Bool, not, ◌&&◌, eqb, if◌then◌else◌}
+use Rattle.std.specs.Prelude.{◌≡◌, ℕ, ◌+◌, ◌-◌, ◌/◌, ◌%◌, ◌^◌, Bool, not, ◌&&◌, eqb, if◌then◌else◌}
 use Rattle.std.specs.Int.RustNames.{bit_and}
 use Rattle.apfloat_model.specs.declared.kinds.Round.{Round}
 use Rattle.apfloat_model.specs.formats.Format.{Format}
@@ -10,23 +10,25 @@ use Rattle.lane_conversions.specs.declared.constants.Addend.{Addend}
 use Rattle.lane_conversions.specs.declared.constants.Side.{Side}
 use Rattle.lane_conversions.specs.Targets.{largest_code}
 
--- a number of 65536ths, rounded to a whole number
-abbrev pub rounded_by : Round → Bool → ℕ → ℕ
-rounded_by mode negative t =
-    if rounds_up mode negative (loss_at (t % 2 ^ 16) (2 ^ 15)) (eqb (t / 2 ^ 16 % 2) 1) then t / 2 ^ 16 + 1
-    else t / 2 ^ 16
+-- a number with `low` binary digits below its last whole one, rounded to a whole number
+abbrev pub rounded_by : ℕ → Round → Bool → ℕ → ℕ
+rounded_by low mode negative t =
+    if rounds_up mode negative (loss_at (t % 2 ^ low) (2 ^ (low - 1))) (eqb (t / 2 ^ low % 2) 1) then t / 2 ^ low + 1
+    else t / 2 ^ low
 
 -- what is added carries into the whole number exactly if the mode rounds up
-pub record IsAddendOf (mode : Round) (negative : Bool) (addend : Addend) : Type 0 where
-  pub rounds : (t : ℕ) → (t + (addend.always + bit_and (t / 2 ^ 16) addend.if_odd)) / 2 ^ 16
-      ≡ rounded_by mode negative t
+pub record IsAddendOf (low : ℕ) (mode : Round) (negative : Bool) (addend : Addend) : Type 0 where
+  pub rounds : (t : ℕ) → (t + (addend.always + bit_and (t / 2 ^ low) addend.if_odd)) / 2 ^ low
+      ≡ rounded_by low mode negative t
 
 -- the greatest encoding that is delivered
 abbrev pub greatest_code : Bool → Format → Round → Bool → ℕ
 greatest_code saturates f mode negative =
     if leads_out mode negative && not saturates then largest_code f + 1 else largest_code f
 
-pub record IsSideOf (saturates : Bool) (f : Format) (mode : Round) (negative : Bool) (side : Side) : Type 0 where
-  pub addend : IsAddendOf mode negative side.addend
+-- the constants for numbers with so many digits below their last whole one
+pub record IsSideOf (low : ℕ) (saturates : Bool) (f : Format) (mode : Round) (negative : Bool) (side : Side)
+    : Type 0 where
+  pub addend : IsAddendOf low mode negative side.addend
   pub greatest : side.greatest ≡ greatest_code saturates f mode negative
   pub raises : side.raises ≡ raises_overflow f mode negative

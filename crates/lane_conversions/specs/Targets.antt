@@ -47,6 +47,13 @@ pub record IsTarget (f : Format) (layout : Layout) (min_exp max_exp : ℤ) : Typ
   pub greatest : max_exp ≤ℤ pos 127
   pub rule : reads_halves f ≡ false
 
+-- at most 8 bits and 6 digits, so that the upper half of a single has at least two digits more, and a least normal
+-- number far above denormal singles
+pub record IsShort (layout : Layout) (precision : ℕ) (min_exp : ℤ) : Type 0 where
+  pub bits : layout.bits ≤ 8
+  pub digits : precision ≤ 6
+  pub least : negsuc 118 ≤ℤ min_exp
+
 -- the encoding of the largest value: its place and its significand, added
 abbrev pub largest_code : Format → ℕ
 largest_code f = f.span * 2 ^ (f.precision - 1) + greatest_significand f.nonfinite f.precision

@@ -49,5 +49,5 @@ pub struct Side {
     pub greatest: u32,
     /// Whether a number past the largest value raises OVERFLOW.
     pub raises: bool,
-    ghost short: { greatest < 2 ^ 17 },
+    ghost short: { greatest < 2 ^ 16 },
 }

@@ -6,7 +6,7 @@ ghost use Rattle.apfloat_model.specs.declared.kinds.Round.{Round as Mode};
 ghost use Rattle.apfloat_model.specs.bits.Layout.{Layout};
 ghost use Rattle.apfloat_model.specs.formats.Format.{Format};
 ghost use Rattle.lane_conversions.specs.At.{format_at, layout_at};
-ghost use Rattle.lane_conversions.specs.Lanes.{IsConvertedLane, IsRounded};
+ghost use Rattle.lane_conversions.specs.Lanes.{IsConvertedLane, IsDeliveredLane, IsRounded};
 ghost use Rattle.lane_conversions.specs.Scaled.{IsReached};
 ghost use Rattle.lane_conversions.specs.Sides.{IsSideOf};
 ghost use Rattle.lane_conversions.specs.Targets.{IsSingle, has_one_zero, is_ieee, largest_code, signed_code};
@@ -97,33 +97,61 @@ fn with_sign(target: Target, negative: bool, code: u32) -> u32
     }
 }
 
+/// A rounded number, encoded and with its flags. `code` is what is delivered for it, and `some` says whether digits
+/// were lost.
+#[inline(always)]
+pub(crate) fn delivered(
+    target: Target,
+    raises: bool,
+    negative: bool,
+    kept: u32,
+    rounded: u32,
+    code: u32,
+    some: bool,
+) -> Lane
+    requires small { code < 2 ^ 17 }
+    ensures { IsDeliveredLane (format_at target) target.bits raises negative kept rounded code some
+        result }
+{
+    let past = is_past(target, rounded);
+    let inexact = some | past;
+    let normal = is_normal(target, kept, rounded);
+    Lane {
+        bits: with_sign(target, negative, code),
+        inexact,
+        underflow: inexact & !normal,
+        overflow: past & raises,
+        is_nan: is_nan_code(target, code),
+    }
+}
+
 /// A scaled number, rounded and encoded.
 #[inline(always)]
 fn finish(target: Target, side: Side, negative: bool, scaled: u32) -> Lane
     requires scaled { scaled + 2 ^ 17 < 2 ^ 32 }
     ensures { (saturates : Bool) (mode : Mode) (amount parts : ℕ) → 0 < parts
-        → IsSideOf saturates (format_at target) mode negative side
+        → IsSideOf 16 saturates (format_at target) mode negative side
         → IsReached (format_at target) scaled amount parts
         → IsRounded saturates (format_at target) (layout_at target) mode negative amount parts
         result }
 {
     let rounded = rounded(side.addend, scaled);
     let code = rounded.min(side.greatest);
-    let past = is_past(target, rounded);
-    let inexact = (scaled % 0x1_0000 != 0) | past;
-    let normal = is_normal(target, scaled / 0x1_0000, rounded);
-    Lane {
-        bits: with_sign(target, negative, code),
-        inexact,
-        underflow: inexact & !normal,
-        overflow: past & side.raises,
-        is_nan: is_nan_code(target, code),
-    }
+    let (kept, rest) = (scaled / 0x1_0000, scaled % 0x1_0000);
+    delivered(
+        target,
+        side.raises,
+        negative,
+        kept,
+        rounded,
+        code,
+        rest != 0,
+    )
 }
 
 /// Whether a zero of this sign loses it.
 #[inline(always)]
-fn loses_sign(target: Target, negative: bool, magnitude: u32) -> bool
+pub(crate) fn loses_sign(target: Target, negative: bool, magnitude: u32) -> bool
     ensures { result ≡ (has_one_zero target.nonfinite && negative && nat_eq magnitude 0) }
 {
     (target.nonfinite == NonfiniteBehavior::NanNegativeZero) & negative & (magnitude == 0)

@@ -2,11 +2,12 @@
 
 ghost use Rattle.std.specs.Prelude.{◌≡◌, ◌+◌, ◌-◌, ◌*◌, ◌^◌, ◌<◌, ◌≤◌, if◌then◌else◌};
 ghost use Rattle.apfloat_model.specs.rounding.Rounding.{leads_out};
-ghost use Rattle.lane_conversions.specs.At.{format_at};
+ghost use Rattle.lane_conversions.specs.At.{format_at, layout_at};
 ghost use Rattle.lane_conversions.specs.Sides.{IsAddendOf, IsSideOf};
+ghost use Rattle.lane_conversions.specs.Targets.{IsShort};
 
 use crate::constants::{Addend, Side, Target};
-use crate::plans::Plan;
+use crate::plans::{Plan, ShortPlan};
 use crate::targets::largest_code;
 use apfloat_model::Round;
 
@@ -26,45 +27,54 @@ fn leads_past(round: Round, negative: bool) -> bool
 
 /// What a directed mode adds, if it rounds away from zero or toward it.
 #[inline(always)]
-fn directed(away: bool) -> Addend
-    ensures always { result.always ≡ (if away then 2 * 2 ^ 15 - 1 else 0) }
+fn directed(half: u32, away: bool) -> Addend
+    requires some { 1 ≤ half }
+    requires most { half ≤ 2 ^ 15 }
+    ensures always { result.always ≡ (if away then 2 * half - 1 else 0) }
     ensures if_odd { result.if_odd ≡ 0 }
 {
     Addend {
-        always: if away { 0xffff } else { 0 },
+        always: if away { 2 * half - 1 } else { 0 },
         if_odd: 0,
     }
 }
 
-/// What is added to numbers of this sign.
+/// What is added to numbers of this sign, with `low` digits below the last kept one.
 #[inline(always)]
-fn addend_of(round: Round, negative: bool) -> Addend
-    ensures { IsAddendOf round negative result }
+fn addend_of(low: u32, round: Round, negative: bool) -> Addend
+    requires some { 1 ≤ low }
+    requires most { low ≤ 16 }
+    ensures rounds { IsAddendOf low round negative result }
+    ensures below { low ≤ 15 → result.always < 2 ^ 15 }
 {
+    let half = 1 << (low - 1);
     match round {
         Round::NearestTiesToEven => Addend {
-            always: 0x7fff,
+            always: half - 1,
             if_odd: 1,
         },
         Round::NearestTiesToAway => Addend {
-            always: 0x8000,
+            always: half,
             if_odd: 0,
         },
-        Round::TowardZero => directed(false),
-        Round::TowardPositive => directed(!negative),
-        Round::TowardNegative => directed(negative),
+        Round::TowardZero => directed(half, false),
+        Round::TowardPositive => directed(half, !negative),
+        Round::TowardNegative => directed(half, negative),
     }
 }
 
-/// What the mode does with numbers of this sign.
+/// What the mode does with numbers of this sign, with `low` digits below the last kept one.
 #[inline(always)]
-fn side_of(target: Target, saturates: bool, round: Round, negative: bool) -> Side
-    ensures { IsSideOf saturates (format_at target) round negative result }
+fn side_of(low: u32, target: Target, saturates: bool, round: Round, negative: bool) -> Side
+    requires some { 1 ≤ low }
+    requires most { low ≤ 16 }
+    ensures side { IsSideOf low saturates (format_at target) round negative result }
+    ensures below { low ≤ 15 → result.addend.always < 2 ^ 15 }
 {
     let past = leads_past(round, negative);
     let largest = largest_code(target);
     Side {
-        addend: addend_of(round, negative),
+        addend: addend_of(low, round, negative),
         greatest: if past & !saturates {
             largest + 1
         } else {
@@ -85,7 +95,25 @@ pub fn plan_of(target: Target, saturates: bool, round: Round) -> Plan
         target,
         saturates,
         round,
-        positive: side_of(target, saturates, round, false),
-        negative: side_of(target, saturates, round, true),
+        positive: side_of(16, target, saturates, round, false),
+        negative: side_of(16, target, saturates, round, true),
+    }
+}
+
+/// The same for a format of at most eight bits.
+#[inline(always)]
+pub fn short_plan_of(target: Target, saturates: bool, round: Round) -> ShortPlan
+    requires short { IsShort (layout_at target) target.precision target.min_exp }
+    ensures target { result.target ≡ target }
+    ensures saturates { result.saturates ≡ saturates }
+    ensures round { result.round ≡ round }
+{
+    let low = 15 - target.precision;
+    ShortPlan {
+        target,
+        saturates,
+        round,
+        positive: side_of(low, target, saturates, round, false),
+        negative: side_of(low, target, saturates, round, true),
     }
 }

@@ -15,7 +15,7 @@ returns c =
     let f = format_at t in
     let a = c.args.bits % 2 ^ 31 in
     let negative = eqb (c.args.bits / 2 ^ 31) 1 in
-    let side : IsSideOf plan.saturates f plan.round negative c.if-negative.side =
+    let side : IsSideOf 16 plan.saturates f plan.round negative c.if-negative.side =
     elim c.if-negative.branch [
       | then-negative w ↦ rw (w.side-is, w.if-negative.true) plan.negative_is
       | else-negative w ↦ rw (w.side-is, ne_eqb (c.args.bits / 2 ^ 31) 1 w.if-negative.false) plan.positive_is

@@ -9,13 +9,14 @@ returns c = λ saturates mode amount parts some side reached.
     let t = c.args.target in
     let law = target_interchange (format_at t) (layout_at t) t.min_exp t.max_exp t.lawful in
     let sum = c.rounded-rounded.ensures ∙ side.addend.rounds c.args.scaled in
+    let is = c.delivered.ensures in
     lane_rounded saturates (format_at t) (layout_at t) mode c.args.negative c.args.scaled amount parts _ law
     t.lawful.implied t.lawful.rule some
     (record {
-      bits = rw (c.with_sign.ensures, c.min-code.ensures, sum, side.greatest) refl;
-      inexact = rw (c.is_past-past.ensures, sum) refl;
-      underflow = rw (c.is_normal-normal.ensures, sum) refl;
-      overflow = rw (c.is_past-past.ensures, sum, side.raises) refl;
-      nan_is = rw (c.is_nan_code.ensures, c.min-code.ensures, sum, side.greatest) refl;
+      bits = rw (is.bits_are, c.min-code.ensures, sum, side.greatest) refl;
+      inexact = rw (is.inexact, sum) refl;
+      underflow = rw (is.underflow, sum) refl;
+      overflow = rw (is.overflow, sum, side.raises) refl;
+      nan_is = rw (is.nan_is, c.min-code.ensures, sum, side.greatest) refl;
     })
     reached

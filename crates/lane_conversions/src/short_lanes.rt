@@ -1,0 +1,121 @@
+//! One number from its upper sixteen bits, to a format of at most eight, so that twice as many fit into a vector.
+
+ghost use Rattle.std.specs.Prelude.{◌≡◌, ℕ, ◌+◌, ◌-◌, ◌*◌, ◌/◌, ◌%◌, ◌^◌, ◌<◌, ◌≤◌, Bool, not, nat_eq};
+ghost use Rattle.std.specs.Int.RustNames.{bit_and};
+ghost use Rattle.apfloat_model.specs.declared.kinds.Round.{Round as Mode};
+ghost use Rattle.apfloat_model.specs.bits.Layout.{Layout};
+ghost use Rattle.apfloat_model.specs.formats.Format.{Format};
+ghost use Rattle.apfloat_model.specs.rounding.RoundingToOdd.{odd_quotient};
+ghost use Rattle.lane_conversions.specs.At.{format_at, layout_at};
+ghost use Rattle.lane_conversions.specs.Lanes.{IsConvertedLane, IsRounded};
+ghost use Rattle.lane_conversions.specs.Scaled.{IsScaled};
+ghost use Rattle.lane_conversions.specs.Sides.{IsSideOf};
+ghost use Rattle.lane_conversions.specs.Targets.{IsSingle};
+
+use crate::constants::{Addend, Side, Target};
+use crate::halves::{digits_of, first_exponent, place_of};
+use crate::lanes::{Lane, delivered, loses_sign};
+use crate::plans::ShortPlan;
+
+/// Digits without those below the last kept one.
+#[inline(always)]
+fn kept(target: Target, digits: u16) -> u16
+    requires { target.precision ≤ 6 }
+    ensures is { result ≡ digits / 2 ^ (15 - target.precision) }
+    ensures below { result < 2 ^ 7 }
+{
+    digits >> (15 - target.precision)
+}
+
+/// Whether there are digits below the last kept one.
+#[inline(always)]
+fn has_rest(target: Target, digits: u16) -> bool
+    requires { target.precision ≤ 6 }
+    ensures { result ≡ not (nat_eq (digits % 2 ^ (15 - target.precision)) 0) }
+{
+    digits % (1 << (15 - target.precision)) != 0
+}
+
+/// What is kept, moved up where the mode rounds up.
+#[inline(always)]
+fn carried(target: Target, addend: Addend, digits: u16) -> u16
+    requires precision { target.precision ≤ 6 }
+    requires digits { digits < 2 ^ 15 }
+    requires addend { addend.always < 2 ^ 15 }
+    ensures is { result ≡ (digits + (addend.always
+        + bit_and (digits / 2 ^ (15 - target.precision)) addend.if_odd))
+        / 2 ^ (15 - target.precision) }
+    ensures below { result < 2 ^ 7 }
+{
+    let one = kept(target, digits) & addend.if_odd as u16;
+    kept(target, digits + (addend.always as u16 + one))
+}
+
+/// What a place adds to an encoding.
+#[inline(always)]
+fn placed(target: Target, place: u16) -> u16
+    requires precision { target.precision ≤ 6 }
+    requires place { place < 2 ^ 8 }
+    ensures is { result ≡ place * 2 ^ (target.precision - 1) }
+    ensures below { result < 2 ^ 13 }
+{
+    place << (target.precision - 1)
+}
+
+/// A number, rounded and encoded.
+#[inline(always)]
+fn finish(target: Target, side: Side, negative: bool, digits: u16, place: u16) -> Lane
+    requires precision { target.precision ≤ 6 }
+    requires digits { digits < 2 ^ 15 }
+    requires place { place < 2 ^ 8 }
+    requires addend { side.addend.always < 2 ^ 15 }
+    ensures { (saturates : Bool) (mode : Mode) (amount parts : ℕ) → 0 < parts
+        → IsSideOf (15 - target.precision) saturates (format_at target) mode negative side
+        → IsScaled target.precision (15 - target.precision) (digits + place * 2 ^ 14) amount parts
+        → IsRounded saturates (format_at target) (layout_at target) mode negative amount parts
+        result }
+{
+    let places = placed(target, place);
+    let rounded = carried(target, side.addend, digits) + places;
+    let code = rounded.min(side.greatest as u16);
+    delivered(
+        target,
+        side.raises,
+        negative,
+        u32::from(kept(target, digits) + places),
+        u32::from(rounded),
+        u32::from(code),
+        has_rest(target, digits),
+    )
+}
+
+/// Converts a finite single, given its upper sixteen bits, rounded to odd.
+#[inline(always)]
+pub fn convert_half(plan: ShortPlan, half: u16) -> Lane
+    requires { half % 2 ^ 15 < 255 * 2 ^ 7 }
+    ensures below { result.bits < 2 ^ plan.target.bits }
+    ensures converted { (bits : ℕ) (single : Format) (layout : Layout)
+        → half ≡ odd_quotient bits (2 ^ 16) → IsSingle single layout
+        → IsConvertedLane plan.saturates single layout (format_at plan.target)
+        (layout_at plan.target) plan.round bits result }
+{
+    let negative = half / 0x8000 == 1;
+    let magnitude = half % 0x8000;
+    let first = first_exponent(plan.target);
+    let side = if negative {
+        plan.negative
+    } else {
+        plan.positive
+    };
+    let lane = finish(
+        plan.target,
+        side,
+        negative,
+        digits_of(magnitude, first),
+        place_of(magnitude, first),
+    );
+    Lane {
+        inexact: lane.inexact | loses_sign(plan.target, negative, u32::from(magnitude)),
+        ..lane
+    }
+}
