@@ -6,7 +6,7 @@ use Rattle.lane_conversions.specs.At.{format_at, layout_at}
 use Rattle.rustc_apfloat.specs.Lawful.{Constants, format_with, layout_with}
 use Rattle.rustc_apfloat.specs.declared.Round.{Round}
 use Rattle.array_conversions.specs.declared.counts.Counts.{Counts}
-use Rattle.array_conversions.specs.declared.few_counts.ShortCounts.{ShortCounts}
+use Rattle.lane_conversions.specs.declared.few_counts.ShortCounts.{ShortCounts}
 use Rattle.saturating_conversions.specs.declared.saturation.Overflow.{Overflow}
 use Rattle.array_conversions.specs.Blocks.{value_at}
 use Rattle.array_conversions.specs.Bytes.{number_of}
@@ -30,13 +30,6 @@ short_counts_with few values =
       invalid = 0;
       nans = few.nans;
     }
-
--- each count is at most that
-pub record AreShortAtMost (most : ℕ) (few : ShortCounts) : Type 0 where
-  pub inexact : few.inexact ≤ most
-  pub underflow : few.underflow ≤ most
-  pub overflow : few.overflow ≤ most
-  pub nans : few.nans ≤ most
 
 -- they are the upper halves of the words of the bytes, rounded to odd
 abbrev pub AreHalvesOf : List ℕ → List ℕ → Type 0

@@ -8,7 +8,7 @@ use Rattle.rustc_apfloat.specs.Lawful.{Constants, format_with, layout_with}
 use Rattle.rustc_apfloat.specs.declared.Round.{Round}
 use Rattle.array_conversions.specs.declared.counts.Counts.{Counts}
 use Rattle.array_conversions.specs.declared.counts.Outcome.{Outcome}
-use Rattle.array_conversions.specs.declared.few_counts.FewCounts.{FewCounts}
+use Rattle.lane_conversions.specs.declared.few_counts.FewCounts.{FewCounts}
 use Rattle.saturating_conversions.specs.declared.saturation.Overflow.{Overflow}
 use Rattle.saturating_conversions.specs.declared.saturation.Overflow.TheVariants.{Rounded, Saturated, Finite}
 use Rattle.array_conversions.specs.Blocks.{value_at}
@@ -41,13 +41,6 @@ counts_with few values =
 
 abbrev pub outcome_of : Lane → Outcome
 outcome_of lane = record { status = record { 0 = flags_of lane }; is_nan = lane.is_nan }
-
--- each count is at most that
-pub record AreAtMost (most : ℕ) (few : FewCounts) : Type 0 where
-  pub inexact : few.inexact ≤ most
-  pub underflow : few.underflow ≤ most
-  pub overflow : few.overflow ≤ most
-  pub nans : few.nans ≤ most
 
 -- the words are those of the bytes
 abbrev pub AreWordsOf : List ℕ → List ℕ → Type 0

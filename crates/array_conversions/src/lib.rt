@@ -10,7 +10,6 @@ mod conversion;
 mod converted;
 mod counts;
 mod far_numbers;
-mod few_counts;
 mod one_by_one;
 mod one_value;
 mod short_singles;

@@ -2,25 +2,25 @@
 //! as in `singles`; blocks with an infinity or a NaN, and the last values, are left to those.
 
 ghost use Rattle.std.specs.Prelude.{◌≡◌, ℕ, ◌+◌, ◌*◌, ◌≤◌, ◌<◌, List, length, IsTrue, IfSome};
+ghost use Rattle.lane_conversions.specs.FewCounts.{AreShortAtMost};
 ghost use Rattle.lane_conversions.specs.Targets.{IsShort, IsSingle, IsTarget};
 ghost use Rattle.rustc_apfloat.specs.declared.Round.{Round as Mode};
 ghost use Rattle.rustc_apfloat.specs.Lawful.{Constants, format_with, layout_with};
 ghost use Rattle.rustc_apfloat.specs.FlaggedTypes.{constants_of, format_of, layout_of};
 ghost use Rattle.array_conversions.specs.Blocks.{IsBlock, value_at};
 ghost use Rattle.array_conversions.specs.Bytes.{number_of};
-ghost use Rattle.array_conversions.specs.Outcomes.{one_if, with_outcome};
-ghost use Rattle.array_conversions.specs.ShortSingles.{AreFiniteHalves, AreHalvesOf, AreShortAtMost, IsShortPlanFor, short_counts_with};
+ghost use Rattle.array_conversions.specs.Outcomes.{with_outcome};
+ghost use Rattle.array_conversions.specs.ShortSingles.{AreFiniteHalves, AreHalvesOf, IsShortPlanFor, short_counts_with};
 ghost use Rattle.array_conversions.specs.Singles.{outcome_of};
 ghost use Rattle.array_conversions.specs.Values.{IsConvertedBy};
 ghost use Rattle.array_conversions.specs.Widths.{bytes_of};
 
 use crate::bytes::write_number;
 use crate::counts::Counts;
-use crate::few_counts::ShortCounts;
 use crate::single_targets::{is_short_target, saturates, target_of};
 use crate::singles::{convert_singles, word_of};
 use crate::widths::{Widths, bytes_of};
-use lane_conversions::{Lane, ShortPlan, convert_half, is_finite_half, short_plan_of, upper_half};
+use lane_conversions::{Lane, ShortCounts, ShortPlan, convert_half, is_finite_half, short_plan_of, upper_half, with_short_lane};
 use rustc_apfloat::Round;
 use rustc_apfloat::ieee::Flagged;
 use saturating_conversions::Overflow;
@@ -54,14 +54,6 @@ fn are_finite(halves: &[u16; 64]) -> bool
     finite
 }
 
-/// 1 if something holds, and 0 otherwise.
-#[inline(always)]
-fn one_if(holds: bool) -> u16
-    ensures { result ≡ one_if holds }
-{
-    u16::from(holds)
-}
-
 /// The counts after one more value.
 #[inline(always)]
 fn counted(few: ShortCounts, lane: Lane) -> ShortCounts
@@ -70,12 +62,7 @@ fn counted(few: ShortCounts, lane: Lane) -> ShortCounts
         ≡ with_outcome (short_counts_with few values) (outcome_of lane) }
     ensures most { (most : ℕ) → AreShortAtMost most few → AreShortAtMost (most + 1) result }
 {
-    ShortCounts {
-        inexact: few.inexact + one_if(lane.inexact),
-        underflow: few.underflow + one_if(lane.underflow),
-        overflow: few.overflow + one_if(lane.overflow),
-        nans: few.nans + one_if(lane.is_nan),
-    }
+    with_short_lane(few, lane)
 }
 
 /// All counts of a block.

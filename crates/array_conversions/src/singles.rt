@@ -2,24 +2,24 @@
 //! work on several values at once; blocks with an infinity or a NaN are left to the general way.
 
 ghost use Rattle.std.specs.Prelude.{◌≡◌, ℕ, ◌+◌, ◌*◌, ◌≤◌, ◌<◌, List, length, IsTrue, IfSome};
+ghost use Rattle.lane_conversions.specs.FewCounts.{AreAtMost};
 ghost use Rattle.lane_conversions.specs.Targets.{IsSingle, IsTarget};
 ghost use Rattle.rustc_apfloat.specs.declared.Round.{Round as Mode};
 ghost use Rattle.rustc_apfloat.specs.Lawful.{Constants, format_with, layout_with};
 ghost use Rattle.rustc_apfloat.specs.FlaggedTypes.{constants_of, format_of, layout_of};
 ghost use Rattle.array_conversions.specs.Blocks.{IsBlock, value_at};
 ghost use Rattle.array_conversions.specs.Bytes.{number_of};
-ghost use Rattle.array_conversions.specs.Outcomes.{one_if, with_outcome};
-ghost use Rattle.array_conversions.specs.Singles.{AreAtMost, AreFinite, AreWordsOf, IsPlanFor, counts_with, outcome_of};
+ghost use Rattle.array_conversions.specs.Outcomes.{with_outcome};
+ghost use Rattle.array_conversions.specs.Singles.{AreFinite, AreWordsOf, IsPlanFor, counts_with, outcome_of};
 ghost use Rattle.array_conversions.specs.Values.{IsConvertedBy};
 ghost use Rattle.array_conversions.specs.Widths.{bytes_of};
 
 use crate::bytes::{number_of, write_number};
 use crate::counts::Counts;
-use crate::few_counts::FewCounts;
 use crate::one_by_one::convert_one_by_one;
 use crate::single_targets::{is_single, is_target, saturates, target_of};
 use crate::widths::{Widths, bytes_of};
-use lane_conversions::{Lane, Plan, convert_finite, is_finite, plan_of};
+use lane_conversions::{FewCounts, Lane, Plan, convert_finite, is_finite, plan_of, with_lane};
 use rustc_apfloat::Round;
 use rustc_apfloat::ieee::Flagged;
 use saturating_conversions::Overflow;
@@ -62,14 +62,6 @@ fn are_finite(words: &[u32; 16]) -> bool
     finite
 }
 
-/// 1 if something holds, and 0 otherwise.
-#[inline(always)]
-fn one_if(holds: bool) -> u32
-    ensures { result ≡ one_if holds }
-{
-    u32::from(holds)
-}
-
 /// The counts after one more value.
 #[inline(always)]
 fn counted(few: FewCounts, lane: Lane) -> FewCounts
@@ -78,12 +70,7 @@ fn counted(few: FewCounts, lane: Lane) -> FewCounts
         ≡ with_outcome (counts_with few values) (outcome_of lane) }
     ensures most { (most : ℕ) → AreAtMost most few → AreAtMost (most + 1) result }
 {
-    FewCounts {
-        inexact: few.inexact + one_if(lane.inexact),
-        underflow: few.underflow + one_if(lane.underflow),
-        overflow: few.overflow + one_if(lane.overflow),
-        nans: few.nans + one_if(lane.is_nan),
-    }
+    with_lane(few, lane)
 }
 
 /// All counts of a block.

@@ -3,3 +3,4 @@ pub mod At
 pub mod Scaled
 pub mod Sides
 pub mod Lanes
+pub mod FewCounts

@@ -8,6 +8,7 @@
 #![tactic(auto)]
 
 mod constants;
+mod few_counts;
 mod halves;
 mod lanes;
 mod magnitudes;
@@ -18,6 +19,7 @@ mod sides;
 mod targets;
 
 pub use constants::{Addend, Side, Target};
+pub use few_counts::{FewCounts, ShortCounts, with_lane, with_short_lane};
 pub use halves::{is_finite_half, upper_half};
 pub use lanes::{Lane, convert_finite, is_finite};
 pub use plans::{Plan, ShortPlan};

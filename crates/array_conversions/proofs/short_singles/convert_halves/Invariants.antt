@@ -2,10 +2,11 @@ use Rattle.std.specs.Prelude.{ℕ, List}
 use Rattle.lane_conversions.specs.Targets.{IsSingle}
 use Rattle.rustc_apfloat.specs.Lawful.{Constants, format_with, layout_with}
 use Rattle.rustc_apfloat.specs.declared.Round.{Round}
-use Rattle.array_conversions.specs.declared.few_counts.ShortCounts.{ShortCounts}
+use Rattle.lane_conversions.specs.declared.few_counts.ShortCounts.{ShortCounts}
 use Rattle.saturating_conversions.specs.declared.saturation.Overflow.{Overflow}
+use Rattle.lane_conversions.specs.FewCounts.{AreShortAtMost}
 use Rattle.array_conversions.specs.Blocks.{IsBlock}
-use Rattle.array_conversions.specs.ShortSingles.{AreHalvesOf, AreShortAtMost, IsShortPlanFor, short_counts_with}
+use Rattle.array_conversions.specs.ShortSingles.{AreHalvesOf, IsShortPlanFor, short_counts_with}
 use Rattle.array_conversions.specs.Values.{IsConvertedBy}
 use Rattle.lane_conversions.specs.declared.plans.ShortPlan.{ShortPlan}
 use Rattle.array_conversions.proofs.short_singles.convert_halves.Given as goal

@@ -2,10 +2,11 @@ use Rattle.std.specs.Prelude.{ℕ, List}
 use Rattle.lane_conversions.specs.Targets.{IsSingle}
 use Rattle.rustc_apfloat.specs.Lawful.{Constants, format_with, layout_with}
 use Rattle.rustc_apfloat.specs.declared.Round.{Round}
-use Rattle.array_conversions.specs.declared.few_counts.FewCounts.{FewCounts}
+use Rattle.lane_conversions.specs.declared.few_counts.FewCounts.{FewCounts}
 use Rattle.saturating_conversions.specs.declared.saturation.Overflow.{Overflow}
+use Rattle.lane_conversions.specs.FewCounts.{AreAtMost}
 use Rattle.array_conversions.specs.Blocks.{IsBlock}
-use Rattle.array_conversions.specs.Singles.{AreAtMost, AreWordsOf, IsPlanFor, counts_with}
+use Rattle.array_conversions.specs.Singles.{AreWordsOf, IsPlanFor, counts_with}
 use Rattle.array_conversions.specs.Values.{IsConvertedBy}
 use Rattle.lane_conversions.specs.declared.plans.Plan.{Plan}
 use Rattle.array_conversions.proofs.singles.convert_words.Given as goal

@@ -10,8 +10,5 @@ returns-clause-counts c = λ values.
       flags.underflow,
       flags.overflow,
       flags.invalid,
-      c.one_if.ensures,
-      c.one_if-2.ensures,
-      c.one_if-3.ensures,
-      c.one_if-4.ensures,
+      c.with_lane.ensures.counts,
     ) refl
