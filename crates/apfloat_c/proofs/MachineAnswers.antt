@@ -1,15 +1,18 @@
 -- From the answers of the library to those of a machine.
-use Rattle.std.proofs.Common.{◌≡◌, ℕ, Bool, false, not, eqb, Option, Some, None, refl, sym, subst, pos, arith}
-use Rattle.std.proofs.lemmas.Bool.{ne_eqb}
+use Rattle.std.proofs.Common.{◌≡◌, ℕ, Bool, true, false, not, eqb, Option, Some, None, refl, sym, subst, pos, arith}
+use Rattle.std.proofs.lemmas.Bool.{false≢true, ne_eqb}
 use Rattle.apfloat_encoded.specs.declared.Encoded.{Encoded}
 use Rattle.apfloat_encoded.specs.Encoded.{IsConvertedNumber}
 use Rattle.rustc_apfloat.specs.declared.Round.{Round}
 use Rattle.rustc_apfloat.specs.declared.StatusAnd.{StatusAnd}
-use Rattle.rustc_apfloat.specs.Datum.{Datum, finite}
+use Rattle.rustc_apfloat.specs.Classes.{is_finite}
+use Rattle.rustc_apfloat.specs.Datum.{Datum, finite, infinite, nan}
 use Rattle.rustc_apfloat.specs.Flags.{Gives, bits_of}
+use Rattle.rustc_apfloat.specs.Format.{Format}
 use Rattle.rustc_apfloat.specs.Lawful.{Constants, format_with, layout_with}
 use Rattle.rustc_apfloat.specs.Layout.{IsEncodedBy}
 use Rattle.rustc_apfloat.specs.Rounding.{ok_bits}
+use Rattle.apfloat_model.specs.arithmetic.Conversions.{IsConversion}
 use Rattle.apfloat_machines.specs.declared.machine.Machine.{Machine}
 use Rattle.apfloat_machines.specs.Conversions.{IsMachineConversion}
 use Rattle.apfloat_machines.specs.Operations.{AreSettled, IsOffered}
@@ -66,3 +69,11 @@ number_on_machine c d machine mode bits number answer is bits_are status_is numb
         number_is = number_is;
       };
     }
+
+-- a number that is converted to another format is what every machine gives
+pub finite_on_machine : (f g : Format) (machine : Machine) (mode : Round) (x : Datum) (given : StatusAnd Datum)
+    (loses : Bool) → is_finite x ≡ true → IsConversion f g mode x given.value (bits_of given.status) loses
+    → Gives (IsMachineConversion f g machine mode x) given
+finite_on_machine f g machine mode (finite b n) given loses e plain = (loses, plain)
+finite_on_machine f g machine mode (infinite b) given loses e plain = absurd (false≢true e)
+finite_on_machine f g machine mode (nan b s) given loses e plain = absurd (false≢true e)

@@ -1,15 +1,18 @@
 -- The plain answer of usual operands is that of every machine.
-use Rattle.std.proofs.Common.{◌≡◌, ℕ, ◌+◌, ◌^◌, ◌<◌, ap, subst, Bool, true, false, not, ◌&&◌, eqb, Option, Some, None, Result, Ok, refl, if◌then◌else◌}
+use Rattle.std.proofs.Common.{◌≡◌, ℕ, ◌+◌, ◌-◌, ◌*◌, ◌/◌, ◌%◌, ◌^◌, ◌<◌, ◌≤◌, ap, sym, subst, ◌∙◌, arith, Bool, true, false, not, ◌&&◌, eqb, leb, Option, Some, None, Result, Ok, refl, if◌then◌else◌}
 use Rattle.std.specs.Prelude.{option_and_then}
 use Rattle.std.specs.Bool.{MatchBool}
-use Rattle.std.proofs.lemmas.Bool.{false≢true, true≢false, and_left, and_right}
+use Rattle.std.proofs.lemmas.Bool.{false≢true, true≢false, and_left, and_right, cond-true, le-leb, ne_eqb}
+use Rattle.std.proofs.lemmas.Nat.{mul-lt, pow_pos}
 use Rattle.rustc_apfloat.specs.Classes.{is_finite, is_negative, is_zero}
 use Rattle.rustc_apfloat.specs.Datum.{Datum, finite, infinite, nan}
 use Rattle.rustc_apfloat.specs.FusedSums.{IsFusedSum}
 use Rattle.rustc_apfloat.specs.Flags.{Gives}
 use Rattle.rustc_apfloat.specs.Lawful.{Constants, format_with, layout_with}
-use Rattle.rustc_apfloat.specs.Layout.{fields_of}
-use Rattle.apfloat_encoded.proofs.Reading.{number_read}
+use Rattle.rustc_apfloat.specs.Layout.{Layout, all_ones, fields_of, trailing_bits, written_datum}
+use Rattle.rustc_apfloat.specs.Format.{Format, smallest_normalized}
+use Rattle.apfloat_model.proofs.bits.EncodedOnce.{fields_with}
+use Rattle.apfloat_encoded.proofs.Reading.{number_read, quanta_with}
 use Rattle.rustc_apfloat.specs.declared.Round.{Round}
 use Rattle.rustc_apfloat.specs.declared.StatusAnd.{StatusAnd}
 use Rattle.apfloat_model.specs.arithmetic.Roots.{IsRoot}
@@ -21,6 +24,8 @@ use Rattle.formats_at_run_time.specs.declared.Arithmetic.{Arithmetic}
 use Rattle.formats_at_run_time.specs.declared.Arithmetic.TheVariants.{Sum, Difference, Product, Quotient}
 use Rattle.formats_at_run_time.specs.declared.Arithmetic.TheVariants.{NearestRemainder, TruncatedRemainder}
 use Rattle.formats_at_run_time.specs.declared.FlaggedKind.{FlaggedKind}
+use Rattle.formats_at_run_time.specs.BuiltIns.{constants_in}
+use Rattle.formats_at_run_time.specs.FlaggedKinds.{format_of_ieee}
 use Rattle.formats_at_run_time.specs.OfTwo.{IsOfTwo}
 use Rattle.formats_at_run_time.specs.Relations.{in_format}
 use Rattle.formats_at_run_time.specs.ValueKinds.{of_format, value_of}
@@ -35,7 +40,8 @@ use Rattle.apfloat_c.specs.declared.machine_call.MachineOperation.{MachineOperat
 use Rattle.apfloat_c.specs.declared.machine_call.MachineOperation.TheVariants.{OfTwo, FusedSum, SquareRoot, IntegralExact}
 use Rattle.apfloat_c.specs.Answers.{IsKindAnswer, IsLeftBy}
 use Rattle.apfloat_c.specs.KnownCalls.{answered, without}
-use Rattle.apfloat_c.specs.MachineCalls.{IsMachineAnswer, IsMachineCallAnswer, IsMachineOfTwo, IsMachineReply}
+use Rattle.apfloat_c.specs.MachineCalls.{IsMachineAnswer, IsMachineCallAnswer, IsMachineConversionTried}
+use Rattle.apfloat_c.specs.MachineCalls.{IsMachineOfTwo, IsMachineReply}
 use Rattle.apfloat_c.specs.MachineCalls.{MachineRequest, are_usual, are_usual_of_three, conversion_call, divides, fits}
 use Rattle.apfloat_c.specs.MachineCalls.{is_divisor, is_number, is_root_of, known_machine_call, lacking_operation}
 use Rattle.apfloat_c.specs.MachineCalls.{machine_call, machine_fault, machine_format, operands_fit}
@@ -60,6 +66,10 @@ not_true false e = refl
 of_valid : (invalid : Bool) (Invalid Valid : Type 0) → invalid ≡ false → Valid → MatchBool invalid Invalid Valid
 of_valid true Invalid Valid e holds = absurd (true≢false e)
 of_valid false Invalid Valid e holds = holds
+
+either_way : (test x y : Bool) → x ≡ true → y ≡ true → (if test then x else y) ≡ true
+either_way true x y p q = p
+either_way false x y p q = q
 
 -- ---- what is left
 
@@ -128,18 +138,88 @@ integral_of_finite c machine mode (nan b s) given p plain = absurd (false≢true
 
 -- ---- usual operands
 
-fits_and_finite : (c : Constants) (x : ℕ) → is_number c x ≡ true
+pub fits_and_finite : (c : Constants) (x : ℕ) → is_number c x ≡ true
     → (fits c.bits x ≡ true) × (is_finite (value_of c x) ≡ true)
 fits_and_finite c x e = both_true (fits c.bits x) (is_finite (value_of c x)) e
 
+-- a number of some quanta
+divisor_read : (c : Constants) (bits : ℕ) (negative : Bool) (quanta : ℕ) → fits c.bits bits ≡ true
+    → value_of c bits ≡ finite negative quanta → 0 < quanta → is_divisor c bits ≡ true
+divisor_read c bits negative quanta fitting read some =
+    two_true (is_number c bits) (not (is_zero (value_of c bits)))
+    (two_true (fits c.bits bits) (is_finite (value_of c bits)) fitting (ap is_finite read))
+    (ap (λ (x : Datum). not (is_zero x)) read ∙ ap not (ne_eqb quanta 0 (λ e. omega (arith, some, e))))
+
+some_quanta : (significand places : ℕ) → 0 < significand → 0 < significand * 2 ^ places
+some_quanta significand places some = mul-lt 0 0 significand (2 ^ places) some (pow_pos places)
+
 -- a normal number whose exponent is not the greatest
-pub normal_is_number : (c : Constants) (bits biased : ℕ) → c.explicit_integer_bit ≡ false
+pub normal_is_divisor : (c : Constants) (bits biased : ℕ) → c.explicit_integer_bit ≡ false
     → fits c.bits bits ≡ true → biased ≡ (fields_of (format_with c) (layout_with c) bits).biased_exponent
-    → 0 < biased → biased + 1 < 2 ^ c.exp_bits → is_number c bits ≡ true
-normal_is_number c bits biased implied fitting is some few =
-    let read = number_read c bits implied (subst (λ (n : ℕ). 0 < n) is some)
-    (subst (λ (n : ℕ). n + 1 < 2 ^ c.exp_bits) is few) in
-    two_true (fits c.bits bits) (is_finite (value_of c bits)) fitting (ap is_finite read)
+    → 0 < biased → biased + 1 < 2 ^ c.exp_bits → is_divisor c bits ≡ true
+normal_is_divisor c bits biased implied fitting is some few =
+    let x = fields_of (format_with c) (layout_with c) bits in
+    let full : 0 < 2 ^ (c.precision - 1) + x.trailing =
+    let power = pow_pos (c.precision - 1) in omega (arith, power) in
+    divisor_read c bits x.negative (quanta_with c.precision x.biased_exponent x.trailing) fitting
+    (number_read c bits implied (subst (λ (n : ℕ). 0 < n) is some)
+    (subst (λ (n : ℕ). n + 1 < 2 ^ c.exp_bits) is few))
+    (some_quanta (2 ^ (c.precision - 1) + x.trailing) (x.biased_exponent - 1) full)
+
+written_of_fields : (f : Format) (layout : Layout) (negative : Bool) (biased trailing : ℕ) → eqb biased 0 ≡ false
+    → eqb biased (all_ones layout.exponent_bits) ≡ false → leb (smallest_normalized f) trailing ≡ true
+    → written_datum f layout (fields_with negative biased trailing)
+    ≡ finite negative (trailing * 2 ^ (biased - 1))
+written_of_fields f layout negative biased trailing some few full = rw (few, some, full) refl
+
+-- the same with an explicit integer bit, which is set
+pub written_is_divisor : (c : Constants) (bits : ℕ) → c.explicit_integer_bit ≡ true → fits c.bits bits ≡ true
+    → 0 < bits / 2 ^ c.precision % 2 ^ c.exp_bits → bits / 2 ^ c.precision % 2 ^ c.exp_bits + 1 < 2 ^ c.exp_bits
+    → 2 ^ (c.precision - 1) ≤ bits % 2 ^ c.precision → is_divisor c bits ≡ true
+written_is_divisor c bits explicit fitting some few full =
+    let negative = (fields_of (format_with c) (layout_with c) bits).negative in
+    let biased = bits / 2 ^ c.precision % 2 ^ c.exp_bits in
+    let trailing = bits % 2 ^ c.precision in
+    let kept = pow_pos (c.precision - 1) in
+    let width : trailing_bits (format_with c) ≡ c.precision = cond-true c.explicit_integer_bit _ _ explicit in
+    let read : value_of c bits ≡ finite negative (trailing * 2 ^ (biased - 1)) =
+    cond-true c.explicit_integer_bit _ _ explicit
+    ∙ subst
+    (λ (w : ℕ). written_datum (format_with c) (layout_with c)
+    (fields_with negative (bits / 2 ^ w % 2 ^ c.exp_bits) (bits % 2 ^ w))
+    ≡ finite negative (trailing * 2 ^ (biased - 1)))
+    (sym width)
+    (written_of_fields (format_with c) (layout_with c) negative biased trailing
+    (ne_eqb biased 0 (λ e. omega (arith, some, e)))
+    (ne_eqb biased (all_ones c.exp_bits) (λ e. omega (arith, few, e)))
+    (le-leb (2 ^ (c.precision - 1)) trailing full)) in
+    divisor_read c bits negative (trailing * 2 ^ (biased - 1)) fitting read
+    (some_quanta trailing (biased - 1) (omega (arith, kept, full)))
+
+-- the same of powers that were computed
+pub computed_is_divisor : (c : Constants) (bits above exponents integer_bit : ℕ) → c.explicit_integer_bit ≡ true
+    → fits c.bits bits ≡ true → above ≡ 2 ^ c.precision → exponents ≡ 2 ^ c.exp_bits
+    → integer_bit ≡ 2 ^ (c.precision - 1) → 0 < bits / above % exponents
+    → bits / above % exponents + 1 < 2 ^ c.exp_bits → integer_bit ≤ bits % above → is_divisor c bits ≡ true
+computed_is_divisor c bits above exponents integer_bit explicit fitting above_is exponents_are integer_bit_is =
+    rw (above_is, exponents_are, integer_bit_is)
+    (λ some few full. written_is_divisor c bits explicit fitting some few full)
+
+pub divisor_is_number : (c : Constants) (bits : ℕ) → is_divisor c bits ≡ true → is_number c bits ≡ true
+divisor_is_number c bits e = (both_true (is_number c bits) (not (is_zero (value_of c bits))) e).0
+
+-- two numbers of which neither is zero
+pub divisors_are_usual : (c : Constants) (arithmetic : Arithmetic) (x y : ℕ) → is_divisor c x ≡ true
+    → is_divisor c y ≡ true → are_usual c arithmetic x y ≡ true
+divisors_are_usual c arithmetic x y p q =
+    two_true (is_number c x) (if divides arithmetic then is_divisor c y else is_number c y) (divisor_is_number c x p)
+    (either_way (divides arithmetic) (is_divisor c y) (is_number c y) q (divisor_is_number c y q))
+
+pub divisors_are_usual_of_three : (c : Constants) (x y z : ℕ) → is_divisor c x ≡ true → is_divisor c y ≡ true
+    → is_divisor c z ≡ true → are_usual_of_three c x y z ≡ true
+divisors_are_usual_of_three c x y z p q r =
+    two_true (is_number c x) (is_number c y && is_number c z) (divisor_is_number c x p)
+    (two_true (is_number c y) (is_number c z) (divisor_is_number c y q) (divisor_is_number c z r))
 
 second_number : (divided : Bool) (c : Constants) (y : ℕ)
     → (if divided then is_divisor c y else is_number c y) ≡ true → is_number c y ≡ true
@@ -253,6 +333,25 @@ pub conversion_known : (kind : Option FlaggedKind) (target : MachineFormat) (x :
     → option_and_then machine_format kind ≡ Some target → conversion_call kind x ≡ Ok (Conversion x target)
 conversion_known None target x f = cc
 conversion_known (Some kind) target x f = rw f refl
+
+-- what the conversion to the format of a known code leaves is the reply
+pub tried_replied : (kind : Option FlaggedKind) (source : MachineFormat) (mode : Option Round) (round : Round)
+    (to : Option FlaggedKind) (x : ℕ) (machine : Option Machine) (on : Machine) (old new : Answer) (code : ℕ)
+    → option_and_then machine_format kind ≡ Some source → mode ≡ Some round → machine ≡ Some on
+    → IsMachineConversionTried (of_format (constants_in (format_of_ieee source.format))) on round x
+    (option_and_then machine_format to) old new (Some code)
+    → IsMachineReply (known_machine_call kind mode (conversion_call to x) machine) old new code
+tried_replied kind source mode round to x machine on old new code f m h left =
+    by_target (option_and_then machine_format to) refl left
+  where
+    by_target : (target : Option MachineFormat) → option_and_then machine_format to ≡ target
+        → IsMachineConversionTried (of_format (constants_in (format_of_ieee source.format))) on round x target old new
+        (Some code)
+        → IsMachineReply (known_machine_call kind mode (conversion_call to x) machine) old new code
+    by_target None t left = absurd left
+    by_target (Some target) t left =
+        replied kind source mode round (conversion_call to x) (Conversion x target) machine on old new code f m
+        (conversion_known to target x t) h left
 
 -- only a fused sum has a third operand
 pub third_unused : (code to x y z w : ℕ) → eqb code 7 ≡ false

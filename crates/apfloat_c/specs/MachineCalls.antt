@@ -343,6 +343,14 @@ IsMachineConversionLeft (of_format c) machine mode x target old new code =
     old new code
 IsMachineConversionLeft of_pairs machine mode x target old new code = ⊥
 
+-- the same to a format that may be unknown; then nothing is left
+abbrev pub IsMachineConversionTried : Kind → Machine → Round → ℕ → Option MachineFormat → Answer → Answer → Option ℕ
+    → Type 0
+IsMachineConversionTried kind machine mode x target old new None = new ≡ old
+IsMachineConversionTried kind machine mode x (Some target) old new (Some code) =
+    IsMachineConversionLeft kind machine mode x (of_format (flagged_constants (format_on machine target))) old new code
+IsMachineConversionTried kind machine mode x None old new (Some code) = ⊥
+
 -- the code 0 and the result, or the code of the first error and the previous contents
 abbrev pub IsMachineReply : Result MachineRequest ℕ → Answer → Answer → ℕ → Type 0
 IsMachineReply (Err error) old new code = (code ≡ error) × (new ≡ old)

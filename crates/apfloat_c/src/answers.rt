@@ -96,6 +96,17 @@ pub fn product_in<S: Flagged>(answer: &mut Answer, round: Round, x: u128, y: u12
     product_here::<S>(answer, round, x, y)
 }
 
+/// A sum, in line.
+#[inline(always)]
+pub fn sum_of_type_here<F: ValueType>(answer: &mut Answer, round: Round, x: u128, y: u128)
+    requires { F.PRECISION < F.BITS }
+    ensures { let of_type = relations_of F.Float.own F.partial_cmp F.takes_root in
+        IsTypeAnswer of_type round (OfTwo Sum x y) answer.new }
+{
+    let (x, y) = (F::from_bits(x), F::from_bits(y));
+    *answer = written(x.add_r(y, round));
+}
+
 /// A sum.
 #[inline(never)]
 pub fn sum<F: ValueType>(answer: &mut Answer, round: Round, x: u128, y: u128)
@@ -103,8 +114,18 @@ pub fn sum<F: ValueType>(answer: &mut Answer, round: Round, x: u128, y: u128)
     ensures { let of_type = relations_of F.Float.own F.partial_cmp F.takes_root in
         IsTypeAnswer of_type round (OfTwo Sum x y) answer.new }
 {
+    sum_of_type_here::<F>(answer, round, x, y)
+}
+
+/// A difference, in line.
+#[inline(always)]
+pub fn difference_of_type_here<F: ValueType>(answer: &mut Answer, round: Round, x: u128, y: u128)
+    requires { F.PRECISION < F.BITS }
+    ensures { let of_type = relations_of F.Float.own F.partial_cmp F.takes_root in
+        IsTypeAnswer of_type round (OfTwo Difference x y) answer.new }
+{
     let (x, y) = (F::from_bits(x), F::from_bits(y));
-    *answer = written(x.add_r(y, round));
+    *answer = written(x.sub_r(y, round));
 }
 
 /// A difference.
@@ -114,8 +135,18 @@ pub fn difference<F: ValueType>(answer: &mut Answer, round: Round, x: u128, y: u
     ensures { let of_type = relations_of F.Float.own F.partial_cmp F.takes_root in
         IsTypeAnswer of_type round (OfTwo Difference x y) answer.new }
 {
+    difference_of_type_here::<F>(answer, round, x, y)
+}
+
+/// A product, however many digits the type has, in line.
+#[inline(always)]
+pub fn product_of_type_here<F: ValueType>(answer: &mut Answer, round: Round, x: u128, y: u128)
+    requires { F.PRECISION < F.BITS }
+    ensures { let of_type = relations_of F.Float.own F.partial_cmp F.takes_root in
+        IsTypeAnswer of_type round (OfTwo Product x y) answer.new }
+{
     let (x, y) = (F::from_bits(x), F::from_bits(y));
-    *answer = written(x.sub_r(y, round));
+    *answer = written(x.wide_mul_r(y, round));
 }
 
 /// A product, however many digits the type has.
@@ -125,8 +156,7 @@ pub fn product<F: ValueType>(answer: &mut Answer, round: Round, x: u128, y: u128
     ensures { let of_type = relations_of F.Float.own F.partial_cmp F.takes_root in
         IsTypeAnswer of_type round (OfTwo Product x y) answer.new }
 {
-    let (x, y) = (F::from_bits(x), F::from_bits(y));
-    *answer = written(x.wide_mul_r(y, round));
+    product_of_type_here::<F>(answer, round, x, y)
 }
 
 /// A quotient, in line.

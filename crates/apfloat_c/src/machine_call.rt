@@ -123,6 +123,23 @@ impl MachineFormat {
         }
     }
 
+    /// The format of this code, if it has a choice of flags and more than 64 bits.
+    #[inline(always)]
+    fn wide_coded(code: u32) -> Option<MachineFormat>
+        ensures { IfSome result (λ format.
+            option_and_then machine_format (flagged_kind_coded code) ≡ Some format) }
+    {
+        match code {
+            4 => Some(MachineFormat::untold(IeeeFormat::Quad)),
+            9 => Some(MachineFormat::untold(IeeeFormat::X87)),
+            260 => Some(MachineFormat::told(IeeeFormat::Quad, false)),
+            265 => Some(MachineFormat::told(IeeeFormat::X87, false)),
+            772 => Some(MachineFormat::told(IeeeFormat::Quad, true)),
+            777 => Some(MachineFormat::told(IeeeFormat::X87, true)),
+            _ => None,
+        }
+    }
+
     /// A format without a rule of flags.
     #[inline(always)]
     fn untold(format: IeeeFormat) -> MachineFormat
@@ -358,28 +375,59 @@ pub fn known_operation(
     })
 }
 
-/// What is known of a request for a conversion.
+/// The request for a fused sum of these codes, if all of them are known and the format has more than 64 bits.
+#[inline(always)]
+pub fn known_wide_fused_sum(
+    machine: u32,
+    format: u32,
+    mode: u32,
+    x: Halves,
+    y: Halves,
+    z: Halves,
+) -> Option<KnownOperation>
+    ensures machine { IfSome result (λ known. machine_coded machine ≡ Some known.machine) }
+    ensures mode { IfSome result (λ known. mode_coded mode ≡ Some known.round) }
+    ensures format { IfSome result (λ known.
+        option_and_then machine_format (flagged_kind_coded format) ≡ Some known.format) }
+    ensures call { IfSome result (λ known.
+        machine_call 7 0 (whole x) (whole y) (whole z) ≡ Ok (Operation known.operation)) }
+{
+    let operation = MachineOperation::FusedSum(x.number(), y.number(), z.number());
+    let Some(machine) = machine_coded(machine) else {
+        return None;
+    };
+    let Some(round) = mode_coded(mode) else {
+        return None;
+    };
+    let Some(format) = MachineFormat::wide_coded(format) else {
+        return None;
+    };
+    Some(KnownOperation {
+        machine,
+        format,
+        round,
+        operation,
+    })
+}
+
+/// What is known of a request for a conversion, but for the format of its result.
 #[derive(Clone, Copy)]
-pub struct KnownConversion {
+pub struct KnownSource {
     /// The machine.
     pub machine: Machine,
     /// The format of the operand.
     pub source: MachineFormat,
     /// The rounding mode.
     pub round: Round,
-    /// The format of the result, with its rule of flags.
-    pub target: MachineFormat,
 }
 
-/// The request of these codes, if all of them are known.
+/// What is known of the request of these codes, if all of them are known.
 #[inline(always)]
-pub fn known_conversion(machine: u32, source: u32, mode: u32, to: u32) -> Option<KnownConversion>
+pub fn known_source(machine: u32, source: u32, mode: u32) -> Option<KnownSource>
     ensures machine { IfSome result (λ known. machine_coded machine ≡ Some known.machine) }
     ensures mode { IfSome result (λ known. mode_coded mode ≡ Some known.round) }
     ensures source { IfSome result (λ known.
         option_and_then machine_format (flagged_kind_coded source) ≡ Some known.source) }
-    ensures target { IfSome result (λ known.
-        option_and_then machine_format (flagged_kind_coded to) ≡ Some known.target) }
 {
     let Some(machine) = machine_coded(machine) else {
         return None;
@@ -387,16 +435,13 @@ pub fn known_conversion(machine: u32, source: u32, mode: u32, to: u32) -> Option
     let Some(round) = mode_coded(mode) else {
         return None;
     };
+    // Last, so that nothing stands between it and the call.
     let Some(source) = MachineFormat::coded(source) else {
         return None;
     };
-    let Some(target) = MachineFormat::coded(to) else {
-        return None;
-    };
-    Some(KnownConversion {
+    Some(KnownSource {
         machine,
         source,
         round,
-        target,
     })
 }

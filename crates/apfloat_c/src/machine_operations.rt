@@ -1,6 +1,6 @@
 //! What machines deliver, and the export that makes it.
 
-ghost use Rattle.std.specs.Prelude.{◌≡◌, ◌<◌, ◌≤◌};
+ghost use Rattle.std.specs.Prelude.{◌≡◌, ◌<◌, ◌≤◌, option_and_then, true};
 ghost use Rattle.apfloat_model.specs.declared.kinds.NonfiniteBehavior.TheVariants.{IEEE754};
 ghost use Rattle.rustc_apfloat.specs.Flags.{Gives};
 ghost use Rattle.rustc_apfloat.specs.FlaggedTypes.{constants_of, format_of};
@@ -21,7 +21,8 @@ ghost use Rattle.apfloat_c.specs.declared.exported_call.ExportedCall.TheVariants
 ghost use Rattle.apfloat_c.specs.declared.exported_call.ExportedCall.TheVariants.{RoundToIntegral as PlainIntegral};
 ghost use Rattle.apfloat_c.specs.Answers.{IsKindAnswer, IsLeftBy, whole};
 ghost use Rattle.apfloat_c.specs.MachineCalls.{IsMachineAnswer, IsMachineCallAnswer, IsMachineConverted};
-ghost use Rattle.apfloat_c.specs.MachineCalls.{IsMachineConversionLeft, IsMachineLeft, IsMachineLeftIn};
+ghost use Rattle.apfloat_c.specs.MachineCalls.{IsMachineConversionLeft, IsMachineConversionTried, IsMachineLeft};
+ghost use Rattle.apfloat_c.specs.MachineCalls.{IsMachineLeftIn, is_number, machine_format};
 ghost use Rattle.apfloat_c.specs.MachineCalls.{conversion_call, machine_fault};
 ghost use Rattle.apfloat_c.specs.MachineCalls.{IsMachineReply, format_on, known_machine_call};
 ghost use Rattle.apfloat_c.specs.MachineCalls.{machine_call, machine_coded};
@@ -34,12 +35,12 @@ use crate::codes::{
 use crate::data::{Answer, Halves};
 use crate::ieee_answers::{value, written};
 use crate::machine_call::{
-    KnownOperation, MachineCall, MachineFormat, MachineOperation, known_conversion,
-    known_operation, machine_call, machine_coded,
+    KnownOperation, MachineCall, MachineFormat, MachineOperation, known_operation, known_source,
+    known_wide_fused_sum, machine_call, machine_coded,
 };
 use crate::usual_operands::{
-    are_normal, are_usual, are_usual_of_three, both_fit, fits, is_divisor, is_number, is_root_of,
-    three_words, two_words,
+    are_normal, are_normal_of_three, are_usual, are_usual_of_three, both_fit, fits, is_divisor,
+    is_normal_beyond_words, is_number, is_root_of, three_words, two_words,
 };
 use apfloat_comparisons::round_to_integral_in;
 use apfloat_encoded::convert_normal;
@@ -247,7 +248,7 @@ fn product_of_words<S: Flagged>(
     }
 }
 
-/// A quotient of words: the plain one in line, if they are usual.
+/// A quotient of words: the plain one in line, if they are normal numbers.
 #[inline(never)]
 fn quotient_of_words<S: Flagged>(
     answer: &mut Answer,
@@ -261,15 +262,15 @@ fn quotient_of_words<S: Flagged>(
         (OfTwo Quotient x y) answer.old answer.new result }
 {
     let (x, y) = (x as u128, y as u128);
-    if are_usual::<S>(Arithmetic::Quotient, x, y) {
+    if are_normal::<S>(x, y) {
         answers::quotient_here::<IeeeFloat<S>>(answer, round, x, y);
         ANSWERED
     } else {
-        of_two::<S>(answer, machine, round, Arithmetic::Quotient, x, y)
+        of_two_in::<S>(answer, machine, round, Arithmetic::Quotient, x, y)
     }
 }
 
-/// A sum of values: the plain one in line, if they are usual.
+/// A sum of values: the plain one in line, if they are normal numbers.
 #[inline(never)]
 fn sum_of_values<S: Flagged>(
     answer: &mut Answer,
@@ -282,15 +283,15 @@ fn sum_of_values<S: Flagged>(
     ensures { IsMachineLeftIn (of_format (constants_of S.Flagged)) machine round
         (OfTwo Sum x y) answer.old answer.new result }
 {
-    if are_usual::<S>(Arithmetic::Sum, x, y) {
-        answers::sum_here::<S>(answer, round, x, y);
+    if are_normal::<S>(x, y) {
+        answers::sum_of_type_here::<IeeeFloat<S>>(answer, round, x, y);
         ANSWERED
     } else {
-        of_two::<S>(answer, machine, round, Arithmetic::Sum, x, y)
+        of_two_in::<S>(answer, machine, round, Arithmetic::Sum, x, y)
     }
 }
 
-/// A difference of values: the plain one in line, if they are usual.
+/// A difference of values: the plain one in line, if they are normal numbers.
 #[inline(never)]
 fn difference_of_values<S: Flagged>(
     answer: &mut Answer,
@@ -303,15 +304,15 @@ fn difference_of_values<S: Flagged>(
     ensures { IsMachineLeftIn (of_format (constants_of S.Flagged)) machine round
         (OfTwo Difference x y) answer.old answer.new result }
 {
-    if are_usual::<S>(Arithmetic::Difference, x, y) {
-        answers::difference_here::<S>(answer, round, x, y);
+    if are_normal::<S>(x, y) {
+        answers::difference_of_type_here::<IeeeFloat<S>>(answer, round, x, y);
         ANSWERED
     } else {
-        of_two::<S>(answer, machine, round, Arithmetic::Difference, x, y)
+        of_two_in::<S>(answer, machine, round, Arithmetic::Difference, x, y)
     }
 }
 
-/// A product of values: the plain one in line, if they are usual.
+/// A product of values: the plain one in line, if they are normal numbers.
 #[inline(never)]
 fn product_of_values<S: Flagged>(
     answer: &mut Answer,
@@ -324,15 +325,15 @@ fn product_of_values<S: Flagged>(
     ensures { IsMachineLeftIn (of_format (constants_of S.Flagged)) machine round
         (OfTwo Product x y) answer.old answer.new result }
 {
-    if are_usual::<S>(Arithmetic::Product, x, y) {
-        answers::product_here::<S>(answer, round, x, y);
+    if are_normal::<S>(x, y) {
+        answers::product_of_type_here::<IeeeFloat<S>>(answer, round, x, y);
         ANSWERED
     } else {
-        of_two::<S>(answer, machine, round, Arithmetic::Product, x, y)
+        of_two_in::<S>(answer, machine, round, Arithmetic::Product, x, y)
     }
 }
 
-/// A quotient of values: the plain one in line, if they are usual.
+/// A quotient of values: the plain one in line, if they are normal numbers.
 #[inline(never)]
 fn quotient_of_values<S: Flagged>(
     answer: &mut Answer,
@@ -345,11 +346,11 @@ fn quotient_of_values<S: Flagged>(
     ensures { IsMachineLeftIn (of_format (constants_of S.Flagged)) machine round
         (OfTwo Quotient x y) answer.old answer.new result }
 {
-    if are_usual::<S>(Arithmetic::Quotient, x, y) {
+    if are_normal::<S>(x, y) {
         answers::quotient_here::<IeeeFloat<S>>(answer, round, x, y);
         ANSWERED
     } else {
-        of_two::<S>(answer, machine, round, Arithmetic::Quotient, x, y)
+        of_two_in::<S>(answer, machine, round, Arithmetic::Quotient, x, y)
     }
 }
 
@@ -464,7 +465,7 @@ fn fused_sum_of_words<S: Flagged>(
     ensures { IsMachineLeftIn (of_format (constants_of S.Flagged)) machine round (FusedSum x y z)
         answer.old answer.new result }
 {
-    usual_fused_sum::<S>(answer, machine, round, x as u128, y as u128, z as u128)
+    normal_fused_sum::<S>(answer, machine, round, x as u128, y as u128, z as u128)
 }
 
 /// A product plus a third value, rounded once, of values.
@@ -481,11 +482,33 @@ fn fused_sum_of_values<S: Flagged>(
     ensures { IsMachineLeftIn (of_format (constants_of S.Flagged)) machine round (FusedSum x y z)
         answer.old answer.new result }
 {
-    usual_fused_sum::<S>(answer, machine, round, x, y, z)
+    normal_fused_sum::<S>(answer, machine, round, x, y, z)
 }
 
-/// A product plus a third value, rounded once: the plain one in line, if the operands are numbers.
+/// A product plus a third value, rounded once: the plain one in line, if the operands are normal numbers.
 #[inline(always)]
+fn normal_fused_sum<S: Flagged>(
+    answer: &mut Answer,
+    machine: Machine,
+    round: Round,
+    x: u128,
+    y: u128,
+    z: u128,
+) -> u32
+    requires { S.PRECISION < S.BITS }
+    ensures { IsMachineLeftIn (of_format (constants_of S.Flagged)) machine round (FusedSum x y z)
+        answer.old answer.new result }
+{
+    if machine.has_fused() && are_normal_of_three::<S>(x, y, z) {
+        answers::fused_sum_here::<S>(answer, round, x, y, z);
+        ANSWERED
+    } else {
+        usual_fused_sum::<S>(answer, machine, round, x, y, z)
+    }
+}
+
+/// A product plus a third value, rounded once: the plain call, if the operands are numbers.
+#[inline(never)]
 fn usual_fused_sum<S: Flagged>(
     answer: &mut Answer,
     machine: Machine,
@@ -499,7 +522,7 @@ fn usual_fused_sum<S: Flagged>(
         answer.old answer.new result }
 {
     if machine.has_fused() && are_usual_of_three::<S>(x, y, z) {
-        answers::fused_sum_here::<S>(answer, round, x, y, z);
+        answers::fused_sum::<S>(answer, round, x, y, z);
         ANSWERED
     } else {
         fused_sum::<S>(answer, machine, round, x, y, z)
@@ -914,6 +937,45 @@ fn greater<S: Flagged>(
     *answer = written(greatest(rule, machine, x, y));
 }
 
+/// A conversion, from any format to that of a code, if that has one.
+#[derive(Clone, Copy)]
+struct ConversionToCode {
+    to: u32,
+    machine: Machine,
+    round: Round,
+    x: u128,
+}
+
+impl FillsInFormat for ConversionToCode {
+    type Place = Answer;
+
+    type Output = Option<u32>;
+
+    ghost gives = { λ it kind old new left.
+        let target = option_and_then machine_format (flagged_kind_coded it.to) in
+        IsMachineConversionTried kind it.machine it.round it.x target old new left };
+
+    #[inline(always)]
+    fn fill_in_format<S: Flagged>(self, answer: &mut Answer) -> Option<u32> {
+        let ConversionToCode {
+            to,
+            machine,
+            round,
+            x,
+        } = self;
+        let Some(target) = MachineFormat::coded(to) else {
+            return None;
+        };
+        let call = ConversionTo {
+            target,
+            machine,
+            round,
+            x,
+        };
+        Some(call.fill_in_format::<S>(answer))
+    }
+}
+
 /// A conversion, from any format to a known one.
 #[derive(Clone, Copy)]
 struct ConversionTo {
@@ -1000,7 +1062,8 @@ fn converted<S: Flagged, T: Flagged>(
     }
 }
 
-/// A value of the format `S` in the format `T`: from bits to bits, if it is a normal number in both.
+/// A value of the format `S` in the format `T`: from bits to bits, if it is a normal number in both, and the plain
+/// conversion in line, if it is a normal number and one of the formats has more than 64 bits.
 #[inline(always)]
 fn fitting_converted<S: Flagged, T: Flagged>(
     answer: &mut Answer,
@@ -1016,9 +1079,27 @@ fn fitting_converted<S: Flagged, T: Flagged>(
 {
     if let Some(number) = convert_normal::<S, T>(x, round) {
         *answer = answers::with_bits(number);
+    } else if is_normal_beyond_words::<S, T>(x) {
+        number_converted::<S, T>(answer, round, x);
     } else {
         any_converted::<S, T>(answer, machine, round, x);
     }
+}
+
+/// A number of the format `S` in the format `T`, which is the same on every machine.
+#[inline(always)]
+fn number_converted<S: Flagged, T: Flagged>(answer: &mut Answer, round: Round, x: u128)
+    requires source { S.PRECISION < S.BITS }
+    requires target { T.PRECISION < T.BITS }
+    requires number { is_number (constants_of S.Flagged) x ≡ true }
+    ensures { let c = constants_of S.Flagged in (machine : Machine)
+        → IsMachineConverted c machine round (value_of c x) (of_format (constants_of T.Flagged))
+        answer.new }
+{
+    let x = value::<S>(x);
+    let mut loses_info = false;
+    let plain: StatusAnd<IeeeFloat<T>> = x.convert_r(round, &mut loses_info);
+    *answer = written(plain);
 }
 
 /// Any value of the format `S` in the format `T`.
@@ -1221,13 +1302,13 @@ fn fused_on_machine(
         let (x, y, z) = (Halves::of_word(x), Halves::of_word(y), Halves::of_word(z));
         on_machine(machine, 7, format, mode, 0, x, y, z, answer)
     } else {
-        long_fused_on_machine(machine, format, mode, x, y, z, answer)
+        wide_fused_on_machine(machine, format, mode, x, y, z, answer)
     }
 }
 
-/// The same as `fused_on_machine`, of operands that need not be words.
-#[inline(never)]
-fn long_fused_on_machine(
+/// The same as `fused_on_machine`, of operands that are not all words: few formats have them.
+#[inline(always)]
+fn wide_fused_on_machine(
     machine: u32,
     format: u32,
     mode: u32,
@@ -1240,7 +1321,18 @@ fn long_fused_on_machine(
         IsMachineReply (known_machine_call (flagged_kind_coded format) (mode_coded mode) call
         (machine_coded machine)) answer.old answer.new result }
 {
-    on_machine(machine, 7, format, mode, 0, x, y, z, answer)
+    match known_wide_fused_sum(machine, format, mode, x, y, z) {
+        Some(known) => {
+            let KnownOperation {
+                machine,
+                format,
+                round,
+                operation,
+            } = known;
+            operated(machine, format, round, operation, answer)
+        }
+        None => any_on_machine(machine, 7, format, mode, 0, x, y, z, answer),
+    }
 }
 
 /// The same as `apfloat_machine`, of a conversion.
@@ -1257,10 +1349,21 @@ fn converted_on_machine(
         IsMachineReply (known_machine_call (flagged_kind_coded format) (mode_coded mode) call
         (machine_coded machine)) answer.old answer.new result }
 {
-    match known_conversion(machine, format, mode, to) {
+    match known_source(machine, format, mode) {
         Some(known) => {
-            let call = MachineCall::Conversion(x.number(), known.target);
-            made(known.machine, known.source, known.round, call, answer)
+            let call = ConversionToCode {
+                to,
+                machine: known.machine,
+                round: known.round,
+                x: x.number(),
+            };
+            let source = FlaggedFormat::AfterRounding(known.source.format).built_in();
+            match source.fill(call, answer) {
+                Some(code) => code,
+                None => {
+                    any_on_machine(machine, 11, format, mode, to, x, NOTHING, NOTHING, answer)
+                }
+            }
         }
         None => any_on_machine(machine, 11, format, mode, to, x, NOTHING, NOTHING, answer),
     }

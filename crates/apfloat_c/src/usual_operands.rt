@@ -86,30 +86,73 @@ fn is_inner<S: Flagged>(biased: u32) -> bool
     (biased != 0) & (biased + 1 < exponents::<S>())
 }
 
-/// Whether the bits are those of a normal number, whose exponent is not the greatest. Sums and products from bits to
-/// bits begin with the same test.
+/// Two to this power.
+#[inline(always)]
+fn power_of_two(places: usize) -> u128
+    requires { places < 128 }
+    ensures { result ≡ 2 ^ places }
+{
+    1 << places
+}
+
+/// Whether the bits are those of a normal number, in a format with an explicit integer bit: it is set.
+#[inline(always)]
+fn is_written_normal<S: Flagged>(bits: u128) -> bool
+    requires bits { S.PRECISION < S.BITS }
+    requires explicit { S.EXPLICIT_INTEGER_BIT ≡ true }
+    requires fitting { fits (constants_of S.Flagged).bits bits ≡ true }
+    ensures { IsTrue result → is_divisor (constants_of S.Flagged) bits ≡ true }
+{
+    let above = power_of_two(S::PRECISION);
+    let exponents = power_of_two(S::EXP_BITS);
+    let integer_bit = power_of_two(S::PRECISION - 1);
+    is_inner::<S>((bits / above % exponents) as u32) && integer_bit <= bits % above
+}
+
+/// Whether the bits are those of a normal number, whose exponent is not the greatest. Plain calls begin with the same
+/// test, which they then need not repeat.
 #[inline(always)]
 fn is_normal<S: Flagged>(bits: u128) -> bool
     requires { S.PRECISION < S.BITS }
-    ensures { IsTrue result → is_number (constants_of S.Flagged) bits ≡ true }
+    ensures { IsTrue result → is_divisor (constants_of S.Flagged) bits ≡ true }
 {
-    if S::EXPLICIT_INTEGER_BIT {
-        return false;
-    }
     if !fits::<S>(bits) {
         return false;
     }
-    is_inner::<S>(biased_exponent::<S>(bits))
+    if S::EXPLICIT_INTEGER_BIT {
+        is_written_normal::<S>(bits)
+    } else {
+        is_inner::<S>(biased_exponent::<S>(bits))
+    }
 }
 
-/// Whether both are normal numbers, of which every machine gives the plain sum, difference and product.
+/// Whether both are normal numbers, of which every machine gives the plain result.
 #[inline(always)]
 pub fn are_normal<S: Flagged>(x: u128, y: u128) -> bool
     requires { S.PRECISION < S.BITS }
-    ensures { IsTrue result → (is_number (constants_of S.Flagged) x ≡ true)
-        × (is_number (constants_of S.Flagged) y ≡ true) }
+    ensures { IsTrue result → (arithmetic : Arithmetic)
+        → are_usual (constants_of S.Flagged) arithmetic x y ≡ true }
 {
     is_normal::<S>(x) && is_normal::<S>(y)
+}
+
+/// Whether all three are normal numbers.
+#[inline(always)]
+pub fn are_normal_of_three<S: Flagged>(x: u128, y: u128, z: u128) -> bool
+    requires { S.PRECISION < S.BITS }
+    ensures { IsTrue result → are_usual_of_three (constants_of S.Flagged) x y z ≡ true }
+{
+    is_normal::<S>(x) && (is_normal::<S>(y) && is_normal::<S>(z))
+}
+
+/// Whether the bits are those of a normal number that is converted from or to a format with more than 64 bits. Between
+/// shorter formats normal numbers go from bits to bits.
+#[inline(always)]
+pub fn is_normal_beyond_words<S: Flagged, T: Flagged>(bits: u128) -> bool
+    requires { S.PRECISION < S.BITS }
+    ensures { IsTrue result → is_number (constants_of S.Flagged) bits ≡ true }
+{
+    (S::BITS > 64 || T::BITS > 64) && is_normal::<S>(bits)
 }
 
 /// Whether the bits are those of a positive number or of +0, so that the root is no NaN.

@@ -7,3 +7,6 @@ returns-in-Some g c =
     number_on_machine (constants_of g.S.Flagged) (constants_of g.T.Flagged) c.args.machine c.args.round c.args.x
     c.in-Some.number c.with_bits.result c.in-Some.ensures c.with_bits.ensures.bits c.with_bits.ensures.status
     c.with_bits.ensures.number
+
+pub returns-then-is_normal_beyond_words : goal.returns-then-is_normal_beyond_words
+returns-then-is_normal_beyond_words g c = c.number_converted.ensures c.args.machine

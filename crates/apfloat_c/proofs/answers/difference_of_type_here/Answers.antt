@@ -1,5 +1,5 @@
 use Rattle.std.proofs.Math.Path.{subst₂}
-use Rattle.apfloat_c.proofs.answers.difference.Goals as goal
+use Rattle.apfloat_c.proofs.answers.difference_of_type_here.Goals as goal
 
 pub returns : goal.returns
 returns g c = record {

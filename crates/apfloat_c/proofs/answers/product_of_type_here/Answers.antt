@@ -1,5 +1,5 @@
 use Rattle.std.proofs.Math.Path.{subst₂}
-use Rattle.apfloat_c.proofs.answers.product.Goals as goal
+use Rattle.apfloat_c.proofs.answers.product_of_type_here.Goals as goal
 
 pub returns : goal.returns
 returns g c = record {
