@@ -1,7 +1,7 @@
 -- Digits that are written several at a time.
 use Rattle.std.proofs.Common.{◌≡◌, ℕ, zero, suc, ◌+◌, ◌*◌, ◌/◌, ◌%◌, ◌^◌, ◌<◌, ◌≤◌, List, [], ◌∷◌, ◌++◌, length}
-use Rattle.std.proofs.Common.{sym, ap, ◌∙◌, ◌-◌, replicate}
-use Rattle.std.proofs.Common.{Bool, true, false, eqb, get_or, arith, lit<, refl}
+use Rattle.std.proofs.Common.{sym, ap, ◌∙◌, ◌-◌, replicate, take, drop}
+use Rattle.std.proofs.Common.{Bool, true, false, eqb, arith, lit<, refl}
 use Rattle.std.specs.Prelude.{◌&&◌}
 use Rattle.std.proofs.lemmas.Bool.{and_parts, eqb-true}
 use Rattle.std.proofs.Math.Nat.{div-add-mod, div-div-eq-div-mul, div-eq_of_lt, div-lt_iff_lt-mul, mod-lt}
@@ -224,20 +224,28 @@ are_pairs first [] = true
 are_pairs first (a ∷ []) = false
 are_pairs first (a ∷ b ∷ pairs) = eqb a (48 + first / 10) && (eqb b (48 + first % 10) && are_pairs (first + 1) pairs)
 
-pub pair_at : (first : ℕ) (pairs : List ℕ) (i : ℕ) → are_pairs first pairs ≡ true → 2 * i + 1 < length pairs
-    → (get_or pairs (2 * i) 0 ≡ 48 + (first + i) / 10) × (get_or pairs (2 * i + 1) 0 ≡ 48 + (first + i) % 10)
+-- the two characters of a number, as they stand in the table
+pub pair_from : (first : ℕ) (pairs : List ℕ) (i : ℕ) → are_pairs first pairs ≡ true → 2 * i + 1 < length pairs
+    → take 2 (drop (2 * i) pairs) ≡ (48 + (first + i) / 10) ∷ (48 + (first + i) % 10) ∷ []
 unfolding are_pairs
-pair_at first [] i e l = absurd (omega (arith, l))
-pair_at first (a ∷ []) i e l = absurd (omega (arith, l))
-pair_at first (a ∷ b ∷ pairs) zero e l =
+pair_from first [] i e l = absurd (omega (arith, l))
+pair_from first (a ∷ []) i e l = absurd (omega (arith, l))
+pair_from first (a ∷ b ∷ pairs) zero e l =
     let same : first + 0 ≡ first = omega arith in
     let p = and_parts _ _ e in
     let q = and_parts _ _ p.1 in
-    rw same (eqb-true a (48 + first / 10) p.0, eqb-true b (48 + first % 10) q.0)
-pair_at first (a ∷ b ∷ pairs) (suc i) e l =
+    rw same (ap (λ (k : ℕ). k ∷ b ∷ []) (eqb-true a (48 + first / 10) p.0)
+    ∙ ap (λ (k : ℕ). (48 + first / 10) ∷ k ∷ []) (eqb-true b (48 + first % 10) q.0))
+pair_from first (a ∷ b ∷ pairs) (suc i) e l =
     let same : first + suc i ≡ first + 1 + i = omega arith in
     let two : 2 * suc i ≡ suc (suc (2 * i)) = omega arith in
-    let three : 2 * suc i + 1 ≡ suc (suc (2 * i + 1)) = omega arith in
     let q = and_parts _ _ ((and_parts _ _ e).1) in
     let within : 2 * i + 1 < length pairs = omega (arith, l) in
-    rw (same, three, two) (pair_at (first + 1) pairs i q.1 within)
+    rw (same, two) (pair_from (first + 1) pairs i q.1 within)
+
+-- the two characters after a text
+pub pair_after : (n : ℕ) (text : List ℕ) → n < 100
+    → text ++ ((48 + n / 10) ∷ (48 + n % 10) ∷ []) ≡ text ++ last_digits 2 n
+pair_after n text few =
+    sym (append_assoc text ((48 + n / 10) ∷ []) ((48 + n % 10) ∷ []))
+    ∙ pair_joined n (48 + n / 10) (48 + n % 10) text few refl refl

@@ -1,5 +1,5 @@
-use Rattle.std.proofs.Common.{◌≡◌, ℕ, ◌*◌, ◌%◌, ◌^◌, ◌<◌, ◌∙◌, ap, sym, arith, lit<}
-use Rattle.std.proofs.Math.Nat.{div-eq_of_lt, mod-eq_of_lt}
+use Rattle.std.proofs.Common.{◌≡◌, ℕ, ◌*◌, ◌%◌, ◌^◌, ◌<◌, ◌≤◌, ◌∙◌, ap, sym, arith, lit<}
+use Rattle.std.proofs.Math.Nat.{div-eq_of_lt, mod-eq_of_lt, pow-le-pow_right}
 use Rattle.apfloat_decimals.proofs.digits.FoundDigits.{ten_most}
 use Rattle.apfloat_decimals.proofs.numbers.DecimalPowers.{ten_split}
 use Rattle.apfloat_decimals.proofs.numbers.Values.{power_pos}
@@ -7,31 +7,44 @@ use Rattle.apfloat_decimals.proofs.spelled.WrittenNumbers.{ten_small, ten_great}
 use Rattle.apfloat_decimals.proofs.formatting.parts_of.Goals as goal
 
 -- a power of ten of one word is the power of five, moved up
-moved : (places five : ℕ) → places < 20 → five ≡ 5 ^ places → five * 2 ^ places % 2 ^ 64 ≡ 10 ^ places
+moved : (places five : ℕ) → places < 19 → five ≡ 5 ^ places → five * 2 ^ places % 2 ^ 64 ≡ 10 ^ places
 moved places five few is =
     let ten : five * 2 ^ places ≡ 10 ^ places = ap (λ (k : ℕ). k * 2 ^ places) is ∙ sym (ten_split places) in
-    let most = ten_most places 19 (omega (arith, few)) in
+    let most = ten_most places 18 (omega (arith, few)) in
     let fits : 10 ^ places < 2 ^ 64 = omega (arith, most) in
     ap (λ (k : ℕ). k % 2 ^ 64) ten ∙ mod-eq_of_lt fits
 
-pub nonzero_div-word : goal.nonzero_div-word
-nonzero_div-word c =
-    rw (moved c.args.places c.small_power.result c.if-places-lt20.true c.small_power.ensures)
+-- ten divides it, so a quotient of a word by it has a digit less
+fits_half : (number places : ℕ) → 0 < places → number < 2 ^ 64 → number < 2 ^ 63 * 10 ^ places
+fits_half number places some few =
+    let one : 1 ≤ places = omega (arith, some) in
+    let most : 10 ^ 1 ≤ 10 ^ places = pow-le-pow_right (lit< tt) one in
+    omega (arith, most, few)
+
+pub checked_division-parts-requires-clause-some : goal.checked_division-parts-requires-clause-some
+checked_division-parts-requires-clause-some c =
+    rw (moved c.args.places c.small_power.result (omega arith) c.small_power.ensures)
     (power_pos 10 c.args.places (lit< tt))
 
-pub nonzero_rem-word : goal.nonzero_rem-word
-nonzero_rem-word c =
-    rw (moved c.args.places c.small_power.result c.if-places-lt20.true c.small_power.ensures)
-    (power_pos 10 c.args.places (lit< tt))
+pub checked_division-parts-requires-clause-narrow : goal.checked_division-parts-requires-clause-narrow
+checked_division-parts-requires-clause-narrow c =
+    let most = ten_most c.args.places 18 (omega arith) in
+    rw (moved c.args.places c.small_power.result (omega arith) c.small_power.ensures) (omega (arith, most))
+
+pub checked_division-parts-requires-clause-fits : goal.checked_division-parts-requires-clause-fits
+checked_division-parts-requires-clause-fits c =
+    rw (moved c.args.places c.small_power.result (omega arith) c.small_power.ensures)
+    (fits_half c.args.number c.args.places (omega arith) (omega arith))
 
 pub returns-then-number-clause-whole : goal.returns-then-number-clause-whole
 returns-then-number-clause-whole c =
-    rw (← moved c.args.places c.small_power.result c.if-places-lt20.true c.small_power.ensures) c.from.ensures
+    rw (← moved c.args.places c.small_power.result (omega arith) c.small_power.ensures)
+    (c.from.ensures ∙ c.checked_division-parts.ensures.quotient)
 
 pub returns-then-number-clause-rest : goal.returns-then-number-clause-rest
 returns-then-number-clause-rest c =
-    rw (← moved c.args.places c.small_power.result c.if-places-lt20.true c.small_power.ensures)
-    c.from-then-number.ensures
+    rw (← moved c.args.places c.small_power.result (omega arith) c.small_power.ensures)
+    (c.from-then-number.ensures ∙ c.checked_division-parts.ensures.rest)
 
 pub returns-then-places-gt38-clause-whole : goal.returns-then-places-gt38-clause-whole
 returns-then-places-gt38-clause-whole c =

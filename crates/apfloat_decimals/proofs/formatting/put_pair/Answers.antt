@@ -1,20 +1,27 @@
-use Rattle.std.proofs.Common.{◌≡◌, ◌+◌, ◌*◌, ◌++◌, ◌∷◌, get_or, take, List, ℕ, [], ap, sym, ◌∙◌, true, refl, arith}
+use Rattle.std.proofs.Common.{◌≡◌, ◌+◌, ◌-◌, ◌*◌, ◌/◌, ◌%◌, ◌<◌, ◌++◌, ◌∷◌, take, drop, List, ℕ, []}
+use Rattle.std.proofs.Common.{ap, ◌∙◌, true, refl, arith}
+use Rattle.std.proofs.lemmas.Slice.{take-put_mid}
 use Rattle.apfloat_decimals.specs.declared.formatting.TheConstants.{PAIRS}
-use Rattle.apfloat_decimals.proofs.spelled.LastDigits.{are_pairs, pair_at, pair_joined}
+use Rattle.apfloat_decimals.proofs.spelled.LastDigits.{are_pairs, pair_after, pair_from}
 use Rattle.apfloat_decimals.proofs.formatting.put_pair.Goals as goal
 
 table : are_pairs 0 PAIRS ≡ true
 unfolding are_pairs
 table = refl
 
+-- the characters of a number below 100
+characters : (n : ℕ) → n < 100 → take 2 (drop (2 * n) PAIRS) ≡ (48 + n / 10) ∷ (48 + n % 10) ∷ []
+characters n few =
+    let all : 0 + n ≡ n = omega arith in
+    rw all at (pair_from 0 PAIRS n table (omega (arith, few)))
+
 pub returns-clause-taken : goal.returns-clause-taken
 returns-clause-taken c =
-    let all : 0 + c.args.number ≡ c.args.number = omega arith in
-    let p = rw all at (pair_at 0 PAIRS c.args.number table (omega (arith, c.requires.few))) in
-    let end : c.args.at + 1 + 1 ≡ c.args.at + 2 = omega arith in
-    ap (λ (k : ℕ). take k c.put-2.new.bytes) (sym end) ∙ c.put-2.ensures.taken
-    ∙ ap (λ (x : List ℕ). x ++ (get_or PAIRS (2 * c.args.number + 1) 0 ∷ [])) c.put.ensures.taken
-    ∙ pair_joined c.args.number _ _ _ c.requires.few p.0 p.1
-
-pub returns-clause-same : goal.returns-clause-same
-returns-clause-same c = λ i h. c.put-2.ensures.same i (omega (arith, h)) ∙ c.put.ensures.same i (omega (arith, h))
+    let two : 2 * c.args.number + 2 - 2 * c.args.number ≡ 2 = omega arith in
+    let copied : c.copy_from_slice.new.self ≡ (48 + c.args.number / 10) ∷ (48 + c.args.number % 10) ∷ [] =
+    c.copy_from_slice.ensures.after ∙ ap (λ (k : ℕ). take k (drop (2 * c.args.number) PAIRS)) two
+    ∙ characters c.args.number c.requires.few in
+    take-put_mid c.args.at (c.args.at + 2 - c.args.at) c.args.bytes.now c.copy_from_slice.new.self (c.args.at + 2)
+    (rw copied (omega arith)) (omega (arith, c.requires.room))
+    ∙ ap (λ (x : List ℕ). take c.args.at c.args.bytes.now ++ x) copied
+    ∙ pair_after c.args.number (take c.args.at c.args.bytes.now) c.requires.few

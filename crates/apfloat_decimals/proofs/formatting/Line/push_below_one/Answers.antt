@@ -25,8 +25,8 @@ push_zeros-requires c =
     let two = length_more (c.args.self.now ++ (48 ∷ [])) 46 in
     rw (c.push-2.ensures, c.push.ensures) (omega (arith, all, one, two, c.requires.room))
 
-pub push_number-requires : goal.push_number-requires
-push_number-requires c =
+pub push_counted-requires-clause-room : goal.push_counted-requires-clause-room
+push_counted-requires-clause-room c =
     let all = below_one_length c.args.number c.args.places (omega arith)
     (omega (arith, c.requires.count, c.requires.within)) in
     let one = length_more c.args.self.now 48 in
@@ -39,6 +39,6 @@ push_number-requires c =
 
 pub returns : goal.returns
 returns c =
-    c.push_number.ensures
+    c.push_counted.ensures
     ∙ below_one_joined c.args.number c.args.count c.args.places c.args.self.now _ _ _ (omega arith) c.requires.count
     c.requires.within c.push.ensures c.push-2.ensures c.push_zeros.ensures
