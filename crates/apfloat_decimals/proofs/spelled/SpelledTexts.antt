@@ -145,7 +145,7 @@ body_faulted body whole rest fraction tail some fault w r f t n h =
 
 -- ---- texts that are not empty
 
-empty_is : (xs : List ℕ) → is_empty xs ≡ (length xs == 0)
+pub empty_is : (xs : List ℕ) → is_empty xs ≡ (length xs == 0)
 empty_is [] = refl
 empty_is (c ∷ xs) = sym (ne_eqb (length (c ∷ xs)) 0 (λ e. omega (arith, e)))
 
