@@ -4,8 +4,8 @@
 //! Both find the digits times a power of ten as a binary significand (`scaling`): by a multiplication with a table of
 //! powers of five (`powers_of_five`) if bounds of the product settle the result (`bounded_cut`), as Eisel and Lemire
 //! do, and otherwise by an exact division, in 128 binary digits (`short_division`) or in words on the stack
-//! (`long_division`, `large`). Before that, for digits of one word, the first 64 binary digits of that product are tried
-//! (`word_scaling`). `FromStr` of a `Decimal` keeps the digits of its text (`parsing`).
+//! (`long_division`, `large`). Before that, for digits of one word, the first 64 binary digits of that product are
+//! tried (`word_scaling`). `FromStr` of a `Decimal` keeps the digits of its text (`parsing`).
 //!
 //! Writing: `shortest` finds the shortest decimal that reads back as a value: from the interval of the numbers that are
 //! rounded to it (`shortest_interval`), or from its first digits (`shortest_guess`, `shortest_decimal`). `rounded`

@@ -3,6 +3,7 @@
 ghost use Rattle.std.specs.Prelude.{◌≡◌, ◌+◌, ◌-◌, ◌^◌, ◌<◌, ◌≤◌, false, IsTrue, IfSome};
 ghost use Rattle.apfloat_model.specs.bits.Layout.{fields_of};
 ghost use Rattle.apfloat_ieee.specs.FlaggedTypes.{constants_of, format_of, layout_of};
+ghost use Rattle.apfloat_encoded.specs.Encoded.{value_in};
 ghost use Rattle.apfloat_encoded.specs.Numbers.{FitsWord, IsNumberOf};
 
 use apfloat_ieee::Flagged;
@@ -32,6 +33,17 @@ pub(crate) fn precision_of<S: Flagged>() -> u32
     ensures { result ≡ S.PRECISION }
 {
     S::PRECISION as u32
+}
+
+/// The low word of an encoding in a format that fits in one. It encodes the same value, and takes half the registers
+/// until a call that is seldom made.
+#[inline(always)]
+pub(crate) fn word_of<S: Flagged>(bits: u128) -> u128
+    requires bits { S.PRECISION < S.BITS }
+    requires word { FitsWord (constants_of S.Flagged) }
+    ensures { value_in (constants_of S.Flagged) result ≡ value_in (constants_of S.Flagged) bits }
+{
+    low_digits(bits, 64)
 }
 
 /// Whether the sign bit is set.

@@ -9,7 +9,7 @@ ghost use Rattle.apfloat_encoded.specs.Numbers.{FitsWord, IsFull, quanta_of};
 
 use crate::cuts::{encode_cut, inner_place, power_of};
 use crate::encoded::Encoded;
-use crate::numbers::{Number, Operands, fits_word, normal_operands, precision_of};
+use crate::numbers::{Number, Operands, fits_word, normal_operands, precision_of, word_of};
 use apfloat_base::{ExpInt, Float, Round};
 use apfloat_ieee::{Flagged, IeeeFloat};
 use apfloat_words::{full_product, power_of_two};
@@ -149,6 +149,24 @@ fn multiply_values<S: Flagged>(x: u128, y: u128, round: Round) -> Encoded
     }
 }
 
+/// The product of two values in a format that fits in a word.
+#[inline(always)]
+fn multiply_words<S: Flagged>(x: u128, y: u128, round: Round) -> Encoded
+    requires bits { S.PRECISION < S.BITS }
+    requires word { FitsWord (constants_of S.Flagged) }
+    ensures { let c = constants_of S.Flagged in
+        IsEncodedAnswer c (IsProduct (format_of S.Flagged) round (value_in c x) (value_in c y))
+        result }
+{
+    let left = word_of::<S>(x);
+    let right = word_of::<S>(y);
+    if let Some(product) = multiply_normal::<S>(left, right, round) {
+        product
+    } else {
+        multiply_values::<S>(left, right, round)
+    }
+}
+
 /// The product of the values that `x` and `y` encode, rounded once, as `wide_mul_r` of them (IEEE 754-2019 5.4.1). Bits
 /// at and above the width of the format are ignored.
 #[inline(always)]
@@ -159,9 +177,7 @@ pub fn multiply_bits<S: Flagged>(x: u128, y: u128, round: Round) -> Encoded
         result }
 {
     if fits_word::<S>() {
-        if let Some(product) = multiply_normal::<S>(x, y, round) {
-            return product;
-        }
+        return multiply_words::<S>(x, y, round);
     }
     multiply_values::<S>(x, y, round)
 }

@@ -9,7 +9,7 @@ ghost use Rattle.apfloat_encoded.specs.Encoded.{IsEncodedAnswer, value_in};
 ghost use Rattle.apfloat_encoded.specs.Numbers.{FitsWord, IsFull, quanta_of};
 
 use crate::encoded::Encoded;
-use crate::numbers::{Number, Operands, fits_word, normal_operands, precision_of};
+use crate::numbers::{Number, Operands, fits_word, normal_operands, precision_of, word_of};
 use crate::totals::encode_odd;
 use apfloat_base::{ExpInt, Float, Round};
 use apfloat_ieee::{Flagged, IeeeFloat};
@@ -131,6 +131,23 @@ fn subtract_values<S: Flagged>(x: u128, y: u128, round: Round) -> Encoded
     }
 }
 
+/// The sum of two values in a format that fits in a word.
+#[inline(always)]
+fn add_words<S: Flagged>(x: u128, y: u128, round: Round) -> Encoded
+    requires bits { S.PRECISION < S.BITS }
+    requires word { FitsWord (constants_of S.Flagged) }
+    ensures { let c = constants_of S.Flagged in
+        IsEncodedAnswer c (IsSum (format_of S.Flagged) round (value_in c x) (value_in c y)) result }
+{
+    let left = word_of::<S>(x);
+    let right = word_of::<S>(y);
+    if let Some(sum) = add_normal::<S>(left, right, round) {
+        sum
+    } else {
+        add_values::<S>(left, right, round)
+    }
+}
+
 /// The sum of the values that `x` and `y` encode, rounded once, as `add_r` of them (IEEE 754-2019 5.4.1). Bits at and
 /// above the width of the format are ignored.
 #[inline(always)]
@@ -140,11 +157,27 @@ pub fn add_bits<S: Flagged>(x: u128, y: u128, round: Round) -> Encoded
         IsEncodedAnswer c (IsSum (format_of S.Flagged) round (value_in c x) (value_in c y)) result }
 {
     if fits_word::<S>() {
-        if let Some(sum) = add_normal::<S>(x, y, round) {
-            return sum;
-        }
+        return add_words::<S>(x, y, round);
     }
     add_values::<S>(x, y, round)
+}
+
+/// The difference of two values in a format that fits in a word.
+#[inline(always)]
+fn subtract_words<S: Flagged>(x: u128, y: u128, round: Round) -> Encoded
+    requires bits { S.PRECISION < S.BITS }
+    requires word { FitsWord (constants_of S.Flagged) }
+    ensures { let c = constants_of S.Flagged in
+        IsEncodedAnswer c (IsDifference (format_of S.Flagged) round (value_in c x) (value_in c y))
+        result }
+{
+    let left = word_of::<S>(x);
+    let right = word_of::<S>(y);
+    if let Some(difference) = subtract_normal::<S>(left, right, round) {
+        difference
+    } else {
+        subtract_values::<S>(left, right, round)
+    }
 }
 
 /// The difference of the values that `x` and `y` encode, rounded once, as `sub_r` of them (IEEE 754-2019 5.4.1). Bits
@@ -157,9 +190,7 @@ pub fn subtract_bits<S: Flagged>(x: u128, y: u128, round: Round) -> Encoded
         result }
 {
     if fits_word::<S>() {
-        if let Some(difference) = subtract_normal::<S>(x, y, round) {
-            return difference;
-        }
+        return subtract_words::<S>(x, y, round);
     }
     subtract_values::<S>(x, y, round)
 }

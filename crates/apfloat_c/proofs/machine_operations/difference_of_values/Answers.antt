@@ -6,4 +6,5 @@ use Rattle.apfloat_c.proofs.machine_operations.difference_of_values.Goals as goa
 pub returns-then-are_normal : goal.returns-then-are_normal
 returns-then-are_normal g c = λ infinite.
     usual_of_two (constants_of g.S.Flagged) c.args.machine Difference c.args.round c.args.x c.args.y c.args.answer.now
-    c.difference_of_type_here.new.answer (c.are_normal.ensures c.if-are_normal.true Difference) c.difference_of_type_here.ensures
+    c.difference_of_type_here.new.answer (c.are_normal.ensures c.if-are_normal.true Difference)
+    c.difference_of_type_here.ensures

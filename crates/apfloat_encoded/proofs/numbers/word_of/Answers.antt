@@ -1,0 +1,12 @@
+use Rattle.std.proofs.Common.{◌≡◌, ℕ, ap, ◌∙◌}
+use Rattle.apfloat_ieee.specs.FlaggedTypes.{constants_of}
+use Rattle.apfloat_model.proofs.bits.Encodings.{lawful_interchange}
+use Rattle.apfloat_encoded.specs.Encoded.{value_in}
+use Rattle.apfloat_encoded.proofs.Reading.{word_read}
+use Rattle.apfloat_encoded.proofs.numbers.word_of.Goals as goal
+
+pub returns : goal.returns
+returns g c =
+    ap (λ (n : ℕ). value_in (constants_of g.S.Flagged) n) c.low_digits.ensures
+    ∙ word_read (constants_of g.S.Flagged) c.args.bits 64
+    (lawful_interchange (constants_of g.S.Flagged) g.S.Flagged.lawful c.requires.bits) c.requires.word.bits
