@@ -20,7 +20,10 @@ use crate::counts::Counts;
 use crate::single_targets::{is_short_target, saturates, target_of};
 use crate::singles::{convert_singles, word_of};
 use crate::widths::{Widths, bytes_of};
-use lane_conversions::{Lane, ShortCounts, ShortPlan, convert_half, is_finite_half, short_plan_of, upper_half, with_short_lane};
+use lane_conversions::{
+    Lane, ShortCounts, ShortPlan, convert_half, is_finite_half, short_plan_of, upper_half,
+    with_short_lane,
+};
 use rustc_apfloat::Round;
 use rustc_apfloat::ieee::Flagged;
 use saturating_conversions::Overflow;
