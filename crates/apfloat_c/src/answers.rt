@@ -227,9 +227,9 @@ pub fn fused_sum<S: Flagged>(answer: &mut Answer, round: Round, x: u128, y: u128
     fused_sum_here::<S>(answer, round, x, y, z)
 }
 
-/// A square root in a format, from bits to bits.
-#[inline(never)]
-pub fn root_in<S: Flagged>(answer: &mut Answer, round: Round, x: u128)
+/// A square root in a format, from bits to bits, in line.
+#[inline(always)]
+pub fn root_here<S: Flagged>(answer: &mut Answer, round: Round, x: u128)
     requires { S.PRECISION < S.BITS }
     ensures { let kind = of_format (constants_of S.Flagged) in
         IsKindAnswer kind round (SquareRoot x) answer.new }
@@ -237,9 +237,19 @@ pub fn root_in<S: Flagged>(answer: &mut Answer, round: Round, x: u128)
     *answer = with_bits(root_bits::<S>(x, round));
 }
 
+/// A square root in a format, from bits to bits.
+#[inline(never)]
+pub fn root_in<S: Flagged>(answer: &mut Answer, round: Round, x: u128)
+    requires { S.PRECISION < S.BITS }
+    ensures { let kind = of_format (constants_of S.Flagged) in
+        IsKindAnswer kind round (SquareRoot x) answer.new }
+{
+    root_here::<S>(answer, round, x)
+}
+
 /// The square root of a value, in line.
 #[inline(always)]
-pub fn root_here<F: ValueType>(answer: &mut Answer, round: Round, x: u128)
+pub fn root_of_type_here<F: ValueType>(answer: &mut Answer, round: Round, x: u128)
     requires { F.PRECISION < F.BITS }
     ensures { let of_type = relations_of F.Float.own F.partial_cmp F.takes_root in
         IsTypeAnswer of_type round (SquareRoot x) answer.new }
@@ -254,7 +264,7 @@ pub fn root<F: ValueType>(answer: &mut Answer, round: Round, x: u128)
     ensures { let of_type = relations_of F.Float.own F.partial_cmp F.takes_root in
         IsTypeAnswer of_type round (SquareRoot x) answer.new }
 {
-    root_here::<F>(answer, round, x)
+    root_of_type_here::<F>(answer, round, x)
 }
 
 /// An integer.

@@ -19,6 +19,7 @@ ghost use Rattle.apfloat_c.specs.declared.machine_call.MachineOperation.TheVaria
 ghost use Rattle.apfloat_c.specs.declared.machine_call.MachineOperation.TheVariants.{Least, Greatest};
 ghost use Rattle.apfloat_c.specs.declared.exported_call.ExportedCall.TheVariants.{OfTwo as PlainOfTwo};
 ghost use Rattle.apfloat_c.specs.declared.exported_call.ExportedCall.TheVariants.{RoundToIntegral as PlainIntegral};
+ghost use Rattle.apfloat_c.specs.declared.exported_call.ExportedCall.TheVariants.{SquareRoot as PlainRoot};
 ghost use Rattle.apfloat_c.specs.Answers.{IsKindAnswer, IsLeftBy, whole};
 ghost use Rattle.apfloat_c.specs.MachineCalls.{IsMachineAnswer, IsMachineCallAnswer, IsMachineConverted};
 ghost use Rattle.apfloat_c.specs.MachineCalls.{IsMachineConversionLeft, IsMachineConversionTried, IsMachineLeft};
@@ -40,7 +41,7 @@ use crate::machine_call::{
 };
 use crate::usual_operands::{
     are_normal, are_normal_of_three, are_usual, are_usual_of_three, both_fit, fits, is_divisor,
-    is_normal_beyond_words, is_number, is_root_of, three_words, two_words,
+    is_normal, is_normal_beyond_words, is_number, is_root_of, three_words, two_words,
 };
 use apfloat_comparisons::round_to_integral_in;
 use apfloat_encoded::convert_normal;
@@ -584,13 +585,26 @@ fn root_in<S: Flagged>(answer: &mut Answer, machine: Machine, round: Round, x: u
         answer.old answer.new result }
 {
     if is_root_of::<S>(x) {
-        answers::root_here::<IeeeFloat<S>>(answer, round, x);
+        plain_root::<S>(answer, round, x);
         ANSWERED
     } else if is_divisor::<S>(x) {
         *answer = written(Status::INVALID_OP.and(default_nan::<S>(machine)));
         ANSWERED
     } else {
         root::<S>(answer, machine, round, x)
+    }
+}
+
+/// The square root of a value, as the plain call gives it: from bits to bits, if it is a word.
+#[inline(always)]
+fn plain_root<S: Flagged>(answer: &mut Answer, round: Round, x: u128)
+    requires { S.PRECISION < S.BITS }
+    ensures { IsKindAnswer (of_format (constants_of S.Flagged)) round (PlainRoot x) answer.new }
+{
+    if S::BITS <= 64 {
+        answers::root_here::<S>(answer, round, x)
+    } else {
+        answers::root_of_type_here::<IeeeFloat<S>>(answer, round, x)
     }
 }
 
@@ -610,9 +624,44 @@ fn root<S: Flagged>(answer: &mut Answer, machine: Machine, round: Round, x: u128
     ANSWERED
 }
 
-/// A value rounded to an integral value, with INEXACT: the plain call, if the operand is a number.
+/// A value rounded to an integral value, with INEXACT. Of normal numbers it is the plain one; those of at most 64 bits
+/// are found among all numbers by tests that the plain call makes too.
 #[inline(never)]
 fn integral_exact_in<S: Flagged>(
+    answer: &mut Answer,
+    machine: Machine,
+    round: Round,
+    x: u128,
+) -> u32
+    requires { S.PRECISION < S.BITS }
+    ensures { IsMachineLeftIn (of_format (constants_of S.Flagged)) machine round (IntegralExact x)
+        answer.old answer.new result }
+{
+    if S::BITS > 64 && is_normal::<S>(x) {
+        wide_integral_exact::<S>(answer, round, x);
+        ANSWERED
+    } else {
+        usual_integral_exact::<S>(answer, machine, round, x)
+    }
+}
+
+/// A value of more than 64 bits rounded to an integral value, with INEXACT, as the plain call gives it: in line, unless
+/// the integer bit is explicit, where it is too long.
+#[inline(always)]
+fn wide_integral_exact<S: Flagged>(answer: &mut Answer, round: Round, x: u128)
+    requires { S.PRECISION < S.BITS }
+    ensures { IsKindAnswer (of_format (constants_of S.Flagged)) round (PlainIntegral x) answer.new }
+{
+    if S::EXPLICIT_INTEGER_BIT {
+        answers::round_to_integral::<IeeeFloat<S>>(answer, round, x)
+    } else {
+        answers::round_to_integral_here::<IeeeFloat<S>>(answer, round, x)
+    }
+}
+
+/// A value rounded to an integral value, with INEXACT: the plain call, if the operand is a number.
+#[inline(always)]
+fn usual_integral_exact<S: Flagged>(
     answer: &mut Answer,
     machine: Machine,
     round: Round,
@@ -704,9 +753,39 @@ fn to_unsigned_in<S: Flagged>(
     }
 }
 
-/// A value as a signed integer, if its bits fit.
+/// A value as a signed integer: the plain one in line, if it is valid.
 #[inline(never)]
 fn to_signed_in<S: Flagged>(
+    answer: &mut Answer,
+    machine: Machine,
+    round: Round,
+    x: u128,
+    width: u32,
+) -> u32
+    requires { S.PRECISION < S.BITS }
+    ensures { IsMachineLeftIn (of_format (constants_of S.Flagged)) machine round (ToSigned x width)
+        answer.old answer.new result }
+{
+    if is_width(2, width) && fits::<S>(x) {
+        let given = value::<S>(x);
+        let mut is_exact = false;
+        let plain = given.to_i128_r(width as usize, round, &mut is_exact);
+        if plain.status == Status::INVALID_OP {
+            fitting_to_signed::<S>(answer, machine, round, x, width)
+        } else {
+            let integer = settled_signed(machine, given, width as usize, plain);
+            *answer = Answer::of(integer.value.cast_unsigned(), integer.status, 0);
+            ANSWERED
+        }
+    } else {
+        fitting_to_signed::<S>(answer, machine, round, x, width)
+    }
+}
+
+/// A value as a signed integer, if its bits fit.
+#[cold]
+#[inline(never)]
+fn fitting_to_signed<S: Flagged>(
     answer: &mut Answer,
     machine: Machine,
     round: Round,
@@ -860,31 +939,6 @@ fn to_signed<S: Flagged>(
 
 /// The signed integer.
 fn signed_integer<S: Flagged>(
-    machine: Machine,
-    round: Round,
-    x: u128,
-    width: usize,
-) -> StatusAnd<i128>
-    requires bits { S.PRECISION < S.BITS }
-    requires low { 2 ≤ width }
-    requires high { width ≤ 128 }
-    ensures { let c = constants_of S.Flagged in
-        Gives (IsMachineSigned (format_with c) machine round width (value_of c x)) result }
-{
-    let given = value::<S>(x);
-    let mut is_exact = false;
-    let plain = given.to_i128_r(width, round, &mut is_exact);
-    if plain.status == Status::INVALID_OP {
-        invalid_signed::<S>(machine, round, x, width)
-    } else {
-        settled_signed(machine, given, width, plain)
-    }
-}
-
-/// The signed integer of an invalid conversion, or of any.
-#[cold]
-#[inline(never)]
-fn invalid_signed<S: Flagged>(
     machine: Machine,
     round: Round,
     x: u128,

@@ -112,7 +112,7 @@ fn is_written_normal<S: Flagged>(bits: u128) -> bool
 /// Whether the bits are those of a normal number, whose exponent is not the greatest. Plain calls begin with the same
 /// test, which they then need not repeat.
 #[inline(always)]
-fn is_normal<S: Flagged>(bits: u128) -> bool
+pub fn is_normal<S: Flagged>(bits: u128) -> bool
     requires { S.PRECISION < S.BITS }
     ensures { IsTrue result → is_divisor (constants_of S.Flagged) bits ≡ true }
 {

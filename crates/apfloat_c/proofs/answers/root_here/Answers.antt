@@ -1,9 +1,19 @@
-use Rattle.std.proofs.Common.{subst}
+use Rattle.std.proofs.Common.{ℕ, sym, subst}
+use Rattle.rustc_apfloat.specs.FlaggedTypes.{format_of, layout_of}
+use Rattle.rustc_apfloat.specs.Layout.{IsEncodedBy}
 use Rattle.apfloat_c.proofs.answers.root_here.Goals as goal
 
 pub returns : goal.returns
-returns g c = record {
-  given = c.sqrt_r.result;
-  holds = subst (λ x. g.F.ValueType.takes_root x c.args.round c.sqrt_r.result) c.from_bits.ensures c.sqrt_r.ensures;
-  is_written = c.written.ensures;
-}
+returns g c =
+    let answer = c.root_bits.ensures in
+    record {
+      given = record { status = c.root_bits.result.status; value = answer.value };
+      holds = answer.says;
+      is_written = record {
+        is_encoded =
+            subst (λ (bits : ℕ). IsEncodedBy (format_of g.S.Flagged) (layout_of g.S.Flagged) bits answer.value)
+            (sym c.with_bits.ensures.bits) answer.is_encoded;
+        status_is = c.with_bits.ensures.status;
+        number_is = c.with_bits.ensures.number;
+      };
+    }

@@ -5,9 +5,9 @@ use Rattle.rustc_apfloat.specs.Lawful.{format_with}
 use Rattle.apfloat_machines.specs.WholeNumbers.{IsMachineSigned}
 use Rattle.apfloat_c.proofs.machine_operations.signed_integer.Goals as goal
 
-pub returns-else-eq : goal.returns-else-eq
-returns-else-eq g c =
+pub returns : goal.returns
+returns g c =
     let f = format_with (constants_of g.S.Flagged) in
     subst (λ x. Gives (IsMachineSigned f c.args.machine c.args.round c.args.width x) c.settled_signed.result)
-    c.value-given.ensures
+    c.value-x.ensures
     (c.settled_signed.ensures.whole c.args.round c.to_i128_r-plain.new.is_exact c.to_i128_r-plain.ensures)
