@@ -6,7 +6,9 @@ ghost use Rattle.storage_arrays.specs.Formats.{bits_in as stored_bits};
 ghost use Rattle.convert_values.specs.RandomWidths.{bits_in, random_widths};
 
 use crate::random_numbers::mode_at;
-use array_conversions::{Converted, ConvertedBlock, Counts, Extended, Outcome, Widths, number_of, width, write_number};
+use array_conversions::{
+    Converted, ConvertedBlock, Counts, Extended, Outcome, Widths, number_of, width, write_number,
+};
 use conversion_modes::{convert_by, e3m4_by, unsigned_by};
 use formats_at_run_time::{BuiltInFormat, BuiltInKind, InFormat};
 use rustc_apfloat::ieee::{IeeeFloat, Semantics};

@@ -9,7 +9,9 @@ ghost use Rattle.array_conversions.specs.Bytes.{number_of};
 ghost use Rattle.storage_arrays.specs.Arrays.{IsConverted, IsLoaded, IsStoredAs, widths_of};
 
 use crate::formats::StoredFormat;
-use array_conversions::{Converted, Counts, Extended, Outcome, Widths, number_of, width, write_number};
+use array_conversions::{
+    Converted, Counts, Extended, Outcome, Widths, number_of, width, write_number,
+};
 use formats_at_run_time::{BuiltInFormat, FlaggedFormat, InFlaggedFormat, InFormat};
 use rustc_apfloat::ieee::{Flagged, IeeeFloat, Semantics};
 use rustc_apfloat::{Float, Round, StatusAnd};
