@@ -8,8 +8,8 @@ use Rattle.formats_at_run_time.specs.declared.FlaggedKind.{FlaggedKind}
 use Rattle.formats_at_run_time.specs.declared.FlaggedKind.TheVariants.{OfFormat, Pairs}
 use Rattle.formats_at_run_time.specs.FlaggedKinds.{flagged_kind_coded, format_without_rule}
 use Rattle.formats_at_run_time.specs.Modes.{mode_coded}
-use Rattle.array_conversions.specs.declared.Overflow.TheVariants.{Rounded, Saturated, Finite}
-use Rattle.array_conversions.specs.declared.FiniteNan.TheVariants.{Kept, Largest}
+use Rattle.saturating_conversions.specs.declared.Overflow.TheVariants.{Rounded, Saturated, Finite}
+use Rattle.saturating_conversions.specs.declared.FiniteNan.TheVariants.{Kept, Largest}
 use Rattle.array_conversions.specs.declared.Extended.TheVariants.{Packed}
 use Rattle.array_conversions.specs.declared.Widths.{Widths}
 use Rattle.array_conversions.specs.Widths.{array_widths, width_of}

@@ -3,7 +3,7 @@ use Rattle.std.proofs.Common.{◌≡◌, ℕ, ◌^◌, Bool, true, false, eqb, i
 use Rattle.rustc_apfloat.specs.Classes.{is_nan, is_negative}
 use Rattle.rustc_apfloat.specs.Datum.{Datum, finite, nan}
 use Rattle.storage_formats.specs.Scales.{scale_of}
-use Rattle.array_conversions.specs.declared.ValueClass.TheVariants.{Number, NotANumber}
+use Rattle.saturating_conversions.specs.declared.ValueClass.TheVariants.{Number, NotANumber}
 use Rattle.saturating_conversions.specs.Saturation.{class_of}
 
 abbrev scale_if : Bool → ℕ → Datum

@@ -18,11 +18,11 @@ use Rattle.storage_formats.specs.LawTest.{lawful_from_test}
 use Rattle.storage_formats.proofs.OneAnswer.{into_once, scale_once, unsigned_once}
 use Rattle.formats_at_run_time.specs.BuiltIns.{constants_in}
 use Rattle.formats_at_run_time.specs.FlaggedKinds.{flagged_constants}
-use Rattle.array_conversions.specs.declared.FiniteNan.{FiniteNan}
-use Rattle.array_conversions.specs.declared.FiniteNan.TheVariants.{Kept, Largest}
+use Rattle.saturating_conversions.specs.declared.FiniteNan.{FiniteNan}
+use Rattle.saturating_conversions.specs.declared.FiniteNan.TheVariants.{Kept, Largest}
 use Rattle.array_conversions.specs.declared.Outcome.{Outcome}
-use Rattle.array_conversions.specs.declared.Overflow.{Overflow}
-use Rattle.array_conversions.specs.declared.Overflow.TheVariants.{Rounded, Saturated, Finite}
+use Rattle.saturating_conversions.specs.declared.Overflow.{Overflow}
+use Rattle.saturating_conversions.specs.declared.Overflow.TheVariants.{Rounded, Saturated, Finite}
 use Rattle.array_conversions.specs.Bytes.{number_of}
 use Rattle.array_conversions.proofs.OneBlock.{conversion_by_once, same_outcome}
 use Rattle.storage_arrays.specs.declared.formats.StoredFormat.{StoredFormat}

@@ -10,7 +10,7 @@ use Rattle.formats_at_run_time.specs.BuiltIns.{constants_in}
 use Rattle.formats_at_run_time.specs.FlaggedKinds.{flagged_constants, format_without_rule}
 use Rattle.array_conversions.specs.declared.Extended.{Extended}
 use Rattle.array_conversions.specs.declared.Outcome.{Outcome}
-use Rattle.array_conversions.specs.declared.Overflow.{Overflow}
+use Rattle.saturating_conversions.specs.declared.Overflow.{Overflow}
 use Rattle.array_conversions.specs.declared.Widths.{Widths}
 use Rattle.array_conversions.specs.Bytes.{number_of}
 use Rattle.saturating_conversions.specs.Saturation.{IsConversionBy}

@@ -12,10 +12,10 @@ use Rattle.storage_formats.specs.Conversions.{IsInto}
 use Rattle.storage_formats.specs.Float8E3M4.{e3m4_datum, e3m4_format}
 use Rattle.storage_formats.specs.Scales.{IsScale}
 use Rattle.storage_formats.specs.Unsigned.{IsUnsigned}
-use Rattle.array_conversions.specs.declared.FiniteNan.{FiniteNan}
-use Rattle.array_conversions.specs.declared.FiniteNan.TheVariants.{Kept, Largest}
-use Rattle.array_conversions.specs.declared.Overflow.{Overflow}
-use Rattle.array_conversions.specs.declared.Overflow.TheVariants.{Rounded, Saturated, Finite}
+use Rattle.saturating_conversions.specs.declared.FiniteNan.{FiniteNan}
+use Rattle.saturating_conversions.specs.declared.FiniteNan.TheVariants.{Kept, Largest}
+use Rattle.saturating_conversions.specs.declared.Overflow.{Overflow}
+use Rattle.saturating_conversions.specs.declared.Overflow.TheVariants.{Rounded, Saturated, Finite}
 use Rattle.storage_arrays.specs.declared.formats.StoredFormat.{StoredFormat}
 use Rattle.storage_arrays.specs.declared.formats.StoredFormat.TheVariants.{E2M1FN, E2M3FN, E3M2FN, E3M4, E8M0FNU, UE4M3}
 use Rattle.storage_arrays.specs.Formats.{bits_in, e2m1fn_constants, e2m3fn_constants, e3m2fn_constants, keeps_infinity}
