@@ -15,7 +15,7 @@ ghost use Rattle.apfloat_c.specs.Decimals.{IsValueText, decimal_kind, known_read
 
 use crate::codes::{ANSWERED, NO_SUCH_OPERATION, REFUSED_TEXT, UNKNOWN_FORMAT, UNKNOWN_MODE};
 use crate::data::{Answer, Halves};
-use apfloat_decimals::formatting::{CAPACITY, Line, line_of};
+use apfloat_decimals::formatting::{CAPACITY, Line, put_decimal};
 use apfloat_decimals::{Decimal, read_decimal_ascii, shortest};
 use formats_at_run_time::{BuiltInKind, FlaggedFormat, FlaggedKind, InFormat, InKind, mode_coded};
 use pair_decimals::read_decimal_pair_ascii;
@@ -183,12 +183,14 @@ fn shortest_of<S: Semantics>(x: IeeeFloat<S>) -> Shortest
     }
 }
 
-/// Writes a text for all formats at once, so that the text of a number is copied once.
+/// Writes a text, that of a number in place: a copy right after it was written would wait for its bytes.
 fn write(found: Shortest, text: &mut DecimalText)
     ensures { IsText (text_of_shortest found) text.new }
 {
     match found {
-        Shortest::Number(decimal) => write_line(line_of(decimal), text),
+        Shortest::Number(decimal) => {
+            text.length = put_decimal(&mut text.bytes, decimal) as u32;
+        }
         Shortest::Infinity(negative) => write_line(infinity_line(negative), text),
         Shortest::Nan => write_line(nan_line(), text),
     }
