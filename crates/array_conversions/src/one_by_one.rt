@@ -14,8 +14,7 @@ use rustc_apfloat::Round;
 use rustc_apfloat::ieee::Flagged;
 use saturating_conversions::Overflow;
 
-/// Converts `count` values, each in its place. The widths that most values have are constants of their formats, so that
-/// the loop knows how many bytes it reads and writes.
+/// Converts `count` values, each in its place.
 #[inline(never)]
 pub fn convert_one_by_one<S: Flagged, T: Flagged>(
     overflow: Overflow,
@@ -35,20 +34,15 @@ pub fn convert_one_by_one<S: Flagged, T: Flagged>(
         IsBlock (IsConvertedBy overflow c d round) widths.source widths.target count
         input.now output.new result }
 {
-    let usual = Widths {
-        source: bytes_of(S::BITS),
-        target: bytes_of(T::BITS),
-    };
-    if widths.source == usual.source && widths.target == usual.target {
-        convert_each::<S, T>(Place::InLine, overflow, round, usual, count, input, output)
-    } else {
-        convert_apart::<S, T>(overflow, round, widths, count, input, output)
-    }
+    let far = far_answers_for::<S, T>(overflow, round, count);
+    convert_with_far::<S, T>(&far, overflow, round, widths, count, input, output)
 }
 
-/// The same for other widths, such as those of padded values: a small loop, since most programs have none.
+/// The same, given the results for numbers far out of the range of `T`. The widths that most values have are constants
+/// of their formats, so that the loop knows how many bytes it reads and writes.
 #[inline(never)]
-fn convert_apart<S: Flagged, T: Flagged>(
+pub fn convert_with_far<S: Flagged, T: Flagged>(
+    far: &Option<FarAnswers>,
     overflow: Overflow,
     round: Round,
     widths: Widths,
@@ -58,6 +52,49 @@ fn convert_apart<S: Flagged, T: Flagged>(
 ) -> Counts
     requires read { S.PRECISION < S.BITS }
     requires written { T.PRECISION < T.BITS }
+    requires far { IfSome far.now (AreFarAnswers overflow (constants_of T.Flagged) round) }
+    requires source { widths.source ≤ 16 }
+    requires target { T.BITS ≤ 8 * widths.target }
+    requires input { length input.now ≡ count * widths.source }
+    requires output { length output.old ≡ count * widths.target }
+    ensures { let c = constants_of S.Flagged in let d = constants_of T.Flagged in
+        IsBlock (IsConvertedBy overflow c d round) widths.source widths.target count
+        input.now output.new result }
+{
+    let usual = Widths {
+        source: bytes_of(S::BITS),
+        target: bytes_of(T::BITS),
+    };
+    if widths.source == usual.source && widths.target == usual.target {
+        convert_each::<S, T>(
+            Place::InLine,
+            far,
+            overflow,
+            round,
+            usual,
+            count,
+            input,
+            output,
+        )
+    } else {
+        convert_apart::<S, T>(far, overflow, round, widths, count, input, output)
+    }
+}
+
+/// The same for other widths, such as those of padded values: a small loop, since most programs have none.
+#[inline(never)]
+fn convert_apart<S: Flagged, T: Flagged>(
+    far: &Option<FarAnswers>,
+    overflow: Overflow,
+    round: Round,
+    widths: Widths,
+    count: usize,
+    input: &[u8],
+    output: &mut [u8],
+) -> Counts
+    requires read { S.PRECISION < S.BITS }
+    requires written { T.PRECISION < T.BITS }
+    requires far { IfSome far.now (AreFarAnswers overflow (constants_of T.Flagged) round) }
     requires source { widths.source ≤ 16 }
     requires target { T.BITS ≤ 8 * widths.target }
     requires input { length input.now ≡ count * widths.source }
@@ -68,6 +105,7 @@ fn convert_apart<S: Flagged, T: Flagged>(
 {
     convert_each::<S, T>(
         Place::OutOfLine,
+        far,
         overflow,
         round,
         widths,
@@ -114,6 +152,7 @@ fn convert_in<S: Flagged, T: Flagged>(
 #[inline(always)]
 fn convert_each<S: Flagged, T: Flagged>(
     place: Place,
+    far: &Option<FarAnswers>,
     overflow: Overflow,
     round: Round,
     widths: Widths,
@@ -123,6 +162,7 @@ fn convert_each<S: Flagged, T: Flagged>(
 ) -> Counts
     requires read { S.PRECISION < S.BITS }
     requires written { T.PRECISION < T.BITS }
+    requires far { IfSome far.now (AreFarAnswers overflow (constants_of T.Flagged) round) }
     requires source { widths.source ≤ 16 }
     requires target { T.BITS ≤ 8 * widths.target }
     requires input { length input.now ≡ count * widths.source }
@@ -131,13 +171,12 @@ fn convert_each<S: Flagged, T: Flagged>(
         IsBlock (IsConvertedBy overflow c d round) widths.source widths.target count
         input.now output.new result }
 {
-    let far = far_answers_for::<S, T>(overflow, round, count);
     let mut counts = Counts::NONE;
     for index in 0..count {
         let (from, to) = (index * widths.source, index * widths.target);
         let source = &input[from..from + widths.source];
         let target = &mut output[to..to + widths.target];
-        counts.count(convert_in::<S, T>(place, &far, overflow, round, source, target));
+        counts.count(convert_in::<S, T>(place, far, overflow, round, source, target));
     }
     counts
 }

@@ -9,6 +9,7 @@ ghost use Rattle.rustc_apfloat.specs.Lawful.{Constants, format_with, layout_with
 ghost use Rattle.rustc_apfloat.specs.FlaggedTypes.{constants_of, format_of, layout_of};
 ghost use Rattle.array_conversions.specs.Blocks.{IsBlock, value_at};
 ghost use Rattle.array_conversions.specs.Bytes.{number_of};
+ghost use Rattle.array_conversions.specs.FarNumbers.{AreFarAnswers};
 ghost use Rattle.array_conversions.specs.Outcomes.{with_outcome};
 ghost use Rattle.array_conversions.specs.ShortSingles.{AreFiniteHalves, AreHalvesOf, IsShortPlanFor, short_counts_with};
 ghost use Rattle.array_conversions.specs.Singles.{outcome_of};
@@ -17,6 +18,7 @@ ghost use Rattle.array_conversions.specs.Widths.{bytes_of};
 
 use crate::bytes::write_number;
 use crate::counts::Counts;
+use crate::far_numbers::{FarAnswers, far_answers_for};
 use crate::single_targets::{is_short_target, saturates, target_of};
 use crate::singles::{convert_singles, word_of};
 use crate::widths::{Widths, bytes_of};
@@ -30,6 +32,10 @@ use saturating_conversions::Overflow;
 
 /// How many values are converted at once.
 const BLOCK: usize = 64;
+
+/// In arrays of so many times as many values, the results for numbers far out of range are computed first: only blocks
+/// with an infinity or a NaN need them.
+const MOST_FINITE: usize = 16;
 
 /// The upper sixteen bits of sixty-four singles.
 #[inline(always)]
@@ -138,6 +144,7 @@ fn convert_numbers(plan: ShortPlan, width: usize, input: &[u8], output: &mut [u8
 #[inline(always)]
 fn convert_block<S: Flagged, T: Flagged>(
     plan: ShortPlan,
+    far: &Option<FarAnswers>,
     overflow: Overflow,
     round: Round,
     widths: Widths,
@@ -146,6 +153,7 @@ fn convert_block<S: Flagged, T: Flagged>(
 ) -> Counts
     requires read { S.PRECISION < S.BITS }
     requires written { T.PRECISION < T.BITS }
+    requires far { IfSome far.now (AreFarAnswers overflow (constants_of T.Flagged) round) }
     requires single { IsSingle (format_of S.Flagged) (layout_of S.Flagged) }
     requires plan { IsShortPlanFor overflow (constants_of T.Flagged) round plan }
     requires source { widths.source ≡ 4 }
@@ -160,7 +168,7 @@ fn convert_block<S: Flagged, T: Flagged>(
 {
     match convert_numbers(plan, widths.target, input, output) {
         Some(counts) => counts,
-        None => convert_singles::<S, T>(overflow, round, BLOCK, input, output),
+        None => convert_singles::<S, T>(far, overflow, round, BLOCK, input, output),
     }
 }
 
@@ -168,6 +176,7 @@ fn convert_block<S: Flagged, T: Flagged>(
 #[inline(always)]
 fn convert_blocks<S: Flagged, T: Flagged>(
     plan: ShortPlan,
+    far: &Option<FarAnswers>,
     overflow: Overflow,
     round: Round,
     widths: Widths,
@@ -178,6 +187,7 @@ fn convert_blocks<S: Flagged, T: Flagged>(
 ) -> Counts
     requires read { S.PRECISION < S.BITS }
     requires written { T.PRECISION < T.BITS }
+    requires far { IfSome far.now (AreFarAnswers overflow (constants_of T.Flagged) round) }
     requires single { IsSingle (format_of S.Flagged) (layout_of S.Flagged) }
     requires plan { IsShortPlanFor overflow (constants_of T.Flagged) round plan }
     requires source { widths.source ≡ 4 }
@@ -196,7 +206,7 @@ fn convert_blocks<S: Flagged, T: Flagged>(
         let (first, last) = (index * BLOCK, index * BLOCK + BLOCK);
         let source = &input[first * widths.source..last * widths.source];
         let target = &mut output[first * widths.target..last * widths.target];
-        counts.add(convert_block::<S, T>(plan, overflow, round, widths, source, target));
+        counts.add(convert_block::<S, T>(plan, far, overflow, round, widths, source, target));
     }
     counts
 }
@@ -205,6 +215,7 @@ fn convert_blocks<S: Flagged, T: Flagged>(
 #[inline(always)]
 fn convert_by_plan<S: Flagged, T: Flagged>(
     plan: ShortPlan,
+    far: &Option<FarAnswers>,
     overflow: Overflow,
     round: Round,
     count: usize,
@@ -213,6 +224,7 @@ fn convert_by_plan<S: Flagged, T: Flagged>(
 ) -> Counts
     requires read { S.PRECISION < S.BITS }
     requires written { T.PRECISION < T.BITS }
+    requires far { IfSome far.now (AreFarAnswers overflow (constants_of T.Flagged) round) }
     requires single { IsSingle (format_of S.Flagged) (layout_of S.Flagged) }
     requires plan { IsShortPlanFor overflow (constants_of T.Flagged) round plan }
     requires short { IsTarget (format_of T.Flagged) (layout_of T.Flagged) T.MIN_EXP T.MAX_EXP }
@@ -229,19 +241,20 @@ fn convert_by_plan<S: Flagged, T: Flagged>(
     };
     let blocks = count / BLOCK;
     let mut counts = convert_blocks::<S, T>(
-        plan, overflow, round, widths, blocks, count, input, output,
+        plan, far, overflow, round, widths, blocks, count, input, output,
     );
     let done = blocks * BLOCK;
     let rest = count - done;
     let source = &input[done * widths.source..count * widths.source];
     let target = &mut output[done * widths.target..count * widths.target];
-    counts.add(convert_singles::<S, T>(overflow, round, rest, source, target));
+    counts.add(convert_singles::<S, T>(far, overflow, round, rest, source, target));
     counts
 }
 
 /// Converts `count` singles, each in its place, to a format of at most eight bits, with the usual mode as a constant.
 #[inline(never)]
 fn convert_short_singles<S: Flagged, T: Flagged>(
+    far: &Option<FarAnswers>,
     overflow: Overflow,
     round: Round,
     count: usize,
@@ -250,6 +263,7 @@ fn convert_short_singles<S: Flagged, T: Flagged>(
 ) -> Counts
     requires read { S.PRECISION < S.BITS }
     requires written { T.PRECISION < T.BITS }
+    requires far { IfSome far.now (AreFarAnswers overflow (constants_of T.Flagged) round) }
     requires single { IsSingle (format_of S.Flagged) (layout_of S.Flagged) }
     requires target { IsTarget (format_of T.Flagged) (layout_of T.Flagged) T.MIN_EXP T.MAX_EXP }
     requires short { IsShort (layout_of T.Flagged) T.PRECISION T.MIN_EXP }
@@ -265,11 +279,11 @@ fn convert_short_singles<S: Flagged, T: Flagged>(
     match round {
         Round::NearestTiesToEven => {
             let plan = short_plan_of(target, saturates, Round::NearestTiesToEven);
-            convert_by_plan::<S, T>(plan, overflow, round, count, input, output)
+            convert_by_plan::<S, T>(plan, far, overflow, round, count, input, output)
         }
         _ => {
             let plan = short_plan_of(target, saturates, round);
-            convert_by_plan::<S, T>(plan, overflow, round, count, input, output)
+            convert_by_plan::<S, T>(plan, far, overflow, round, count, input, output)
         }
     }
 }
@@ -294,9 +308,10 @@ pub fn convert_all_singles<S: Flagged, T: Flagged>(
         IsBlock (IsConvertedBy overflow c d round) 4 (bytes_of T.BITS) count input.now output.new
         result }
 {
+    let far = far_answers_for::<S, T>(overflow, round, count / MOST_FINITE);
     if is_short_target::<T>() {
-        convert_short_singles::<S, T>(overflow, round, count, input, output)
+        convert_short_singles::<S, T>(&far, overflow, round, count, input, output)
     } else {
-        convert_singles::<S, T>(overflow, round, count, input, output)
+        convert_singles::<S, T>(&far, overflow, round, count, input, output)
     }
 }

@@ -9,6 +9,7 @@ ghost use Rattle.rustc_apfloat.specs.Lawful.{Constants, format_with, layout_with
 ghost use Rattle.rustc_apfloat.specs.FlaggedTypes.{constants_of, format_of, layout_of};
 ghost use Rattle.array_conversions.specs.Blocks.{IsBlock, value_at};
 ghost use Rattle.array_conversions.specs.Bytes.{number_of};
+ghost use Rattle.array_conversions.specs.FarNumbers.{AreFarAnswers};
 ghost use Rattle.array_conversions.specs.Outcomes.{with_outcome};
 ghost use Rattle.array_conversions.specs.Singles.{AreFinite, AreWordsOf, IsPlanFor, counts_with, outcome_of};
 ghost use Rattle.array_conversions.specs.Values.{IsConvertedBy};
@@ -16,7 +17,8 @@ ghost use Rattle.array_conversions.specs.Widths.{bytes_of};
 
 use crate::bytes::{number_of, write_number};
 use crate::counts::Counts;
-use crate::one_by_one::convert_one_by_one;
+use crate::far_numbers::FarAnswers;
+use crate::one_by_one::convert_with_far;
 use crate::single_targets::{is_single, is_target, saturates, target_of};
 use crate::widths::{Widths, bytes_of};
 use lane_conversions::{FewCounts, Lane, Plan, convert_finite, is_finite, plan_of, with_lane};
@@ -138,6 +140,7 @@ fn convert_numbers(plan: Plan, width: usize, input: &[u8], output: &mut [u8]) ->
 #[inline(always)]
 fn convert_block<S: Flagged, T: Flagged>(
     plan: Plan,
+    far: &Option<FarAnswers>,
     overflow: Overflow,
     round: Round,
     widths: Widths,
@@ -146,6 +149,7 @@ fn convert_block<S: Flagged, T: Flagged>(
 ) -> Counts
     requires read { S.PRECISION < S.BITS }
     requires written { T.PRECISION < T.BITS }
+    requires far { IfSome far.now (AreFarAnswers overflow (constants_of T.Flagged) round) }
     requires single { IsSingle (format_of S.Flagged) (layout_of S.Flagged) }
     requires plan { IsPlanFor overflow (constants_of T.Flagged) round plan }
     requires source { widths.source ≡ 4 }
@@ -158,7 +162,7 @@ fn convert_block<S: Flagged, T: Flagged>(
 {
     match convert_numbers(plan, widths.target, input, output) {
         Some(counts) => counts,
-        None => convert_one_by_one::<S, T>(overflow, round, widths, BLOCK, input, output),
+        None => convert_with_far::<S, T>(far, overflow, round, widths, BLOCK, input, output),
     }
 }
 
@@ -166,6 +170,7 @@ fn convert_block<S: Flagged, T: Flagged>(
 #[inline(always)]
 fn convert_blocks<S: Flagged, T: Flagged>(
     plan: Plan,
+    far: &Option<FarAnswers>,
     overflow: Overflow,
     round: Round,
     widths: Widths,
@@ -176,6 +181,7 @@ fn convert_blocks<S: Flagged, T: Flagged>(
 ) -> Counts
     requires read { S.PRECISION < S.BITS }
     requires written { T.PRECISION < T.BITS }
+    requires far { IfSome far.now (AreFarAnswers overflow (constants_of T.Flagged) round) }
     requires single { IsSingle (format_of S.Flagged) (layout_of S.Flagged) }
     requires plan { IsPlanFor overflow (constants_of T.Flagged) round plan }
     requires source { widths.source ≡ 4 }
@@ -192,7 +198,7 @@ fn convert_blocks<S: Flagged, T: Flagged>(
         let (first, last) = (index * BLOCK, index * BLOCK + BLOCK);
         let source = &input[first * widths.source..last * widths.source];
         let target = &mut output[first * widths.target..last * widths.target];
-        counts.add(convert_block::<S, T>(plan, overflow, round, widths, source, target));
+        counts.add(convert_block::<S, T>(plan, far, overflow, round, widths, source, target));
     }
     counts
 }
@@ -201,6 +207,7 @@ fn convert_blocks<S: Flagged, T: Flagged>(
 #[inline(always)]
 fn convert_by_plan<S: Flagged, T: Flagged>(
     plan: Plan,
+    far: &Option<FarAnswers>,
     overflow: Overflow,
     round: Round,
     count: usize,
@@ -209,6 +216,7 @@ fn convert_by_plan<S: Flagged, T: Flagged>(
 ) -> Counts
     requires read { S.PRECISION < S.BITS }
     requires written { T.PRECISION < T.BITS }
+    requires far { IfSome far.now (AreFarAnswers overflow (constants_of T.Flagged) round) }
     requires single { IsSingle (format_of S.Flagged) (layout_of S.Flagged) }
     requires plan { IsPlanFor overflow (constants_of T.Flagged) round plan }
     requires width { T.BITS ≤ 8 * bytes_of T.BITS }
@@ -224,13 +232,13 @@ fn convert_by_plan<S: Flagged, T: Flagged>(
     };
     let blocks = count / BLOCK;
     let mut counts = convert_blocks::<S, T>(
-        plan, overflow, round, widths, blocks, count, input, output,
+        plan, far, overflow, round, widths, blocks, count, input, output,
     );
     let done = blocks * BLOCK;
     let rest = count - done;
     let source = &input[done * widths.source..count * widths.source];
     let target = &mut output[done * widths.target..count * widths.target];
-    counts.add(convert_one_by_one::<S, T>(overflow, round, widths, rest, source, target));
+    counts.add(convert_with_far::<S, T>(far, overflow, round, widths, rest, source, target));
     counts
 }
 
@@ -238,6 +246,7 @@ fn convert_by_plan<S: Flagged, T: Flagged>(
 /// many bytes they read and write, and where a significand is cut; and so is the usual mode.
 #[inline(never)]
 pub fn convert_singles<S: Flagged, T: Flagged>(
+    far: &Option<FarAnswers>,
     overflow: Overflow,
     round: Round,
     count: usize,
@@ -246,6 +255,7 @@ pub fn convert_singles<S: Flagged, T: Flagged>(
 ) -> Counts
     requires read { S.PRECISION < S.BITS }
     requires written { T.PRECISION < T.BITS }
+    requires far { IfSome far.now (AreFarAnswers overflow (constants_of T.Flagged) round) }
     requires single { IsSingle (format_of S.Flagged) (layout_of S.Flagged) }
     requires target { IsTarget (format_of T.Flagged) (layout_of T.Flagged) T.MIN_EXP T.MAX_EXP }
     requires width { T.BITS ≤ 8 * bytes_of T.BITS }
@@ -260,11 +270,11 @@ pub fn convert_singles<S: Flagged, T: Flagged>(
     match round {
         Round::NearestTiesToEven => {
             let plan = plan_of(target, saturates, Round::NearestTiesToEven);
-            convert_by_plan::<S, T>(plan, overflow, round, count, input, output)
+            convert_by_plan::<S, T>(plan, far, overflow, round, count, input, output)
         }
         _ => {
             let plan = plan_of(target, saturates, round);
-            convert_by_plan::<S, T>(plan, overflow, round, count, input, output)
+            convert_by_plan::<S, T>(plan, far, overflow, round, count, input, output)
         }
     }
 }
