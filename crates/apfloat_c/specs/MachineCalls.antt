@@ -344,7 +344,8 @@ IsMachineConversionLeft (of_format c) machine mode x target old new code =
 IsMachineConversionLeft of_pairs machine mode x target old new code = ⊥
 
 -- the same to a format that may be unknown; then nothing is left
-abbrev pub IsMachineConversionTried : Kind → Machine → Round → ℕ → Option MachineFormat → Answer → Answer → Option ℕ
+abbrev pub IsMachineConversionTried : Kind → Machine → Round → ℕ → Option MachineFormat
+    → Answer → Answer → Option ℕ
     → Type 0
 IsMachineConversionTried kind machine mode x target old new None = new ≡ old
 IsMachineConversionTried kind machine mode x (Some target) old new (Some code) =

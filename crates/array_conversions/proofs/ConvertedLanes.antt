@@ -71,7 +71,8 @@ answers_by overflow c d mode target by round input output bits lane format layou
     (layout_with d) r bits lane) round_is
     (subst (λ (b : Bool). IsConvertedLane b (format_with c) (layout_with c) (format_with d) (layout_with d) round
     bits lane) by_is
-    (subst (λ (l : Layout). IsConvertedLane by (format_with c) (layout_with c) (format_with d) l round bits lane) layout
+    (subst (λ (l : Layout). IsConvertedLane by (format_with c) (layout_with c) (format_with d) l round
+    bits lane) layout
     (subst (λ (f : Format). IsConvertedLane by (format_with c) (layout_with c) f (layout_at target) round bits lane)
     format it)))) in
     converted_from overflow c d mode input output (record { bits = lane.bits; outcome = outcome_of lane })
@@ -88,7 +89,8 @@ plan_answers overflow c d mode plan input output bits lane is read written it =
     is.saturates_is is.round read written it
 
 pub short_plan_answers : (overflow : Overflow) (c d : Constants) (mode : Round) (plan : ShortPlan)
-    (input output : List ℕ) (bits : ℕ) (lane : Lane) → IsShortPlanFor overflow d mode plan → bits ≡ number_of input
+    (input output : List ℕ) (bits : ℕ) (lane : Lane) → IsShortPlanFor overflow d mode plan
+    → bits ≡ number_of input
     → number_of output ≡ lane.bits
     → IsConvertedLane plan.saturates (format_with c) (layout_with c) (format_at plan.target) (layout_at plan.target)
     plan.round bits lane

@@ -34,7 +34,8 @@ short_counts_with few values =
 -- they are the upper halves of the words of the bytes, rounded to odd
 abbrev pub AreHalvesOf : List ℕ → List ℕ → Type 0
 AreHalvesOf halves bytes =
-    (index : ℕ) → index < 64 → slice_index halves index ≡ odd_quotient (number_of (value_at 4 index bytes)) (2 ^ 16)
+    (index : ℕ) → index < 64 → slice_index halves index
+    ≡ odd_quotient (number_of (value_at 4 index bytes)) (2 ^ 16)
 
 -- none of them is that of an infinity or a NaN
 abbrev pub AreFiniteHalves : List ℕ → Type 0

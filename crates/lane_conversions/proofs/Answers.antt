@@ -595,7 +595,8 @@ past_is_normal true half kept r by_kept by_code = le-leb half kept by_kept
 past_is_normal false half kept r by_kept by_code = le-leb half r by_code
 
 -- what is rounded to is at most one more than what is kept
-rounded_most : (low : ℕ) (mode : Round) (negative : Bool) (t : ℕ) → rounded_by low mode negative t ≤ t / 2 ^ low + 1
+rounded_most : (low : ℕ) (mode : Round) (negative : Bool) (t : ℕ)
+    → rounded_by low mode negative t ≤ t / 2 ^ low + 1
 rounded_most low mode negative t =
     moved_most (rounds_up mode negative (loss_at (t % 2 ^ low) (2 ^ (low - 1))) (eqb (t / 2 ^ low % 2) 1)) (t / 2 ^ low)
     (t / 2 ^ low + 1) (omega arith)
@@ -651,7 +652,8 @@ flags_given low f layout mode negative t amount parts law rule any scaled picked
 -- ---- the answer
 
 -- what a lane is made of
-pub record IsMade (low : ℕ) (saturates : Bool) (f : Format) (layout : Layout) (mode : Round) (negative : Bool) (t : ℕ)
+pub record IsMade (low : ℕ) (saturates : Bool) (f : Format) (layout : Layout) (mode : Round)
+    (negative : Bool) (t : ℕ)
     (lane : Lane)
     : Type 0 where
   pub bits : lane.bits ≡ signed_code f.nonfinite layout.bits negative

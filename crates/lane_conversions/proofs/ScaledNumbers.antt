@@ -70,7 +70,8 @@ sum_cut s low precision place =
     )
 
 -- the place and the number of places moved up balance the two scales
-scaled_at : (precision more cut low w place e to from m : ℕ) → 3 ≤ precision → 1 ≤ more → w + (more + 1) ≤ low
+scaled_at : (precision more cut low w place e to from m : ℕ) → 3 ≤ precision → 1 ≤ more
+    → w + (more + 1) ≤ low
     → low + cut + e + to ≡ w + place + from → m < 2 ^ (precision + more + 1 + cut)
     → (place ≡ 0) ⊎ ((2 ^ (precision + more + cut) ≤ m) × (w + (more + 1) ≡ low))
     → IsScaled precision low (odd_quotient m (2 ^ cut) * 2 ^ w + place * 2 ^ (precision - 1 + low))

@@ -138,7 +138,8 @@ half_scaled f min_exp x h first precise digits scale least first_is it =
     let place : 0 ≡ e - (first + 6) = omega (arith, last) in
     let digits_none : 0 ≡ odd_quotient m (2 ^ 16) * 2 ^ (15 - p - (7 - p + 1) - (first + 6 - e))
     + (e - (first + 6)) * 2 ^ (p - 1 + (15 - p)) =
-    (let zero : 0 ≡ 0 * 2 ^ (15 - p - (7 - p + 1) - (first + 6 - e)) + 0 * 2 ^ (p - 1 + (15 - p)) = omega arith in zero)
+    (let zero : 0 ≡ 0 * 2 ^ (15 - p - (7 - p + 1) - (first + 6 - e))
+    + 0 * 2 ^ (p - 1 + (15 - p)) = omega arith in zero)
     ∙ (λ i. odd i * 2 ^ (15 - p - (7 - p + 1) - (first + 6 - e)) + place i * 2 ^ (p - 1 + (15 - p))) in
     let amount : 0 ≡ m * 2 ^ e * 2 ^ f.scale =
     (let zero : 0 ≡ 0 * 2 ^ e * 2 ^ f.scale = omega arith in zero)

@@ -225,7 +225,8 @@ are_pairs first (a ∷ []) = false
 are_pairs first (a ∷ b ∷ pairs) = eqb a (48 + first / 10) && (eqb b (48 + first % 10) && are_pairs (first + 1) pairs)
 
 -- the two characters of a number, as they stand in the table
-pub pair_from : (first : ℕ) (pairs : List ℕ) (i : ℕ) → are_pairs first pairs ≡ true → 2 * i + 1 < length pairs
+pub pair_from : (first : ℕ) (pairs : List ℕ) (i : ℕ) → are_pairs first pairs ≡ true
+    → 2 * i + 1 < length pairs
     → take 2 (drop (2 * i) pairs) ≡ (48 + (first + i) / 10) ∷ (48 + (first + i) % 10) ∷ []
 unfolding are_pairs
 pair_from first [] i e l = absurd (omega (arith, l))

@@ -11,7 +11,8 @@ use Rattle.array_conversions.specs.Values.{IsConvertedBy}
 use Rattle.lane_conversions.specs.declared.plans.ShortPlan.{ShortPlan}
 use Rattle.array_conversions.proofs.short_singles.convert_halves.Given as goal
 
-pub record AreConverted (plan : ShortPlan) (width index : ℕ) (halves output : List ℕ) (few : ShortCounts) : Type 0 where
+pub record AreConverted (plan : ShortPlan) (width index : ℕ) (halves output : List ℕ) (few : ShortCounts)
+    : Type 0 where
   pub few_are : AreShortAtMost index few
   pub block : (overflow : Overflow) (c d : Constants) (mode : Round) (input : List ℕ)
       → IsSingle (format_with c) (layout_with c) → IsShortPlanFor overflow d mode plan → AreHalvesOf halves input
