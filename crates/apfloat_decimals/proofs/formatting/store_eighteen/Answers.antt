@@ -5,17 +5,11 @@ use Rattle.apfloat_decimals.proofs.formatting.store_eighteen.Goals as goal
 
 pub returns-clause-taken : goal.returns-clause-taken
 returns-clause-taken c =
-    let ten : c.args.at + 2 + 8 ≡ c.args.at + 10 = omega arith in
     let end : c.args.at + 10 + 8 ≡ c.args.at + 18 = omega arith in
-    let upper : ℕ = c.args.number / 100000000 in
-    ap (λ (n : ℕ). take n c.store_eight-2.new.bytes) (sym end) ∙ c.store_eight-2.ensures.taken
-    ∙ ap (λ (x : List ℕ). x ++ last_digits 8 (c.args.number % 100000000))
-    (ap (λ (n : ℕ). take n c.store_eight.new.bytes) (sym ten) ∙ c.store_eight.ensures.taken
-    ∙ ap (λ (x : List ℕ). x ++ last_digits 8 (upper % 100000000)) c.store_pair.ensures.taken
-    ∙ last_joined 2 8 upper (take c.args.at c.args.bytes.now))
+    ap (λ (n : ℕ). take n c.store_eight.new.bytes) (sym end) ∙ c.store_eight.ensures.taken
+    ∙ ap (λ (x : List ℕ). x ++ last_digits 8 (c.args.number % 100000000)) c.store_ten.ensures.taken
     ∙ last_joined 10 8 c.args.number (take c.args.at c.args.bytes.now)
 
 pub returns-clause-same : goal.returns-clause-same
 returns-clause-same c = λ i h.
-    c.store_eight-2.ensures.same i (omega (arith, h)) ∙ c.store_eight.ensures.same i (omega (arith, h))
-    ∙ c.store_pair.ensures.same i (omega (arith, h))
+    c.store_eight.ensures.same i (omega (arith, h)) ∙ c.store_ten.ensures.same i (omega (arith, h))

@@ -2,7 +2,7 @@ use Rattle.std.proofs.Common.{◌≡◌, ◌+◌, ◌-◌, ◌*◌, ◌^◌, ◌
 use Rattle.std.proofs.lemmas.List.{length-append, length-take-le, take_at, take-take}
 use Rattle.apfloat_decimals.specs.Texts.{last_digits}
 use Rattle.apfloat_decimals.proofs.spelled.LastDigits.{last_length, moved_few, moved_last}
-use Rattle.apfloat_decimals.proofs.formatting.put_block.Goals as goal
+use Rattle.apfloat_decimals.proofs.formatting.put_up_to_eighteen.Goals as goal
 
 pub overflow_mul-number : goal.overflow_mul-number
 overflow_mul-number c =
