@@ -25,6 +25,8 @@ use Rattle.formats_at_run_time.specs.Relations.{in_format, in_pairs}
 use Rattle.formats_at_run_time.specs.ValueKinds.{Kind, of_format, of_pairs, value_of}
 use Rattle.apfloat_c.specs.declared.data.Answer.{Answer}
 use Rattle.apfloat_c.specs.declared.decimals.DecimalText.{DecimalText}
+use Rattle.apfloat_c.specs.declared.decimals.Shortest.{Shortest}
+use Rattle.apfloat_c.specs.declared.decimals.Shortest.TheVariants.{Number, Infinity, Nan}
 use Rattle.apfloat_c.specs.Answers.{IsValue}
 use Rattle.apfloat_c.specs.KnownCalls.{◌>>=◌, answered, no_such_operation, refused_text, unknown_format, unknown_mode}
 
@@ -78,6 +80,12 @@ IsValueText f (finite negative quanta) text =
 IsValueText f (infinite negative) text = text ≡ sign_text negative ++ codes "inf"
 IsValueText f (nan negative significand) text = text ≡ codes "nan"
 
+-- the text of what is written of a value
+abbrev pub text_of_shortest : Shortest → List ℕ
+text_of_shortest (Number decimal) = decimal_text decimal
+text_of_shortest (Infinity negative) = sign_text negative ++ codes "inf"
+text_of_shortest Nan = codes "nan"
+
 -- a text of less than 64 bytes, and zeros
 pub record IsText (written : List ℕ) (text : DecimalText) : Type 0 where
   pub fits : length written < 64
@@ -89,8 +97,8 @@ pub record IsTextOfBits (c : Constants) (bits : ℕ) (text : DecimalText) : Type
   pub is_text_of : IsValueText (format_with c) (value_of c bits) written
   pub is_written : IsText written text
 
-abbrev pub IsKindText : Kind → ℕ → DecimalText → Type 0
-IsKindText (of_format c) bits text = IsTextOfBits c bits text
+abbrev pub IsKindText : Kind → ℕ → List ℕ → Type 0
+IsKindText (of_format c) bits text = IsValueText (format_with c) (value_of c bits) text
 IsKindText of_pairs bits text = ⊥
 
 -- the format with the flags of the built-in ones has the same values

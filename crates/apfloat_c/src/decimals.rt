@@ -1,6 +1,6 @@
 //! Decimal texts as values, and the text of a value's shortest decimal, for C programs.
 
-ghost use Rattle.std.specs.Prelude.{◌≡◌, ◌<◌, ◌++◌, codes, length, pos, if◌then◌else◌};
+ghost use Rattle.std.specs.Prelude.{◌≡◌, ◌<◌, ◌++◌, codes, length, pos};
 ghost use Rattle.rustc_apfloat.specs.Lawful.{format_with};
 ghost use Rattle.rustc_apfloat.specs.Types.{constants_of, format_of};
 ghost use Rattle.apfloat_decimals.specs.ShortestSearch.{IsWithinQuad};
@@ -11,12 +11,12 @@ ghost use Rattle.formats_at_run_time.specs.Modes.{mode_coded};
 ghost use Rattle.formats_at_run_time.specs.Relations.{in_format, in_pairs};
 ghost use Rattle.apfloat_c.specs.Answers.{IsWritten, whole};
 ghost use Rattle.apfloat_c.specs.Decimals.{IsDecimalOutcome, IsKindText, IsParsed, IsShortestWritten, IsText};
-ghost use Rattle.apfloat_c.specs.Decimals.{IsValueText, decimal_kind, known_reading, text_format};
+ghost use Rattle.apfloat_c.specs.Decimals.{IsValueText, decimal_kind, known_reading, text_format, text_of_shortest};
 
 use crate::codes::{ANSWERED, NO_SUCH_OPERATION, REFUSED_TEXT, UNKNOWN_FORMAT, UNKNOWN_MODE};
 use crate::data::{Answer, Halves};
-use apfloat_decimals::formatting::{CAPACITY, Line, line_of};
-use apfloat_decimals::{read_decimal_ascii, shortest};
+use apfloat_decimals::formatting::{CAPACITY, Line, put_decimal};
+use apfloat_decimals::{Decimal, read_decimal_ascii, shortest};
 use formats_at_run_time::{BuiltInKind, FlaggedFormat, FlaggedKind, InFormat, InKind, mode_coded};
 use pair_decimals::read_decimal_pair_ascii;
 use rustc_apfloat::ieee::{IeeeFloat, Semantics};
@@ -78,7 +78,7 @@ pub extern "C" fn apfloat_shortest(format: u32, x: Halves, text: &mut DecimalTex
         None => UNKNOWN_FORMAT,
         Some(FlaggedKind::Pairs) => NO_SUCH_OPERATION,
         Some(FlaggedKind::OfFormat(format)) => {
-            *text = format.built_in().run(Writing { bits: x.number() });
+            write(format.built_in().run(Writing { bits: x.number() }), text);
             ANSWERED
         }
     }
@@ -150,55 +150,83 @@ struct Writing {
 }
 
 impl InFormat for Writing {
-    type Output = DecimalText;
+    type Output = Shortest;
 
     ghost can = { λ _ kind. IfFormat kind (λ c. IsWithinQuad (format_with c)) };
 
-    ghost gives = { λ it kind text. IsKindText kind it.bits text };
+    ghost gives = { λ it kind found. IsKindText kind it.bits (text_of_shortest found) };
 
-    fn in_format<S: Semantics>(self) -> DecimalText {
-        text_in(value_line(IeeeFloat::<S>::from_bits(self.bits)))
+    fn in_format<S: Semantics>(self) -> Shortest {
+        shortest_of(IeeeFloat::<S>::from_bits(self.bits))
     }
 }
 
-/// The text of a value.
-fn value_line<S: Semantics>(x: IeeeFloat<S>) -> Line
+/// What is written of a value.
+#[derive(Clone, Copy)]
+enum Shortest {
+    /// The shortest decimal of a number.
+    Number(Decimal),
+    /// An infinity, which may be negative.
+    Infinity(bool),
+    Nan,
+}
+
+/// What is written of a value.
+fn shortest_of<S: Semantics>(x: IeeeFloat<S>) -> Shortest
     requires { IsWithinQuad (format_of S.Semantics) }
-    ensures text { IsValueText (format_of S.Semantics) x result }
-    ensures room { length result < 64 }
+    ensures { IsValueText (format_of S.Semantics) x (text_of_shortest result) }
 {
     match shortest(x) {
-        Some(decimal) => line_of(decimal),
-        None => special_line(x.is_nan(), x.is_negative()),
+        Some(decimal) => Shortest::Number(decimal),
+        None if x.is_nan() => Shortest::Nan,
+        None => Shortest::Infinity(x.is_negative()),
     }
 }
 
-/// The text of a NaN or an infinity.
-fn special_line(is_nan: bool, negative: bool) -> Line
-    ensures text { result ≡ (if is_nan then codes "nan" else sign_text negative ++ codes "inf") }
+/// Writes a text, that of a number in place: a copy right after it was written would wait for its bytes.
+fn write(found: Shortest, text: &mut DecimalText)
+    ensures { IsText (text_of_shortest found) text.new }
+{
+    match found {
+        Shortest::Number(decimal) => {
+            text.length = put_decimal(&mut text.bytes, decimal) as u32;
+        }
+        Shortest::Infinity(negative) => write_line(infinity_line(negative), text),
+        Shortest::Nan => write_line(nan_line(), text),
+    }
+}
+
+/// The text of an infinity.
+fn infinity_line(negative: bool) -> Line
+    ensures text { result ≡ sign_text negative ++ codes "inf" }
     ensures room { length result < 64 }
 {
     let mut line = Line::new();
-    if is_nan {
-        line.push(b'n');
-        line.push(b'a');
-        line.push(b'n');
-    } else {
-        line.push_sign(negative);
-        line.push(b'i');
-        line.push(b'n');
-        line.push(b'f');
-    }
+    line.push_sign(negative);
+    line.push(b'i');
+    line.push(b'n');
+    line.push(b'f');
     line
 }
 
-/// A line as it is passed to C.
-fn text_in(line: Line) -> DecimalText
-    requires { length line < 64 }
-    ensures { IsText line result }
+/// The text of a NaN.
+fn nan_line() -> Line
+    ensures text { result ≡ codes "nan" }
+    ensures room { length result < 64 }
 {
-    DecimalText {
-        bytes: line.bytes(),
-        length: line.length() as u32,
-    }
+    let mut line = Line::new();
+    line.push(b'n');
+    line.push(b'a');
+    line.push(b'n');
+    line
+}
+
+/// Writes a line as it is passed to C.
+#[inline(always)]
+fn write_line(line: Line, text: &mut DecimalText)
+    requires { length line < 64 }
+    ensures { IsText line text.new }
+{
+    text.bytes = line.bytes();
+    text.length = line.length() as u32;
 }

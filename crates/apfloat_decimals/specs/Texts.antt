@@ -1,6 +1,6 @@
 -- How a decimal is written.
-use Rattle.std.specs.Prelude.{ℕ, zero, suc, ◌∷◌, ◌+◌, ◌-◌, ◌*◌, ◌/◌, ◌%◌, ◌^◌, ℤ, pos, ◌+ℤ◌, Bool, ◌&&◌}
-use Rattle.std.specs.Prelude.{leb, eqb, if◌then◌else◌, List, [], ◌++◌, length, replicate, codes}
+use Rattle.std.specs.Prelude.{ℕ, zero, suc, ◌≡◌, ◌≤◌, ◌∷◌, ◌+◌, ◌-◌, ◌*◌, ◌/◌, ◌%◌, ◌^◌, ℤ, pos, ◌+ℤ◌, Bool, ◌&&◌}
+use Rattle.std.specs.Prelude.{leb, eqb, if◌then◌else◌, List, [], ◌++◌, length, replicate, codes, slice_index}
 use Rattle.std.specs.Fmt.{decimal, signed_decimal}
 use Rattle.apfloat_model.specs.arithmetic.Exact.{up, down}
 use Rattle.apfloat_decimals.specs.declared.decimal.Decimal.{Decimal}
@@ -45,3 +45,7 @@ sign_text negative = if negative then codes "-" else []
 
 abbrev pub decimal_text : Decimal → List ℕ
 decimal_text x = sign_text x.negative ++ magnitude_text x.digits x.exponent
+
+-- all bytes from one on are zeros
+abbrev pub AreZerosFrom : ℕ → List ℕ → Type 0
+AreZerosFrom at bytes = (i : ℕ) → at ≤ i → slice_index bytes i ≡ 0

@@ -5,6 +5,7 @@ use Rattle.std.proofs.Common.{Bool, true, false, eqb, arith, lit<, refl}
 use Rattle.std.specs.Prelude.{◌&&◌}
 use Rattle.std.proofs.lemmas.Bool.{and_parts, eqb-true}
 use Rattle.std.proofs.Math.Nat.{div-add-mod, div-div-eq-div-mul, div-eq_of_lt, div-lt_iff_lt-mul, mod-lt}
+use Rattle.std.proofs.Math.Nat.{mul-div_cancel, mul-lt-mul_of_pos_right, mul-mod_left}
 use Rattle.std.proofs.lemmas.Fmt.{decimal_by_steps_wide, decimal_step_wide}
 use Rattle.std.proofs.lemmas.List.{append_assoc, length-append, replicate_more}
 use Rattle.std.proofs.lemmas.Nat.{mod-mul-add, pow-add}
@@ -194,6 +195,32 @@ zeros_last (suc count) =
     let next : count + 1 ≡ suc count = omega arith in
     ap (λ (x : List ℕ). x ++ (48 ∷ [])) (zeros_last count) ∙ replicate_more count 48
     ∙ ap (λ (k : ℕ). replicate k 48) next
+
+-- a number of so many digits that is moved up has more of them
+pub moved_few : (all count n : ℕ) → count ≤ all → n < 10 ^ count → n * 10 ^ (all - count) < 10 ^ all
+moved_few all count n within few =
+    let sum : count + (all - count) ≡ all = omega (arith, within) in
+    let split : 10 ^ all ≡ 10 ^ count * 10 ^ (all - count) =
+    ap (λ (k : ℕ). 10 ^ k) (sym sum) ∙ pow-add 10 count (all - count) in
+    let times = mul-lt-mul_of_pos_right few (power_pos 10 (all - count) (lit< tt)) in
+    omega (arith, split, times)
+
+-- the last digits of a number that is moved up are its own, and zeros
+pub moved_last : (all count n : ℕ) (text : List ℕ) → count ≤ all
+    → text ++ last_digits all (n * 10 ^ (all - count))
+    ≡ (text ++ last_digits count n) ++ replicate (all - count) 48
+moved_last all count n text within =
+    let more : ℕ = all - count in
+    let sum : count + more ≡ all = omega (arith, within) in
+    let some : 0 < 10 ^ more = power_pos 10 more (lit< tt) in
+    let upper : n * 10 ^ more / 10 ^ more ≡ n = mul-div_cancel n some in
+    let lower : n * 10 ^ more % 10 ^ more ≡ 0 = mul-mod_left n (10 ^ more) in
+    ap (λ (k : ℕ). text ++ last_digits k (n * 10 ^ more)) (sym sum)
+    ∙ ap (λ (x : List ℕ). text ++ x) (last_split count more (n * 10 ^ more)
+    ∙ ap (λ (k : ℕ). last_digits count k ++ last_digits more (n * 10 ^ more)) upper
+    ∙ ap (λ (x : List ℕ). last_digits count n ++ x) (sym (last_within more (n * 10 ^ more))
+    ∙ ap (λ (k : ℕ). last_digits more k) lower ∙ zeros_last more))
+    ∙ sym (append_assoc text (last_digits count n) (replicate more 48))
 
 -- leading zeros and the digits of a number are its last digits
 pub padded_last : (places n : ℕ) → length (decimal n) ≤ places → n < 2 ^ 128

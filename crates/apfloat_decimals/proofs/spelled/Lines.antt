@@ -1,7 +1,7 @@
 -- Lines of text: digits one by one, and the lengths of texts.
 use Rattle.std.proofs.Common.{◌≡◌, ℕ, suc, eqb, leb, FitsSigned, w32, ◌+◌, ◌-◌, ◌*◌, ◌/◌, ◌%◌, ◌^◌, ◌<◌, ◌≤◌, List, []}
 use Rattle.std.proofs.Common.{◌∷◌, ◌++◌, length, refl, sym, ap, ◌∙◌, replicate, arith, ⊎_elim, lit<, lit≤, false, true}
-use Rattle.std.proofs.Common.{Bool, if◌then◌else◌, codes}
+use Rattle.std.proofs.Common.{Bool, if◌then◌else◌, codes, drop, take, slice_index}
 use Rattle.std.specs.Prelude.{ℤ, pos, negsuc, ◌+ℤ◌}
 use Rattle.std.proofs.lemmas.Int.{ints}
 use Rattle.apfloat_model.specs.arithmetic.Exact.{up, down}
@@ -9,13 +9,15 @@ use lib.Signed.{mag}
 use Rattle.std.proofs.Math.Nat.{div-eq_of_lt, div-lt_iff_lt-mul, mod-eq_of_lt, mod-le, mod-lt, pow-le-pow_right}
 use Rattle.std.proofs.lemmas.Bool.{and_parts, cases_lt, eqb-false, eqb-true, false≢true, leb-true}
 use Rattle.std.proofs.lemmas.Nat.{pow-add}
-use Rattle.std.proofs.lemmas.Fmt.{decimal_step_wide, decimal_digit, length-decimal-le_wide, length_signed_le}
-use Rattle.std.proofs.lemmas.List.{append_assoc, length-append, length-replicate}
+use Rattle.std.proofs.lemmas.Fmt.{decimal_nonempty, decimal_step_wide, decimal_digit, length-decimal-le_wide}
+use Rattle.std.proofs.lemmas.Fmt.{length_signed_le}
+use Rattle.std.proofs.lemmas.List.{append_assoc, get_or-drop, length-append, length-drop, length-replicate}
+use Rattle.std.proofs.lemmas.List.{length-take-le, take-append-drop}
 use Rattle.std.specs.Fmt.{decimal, signed_decimal}
 use Rattle.apfloat_decimals.proofs.numbers.Values.{power_pos}
 use Rattle.apfloat_decimals.proofs.spelled.WrittenNumbers.{below_power, few_digits, shorter, single, ten_great, times_ten_small}
 use Rattle.apfloat_decimals.specs.Texts.{is_plain, padded, pointed, some_pointed, scientific_text, plain_text}
-use Rattle.apfloat_decimals.specs.Texts.{magnitude_text, sign_text}
+use Rattle.apfloat_decimals.specs.Texts.{magnitude_text, sign_text, AreZerosFrom}
 
 -- ---- digits one by one
 
@@ -134,6 +136,11 @@ mag_below : (z : ℤ) (k : ℕ) → up z < down z + k → down z < up z + k → 
 mag_below (pos n) k low high = omega arith
 mag_below (negsuc n) k low high = omega arith
 
+-- a number with a sign has some digits
+pub some_signed : (z : ℤ) → mag z < 2 ^ 64 → 0 < length (signed_decimal z)
+some_signed (pos n) few = decimal_nonempty n (omega (arith, few))
+some_signed (negsuc n) few = omega arith
+
 -- the length of a number with the exponent of its first digit
 pub scientific_length : (n : ℕ) (e : ℤ) → n < 2 ^ 128 → FitsSigned w32 e → length (scientific_text n e) ≤ 58
 scientific_length n e few fits =
@@ -192,3 +199,23 @@ signed_length negative n e few fits =
     let magnitude = magnitude_length n e few fits in
     let both = length-append (sign_text negative) (magnitude_text n e) in
     omega (arith, sign, magnitude, both)
+
+-- ---- bytes with zeros after a text
+
+all_zeros : (xs : List ℕ) → ((i : ℕ) → slice_index xs i ≡ 0) → xs ≡ replicate (length xs) 0
+all_zeros [] zero = refl
+all_zeros (x ∷ xs) zero =
+    ap (λ (k : ℕ). k ∷ xs) (zero 0)
+    ∙ ap (λ (ys : List ℕ). 0 ∷ ys) (all_zeros xs (λ i. zero (suc i)))
+
+pub text_and_zeros : (bytes text : List ℕ) (end all : ℕ) → take end bytes ≡ text → AreZerosFrom end bytes
+    → end ≤ all → length bytes ≡ all → bytes ≡ text ++ replicate (all - length text) 0
+text_and_zeros bytes text end all is zero within long =
+    let count : length text ≡ end =
+    ap (λ (xs : List ℕ). length xs) (sym is) ∙ length-take-le end bytes (omega (arith, within, long)) in
+    let left = length-drop end bytes in
+    let rest : drop end bytes ≡ replicate (length (drop end bytes)) 0 =
+    all_zeros (drop end bytes) (λ i. get_or-drop end bytes i 0 ∙ zero (end + i) (omega arith)) in
+    let same : length (drop end bytes) ≡ all - length text = omega (arith, left, count, long) in
+    sym (take-append-drop end bytes) ∙ ap (λ (xs : List ℕ). xs ++ drop end bytes) is
+    ∙ ap (λ (xs : List ℕ). text ++ xs) (rest ∙ ap (λ (k : ℕ). replicate k 0) same)

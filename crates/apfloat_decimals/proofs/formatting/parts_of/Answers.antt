@@ -6,14 +6,6 @@ use Rattle.apfloat_decimals.proofs.numbers.Values.{power_pos}
 use Rattle.apfloat_decimals.proofs.spelled.WrittenNumbers.{ten_small, ten_great}
 use Rattle.apfloat_decimals.proofs.formatting.parts_of.Goals as goal
 
--- a power of ten of one word is the power of five, moved up
-moved : (places five : ℕ) → places < 19 → five ≡ 5 ^ places → five * 2 ^ places % 2 ^ 64 ≡ 10 ^ places
-moved places five few is =
-    let ten : five * 2 ^ places ≡ 10 ^ places = ap (λ (k : ℕ). k * 2 ^ places) is ∙ sym (ten_split places) in
-    let most = ten_most places 18 (omega (arith, few)) in
-    let fits : 10 ^ places < 2 ^ 64 = omega (arith, most) in
-    ap (λ (k : ℕ). k % 2 ^ 64) ten ∙ mod-eq_of_lt fits
-
 -- ten divides it, so a quotient of a word by it has a digit less
 fits_half : (number places : ℕ) → 0 < places → number < 2 ^ 64 → number < 2 ^ 63 * 10 ^ places
 fits_half number places some few =
@@ -23,27 +15,27 @@ fits_half number places some few =
 
 pub checked_division-parts-requires-clause-some : goal.checked_division-parts-requires-clause-some
 checked_division-parts-requires-clause-some c =
-    rw (moved c.args.places c.small_power.result (omega arith) c.small_power.ensures)
+    rw c.power_of_ten-unit.ensures
     (power_pos 10 c.args.places (lit< tt))
 
 pub checked_division-parts-requires-clause-narrow : goal.checked_division-parts-requires-clause-narrow
 checked_division-parts-requires-clause-narrow c =
     let most = ten_most c.args.places 18 (omega arith) in
-    rw (moved c.args.places c.small_power.result (omega arith) c.small_power.ensures) (omega (arith, most))
+    rw c.power_of_ten-unit.ensures (omega (arith, most))
 
 pub checked_division-parts-requires-clause-fits : goal.checked_division-parts-requires-clause-fits
 checked_division-parts-requires-clause-fits c =
-    rw (moved c.args.places c.small_power.result (omega arith) c.small_power.ensures)
+    rw c.power_of_ten-unit.ensures
     (fits_half c.args.number c.args.places (omega arith) (omega arith))
 
 pub returns-then-number-clause-whole : goal.returns-then-number-clause-whole
 returns-then-number-clause-whole c =
-    rw (← moved c.args.places c.small_power.result (omega arith) c.small_power.ensures)
+    rw (← c.power_of_ten-unit.ensures)
     (c.from.ensures ∙ c.checked_division-parts.ensures.quotient)
 
 pub returns-then-number-clause-rest : goal.returns-then-number-clause-rest
 returns-then-number-clause-rest c =
-    rw (← moved c.args.places c.small_power.result (omega arith) c.small_power.ensures)
+    rw (← c.power_of_ten-unit.ensures)
     (c.from-then-number.ensures ∙ c.checked_division-parts.ensures.rest)
 
 pub returns-then-places-gt38-clause-whole : goal.returns-then-places-gt38-clause-whole

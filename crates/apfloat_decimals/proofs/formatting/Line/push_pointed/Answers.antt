@@ -1,8 +1,0 @@
-use Rattle.std.proofs.Common.{lit<}
-use Rattle.std.proofs.Math.Nat.{mod-lt}
-use Rattle.apfloat_decimals.proofs.numbers.Values.{power_pos}
-use Rattle.apfloat_decimals.proofs.formatting.Line.push_pointed.Goals as goal
-
-pub push_padded-requires-clause-few : goal.push_padded-requires-clause-few
-push_padded-requires-clause-few c =
-    rw c.parts_of-parts.ensures.rest (mod-lt c.args.number (power_pos 10 c.args.places (lit< tt)))
