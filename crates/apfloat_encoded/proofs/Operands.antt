@@ -9,7 +9,8 @@ use Rattle.std.proofs.lemmas.Bool.{ne_eqb}
 use Rattle.apfloat_model.specs.arithmetic.Exact.{down, signed, up}
 use Rattle.apfloat_model.specs.declared.kinds.NonfiniteBehavior.{NonfiniteBehavior}
 use Rattle.apfloat_model.specs.declared.kinds.Round.{Round}
-use Rattle.apfloat_model.specs.formats.Datum.{finite}
+use Rattle.apfloat_model.specs.formats.Datum.{Datum, finite}
+use Rattle.apfloat_model.specs.order.Classes.{is_nan}
 use Rattle.apfloat_model.specs.formats.Lawful.{Constants, format_with}
 use Rattle.apfloat_model.specs.rounding.Flags.{bits_of}
 use Rattle.apfloat_model.specs.rounding.Negation.{negated}
@@ -24,7 +25,7 @@ use Rattle.apfloat_rounding.proofs.OddCuts.{IsTopSplit, top_cut_encloses, top_cu
 use Rattle.apfloat_arithmetic.proofs.Additions.{IsRepresentedToOdd, read_odd_sum}
 use Rattle.apfloat_encoded.specs.declared.encoded.Encoded.{Encoded}
 use Rattle.apfloat_encoded.specs.declared.numbers.Number.{Number}
-use Rattle.apfloat_encoded.specs.Encoded.{IsEncodedAnswer, IsEncodedNumber}
+use Rattle.apfloat_encoded.specs.Encoded.{IsEncodedNumber, IsNumberAnswer}
 use Rattle.apfloat_encoded.specs.Numbers.{IsFull, quanta_of}
 use Rattle.apfloat_encoded.proofs.Kept.{IsKept, word_room}
 
@@ -220,14 +221,17 @@ total_full precision m digits top last some short word any fits full top_is last
 -- an encoded number is the answer that a relation asks for
 pub answered_if_some : (c : Constants) (mode : Round) (negative sign : Bool) (amount parts : ℕ)
     (answer : Option Encoded) → negative ≡ sign → IfSome answer (IsEncodedNumber c mode negative amount parts)
-    → IfSome answer (IsEncodedAnswer c (IsDelivered (format_with c) mode sign amount parts))
+    → IfSome answer (IsNumberAnswer c (IsDelivered (format_with c) mode sign amount parts))
 answered_if_some c mode negative sign amount parts None same given = given
 answered_if_some c mode negative sign amount parts (Some encoded) same given = record {
-  value = finite negative given.quanta;
-  says = subst
-      (λ (b : Bool). IsDelivered (format_with c) mode b amount parts (finite negative given.quanta)
-      (bits_of encoded.status)) same given.is_delivered;
-  is_encoded = given.is_encoded;
+  is_answer = record {
+    value = finite negative given.quanta;
+    says = subst
+        (λ (b : Bool). IsDelivered (format_with c) mode b amount parts (finite negative given.quanta)
+        (bits_of encoded.status)) same given.is_delivered;
+    is_encoded = given.is_encoded;
+  };
+  is_number = ap (λ (x : Datum). is_nan x) given.is_encoded.is;
 }
 
 -- a positive number of quanta

@@ -118,13 +118,13 @@ mod-mod n j k =
     ap (λ (i : ℕ). i % 2 ^ k) (mod-pow-add n j k) ∙
     mod_low (n / 2 ^ k % 2 ^ j) k (n % 2 ^ k) (mod_below n (2 ^ k) (pow_pos k))
 
-word_mod : (n word k : ℕ) → k ≤ word → n % 2 ^ word % 2 ^ k ≡ n % 2 ^ k
+pub word_mod : (n word k : ℕ) → k ≤ word → n % 2 ^ word % 2 ^ k ≡ n % 2 ^ k
 word_mod n word k room =
     let at : word ≡ word - k + k = omega (arith, room) in
     ap (λ (x : ℕ). n % 2 ^ x % 2 ^ k) at ∙ mod-mod n (word - k) k
 
 -- a field within a word
-word_field : (n word k j : ℕ) → k + j ≤ word → n % 2 ^ word / 2 ^ k % 2 ^ j ≡ n / 2 ^ k % 2 ^ j
+pub word_field : (n word k j : ℕ) → k + j ≤ word → n % 2 ^ word / 2 ^ k % 2 ^ j ≡ n / 2 ^ k % 2 ^ j
 word_field n word k j room =
     let at : word ≡ word - (j + k) + j + k = omega (arith, room) in
     ap (λ (x : ℕ). n % 2 ^ x / 2 ^ k % 2 ^ j) at

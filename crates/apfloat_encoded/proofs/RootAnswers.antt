@@ -1,9 +1,10 @@
 -- Square roots of numbers that are counted in quanta.
-use Rattle.std.proofs.Common.{◌≡◌, ℕ, ◌+◌, ◌-◌, ◌*◌, ◌^◌, ◌<◌, ◌≤◌, Bool, Option, Some, None, false, sym, ap, ◌∙◌, subst, inr, arith}
+use Rattle.std.proofs.Common.{◌≡◌, ℕ, ◌+◌, ◌-◌, ◌*◌, ◌/◌, ◌%◌, ◌^◌, ◌<◌, ◌≤◌, Bool, Option, Some, None, false, sym, ap, ◌∙◌, subst, inr, ⊎_elim}
+use Rattle.std.proofs.Common.{arith}
 use Rattle.std.specs.Prelude.{IfSome}
-use Rattle.std.proofs.Math.Nat.{mul-le-mul_left, mul-pos, pow-le-pow_right}
-use Rattle.std.proofs.lemmas.Bool.{ne_eqb}
-use Rattle.std.proofs.lemmas.Nat.{mul-le, pow-add, pow_pos}
+use Rattle.std.proofs.Math.Nat.{mod-eq_of_lt, mul-le-mul_left, mul-le-mul_right, mul-lt-mul_of_pos_right, mul-pos, pow-le-pow_right}
+use Rattle.std.proofs.lemmas.Bool.{cases_lt, ne_eqb}
+use Rattle.std.proofs.lemmas.Nat.{div-add-mod', mul-le, pow-add, pow_pos}
 use Rattle.apfloat_model.specs.arithmetic.Roots.{IsDeliveredRoot, IsRoot, IsRootOfNumber}
 use Rattle.apfloat_model.specs.declared.kinds.Round.{Round}
 use Rattle.apfloat_model.specs.declared.loss.Loss.{Loss}
@@ -18,6 +19,7 @@ use Rattle.apfloat_model.proofs.arithmetic.RootSides.{AgreesWithRoot, agreeing, 
 use Rattle.apfloat_model.proofs.general.Powers.{two_pos}
 use Rattle.apfloat_model.proofs.rounding.KeptDigits.{enclosed_from}
 use Rattle.apfloat_words.specs.RootStanding.{RootStandsFor}
+use Rattle.apfloat_words.proofs.RootSteps.{radicand_full}
 use Rattle.apfloat_arithmetic.proofs.RootStandings.{stands}
 use Rattle.apfloat_encoded.specs.declared.encoded.Encoded.{Encoded}
 use Rattle.apfloat_encoded.specs.declared.numbers.Number.{Number}
@@ -47,6 +49,57 @@ root_fits precision places m whole loss short fits is =
     ap (λ (x : ℕ). x * 2 ^ precision) split in
     let square = whole_low whole loss (m * 2 ^ places) is in
     root_lt whole (2 ^ precision) (omega (arith, low, gap, whole_square, square))
+
+-- the number is below the square after that of the integral root
+square_above : (whole : ℕ) (loss : Loss) (square : ℕ) → RootStandsFor whole loss square
+    → square < (whole + 1) * (whole + 1)
+square_above whole ExactlyZero square s = omega (arith, s)
+square_above whole LessThanHalf square s = let a = s.1 in omega (arith, a)
+square_above whole ExactlyHalf square s = omega (arith, s)
+square_above whole MoreThanHalf square s = s.1
+
+-- the root of a significand with as many zeros as give it all digits has all of them
+pub root_full : (precision places m whole : ℕ) (loss : Loss) → 0 < precision → precision ≤ places + 1
+    → places ≤ precision → m < 2 ^ precision → 2 ^ (precision - 1) ≤ m
+    → RootStandsFor whole loss (m * 2 ^ places) → 2 ^ (precision - 1) ≤ whole
+root_full precision places m whole loss some long short fits full is =
+    let radicand = radicand_full precision places m some long short fits full in
+    let above = square_above whole loss (m * 2 ^ places) is in
+    let less : 2 ^ (precision - 1) < whole + 1 =
+    root_lt (2 ^ (precision - 1)) (whole + 1) (omega (arith, radicand, above)) in
+    omega (arith, less)
+
+-- ---- guesses
+
+-- a significand moved to the top of a word, or one place below it
+pub root_top : (precision m odd : ℕ) → 0 < precision → precision ≤ 59 → odd ≤ 1 → 2 ^ (precision - 1) ≤ m
+    → m < 2 ^ precision → 2 ^ 62 ≤ m * 2 ^ (63 - precision + odd) % 2 ^ 64
+root_top precision m odd some short few full fits =
+    let low : 2 ^ (precision - 1) * 2 ^ (63 - precision + odd) ≤ m * 2 ^ (63 - precision + odd) =
+    mul-le-mul_right (2 ^ (63 - precision + odd)) full in
+    let high : m * 2 ^ (63 - precision + odd) < 2 ^ precision * 2 ^ (63 - precision + odd) =
+    mul-lt-mul_of_pos_right fits (pow_pos (63 - precision + odd)) in
+    let low_is = pow-add 2 (precision - 1) (63 - precision + odd) in
+    let high_is = pow-add 2 precision (63 - precision + odd) in
+    let from : 62 ≤ precision - 1 + (63 - precision + odd) = omega (arith, some, short) in
+    let to : precision + (63 - precision + odd) ≤ 64 = omega (arith, short, few) in
+    let least : 2 ^ 62 ≤ 2 ^ (precision - 1 + (63 - precision + odd)) = pow-le-pow_right two_pos from in
+    let most : 2 ^ (precision + (63 - precision + odd)) ≤ 2 ^ 64 = pow-le-pow_right two_pos to in
+    let word : m * 2 ^ (63 - precision + odd) % 2 ^ 64 ≡ m * 2 ^ (63 - precision + odd) =
+    mod-eq_of_lt (omega (arith, high, high_is, most)) in
+    rw word (omega (arith, low, low_is, least))
+
+-- a word without at least two of its digits
+pub short_guess : (guess places : ℕ) → guess < 2 ^ 64 → 2 ≤ places → guess / 2 ^ places < 2 ^ 62
+short_guess guess places fits some =
+    let four : 2 ^ 2 ≤ 2 ^ places = pow-le-pow_right two_pos some in
+    let all : guess / 2 ^ places * 2 ^ places + guess % 2 ^ places ≡ guess = div-add-mod' guess (2 ^ places) in
+    ⊎_elim
+    (λ (less : guess / 2 ^ places < 2 ^ 62). less)
+    (λ (more : 2 ^ 62 ≤ guess / 2 ^ places).
+    let product : 2 ^ 62 * 2 ^ 2 ≤ guess / 2 ^ places * 2 ^ places = mul-le _ _ _ _ more four in
+    absurd (omega (arith, product, all, fits)))
+    (cases_lt (guess / 2 ^ places) (2 ^ 62))
 
 -- ---- rounding
 

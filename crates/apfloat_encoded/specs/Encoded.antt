@@ -1,9 +1,10 @@
 -- Results from encodings to encodings.
-use Rattle.std.specs.Prelude.{◌≡◌, ℕ, ◌*◌, ◌^◌, ◌<◌, Bool}
+use Rattle.std.specs.Prelude.{◌≡◌, ℕ, ◌*◌, ◌^◌, ◌<◌, Bool, false}
 use Rattle.apfloat_model.specs.bits.Layout.{IsEncodedBy, datum_of}
 use Rattle.apfloat_model.specs.formats.Datum.{Datum, finite}
 use Rattle.apfloat_model.specs.formats.Lawful.{Constants, format_with, layout_with}
 use Rattle.apfloat_model.specs.declared.kinds.Round.{Round}
+use Rattle.apfloat_model.specs.order.Classes.{is_nan}
 use Rattle.apfloat_model.specs.rounding.Flags.{bits_of}
 use Rattle.apfloat_model.specs.rounding.Rounding.{IsDelivered}
 use Rattle.apfloat_encoded.specs.declared.encoded.Encoded.{Encoded}
@@ -17,6 +18,11 @@ pub record IsEncodedAnswer (c : Constants) (Says : Datum → ℕ → Type 0) (an
   pub value : Datum
   pub says : Says value (bits_of answer.status)
   pub is_encoded : IsEncodedBy (format_with c) (layout_with c) answer.bits value
+
+-- an encoded answer that is not a NaN
+pub record IsNumberAnswer (c : Constants) (Says : Datum → ℕ → Type 0) (answer : Encoded) : Type 0 where
+  pub is_answer : IsEncodedAnswer c Says answer
+  pub is_number : is_nan (value_in c answer.bits) ≡ false
 
 -- the bits are the encoding of the number that amount / parts quanta with that sign are rounded to
 pub record IsEncodedNumber (c : Constants) (mode : Round) (negative : Bool) (amount parts : ℕ) (answer : Encoded)

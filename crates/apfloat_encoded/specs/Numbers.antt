@@ -1,8 +1,9 @@
 -- Normal numbers and their encodings.
-use Rattle.std.specs.Prelude.{◌≡◌, ℕ, ◌-◌, ◌*◌, ◌^◌, ◌<◌, ◌≤◌, false}
+use Rattle.std.specs.Prelude.{◌≡◌, ℕ, ◌-◌, ◌*◌, ◌^◌, ◌<◌, ◌≤◌, ◌⊎◌, Bool, false, not, if◌then◌else◌}
 use Rattle.apfloat_model.specs.formats.Datum.{finite}
 use Rattle.apfloat_model.specs.formats.Lawful.{Constants}
 use Rattle.apfloat_encoded.specs.declared.numbers.Number.{Number}
+use Rattle.apfloat_encoded.specs.declared.numbers.Ordered.{Ordered}
 use Rattle.apfloat_encoded.specs.Encoded.{value_in}
 
 -- a format of at most 64 bits with an implied integer bit, and of at most 59 digits
@@ -25,3 +26,28 @@ pub record IsFull (c : Constants) (x : Number) : Type 0 where
 pub record IsNumberOf (c : Constants) (bits : ℕ) (x : Number) : Type 0 where
   pub is_full : IsFull c x
   pub read : value_in c bits ≡ finite x.negative (quanta_of x)
+
+-- the number, with the opposite sign if it is asked for
+abbrev pub opposite_if : Bool → Number → Number
+opposite_if changed x =
+    record {
+      negative = if changed then not x.negative else x.negative;
+      place = x.place;
+      significand = x.significand;
+    }
+
+-- the first of two numbers does not have the smaller magnitude
+pub record IsOrdered (o : Ordered) : Type 0 where
+  pub places : o.low.place ≤ o.high.place
+  pub significands : o.low.place ≡ o.high.place → o.low.significand ≤ o.high.significand
+
+-- The bits x and y encode two numbers. They are in order of their magnitudes once the sign of the second is changed, if
+-- that is asked for.
+pub record AreOrdered (c : Constants) (x y : ℕ) (changed : Bool) (o : Ordered) : Type 0 where
+  pub left : Number
+  pub right : Number
+  pub of_left : IsNumberOf c x left
+  pub of_right : IsNumberOf c y right
+  pub same : ((o.high ≡ left) × (o.low ≡ opposite_if changed right))
+      ⊎ ((o.high ≡ opposite_if changed right) × (o.low ≡ left))
+  pub is_ordered : IsOrdered o

@@ -1,10 +1,11 @@
 //! Normal numbers, read from their encodings.
 
-ghost use Rattle.std.specs.Prelude.{◌≡◌, ◌+◌, ◌-◌, ◌^◌, ◌<◌, ◌≤◌, false, IsTrue, IfSome};
+ghost use Rattle.std.specs.Prelude.{◌≡◌, ◌+◌, ◌-◌, ◌%◌, ◌^◌, ◌<◌, ◌≤◌, false, not, if◌then◌else◌, IsTrue, IfSome};
+ghost use mathlib.Core.Bool.{beq};
 ghost use Rattle.apfloat_model.specs.bits.Layout.{fields_of};
 ghost use Rattle.apfloat_ieee.specs.FlaggedTypes.{constants_of, format_of, layout_of};
 ghost use Rattle.apfloat_encoded.specs.Encoded.{value_in};
-ghost use Rattle.apfloat_encoded.specs.Numbers.{FitsWord, IsNumberOf};
+ghost use Rattle.apfloat_encoded.specs.Numbers.{AreOrdered, FitsWord, IsNumberOf};
 
 use apfloat_ieee::Flagged;
 use apfloat_words::low_digits;
@@ -36,14 +37,17 @@ pub(crate) fn precision_of<S: Flagged>() -> u32
 }
 
 /// The low word of an encoding in a format that fits in one. It encodes the same value, and takes half the registers
-/// until a call that is seldom made.
+/// until a call that is seldom made. In other formats it is the encoding itself.
 #[inline(always)]
 pub(crate) fn word_of<S: Flagged>(bits: u128) -> u128
-    requires bits { S.PRECISION < S.BITS }
-    requires word { FitsWord (constants_of S.Flagged) }
+    requires { S.PRECISION < S.BITS }
     ensures { value_in (constants_of S.Flagged) result ≡ value_in (constants_of S.Flagged) bits }
 {
-    low_digits(bits, 64)
+    if fits_word::<S>() {
+        low_digits(bits, 64)
+    } else {
+        bits
+    }
 }
 
 /// Whether the sign bit is set.
@@ -112,6 +116,80 @@ pub(crate) fn normal_number<S: Flagged>(bits: u128) -> Option<Number>
             negative: is_minus::<S>(bits),
             place: biased - 1,
             significand: significand_of::<S>(bits),
+        })
+    } else {
+        None
+    }
+}
+
+/// The bits of a value without the sign bit. Those of numbers are in the order of their magnitudes.
+#[inline(always)]
+pub(crate) fn magnitude_of<S: Flagged>(bits: u128) -> u64
+    requires some { 0 < S.BITS }
+    requires word { S.BITS ≤ 64 }
+    ensures { result ≡ bits % 2 ^ (S.BITS - 1) }
+{
+    low_digits(bits, S::BITS as u32 - 1) as u64
+}
+
+/// Whether two magnitudes in this order are those of normal numbers without the greatest exponent.
+#[inline(always)]
+fn are_normal<S: Flagged>(high: u32, low: u32) -> bool
+    requires bits { S.PRECISION < S.BITS }
+    requires bound { high < 2 ^ 22 }
+    ensures { IsTrue result → (0 < low) × (high + 1 < 2 ^ S.EXP_BITS) }
+{
+    (low != 0) & (high + 1 < exponents::<S>())
+}
+
+/// The first if `is_first`, otherwise the second.
+#[inline(always)]
+fn either<T: Copy>(is_first: bool, first: T, second: T) -> T
+    ensures { result ≡ (if is_first then first else second) }
+{
+    if is_first { first } else { second }
+}
+
+/// Two numbers, the first of which does not have the smaller magnitude.
+#[derive(Clone, Copy)]
+pub(crate) struct Ordered {
+    pub high: Number,
+    pub low: Number,
+    /// Whether their signs differ.
+    pub unlike: bool,
+}
+
+/// The numbers that these bits encode in the order of their magnitudes, with the sign of the second changed if it is
+/// asked for, if both are normal. The magnitudes are selected before anything depends on them, so that no branch does.
+#[inline(always)]
+pub(crate) fn ordered_numbers<S: Flagged>(x: u128, y: u128, changed: bool) -> Option<Ordered>
+    requires bits { S.PRECISION < S.BITS }
+    requires word { FitsWord (constants_of S.Flagged) }
+    ensures { IfSome result (λ o. AreOrdered (constants_of S.Flagged) x y changed o
+        × (o.unlike ≡ not (beq o.high.negative o.low.negative))) }
+{
+    let left = magnitude_of::<S>(x);
+    let right = magnitude_of::<S>(y);
+    let is_ordered = left >= right;
+    let high = either(is_ordered, left, right) as u128;
+    let low = either(is_ordered, right, left) as u128;
+    let above = biased_exponent::<S>(high);
+    let below = biased_exponent::<S>(low);
+    if are_normal::<S>(above, below) {
+        let left_sign = is_minus::<S>(x);
+        let right_sign = is_minus::<S>(y) != changed;
+        Some(Ordered {
+            high: Number {
+                negative: either(is_ordered, left_sign, right_sign),
+                place: above - 1,
+                significand: significand_of::<S>(high),
+            },
+            low: Number {
+                negative: either(is_ordered, right_sign, left_sign),
+                place: below - 1,
+                significand: significand_of::<S>(low),
+            },
+            unlike: left_sign != right_sign,
         })
     } else {
         None

@@ -4,7 +4,7 @@ ghost use Rattle.std.specs.Prelude.{◌≡◌, ◌+◌, ◌-◌, ◌*◌, ◌/�
 ghost use Rattle.apfloat_model.specs.arithmetic.Exact.{product_sign};
 ghost use Rattle.apfloat_model.specs.arithmetic.Products.{IsProduct};
 ghost use Rattle.apfloat_ieee.specs.FlaggedTypes.{constants_of, format_of};
-ghost use Rattle.apfloat_encoded.specs.Encoded.{IsEncodedAnswer, IsEncodedNumber, value_in};
+ghost use Rattle.apfloat_encoded.specs.Encoded.{IsEncodedAnswer, IsEncodedNumber, IsNumberAnswer, value_in};
 ghost use Rattle.apfloat_encoded.specs.Numbers.{FitsWord, IsFull, quanta_of};
 
 use crate::cuts::{encode_cut, inner_place, power_of};
@@ -117,18 +117,34 @@ fn multiply_numbers<S: Flagged>(x: Number, y: Number, round: Round) -> Option<En
     }
 }
 
-/// The product of two values, if they and their product are normal numbers.
+/// The product of two values in a format that fits in a word, if they and their product are normal numbers.
 #[inline(always)]
-fn multiply_normal<S: Flagged>(x: u128, y: u128, round: Round) -> Option<Encoded>
+fn multiply_words<S: Flagged>(x: u128, y: u128, round: Round) -> Option<Encoded>
     requires bits { S.PRECISION < S.BITS }
     requires word { FitsWord (constants_of S.Flagged) }
     ensures { let c = constants_of S.Flagged in
-        IfSome result (IsEncodedAnswer c
+        IfSome result (IsNumberAnswer c
         (IsProduct (format_of S.Flagged) round (value_in c x) (value_in c y))) }
 {
     if let Some(operands) = normal_operands::<S>(x, y) {
         let Operands { left, right } = operands;
         multiply_numbers::<S>(left, right, round)
+    } else {
+        None
+    }
+}
+
+/// The product of two values as `multiply_bits`, if they and their product are normal numbers of a format that fits in
+/// a word.
+#[inline(always)]
+pub fn multiply_normal<S: Flagged>(x: u128, y: u128, round: Round) -> Option<Encoded>
+    requires { S.PRECISION < S.BITS }
+    ensures { let c = constants_of S.Flagged in
+        IfSome result (IsNumberAnswer c
+        (IsProduct (format_of S.Flagged) round (value_in c x) (value_in c y))) }
+{
+    if fits_word::<S>() {
+        multiply_words::<S>(x, y, round)
     } else {
         None
     }
@@ -149,11 +165,11 @@ fn multiply_values<S: Flagged>(x: u128, y: u128, round: Round) -> Encoded
     }
 }
 
-/// The product of two values in a format that fits in a word.
+/// The product of the values that `x` and `y` encode, rounded once, as `wide_mul_r` of them (IEEE 754-2019 5.4.1). Bits
+/// at and above the width of the format are ignored.
 #[inline(always)]
-fn multiply_words<S: Flagged>(x: u128, y: u128, round: Round) -> Encoded
-    requires bits { S.PRECISION < S.BITS }
-    requires word { FitsWord (constants_of S.Flagged) }
+pub fn multiply_bits<S: Flagged>(x: u128, y: u128, round: Round) -> Encoded
+    requires { S.PRECISION < S.BITS }
     ensures { let c = constants_of S.Flagged in
         IsEncodedAnswer c (IsProduct (format_of S.Flagged) round (value_in c x) (value_in c y))
         result }
@@ -165,19 +181,4 @@ fn multiply_words<S: Flagged>(x: u128, y: u128, round: Round) -> Encoded
     } else {
         multiply_values::<S>(left, right, round)
     }
-}
-
-/// The product of the values that `x` and `y` encode, rounded once, as `wide_mul_r` of them (IEEE 754-2019 5.4.1). Bits
-/// at and above the width of the format are ignored.
-#[inline(always)]
-pub fn multiply_bits<S: Flagged>(x: u128, y: u128, round: Round) -> Encoded
-    requires { S.PRECISION < S.BITS }
-    ensures { let c = constants_of S.Flagged in
-        IsEncodedAnswer c (IsProduct (format_of S.Flagged) round (value_in c x) (value_in c y))
-        result }
-{
-    if fits_word::<S>() {
-        return multiply_words::<S>(x, y, round);
-    }
-    multiply_values::<S>(x, y, round)
 }

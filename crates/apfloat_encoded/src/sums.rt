@@ -1,102 +1,178 @@
 //! Sums and differences.
 
-ghost use Rattle.std.specs.Prelude.{◌≡◌, ◌^◌, ◌<◌, pos, ◌+ℤ◌, IfSome, not};
+ghost use Rattle.std.specs.Prelude.{◌≡◌, ◌+◌, ◌-◌, ◌*◌, ◌%◌, ◌^◌, ◌<◌, ◌≤◌, pos, ◌+ℤ◌, IfSome};
+ghost use Rattle.std.specs.Prelude.{false, true, not, if◌then◌else◌};
+ghost use mathlib.Core.Bool.{beq};
 ghost use Rattle.apfloat_model.specs.arithmetic.Exact.{IsRounded, signed};
 ghost use Rattle.apfloat_model.specs.arithmetic.Sums.{IsDifference, IsSum, zero_sum_sign};
-ghost use Rattle.apfloat_model.specs.rounding.Bounds.{IsWithin, exponent_bound};
+ghost use Rattle.apfloat_model.specs.rounding.RoundingToOdd.{IsRoundedToOdd};
+ghost use Rattle.apfloat_words.specs.Totals.{IsApartToOdd};
 ghost use Rattle.apfloat_ieee.specs.FlaggedTypes.{constants_of, format_of};
-ghost use Rattle.apfloat_encoded.specs.Encoded.{IsEncodedAnswer, value_in};
-ghost use Rattle.apfloat_encoded.specs.Numbers.{FitsWord, IsFull, quanta_of};
+ghost use Rattle.apfloat_encoded.specs.Encoded.{IsEncodedAnswer, IsNumberAnswer, value_in};
+ghost use Rattle.apfloat_encoded.specs.Numbers.{FitsWord, IsFull, IsOrdered, quanta_of};
 
 use crate::encoded::Encoded;
-use crate::numbers::{Number, Operands, fits_word, normal_operands, precision_of, word_of};
+use crate::numbers::{Ordered, fits_word, ordered_numbers, precision_of, word_of};
 use crate::totals::encode_odd;
 use apfloat_base::{ExpInt, Float, Round};
 use apfloat_ieee::{Flagged, IeeeFloat};
-use apfloat_words::{Term, add_word_terms};
 
-/// The number as a term, with its exponent counted from that of the quantum.
+/// The digits that both significands have once they are moved up, so that at least three are free below them.
+const MOVED_DIGITS: u32 = 62;
+
+/// A significand moved up.
 #[inline(always)]
-fn term_of(x: Number) -> Term
-    requires { x.place < 2 ^ 22 }
-    ensures negative { result.negative ≡ x.negative }
-    ensures exponent { result.exponent ≡ pos x.place }
-    ensures within { IsWithin exponent_bound result.exponent }
-    ensures significand { result.significand ≡ x.significand }
+fn moved_up(significand: u64, precision: u32) -> u64
+    requires short { precision ≤ 59 }
+    requires fits { significand < 2 ^ precision }
+    ensures { result ≡ significand * 2 ^ (62 - precision) }
 {
-    Term {
-        negative: x.negative,
-        exponent: x.place as ExpInt,
-        significand: x.significand as u128,
+    significand << (MOVED_DIGITS - precision)
+}
+
+/// The place of the last digit of a significand that was moved up.
+#[inline(always)]
+fn moved_place(place: u32, precision: u32) -> ExpInt
+    requires near { place < 2 ^ 22 }
+    requires short { precision ≤ 59 }
+    ensures { (result +ℤ pos (62 - precision)) ≡ pos place }
+{
+    place as ExpInt - (MOVED_DIGITS - precision) as ExpInt
+}
+
+/// The number, or the next one if it is even and something was lost below it.
+#[inline(always)]
+fn odd_if(number: u64, lost: bool) -> u64
+    ensures { result ≡ (if lost then number + (1 - number % 2) else number) }
+{
+    number | u64::from(lost)
+}
+
+/// A number without its `places` lowest digits, rounded to odd: if anything is lost, the last remaining digit is set.
+#[inline(always)]
+fn cut_to_odd(number: u64, places: u32) -> u64
+    requires { 0 < number }
+    ensures { IsRoundedToOdd 1 result number (2 ^ places) }
+{
+    if places >= 64 {
+        return 1;
     }
+    let whole = number >> places;
+    let lost = whole << places != number;
+    odd_if(whole, lost)
+}
+
+/// The sum or the difference of `high * 2^gap` and `low`, which is not above it, in units of `2^gap`, rounded to odd.
+/// No place at which a format of at most 59 digits cuts it is as low as the last digit, so it is rounded there as the
+/// exact one would be.
+#[inline(always)]
+fn total_of(high: u64, low: u64, gap: u32, unlike: bool) -> u64
+    requires high_full { 2 ^ 61 ≤ high }
+    requires high_fits { high < 2 ^ 62 }
+    requires high_free { high % 2 ≡ 0 }
+    requires low_full { 2 ^ 61 ≤ low }
+    requires low_fits { low < 2 ^ 62 }
+    requires low_free { low % 2 ≡ 0 }
+    requires order { gap ≡ 0 → low ≤ high }
+    ensures together { unlike ≡ false
+        → IsRoundedToOdd (2 ^ 60) result (high * 2 ^ gap + low) (2 ^ gap) }
+    ensures apart { unlike ≡ true
+        → IsApartToOdd (2 ^ 60) (high * 2 ^ gap) low false result (2 ^ gap) }
+{
+    let cut = cut_to_odd(low, gap);
+    if unlike { high - cut } else { high + cut }
 }
 
 /// The sum of two normal numbers, if it is one.
 #[inline(always)]
-fn add_numbers<S: Flagged>(x: Number, y: Number, round: Round) -> Option<Encoded>
+fn add_ordered<S: Flagged>(numbers: Ordered, round: Round) -> Option<Encoded>
     requires bits { S.PRECISION < S.BITS }
     requires word { FitsWord (constants_of S.Flagged) }
-    requires x { IsFull (constants_of S.Flagged) x }
-    requires y { IsFull (constants_of S.Flagged) y }
-    ensures { IfSome result (IsEncodedAnswer (constants_of S.Flagged) (IsRounded
-        (format_of S.Flagged) round (zero_sum_sign round x.negative y.negative)
-        (signed x.negative (quanta_of x) +ℤ signed y.negative (quanta_of y)) 1)) }
+    requires high { IsFull (constants_of S.Flagged) numbers.high }
+    requires low { IsFull (constants_of S.Flagged) numbers.low }
+    requires order { IsOrdered numbers }
+    requires unlike { numbers.unlike
+        ≡ not (beq numbers.high.negative numbers.low.negative) }
+    ensures { let high = numbers.high in
+        let low = numbers.low in
+        IfSome result (IsNumberAnswer (constants_of S.Flagged) (IsRounded
+        (format_of S.Flagged) round (zero_sum_sign round high.negative low.negative)
+        (signed high.negative (quanta_of high) +ℤ signed low.negative (quanta_of low)) 1)) }
 {
     let precision = precision_of::<S>();
-    let left = term_of(x);
-    let right = term_of(y);
-    let total = add_word_terms(precision, left, right);
-    if total.significand == 0 {
+    let Ordered { high, low, unlike } = numbers;
+    let total = total_of(
+        moved_up(high.significand, precision),
+        moved_up(low.significand, precision),
+        high.place - low.place,
+        unlike,
+    );
+    if total == 0 {
         None
     } else {
-        encode_odd::<S>(total.significand, total.exponent, total.negative, round)
+        let place = moved_place(high.place, precision);
+        encode_odd::<S>(total, place, high.negative, round)
     }
 }
 
-/// The number with the opposite sign.
+/// The sum of two values in a format that fits in a word, if they and their sum are normal numbers.
 #[inline(always)]
-fn opposite(x: Number) -> Number
-    ensures negative { result.negative ≡ not x.negative }
-    ensures place { result.place ≡ x.place }
-    ensures significand { result.significand ≡ x.significand }
-{
-    Number {
-        negative: !x.negative,
-        place: x.place,
-        significand: x.significand,
-    }
-}
-
-/// The sum of two values, if they and their sum are normal numbers.
-#[inline(always)]
-fn add_normal<S: Flagged>(x: u128, y: u128, round: Round) -> Option<Encoded>
+fn add_words<S: Flagged>(x: u128, y: u128, round: Round) -> Option<Encoded>
     requires bits { S.PRECISION < S.BITS }
     requires word { FitsWord (constants_of S.Flagged) }
     ensures { let c = constants_of S.Flagged in
-        IfSome result (IsEncodedAnswer c
+        IfSome result (IsNumberAnswer c
         (IsSum (format_of S.Flagged) round (value_in c x) (value_in c y))) }
 {
-    if let Some(operands) = normal_operands::<S>(x, y) {
-        let Operands { left, right } = operands;
-        add_numbers::<S>(left, right, round)
+    if let Some(numbers) = ordered_numbers::<S>(x, y, false) {
+        add_ordered::<S>(numbers, round)
     } else {
         None
     }
 }
 
-/// The difference of two values, if they and their difference are normal numbers.
+/// The difference of two values in a format that fits in a word, if they and their difference are normal numbers.
 #[inline(always)]
-fn subtract_normal<S: Flagged>(x: u128, y: u128, round: Round) -> Option<Encoded>
+fn subtract_words<S: Flagged>(x: u128, y: u128, round: Round) -> Option<Encoded>
     requires bits { S.PRECISION < S.BITS }
     requires word { FitsWord (constants_of S.Flagged) }
     ensures { let c = constants_of S.Flagged in
-        IfSome result (IsEncodedAnswer c
+        IfSome result (IsNumberAnswer c
         (IsDifference (format_of S.Flagged) round (value_in c x) (value_in c y))) }
 {
-    if let Some(operands) = normal_operands::<S>(x, y) {
-        let Operands { left, right } = operands;
-        let added = opposite(right);
-        add_numbers::<S>(left, added, round)
+    if let Some(numbers) = ordered_numbers::<S>(x, y, true) {
+        add_ordered::<S>(numbers, round)
+    } else {
+        None
+    }
+}
+
+/// The sum of two values as `add_bits`, if they and their sum are normal numbers of a format that fits in a word.
+#[inline(always)]
+pub fn add_normal<S: Flagged>(x: u128, y: u128, round: Round) -> Option<Encoded>
+    requires { S.PRECISION < S.BITS }
+    ensures { let c = constants_of S.Flagged in
+        IfSome result (IsNumberAnswer c
+        (IsSum (format_of S.Flagged) round (value_in c x) (value_in c y))) }
+{
+    if fits_word::<S>() {
+        add_words::<S>(x, y, round)
+    } else {
+        None
+    }
+}
+
+/// The difference of two values as `subtract_bits`, if they and their difference are normal numbers of a format that
+/// fits in a word.
+#[inline(always)]
+pub fn subtract_normal<S: Flagged>(x: u128, y: u128, round: Round) -> Option<Encoded>
+    requires { S.PRECISION < S.BITS }
+    ensures { let c = constants_of S.Flagged in
+        IfSome result (IsNumberAnswer c
+        (IsDifference (format_of S.Flagged) round (value_in c x) (value_in c y))) }
+{
+    if fits_word::<S>() {
+        subtract_words::<S>(x, y, round)
     } else {
         None
     }
@@ -131,11 +207,11 @@ fn subtract_values<S: Flagged>(x: u128, y: u128, round: Round) -> Encoded
     }
 }
 
-/// The sum of two values in a format that fits in a word.
+/// The sum of the values that `x` and `y` encode, rounded once, as `add_r` of them (IEEE 754-2019 5.4.1). Bits at and
+/// above the width of the format are ignored.
 #[inline(always)]
-fn add_words<S: Flagged>(x: u128, y: u128, round: Round) -> Encoded
-    requires bits { S.PRECISION < S.BITS }
-    requires word { FitsWord (constants_of S.Flagged) }
+pub fn add_bits<S: Flagged>(x: u128, y: u128, round: Round) -> Encoded
+    requires { S.PRECISION < S.BITS }
     ensures { let c = constants_of S.Flagged in
         IsEncodedAnswer c (IsSum (format_of S.Flagged) round (value_in c x) (value_in c y)) result }
 {
@@ -148,25 +224,11 @@ fn add_words<S: Flagged>(x: u128, y: u128, round: Round) -> Encoded
     }
 }
 
-/// The sum of the values that `x` and `y` encode, rounded once, as `add_r` of them (IEEE 754-2019 5.4.1). Bits at and
-/// above the width of the format are ignored.
+/// The difference of the values that `x` and `y` encode, rounded once, as `sub_r` of them (IEEE 754-2019 5.4.1). Bits
+/// at and above the width of the format are ignored.
 #[inline(always)]
-pub fn add_bits<S: Flagged>(x: u128, y: u128, round: Round) -> Encoded
+pub fn subtract_bits<S: Flagged>(x: u128, y: u128, round: Round) -> Encoded
     requires { S.PRECISION < S.BITS }
-    ensures { let c = constants_of S.Flagged in
-        IsEncodedAnswer c (IsSum (format_of S.Flagged) round (value_in c x) (value_in c y)) result }
-{
-    if fits_word::<S>() {
-        return add_words::<S>(x, y, round);
-    }
-    add_values::<S>(x, y, round)
-}
-
-/// The difference of two values in a format that fits in a word.
-#[inline(always)]
-fn subtract_words<S: Flagged>(x: u128, y: u128, round: Round) -> Encoded
-    requires bits { S.PRECISION < S.BITS }
-    requires word { FitsWord (constants_of S.Flagged) }
     ensures { let c = constants_of S.Flagged in
         IsEncodedAnswer c (IsDifference (format_of S.Flagged) round (value_in c x) (value_in c y))
         result }
@@ -178,19 +240,4 @@ fn subtract_words<S: Flagged>(x: u128, y: u128, round: Round) -> Encoded
     } else {
         subtract_values::<S>(left, right, round)
     }
-}
-
-/// The difference of the values that `x` and `y` encode, rounded once, as `sub_r` of them (IEEE 754-2019 5.4.1). Bits
-/// at and above the width of the format are ignored.
-#[inline(always)]
-pub fn subtract_bits<S: Flagged>(x: u128, y: u128, round: Round) -> Encoded
-    requires { S.PRECISION < S.BITS }
-    ensures { let c = constants_of S.Flagged in
-        IsEncodedAnswer c (IsDifference (format_of S.Flagged) round (value_in c x) (value_in c y))
-        result }
-{
-    if fits_word::<S>() {
-        return subtract_words::<S>(x, y, round);
-    }
-    subtract_values::<S>(x, y, round)
 }

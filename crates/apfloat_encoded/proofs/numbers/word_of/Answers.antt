@@ -5,8 +5,9 @@ use Rattle.apfloat_encoded.specs.Encoded.{value_in}
 use Rattle.apfloat_encoded.proofs.Reading.{word_read}
 use Rattle.apfloat_encoded.proofs.numbers.word_of.Goals as goal
 
-pub returns : goal.returns
-returns g c =
+pub returns-then-fits_word : goal.returns-then-fits_word
+returns-then-fits_word g c =
+    let word = c.fits_word.ensures c.if-fits_word.true in
     ap (λ (n : ℕ). value_in (constants_of g.S.Flagged) n) c.low_digits.ensures
     ∙ word_read (constants_of g.S.Flagged) c.args.bits 64
-    (lawful_interchange (constants_of g.S.Flagged) g.S.Flagged.lawful c.requires.bits) c.requires.word.bits
+    (lawful_interchange (constants_of g.S.Flagged) g.S.Flagged.lawful c.requires) word.bits

@@ -4,10 +4,10 @@ use Rattle.std.proofs.Math.Path.{subst₂}
 use Rattle.apfloat_model.specs.arithmetic.Exact.{product_sign}
 use Rattle.apfloat_model.specs.arithmetic.Products.{IsProduct}
 use Rattle.apfloat_ieee.specs.FlaggedTypes.{constants_of, format_of}
-use Rattle.apfloat_encoded.specs.Encoded.{IsEncodedAnswer}
+use Rattle.apfloat_encoded.specs.Encoded.{IsNumberAnswer}
 use Rattle.apfloat_encoded.specs.Numbers.{quanta_of}
 use Rattle.apfloat_encoded.proofs.Operands.{answered_if_some}
-use Rattle.apfloat_encoded.proofs.products.multiply_normal.Goals as goal
+use Rattle.apfloat_encoded.proofs.products.multiply_words.Goals as goal
 
 pub returns-in-Some : goal.returns-in-Some
 returns-in-Some g c =
@@ -16,7 +16,7 @@ returns-in-Some g c =
     let right = c.in-Some.operands.right in
     let sign = product_sign left.negative right.negative in
     subst₂
-    (λ x y. IfSome c.multiply_numbers.result (IsEncodedAnswer (constants_of g.S.Flagged)
+    (λ x y. IfSome c.multiply_numbers.result (IsNumberAnswer (constants_of g.S.Flagged)
     (IsProduct (format_of g.S.Flagged) c.args.round x y)))
     (sym both.0.read) (sym both.1.read)
     (answered_if_some (constants_of g.S.Flagged) c.args.round sign sign (quanta_of left * quanta_of right)
