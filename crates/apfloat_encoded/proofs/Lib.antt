@@ -5,3 +5,4 @@ pub mod Kept
 pub mod Operands
 pub mod EncodedOnce
 pub mod RootAnswers
+pub mod DecimalNumbers
