@@ -3,6 +3,7 @@ pub mod CutDecimals
 pub mod CutNumbers
 pub mod Cutting
 pub mod NarrowCuts
+pub mod OddProducts
 pub mod Quotients
 pub mod Readings
 pub mod SettledCuts

@@ -1,3 +1,4 @@
+pub mod EightDigits
 pub mod ExactDecimals
 pub mod ExactSignificands
 pub mod FoundDigits

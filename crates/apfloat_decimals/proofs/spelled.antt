@@ -9,3 +9,4 @@ pub mod TextParts
 pub mod TextReadings
 pub mod WrittenNumbers
 pub mod WrittenTexts
+pub mod Signs

@@ -3,9 +3,11 @@ pub mod CutDecimals
 pub mod Cuts
 pub mod DecimalTexts
 pub mod Decimals
+pub mod Eights
 pub mod ExactDecimals
 pub mod Intervals
 pub mod LeadingDigits
+pub mod OddDecimals
 pub mod OneReading
 pub mod Parsing
 pub mod Reach

@@ -5,7 +5,8 @@
 //! powers of five (`powers_of_five`) if bounds of the product settle the result (`bounded_cut`), as Eisel and Lemire
 //! do, and otherwise by an exact division, in 128 binary digits (`short_division`) or in words on the stack
 //! (`long_division`, `large`). Before that, for digits of one word, the first 64 binary digits of that product are
-//! tried (`word_scaling`). `FromStr` of a `Decimal` keeps the digits of its text (`parsing`).
+//! tried (`word_scaling`). `FromStr` of a `Decimal` keeps the digits of its text (`parsing`). For callers that want
+//! bits, `short_numeral` reads a short text, and `rounded_to_odd` gives its number for a rounding of theirs.
 //!
 //! Writing: `shortest` finds the shortest decimal that reads back as a value: from the interval of the numbers that are
 //! rounded to it (`shortest_interval`), or from its first digits (`shortest_guess`, `shortest_decimal`). `rounded`
@@ -46,4 +47,6 @@ pub use parsing::{DecimalError, decimal_text_once, one_reading, written_text};
 pub use round_trips::shortest_reads_back;
 pub use rounded_decimal::{rounded, rounded_once};
 pub use shortest_decimal::{first_place, shortest, shortest_once};
+pub use texts::short_numerals::{ShortNumeral, short_numeral};
 pub use texts::{read_decimal, read_decimal_ascii};
+pub use word_scaling::{Odd, rounded_to_odd};

@@ -4,11 +4,13 @@
 //! A value is unpacked to compute with it, and packed to write its bits, and both ways treat zeros, denormal numbers,
 //! infinities and NaNs apart. Where operands and the result are normal numbers of formats of at most 64 bits with an
 //! implied integer bit, none of that is needed: the fields give the significands, and the rounded significand is added
-//! to its place. All other cases are left to `IeeeFloat`.
+//! to its place. All other cases are left to `IeeeFloat`. Decimal texts are read into encodings in the same way
+//! (`decimals`).
 #![tactic(auto)]
 
 mod conversions;
 mod cuts;
+mod decimals;
 mod encoded;
 mod numbers;
 mod products;
@@ -18,6 +20,7 @@ mod theorems;
 mod totals;
 
 pub use conversions::convert_normal;
+pub use decimals::read_decimal_bits;
 pub use encoded::Encoded;
 pub use numbers::{biased_exponent, is_minus};
 pub use products::{multiply_bits, multiply_normal};

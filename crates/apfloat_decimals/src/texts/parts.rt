@@ -9,6 +9,7 @@ ghost use Rattle.apfloat_hex_texts.specs.Saturation.{IsNear, count_bound, far_bo
 ghost use Rattle.apfloat_decimals.specs.DecimalTexts.{fraction_in, after_fraction, fault_after};
 ghost use Rattle.apfloat_decimals.specs.LeadingDigits.{number_from};
 
+use crate::texts::eights::eights;
 use apfloat_hex_texts::{is_decimal, signed_number};
 use apfloat_model::parse_error::Fault;
 
@@ -77,6 +78,20 @@ pub fn split_number(text: &[u8], first: u64) -> (&[u8], &[u8], u64)
     (digits, rest, number)
 }
 
+/// The same, with groups of eight digits taken at once: for texts that are often long.
+#[inline(always)]
+fn split_long_number(text: &[u8], first: u64) -> (&[u8], &[u8], u64)
+    ensures digits { result.0.now ≡ run is_decimal text.now }
+    ensures rest { result.1.now ≡ after_run is_decimal text.now }
+    ensures number { result.2 ≡ number_from first (run is_decimal text.now) % 2 ^ 64 }
+{
+    let (count, before) = eights(text, first);
+    let (_, left) = text.split_at(count);
+    let (few, _, number) = split_number(left, before);
+    let (digits, rest) = text.split_at(count + few.len());
+    (digits, rest, number)
+}
+
 /// The digits after a dot, if the text begins with one, what follows them, and the number that all digits spell.
 #[inline(always)]
 pub fn split_fraction_number(rest: &[u8], first: u64) -> (&[u8], &[u8], u64)
@@ -85,7 +100,7 @@ pub fn split_fraction_number(rest: &[u8], first: u64) -> (&[u8], &[u8], u64)
     ensures number { result.2 ≡ number_from first (fraction_in rest.now) % 2 ^ 64 }
 {
     match rest {
-        [b'.', tail @ ..] => split_number(tail, first),
+        [b'.', tail @ ..] => split_long_number(tail, first),
         _ => (&[], rest, first),
     }
 }
