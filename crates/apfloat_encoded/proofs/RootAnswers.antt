@@ -72,8 +72,8 @@ root_full precision places m whole loss some long short fits full is =
 -- ---- guesses
 
 -- a significand moved to the top of a word, or one place below it
-pub root_top : (precision m odd : ℕ) → 0 < precision → precision ≤ 59 → odd ≤ 1 → 2 ^ (precision - 1) ≤ m
-    → m < 2 ^ precision → 2 ^ 62 ≤ m * 2 ^ (63 - precision + odd) % 2 ^ 64
+pub root_top : (precision m odd : ℕ) → 0 < precision → precision ≤ 59 → odd ≤ 1
+    → 2 ^ (precision - 1) ≤ m → m < 2 ^ precision → 2 ^ 62 ≤ m * 2 ^ (63 - precision + odd) % 2 ^ 64
 root_top precision m odd some short few full fits =
     let low : 2 ^ (precision - 1) * 2 ^ (63 - precision + odd) ≤ m * 2 ^ (63 - precision + odd) =
     mul-le-mul_right (2 ^ (63 - precision + odd)) full in
