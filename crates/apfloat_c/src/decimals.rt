@@ -5,18 +5,21 @@ ghost use Rattle.rustc_apfloat.specs.Lawful.{format_with};
 ghost use Rattle.rustc_apfloat.specs.Types.{constants_of, format_of};
 ghost use Rattle.apfloat_decimals.specs.ShortestSearch.{IsWithinQuad};
 ghost use Rattle.apfloat_decimals.specs.Texts.{sign_text};
+ghost use Rattle.formats_at_run_time.specs.BuiltIns.{kind_of};
 ghost use Rattle.formats_at_run_time.specs.FlaggedKinds.{flagged_kind_coded};
 ghost use Rattle.formats_at_run_time.specs.FormatKinds.{IfFormat};
 ghost use Rattle.formats_at_run_time.specs.Modes.{mode_coded};
-ghost use Rattle.formats_at_run_time.specs.Relations.{in_format, in_pairs};
+ghost use Rattle.formats_at_run_time.specs.Relations.{in_pairs};
 ghost use Rattle.apfloat_c.specs.Answers.{IsWritten, whole};
 ghost use Rattle.apfloat_c.specs.Decimals.{IsDecimalOutcome, IsKindText, IsParsed, IsShortestWritten, IsText};
 ghost use Rattle.apfloat_c.specs.Decimals.{IsValueText, decimal_kind, known_reading, text_format, text_of_shortest};
 
+use crate::answers::with_bits;
 use crate::codes::{ANSWERED, NO_SUCH_OPERATION, REFUSED_TEXT, UNKNOWN_FORMAT, UNKNOWN_MODE};
 use crate::data::{Answer, Halves};
 use apfloat_decimals::formatting::{CAPACITY, Line, put_decimal};
-use apfloat_decimals::{Decimal, read_decimal_ascii, shortest};
+use apfloat_decimals::{Decimal, shortest};
+use apfloat_encoded::read_decimal_bits;
 use formats_at_run_time::{BuiltInKind, FlaggedFormat, FlaggedKind, InFormat, InKind, mode_coded};
 use pair_decimals::read_decimal_pair_ascii;
 use rustc_apfloat::ieee::{IeeeFloat, Semantics};
@@ -58,7 +61,7 @@ pub extern "C" fn apfloat_parse_decimal(
     let Some(kind) = decimal_kind(kind) else {
         return NO_SUCH_OPERATION;
     };
-    match kind.run(DecimalReading { round, text }) {
+    match read_in(kind, round, text) {
         Some(read) => {
             *answer = read;
             ANSWERED
@@ -97,6 +100,18 @@ fn decimal_kind(kind: FlaggedKind) -> Option<BuiltInKind>
     }
 }
 
+/// What a text is read as in a kind of values. It is in line, as `BuiltInKind::run` is not.
+#[inline(always)]
+fn read_in(kind: BuiltInKind, round: Round, text: &[u8]) -> Option<Answer>
+    ensures { IsDecimalOutcome (kind_of kind) round text.now result }
+{
+    let reading = DecimalReading { round, text };
+    match kind {
+        BuiltInKind::OfFormat(format) => format.run(reading),
+        BuiltInKind::Pairs => reading.in_pairs(),
+    }
+}
+
 /// A text to be read.
 #[derive(Clone, Copy)]
 struct DecimalReading<'a> {
@@ -112,8 +127,8 @@ impl InFormat for DecimalReading<'_> {
     ghost gives = { λ it kind answer. IsDecimalOutcome kind it.round it.text.now answer };
 
     fn in_format<S: Semantics>(self) -> Option<Answer> {
-        match read_decimal_ascii::<S>(self.text, self.round) {
-            Ok(read) => Some(in_bits(read)),
+        match read_decimal_bits::<S>(self.text, self.round) {
+            Ok(read) => Some(with_bits(read)),
             Err(_) => None,
         }
     }
@@ -126,14 +141,6 @@ impl InKind for DecimalReading<'_> {
             Err(_) => None,
         }
     }
-}
-
-/// A value of a format with its flags.
-fn in_bits<S: Semantics>(read: StatusAnd<IeeeFloat<S>>) -> Answer
-    requires { S.PRECISION < S.BITS }
-    ensures { IsWritten (in_format (constants_of S.Semantics)) read (pos 0) result }
-{
-    Answer::of(read.value.to_bits(), read.status, 0)
 }
 
 /// A pair with its flags.

@@ -1,17 +1,28 @@
-use Rattle.std.proofs.Common.{ap, Option}
+use Rattle.std.proofs.Common.{ℕ, ap, Option, subst, sym}
 use Rattle.std.specs.Prelude.{is_some}
+use Rattle.rustc_apfloat.specs.Layout.{IsEncodedBy}
+use Rattle.rustc_apfloat.specs.Types.{format_of, layout_of}
 use Rattle.apfloat_model.specs.declared.parse_error.Fault.{Fault}
 use Rattle.apfloat_model.specs.rounding.Flags.{bits_of}
-use Rattle.rustc_apfloat.specs.Types.{format_of}
 use Rattle.apfloat_c.proofs.MeaningfulTexts.{read_ascii}
 use Rattle.apfloat_c.proofs.decimals.DecimalReadingInFormat.in_format.Goals as goal
 
 pub returns-in-Ok : goal.returns-in-Ok
 returns-in-Ok g c =
-    let read = c.in-Ok.read in (
-      read_ascii (format_of g.S.Semantics) c.args.self.round c.args.self.text.now read.value (bits_of read.status)
-          c.in-Ok.ensures,
-      record { given = read; holds = c.in-Ok.ensures; is_written = c.in_bits.ensures },
+    let answer = c.in-Ok.ensures in (
+      read_ascii (format_of g.S.Semantics) c.args.self.round c.args.self.text.now answer.value
+          (bits_of c.in-Ok.read.status) answer.says,
+      record {
+        given = record { status = c.in-Ok.read.status; value = answer.value };
+        holds = answer.says;
+        is_written = record {
+          is_encoded =
+              subst (λ (bits : ℕ). IsEncodedBy (format_of g.S.Semantics) (layout_of g.S.Semantics) bits answer.value)
+              (sym c.with_bits.ensures.bits) answer.is_encoded;
+          status_is = c.with_bits.ensures.status;
+          number_is = c.with_bits.ensures.number;
+        };
+      },
     )
 
 pub returns-in-Err : goal.returns-in-Err
