@@ -375,12 +375,14 @@ pub fn known_operation(
     })
 }
 
-/// The request for a fused sum of these codes, if all of them are known and the format has more than 64 bits.
+/// The request of these codes, if all of them are known, it is no conversion, and the format has more than 64 bits.
 #[inline(always)]
-pub fn known_wide_fused_sum(
+pub fn known_wide_operation(
     machine: u32,
+    code: u32,
     format: u32,
     mode: u32,
+    to: u32,
     x: Halves,
     y: Halves,
     z: Halves,
@@ -390,9 +392,15 @@ pub fn known_wide_fused_sum(
     ensures format { IfSome result (λ known.
         option_and_then machine_format (flagged_kind_coded format) ≡ Some known.format) }
     ensures call { IfSome result (λ known.
-        machine_call 7 0 (whole x) (whole y) (whole z) ≡ Ok (Operation known.operation)) }
+        machine_call code to (whole x) (whole y) (whole z) ≡ Ok (Operation known.operation)) }
 {
-    let operation = MachineOperation::FusedSum(x.number(), y.number(), z.number());
+    if code == CONVERSION {
+        return None;
+    }
+    let (first, second, third) = (x.number(), y.number(), z.number());
+    let Some(operation) = machine_operation(code, to, first, second, third) else {
+        return None;
+    };
     let Some(machine) = machine_coded(machine) else {
         return None;
     };

@@ -37,11 +37,11 @@ use crate::data::{Answer, Halves};
 use crate::ieee_answers::{value, written};
 use crate::machine_call::{
     KnownOperation, MachineCall, MachineFormat, MachineOperation, known_operation, known_source,
-    known_wide_fused_sum, machine_call, machine_coded,
+    known_wide_operation, machine_call, machine_coded,
 };
 use crate::usual_operands::{
     are_normal, are_normal_of_three, are_usual, are_usual_of_three, both_fit, fits, is_divisor,
-    is_normal, is_normal_beyond_words, is_number, is_root_of, three_words, two_words,
+    is_normal, is_normal_beyond_words, is_number, is_root_of, one_word, three_words, two_words,
 };
 use apfloat_comparisons::round_to_integral_in;
 use apfloat_encoded::convert_normal;
@@ -624,9 +624,8 @@ fn root<S: Flagged>(answer: &mut Answer, machine: Machine, round: Round, x: u128
     ANSWERED
 }
 
-/// A value rounded to an integral value, with INEXACT. Of normal numbers it is the plain one; those of at most 64 bits
-/// are found among all numbers by tests that the plain call makes too.
-#[inline(never)]
+/// A value rounded to an integral value, with INEXACT. In a format of at most 64 bits it is passed as a word.
+#[inline(always)]
 fn integral_exact_in<S: Flagged>(
     answer: &mut Answer,
     machine: Machine,
@@ -637,7 +636,45 @@ fn integral_exact_in<S: Flagged>(
     ensures { IsMachineLeftIn (of_format (constants_of S.Flagged)) machine round (IntegralExact x)
         answer.old answer.new result }
 {
-    if S::BITS > 64 && is_normal::<S>(x) {
+    if S::BITS <= 64 {
+        if let Some(x) = one_word(x) {
+            integral_exact_of_word::<S>(answer, machine, round, x)
+        } else {
+            integral_exact::<S>(answer, machine, round, x)
+        }
+    } else {
+        integral_exact_of_value::<S>(answer, machine, round, x)
+    }
+}
+
+/// A word rounded to an integral value, with INEXACT. Numbers are found by tests that the plain call makes too.
+#[inline(never)]
+fn integral_exact_of_word<S: Flagged>(
+    answer: &mut Answer,
+    machine: Machine,
+    round: Round,
+    x: u64,
+) -> u32
+    requires { S.PRECISION < S.BITS }
+    ensures { IsMachineLeftIn (of_format (constants_of S.Flagged)) machine round (IntegralExact x)
+        answer.old answer.new result }
+{
+    usual_integral_exact::<S>(answer, machine, round, x as u128)
+}
+
+/// A value of more than 64 bits rounded to an integral value, with INEXACT: the plain one of a normal number.
+#[inline(never)]
+fn integral_exact_of_value<S: Flagged>(
+    answer: &mut Answer,
+    machine: Machine,
+    round: Round,
+    x: u128,
+) -> u32
+    requires { S.PRECISION < S.BITS }
+    ensures { IsMachineLeftIn (of_format (constants_of S.Flagged)) machine round (IntegralExact x)
+        answer.old answer.new result }
+{
+    if is_normal::<S>(x) {
         wide_integral_exact::<S>(answer, round, x);
         ANSWERED
     } else {
@@ -733,9 +770,99 @@ fn integral<S: Flagged>(answer: &mut Answer, machine: Machine, round: Round, x: 
     *answer = written(settled_unary(machine, x, round_to_integral_in(x, round)));
 }
 
-/// A value as an integer, if its bits fit.
-#[inline(never)]
+/// A value as an integer, which in a format of at most 64 bits is passed as a word.
+#[inline(always)]
 fn to_unsigned_in<S: Flagged>(
+    answer: &mut Answer,
+    machine: Machine,
+    round: Round,
+    x: u128,
+    width: u32,
+) -> u32
+    requires { S.PRECISION < S.BITS }
+    ensures { IsMachineLeftIn (of_format (constants_of S.Flagged)) machine round
+        (ToUnsigned x width) answer.old answer.new result }
+{
+    if S::BITS <= 64 {
+        if let Some(x) = one_word(x) {
+            to_unsigned_of_word::<S>(answer, machine, round, x, width)
+        } else {
+            fitting_to_unsigned::<S>(answer, machine, round, x, width)
+        }
+    } else {
+        to_unsigned_of_value::<S>(answer, machine, round, x, width)
+    }
+}
+
+/// A word as an integer.
+#[inline(never)]
+fn to_unsigned_of_word<S: Flagged>(
+    answer: &mut Answer,
+    machine: Machine,
+    round: Round,
+    x: u64,
+    width: u32,
+) -> u32
+    requires { S.PRECISION < S.BITS }
+    ensures { IsMachineLeftIn (of_format (constants_of S.Flagged)) machine round
+        (ToUnsigned x width) answer.old answer.new result }
+{
+    valid_to_unsigned::<S>(answer, machine, round, x as u128, width)
+}
+
+/// A value of more than 64 bits as an integer.
+#[inline(never)]
+fn to_unsigned_of_value<S: Flagged>(
+    answer: &mut Answer,
+    machine: Machine,
+    round: Round,
+    x: u128,
+    width: u32,
+) -> u32
+    requires { S.PRECISION < S.BITS }
+    ensures { IsMachineLeftIn (of_format (constants_of S.Flagged)) machine round
+        (ToUnsigned x width) answer.old answer.new result }
+{
+    valid_to_unsigned::<S>(answer, machine, round, x, width)
+}
+
+/// A value as an integer: the plain one in line, if it is valid.
+#[inline(always)]
+fn valid_to_unsigned<S: Flagged>(
+    answer: &mut Answer,
+    machine: Machine,
+    round: Round,
+    x: u128,
+    width: u32,
+) -> u32
+    requires { S.PRECISION < S.BITS }
+    ensures { IsMachineLeftIn (of_format (constants_of S.Flagged)) machine round
+        (ToUnsigned x width) answer.old answer.new result }
+{
+    if is_width(1, width) && fits::<S>(x) {
+        let given = value::<S>(x);
+        let mut is_exact = false;
+        let plain = given.to_u128_r(width as usize, round, &mut is_exact);
+        if plain.status == Status::INVALID_OP {
+            fitting_to_unsigned::<S>(answer, machine, round, x, width)
+        } else {
+            match settled_unsigned(machine, given, width as usize, plain) {
+                None => LACKING_OPERATION,
+                Some(integer) => {
+                    *answer = Answer::of(integer.value, integer.status, 0);
+                    ANSWERED
+                }
+            }
+        }
+    } else {
+        fitting_to_unsigned::<S>(answer, machine, round, x, width)
+    }
+}
+
+/// A value as an integer, if its bits fit.
+#[cold]
+#[inline(never)]
+fn fitting_to_unsigned<S: Flagged>(
     answer: &mut Answer,
     machine: Machine,
     round: Round,
@@ -753,8 +880,8 @@ fn to_unsigned_in<S: Flagged>(
     }
 }
 
-/// A value as a signed integer: the plain one in line, if it is valid.
-#[inline(never)]
+/// A value as a signed integer, which in a format of at most 64 bits is passed as a word.
+#[inline(always)]
 fn to_signed_in<S: Flagged>(
     answer: &mut Answer,
     machine: Machine,
@@ -766,12 +893,71 @@ fn to_signed_in<S: Flagged>(
     ensures { IsMachineLeftIn (of_format (constants_of S.Flagged)) machine round (ToSigned x width)
         answer.old answer.new result }
 {
+    if S::BITS <= 64 {
+        if let Some(x) = one_word(x) {
+            to_signed_of_word::<S>(answer, machine, round, x, width)
+        } else {
+            fitting_to_signed::<S>(answer, machine, round, x, width)
+        }
+    } else {
+        to_signed_of_value::<S>(machine, x, round, width, answer)
+    }
+}
+
+/// A word as a signed integer.
+#[inline(never)]
+fn to_signed_of_word<S: Flagged>(
+    answer: &mut Answer,
+    machine: Machine,
+    round: Round,
+    x: u64,
+    width: u32,
+) -> u32
+    requires { S.PRECISION < S.BITS }
+    ensures { IsMachineLeftIn (of_format (constants_of S.Flagged)) machine round (ToSigned x width)
+        answer.old answer.new result }
+{
+    valid_to_signed::<S>(answer, machine, round, x as u128, width)
+}
+
+/// A value of more than 64 bits as a signed integer. Most parameters have the places, and so the registers, that they
+/// have in `apfloat_machine`.
+#[inline(never)]
+fn to_signed_of_value<S: Flagged>(
+    machine: Machine,
+    x: u128,
+    round: Round,
+    width: u32,
+    answer: &mut Answer,
+) -> u32
+    requires { S.PRECISION < S.BITS }
+    ensures { IsMachineLeftIn (of_format (constants_of S.Flagged)) machine round (ToSigned x width)
+        answer.old answer.new result }
+{
+    valid_to_signed::<S>(answer, machine, round, x, width)
+}
+
+/// A value as a signed integer: the plain one in line, if it is valid. Meanwhile the value is kept in the answer, so
+/// that it takes no registers.
+#[inline(always)]
+fn valid_to_signed<S: Flagged>(
+    answer: &mut Answer,
+    machine: Machine,
+    round: Round,
+    x: u128,
+    width: u32,
+) -> u32
+    requires { S.PRECISION < S.BITS }
+    ensures { IsMachineLeftIn (of_format (constants_of S.Flagged)) machine round (ToSigned x width)
+        answer.old answer.new result }
+{
     if is_width(2, width) && fits::<S>(x) {
+        answer.bits = Halves::of(x);
         let given = value::<S>(x);
         let mut is_exact = false;
         let plain = given.to_i128_r(width as usize, round, &mut is_exact);
         if plain.status == Status::INVALID_OP {
-            fitting_to_signed::<S>(answer, machine, round, x, width)
+            kept_to_signed::<S>(answer, machine, round, width)
         } else {
             let integer = settled_signed(machine, given, width as usize, plain);
             *answer = Answer::of(integer.value.cast_unsigned(), integer.status, 0);
@@ -780,6 +966,23 @@ fn to_signed_in<S: Flagged>(
     } else {
         fitting_to_signed::<S>(answer, machine, round, x, width)
     }
+}
+
+/// The value whose bits are in the answer, as a signed integer, if they fit.
+#[cold]
+#[inline(never)]
+fn kept_to_signed<S: Flagged>(
+    answer: &mut Answer,
+    machine: Machine,
+    round: Round,
+    width: u32,
+) -> u32
+    requires { S.PRECISION < S.BITS }
+    ensures { IsMachineLeftIn (of_format (constants_of S.Flagged)) machine round
+        (ToSigned (whole answer.old.bits) width) answer.old answer.new result }
+{
+    let x = answer.bits.number();
+    fitting_to_signed::<S>(answer, machine, round, x, width)
 }
 
 /// A value as a signed integer, if its bits fit.
@@ -872,32 +1075,6 @@ fn to_unsigned<S: Flagged>(
 
 /// The integer, if the machine has unsigned ones.
 fn unsigned_integer<S: Flagged>(
-    machine: Machine,
-    round: Round,
-    x: u128,
-    width: usize,
-) -> Option<StatusAnd<u128>>
-    requires bits { S.PRECISION < S.BITS }
-    requires low { 1 ≤ width }
-    requires high { width ≤ 128 }
-    ensures { let c = constants_of S.Flagged in
-        let says = IsMachineUnsigned (format_with c) machine round width (value_of c x) in
-        IsOffered (has_unsigned machine) (λ given. Gives says given) result }
-{
-    let given = value::<S>(x);
-    let mut is_exact = false;
-    let plain = given.to_u128_r(width, round, &mut is_exact);
-    if plain.status == Status::INVALID_OP {
-        invalid_unsigned::<S>(machine, round, x, width)
-    } else {
-        settled_unsigned(machine, given, width, plain)
-    }
-}
-
-/// The integer of an invalid conversion, or of any.
-#[cold]
-#[inline(never)]
-fn invalid_unsigned<S: Flagged>(
     machine: Machine,
     round: Round,
     x: u128,
@@ -1281,23 +1458,27 @@ pub extern "C" fn apfloat_machine(
     // register.
     if 1 <= operation && operation <= 10 {
         match operation {
-            1 => on_machine(machine, 1, format, mode, 0, x, y, NOTHING, answer),
-            2 => on_machine(machine, 2, format, mode, 0, x, y, NOTHING, answer),
-            3 => on_machine(machine, 3, format, mode, 0, x, y, NOTHING, answer),
-            4 => on_machine(machine, 4, format, mode, 0, x, y, NOTHING, answer),
+            1 => two_on_machine(machine, 1, format, mode, x, y, answer),
+            2 => two_on_machine(machine, 2, format, mode, x, y, answer),
+            3 => two_on_machine(machine, 3, format, mode, x, y, answer),
+            4 => two_on_machine(machine, 4, format, mode, x, y, answer),
             5 => any_on_machine(machine, 5, format, mode, 0, x, y, NOTHING, answer),
             6 => any_on_machine(machine, 6, format, mode, 0, x, y, NOTHING, answer),
             7 => fused_on_machine(machine, format, mode, x, y, z, answer),
-            8 => on_machine(machine, 8, format, mode, 0, x, NOTHING, NOTHING, answer),
-            9 => on_machine(machine, 9, format, mode, 0, x, NOTHING, NOTHING, answer),
-            10 => on_machine(machine, 10, format, mode, 0, x, NOTHING, NOTHING, answer),
+            8 => one_on_machine(machine, 8, format, mode, 0, x, answer),
+            9 => one_on_machine(machine, 9, format, mode, 0, x, answer),
+            10 => one_on_machine(machine, 10, format, mode, 0, x, answer),
             _ => any_on_machine(machine, operation, format, mode, to, x, y, z, answer),
+        }
+    } else if operation >= 13 {
+        match operation {
+            13 => one_on_machine(machine, 13, format, mode, to, x, answer),
+            _ => any_on_machine(machine, operation, format, mode, to, x, y, NOTHING, answer),
         }
     } else {
         match operation {
             11 => converted_on_machine(machine, format, mode, to, x, answer),
-            12 => on_machine(machine, 12, format, mode, to, x, NOTHING, NOTHING, answer),
-            13 => on_machine(machine, 13, format, mode, to, x, NOTHING, NOTHING, answer),
+            12 => one_on_machine(machine, 12, format, mode, to, x, answer),
             _ => any_on_machine(machine, operation, format, mode, to, x, y, NOTHING, answer),
         }
     }
@@ -1306,7 +1487,7 @@ pub extern "C" fn apfloat_machine(
 /// What stands for an operand that an operation does not take.
 const NOTHING: Halves = Halves { low: 0, high: 0 };
 
-/// The same as `apfloat_machine`.
+/// The same as `apfloat_machine`, of any operands. Few words leave it enough registers.
 #[inline(always)]
 fn on_machine(
     machine: u32,
@@ -1337,7 +1518,57 @@ fn on_machine(
     }
 }
 
-/// The same as `apfloat_machine`, of the fused sum. Three words leave it enough registers.
+/// The same as `apfloat_machine`, of an operation on one value.
+#[inline(always)]
+fn one_on_machine(
+    machine: u32,
+    operation: u32,
+    format: u32,
+    mode: u32,
+    to: u32,
+    x: Halves,
+    answer: &mut Answer,
+) -> u32
+    ensures { let call = machine_call operation to (whole x) 0 0 in
+        IsMachineReply (known_machine_call (flagged_kind_coded format) (mode_coded mode) call
+        (machine_coded machine)) answer.old answer.new result }
+{
+    if let Some(word) = one_word(x.number()) {
+        let x = Halves::of_word(word);
+        on_machine(
+            machine, operation, format, mode, to, x, NOTHING, NOTHING, answer,
+        )
+    } else {
+        wide_on_machine(
+            machine, operation, format, mode, to, x, NOTHING, NOTHING, answer,
+        )
+    }
+}
+
+/// The same as `apfloat_machine`, of an operation on two values.
+#[inline(always)]
+fn two_on_machine(
+    machine: u32,
+    operation: u32,
+    format: u32,
+    mode: u32,
+    x: Halves,
+    y: Halves,
+    answer: &mut Answer,
+) -> u32
+    ensures { let call = machine_call operation 0 (whole x) (whole y) 0 in
+        IsMachineReply (known_machine_call (flagged_kind_coded format) (mode_coded mode) call
+        (machine_coded machine)) answer.old answer.new result }
+{
+    if let Some((x, y)) = two_words(x.number(), y.number()) {
+        let (x, y) = (Halves::of_word(x), Halves::of_word(y));
+        on_machine(machine, operation, format, mode, 0, x, y, NOTHING, answer)
+    } else {
+        wide_on_machine(machine, operation, format, mode, 0, x, y, NOTHING, answer)
+    }
+}
+
+/// The same as `apfloat_machine`, of the fused sum.
 #[inline(always)]
 fn fused_on_machine(
     machine: u32,
@@ -1356,26 +1587,28 @@ fn fused_on_machine(
         let (x, y, z) = (Halves::of_word(x), Halves::of_word(y), Halves::of_word(z));
         on_machine(machine, 7, format, mode, 0, x, y, z, answer)
     } else {
-        wide_fused_on_machine(machine, format, mode, x, y, z, answer)
+        wide_on_machine(machine, 7, format, mode, 0, x, y, z, answer)
     }
 }
 
-/// The same as `fused_on_machine`, of operands that are not all words: few formats have them.
+/// The same as `on_machine`, of operands that are not all words: few formats have them.
 #[inline(always)]
-fn wide_fused_on_machine(
+fn wide_on_machine(
     machine: u32,
+    operation: u32,
     format: u32,
     mode: u32,
+    to: u32,
     x: Halves,
     y: Halves,
     z: Halves,
     answer: &mut Answer,
 ) -> u32
-    ensures { let call = machine_call 7 0 (whole x) (whole y) (whole z) in
+    ensures { let call = machine_call operation to (whole x) (whole y) (whole z) in
         IsMachineReply (known_machine_call (flagged_kind_coded format) (mode_coded mode) call
         (machine_coded machine)) answer.old answer.new result }
 {
-    match known_wide_fused_sum(machine, format, mode, x, y, z) {
+    match known_wide_operation(machine, operation, format, mode, to, x, y, z) {
         Some(known) => {
             let KnownOperation {
                 machine,
@@ -1385,7 +1618,7 @@ fn wide_fused_on_machine(
             } = known;
             operated(machine, format, round, operation, answer)
         }
-        None => any_on_machine(machine, 7, format, mode, 0, x, y, z, answer),
+        None => any_on_machine(machine, operation, format, mode, to, x, y, z, answer),
     }
 }
 

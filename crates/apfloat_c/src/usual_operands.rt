@@ -34,6 +34,14 @@ pub fn both_fit<S: Flagged>(x: u128, y: u128) -> bool
     fits::<S>(x) && fits::<S>(y)
 }
 
+/// It as a word, or none, where the general way is as good.
+#[inline(always)]
+pub fn one_word(x: u128) -> Option<u64>
+    ensures { IfSome result (λ word. word ≡ x) }
+{
+    if x < 1 << 64 { Some(x as u64) } else { None }
+}
+
 /// Both as words, or none, where the general way is as good.
 #[inline(always)]
 pub fn two_words(x: u128, y: u128) -> Option<(u64, u64)>

@@ -9,19 +9,19 @@ use Rattle.apfloat_machines.specs.WholeNumbers.{IsMachineUnsigned, IsSettledUnsi
 use Rattle.apfloat_c.proofs.MachineAnswers.{offered}
 use Rattle.apfloat_c.proofs.machine_operations.unsigned_integer.Goals as goal
 
-pub returns-else-eq : goal.returns-else-eq
-returns-else-eq g c =
+pub returns : goal.returns
+returns g c =
     let f = format_with (constants_of g.S.Flagged) in
     let has = has_unsigned c.args.machine in
     subst
     (λ x. IsOffered has
     (λ (given : StatusAnd ℕ). Gives (IsMachineUnsigned f c.args.machine c.args.round c.args.width x) given)
     c.settled_unsigned.result)
-    c.value-given.ensures
+    c.value-x.ensures
     (offered has
-    (IsSettledUnsigned f c.args.machine c.value-given.result c.args.width c.to_u128_r-plain.result)
+    (IsSettledUnsigned f c.args.machine c.value-x.result c.args.width c.to_u128_r-plain.result)
     (λ (given : StatusAnd ℕ).
-    Gives (IsMachineUnsigned f c.args.machine c.args.round c.args.width c.value-given.result) given)
+    Gives (IsMachineUnsigned f c.args.machine c.args.round c.args.width c.value-x.result) given)
     c.settled_unsigned.result
     (λ answer settled. settled.whole c.args.round c.to_u128_r-plain.new.is_exact c.to_u128_r-plain.ensures.answer)
     c.settled_unsigned.ensures)

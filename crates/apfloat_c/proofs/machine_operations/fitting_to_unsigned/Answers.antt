@@ -3,7 +3,7 @@ use Rattle.rustc_apfloat.specs.FlaggedTypes.{constants_of}
 use Rattle.apfloat_c.specs.declared.machine_call.MachineOperation.TheVariants.{ToUnsigned}
 use Rattle.apfloat_c.specs.MachineCalls.{IsMachineAnswer}
 use Rattle.apfloat_c.proofs.UsualAnswers.{fitting, too_wide}
-use Rattle.apfloat_c.proofs.machine_operations.to_unsigned_in.Goals as goal
+use Rattle.apfloat_c.proofs.machine_operations.fitting_to_unsigned.Goals as goal
 
 pub returns-then-fits : goal.returns-then-fits
 returns-then-fits g c = λ infinite.

@@ -1,6 +1,6 @@
 use Rattle.rustc_apfloat.specs.FlaggedTypes.{constants_of}
 use Rattle.apfloat_c.proofs.UsualAnswers.{divisor_is_number, usual_integral}
-use Rattle.apfloat_c.proofs.machine_operations.integral_exact_in.Goals as goal
+use Rattle.apfloat_c.proofs.machine_operations.integral_exact_of_value.Goals as goal
 
 pub returns-then-is_normal : goal.returns-then-is_normal
 returns-then-is_normal g c = λ infinite.
