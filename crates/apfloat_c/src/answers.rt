@@ -20,7 +20,9 @@ use crate::codes::{
     one_if, order_code,
 };
 use crate::data::Answer;
-use apfloat_encoded::{Encoded, add_bits, multiply_bits, root_bits, subtract_bits};
+use apfloat_encoded::{
+    Encoded, add_bits, add_normal, multiply_bits, root_bits, subtract_bits, subtract_normal,
+};
 use formats_at_run_time::{FillsInFormat, FlaggedKind, ValueType};
 use rustc_apfloat::ieee::{Flagged, IeeeFloat};
 use rustc_apfloat::{Float, FloatConvert, Round, Status, StatusAnd};
@@ -53,7 +55,11 @@ pub fn sum_in<S: Flagged>(answer: &mut Answer, round: Round, x: u128, y: u128)
     ensures { let kind = of_format (constants_of S.Flagged) in
         IsKindAnswer kind round (OfTwo Sum x y) answer.new }
 {
-    sum_here::<S>(answer, round, x, y)
+    if let Some(sum) = add_normal::<S>(x, y, round) {
+        *answer = with_bits(sum);
+    } else {
+        sum::<IeeeFloat<S>>(answer, round, x, y);
+    }
 }
 
 /// A difference in a format, from bits to bits, in line.
@@ -73,7 +79,11 @@ pub fn difference_in<S: Flagged>(answer: &mut Answer, round: Round, x: u128, y: 
     ensures { let kind = of_format (constants_of S.Flagged) in
         IsKindAnswer kind round (OfTwo Difference x y) answer.new }
 {
-    difference_here::<S>(answer, round, x, y)
+    if let Some(difference) = subtract_normal::<S>(x, y, round) {
+        *answer = with_bits(difference);
+    } else {
+        difference::<IeeeFloat<S>>(answer, round, x, y);
+    }
 }
 
 /// A product in a format, from bits to bits, in line.
