@@ -20,8 +20,8 @@
  *   `length` bytes of one object, hence at most PTRDIFF_MAX, and nothing writes to them during the call. It needs no
  *   alignment and no terminating zero, since no byte after the last one is read.
  * - What holds for `text` holds for arrays of values: they are not null even if they are empty, and nothing writes to
- *   them during the call. It holds for `results` too, except that the call writes there; nothing else reads or writes
- *   `results` during the call, and it overlaps no other argument. Arrays of operands may overlap each other.
+ *   them during the call. It holds for `results` and `table` too, except that the call writes there; nothing else reads
+ *   or writes them during the call, and they overlap no other argument. Arrays of operands may overlap each other.
  * - `answer` and `text` do not overlap. Values and integers are passed by value, so an answer may overwrite an operand:
  *   apfloat_add(f, m, a.bits, b, &a) is fine.
  *
@@ -431,6 +431,15 @@ uint32_t apfloat_convert_array(uint32_t format, uint32_t mode, uint32_t to, cons
 uint32_t apfloat_map_array(uint32_t format, uint32_t mode, uint32_t operation, const uint8_t *xs, size_t xs_length,
                            const uint8_t *ys, size_t ys_length, const uint8_t *zs, size_t zs_length,
                            uint8_t *results, size_t results_length, apfloat_array_answer *answer);
+
+/* The same with memory lent to the call: with at least APFLOAT_TABLE_BYTES of it, an operation on two arrays of at least
+ * 2^17 values of 8 bits computes its results for all pairs of values once, there, and takes each element's result from
+ * these. Without, or for other arrays, it is apfloat_map_array. What the memory contains afterwards is not said. */
+#define APFLOAT_TABLE_BYTES ((size_t)1 << 19)
+uint32_t apfloat_map_array_by_table(uint32_t format, uint32_t mode, uint32_t operation, const uint8_t *xs,
+                                    size_t xs_length, const uint8_t *ys, size_t ys_length, const uint8_t *zs,
+                                    size_t zs_length, uint8_t *results, size_t results_length, uint8_t *table,
+                                    size_t table_length, apfloat_array_answer *answer);
 
 /* ---- blocks with a common scale
  *

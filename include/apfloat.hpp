@@ -1740,6 +1740,24 @@ expected<array_counts> map_array(array_operation operation, std::size_t count, v
     return detail::counts_of(code, answer);
 }
 
+/// The same for two arrays of values of 8 bits, with memory lent to the call: with at least APFLOAT_TABLE_BYTES of it,
+/// the results of long arrays are taken from a table of all results, which the call makes there. `table` is not null,
+/// overlaps nothing else, and what it contains afterwards is not said.
+template <class F>
+expected<array_counts> map_array_by_table(array_operation operation, std::size_t count, value<F> *results,
+                                          rounding mode, const typename detail::not_deduced<value<F>>::type *xs,
+                                          const typename detail::not_deduced<value<F>>::type *ys,
+                                          unsigned char *table, std::size_t table_length) {
+    static_assert(sizeof(value<F>) == 1, "a table is for values of 8 bits");
+    if (xs == nullptr || ys == nullptr || results == nullptr) return errc::wrong_length;
+    apfloat_array_answer answer = {0, 0, 0, 0, 0, 0, 0, 0, 0};
+    const std::uint32_t code = apfloat_map_array_by_table(
+        F::code, detail::code_of(mode), static_cast<std::uint32_t>(operation), detail::bytes_of(xs), count,
+        detail::bytes_of(ys), count, detail::bytes_of(ys), 0, detail::bytes_of(results), count, table, table_length,
+        &answer);
+    return detail::counts_of(code, answer);
+}
+
 // ---- blocks with a common scale
 
 namespace detail {

@@ -222,6 +222,7 @@ def _parameters() -> dict[str, list[Any]]:
         'error_text': [code, ctypes.POINTER(_Text)],
         'convert_array': [code, code, code, *array, *array, ctypes.POINTER(_ArrayAnswer)],
         'map_array': [code, code, code, *array * 4, ctypes.POINTER(_ArrayAnswer)],
+        'map_array_by_table': [code, code, code, *array * 5, ctypes.POINTER(_ArrayAnswer)],
         'quantize_blocks': [code, code, code, length, *array * 3, ctypes.POINTER(_ArrayAnswer)],
         'dequantize_blocks': [code, code, code, length, *array * 3, ctypes.POINTER(_ArrayAnswer)],
         **dict.fromkeys(('pack_codes', 'unpack_codes'), [code, *array * 2]),
@@ -1419,6 +1420,9 @@ def _aligned(text: str, fill: str, alignment: str, plus: str, zero: str, width: 
 
 # ---- arrays
 
+# The memory for a table of the results of an operation on values of 8 bits, and from how many values on it is used.
+_TABLE_BYTES = 1 << 19
+_LEAST_BY_TABLE = 1 << 17
 # The codes of operations on arrays.
 _OPERATIONS = {'add': 1, 'sub': 2, 'mul': 3, 'div': 4, 'rem': 5, 'mod': 6, 'fma': 7, 'sqrt': 8}
 # What is joined to the code of a mode.
@@ -1779,8 +1783,11 @@ class Array(_Elements, _Arithmetic[Any]):
             return self._with_signs(*[operand._stretched(shape) for operand in operands])
         data = [operand._stretched(shape)._data for operand in operands] + [b''] * (3 - len(operands))
         words = [word for each in data for word in (each, len(each))]
-        return _array_call('map_array', self.format.code, context().mode, _OPERATIONS[name], *words, of=self.format,
-                           shape=shape)
+        call, lent = 'map_array', ()
+        if self.format._bytes == 1 and len(operands) == 2 and len(data[0]) >= _LEAST_BY_TABLE:
+            call, lent = 'map_array_by_table', (ctypes.create_string_buffer(_TABLE_BYTES), _TABLE_BYTES)
+        return _array_call(call, self.format.code, context().mode, _OPERATIONS[name], *words, of=self.format,
+                           shape=shape, lent=lent)
 
     def _floored(self, divisor: Array) -> Array:
         format, rest = self.format, self._computed('mod', self, divisor)
@@ -2039,10 +2046,10 @@ def _named(dtype: Any) -> Format:
     return format
 
 
-def _array_call(name: str, *arguments: Any, of: Any, shape: tuple[int, ...]) -> Any:
+def _array_call(name: str, *arguments: Any, of: Any, shape: tuple[int, ...], lent: tuple[Any, ...] = ()) -> Any:
     length = math.prod(shape) * of._bytes
     room, answer = ctypes.create_string_buffer(max(length, 1)), _ArrayAnswer()
-    code = getattr(_functions, 'apfloat_' + name)(*arguments, room, length, ctypes.byref(answer))
+    code = getattr(_functions, 'apfloat_' + name)(*arguments, room, length, *lent, ctypes.byref(answer))
     if code:
         raise Refused(code)
     context().flags |= Flags(answer.status)

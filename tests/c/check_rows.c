@@ -377,6 +377,37 @@ static bool agrees_in_arrays(const struct call *call, const struct arguments *a)
            memcmp(&answer, &counts, sizeof answer) == 0;
 }
 
+/* The operations on two values of 8 bits, on each pair of them three times: by a table they give the bytes and counts
+ * that they give without. */
+static unsigned tables(void) {
+    enum { PAIRS = 3 << 16 };
+    static const uint32_t formats[] = {APFLOAT_E5M2,     APFLOAT_E5M2FNUZ,   APFLOAT_E4M3FN,
+                                       APFLOAT_E4M3FNUZ, APFLOAT_E4M3B11FNUZ, APFLOAT_E5M2 | APFLOAT_IEEE_FLAGS};
+    static uint8_t xs[PAIRS], ys[PAIRS], wanted[PAIRS], results[PAIRS], table[APFLOAT_TABLE_BYTES];
+    unsigned count = 0;
+    for (size_t i = 0; i < PAIRS; i++) {
+        xs[i] = (uint8_t)(i >> 8);
+        ys[i] = (uint8_t)i;
+    }
+    for (size_t i = 0; i < COUNT(formats); i++)
+        for (uint32_t operation = APFLOAT_ADD; operation <= APFLOAT_SQRT; operation++)
+            for (uint32_t mode = 0; mode < 5; mode++) {
+                size_t second = operation == APFLOAT_SQRT ? 0 : PAIRS, third = operation == APFLOAT_FMA ? PAIRS : 0;
+                /* One byte is missing from the table in every third case. */
+                size_t room = sizeof table - (mode % 3 == 2);
+                apfloat_array_answer plain, by_table;
+                memset(results, 0xa5, sizeof results);
+                uint32_t code = apfloat_map_array(formats[i], mode, operation, xs, PAIRS, ys, second, ys, third, wanted,
+                                                  PAIRS, &plain);
+                uint32_t other = apfloat_map_array_by_table(formats[i], mode, operation, xs, PAIRS, ys, second, ys,
+                                                            third, results, PAIRS, table, room, &by_table);
+                if (code == APFLOAT_ANSWERED && other == APFLOAT_ANSWERED &&
+                    memcmp(wanted, results, sizeof results) == 0 && memcmp(&plain, &by_table, sizeof plain) == 0)
+                    count++;
+            }
+    return count;
+}
+
 /* 1, 1000, -1000, both infinities, a signaling NaN, 448, 464, and the largest value of binary32, each in binary32, and
  * their conversions that saturate, to nearest, as evidence/streams.py computes them. */
 static const uint32_t beyond[] = {0x3f800000, 0x447a0000, 0xc47a0000, 0x7f800000, 0xff800000,
@@ -988,6 +1019,7 @@ int main(void) {
     printf("%u answers of machines agree\n", machines());
     printf("%u texts of errors agree, and version %u\n", error_texts(), apfloat_version());
     printf("%u errors of arrays agree\n", array_refusals());
+    printf("%u operations by tables agree\n", tables());
     printf("%u conversions that saturate agree\n", saturated());
     printf("%u conversions of storage formats agree\n", stored_and_loaded());
     printf("%u formats of blocks agree\n", blocks_agree());

@@ -354,6 +354,25 @@ void check_arrays() {
     const auto fused = map_array(array_operation::fma, 1, sums.data(), rounding::upward, pairs.data());
     CHECK(!fused && fused.error() == errc::no_such_operation);
     CHECK(map_array<binary64>(array_operation::sqrt, 0, nullptr, rounding::upward, nullptr)->values == 0);
+
+    // Each pair of bytes three times, by a table and without.
+    std::vector<value<e4m3fn>> left, right;
+    for (std::uint32_t place = 0; place < 3 * 65536; place++) {
+        left.push_back(*value<e4m3fn>::from_halves({place / 256 % 256, 0}));
+        right.push_back(*value<e4m3fn>::from_halves({place % 256, 0}));
+    }
+    std::vector<value<e4m3fn>> one_by_one(left.size()), looked_up(left.size());
+    std::vector<unsigned char> table(APFLOAT_TABLE_BYTES);
+    const auto without =
+        map_array(array_operation::mul, left.size(), one_by_one.data(), rounding::downward, left.data(), right.data());
+    const auto by_table = map_array_by_table(array_operation::mul, left.size(), looked_up.data(), rounding::downward,
+                                             left.data(), right.data(), table.data(), table.size());
+    CHECK(without && by_table && std::memcmp(one_by_one.data(), looked_up.data(), one_by_one.size()) == 0);
+    CHECK(without->values == by_table->values && without->inexact == by_table->inexact &&
+          without->underflow == by_table->underflow && without->overflow == by_table->overflow &&
+          without->invalid_op == by_table->invalid_op && without->nans == by_table->nans);
+    CHECK(!map_array_by_table(array_operation::fma, left.size(), looked_up.data(), rounding::downward, left.data(),
+                              right.data(), table.data(), table.size()));
 }
 
 void check_stored_arrays() {

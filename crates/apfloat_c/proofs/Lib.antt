@@ -14,3 +14,4 @@ pub mod MachineFormats
 pub mod MachineAnswers
 pub mod UsualAnswers
 pub mod MachineOnce
+pub mod OperationTables

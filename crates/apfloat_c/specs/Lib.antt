@@ -9,3 +9,4 @@ pub mod MachineCalls
 pub mod About
 pub mod Blocks
 pub mod OneAnswer
+pub mod OperationTables

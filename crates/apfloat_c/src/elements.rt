@@ -26,7 +26,7 @@ use rustc_apfloat::ppc::DoubleDouble;
 use std::marker::PhantomData;
 
 /// Makes the calls of an operation on arrays in the type of its elements.
-trait ElementCalls: Copy {
+pub trait ElementCalls: Copy {
     // The operation.
     ghost map: { Self → MapCall };
 
@@ -47,9 +47,11 @@ trait ElementCalls: Copy {
 
 /// Calls in the format `S`.
 #[derive_where(Clone, Copy)]
-struct FormatCalls<S: Flagged> {
-    map: MapCall,
-    format: PhantomData<S>,
+pub struct FormatCalls<S: Flagged> {
+    /// The operation.
+    pub map: MapCall,
+    /// The format.
+    pub format: PhantomData<S>,
 }
 
 /// Calls in pairs of doubles.
@@ -163,7 +165,7 @@ fn number_at(bytes: &[u8], place: usize, width: usize) -> u128
 
 /// Applies the operation to an element, and writes the bytes of its result.
 #[inline(always)]
-fn element<C: ElementCalls>(calls: C, x: u128, y: u128, z: u128, bytes: &mut [u8]) -> Element
+pub fn element<C: ElementCalls>(calls: C, x: u128, y: u128, z: u128, bytes: &mut [u8]) -> Element
     requires can { C.can calls }
     requires bytes { length bytes.old ≡ bytes_in (C.map calls).kind }
     ensures { IsElement (C.map calls) x y z bytes.new result }

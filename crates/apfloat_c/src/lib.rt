@@ -26,5 +26,6 @@ mod machine_call;
 mod machine_operations;
 mod maps;
 mod one_answer;
+mod operation_tables;
 mod operations;
 mod usual_operands;

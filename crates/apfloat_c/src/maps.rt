@@ -1,4 +1,4 @@
-//! The export that applies operations to arrays, declared for C programs in `include/apfloat.h`.
+//! The exports that apply operations to arrays, declared for C programs in `include/apfloat.h`.
 
 ghost use Rattle.std.specs.Prelude.{ℕ, length};
 ghost use Rattle.formats_at_run_time.specs.FlaggedKinds.{flagged_kind_coded};
@@ -29,6 +29,60 @@ pub extern "C" fn apfloat_map_array(
         IsMappedArray known xs.now ys.now zs.now results.old results.new answer.old answer.new
         result }
 {
+    mapped(
+        format,
+        mode,
+        operation,
+        xs,
+        ys,
+        zs,
+        results,
+        &mut [],
+        answer,
+    )
+}
+
+/// The same with memory lent for a table of all results, which a long array of sums, differences, products, quotients or
+/// remainders of values of 8 bits is made by if there are 2^19 bytes. What the memory contains afterwards is not said.
+#[unsafe(no_mangle)]
+pub extern "C" fn apfloat_map_array_by_table(
+    format: u32,
+    mode: u32,
+    operation: u32,
+    xs: &[u8],
+    ys: &[u8],
+    zs: &[u8],
+    results: &mut [u8],
+    table: &mut [u8],
+    answer: &mut ArrayAnswer,
+) -> u32
+    ensures { let lengths : ℕ × ℕ × ℕ = (length xs.now, length ys.now, length zs.now) in
+        let known = known_map (flagged_kind_coded format) (mode_coded mode)
+        (operation_coded operation) lengths (length results.old) in
+        IsMappedArray known xs.now ys.now zs.now results.old results.new answer.old answer.new
+        result }
+{
+    mapped(format, mode, operation, xs, ys, zs, results, table, answer)
+}
+
+/// The body of both.
+fn mapped(
+    format: u32,
+    mode: u32,
+    operation: u32,
+    xs: &[u8],
+    ys: &[u8],
+    zs: &[u8],
+    results: &mut [u8],
+    table: &mut [u8],
+    answer: &mut ArrayAnswer,
+) -> u32
+    ensures { let lengths : ℕ × ℕ × ℕ = (length xs.now, length ys.now, length zs.now) in
+        let known = known_map (flagged_kind_coded format) (mode_coded mode)
+        (operation_coded operation) lengths (length results.old) in
+        IsMappedArray known xs.now ys.now zs.now results.old results.new answer.old answer.new
+        result }
+{
     let known = known_map(
         FlaggedKind::coded(format),
         mode_coded(mode),
@@ -42,7 +96,7 @@ pub extern "C" fn apfloat_map_array(
             let width = bytes_in(map.kind);
             let count = xs.len() / width;
             let front = &mut results[..count * width];
-            let counted = map.over(xs, ys, zs, count, front);
+            let counted = map.over_with(xs, ys, zs, count, front, table);
             *answer = ArrayAnswer::of(counted);
             ANSWERED
         }

@@ -6,7 +6,7 @@ use Rattle.formats_at_run_time.specs.declared.FlaggedKind.{FlaggedKind}
 use Rattle.apfloat_c.specs.declared.array_calls.ElementOperation.{ElementOperation}
 use Rattle.apfloat_c.specs.ArrayCalls.{bytes_in, known_map}
 use Rattle.apfloat_c.proofs.ArrayCalls.{first_whole, map_is_known, map_left, map_room, other_whole}
-use Rattle.apfloat_c.proofs.maps.apfloat_map_array.Goals as goal
+use Rattle.apfloat_c.proofs.maps.mapped.Goals as goal
 
 pub overflow_mul-front : goal.overflow_mul-front
 overflow_mul-front c =
@@ -36,8 +36,8 @@ slice_bounds-front-end-in-Ok c =
     (length c.args.ys.now) (length c.args.zs.now) (length c.args.results.now) c.in-Ok.map
     (sym c.known_map-known.ensures ∙ c.in-Ok.is))).enough)
 
-pub over-counted-requires : goal.over-counted-requires
-over-counted-requires c =
+pub over_with-counted-requires : goal.over_with-counted-requires
+over_with-counted-requires c =
     let known = (map_is_known c.coded.result c.mode_coded.result c.operation_coded.result (length c.args.xs.now)
     (length c.args.ys.now) (length c.args.zs.now) (length c.args.results.now) c.in-Ok.map
     (sym c.known_map-known.ensures ∙ c.in-Ok.is)) in
@@ -63,12 +63,12 @@ returns-in-Ok c =
     (length c.args.ys.now) (length c.args.zs.now) (length c.args.results.now) c.in-Ok.map
     (sym c.known_map-known.ensures ∙ c.in-Ok.is)) in
     map_left _ c.in-Ok.map c.bytes_in-width.result c.args.xs.now c.args.ys.now c.args.zs.now c.args.results.now
-    c.over-counted.new.output c.over-counted.result c.args.answer.now c.of.result c.bytes_in-width.ensures.is
+    c.over_with-counted.new.output c.over_with-counted.result c.args.answer.now c.of.result c.bytes_in-width.ensures.is
     (subst₃
     (λ (k : Option FlaggedKind) (m : Option Round) (o : Option ElementOperation).
     known_map k m o (length c.args.xs.now, length c.args.ys.now, length c.args.zs.now) (length c.args.results.now)
     ≡ Ok c.in-Ok.map)
     c.coded.ensures c.mode_coded.ensures c.operation_coded.ensures
     (sym c.known_map-known.ensures ∙ c.in-Ok.is))
-    (c.over-counted.auto.output ∙ length-take-le _ c.args.results.now room.enough)
-    c.over-counted.ensures c.of.ensures
+    (c.over_with-counted.auto.output ∙ length-take-le _ c.args.results.now room.enough)
+    c.over_with-counted.ensures c.of.ensures
