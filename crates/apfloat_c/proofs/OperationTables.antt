@@ -27,7 +27,8 @@ digits_added : (a b c d e f p q r s t u : ℕ)
     → digits_of (a + p) (b + q) (c + r) (d + s) (e + t) (f + u) ≡ digits_of a b c d e f + digits_of p q r s t u
 digits_added a b c d e f p q r s t u = omega arith
 
-digits_most : (most a b c d e f : ℕ) → most ≤ 255 → a ≤ most → b ≤ most → c ≤ most → d ≤ most → e ≤ most → f ≤ most
+digits_most : (most a b c d e f : ℕ) → most ≤ 255 → a ≤ most → b ≤ most → c ≤ most
+    → d ≤ most → e ≤ most → f ≤ most
     → digits_of a b c d e f < 2 ^ 48
 digits_most most a b c d e f few la lb lc ld le lf = omega (arith, few, la, lb, lc, ld, le, lf)
 
@@ -168,8 +169,10 @@ nothing_yet map xs ys first counted output so_far =
       are = subst (AreElements map xs ys [] first output) (sym same) so_far;
     }
 
-pub one_more : (map : MapCall) (xs ys : List ℕ) (first index count : ℕ) (counted : ElementCounts) (packed mark : ℕ)
-    (output new : List ℕ) (x y : ℕ) → bytes_in map.kind ≡ 1 → index < count → length output ≡ count → length new ≡ 1
+pub one_more : (map : MapCall) (xs ys : List ℕ) (first index count : ℕ) (counted : ElementCounts)
+    (packed mark : ℕ)
+    (output new : List ℕ) (x y : ℕ) → bytes_in map.kind ≡ 1 → index < count → length output ≡ count
+    → length new ≡ 1
     → x ≡ number_of (value_at 1 index xs) → y ≡ number_of (value_at 1 index ys)
     → ((e : Element) × IsElement map x y 0 new e × (mark ≡ mark_of e))
     → HaveSoFar map xs ys first index counted packed output

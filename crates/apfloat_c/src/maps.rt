@@ -42,7 +42,8 @@ pub extern "C" fn apfloat_map_array(
     )
 }
 
-/// The same with memory lent for a table of all results, which a long array of sums, differences, products, quotients or
+/// The same with memory lent for a table of all results, which a long array of sums, differences, products, quotients
+/// or
 /// remainders of values of 8 bits is made by if there are 2^19 bytes. What the memory contains afterwards is not said.
 #[unsafe(no_mangle)]
 pub extern "C" fn apfloat_map_array_by_table(

@@ -11,3 +11,5 @@ pub mod NormalNumbers
 pub mod ConvertedLanes
 pub mod Joined
 pub mod SingleTargets
+pub mod Rows
+pub mod Items

@@ -57,7 +57,7 @@ place_size width index count bytes before size =
     ∙ (let all : index * width + width - index * width ≡ width = omega arith in all)
 
 -- a write to the place of a value leaves the earlier ones
-earlier : (width index later : ℕ) (bytes new : List ℕ) → index < later → later * width ≤ length bytes
+pub earlier : (width index later : ℕ) (bytes new : List ℕ) → index < later → later * width ≤ length bytes
     → value_at width index (put_mid (later * width) (later * width + width - later * width) bytes new)
     ≡ value_at width index bytes
 earlier width index later bytes new before within =
@@ -70,7 +70,7 @@ earlier width index later bytes new before within =
     ∙ sym (between_is bytes (index * width) (index * width + width))
 
 -- a write to the place of a value leaves the written bytes there
-latest : (width index : ℕ) (bytes new : List ℕ) → index * width ≤ length bytes → length new ≡ width
+pub latest : (width index : ℕ) (bytes new : List ℕ) → index * width ≤ length bytes → length new ≡ width
     → value_at width index (put_mid (index * width) (index * width + width - index * width) bytes new) ≡ new
 latest width index bytes new within size =
     between-put_mid (index * width) (index * width + width - index * width) bytes new (index * width + width) within

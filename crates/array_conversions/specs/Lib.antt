@@ -11,3 +11,4 @@ pub mod Tables
 pub mod ShortSources
 pub mod Singles
 pub mod ShortSingles
+pub mod Rows

@@ -62,3 +62,15 @@ sum_of counts block =
       invalid = sum_to_top counts.invalid block.invalid;
       nans = sum_to_top counts.nans block.nans;
     }
+
+-- the counts after the flags of a value that is counted already
+abbrev pub with_flags : Counts → Outcome → Counts
+with_flags counts outcome =
+    record {
+      values = counts.values;
+      inexact = sum_to_top counts.inexact (one_if (raised 16 outcome));
+      underflow = sum_to_top counts.underflow (one_if (raised 8 outcome));
+      overflow = sum_to_top counts.overflow (one_if (raised 4 outcome));
+      invalid = sum_to_top counts.invalid (one_if (raised 1 outcome));
+      nans = sum_to_top counts.nans (one_if (became_nan outcome));
+    }

@@ -1,14 +1,11 @@
 -- Blocks of singles, converted by the upper sixteen bits of their words.
-use Rattle.std.specs.Prelude.{◌≡◌, ℕ, ◌*◌, ◌%◌, ◌^◌, ◌<◌, ◌≤◌, List, slice_index}
+use Rattle.std.specs.Prelude.{◌≡◌, ℕ, ◌^◌, ◌<◌, List, slice_index}
 use Rattle.apfloat_model.specs.rounding.RoundingToOdd.{odd_quotient}
 use Rattle.lane_conversions.specs.declared.plans.ShortPlan.{ShortPlan}
 use Rattle.lane_conversions.specs.At.{format_at, layout_at}
 use Rattle.rustc_apfloat.specs.Lawful.{Constants, format_with, layout_with}
 use Rattle.rustc_apfloat.specs.declared.Round.{Round}
-use Rattle.array_conversions.specs.declared.counts.Counts.{Counts}
-use Rattle.lane_conversions.specs.declared.few_counts.ShortCounts.{ShortCounts}
 use Rattle.saturating_conversions.specs.declared.saturation.Overflow.{Overflow}
-use Rattle.array_conversions.specs.Blocks.{value_at}
 use Rattle.array_conversions.specs.Bytes.{number_of}
 use Rattle.array_conversions.specs.Singles.{saturates}
 
@@ -19,24 +16,7 @@ pub record IsShortPlanFor (overflow : Overflow) (d : Constants) (mode : Round) (
   pub saturates_is : plan.saturates ≡ saturates overflow
   pub round : plan.round ≡ mode
 
--- the number of values and the counts of a block without infinities and NaNs
-abbrev pub short_counts_with : ShortCounts → ℕ → Counts
-short_counts_with few values =
-    record {
-      values = values;
-      inexact = few.inexact;
-      underflow = few.underflow;
-      overflow = few.overflow;
-      invalid = 0;
-      nans = few.nans;
-    }
-
--- they are the upper halves of the words of the bytes, rounded to odd
-abbrev pub AreHalvesOf : List ℕ → List ℕ → Type 0
-AreHalvesOf halves bytes =
-    (index : ℕ) → index < 64 → slice_index halves index
-    ≡ odd_quotient (number_of (value_at 4 index bytes)) (2 ^ 16)
-
--- none of them is that of an infinity or a NaN
-abbrev pub AreFiniteHalves : List ℕ → Type 0
-AreFiniteHalves halves = (index : ℕ) → index < 64 → slice_index halves index % 2 ^ 15 < 255 * 2 ^ 7
+-- they are the upper halves of the words of the given values, rounded to odd
+abbrev pub AreHalvesOf : List ℕ → (ℕ → List ℕ) → Type 0
+AreHalvesOf halves given =
+    (index : ℕ) → index < 64 → slice_index halves index ≡ odd_quotient (number_of (given index)) (2 ^ 16)

@@ -1,5 +1,5 @@
--- Blocks of singles, converted by their words.
-use Rattle.std.specs.Prelude.{◌≡◌, ℕ, ◌*◌, ◌%◌, ◌^◌, ◌<◌, ◌≤◌, List, slice_index, Bool, true, false}
+-- Blocks of singles, converted by both halves of their words.
+use Rattle.std.specs.Prelude.{◌≡◌, ℕ, ◌/◌, ◌%◌, ◌^◌, ◌<◌, List, slice_index, Bool, true, false}
 use Rattle.lane_conversions.specs.declared.lanes.Lane.{Lane}
 use Rattle.lane_conversions.specs.declared.plans.Plan.{Plan}
 use Rattle.lane_conversions.specs.At.{format_at, layout_at}
@@ -11,7 +11,6 @@ use Rattle.array_conversions.specs.declared.counts.Outcome.{Outcome}
 use Rattle.lane_conversions.specs.declared.few_counts.FewCounts.{FewCounts}
 use Rattle.saturating_conversions.specs.declared.saturation.Overflow.{Overflow}
 use Rattle.saturating_conversions.specs.declared.saturation.Overflow.TheVariants.{Rounded, Saturated, Finite}
-use Rattle.array_conversions.specs.Blocks.{value_at}
 use Rattle.array_conversions.specs.Bytes.{number_of}
 
 -- whether the largest value stands for what is past it
@@ -42,11 +41,7 @@ counts_with few values =
 abbrev pub outcome_of : Lane → Outcome
 outcome_of lane = record { status = record { 0 = flags_of lane }; is_nan = lane.is_nan }
 
--- the words are those of the bytes
-abbrev pub AreWordsOf : List ℕ → List ℕ → Type 0
-AreWordsOf words bytes =
-    (index : ℕ) → index < 16 → slice_index words index ≡ number_of (value_at 4 index bytes)
-
--- none of the words is that of an infinity or a NaN
-abbrev pub AreFinite : List ℕ → Type 0
-AreFinite words = (index : ℕ) → index < 16 → slice_index words index % 2 ^ 31 < 255 * 2 ^ 23
+-- they are the upper and the lower halves of the words of the given values
+pub record AreHalves (uppers lowers : List ℕ) (given : ℕ → List ℕ) : Type 0 where
+  pub upper : (index : ℕ) → index < 64 → slice_index uppers index ≡ number_of (given index) / 2 ^ 16
+  pub lower : (index : ℕ) → index < 64 → slice_index lowers index ≡ number_of (given index) % 2 ^ 16

@@ -1,7 +1,7 @@
 //! The outcomes of conversions, and their counts.
 
 ghost use Rattle.std.specs.Prelude.{◌≡◌};
-ghost use Rattle.array_conversions.specs.Outcomes.{HaveRoom, sum_of, with_outcome};
+ghost use Rattle.array_conversions.specs.Outcomes.{HaveRoom, sum_of, with_flags, with_outcome};
 
 use rustc_apfloat::{Flags, Status};
 
@@ -63,6 +63,19 @@ impl Counts {
         self.overflow += u64::from(flags & 0x04 != 0);
         self.invalid += u64::from(flags & 0x01 != 0);
         self.nans += u64::from(outcome.is_nan);
+    }
+
+    /// Counts the flags of a value that is counted already, and whether it became a NaN. A count stops at the greatest
+    /// value of its type.
+    pub(crate) fn raise(&mut self, outcome: Outcome)
+        ensures { self.new ≡ with_flags self.old outcome }
+    {
+        let flags = outcome.status.bits();
+        self.inexact = self.inexact.saturating_add(u64::from(flags & 0x10 != 0));
+        self.underflow = self.underflow.saturating_add(u64::from(flags & 0x08 != 0));
+        self.overflow = self.overflow.saturating_add(u64::from(flags & 0x04 != 0));
+        self.invalid = self.invalid.saturating_add(u64::from(flags & 0x01 != 0));
+        self.nans = self.nans.saturating_add(u64::from(outcome.is_nan));
     }
 
     /// Adds the counts of a block. A count stops at the greatest value of its type.

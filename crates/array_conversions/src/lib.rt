@@ -16,6 +16,7 @@ mod short_singles;
 mod short_sources;
 mod single_targets;
 mod singles;
+mod specials;
 mod tables;
 mod widths;
 

@@ -1,41 +1,34 @@
 //! Singles converted to formats of at most eight bits, sixty-four at a time, by their upper sixteen bits. The loops are
-//! as in `singles`; blocks with an infinity or a NaN, and the last values, are left to those.
+//! as in `singles`, which also converts the last values.
 
-ghost use Rattle.std.specs.Prelude.{◌≡◌, ℕ, ◌+◌, ◌*◌, ◌≤◌, ◌<◌, List, length, IsTrue, IfSome};
-ghost use Rattle.lane_conversions.specs.FewCounts.{AreShortAtMost};
+ghost use Rattle.std.specs.Prelude.{◌≡◌, ℕ, ◌+◌, ◌*◌, ◌≤◌, ◌<◌, List, length, slice_index, IsTrue};
 ghost use Rattle.lane_conversions.specs.Targets.{IsShort, IsSingle, IsTarget};
 ghost use Rattle.rustc_apfloat.specs.declared.Round.{Round as Mode};
 ghost use Rattle.rustc_apfloat.specs.Lawful.{Constants, format_with, layout_with};
 ghost use Rattle.rustc_apfloat.specs.FlaggedTypes.{constants_of, format_of, layout_of};
 ghost use Rattle.array_conversions.specs.Blocks.{IsBlock, value_at};
-ghost use Rattle.array_conversions.specs.Bytes.{number_of};
-ghost use Rattle.array_conversions.specs.Outcomes.{with_outcome};
-ghost use Rattle.array_conversions.specs.ShortSingles.{AreFiniteHalves, AreHalvesOf, IsShortPlanFor, short_counts_with};
-ghost use Rattle.array_conversions.specs.Singles.{outcome_of};
+ghost use Rattle.array_conversions.specs.Rows.{AreFiniteHalves, IsRow, number_in};
+ghost use Rattle.array_conversions.specs.ShortSingles.{AreHalvesOf, IsShortPlanFor};
+ghost use Rattle.array_conversions.specs.Singles.{counts_with};
 ghost use Rattle.array_conversions.specs.Values.{IsConvertedBy};
 ghost use Rattle.array_conversions.specs.Widths.{bytes_of};
 
 use crate::bytes::write_number;
 use crate::counts::Counts;
 use crate::single_targets::{is_short_target, saturates, target_of};
-use crate::singles::{convert_singles, word_of};
+use crate::singles::{all_counts, convert_singles, counted};
+use crate::specials::{BLOCK, are_finite, convert_specials, number_in, word_of};
 use crate::widths::{Widths, bytes_of};
-use lane_conversions::{
-    Lane, ShortCounts, ShortPlan, convert_half, is_finite_half, short_plan_of, upper_half,
-    with_short_lane,
-};
+use lane_conversions::{FewCounts, ShortPlan, convert_half, short_plan_of, upper_half};
 use rustc_apfloat::Round;
 use rustc_apfloat::ieee::Flagged;
 use saturating_conversions::Overflow;
-
-/// How many values are converted at once.
-const BLOCK: usize = 64;
 
 /// The upper sixteen bits of sixty-four singles.
 #[inline(always)]
 fn halves_of(bytes: &[u8]) -> [u16; 64]
     requires { length bytes.now ≡ 256 }
-    ensures { AreHalvesOf result bytes.now }
+    ensures { AreHalvesOf result (λ index. value_at 4 index bytes.now) }
 {
     let mut halves = [0; BLOCK];
     for index in 0..BLOCK {
@@ -45,62 +38,47 @@ fn halves_of(bytes: &[u8]) -> [u16; 64]
     halves
 }
 
-/// Whether all of them are those of numbers.
-#[inline(always)]
-fn are_finite(halves: &[u16; 64]) -> bool
-    ensures { IsTrue result → AreFiniteHalves halves.now }
+/// Zeros in place of infinities and NaNs.
+#[inline(never)]
+fn clear_specials(halves: &mut [u16; 64])
+    ensures finite { AreFiniteHalves halves.new }
+    ensures kept { (index : ℕ) → index < 64
+        → slice_index halves.new index ≡ number_in (slice_index halves.old index) }
 {
-    let mut finite = true;
     for index in 0..BLOCK {
-        finite = finite & is_finite_half(halves[index]);
+        halves[index] = number_in(halves[index]);
     }
-    finite
 }
 
-/// The counts after one more value.
+/// The same, unless there are none. Returns whether there are none.
 #[inline(always)]
-fn counted(few: ShortCounts, lane: Lane) -> ShortCounts
-    requires { AreShortAtMost 63 few }
-    ensures counts { (values : ℕ) → short_counts_with result (values + 1)
-        ≡ with_outcome (short_counts_with few values) (outcome_of lane) }
-    ensures most { (most : ℕ) → AreShortAtMost most few → AreShortAtMost (most + 1) result }
+fn leave_numbers(halves: &mut [u16; 64]) -> bool
+    ensures finite { AreFiniteHalves halves.new }
+    ensures kept { (index : ℕ) → index < 64
+        → slice_index halves.new index ≡ number_in (slice_index halves.old index) }
+    ensures all { IsTrue result → AreFiniteHalves halves.old }
 {
-    with_short_lane(few, lane)
-}
-
-/// All counts of a block.
-#[inline(always)]
-fn all_counts(few: ShortCounts) -> Counts
-    ensures { result ≡ short_counts_with few 64 }
-{
-    Counts {
-        values: 64,
-        inexact: u64::from(few.inexact),
-        underflow: u64::from(few.underflow),
-        overflow: u64::from(few.overflow),
-        invalid: 0,
-        nans: u64::from(few.nans),
+    if are_finite(halves) {
+        true
+    } else {
+        clear_specials(halves);
+        false
     }
 }
 
 /// Converts sixty-four numbers, each to its place.
 #[inline(always)]
-fn convert_halves(
-    plan: ShortPlan,
-    width: usize,
-    halves: &[u16; 64],
-    output: &mut [u8],
-) -> ShortCounts
+fn convert_halves(plan: ShortPlan, width: usize, halves: &[u16; 64], output: &mut [u8]) -> FewCounts
     requires width { plan.target.bits ≤ 8 * width }
     requires finite { AreFiniteHalves halves.now }
     requires output { length output.old ≡ 64 * width }
-    ensures { (overflow : Overflow) (c d : Constants) (mode : Mode) (input : List ℕ)
+    ensures { (overflow : Overflow) (c d : Constants) (mode : Mode) (given : ℕ → List ℕ)
         → IsSingle (format_with c) (layout_with c) → IsShortPlanFor overflow d mode plan
-        → AreHalvesOf halves.now input
-        → IsBlock (IsConvertedBy overflow c d mode) 4 width 64 input output.new
-        (short_counts_with result 64) }
+        → AreHalvesOf halves.now given
+        → IsRow (IsConvertedBy overflow c d mode) given width 64 output.new
+        (counts_with result 64) }
 {
-    let mut few = ShortCounts {
+    let mut few = FewCounts {
         inexact: 0,
         underflow: 0,
         overflow: 0,
@@ -114,24 +92,6 @@ fn convert_halves(
         few = counted(few, lane);
     }
     few
-}
-
-/// Converts sixty-four values, unless one of them is an infinity or a NaN.
-#[inline(always)]
-fn convert_numbers(plan: ShortPlan, width: usize, input: &[u8], output: &mut [u8]) -> Option<Counts>
-    requires width { plan.target.bits ≤ 8 * width }
-    requires input { length input.now ≡ 256 }
-    requires output { length output.old ≡ 64 * width }
-    ensures { IfSome result (λ counts. (overflow : Overflow) (c d : Constants) (mode : Mode)
-        → IsSingle (format_with c) (layout_with c) → IsShortPlanFor overflow d mode plan
-        → IsBlock (IsConvertedBy overflow c d mode) 4 width 64 input.now output.new counts) }
-{
-    let halves = halves_of(input);
-    if are_finite(&halves) {
-        Some(all_counts(convert_halves(plan, width, &halves, output)))
-    } else {
-        None
-    }
 }
 
 /// Converts sixty-four values.
@@ -158,9 +118,13 @@ fn convert_block<S: Flagged, T: Flagged>(
         IsBlock (IsConvertedBy overflow c d round) widths.source widths.target 64 input.now
         output.new result }
 {
-    match convert_numbers(plan, widths.target, input, output) {
-        Some(counts) => counts,
-        None => convert_singles::<S, T>(overflow, round, BLOCK, input, output),
+    let mut halves = halves_of(input);
+    let finite = leave_numbers(&mut halves);
+    let counts = all_counts(convert_halves(plan, widths.target, &halves, output));
+    if finite {
+        counts
+    } else {
+        convert_specials::<S, T>(overflow, round, widths.target, counts, input, output)
     }
 }
 

@@ -1,7 +1,7 @@
-//! Singles converted sixteen at a time. The loops below have no jump that depends on a value, so that a compiler can
-//! work on several values at once; blocks with an infinity or a NaN are left to the general way.
+//! Singles converted sixty-four at a time. The loops below have no jump that depends on a value, and compute all in
+//! words of sixteen bits, so that a compiler can work on several values at once.
 
-ghost use Rattle.std.specs.Prelude.{◌≡◌, ℕ, ◌+◌, ◌*◌, ◌≤◌, ◌<◌, List, length, IsTrue, IfSome};
+ghost use Rattle.std.specs.Prelude.{◌≡◌, ℕ, ◌+◌, ◌*◌, ◌/◌, ◌%◌, ◌^◌, ◌≤◌, ◌<◌, List, length, slice_index, IsTrue};
 ghost use Rattle.lane_conversions.specs.FewCounts.{AreAtMost};
 ghost use Rattle.lane_conversions.specs.Targets.{IsSingle, IsTarget};
 ghost use Rattle.rustc_apfloat.specs.declared.Round.{Round as Mode};
@@ -10,62 +10,87 @@ ghost use Rattle.rustc_apfloat.specs.FlaggedTypes.{constants_of, format_of, layo
 ghost use Rattle.array_conversions.specs.Blocks.{IsBlock, value_at};
 ghost use Rattle.array_conversions.specs.Bytes.{number_of};
 ghost use Rattle.array_conversions.specs.Outcomes.{with_outcome};
-ghost use Rattle.array_conversions.specs.Singles.{AreFinite, AreWordsOf, IsPlanFor, counts_with, outcome_of};
+ghost use Rattle.array_conversions.specs.Rows.{AreFiniteHalves, IsRow, number_from};
+ghost use Rattle.array_conversions.specs.Singles.{AreHalves, IsPlanFor, counts_with, outcome_of};
 ghost use Rattle.array_conversions.specs.Values.{IsConvertedBy};
 ghost use Rattle.array_conversions.specs.Widths.{bytes_of};
 
-use crate::bytes::{number_of, write_number};
+use crate::bytes::write_number;
 use crate::counts::Counts;
 use crate::one_by_one::convert_one_by_one;
 use crate::single_targets::{is_single, is_target, saturates, target_of};
+use crate::specials::{BLOCK, are_finite, convert_specials, lower_in, number_in, word_of};
 use crate::widths::{Widths, bytes_of};
-use lane_conversions::{FewCounts, Lane, Plan, convert_finite, is_finite, plan_of, with_lane};
+use lane_conversions::{FewCounts, Lane, Plan, convert_finite, plan_of, with_lane};
 use rustc_apfloat::Round;
 use rustc_apfloat::ieee::Flagged;
 use saturating_conversions::Overflow;
 
-/// How many values are converted at once.
-const BLOCK: usize = 16;
-
-/// The bits of a single.
+/// The upper halves of the bits of sixty-four singles.
 #[inline(always)]
-pub(crate) fn word_of(bytes: &[u8]) -> u32
-    requires { length bytes.now ≡ 4 }
-    ensures { result ≡ number_of bytes.now }
+fn uppers_of(bytes: &[u8]) -> [u16; 64]
+    requires { length bytes.now ≡ 256 }
+    ensures { (index : ℕ) → index < 64
+        → slice_index result index ≡ number_of (value_at 4 index bytes.now) / 2 ^ 16 }
 {
-    number_of(bytes) as u32
-}
-
-/// The bits of sixteen singles.
-#[inline(always)]
-fn words_of(bytes: &[u8]) -> [u32; 16]
-    requires { length bytes.now ≡ 64 }
-    ensures { AreWordsOf result bytes.now }
-{
-    let mut words = [0; BLOCK];
+    let mut halves = [0; BLOCK];
     for index in 0..BLOCK {
         let from = index * 4;
-        words[index] = word_of(&bytes[from..from + 4]);
+        halves[index] = (word_of(&bytes[from..from + 4]) / 0x1_0000) as u16;
     }
-    words
+    halves
 }
 
-/// Whether all of them encode numbers.
+/// The lower halves.
 #[inline(always)]
-fn are_finite(words: &[u32; 16]) -> bool
-    ensures { IsTrue result → AreFinite words.now }
+fn lowers_of(bytes: &[u8]) -> [u16; 64]
+    requires { length bytes.now ≡ 256 }
+    ensures { (index : ℕ) → index < 64
+        → slice_index result index ≡ number_of (value_at 4 index bytes.now) % 2 ^ 16 }
 {
-    let mut finite = true;
+    let mut halves = [0; BLOCK];
     for index in 0..BLOCK {
-        finite = finite & is_finite(words[index]);
+        let from = index * 4;
+        halves[index] = (word_of(&bytes[from..from + 4]) % 0x1_0000) as u16;
     }
-    finite
+    halves
+}
+
+/// Zeros in place of infinities and NaNs.
+#[inline(never)]
+fn clear_specials(uppers: &mut [u16; 64], lowers: &mut [u16; 64])
+    ensures finite { AreFiniteHalves uppers.new }
+    ensures kept { (input : List ℕ)
+        → AreHalves uppers.old lowers.old (λ index. value_at 4 index input)
+        → AreHalves uppers.new lowers.new (number_from 0 input) }
+{
+    for index in 0..BLOCK {
+        lowers[index] = lower_in(uppers[index], lowers[index]);
+        uppers[index] = number_in(uppers[index]);
+    }
+}
+
+/// The same, unless there are none. Returns whether there are none.
+#[inline(always)]
+fn leave_numbers(uppers: &mut [u16; 64], lowers: &mut [u16; 64]) -> bool
+    ensures finite { AreFiniteHalves uppers.new }
+    ensures kept { (input : List ℕ)
+        → AreHalves uppers.old lowers.old (λ index. value_at 4 index input)
+        → AreHalves uppers.new lowers.new (number_from 0 input) }
+    ensures all { IsTrue result → AreFiniteHalves uppers.old }
+{
+    if are_finite(uppers) {
+        true
+    } else {
+        clear_specials(uppers, lowers);
+        false
+    }
 }
 
 /// The counts after one more value.
 #[inline(always)]
-fn counted(few: FewCounts, lane: Lane) -> FewCounts
-    requires { AreAtMost 15 few }
+pub(crate) fn counted(few: FewCounts, lane: Lane) -> FewCounts
+    requires { AreAtMost 63 few }
     ensures counts { (values : ℕ) → counts_with result (values + 1)
         ≡ with_outcome (counts_with few values) (outcome_of lane) }
     ensures most { (most : ℕ) → AreAtMost most few → AreAtMost (most + 1) result }
@@ -75,11 +100,11 @@ fn counted(few: FewCounts, lane: Lane) -> FewCounts
 
 /// All counts of a block.
 #[inline(always)]
-fn all_counts(few: FewCounts) -> Counts
-    ensures { result ≡ counts_with few 16 }
+pub(crate) fn all_counts(few: FewCounts) -> Counts
+    ensures { result ≡ counts_with few 64 }
 {
     Counts {
-        values: 16,
+        values: 64,
         inexact: u64::from(few.inexact),
         underflow: u64::from(few.underflow),
         overflow: u64::from(few.overflow),
@@ -88,17 +113,23 @@ fn all_counts(few: FewCounts) -> Counts
     }
 }
 
-/// Converts sixteen numbers, each to its place.
+/// Converts sixty-four numbers, each to its place.
 #[inline(always)]
-fn convert_words(plan: Plan, width: usize, words: &[u32; 16], output: &mut [u8]) -> FewCounts
+fn convert_halves(
+    plan: Plan,
+    width: usize,
+    uppers: &[u16; 64],
+    lowers: &[u16; 64],
+    output: &mut [u8],
+) -> FewCounts
     requires width { plan.target.bits ≤ 8 * width }
-    requires finite { AreFinite words.now }
-    requires output { length output.old ≡ 16 * width }
-    ensures { (overflow : Overflow) (c d : Constants) (mode : Mode) (input : List ℕ)
+    requires finite { AreFiniteHalves uppers.now }
+    requires output { length output.old ≡ 64 * width }
+    ensures { (overflow : Overflow) (c d : Constants) (mode : Mode) (given : ℕ → List ℕ)
         → IsSingle (format_with c) (layout_with c) → IsPlanFor overflow d mode plan
-        → AreWordsOf words.now input
-        → IsBlock (IsConvertedBy overflow c d mode) 4 width 16 input output.new
-        (counts_with result 16) }
+        → AreHalves uppers.now lowers.now given
+        → IsRow (IsConvertedBy overflow c d mode) given width 64 output.new
+        (counts_with result 64) }
 {
     let mut few = FewCounts {
         inexact: 0,
@@ -109,32 +140,14 @@ fn convert_words(plan: Plan, width: usize, words: &[u32; 16], output: &mut [u8])
     for index in 0..BLOCK {
         let from = index * width;
         let target = &mut output[from..from + width];
-        let lane = convert_finite(plan, words[index]);
+        let lane = convert_finite(plan, uppers[index], lowers[index]);
         write_number(u128::from(lane.bits), target);
         few = counted(few, lane);
     }
     few
 }
 
-/// Converts sixteen values, unless one of them is an infinity or a NaN.
-#[inline(always)]
-fn convert_numbers(plan: Plan, width: usize, input: &[u8], output: &mut [u8]) -> Option<Counts>
-    requires width { plan.target.bits ≤ 8 * width }
-    requires input { length input.now ≡ 16 * 4 }
-    requires output { length output.old ≡ 16 * width }
-    ensures { IfSome result (λ counts. (overflow : Overflow) (c d : Constants) (mode : Mode)
-        → IsSingle (format_with c) (layout_with c) → IsPlanFor overflow d mode plan
-        → IsBlock (IsConvertedBy overflow c d mode) 4 width 16 input.now output.new counts) }
-{
-    let words = words_of(input);
-    if are_finite(&words) {
-        Some(all_counts(convert_words(plan, width, &words, output)))
-    } else {
-        None
-    }
-}
-
-/// Converts sixteen values.
+/// Converts sixty-four values.
 #[inline(always)]
 fn convert_block<S: Flagged, T: Flagged>(
     plan: Plan,
@@ -150,19 +163,25 @@ fn convert_block<S: Flagged, T: Flagged>(
     requires plan { IsPlanFor overflow (constants_of T.Flagged) round plan }
     requires source { widths.source ≡ 4 }
     requires target { T.BITS ≤ 8 * widths.target }
-    requires input { length input.now ≡ 16 * widths.source }
-    requires output { length output.old ≡ 16 * widths.target }
+    requires input { length input.now ≡ 64 * widths.source }
+    requires output { length output.old ≡ 64 * widths.target }
     ensures { let c = constants_of S.Flagged in let d = constants_of T.Flagged in
-        IsBlock (IsConvertedBy overflow c d round) widths.source widths.target 16 input.now
+        IsBlock (IsConvertedBy overflow c d round) widths.source widths.target 64 input.now
         output.new result }
 {
-    match convert_numbers(plan, widths.target, input, output) {
-        Some(counts) => counts,
-        None => convert_one_by_one::<S, T>(overflow, round, widths, BLOCK, input, output),
+    let mut uppers = uppers_of(input);
+    let mut lowers = lowers_of(input);
+    let finite = leave_numbers(&mut uppers, &mut lowers);
+    let few = convert_halves(plan, widths.target, &uppers, &lowers, output);
+    let counts = all_counts(few);
+    if finite {
+        counts
+    } else {
+        convert_specials::<S, T>(overflow, round, widths.target, counts, input, output)
     }
 }
 
-/// Converts the first values of an array, in blocks of sixteen.
+/// Converts the first values of an array, in blocks of sixty-four.
 #[inline(always)]
 fn convert_blocks<S: Flagged, T: Flagged>(
     plan: Plan,
@@ -180,11 +199,11 @@ fn convert_blocks<S: Flagged, T: Flagged>(
     requires plan { IsPlanFor overflow (constants_of T.Flagged) round plan }
     requires source { widths.source ≡ 4 }
     requires target { T.BITS ≤ 8 * widths.target }
-    requires blocks { blocks * 16 ≤ count }
+    requires blocks { blocks * 64 ≤ count }
     requires input { length input.now ≡ count * widths.source }
     requires output { length output.old ≡ count * widths.target }
     ensures { let c = constants_of S.Flagged in let d = constants_of T.Flagged in
-        IsBlock (IsConvertedBy overflow c d round) widths.source widths.target (blocks * 16)
+        IsBlock (IsConvertedBy overflow c d round) widths.source widths.target (blocks * 64)
         input.now output.new result }
 {
     let mut counts = Counts::NONE;

@@ -9,3 +9,4 @@ pub mod Singles
 pub mod LowBits
 pub mod UpperHalves
 pub mod PlacedNumbers
+pub mod Words

@@ -51,26 +51,26 @@ past_at f m e first digits scales full far =
 -- the steps, without wrapping around
 steps : Format → ℕ → ℕ → ℕ → ℕ
 steps f first m place =
-    odd_quotient m (2 ^ (20 - f.precision)) * 2 ^ (12 - (first - place))
-    + min (place - first) (f.span + 1) * 2 ^ (f.precision + 15)
+    odd_quotient m (2 ^ 9) * 2 ^ (f.precision + 1 - (first - place))
+    + min (place - first) (f.span + 1) * 2 ^ (f.precision - 1 + 16)
 
 -- a nonzero significand at a place that is not past the first one past all values
 near_reached : (f : Format) (m place first : ℕ) → 3 ≤ f.precision → f.precision ≤ 11
     → 149 ≡ f.scale + (24 - f.precision) + first → 0 < m → m < 2 ^ 24 → (place ≡ 0) ⊎ (2 ^ 23 ≤ m)
     → IsScaled f.precision 16
-    (odd_quotient m (2 ^ (20 - f.precision)) * 2 ^ (12 - (first - place)) + (place - first) * 2 ^ (f.precision + 15))
+    (odd_quotient m (2 ^ 9) * 2 ^ (f.precision + 1 - (first - place))
+    + (place - first) * 2 ^ (f.precision - 1 + 16))
     (m * 2 ^ place * 2 ^ f.scale) (2 ^ 149)
 near_reached f m place first precise digits scales some fits full =
     let p = f.precision in
-    let cut : p + 3 + 1 + (20 - p) ≡ 24 = omega (arith, digits) in
-    let cut_full : p + 3 + (20 - p) ≡ 23 = omega (arith, digits) in
-    let up : 16 - 4 - (first - place) ≡ 12 - (first - place) = refl in
-    let unit : p - 1 + 16 ≡ p + 15 = omega (arith, precise) in
+    let cut : p + (14 - p) + 1 + 9 ≡ 24 = omega (arith, digits) in
+    let cut_full : p + (14 - p) + 9 ≡ 23 = omega (arith, digits) in
+    let up : 16 - (14 - p + 1) ≡ p + 1 = omega (arith, digits) in
     subst
     (λ (n : ℕ). IsScaled p 16
-    (odd_quotient m (2 ^ (20 - p)) * 2 ^ (12 - (first - place)) + (place - first) * 2 ^ n)
-    (m * 2 ^ place * 2 ^ f.scale) (2 ^ 149)) unit
-    (scaled_stands p 3 (20 - p) 16 first place f.scale 149 m precise (omega arith) (omega (arith, digits))
+    (odd_quotient m (2 ^ 9) * 2 ^ (n - (first - place)) + (place - first) * 2 ^ (p - 1 + 16))
+    (m * 2 ^ place * 2 ^ f.scale) (2 ^ 149)) up
+    (scaled_stands p (14 - p) 9 16 first place f.scale 149 m precise (omega (arith, digits)) (omega (arith, digits))
     (omega (arith, scales, digits)) some (subst (λ (n : ℕ). m < 2 ^ n) (sym cut) fits)
     (subst (λ (n : ℕ). (place ≡ 0) ⊎ (2 ^ n ≤ m)) (sym cut_full) full))
 
@@ -81,7 +81,7 @@ unfolding steps
 some_reached f m place first precise digits scales some fits full =
     let p = f.precision in
     let last = first + (f.span + 1) in
-    let odd = odd_quotient m (2 ^ (20 - p)) in
+    let odd = odd_quotient m (2 ^ 9) in
     ⊎_elim {C = IsReached f (steps f first m place) (m * 2 ^ place * 2 ^ f.scale) (2 ^ 149)}
     (λ (far : last < place).
     let digits_full : 2 ^ 23 ≤ m =
@@ -90,15 +90,16 @@ some_reached f m place first precise digits scales some fits full =
     let over : f.span + 1 ≤ place - first = omega (arith, far) in
     let is = min-eq_right over in omega (arith, is) in
     let down : first - last ≡ first - place = omega (arith, far) in
-    let at : IsScaled p 16 (odd * 2 ^ (12 - (first - last)) + (last - first) * 2 ^ (p + 15))
+    let at : IsScaled p 16 (odd * 2 ^ (p + 1 - (first - last)) + (last - first) * 2 ^ (p - 1 + 16))
     (m * 2 ^ last * 2 ^ f.scale) (2 ^ 149) =
     near_reached f m last first precise digits scales some fits (inr digits_full) in
     record {
       reached = m * 2 ^ last * 2 ^ f.scale;
       scaled =
-          subst (λ (n : ℕ). IsScaled p 16 (odd * 2 ^ (12 - n) + min (place - first) (f.span + 1) * 2 ^ (p + 15))
+          subst
+          (λ (n : ℕ). IsScaled p 16 (odd * 2 ^ (p + 1 - n) + min (place - first) (f.span + 1) * 2 ^ (p - 1 + 16))
           (m * 2 ^ last * 2 ^ f.scale) (2 ^ 149)) down
-          (subst (λ (n : ℕ). IsScaled p 16 (odd * 2 ^ (12 - (first - last)) + n * 2 ^ (p + 15))
+          (subst (λ (n : ℕ). IsScaled p 16 (odd * 2 ^ (p + 1 - (first - last)) + n * 2 ^ (p - 1 + 16))
           (m * 2 ^ last * 2 ^ f.scale) (2 ^ 149)) capped at);
       alike = inr (
         past_at f m last first (omega (arith, digits)) scales digits_full (omega arith),
@@ -111,7 +112,7 @@ some_reached f m place first precise digits scales some fits full =
     record {
       reached = m * 2 ^ place * 2 ^ f.scale;
       scaled =
-          subst (λ (n : ℕ). IsScaled p 16 (odd * 2 ^ (12 - (first - place)) + n * 2 ^ (p + 15))
+          subst (λ (n : ℕ). IsScaled p 16 (odd * 2 ^ (p + 1 - (first - place)) + n * 2 ^ (p - 1 + 16))
           (m * 2 ^ place * 2 ^ f.scale) (2 ^ 149)) same
           (near_reached f m place first precise digits scales some fits full);
       alike = inl refl;
@@ -123,18 +124,18 @@ zero_reached : (f : Format) (m place first : ℕ) → 3 ≤ f.precision → m �
 unfolding steps
 zero_reached f m place first precise none last =
     let p = f.precision in
-    let quotient : 0 / 2 ^ (20 - p) ≡ 0 = zero-div (2 ^ (20 - p)) in
-    let rest : 0 % 2 ^ (20 - p) ≡ 0 = zero-mod (2 ^ (20 - p)) in
-    let odd : odd_quotient m (2 ^ (20 - p)) ≡ 0 =
-    ap (λ (n : ℕ). odd_quotient n (2 ^ (20 - p))) none
-    ∙ exact_odd (0 / 2 ^ (20 - p)) (0 % 2 ^ (20 - p)) rest ∙ quotient in
+    let quotient : 0 / 2 ^ 9 ≡ 0 = zero-div (2 ^ 9) in
+    let rest : 0 % 2 ^ 9 ≡ 0 = zero-mod (2 ^ 9) in
+    let odd : odd_quotient m (2 ^ 9) ≡ 0 =
+    ap (λ (n : ℕ). odd_quotient n (2 ^ 9)) none
+    ∙ exact_odd (0 / 2 ^ 9) (0 % 2 ^ 9) rest ∙ quotient in
     let above : min (place - first) (f.span + 1) ≡ 0 =
     let is : place - first ≡ 0 = omega (arith, last) in
     ap (λ (n : ℕ). min n (f.span + 1)) is ∙ min-eq_left (let least : 0 ≤ f.span + 1 = omega arith in least) in
-    let left : odd_quotient m (2 ^ (20 - p)) * 2 ^ (12 - (first - place)) ≡ 0 * 2 ^ (12 - (first - place)) =
-    ap (λ (n : ℕ). n * 2 ^ (12 - (first - place))) odd in
-    let right : min (place - first) (f.span + 1) * 2 ^ (p + 15) ≡ 0 * 2 ^ (p + 15) =
-    ap (λ (n : ℕ). n * 2 ^ (p + 15)) above in
+    let left : odd_quotient m (2 ^ 9) * 2 ^ (p + 1 - (first - place)) ≡ 0 * 2 ^ (p + 1 - (first - place)) =
+    ap (λ (n : ℕ). n * 2 ^ (p + 1 - (first - place))) odd in
+    let right : min (place - first) (f.span + 1) * 2 ^ (p - 1 + 16) ≡ 0 * 2 ^ (p - 1 + 16) =
+    ap (λ (n : ℕ). n * 2 ^ (p - 1 + 16)) above in
     let sum : 0 ≡ steps f first m place = omega (arith, left, right) in
     let placed : m * 2 ^ place ≡ 0 * 2 ^ place = ap (λ (n : ℕ). n * 2 ^ place) none in
     let amount : m * 2 ^ place * 2 ^ f.scale ≡ 0 * 2 ^ place * 2 ^ f.scale = ap
@@ -147,29 +148,24 @@ zero_reached f m place first precise none last =
       alike = inl (omega (arith, amount));
     }
 
--- the steps stay in a word
+-- the steps stay in words
 steps_below : (f : Format) (layout : Layout) (min_exp max_exp : ℤ) (m place first : ℕ)
     → IsTarget f layout min_exp max_exp → m < 2 ^ 24
-    → (odd_quotient m (2 ^ (20 - f.precision)) * 2 ^ (12 - (first - place)) ≤ 2 ^ 27)
-    × (min (place - first) (f.span + 1) * 2 ^ (f.precision + 15) ≤ 2 ^ 31)
+    → (odd_quotient m (2 ^ 9) * 2 ^ (f.precision + 1 - (first - place)) ≤ 2 ^ 27)
+    × (min (place - first) (f.span + 1) * 2 ^ (f.precision - 1) ≤ 2 ^ 15)
 steps_below f layout min_exp max_exp m place first is fits =
     let p = f.precision in
     let precise = is.precise in
     let digits = is.digits in
-    let odd = odd_quotient m (2 ^ (20 - p)) in
-    let cut : 1 + (p + 3) + (20 - p) ≡ 24 = omega (arith, digits) in
-    let parts : 2 ^ (1 + (p + 3) + (20 - p)) ≡ 2 ^ 1 * 2 ^ (p + 3) * 2 ^ (20 - p) = pow3 1 (p + 3) (20 - p) in
-    let below : m < 2 * 2 ^ (p + 3) * 2 ^ (20 - p) =
-    subst (λ (n : ℕ). m < n) (ap (λ (n : ℕ). 2 ^ n) (sym cut) ∙ parts) fits in
-    let odd_fits : odd < 2 * 2 ^ (p + 3) = odd_below m (2 ^ (20 - p)) (2 ^ (p + 3)) (pow_pos (20 - p)) below in
-    let short : p + 3 ≤ 14 = omega (arith, digits) in
-    let few : 2 ^ (p + 3) ≤ 2 ^ 14 = pow-le-pow_right two_pos short in
-    let odd_most : odd ≤ 2 ^ 15 = omega (arith, odd_fits, few) in
-    let up_most : 12 - (first - place) ≤ 12 = omega arith in
-    let up : 2 ^ (12 - (first - place)) ≤ 2 ^ 12 = pow-le-pow_right two_pos up_most in
-    let left : odd * 2 ^ (12 - (first - place)) ≤ 2 ^ 15 * 2 ^ (12 - (first - place)) =
-    mul-le-mul_right (2 ^ (12 - (first - place))) odd_most in
-    let left_most : 2 ^ 15 * 2 ^ (12 - (first - place)) ≤ 2 ^ 15 * 2 ^ 12 = mul-le-mul_left (2 ^ 15) up in
+    let odd = odd_quotient m (2 ^ 9) in
+    let odd_fits : odd < 2 * 2 ^ 14 =
+    odd_below m (2 ^ 9) (2 ^ 14) (pow_pos 9) (let below : m < 2 * 2 ^ 14 * 2 ^ 9 = omega (arith, fits) in below) in
+    let odd_most : odd ≤ 2 ^ 15 = omega (arith, odd_fits) in
+    let up_most : p + 1 - (first - place) ≤ 12 = omega (arith, digits) in
+    let up : 2 ^ (p + 1 - (first - place)) ≤ 2 ^ 12 = pow-le-pow_right two_pos up_most in
+    let left : odd * 2 ^ (p + 1 - (first - place)) ≤ 2 ^ 15 * 2 ^ (p + 1 - (first - place)) =
+    mul-le-mul_right (2 ^ (p + 1 - (first - place))) odd_most in
+    let left_most : 2 ^ 15 * 2 ^ (p + 1 - (first - place)) ≤ 2 ^ 15 * 2 ^ 12 = mul-le-mul_left (2 ^ 15) up in
     let places = places_below f layout min_exp max_exp is in
     let above : min (place - first) (f.span + 1) ≤ f.span + 2 =
     ⊎_elim {C = min (place - first) (f.span + 1) ≤ f.span + 2}
@@ -178,14 +174,9 @@ steps_below f layout min_exp max_exp m place first is fits =
     let e = min-eq_left le in omega (arith, e, l))
     (λ (l : f.span + 1 ≤ place - first). let e = min-eq_right l in omega (arith, e))
     (cases_lt (place - first) (f.span + 1)) in
-    let unit : p - 1 + 16 ≡ p + 15 = omega (arith, precise) in
-    let power : 2 ^ (p + 15) ≡ 2 ^ (p - 1) * 2 ^ 16 = ap (λ (n : ℕ). 2 ^ n) (sym unit) ∙ pow-add 2 (p - 1) 16 in
-    let right : min (place - first) (f.span + 1) * 2 ^ (p + 15) ≤ (f.span + 2) * 2 ^ (p + 15) =
-    mul-le-mul_right (2 ^ (p + 15)) above in
-    let moved : (f.span + 2) * 2 ^ (p + 15) ≡ (f.span + 2) * 2 ^ (p - 1) * 2 ^ 16 =
-    ap (λ (n : ℕ). (f.span + 2) * n) power ∙ omega arith in
-    let most : (f.span + 2) * 2 ^ (p - 1) * 2 ^ 16 ≤ 2 ^ 15 * 2 ^ 16 = mul-le-mul_right (2 ^ 16) places in
-    (omega (arith, left, left_most), omega (arith, right, moved, most))
+    let right : min (place - first) (f.span + 1) * 2 ^ (p - 1) ≤ (f.span + 2) * 2 ^ (p - 1) =
+    mul-le-mul_right (2 ^ (p - 1)) above in
+    (omega (arith, left, left_most), omega (arith, right, places))
 
 -- the scales balance
 balance : (precision scale first : ℕ) (min_exp : ℤ) → 3 ≤ precision → precision ≤ 11
@@ -194,32 +185,36 @@ balance : (precision scale first : ℕ) (min_exp : ℤ) → 3 ≤ precision → 
 balance precision scale first min_exp precise digits there is = omega (arith, ints, precise, digits, there, is)
 
 -- what the code computes
-pub record AreSteps (f : Format) (t m place : ℕ) : Type 0 where
-  pub reached : IsReached f t (m * 2 ^ place * 2 ^ f.scale) (2 ^ 149)
-  pub below : t + 2 ^ 17 < 2 ^ 32
+pub record AreSteps (f : Format) (kept rest m place : ℕ) : Type 0 where
+  pub reached : IsReached f (kept * 2 ^ 16 + rest) (m * 2 ^ place * 2 ^ f.scale) (2 ^ 149)
+  pub below : kept + 2 < 2 ^ 16
 
-pub steps_are : (f : Format) (layout : Layout) (min_exp max_exp : ℤ) (m place first places odd above up : ℕ)
+pub steps_are : (f : Format) (layout : Layout) (min_exp max_exp : ℤ) (m place first odd above up moved places : ℕ)
     → IsTarget f layout min_exp max_exp → pos f.scale ≡ pos (f.precision - 1) -ℤ min_exp
     → m < 2 ^ 24 → (place ≡ 0) ⊎ (2 ^ 23 ≤ m) → pos first ≡ (min_exp +ℤ pos 126)
-    → places ≡ f.span + 1
-    → odd ≡ odd_quotient m (2 ^ (20 - f.precision)) → above ≡ min (place - first) places
-    → up ≡ 12 - (first - place)
-    → AreSteps f (odd * 2 ^ up % 4294967296 + above * 2 ^ (f.precision + 15) % 4294967296) m place
+    → odd ≡ odd_quotient m (2 ^ 9) → above ≡ min (place - first) (f.span + 1)
+    → up ≡ f.precision + 1 - (first - place)
+    → moved ≡ odd * 2 ^ up % 4294967296 → places ≡ above * 2 ^ (f.precision - 1) % 65536
+    → AreSteps f (moved / 65536 + places) (moved % 65536) m place
 unfolding steps
-steps_are f layout min_exp max_exp m place first places odd above up is scale fits full first_is places_is odd_is
-    above_is up_is =
+steps_are f layout min_exp max_exp m place first odd above up moved places is scale fits full first_is odd_is above_is
+    up_is moved_is places_are =
     let p = f.precision in
     let scales = balance p f.scale first min_exp is.precise is.digits scale first_is in
     let below = steps_below f layout min_exp max_exp m place first is fits in
-    let left_is : odd * 2 ^ up ≡ odd_quotient m (2 ^ (20 - p)) * 2 ^ (12 - (first - place)) =
+    let left_is : odd * 2 ^ up ≡ odd_quotient m (2 ^ 9) * 2 ^ (p + 1 - (first - place)) =
     (λ i. odd_is i * 2 ^ up_is i) in
-    let right_is : above * 2 ^ (p + 15) ≡ min (place - first) (f.span + 1) * 2 ^ (p + 15) =
-    ap (λ (n : ℕ). n * 2 ^ (p + 15)) (above_is ∙ ap (min (place - first)) places_is) in
+    let right_is : above * 2 ^ (p - 1) ≡ min (place - first) (f.span + 1) * 2 ^ (p - 1) =
+    ap (λ (n : ℕ). n * 2 ^ (p - 1)) above_is in
     let left : odd * 2 ^ up % 4294967296 ≡ odd * 2 ^ up = mod-eq_of_lt (omega (arith, left_is, below.0)) in
-    let right : above * 2 ^ (p + 15) % 4294967296 ≡ above * 2 ^ (p + 15) =
+    let right : above * 2 ^ (p - 1) % 65536 ≡ above * 2 ^ (p - 1) =
     mod-eq_of_lt (omega (arith, right_is, below.1)) in
-    let sum : steps f first m place ≡ odd * 2 ^ up % 4294967296 + above * 2 ^ (p + 15) % 4294967296 =
-    omega (arith, left, right, left_is, right_is) in
+    let power : 2 ^ (p - 1 + 16) ≡ 2 ^ (p - 1) * 2 ^ 16 = pow-add 2 (p - 1) 16 in
+    let whole : min (place - first) (f.span + 1) * 2 ^ (p - 1 + 16)
+    ≡ min (place - first) (f.span + 1) * 2 ^ (p - 1) * 2 ^ 16 =
+    ap (λ (n : ℕ). min (place - first) (f.span + 1) * n) power ∙ omega arith in
+    let sum : steps f first m place ≡ (moved / 65536 + places) * 2 ^ 16 + moved % 65536 =
+    omega (arith, left, right, left_is, right_is, whole, moved_is, places_are) in
     let it : IsReached f (steps f first m place) (m * 2 ^ place * 2 ^ f.scale) (2 ^ 149) =
     ⊎_elim {C = IsReached f (steps f first m place) (m * 2 ^ place * 2 ^ f.scale) (2 ^ 149)}
     (λ (z : m < 1).
@@ -231,5 +226,5 @@ steps_are f layout min_exp max_exp m place first places odd above up is scale fi
     (cases_lt m 1) in
     record {
       reached = subst (λ (n : ℕ). IsReached f n (m * 2 ^ place * 2 ^ f.scale) (2 ^ 149)) sum it;
-      below = omega (arith, left, right, left_is, right_is, below.0, below.1);
+      below = omega (arith, left, right, left_is, right_is, below.0, below.1, moved_is, places_are);
     }

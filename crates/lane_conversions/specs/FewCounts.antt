@@ -1,7 +1,6 @@
 -- Counts of few converted numbers.
 use Rattle.std.specs.Prelude.{ℕ, ◌+◌, ◌≤◌, Bool, if◌then◌else◌}
 use Rattle.lane_conversions.specs.declared.few_counts.FewCounts.{FewCounts}
-use Rattle.lane_conversions.specs.declared.few_counts.ShortCounts.{ShortCounts}
 use Rattle.lane_conversions.specs.declared.lanes.Lane.{Lane}
 
 abbrev pub one_if : Bool → ℕ
@@ -17,23 +16,8 @@ with_lane few lane =
       nans = few.nans + one_if lane.is_nan;
     }
 
-abbrev pub with_short_lane : ShortCounts → Lane → ShortCounts
-with_short_lane few lane =
-    record {
-      inexact = few.inexact + one_if lane.inexact;
-      underflow = few.underflow + one_if lane.underflow;
-      overflow = few.overflow + one_if lane.overflow;
-      nans = few.nans + one_if lane.is_nan;
-    }
-
 -- each count is at most that
 pub record AreAtMost (most : ℕ) (few : FewCounts) : Type 0 where
-  pub inexact : few.inexact ≤ most
-  pub underflow : few.underflow ≤ most
-  pub overflow : few.overflow ≤ most
-  pub nans : few.nans ≤ most
-
-pub record AreShortAtMost (most : ℕ) (few : ShortCounts) : Type 0 where
   pub inexact : few.inexact ≤ most
   pub underflow : few.underflow ≤ most
   pub overflow : few.overflow ≤ most

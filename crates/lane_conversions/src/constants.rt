@@ -1,6 +1,6 @@
 //! The constants of a target, and of a mode.
 
-ghost use Rattle.std.specs.Prelude.{◌^◌, ◌<◌, ◌≤◌};
+ghost use Rattle.std.specs.Prelude.{◌+◌, ◌^◌, ◌<◌, ◌≤◌};
 ghost use Rattle.lane_conversions.specs.Targets.{IsTarget, format_with, layout_with};
 
 use apfloat_model::{ExpInt, NonfiniteBehavior};
@@ -36,7 +36,7 @@ pub struct Addend {
     pub always: u32,
     /// More where the last kept digit is odd.
     pub if_odd: u32,
-    ghost small: { always < 2 ^ 16 },
+    ghost small: { always + if_odd < 2 ^ 16 },
     ghost one: { if_odd ≤ 1 },
 }
 

@@ -1,27 +1,14 @@
 //! Counts of few numbers.
 
 ghost use Rattle.std.specs.Prelude.{◌≡◌, ℕ, ◌+◌, ◌≤◌};
-ghost use Rattle.lane_conversions.specs.FewCounts.{AreAtMost, AreShortAtMost, one_if, with_lane, with_short_lane};
+ghost use Rattle.lane_conversions.specs.FewCounts.{AreAtMost, one_if, with_lane};
 
 use crate::lanes::Lane;
 
-/// The counts of a block of few values without infinities and NaNs, in words as long as those of singles, so that a
-/// compiler can count several at once.
+/// The counts of a block of few values without infinities and NaNs, in words as short as those that numbers are
+/// converted in, so that a compiler can count several at once.
 #[derive(Clone, Copy)]
 pub struct FewCounts {
-    /// Those that raised `INEXACT`.
-    pub inexact: u32,
-    /// Those that raised `UNDERFLOW`.
-    pub underflow: u32,
-    /// Those that raised `OVERFLOW`.
-    pub overflow: u32,
-    /// Those whose converted value is a NaN.
-    pub nans: u32,
-}
-
-/// The same in words of sixteen bits, for blocks that are converted in those.
-#[derive(Clone, Copy)]
-pub struct ShortCounts {
     /// Those that raised `INEXACT`.
     pub inexact: u16,
     /// Those that raised `UNDERFLOW`.
@@ -34,15 +21,7 @@ pub struct ShortCounts {
 
 /// 1 if something holds, and 0 otherwise.
 #[inline(always)]
-fn one_if(holds: bool) -> u32
-    ensures { result ≡ one_if holds }
-{
-    u32::from(holds)
-}
-
-/// The same in sixteen bits.
-#[inline(always)]
-fn short_one_if(holds: bool) -> u16
+pub(crate) fn one_if(holds: bool) -> u16
     ensures { result ≡ one_if holds }
 {
     u16::from(holds)
@@ -51,7 +30,7 @@ fn short_one_if(holds: bool) -> u16
 /// The counts after one more number.
 #[inline(always)]
 pub fn with_lane(few: FewCounts, lane: Lane) -> FewCounts
-    requires { AreAtMost 15 few }
+    requires { AreAtMost 63 few }
     ensures counts { result ≡ with_lane few lane }
     ensures most { (most : ℕ) → AreAtMost most few → AreAtMost (most + 1) result }
 {
@@ -60,20 +39,5 @@ pub fn with_lane(few: FewCounts, lane: Lane) -> FewCounts
         underflow: few.underflow + one_if(lane.underflow),
         overflow: few.overflow + one_if(lane.overflow),
         nans: few.nans + one_if(lane.is_nan),
-    }
-}
-
-/// The same in sixteen bits.
-#[inline(always)]
-pub fn with_short_lane(few: ShortCounts, lane: Lane) -> ShortCounts
-    requires { AreShortAtMost 63 few }
-    ensures counts { result ≡ with_short_lane few lane }
-    ensures most { (most : ℕ) → AreShortAtMost most few → AreShortAtMost (most + 1) result }
-{
-    ShortCounts {
-        inexact: few.inexact + short_one_if(lane.inexact),
-        underflow: few.underflow + short_one_if(lane.underflow),
-        overflow: few.overflow + short_one_if(lane.overflow),
-        nans: few.nans + short_one_if(lane.is_nan),
     }
 }

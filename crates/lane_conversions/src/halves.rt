@@ -21,9 +21,9 @@ pub fn is_finite_half(half: u16) -> bool
     half % 0x8000 < 0x7f80
 }
 
-/// The significand of a number, with its integer bit, which denormal numbers lack.
+/// The significand of a number, as far as it is in its upper half, with its integer bit, which denormal numbers lack.
 #[inline(always)]
-fn significand_of(magnitude: u16) -> u16
+pub(crate) fn significand_of(magnitude: u16) -> u16
     ensures is { result ≡ magnitude % 2 ^ 7 + min (magnitude / 2 ^ 7) 1 * 2 ^ 7 }
     ensures below { result < 2 ^ 8 }
 {

@@ -1,6 +1,6 @@
 //! One number, from bits to bits.
 
-ghost use Rattle.std.specs.Prelude.{◌≡◌, ◌⊎◌, ℕ, ◌+◌, ◌-◌, ◌*◌, ◌/◌, ◌%◌, ◌^◌, ◌<◌, ◌≤◌, min, Bool, not, ◌&&◌, nat_eq, ltb, leb, if◌then◌else◌};
+ghost use Rattle.std.specs.Prelude.{◌≡◌, ◌⊎◌, ℕ, ◌+◌, ◌-◌, ◌*◌, ◌/◌, ◌%◌, ◌^◌, ◌<◌, ◌≤◌, min, Bool, not, ◌&&◌, ltb, leb, if◌then◌else◌};
 ghost use Rattle.std.specs.Int.RustNames.{bit_and};
 ghost use Rattle.apfloat_model.specs.declared.kinds.Round.{Round as Mode};
 ghost use Rattle.apfloat_model.specs.bits.Layout.{Layout};
@@ -12,9 +12,9 @@ ghost use Rattle.lane_conversions.specs.Sides.{IsSideOf};
 ghost use Rattle.lane_conversions.specs.Targets.{IsSingle, has_one_zero, is_ieee, largest_code, signed_code};
 
 use crate::constants::{Addend, Side, Target};
-use crate::magnitudes::{place_of, significand_of};
+use crate::few_counts::one_if;
 use crate::plans::Plan;
-use crate::scaled::scaled;
+use crate::scaled::{Scaled, scaled_to};
 use crate::targets::largest_code;
 use apfloat_model::NonfiniteBehavior;
 
@@ -41,14 +41,16 @@ pub fn is_finite(bits: u32) -> bool
     bits % 0x8000_0000 < 0x7f80_0000
 }
 
-/// The encoding that a number is rounded to, as if exponents went on past the greatest one.
+/// What is kept, moved up where the mode rounds up: the encoding that a number is rounded to, as if exponents went on
+/// past the greatest one.
 #[inline(always)]
-fn rounded(addend: Addend, scaled: u32) -> u32
-    requires { scaled + 2 ^ 17 < 2 ^ 32 }
-    ensures { result
-        ≡ (scaled + (addend.always + bit_and (scaled / 2 ^ 16) addend.if_odd)) / 2 ^ 16 }
+fn carried(addend: Addend, scaled: Scaled) -> u16
+    requires { scaled.kept + 2 < 2 ^ 16 }
+    ensures { result ≡ (scaled.kept * 2 ^ 16 + scaled.rest
+        + (addend.always + bit_and scaled.kept addend.if_odd)) / 2 ^ 16 }
 {
-    (scaled + (addend.always + (scaled / 0x1_0000 & addend.if_odd))) / 0x1_0000
+    let added = addend.always as u16 + (scaled.kept & addend.if_odd as u16);
+    scaled.kept + one_if(scaled.rest > 0xffff - added)
 }
 
 /// Whether an encoding without its sign is past that of the largest value.
@@ -127,56 +129,60 @@ pub(crate) fn delivered(
 
 /// A scaled number, rounded and encoded.
 #[inline(always)]
-fn finish(target: Target, side: Side, negative: bool, scaled: u32) -> Lane
-    requires scaled { scaled + 2 ^ 17 < 2 ^ 32 }
+fn finish(target: Target, side: Side, negative: bool, scaled: Scaled) -> Lane
+    requires scaled { scaled.kept + 2 < 2 ^ 16 }
     ensures { (saturates : Bool) (mode : Mode) (amount parts : ℕ) → 0 < parts
         → IsSideOf 16 saturates (format_at target) mode negative side
-        → IsReached (format_at target) scaled amount parts
+        → IsReached (format_at target) (scaled.kept * 2 ^ 16 + scaled.rest) amount parts
         → IsRounded saturates (format_at target) (layout_at target) mode negative amount parts
         result }
 {
-    let rounded = rounded(side.addend, scaled);
-    let code = rounded.min(side.greatest);
-    let (kept, rest) = (scaled / 0x1_0000, scaled % 0x1_0000);
+    let rounded = carried(side.addend, scaled);
+    let code = rounded.min(side.greatest as u16);
     delivered(
         target,
         side.raises,
         negative,
-        kept,
-        rounded,
-        code,
-        rest != 0,
+        u32::from(scaled.kept),
+        u32::from(rounded),
+        u32::from(code),
+        scaled.rest != 0,
     )
 }
 
 /// Whether a zero of this sign loses it.
 #[inline(always)]
-pub(crate) fn loses_sign(target: Target, negative: bool, magnitude: u32) -> bool
-    ensures { result ≡ (has_one_zero target.nonfinite && negative && nat_eq magnitude 0) }
+pub(crate) fn loses_sign(target: Target, negative: bool, zero: bool) -> bool
+    ensures { result ≡ (has_one_zero target.nonfinite && negative && zero) }
 {
-    (target.nonfinite == NonfiniteBehavior::NanNegativeZero) & negative & (magnitude == 0)
+    (target.nonfinite == NonfiniteBehavior::NanNegativeZero) & negative & zero
 }
 
-/// Converts a finite single.
+/// Converts a finite single, given the upper and the lower half of its bits.
 #[inline(always)]
-pub fn convert_finite(plan: Plan, bits: u32) -> Lane
-    requires { bits % 2 ^ 31 < 255 * 2 ^ 23 }
+pub fn convert_finite(plan: Plan, upper: u16, lower: u16) -> Lane
+    requires { upper % 2 ^ 15 < 255 * 2 ^ 7 }
     ensures below { result.bits < 2 ^ plan.target.bits }
     ensures converted { (single : Format) (layout : Layout) → IsSingle single layout
         → IsConvertedLane plan.saturates single layout (format_at plan.target)
-        (layout_at plan.target) plan.round bits result }
+        (layout_at plan.target) plan.round (upper * 2 ^ 16 + lower) result }
 {
-    let negative = bits / 0x8000_0000 == 1;
-    let magnitude = bits % 0x8000_0000;
-    let scaled = scaled(plan.target, significand_of(magnitude), place_of(magnitude));
+    let negative = upper / 0x8000 == 1;
+    let magnitude = upper % 0x8000;
     let side = if negative {
         plan.negative
     } else {
         plan.positive
     };
-    let lane = finish(plan.target, side, negative, scaled);
+    let lane = finish(
+        plan.target,
+        side,
+        negative,
+        scaled_to(plan.target, magnitude, lower),
+    );
+    let zero = (magnitude == 0) & (lower == 0);
     Lane {
-        inexact: lane.inexact | loses_sign(plan.target, negative, magnitude),
+        inexact: lane.inexact | loses_sign(plan.target, negative, zero),
         ..lane
     }
 }

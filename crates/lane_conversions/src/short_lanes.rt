@@ -1,4 +1,4 @@
-//! One number from its upper sixteen bits, to a format of at most eight, so that twice as many fit into a vector.
+//! One number from its upper sixteen bits, to a format of at most eight.
 
 ghost use Rattle.std.specs.Prelude.{◌≡◌, ℕ, ◌+◌, ◌-◌, ◌*◌, ◌/◌, ◌%◌, ◌^◌, ◌<◌, ◌≤◌, Bool, not, nat_eq};
 ghost use Rattle.std.specs.Int.RustNames.{bit_and};
@@ -115,7 +115,7 @@ pub fn convert_half(plan: ShortPlan, half: u16) -> Lane
         place_of(magnitude, first),
     );
     Lane {
-        inexact: lane.inexact | loses_sign(plan.target, negative, u32::from(magnitude)),
+        inexact: lane.inexact | loses_sign(plan.target, negative, magnitude == 0),
         ..lane
     }
 }

@@ -1,19 +1,19 @@
-use Rattle.std.proofs.Common.{◌≡◌, ◌*◌, length, refl, ◌∙◌, arith}
-use Rattle.array_conversions.specs.Blocks.{value_at}
+use Rattle.std.proofs.Common.{◌≡◌, ℕ, ◌+◌, ◌*◌, ◌/◌, ◌%◌, ◌^◌, length, refl, ◌∙◌, subst, arith}
 use Rattle.array_conversions.specs.Bytes.{number_of}
-use Rattle.array_conversions.specs.ShortSingles.{short_counts_with}
-use Rattle.array_conversions.specs.Singles.{outcome_of}
+use Rattle.array_conversions.specs.Singles.{counts_with, outcome_of}
+use Rattle.array_conversions.specs.Rows.{IsRow}
 use Rattle.array_conversions.specs.Values.{IsConvertedBy}
 use Rattle.array_conversions.proofs.ConvertedLanes.{short_plan_answers}
 use Rattle.array_conversions.proofs.LittleEndian.{fits}
-use Rattle.array_conversions.proofs.Places.{block_none, block_more, place_size}
+use Rattle.array_conversions.proofs.Places.{place_size}
+use Rattle.array_conversions.proofs.Rows.{row_more, row_none}
 use Rattle.array_conversions.proofs.short_singles.convert_halves.Goals as goal
 
 pub loop-index-init : goal.loop-index-init
 loop-index-init c = record {
   few_are = record { inexact = omega arith; underflow = omega arith; overflow = omega arith; nans = omega arith };
-  block = λ overflow from to mode input is_single is_plan read.
-      block_none (IsConvertedBy overflow from to mode) 4 c.args.width input c.args.output.now;
+  row = λ overflow from to mode given is_single is_plan read.
+      row_none (IsConvertedBy overflow from to mode) given c.args.width c.args.output.now;
 }
 
 pub write_number-requires : goal.write_number-requires
@@ -27,21 +27,30 @@ write_number-requires c =
 
 pub loop-index-preserved : goal.loop-index-preserved
 loop-index-preserved c =
+    let index = c.loop-index.index in
+    let before = c.loop-index-test.true in
     let size : length c.loop-index.output ≡ 64 * c.args.width = c.loop-index.auto.output ∙ c.requires.output in
     let width : length c.write_number.new.bytes ≡ c.args.width =
-    c.write_number.auto.bytes
-    ∙ place_size c.args.width c.loop-index.index 64 c.loop-index.output c.loop-index-test.true size in
+    c.write_number.auto.bytes ∙ place_size c.args.width index 64 c.loop-index.output before size in
     record {
-      few_are = c.counted-few.ensures.most c.loop-index.index c.loop-index.invariant.few_are;
-      block = λ overflow from to mode input is_single is_plan read.
-          rw (c.counted-few.ensures.counts c.loop-index.index)
-          (block_more (IsConvertedBy overflow from to mode) 4 c.args.width c.loop-index.index 64 input
-          c.loop-index.output c.write_number.new.bytes (short_counts_with c.loop-index.few c.loop-index.index)
-          (outcome_of c.convert_half-lane.result) c.loop-index-test.true size width
-          (short_plan_answers overflow from to mode c.args.plan (value_at 4 c.loop-index.index input)
-          c.write_number.new.bytes (number_of (value_at 4 c.loop-index.index input)) c.convert_half-lane.result is_plan
-          refl (c.write_number.ensures ∙ c.from.ensures)
-          (c.convert_half-lane.ensures.converted (number_of (value_at 4 c.loop-index.index input)) _ _
-          (read c.loop-index.index c.loop-index-test.true) is_single))
-          (c.loop-index.invariant.block overflow from to mode input is_single is_plan read));
+      few_are = c.counted-few.ensures.most index c.loop-index.invariant.few_are;
+      row = λ overflow from to mode given is_single is_plan read.
+          rw (c.counted-few.ensures.counts index)
+          (row_more (IsConvertedBy overflow from to mode) given c.args.width index 64 c.loop-index.output
+          c.write_number.new.bytes (counts_with c.loop-index.few index)
+          (outcome_of c.convert_half-lane.result) before size width
+          (short_plan_answers overflow from to mode c.args.plan (given index) c.write_number.new.bytes
+          (number_of (given index)) c.convert_half-lane.result is_plan refl (c.write_number.ensures ∙ c.from.ensures)
+          (c.convert_half-lane.ensures.converted (number_of (given index)) _ _ (read index before) is_single))
+          (c.loop-index.invariant.row overflow from to mode given is_single is_plan read));
     }
+
+pub returns : goal.returns
+returns c = λ overflow from to mode given is_single is_plan read.
+    let low = c.loop-index-test.false in
+    let high = c.loop-index.auto.index-end in
+    let last : c.loop-index.index ≡ 64 = omega (arith, low, high) in
+    subst
+    (λ (n : ℕ). IsRow (IsConvertedBy overflow from to mode) given c.args.width n c.loop-index.output
+    (counts_with c.loop-index.few n)) last
+    (c.loop-index.invariant.row overflow from to mode given is_single is_plan read)

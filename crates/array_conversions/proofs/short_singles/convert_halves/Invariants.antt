@@ -2,21 +2,22 @@ use Rattle.std.specs.Prelude.{ℕ, List}
 use Rattle.lane_conversions.specs.Targets.{IsSingle}
 use Rattle.rustc_apfloat.specs.Lawful.{Constants, format_with, layout_with}
 use Rattle.rustc_apfloat.specs.declared.Round.{Round}
-use Rattle.lane_conversions.specs.declared.few_counts.ShortCounts.{ShortCounts}
-use Rattle.saturating_conversions.specs.declared.saturation.Overflow.{Overflow}
-use Rattle.lane_conversions.specs.FewCounts.{AreShortAtMost}
-use Rattle.array_conversions.specs.Blocks.{IsBlock}
-use Rattle.array_conversions.specs.ShortSingles.{AreHalvesOf, IsShortPlanFor, short_counts_with}
-use Rattle.array_conversions.specs.Values.{IsConvertedBy}
+use Rattle.lane_conversions.specs.declared.few_counts.FewCounts.{FewCounts}
 use Rattle.lane_conversions.specs.declared.plans.ShortPlan.{ShortPlan}
+use Rattle.lane_conversions.specs.FewCounts.{AreAtMost}
+use Rattle.saturating_conversions.specs.declared.saturation.Overflow.{Overflow}
+use Rattle.array_conversions.specs.Rows.{IsRow}
+use Rattle.array_conversions.specs.ShortSingles.{AreHalvesOf, IsShortPlanFor}
+use Rattle.array_conversions.specs.Singles.{counts_with}
+use Rattle.array_conversions.specs.Values.{IsConvertedBy}
 use Rattle.array_conversions.proofs.short_singles.convert_halves.Given as goal
 
-pub record AreConverted (plan : ShortPlan) (width index : ℕ) (halves output : List ℕ) (few : ShortCounts)
-    : Type 0 where
-  pub few_are : AreShortAtMost index few
-  pub block : (overflow : Overflow) (c d : Constants) (mode : Round) (input : List ℕ)
-      → IsSingle (format_with c) (layout_with c) → IsShortPlanFor overflow d mode plan → AreHalvesOf halves input
-      → IsBlock (IsConvertedBy overflow c d mode) 4 width index input output (short_counts_with few index)
+pub record AreConverted (plan : ShortPlan) (width index : ℕ) (halves output : List ℕ)
+    (few : FewCounts) : Type 0 where
+  pub few_are : AreAtMost index few
+  pub row : (overflow : Overflow) (c d : Constants) (mode : Round) (given : ℕ → List ℕ)
+      → IsSingle (format_with c) (layout_with c) → IsShortPlanFor overflow d mode plan → AreHalvesOf halves given
+      → IsRow (IsConvertedBy overflow c d mode) given width index output (counts_with few index)
 
 abbrev pub invariant-loop-index : goal.invariant-loop-index
 invariant-loop-index l = AreConverted l.plan l.width l.index l.halves l.output l.few

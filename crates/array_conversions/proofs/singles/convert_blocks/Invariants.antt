@@ -7,4 +7,4 @@ use Rattle.array_conversions.proofs.singles.convert_blocks.Given as goal
 abbrev pub invariant-loop-index : goal.invariant-loop-index
 invariant-loop-index g l =
     IsBlock (IsConvertedBy l.overflow (constants_of g.S.Flagged) (constants_of g.T.Flagged) l.round) l.widths.source
-    l.widths.target (l.index * 16) l.input l.output l.counts
+    l.widths.target (l.index * 64) l.input l.output l.counts

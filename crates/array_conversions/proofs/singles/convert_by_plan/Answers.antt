@@ -11,15 +11,15 @@ convert_one_by_one-requires-clause-output g c =
     let width : c.bytes_of.result ≡ bytes_of g.T.Flagged.BITS = c.bytes_of.ensures ∙ ap bytes_of c.BITS.ensures in
     let size : length c.convert_blocks-counts.new.output ≡ c.args.count * c.bytes_of.result =
     c.convert_blocks-counts.auto.output ∙ c.requires.output ∙ ap (λ (n : ℕ). c.args.count * n) (sym width) in
-    rest_size c.bytes_of.result (c.args.count / 16 * 16) c.args.count c.convert_blocks-counts.new.output
-    (div-mul-le_self c.args.count 16) size
+    rest_size c.bytes_of.result (c.args.count / 64 * 64) c.args.count c.convert_blocks-counts.new.output
+    (div-mul-le_self c.args.count 64) size
 
 pub returns : goal.returns
 returns g c =
     let target = c.bytes_of.result in
     let width : c.bytes_of.result ≡ bytes_of g.T.Flagged.BITS = c.bytes_of.ensures ∙ ap bytes_of c.BITS.ensures in
-    let done = c.args.count / 16 * 16 in
-    let before : c.args.count / 16 * 16 ≤ c.args.count = div-mul-le_self c.args.count 16 in
+    let done = c.args.count / 64 * 64 in
+    let before : c.args.count / 64 * 64 ≤ c.args.count = div-mul-le_self c.args.count 64 in
     let size : length c.convert_blocks-counts.new.output ≡ c.args.count * c.bytes_of.result =
     c.convert_blocks-counts.auto.output ∙ c.requires.output ∙ ap (λ (n : ℕ). c.args.count * n) (sym width) in
     let Holds = IsConvertedBy c.args.overflow (constants_of g.S.Flagged) (constants_of g.T.Flagged) c.args.round in

@@ -74,7 +74,6 @@ returns c =
           (sym sign) in
           let lost : c.loses_sign.result ≡ (has_one_zero t.nonfinite && eqb (h / 2 ^ 15) 1 && eqb (x % 2 ^ 31) 0) =
           c.loses_sign.ensures
-          ∙ ap (λ (n : ℕ). has_one_zero t.nonfinite && eqb (h / 2 ^ 15) 1 && eqb n 0) c.from.ensures
           ∙ ap (λ (b : Bool). has_one_zero t.nonfinite && eqb (h / 2 ^ 15) 1 && b) both.1.zero in
           lane_converted plan.saturates single layout f (layout_at t) plan.round (eqb (h / 2 ^ 15) 1)
           c.loses_sign.result (x % 2 ^ 31) x c.finish-lane.result read is_single.scale (omega (arith, precise)) lost

@@ -1,6 +1,6 @@
 use Rattle.std.proofs.Common.{◌≡◌, ◌*◌, length, arith}
 use Rattle.array_conversions.proofs.ShortSources.{number_fits}
-use Rattle.array_conversions.proofs.singles.word_of.Goals as goal
+use Rattle.array_conversions.proofs.specials.word_of.Goals as goal
 
 pub overflow_cast-result : goal.overflow_cast-result
 overflow_cast-result c =

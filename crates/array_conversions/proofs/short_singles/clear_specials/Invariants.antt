@@ -1,0 +1,11 @@
+use Rattle.std.specs.Prelude.{◌≡◌, ℕ, ◌<◌, ◌≤◌, List, length, slice_index}
+use Rattle.array_conversions.specs.Rows.{number_in}
+use Rattle.array_conversions.proofs.short_singles.clear_specials.Given as goal
+
+pub record AreCleared (old halves : List ℕ) (index : ℕ) : Type 0 where
+  pub size : length halves ≡ 64
+  pub each : (k : ℕ) → k < index → slice_index halves k ≡ number_in (slice_index old k)
+  pub rest : (k : ℕ) → index ≤ k → slice_index halves k ≡ slice_index old k
+
+abbrev pub invariant-loop-index : goal.invariant-loop-index
+invariant-loop-index l = AreCleared l.fn.halves l.halves l.index

@@ -1,5 +1,0 @@
-use Rattle.std.specs.Prelude.{ℕ, ◌*◌, ◌%◌, ◌^◌, ◌<◌, slice_index, IsTrue}
-use Rattle.array_conversions.proofs.singles.are_finite.Given as goal
-
-abbrev pub invariant-loop-index : goal.invariant-loop-index
-invariant-loop-index l = IsTrue l.finite → (k : ℕ) → k < l.index → slice_index l.words k % 2 ^ 31 < 255 * 2 ^ 23

@@ -1,0 +1,22 @@
+use Rattle.std.specs.Prelude.{ℕ, List}
+use Rattle.lane_conversions.specs.Targets.{IsSingle}
+use Rattle.rustc_apfloat.specs.Lawful.{Constants, format_with, layout_with}
+use Rattle.rustc_apfloat.specs.declared.Round.{Round}
+use Rattle.lane_conversions.specs.declared.few_counts.FewCounts.{FewCounts}
+use Rattle.lane_conversions.specs.declared.plans.Plan.{Plan}
+use Rattle.lane_conversions.specs.FewCounts.{AreAtMost}
+use Rattle.saturating_conversions.specs.declared.saturation.Overflow.{Overflow}
+use Rattle.array_conversions.specs.Rows.{IsRow}
+use Rattle.array_conversions.specs.Singles.{AreHalves, IsPlanFor, counts_with}
+use Rattle.array_conversions.specs.Values.{IsConvertedBy}
+use Rattle.array_conversions.proofs.singles.convert_halves.Given as goal
+
+pub record AreConverted (plan : Plan) (width index : ℕ) (uppers lowers output : List ℕ) (few : FewCounts)
+    : Type 0 where
+  pub few_are : AreAtMost index few
+  pub row : (overflow : Overflow) (c d : Constants) (mode : Round) (given : ℕ → List ℕ)
+      → IsSingle (format_with c) (layout_with c) → IsPlanFor overflow d mode plan → AreHalves uppers lowers given
+      → IsRow (IsConvertedBy overflow c d mode) given width index output (counts_with few index)
+
+abbrev pub invariant-loop-index : goal.invariant-loop-index
+invariant-loop-index l = AreConverted l.plan l.width l.index l.uppers l.lowers l.output l.few

@@ -1,0 +1,94 @@
+//! Infinities and NaNs in blocks of sixty-four singles that are converted all at once: zeros take their places, which
+//! raise no flag and are no NaNs, until they are converted one by one.
+
+ghost use Rattle.std.specs.Prelude.{◌≡◌, ◌*◌, ◌<◌, ◌≤◌, length, slice_index, IsTrue};
+ghost use Rattle.lane_conversions.specs.Targets.{IsSingle};
+ghost use Rattle.rustc_apfloat.specs.FlaggedTypes.{constants_of, format_of, layout_of};
+ghost use Rattle.array_conversions.specs.Blocks.{IsBlock};
+ghost use Rattle.array_conversions.specs.Bytes.{number_of};
+ghost use Rattle.array_conversions.specs.Rows.{AreFiniteHalves, IsRow, lower_in, number_from, number_in};
+ghost use Rattle.array_conversions.specs.Values.{IsConvertedBy};
+
+use crate::bytes::number_of;
+use crate::counts::Counts;
+use crate::one_value::convert_slowly;
+use lane_conversions::{is_finite, is_finite_half};
+use rustc_apfloat::Round;
+use rustc_apfloat::ieee::Flagged;
+use saturating_conversions::Overflow;
+
+/// How many values are converted at once.
+pub(crate) const BLOCK: usize = 64;
+
+/// The bits of a single.
+#[inline(always)]
+pub(crate) fn word_of(bytes: &[u8]) -> u32
+    requires { length bytes.now ≡ 4 }
+    ensures { result ≡ number_of bytes.now }
+{
+    number_of(bytes) as u32
+}
+
+/// Whether all of these are upper halves of numbers.
+#[inline(always)]
+pub(crate) fn are_finite(halves: &[u16; 64]) -> bool
+    ensures { IsTrue result → AreFiniteHalves halves.now }
+{
+    let mut finite = true;
+    for index in 0..BLOCK {
+        finite = finite & is_finite_half(halves[index]);
+    }
+    finite
+}
+
+/// Zero in place of an infinity or a NaN.
+#[inline(always)]
+pub(crate) fn number_in(half: u16) -> u16
+    ensures { result ≡ number_in half }
+{
+    if is_finite_half(half) { half } else { 0 }
+}
+
+/// The lower half that goes with it.
+#[inline(always)]
+pub(crate) fn lower_in(upper: u16, lower: u16) -> u16
+    ensures { result ≡ lower_in upper lower }
+{
+    if is_finite_half(upper) { lower } else { 0 }
+}
+
+/// Converts the infinities and NaNs among sixty-four singles, each to its place, where a converted zero is. `counts`
+/// are those with the zeros.
+#[inline(never)]
+pub(crate) fn convert_specials<S: Flagged, T: Flagged>(
+    overflow: Overflow,
+    round: Round,
+    width: usize,
+    counts: Counts,
+    input: &[u8],
+    output: &mut [u8],
+) -> Counts
+    requires read { S.PRECISION < S.BITS }
+    requires written { T.PRECISION < T.BITS }
+    requires single { IsSingle (format_of S.Flagged) (layout_of S.Flagged) }
+    requires target { T.BITS ≤ 8 * width }
+    requires input { length input.now ≡ 256 }
+    requires output { length output.old ≡ 64 * width }
+    requires numbers { let c = constants_of S.Flagged in let d = constants_of T.Flagged in
+        IsRow (IsConvertedBy overflow c d round) (number_from 0 input.now) width 64 output.old
+        counts }
+    ensures { let c = constants_of S.Flagged in let d = constants_of T.Flagged in
+        IsBlock (IsConvertedBy overflow c d round) 4 width 64 input.now output.new result }
+{
+    let mut counts = counts;
+    for index in 0..BLOCK {
+        let from = index * 4;
+        let source = &input[from..from + 4];
+        if !is_finite(word_of(source)) {
+            let to = index * width;
+            let target = &mut output[to..to + width];
+            counts.raise(convert_slowly::<S, T>(overflow, round, source, target));
+        }
+    }
+    counts
+}
