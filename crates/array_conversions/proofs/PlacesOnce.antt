@@ -38,7 +38,7 @@ same_bytes (a ∷ bytes) (b ∷ others) x y size same =
 -- ---- lists
 
 -- there is an element at each index
-element : {O : Type 0} (outcomes : List O) (index : ℕ) → index < length outcomes
+pub element : {O : Type 0} (outcomes : List O) (index : ℕ) → index < length outcomes
     → (outcome : O) × (slice_get outcomes index ≡ Some outcome)
 element [] index h = absurd (omega (arith, h))
 element (outcome ∷ outcomes) zero h = (outcome, refl)
