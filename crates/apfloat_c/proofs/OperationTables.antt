@@ -1,18 +1,19 @@
 -- Counts of few elements, and results that are looked up in a table.
-use Rattle.std.proofs.Common.{◌≡◌, ℕ, ◌+◌, ◌-◌, ◌*◌, ◌/◌, ◌%◌, ◌^◌, ◌<◌, ◌≤◌, Bool, List, [], ◌∷◌, ◌++◌, length, refl, sym, subst, ap, ◌∙◌, lit≤, arith}
+use Rattle.std.proofs.Common.{◌≡◌, ℕ, ◌+◌, ◌-◌, ◌*◌, ◌/◌, ◌%◌, ◌^◌, ◌<◌, ◌≤◌, Bool, true, false, zero, suc, List, [], ◌∷◌, ◌++◌, length, refl, take, drop, sym, subst, ap, ◌∙◌, lit≤, arith}
 use Rattle.std.proofs.Math.Path.{subst₂, ap₂}
 use borrow.Rule.Slice.PartMut.{put_mid}
 use Rattle.std.specs.Prelude.{slice_get, slice_range, IfSome, Some}
 use Rattle.array_conversions.specs.Blocks.{AreInPlaces, value_at}
 use Rattle.array_conversions.specs.Bytes.{number_of}
 use Rattle.array_conversions.specs.Outcomes.{one_if}
+use Rattle.array_conversions.proofs.Places.{places_more, places_none}
 use Rattle.array_conversions.proofs.PlacesOnce.{element as element_at}
 use Rattle.apfloat_c.specs.declared.array_calls.MapCall.{MapCall}
 use Rattle.apfloat_c.specs.declared.array_data.Element.{Element}
 use Rattle.apfloat_c.specs.declared.array_data.ElementCounts.{ElementCounts}
 use Rattle.apfloat_c.specs.ArrayCalls.{bytes_in}
 use Rattle.apfloat_c.specs.Arrays.{AreElements, IsElement, became_nan, raised, with_element}
-use Rattle.apfloat_c.proofs.ElementCalls.{elements_more}
+use Rattle.apfloat_c.proofs.ElementCalls.{elements_more, result_fits}
 use Rattle.apfloat_c.specs.OperationTables.{AreAtMost, IsEntry, IsTable, digits_of, mark_of, packed_of, sum_of}
 
 -- ---- digits to the base 256
@@ -148,26 +149,73 @@ none_yet =
       div_by_zero = 0;
     }
 
+sum_none : (counted : ElementCounts) → sum_of counted none_yet ≡ counted
+unfolding none_yet
+sum_none counted =
+    let none : (n : ℕ) → n + 0 ≡ n = λ n. omega arith in
+    let values = none counted.counts.values in
+    let inexact = none counted.counts.inexact in
+    let underflow = none counted.counts.underflow in
+    let overflow = none counted.counts.overflow in
+    let invalid = none counted.counts.invalid in
+    let nans = none counted.counts.nans in
+    let divided = none counted.div_by_zero in
+    let same : sum_of counted none_yet
+    ≡ record {
+      counts = record {
+        values = counted.counts.values;
+        inexact = counted.counts.inexact;
+        underflow = counted.counts.underflow;
+        overflow = counted.counts.overflow;
+        invalid = counted.counts.invalid;
+        nans = counted.counts.nans;
+      };
+      div_by_zero = counted.div_by_zero;
+    } = cc in
+    same
+
+none_at_most : AreAtMost 0 none_yet
+unfolding none_yet
+none_at_most =
+    record {
+      values = refl;
+      inexact = lit≤ tt;
+      underflow = lit≤ tt;
+      overflow = lit≤ tt;
+      invalid = lit≤ tt;
+      nans = lit≤ tt;
+      div_by_zero = lit≤ tt;
+    }
+
+packed_none : 0 ≡ packed_of none_yet
+unfolding none_yet
+packed_none = omega arith
+
 pub nothing_yet : (map : MapCall) (xs ys : List ℕ) (first : ℕ) (counted : ElementCounts) (output : List ℕ)
     → AreElements map xs ys [] first output counted → HaveSoFar map xs ys first first counted 0 output
 nothing_yet map xs ys first counted output so_far =
-    let same : sum_of counted none_yet ≡ counted = refl in
     record {
       done = 0;
-      index_is = refl;
+      index_is = omega arith;
       few = none_yet;
-      most = record {
-        values = refl;
-        inexact = lit≤ tt;
-        underflow = lit≤ tt;
-        overflow = lit≤ tt;
-        invalid = lit≤ tt;
-        nans = lit≤ tt;
-        div_by_zero = lit≤ tt;
-      };
-      packed_is = refl;
-      are = subst (AreElements map xs ys [] first output) (sym same) so_far;
+      most = none_at_most;
+      packed_is = packed_none;
+      are = subst (AreElements map xs ys [] first output) (sym (sum_none counted)) so_far;
     }
+
+-- an operand that is not there has no bytes
+drop_none : (n : ℕ) → drop {A = ℕ} n [] ≡ []
+drop_none zero = refl
+drop_none (suc n) = refl
+
+take_none : (n : ℕ) → take {A = ℕ} n [] ≡ []
+take_none zero = refl
+take_none (suc n) = refl
+
+nothing_at : (from to : ℕ) → 0 ≡ number_of (slice_range [] from to)
+nothing_at from to =
+    sym (ap (λ (bytes : List ℕ). number_of (take (to - from) bytes)) (drop_none from)
+    ∙ ap number_of (take_none (to - from)))
 
 pub one_more : (map : MapCall) (xs ys : List ℕ) (first index count : ℕ) (counted : ElementCounts)
     (packed mark : ℕ)
@@ -192,17 +240,17 @@ one_more map xs ys first index count counted packed mark output new x y byte bef
           (AreElements map xs ys [] (index + 1) (put_mid (index * 1) (index * 1 + 1 - index * 1) output new))
           (sum_more counted so_far.few e)
           (elements_more map xs ys [] 1 index count x y 0 output new (sum_of counted so_far.few) e (sym byte) before
-          all one x_is y_is refl made.1 so_far.are);
+          all one x_is y_is (nothing_at (index * 1) (index * 1 + 1)) made.1 so_far.are);
     }
 
 -- the counts after a block, each of them out of its digit
-pub taken_out : (counted few : ElementCounts) (size packed : ℕ) → size ≤ 255 → AreAtMost size few
+pub taken_out : (few : ElementCounts) (size packed : ℕ) → size ≤ 255 → AreAtMost size few
     → packed ≡ packed_of few
     → (packed % 256 ≡ few.counts.invalid) × (packed / 256 % 256 ≡ few.div_by_zero)
     × (packed / 256 / 256 % 256 ≡ few.counts.overflow) × (packed / 256 / 256 / 256 % 256 ≡ few.counts.underflow)
     × (packed / 256 / 256 / 256 / 256 % 256 ≡ few.counts.inexact)
     × (packed / 256 / 256 / 256 / 256 / 256 % 256 ≡ few.counts.nans)
-taken_out counted few size packed small it is =
+taken_out few size packed small it is =
     let c = few.counts in
     let most : (n : ℕ) → n ≤ size → n ≤ 255 = λ n h. omega (arith, h, small) in
     let p1 = others c.invalid (few.div_by_zero + 256 * (c.overflow + 256 * (c.underflow + 256 * (c.inexact
@@ -223,3 +271,63 @@ taken_out counted few size packed small it is =
       lowest c.inexact _ (packed / 256 / 256 / 256 / 256) p4 (most c.inexact it.inexact),
       lowest c.nans 0 (packed / 256 / 256 / 256 / 256 / 256) last (most c.nans it.nans),
     )
+
+-- each count of a block fits above the counts before
+pub sum_fits : (n few first size : ℕ) → n ≤ first → few ≤ size → first + size < 2 ^ 64 → n + few < 2 ^ 64
+sum_fits n few first size most least room = omega (arith, most, least, room)
+
+-- the counts of few elements after others are at most as many as both
+pub most_sum : (first size : ℕ) (counted few : ElementCounts) → AreAtMost first counted → AreAtMost size few
+    → AreAtMost (first + size) (sum_of counted few)
+most_sum first size counted few before it =
+    let added : (a b : ℕ) → a ≤ first → b ≤ size → a + b ≤ first + size = λ a b p q. omega (arith, p, q) in
+    record {
+      values = ap₂ (λ (a : ℕ) (b : ℕ). a + b) before.values it.values;
+      inexact = added counted.counts.inexact few.counts.inexact before.inexact it.inexact;
+      underflow = added counted.counts.underflow few.counts.underflow before.underflow it.underflow;
+      overflow = added counted.counts.overflow few.counts.overflow before.overflow it.overflow;
+      invalid = added counted.counts.invalid few.counts.invalid before.invalid it.invalid;
+      nans = added counted.counts.nans few.counts.nans before.nans it.nans;
+      div_by_zero = added counted.div_by_zero few.div_by_zero before.div_by_zero it.div_by_zero;
+    }
+
+-- the entry that is filled
+pub entry_made : (map : MapCall) (place mark : ℕ) (bytes entry : List ℕ) (e : Element) → bytes_in map.kind ≡ 1
+    → IsElement map (place / 256) (place % 256) 0 bytes e → mark ≡ mark_of e
+    → number_of entry ≡ number_of bytes + 256 * mark → IsEntry map place entry e
+entry_made map place mark bytes entry e byte is mark_is written =
+    let fits : number_of bytes < 256 ^ bytes_in map.kind =
+    subst (λ (n : ℕ). n < 256 ^ bytes_in map.kind) (sym is.bits_are)
+    (result_fits map.kind map.round map.operation (place / 256) (place % 256) 0 is.answer is.is_answer) in
+    let below : number_of bytes < 256 = subst (λ (w : ℕ). number_of bytes < 256 ^ w) byte fits in
+    let same : number_of bytes + 256 * 0 ≡ number_of bytes = omega arith in
+    record {
+      result = number_of bytes;
+      is_byte = below;
+      is_element = same_number map (place / 256) (place % 256) 0 bytes (number_of bytes ∷ []) e same is;
+      number_is = written ∙ ap (λ (n : ℕ). number_of bytes + 256 * n) mark_is;
+    }
+
+pub entry_fits : (map : MapCall) (place mark : ℕ) (bytes : List ℕ) (e : Element) → bytes_in map.kind ≡ 1
+    → IsElement map (place / 256) (place % 256) 0 bytes e → mark < 2 ^ 48
+    → number_of bytes + 256 * mark < 256 ^ 8
+entry_fits map place mark bytes e byte is few =
+    let fits : number_of bytes < 256 ^ bytes_in map.kind =
+    subst (λ (n : ℕ). n < 256 ^ bytes_in map.kind) (sym is.bits_are)
+    (result_fits map.kind map.round map.operation (place / 256) (place % 256) 0 is.answer is.is_answer) in
+    let below : number_of bytes < 256 = subst (λ (w : ℕ). number_of bytes < 256 ^ w) byte fits in
+    omega (arith, below, few)
+
+-- ---- the table
+
+pub no_entries : (map : MapCall) (table : List ℕ) → IsTable map 0 table
+no_entries map table = record { elements = []; places = places_none (IsEntry map) 8 table }
+
+pub entries_more : (map : MapCall) (place : ℕ) (table entry : List ℕ) (e : Element) → place < 65536
+    → length table ≡ 65536 * 8 → length entry ≡ 8 → IsEntry map place entry e → IsTable map place table
+    → IsTable map (place + 1) (put_mid (place * 8) (place * 8 + 8 - place * 8) table entry)
+entries_more map place table entry e within size long is so_far =
+    record {
+      elements = so_far.elements ++ e ∷ [];
+      places = places_more (IsEntry map) 8 place 65536 table entry so_far.elements e within size long is so_far.places;
+    }

@@ -143,6 +143,7 @@ impl MapCall {
     ) -> ElementCounts
         requires byte { bytes_in self.kind ≡ 1 }
         requires few { size ≤ 255 }
+        requires room { first + size < 2 ^ 64 }
         requires xs { first + size ≤ length xs.now }
         requires ys { length ys.now ≡ length xs.now }
         requires output { length output.old ≡ length xs.now }
@@ -189,13 +190,24 @@ fn byte_at(bytes: &[u8], index: usize) -> usize
     ensures within { result < 256 }
 {
     let from = index * 1;
-    number_of(&bytes[from..from + 1]) as usize
+    place_of(&bytes[from..from + 1])
+}
+
+/// The number that a byte is.
+#[inline(always)]
+fn place_of(bytes: &[u8]) -> usize
+    requires { length bytes.now ≡ 1 }
+    ensures is { result ≡ number_of bytes.now }
+    ensures within { result < 256 }
+{
+    usize::from(bytes[0])
 }
 
 /// The counts after those of a block, which are packed in a number.
 fn with_packed(counted: ElementCounts, size: u64, packed: u64) -> ElementCounts
     requires few { size ≤ 255 }
     requires room { (first : ℕ) × AreAtMost first counted × (first + size < 2 ^ 64) }
+    requires packed { (few : ElementCounts) × AreAtMost size few × (packed ≡ packed_of few) }
     ensures { (few : ElementCounts) → AreAtMost size few → packed ≡ packed_of few
         → result ≡ sum_of counted few }
 {
