@@ -280,7 +280,8 @@ sum_fits n few first size most least room = omega (arith, most, least, room)
 pub most_sum : (first size : ℕ) (counted few : ElementCounts) → AreAtMost first counted → AreAtMost size few
     → AreAtMost (first + size) (sum_of counted few)
 most_sum first size counted few before it =
-    let added : (a b : ℕ) → a ≤ first → b ≤ size → a + b ≤ first + size = λ a b p q. omega (arith, p, q) in
+    let added : (a b : ℕ) → a ≤ first
+    → b ≤ size → a + b ≤ first + size = λ a b p q. omega (arith, p, q) in
     record {
       values = ap₂ (λ (a : ℕ) (b : ℕ). a + b) before.values it.values;
       inexact = added counted.counts.inexact few.counts.inexact before.inexact it.inexact;
