@@ -20,9 +20,7 @@ use crate::codes::{
     one_if, order_code,
 };
 use crate::data::Answer;
-use apfloat_encoded::{
-    Encoded, add_bits, add_normal, multiply_bits, root_bits, subtract_bits, subtract_normal,
-};
+use apfloat_encoded::{Encoded, add_normal, multiply_bits, root_bits, subtract_normal};
 use formats_at_run_time::{FillsInFormat, FlaggedKind, ValueType};
 use rustc_apfloat::ieee::{Flagged, IeeeFloat};
 use rustc_apfloat::{Float, FloatConvert, Round, Status, StatusAnd};
@@ -45,7 +43,11 @@ pub fn sum_here<S: Flagged>(answer: &mut Answer, round: Round, x: u128, y: u128)
     ensures { let kind = of_format (constants_of S.Flagged) in
         IsKindAnswer kind round (OfTwo Sum x y) answer.new }
 {
-    *answer = with_bits(add_bits::<S>(x, y, round));
+    if let Some(sum) = add_normal::<S>(x, y, round) {
+        *answer = with_bits(sum);
+    } else {
+        sum::<IeeeFloat<S>>(answer, round, x, y);
+    }
 }
 
 /// A sum in a format, from bits to bits.
@@ -55,11 +57,7 @@ pub fn sum_in<S: Flagged>(answer: &mut Answer, round: Round, x: u128, y: u128)
     ensures { let kind = of_format (constants_of S.Flagged) in
         IsKindAnswer kind round (OfTwo Sum x y) answer.new }
 {
-    if let Some(sum) = add_normal::<S>(x, y, round) {
-        *answer = with_bits(sum);
-    } else {
-        sum::<IeeeFloat<S>>(answer, round, x, y);
-    }
+    sum_here::<S>(answer, round, x, y)
 }
 
 /// A difference in a format, from bits to bits, in line.
@@ -69,7 +67,11 @@ pub fn difference_here<S: Flagged>(answer: &mut Answer, round: Round, x: u128, y
     ensures { let kind = of_format (constants_of S.Flagged) in
         IsKindAnswer kind round (OfTwo Difference x y) answer.new }
 {
-    *answer = with_bits(subtract_bits::<S>(x, y, round));
+    if let Some(difference) = subtract_normal::<S>(x, y, round) {
+        *answer = with_bits(difference);
+    } else {
+        difference::<IeeeFloat<S>>(answer, round, x, y);
+    }
 }
 
 /// A difference in a format, from bits to bits.
@@ -79,11 +81,7 @@ pub fn difference_in<S: Flagged>(answer: &mut Answer, round: Round, x: u128, y: 
     ensures { let kind = of_format (constants_of S.Flagged) in
         IsKindAnswer kind round (OfTwo Difference x y) answer.new }
 {
-    if let Some(difference) = subtract_normal::<S>(x, y, round) {
-        *answer = with_bits(difference);
-    } else {
-        difference::<IeeeFloat<S>>(answer, round, x, y);
-    }
+    difference_here::<S>(answer, round, x, y)
 }
 
 /// A product in a format, from bits to bits, in line.

@@ -3,11 +3,11 @@ use Rattle.rustc_apfloat.specs.FlaggedTypes.{format_of, layout_of}
 use Rattle.rustc_apfloat.specs.Layout.{IsEncodedBy}
 use Rattle.apfloat_c.proofs.answers.sum_here.Goals as goal
 
-pub returns : goal.returns
-returns g c =
-    let answer = c.add_bits.ensures in
+pub returns-in-Some : goal.returns-in-Some
+returns-in-Some g c =
+    let answer = c.in-Some.ensures.is_answer in
     record {
-      given = record { status = c.add_bits.result.status; value = answer.value };
+      given = record { status = c.in-Some.sum.status; value = answer.value };
       holds = answer.says;
       is_written = record {
         is_encoded =
