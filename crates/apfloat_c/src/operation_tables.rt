@@ -121,8 +121,8 @@ impl MapCall {
         ensures { AreElements self xs.now ys.now [] count output.new result }
     {
         let mut counted = ElementCounts::NONE;
-        for block in 0..count / BLOCK {
-            let first = block * BLOCK;
+        for number in 0..count / BLOCK {
+            let first = number * BLOCK;
             counted = self.block(xs, ys, first, BLOCK, counted, output, table);
         }
         let rest = count % BLOCK;

@@ -13,10 +13,10 @@ loop-index-preserved c =
     let size : length c.loop-index.output ≡ length c.args.xs.now = c.loop-index.auto.output ∙ c.requires.output in
     let by_width : length c.loop-index.output ≡ length c.args.xs.now * 1 = omega (arith, size) in
     let before : c.loop-index.index < length c.args.xs.now = omega (arith, c.loop-index-test.true, c.requires.xs) in
-    let long : length c.look_up.new.bytes ≡ 1 =
-    c.look_up.auto.bytes
+    let long : length c.look_up-packed.new.bytes ≡ 1 =
+    c.look_up-packed.auto.bytes
     ∙ place_size 1 c.loop-index.index (length c.args.xs.now) c.loop-index.output before by_width in
     one_more c.args.self c.args.xs.now c.args.ys.now c.args.first c.loop-index.index (length c.args.xs.now)
-    c.args.counted c.loop-index.packed c.look_up.result c.loop-index.output c.look_up.new.bytes c.byte_at-x.result
+    c.args.counted c.loop-index.packed c.look_up-packed.result c.loop-index.output c.look_up-packed.new.bytes c.byte_at-x.result
     c.byte_at-y.result c.requires.byte before size long c.byte_at-x.ensures.is c.byte_at-y.ensures.is
-    c.look_up.ensures c.loop-index.invariant
+    c.look_up-packed.ensures c.loop-index.invariant
