@@ -332,3 +332,18 @@ entries_more map place table entry e within size long is so_far =
       elements = so_far.elements ++ e ∷ [];
       places = places_more (IsEntry map) 8 place 65536 table entry so_far.elements e within size long is so_far.places;
     }
+
+-- ---- the end of a block
+
+pub block_done : (map : MapCall) (xs ys : List ℕ) (first index size packed : ℕ) (counted last : ElementCounts)
+    (output : List ℕ) → index ≡ first + size → HaveSoFar map xs ys first index counted packed output
+    → ((few : ElementCounts) → AreAtMost size few → packed ≡ packed_of few → last ≡ sum_of counted few)
+    → AreAtMost first counted
+    → AreElements map xs ys [] (first + size) output last × AreAtMost (first + size) last
+block_done map xs ys first index size packed counted last output at so_far made before =
+    let all : so_far.done ≡ size = omega (arith, at, so_far.index_is) in
+    let most : AreAtMost size so_far.few = subst (λ (n : ℕ). AreAtMost n so_far.few) all so_far.most in
+    let same : last ≡ sum_of counted so_far.few = made so_far.few most so_far.packed_is in (
+      subst₂ (λ (n : ℕ) (c : ElementCounts). AreElements map xs ys [] n output c) at (sym same) so_far.are,
+      subst (AreAtMost (first + size)) (sym same) (most_sum first size counted so_far.few before most),
+    )

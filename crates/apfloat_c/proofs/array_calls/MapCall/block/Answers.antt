@@ -1,6 +1,6 @@
 use Rattle.std.proofs.Common.{◌≡◌, ℕ, ◌+◌, ◌*◌, ◌^◌, ◌<◌, length, ◌∙◌, arith, rules}
 use Rattle.array_conversions.proofs.Places.{place_size}
-use Rattle.apfloat_c.proofs.OperationTables.{nothing_yet, one_more}
+use Rattle.apfloat_c.proofs.OperationTables.{block_done, nothing_yet, one_more}
 use Rattle.apfloat_c.proofs.array_calls.MapCall.block.Goals as goal
 
 pub loop-index-init : goal.loop-index-init
@@ -20,3 +20,21 @@ loop-index-preserved c =
     c.args.counted c.loop-index.packed c.look_up-packed.result c.loop-index.output c.look_up-packed.new.bytes c.byte_at-x.result
     c.byte_at-y.result c.requires.byte before size long c.byte_at-x.ensures.is c.byte_at-y.ensures.is
     c.look_up-packed.ensures c.loop-index.invariant
+
+pub returns-clause-elements : goal.returns-clause-elements
+returns-clause-elements c =
+    let low = c.loop-index-test.false in
+    let high = c.loop-index.auto.index in
+    let last : c.loop-index.index ≡ c.args.first + c.args.size = omega (arith, low, high) in
+    (block_done c.args.self c.args.xs.now c.args.ys.now c.args.first c.loop-index.index c.args.size
+    c.loop-index.packed c.args.counted c.with_packed.result c.loop-index.output last c.loop-index.invariant
+    c.with_packed.ensures c.requires.most).0
+
+pub returns-clause-most : goal.returns-clause-most
+returns-clause-most c =
+    let low = c.loop-index-test.false in
+    let high = c.loop-index.auto.index in
+    let last : c.loop-index.index ≡ c.args.first + c.args.size = omega (arith, low, high) in
+    (block_done c.args.self c.args.xs.now c.args.ys.now c.args.first c.loop-index.index c.args.size
+    c.loop-index.packed c.args.counted c.with_packed.result c.loop-index.output last c.loop-index.invariant
+    c.with_packed.ensures c.requires.most).1
