@@ -17,8 +17,8 @@ loop-index-preserved c =
     c.look_up-packed.auto.bytes
     ∙ place_size 1 c.loop-index.index (length c.args.xs.now) c.loop-index.output before by_width in
     one_more c.args.self c.args.xs.now c.args.ys.now c.args.first c.loop-index.index (length c.args.xs.now)
-    c.args.counted c.loop-index.packed c.look_up-packed.result c.loop-index.output c.look_up-packed.new.bytes c.byte_at-x.result
-    c.byte_at-y.result c.requires.byte before size long c.byte_at-x.ensures.is c.byte_at-y.ensures.is
+    c.args.counted c.loop-index.packed c.look_up-packed.result c.loop-index.output c.look_up-packed.new.bytes
+    c.byte_at-x.result c.byte_at-y.result c.requires.byte before size long c.byte_at-x.ensures.is c.byte_at-y.ensures.is
     c.look_up-packed.ensures c.loop-index.invariant
 
 pub returns-clause-elements : goal.returns-clause-elements
