@@ -73,7 +73,7 @@ elements_more map xs ys zs width index count x y z bytes new counted element is 
 -- ---- the bytes of a result
 
 -- the bits of a value of a format fit in the bytes of an element
-format_fits : (format : FlaggedFormat) → (flagged_constants format).bits ≤ 8 * bytes_in (OfFormat format)
+pub format_fits : (format : FlaggedFormat) → (flagged_constants format).bits ≤ 8 * bytes_in (OfFormat format)
 format_fits (BuiltIn format) = (width_room format Packed).enough
 format_fits (AfterRounding format) = (width_room (format_of_ieee format) Packed).enough
 format_fits (BeforeRounding format) = (width_room (format_of_ieee format) Packed).enough

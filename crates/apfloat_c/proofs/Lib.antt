@@ -15,3 +15,4 @@ pub mod MachineAnswers
 pub mod UsualAnswers
 pub mod MachineOnce
 pub mod OperationTables
+pub mod NormalElements

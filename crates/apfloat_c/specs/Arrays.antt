@@ -2,7 +2,17 @@
 use Rattle.std.specs.Prelude.{◌≡◌, ℕ, ◌+◌, ◌-◌, ◌*◌, ◌/◌, ◌^◌, ◌<◌, ◌==◌, bit_and, Bool, not, if◌then◌else◌, List}
 use Rattle.std.specs.Prelude.{length, take, drop, count_by, Result, Ok, Err}
 use Rattle.rustc_apfloat.specs.Classes.{is_nan, is_nan_category}
+use Rattle.rustc_apfloat.specs.Datum.{Datum}
+use Rattle.rustc_apfloat.specs.Lawful.{Constants, format_with}
 use Rattle.rustc_apfloat.specs.Pairs.{pair_category, pair_of}
+use Rattle.rustc_apfloat.specs.Products.{IsProduct}
+use Rattle.rustc_apfloat.specs.Quotients.{IsQuotient}
+use Rattle.rustc_apfloat.specs.Remainders.{IsNearestRemainder, IsTruncatedRemainder}
+use Rattle.rustc_apfloat.specs.Sums.{IsDifference, IsSum}
+use Rattle.rustc_apfloat.specs.declared.Round.{Round}
+use Rattle.formats_at_run_time.specs.declared.Arithmetic.{Arithmetic}
+use Rattle.formats_at_run_time.specs.declared.Arithmetic.TheVariants.{Sum, Difference, Product, Quotient}
+use Rattle.formats_at_run_time.specs.declared.Arithmetic.TheVariants.{NearestRemainder, TruncatedRemainder}
 use Rattle.formats_at_run_time.specs.BuiltIns.{constants_in}
 use Rattle.formats_at_run_time.specs.FlaggedKinds.{flagged_constants, flagged_kind_of}
 use Rattle.formats_at_run_time.specs.ValueKinds.{Kind, of_format, of_pairs, value_of}
@@ -140,6 +150,15 @@ pub record IsElement (map : MapCall) (x y z : ℕ) (bytes : List ℕ) (element :
   pub bits_are : number_of bytes ≡ whole answer.bits
   pub status_is : element.status ≡ answer.status
   pub nan_is : element.is_nan ≡ is_nan_in (flagged_kind_of map.kind) (whole answer.bits)
+
+-- what an operation on two values of a format gives
+abbrev pub relation_of_two : Constants → Arithmetic → Round → Datum → Datum → Datum → ℕ → Type 0
+relation_of_two c Sum mode x y = IsSum (format_with c) mode x y
+relation_of_two c Difference mode x y = IsDifference (format_with c) mode x y
+relation_of_two c Product mode x y = IsProduct (format_with c) mode x y
+relation_of_two c Quotient mode x y = IsQuotient (format_with c) mode x y
+relation_of_two c NearestRemainder mode x y = IsNearestRemainder (format_with c) x y
+relation_of_two c TruncatedRemainder mode x y = IsTruncatedRemainder (format_with c) x y
 
 -- the operands of an index; an operand that the operation does not take has no bytes
 abbrev pub IsElementAt : MapCall → List ℕ → List ℕ → List ℕ → ℕ → List ℕ → Element → Type 0

@@ -14,6 +14,7 @@ ghost use Rattle.apfloat_c.specs.Arrays.{AreElements, IsElement, call_of, is_nan
 use crate::array_calls::{ElementOperation, MapCall, bytes_in};
 use crate::array_data::{Element, ElementCounts};
 use crate::data::Answer;
+use crate::normal_elements::{NormalDifference, NormalProduct, NormalSum, normal_elements};
 use crate::operations::{
     DifferenceCall, FusedSumCall, InType, KindOperation, NearestRemainderCall, ProductCall,
     QuotientCall, SquareRootCall, SumCall, TruncatedRemainderCall,
@@ -152,7 +153,8 @@ fn call_in_pairs(map: MapCall, x: u128, y: u128, z: u128, answer: &mut Answer) -
     }
 }
 /// The number of the bytes from this place on; 0 if there are no bytes at all.
-fn number_at(bytes: &[u8], place: usize, width: usize) -> u128
+#[inline]
+pub fn number_at(bytes: &[u8], place: usize, width: usize) -> u128
     requires few { width ≤ 16 }
     requires within { (length bytes.now ≡ 0) ⊎ (place + width ≤ length bytes.now) }
     ensures { result ≡ number_of (slice_range bytes.now place (place + width)) }
@@ -178,6 +180,22 @@ pub fn element<C: ElementCalls>(calls: C, x: u128, y: u128, z: u128, bytes: &mut
         status: answer.status,
         is_nan: calls.is_nan(bits),
     }
+}
+
+/// The same out of line.
+#[inline(never)]
+pub fn element_apart<C: ElementCalls>(
+    calls: C,
+    x: u128,
+    y: u128,
+    z: u128,
+    bytes: &mut [u8],
+) -> Element
+    requires can { C.can calls }
+    requires bytes { length bytes.old ≡ bytes_in (C.map calls).kind }
+    ensures { IsElement (C.map calls) x y z bytes.new result }
+{
+    element(calls, x, y, z, bytes)
 }
 
 /// Applies the operation to each element, each of which takes `width` bytes. The arrays of operands that it does not
@@ -215,7 +233,7 @@ fn elements<C: ElementCalls>(
 
 /// The same out of line, for widths that are not the fewest bytes that the bits take.
 #[inline(never)]
-fn elements_apart<C: ElementCalls>(
+pub fn elements_apart<C: ElementCalls>(
     calls: C,
     width: usize,
     xs: &[u8],
@@ -234,6 +252,69 @@ fn elements_apart<C: ElementCalls>(
     ensures { AreElements (C.map calls) xs.now ys.now zs.now count output.new result }
 {
     elements(calls, width, xs, ys, zs, count, output)
+}
+
+/// The same in the format `S`. The fewest bytes are a constant of it, so that the loop knows how many it reads.
+#[inline(always)]
+fn elements_by_calls<S: Flagged>(
+    calls: FormatCalls<S>,
+    width: usize,
+    xs: &[u8],
+    ys: &[u8],
+    zs: &[u8],
+    count: usize,
+    output: &mut [u8],
+) -> ElementCounts
+    requires format { S.PRECISION < S.BITS }
+    requires kind { of_format (constants_of S.Flagged) ≡ flagged_kind_of calls.map.kind }
+    requires width { width ≡ bytes_in calls.map.kind }
+    requires few { width ≤ 16 }
+    requires xs { length xs.now ≡ count * width }
+    requires ys { (length ys.now ≡ 0) ⊎ (length ys.now ≡ count * width) }
+    requires zs { (length zs.now ≡ 0) ⊎ (length zs.now ≡ count * width) }
+    requires output { length output.old ≡ count * width }
+    ensures { AreElements calls.map xs.now ys.now zs.now count output.new result }
+{
+    if width == S::BITS.div_ceil(8) {
+        elements(calls, S::BITS.div_ceil(8), xs, ys, zs, count, output)
+    } else {
+        elements_apart(calls, width, xs, ys, zs, count, output)
+    }
+}
+
+/// The same in the format `S`, where sums, differences and products have loops of their own.
+#[inline(always)]
+fn elements_in_format<S: Flagged>(
+    calls: FormatCalls<S>,
+    width: usize,
+    xs: &[u8],
+    ys: &[u8],
+    zs: &[u8],
+    count: usize,
+    output: &mut [u8],
+) -> ElementCounts
+    requires format { S.PRECISION < S.BITS }
+    requires kind { of_format (constants_of S.Flagged) ≡ flagged_kind_of calls.map.kind }
+    requires width { width ≡ bytes_in calls.map.kind }
+    requires few { width ≤ 16 }
+    requires xs { length xs.now ≡ count * width }
+    requires ys { (length ys.now ≡ 0) ⊎ (length ys.now ≡ count * width) }
+    requires zs { (length zs.now ≡ 0) ⊎ (length zs.now ≡ count * width) }
+    requires output { length output.old ≡ count * width }
+    ensures { AreElements calls.map xs.now ys.now zs.now count output.new result }
+{
+    match calls.map.operation {
+        ElementOperation::OfTwo(Arithmetic::Sum) => {
+            normal_elements(NormalSum, calls, width, xs, ys, zs, count, output)
+        }
+        ElementOperation::OfTwo(Arithmetic::Difference) => {
+            normal_elements(NormalDifference, calls, width, xs, ys, zs, count, output)
+        }
+        ElementOperation::OfTwo(Arithmetic::Product) => {
+            normal_elements(NormalProduct, calls, width, xs, ys, zs, count, output)
+        }
+        _ => elements_by_calls(calls, width, xs, ys, zs, count, output),
+    }
 }
 
 /// An operation on arrays with its operands, each of which takes `width` bytes.
@@ -273,12 +354,7 @@ impl WritesInFormat for ArraysCall<'_> {
             map,
             format: PhantomData,
         };
-        // The fewest bytes are a constant of the format, so that the loop knows how many it reads.
-        if width == S::BITS.div_ceil(8) {
-            elements(calls, S::BITS.div_ceil(8), xs, ys, zs, count, output)
-        } else {
-            elements_apart(calls, width, xs, ys, zs, count, output)
-        }
+        elements_in_format(calls, width, xs, ys, zs, count, output)
     }
 }
 

@@ -25,6 +25,7 @@ mod ieee_operations;
 mod machine_call;
 mod machine_operations;
 mod maps;
+mod normal_elements;
 mod one_answer;
 mod operation_tables;
 mod operations;
