@@ -433,8 +433,9 @@ uint32_t apfloat_map_array(uint32_t format, uint32_t mode, uint32_t operation, c
                            uint8_t *results, size_t results_length, apfloat_array_answer *answer);
 
 /* The same with memory lent to the call: with at least APFLOAT_TABLE_BYTES of it, an operation on two arrays of at
- * least 2^17 values of 8 bits computes its results for all pairs of values once, there, and takes each element's result from
- * these. Without, or for other arrays, it is apfloat_map_array. What the memory contains afterwards is not said. */
+ * least 2^17 values of 8 bits computes its results for all pairs of values once, there, and takes each element's
+ * result from these. Without, or for other arrays, it is apfloat_map_array. What the memory contains afterwards is not
+ * said. */
 #define APFLOAT_TABLE_BYTES ((size_t)1 << 19)
 uint32_t apfloat_map_array_by_table(uint32_t format, uint32_t mode, uint32_t operation, const uint8_t *xs,
                                     size_t xs_length, const uint8_t *ys, size_t ys_length, const uint8_t *zs,
