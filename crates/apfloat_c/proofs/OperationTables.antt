@@ -2,8 +2,8 @@
 use Rattle.std.proofs.Common.{◌≡◌, ℕ, ◌+◌, ◌-◌, ◌*◌, ◌/◌, ◌%◌, ◌^◌, ◌<◌, ◌≤◌, Bool, true, false, zero, suc, List, [], ◌∷◌, ◌++◌, length, refl, take, drop, sym, subst, ap, ◌∙◌, lit≤, arith}
 use Rattle.std.proofs.Math.Path.{subst₂, ap₂}
 use borrow.Rule.Slice.PartMut.{put_mid}
-use Rattle.std.specs.Prelude.{slice_get, slice_range, IfSome, Some}
-use Rattle.array_conversions.specs.Blocks.{AreInPlaces, value_at}
+use Rattle.std.specs.Prelude.{slice_range, IfSome}
+use Rattle.array_conversions.specs.Blocks.{value_at}
 use Rattle.array_conversions.specs.Bytes.{number_of}
 use Rattle.array_conversions.specs.Outcomes.{one_if}
 use Rattle.array_conversions.proofs.Places.{places_more, places_none}

@@ -1,4 +1,4 @@
-use Rattle.std.proofs.Common.{◌≡◌, ℕ, ◌*◌, length, ◌∙◌}
+use Rattle.std.proofs.Common.{◌≡◌, ◌*◌, length, ◌∙◌}
 use Rattle.array_conversions.proofs.Places.{place_size}
 use Rattle.apfloat_c.proofs.OperationTables.{entries_more, no_entries}
 use Rattle.apfloat_c.proofs.operation_tables.fill.Goals as goal

@@ -1,4 +1,4 @@
-use Rattle.std.proofs.Common.{◌≡◌, ℕ, ◌+◌, ◌*◌, ◌^◌, ◌<◌, length, sym, subst, ap, ◌∙◌, rules}
+use Rattle.std.proofs.Common.{ℕ, ◌+◌, ◌*◌, ◌^◌, ◌<◌, sym, subst, ap, ◌∙◌, rules}
 use Rattle.apfloat_c.proofs.OperationTables.{entry_fits, entry_made}
 use Rattle.apfloat_c.proofs.operation_tables.fill_entry.Goals as goal
 

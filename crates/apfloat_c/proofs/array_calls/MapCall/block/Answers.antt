@@ -1,4 +1,4 @@
-use Rattle.std.proofs.Common.{◌≡◌, ℕ, ◌+◌, ◌*◌, ◌^◌, ◌<◌, length, ◌∙◌, arith, rules}
+use Rattle.std.proofs.Common.{◌≡◌, ◌+◌, ◌*◌, ◌<◌, length, ◌∙◌, arith}
 use Rattle.array_conversions.proofs.Places.{place_size}
 use Rattle.apfloat_c.proofs.OperationTables.{block_done, nothing_yet, one_more}
 use Rattle.apfloat_c.proofs.array_calls.MapCall.block.Goals as goal

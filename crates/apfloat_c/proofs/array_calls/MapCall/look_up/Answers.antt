@@ -1,4 +1,3 @@
-use Rattle.std.proofs.Common.{◌∙◌}
 use Rattle.apfloat_c.proofs.OperationTables.{looked_up}
 use Rattle.apfloat_c.proofs.array_calls.MapCall.look_up.Goals as goal
 
