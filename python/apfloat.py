@@ -1783,9 +1783,11 @@ class Array(_Elements, _Arithmetic[Any]):
             return self._with_signs(*[operand._stretched(shape) for operand in operands])
         data = [operand._stretched(shape)._data for operand in operands] + [b''] * (3 - len(operands))
         words = [word for each in data for word in (each, len(each))]
-        call, lent = 'map_array', ()
+        call = 'map_array'
+        lent: tuple[Any, ...] = ()
         if self.format._bytes == 1 and len(operands) == 2 and len(data[0]) >= _LEAST_BY_TABLE:
-            call, lent = 'map_array_by_table', (ctypes.create_string_buffer(_TABLE_BYTES), _TABLE_BYTES)
+            call = 'map_array_by_table'
+            lent = ctypes.create_string_buffer(_TABLE_BYTES), _TABLE_BYTES
         return _array_call(call, self.format.code, context().mode, _OPERATIONS[name], *words, of=self.format,
                            shape=shape, lent=lent)
 

@@ -718,6 +718,17 @@ class SignTests(unittest.TestCase):
 class ArrayTests(unittest.TestCase):
     """Shapes, signs, orders."""
 
+    def test_long_arrays_of_8_bits(self):
+        """They are computed by a table of all results, and so are those of each half without."""
+        for format in SMALL:
+            lefts = format.from_bits([place >> 8 & 0xff for place in range(1 << 17)])
+            rights = format.from_bits([place & 0xff for place in range(1 << 17)])
+            for operation in operator.add, operator.sub, operator.mul, operator.truediv:
+                whole = operation(lefts, rights)
+                half = operation(lefts[:1 << 16], rights[:1 << 16])
+                self.assertEqual(whole.bits, half.bits * 2)
+                self.assertEqual(whole.counts, {name: 2 * count for name, count in half.counts.items()})
+
     def test_parts(self):
         nested = [[[n * 12 + m * 4 + k for k in range(4)] for m in range(3)] for n in range(2)]
         xs = apfloat.single.array(nested)
