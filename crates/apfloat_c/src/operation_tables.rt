@@ -1,5 +1,5 @@
-//! Operations on long arrays of values of 8 bits, by a table of the results for all pairs of values. The operation itself
-//! fills it, in memory that the caller lends.
+//! Operations on long arrays of values of 8 bits, by a table of the results for all pairs of values. The operation
+//! itself fills it, in memory that the caller lends.
 
 ghost use Rattle.std.specs.Prelude.{◌≡◌, ◌⊎◌, ℕ, ◌+◌, ◌*◌, ◌^◌, ◌<◌, ◌≤◌, IsTrue, [], length, true};
 ghost use Rattle.rustc_apfloat.specs.FlaggedTypes.{constants_of};
