@@ -59,11 +59,21 @@ static void calls_plain(int count)
     }
 }
 
+/* An operand that an operation does not take is zero. */
 static void calls_machine(int count)
 {
     const uint32_t f = format, even = APFLOAT_NEAREST_EVEN, to = target, operation = code;
-    for (int i = 0; i < count; i++)
-        apfloat_machine(APFLOAT_MACHINE_X86, operation, f, even, to, x[i], y[i], z[i], &machine[i]);
+    const apfloat_halves none = {0, 0};
+    switch (code) {
+    case APFLOAT_FMA:
+        EACH(apfloat_machine(APFLOAT_MACHINE_X86, operation, f, even, to, x[i], y[i], z[i], &machine[i]));
+    case APFLOAT_ADD:
+    case APFLOAT_MUL:
+    case APFLOAT_DIV:
+        EACH(apfloat_machine(APFLOAT_MACHINE_X86, operation, f, even, to, x[i], y[i], none, &machine[i]));
+    default:
+        EACH(apfloat_machine(APFLOAT_MACHINE_X86, operation, f, even, to, x[i], none, none, &machine[i]));
+    }
 }
 
 /* The nanoseconds of a call in a round, if it is less than before. */

@@ -16,3 +16,5 @@ pub mod UsualAnswers
 pub mod MachineOnce
 pub mod OperationTables
 pub mod NormalElements
+pub mod NumberAnswers
+pub mod DecimalReadings

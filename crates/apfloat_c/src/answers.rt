@@ -1,7 +1,7 @@
 //! The results of calls in a kind of values. Each of these functions writes one into its place. The place is the first
 //! argument, so that the operands stay in the registers in which C passes them.
 
-ghost use Rattle.std.specs.Prelude.{◌≡◌, ◌<◌, pos};
+ghost use Rattle.std.specs.Prelude.{◌≡◌, ◌<◌, eqb, not, pos};
 ghost use Rattle.rustc_apfloat.specs.Flags.{bits_of};
 ghost use Rattle.rustc_apfloat.specs.FlaggedTypes.{constants_of};
 ghost use Rattle.formats_at_run_time.specs.declared.Arithmetic.TheVariants.{Sum, Difference, Product, Quotient};
@@ -13,17 +13,19 @@ ghost use Rattle.apfloat_c.specs.declared.exported_call.ExportedCall.TheVariants
 ghost use Rattle.apfloat_c.specs.declared.exported_call.ExportedCall.TheVariants.{ToSigned, RoundToIntegral, Scaling};
 ghost use Rattle.apfloat_c.specs.declared.exported_call.ExportedCall.TheVariants.{Fraction, Conversion, Text};
 ghost use Rattle.apfloat_c.specs.Answers.{FractionFits, IsConvertedInto, IsKindAnswer, IsLeft, IsNumber, IsTypeAnswer};
-ghost use Rattle.apfloat_c.specs.Answers.{IsTypeLeft, IsValue, IsWritten, class_of, order_code, whole};
+ghost use Rattle.apfloat_c.specs.Answers.{IsTypeLeft, IsValue, IsWritten, class_of, one_if, order_code, whole};
 
 use crate::codes::{
     ANSWERED, NO_SUCH_OPERATION, REFUSED_TEXT, UNKNOWN_FORMAT, WRONG_WIDTH, class_code, is_width,
     one_if, order_code,
 };
 use crate::data::Answer;
-use apfloat_encoded::{Encoded, add_normal, multiply_bits, root_bits, subtract_normal};
+use apfloat_encoded::{
+    Encoded, add_normal, convert_normal, multiply_bits, root_bits, subtract_normal,
+};
 use formats_at_run_time::{FillsInFormat, FlaggedKind, ValueType};
 use rustc_apfloat::ieee::{Flagged, IeeeFloat};
-use rustc_apfloat::{Float, FloatConvert, Round, Status, StatusAnd};
+use rustc_apfloat::{Flags, Float, FloatConvert, Round, Status, StatusAnd};
 use std::marker::PhantomData;
 
 /// A result that was computed from bits to bits.
@@ -84,17 +86,21 @@ pub fn difference_in<S: Flagged>(answer: &mut Answer, round: Round, x: u128, y: 
     difference_here::<S>(answer, round, x, y)
 }
 
-/// A product in a format, from bits to bits, in line.
+/// A product in a format, in line: from bits to bits, if they fit in a word.
 #[inline(always)]
 pub fn product_here<S: Flagged>(answer: &mut Answer, round: Round, x: u128, y: u128)
     requires { S.PRECISION < S.BITS }
     ensures { let kind = of_format (constants_of S.Flagged) in
         IsKindAnswer kind round (OfTwo Product x y) answer.new }
 {
-    *answer = with_bits(multiply_bits::<S>(x, y, round));
+    if S::BITS <= 64 {
+        *answer = with_bits(multiply_bits::<S>(x, y, round));
+    } else {
+        product_of_type_here::<IeeeFloat<S>>(answer, round, x, y);
+    }
 }
 
-/// A product in a format, from bits to bits.
+/// A product in a format.
 #[inline(never)]
 pub fn product_in<S: Flagged>(answer: &mut Answer, round: Round, x: u128, y: u128)
     requires { S.PRECISION < S.BITS }
@@ -235,17 +241,21 @@ pub fn fused_sum<S: Flagged>(answer: &mut Answer, round: Round, x: u128, y: u128
     fused_sum_here::<S>(answer, round, x, y, z)
 }
 
-/// A square root in a format, from bits to bits, in line.
+/// A square root in a format, in line: from bits to bits, if they fit in a word.
 #[inline(always)]
 pub fn root_here<S: Flagged>(answer: &mut Answer, round: Round, x: u128)
     requires { S.PRECISION < S.BITS }
     ensures { let kind = of_format (constants_of S.Flagged) in
         IsKindAnswer kind round (SquareRoot x) answer.new }
 {
-    *answer = with_bits(root_bits::<S>(x, round));
+    if S::BITS <= 64 {
+        *answer = with_bits(root_bits::<S>(x, round));
+    } else {
+        root_of_type_here::<IeeeFloat<S>>(answer, round, x);
+    }
 }
 
-/// A square root in a format, from bits to bits.
+/// A square root in a format.
 #[inline(never)]
 pub fn root_in<S: Flagged>(answer: &mut Answer, round: Round, x: u128)
     requires { S.PRECISION < S.BITS }
@@ -475,9 +485,35 @@ impl<S: Flagged> FillsInFormat for ConversionFrom<S> {
     }
 }
 
-/// A value of the format `S` in the format `T`.
+/// A value of the format `S` in the format `T`: from bits to bits, if it is a normal number in both.
 #[inline(never)]
 fn converted_to<S: Flagged, T: Flagged>(answer: &mut Answer, round: Round, x: u128)
+    requires source { S.PRECISION < S.BITS }
+    requires target { T.PRECISION < T.BITS }
+    ensures { let c = constants_of S.Flagged in
+        IsConvertedInto c round (value_of c x) (of_format (constants_of T.Flagged)) answer.new }
+{
+    if let Some(number) = convert_normal::<S, T>(x, round) {
+        *answer = converted_number(number);
+    } else {
+        any_converted_to::<S, T>(answer, round, x);
+    }
+}
+
+/// A number that was converted from bits to bits: it is not exact if it has a flag.
+#[inline(always)]
+fn converted_number(number: Encoded) -> Answer
+    ensures bits { whole result.bits ≡ number.bits }
+    ensures status { result.status ≡ bits_of number.status }
+    ensures number { result.number ≡ one_if (not (eqb (bits_of number.status) 0)) }
+{
+    let Encoded { bits, status } = number;
+    Answer::of(bits, status, one_if(status.bits() != 0))
+}
+
+/// Any value of the format `S` in the format `T`.
+#[inline(never)]
+fn any_converted_to<S: Flagged, T: Flagged>(answer: &mut Answer, round: Round, x: u128)
     requires source { S.PRECISION < S.BITS }
     requires target { T.PRECISION < T.BITS }
     ensures { let c = constants_of S.Flagged in

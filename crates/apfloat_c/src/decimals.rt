@@ -1,17 +1,19 @@
 //! Decimal texts as values, and the text of a value's shortest decimal, for C programs.
 
-ghost use Rattle.std.specs.Prelude.{◌≡◌, ◌<◌, ◌++◌, codes, length, pos};
+ghost use Rattle.std.specs.Prelude.{◌≡◌, ◌<◌, ◌++◌, IsTrue, codes, length, pos};
 ghost use Rattle.rustc_apfloat.specs.Lawful.{format_with};
-ghost use Rattle.rustc_apfloat.specs.Types.{constants_of, format_of};
+ghost use Rattle.rustc_apfloat.specs.FlaggedTypes.{constants_of, format_of};
+ghost use Rattle.rustc_apfloat.specs.Types.{format_of as plain_format_of};
+ghost use Rattle.apfloat_decimals.specs.Decimals.{HasQuadExponents};
 ghost use Rattle.apfloat_decimals.specs.ShortestSearch.{IsWithinQuad};
 ghost use Rattle.apfloat_decimals.specs.Texts.{sign_text};
-ghost use Rattle.formats_at_run_time.specs.BuiltIns.{kind_of};
 ghost use Rattle.formats_at_run_time.specs.FlaggedKinds.{flagged_kind_coded};
 ghost use Rattle.formats_at_run_time.specs.FormatKinds.{IfFormat};
 ghost use Rattle.formats_at_run_time.specs.Modes.{mode_coded};
 ghost use Rattle.formats_at_run_time.specs.Relations.{in_pairs};
+ghost use Rattle.formats_at_run_time.specs.ValueKinds.{of_format, of_pairs};
 ghost use Rattle.apfloat_c.specs.Answers.{IsWritten, whole};
-ghost use Rattle.apfloat_c.specs.Decimals.{IsDecimalOutcome, IsKindText, IsParsed, IsShortestWritten, IsText};
+ghost use Rattle.apfloat_c.specs.Decimals.{IsKindText, IsParsed, IsReadInto, IsShortestWritten, IsText};
 ghost use Rattle.apfloat_c.specs.Decimals.{IsValueText, decimal_kind, known_reading, text_format, text_of_shortest};
 
 use crate::answers::with_bits;
@@ -20,9 +22,11 @@ use crate::data::{Answer, Halves};
 use apfloat_decimals::formatting::{CAPACITY, Line, put_decimal};
 use apfloat_decimals::{Decimal, shortest};
 use apfloat_encoded::read_decimal_bits;
-use formats_at_run_time::{BuiltInKind, FlaggedFormat, FlaggedKind, InFormat, InKind, mode_coded};
+use formats_at_run_time::{
+    BuiltInKind, FillsInFormat, FlaggedFormat, FlaggedKind, InFormat, mode_coded,
+};
 use pair_decimals::read_decimal_pair_ascii;
-use rustc_apfloat::ieee::{IeeeFloat, Semantics};
+use rustc_apfloat::ieee::{Flagged, IeeeFloat, Semantics};
 use rustc_apfloat::ppc::DoubleDouble;
 use rustc_apfloat::{Float, Round, StatusAnd};
 
@@ -61,12 +65,9 @@ pub extern "C" fn apfloat_parse_decimal(
     let Some(kind) = decimal_kind(kind) else {
         return NO_SUCH_OPERATION;
     };
-    match read_in(kind, round, text) {
-        Some(read) => {
-            *answer = read;
-            ANSWERED
-        }
-        None => REFUSED_TEXT,
+    match kind {
+        BuiltInKind::OfFormat(format) => format.fill(DecimalReading { round, text }, answer),
+        BuiltInKind::Pairs => read_pair(answer, round, text),
     }
 }
 
@@ -100,18 +101,6 @@ fn decimal_kind(kind: FlaggedKind) -> Option<BuiltInKind>
     }
 }
 
-/// What a text is read as in a kind of values. It is in line, as `BuiltInKind::run` is not.
-#[inline(always)]
-fn read_in(kind: BuiltInKind, round: Round, text: &[u8]) -> Option<Answer>
-    ensures { IsDecimalOutcome (kind_of kind) round text.now result }
-{
-    let reading = DecimalReading { round, text };
-    match kind {
-        BuiltInKind::OfFormat(format) => format.run(reading),
-        BuiltInKind::Pairs => reading.in_pairs(),
-    }
-}
-
 /// A text to be read.
 #[derive(Clone, Copy)]
 struct DecimalReading<'a> {
@@ -119,27 +108,59 @@ struct DecimalReading<'a> {
     text: &'a [u8],
 }
 
-impl InFormat for DecimalReading<'_> {
-    type Output = Option<Answer>;
+impl FillsInFormat for DecimalReading<'_> {
+    type Place = Answer;
 
-    ghost can = { λ _ kind. IfFormat kind (λ c. IsWithinQuad (format_with c)) };
+    type Output = u32;
 
-    ghost gives = { λ it kind answer. IsDecimalOutcome kind it.round it.text.now answer };
+    ghost gives = { λ it kind old new code.
+        IfFormat kind (λ c. HasQuadExponents (format_with c))
+        → IsReadInto kind it.round it.text.now old new code };
 
-    fn in_format<S: Semantics>(self) -> Option<Answer> {
-        match read_decimal_bits::<S>(self.text, self.round) {
-            Ok(read) => Some(with_bits(read)),
-            Err(_) => None,
-        }
+    #[inline(always)]
+    fn fill_in_format<S: Flagged>(self, answer: &mut Answer) -> u32 {
+        read_in_format::<S>(answer, self.round, self.text)
     }
 }
 
-impl InKind for DecimalReading<'_> {
-    fn in_pairs(self) -> Option<Answer> {
-        match read_decimal_pair_ascii(self.text, self.round) {
-            Ok(read) => Some(pair_in_bits(read)),
-            Err(_) => None,
+/// Reads a text in a format. The result is written in place: a copy right after it was written would wait for it.
+#[inline(never)]
+fn read_in_format<S: Flagged>(answer: &mut Answer, round: Round, text: &[u8]) -> u32
+    requires { S.PRECISION < S.BITS }
+    ensures { let c = constants_of S.Flagged in HasQuadExponents (format_of S.Flagged)
+        → IsReadInto (of_format c) round text.now answer.old answer.new result }
+{
+    if !has_quad_exponents::<S>() {
+        return REFUSED_TEXT;
+    }
+    match read_decimal_bits::<S>(text, round) {
+        Ok(read) => {
+            *answer = with_bits(read);
+            ANSWERED
         }
+        Err(_) => REFUSED_TEXT,
+    }
+}
+
+/// Whether the exponents of the format are within those of `quad`, as they are in every built-in format.
+#[inline(always)]
+fn has_quad_exponents<S: Flagged>() -> bool
+    ensures has { IsTrue result → HasQuadExponents (format_of S.Flagged) }
+    ensures every { HasQuadExponents (format_of S.Flagged) → IsTrue result }
+{
+    (S::MIN_EXP >= -16382) & (S::MAX_EXP <= 16383)
+}
+
+/// Reads a text as a pair of doubles.
+fn read_pair(answer: &mut Answer, round: Round, text: &[u8]) -> u32
+    ensures { IsReadInto of_pairs round text.now answer.old answer.new result }
+{
+    match read_decimal_pair_ascii(text, round) {
+        Ok(read) => {
+            *answer = pair_in_bits(read);
+            ANSWERED
+        }
+        Err(_) => REFUSED_TEXT,
     }
 }
 
@@ -180,8 +201,8 @@ enum Shortest {
 
 /// What is written of a value.
 fn shortest_of<S: Semantics>(x: IeeeFloat<S>) -> Shortest
-    requires { IsWithinQuad (format_of S.Semantics) }
-    ensures { IsValueText (format_of S.Semantics) x (text_of_shortest result) }
+    requires { IsWithinQuad (plain_format_of S.Semantics) }
+    ensures { IsValueText (plain_format_of S.Semantics) x (text_of_shortest result) }
 {
     match shortest(x) {
         Some(decimal) => Shortest::Number(decimal),

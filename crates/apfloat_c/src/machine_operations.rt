@@ -19,7 +19,6 @@ ghost use Rattle.apfloat_c.specs.declared.machine_call.MachineOperation.TheVaria
 ghost use Rattle.apfloat_c.specs.declared.machine_call.MachineOperation.TheVariants.{Least, Greatest};
 ghost use Rattle.apfloat_c.specs.declared.exported_call.ExportedCall.TheVariants.{OfTwo as PlainOfTwo};
 ghost use Rattle.apfloat_c.specs.declared.exported_call.ExportedCall.TheVariants.{RoundToIntegral as PlainIntegral};
-ghost use Rattle.apfloat_c.specs.declared.exported_call.ExportedCall.TheVariants.{SquareRoot as PlainRoot};
 ghost use Rattle.apfloat_c.specs.Answers.{IsKindAnswer, IsLeftBy, whole};
 ghost use Rattle.apfloat_c.specs.MachineCalls.{IsMachineAnswer, IsMachineCallAnswer, IsMachineConverted};
 ghost use Rattle.apfloat_c.specs.MachineCalls.{IsMachineConversionLeft, IsMachineConversionTried, IsMachineLeft};
@@ -44,7 +43,7 @@ use crate::usual_operands::{
     is_normal, is_normal_beyond_words, is_number, is_root_of, one_word, three_words, two_words,
 };
 use apfloat_comparisons::round_to_integral_in;
-use apfloat_encoded::convert_normal;
+use apfloat_encoded::{add_normal, convert_normal, subtract_normal};
 use apfloat_machines::{
     Machine, MinimumRule, default_nan, greatest, least, settled, settled_conversion, settled_fused,
     settled_signed, settled_unary, settled_unsigned,
@@ -183,7 +182,7 @@ fn two_of_values<S: Flagged>(
     }
 }
 
-/// A sum of words: the plain one in line, if they are normal numbers.
+/// A sum of words: the plain one from bits to bits, if it and they are normal numbers. That is every machine's.
 #[inline(never)]
 fn sum_of_words<S: Flagged>(
     answer: &mut Answer,
@@ -197,15 +196,16 @@ fn sum_of_words<S: Flagged>(
         (OfTwo Sum x y) answer.old answer.new result }
 {
     let (x, y) = (x as u128, y as u128);
-    if are_normal::<S>(x, y) {
-        answers::sum_here::<S>(answer, round, x, y);
-        ANSWERED
-    } else {
-        of_two_in::<S>(answer, machine, round, Arithmetic::Sum, x, y)
+    if both_fit::<S>(x, y) {
+        if let Some(sum) = add_normal::<S>(x, y, round) {
+            *answer = answers::with_bits(sum);
+            return ANSWERED;
+        }
     }
+    of_two_in::<S>(answer, machine, round, Arithmetic::Sum, x, y)
 }
 
-/// A difference of words: the plain one in line, if they are normal numbers.
+/// A difference of words: the plain one from bits to bits, if it and they are normal numbers.
 #[inline(never)]
 fn difference_of_words<S: Flagged>(
     answer: &mut Answer,
@@ -219,15 +219,16 @@ fn difference_of_words<S: Flagged>(
         (OfTwo Difference x y) answer.old answer.new result }
 {
     let (x, y) = (x as u128, y as u128);
-    if are_normal::<S>(x, y) {
-        answers::difference_here::<S>(answer, round, x, y);
-        ANSWERED
-    } else {
-        of_two_in::<S>(answer, machine, round, Arithmetic::Difference, x, y)
+    if both_fit::<S>(x, y) {
+        if let Some(difference) = subtract_normal::<S>(x, y, round) {
+            *answer = answers::with_bits(difference);
+            return ANSWERED;
+        }
     }
+    of_two_in::<S>(answer, machine, round, Arithmetic::Difference, x, y)
 }
 
-/// A product of words: the plain one in line, if they are normal numbers.
+/// A product of words.
 #[inline(never)]
 fn product_of_words<S: Flagged>(
     answer: &mut Answer,
@@ -240,16 +241,17 @@ fn product_of_words<S: Flagged>(
     ensures { IsMachineLeftIn (of_format (constants_of S.Flagged)) machine round
         (OfTwo Product x y) answer.old answer.new result }
 {
-    let (x, y) = (x as u128, y as u128);
-    if are_normal::<S>(x, y) {
-        answers::product_here::<S>(answer, round, x, y);
-        ANSWERED
-    } else {
-        of_two_in::<S>(answer, machine, round, Arithmetic::Product, x, y)
-    }
+    normal_of_two::<S>(
+        answer,
+        machine,
+        round,
+        Arithmetic::Product,
+        x as u128,
+        y as u128,
+    )
 }
 
-/// A quotient of words: the plain one in line, if they are normal numbers.
+/// A quotient of words.
 #[inline(never)]
 fn quotient_of_words<S: Flagged>(
     answer: &mut Answer,
@@ -262,16 +264,17 @@ fn quotient_of_words<S: Flagged>(
     ensures { IsMachineLeftIn (of_format (constants_of S.Flagged)) machine round
         (OfTwo Quotient x y) answer.old answer.new result }
 {
-    let (x, y) = (x as u128, y as u128);
-    if are_normal::<S>(x, y) {
-        answers::quotient_here::<IeeeFloat<S>>(answer, round, x, y);
-        ANSWERED
-    } else {
-        of_two_in::<S>(answer, machine, round, Arithmetic::Quotient, x, y)
-    }
+    normal_of_two::<S>(
+        answer,
+        machine,
+        round,
+        Arithmetic::Quotient,
+        x as u128,
+        y as u128,
+    )
 }
 
-/// A sum of values: the plain one in line, if they are normal numbers.
+/// A sum of values.
 #[inline(never)]
 fn sum_of_values<S: Flagged>(
     answer: &mut Answer,
@@ -284,15 +287,10 @@ fn sum_of_values<S: Flagged>(
     ensures { IsMachineLeftIn (of_format (constants_of S.Flagged)) machine round
         (OfTwo Sum x y) answer.old answer.new result }
 {
-    if are_normal::<S>(x, y) {
-        answers::sum_of_type_here::<IeeeFloat<S>>(answer, round, x, y);
-        ANSWERED
-    } else {
-        of_two_in::<S>(answer, machine, round, Arithmetic::Sum, x, y)
-    }
+    normal_of_two::<S>(answer, machine, round, Arithmetic::Sum, x, y)
 }
 
-/// A difference of values: the plain one in line, if they are normal numbers.
+/// A difference of values.
 #[inline(never)]
 fn difference_of_values<S: Flagged>(
     answer: &mut Answer,
@@ -305,15 +303,10 @@ fn difference_of_values<S: Flagged>(
     ensures { IsMachineLeftIn (of_format (constants_of S.Flagged)) machine round
         (OfTwo Difference x y) answer.old answer.new result }
 {
-    if are_normal::<S>(x, y) {
-        answers::difference_of_type_here::<IeeeFloat<S>>(answer, round, x, y);
-        ANSWERED
-    } else {
-        of_two_in::<S>(answer, machine, round, Arithmetic::Difference, x, y)
-    }
+    normal_of_two::<S>(answer, machine, round, Arithmetic::Difference, x, y)
 }
 
-/// A product of values: the plain one in line, if they are normal numbers.
+/// A product of values.
 #[inline(never)]
 fn product_of_values<S: Flagged>(
     answer: &mut Answer,
@@ -326,15 +319,10 @@ fn product_of_values<S: Flagged>(
     ensures { IsMachineLeftIn (of_format (constants_of S.Flagged)) machine round
         (OfTwo Product x y) answer.old answer.new result }
 {
-    if are_normal::<S>(x, y) {
-        answers::product_of_type_here::<IeeeFloat<S>>(answer, round, x, y);
-        ANSWERED
-    } else {
-        of_two_in::<S>(answer, machine, round, Arithmetic::Product, x, y)
-    }
+    normal_of_two::<S>(answer, machine, round, Arithmetic::Product, x, y)
 }
 
-/// A quotient of values: the plain one in line, if they are normal numbers.
+/// A quotient of values.
 #[inline(never)]
 fn quotient_of_values<S: Flagged>(
     answer: &mut Answer,
@@ -347,11 +335,57 @@ fn quotient_of_values<S: Flagged>(
     ensures { IsMachineLeftIn (of_format (constants_of S.Flagged)) machine round
         (OfTwo Quotient x y) answer.old answer.new result }
 {
+    normal_of_two::<S>(answer, machine, round, Arithmetic::Quotient, x, y)
+}
+
+/// An operation on two values: the plain one in line, if they are normal numbers.
+#[inline(always)]
+fn normal_of_two<S: Flagged>(
+    answer: &mut Answer,
+    machine: Machine,
+    round: Round,
+    arithmetic: Arithmetic,
+    x: u128,
+    y: u128,
+) -> u32
+    requires { S.PRECISION < S.BITS }
+    ensures { IsMachineLeftIn (of_format (constants_of S.Flagged)) machine round
+        (OfTwo arithmetic x y) answer.old answer.new result }
+{
     if are_normal::<S>(x, y) {
-        answers::quotient_here::<IeeeFloat<S>>(answer, round, x, y);
+        plain_of_two_here::<S>(answer, round, arithmetic, x, y);
         ANSWERED
     } else {
-        of_two_in::<S>(answer, machine, round, Arithmetic::Quotient, x, y)
+        of_two_in::<S>(answer, machine, round, arithmetic, x, y)
+    }
+}
+
+/// The plain call of an operation on two values, in line.
+#[inline(always)]
+fn plain_of_two_here<S: Flagged>(
+    answer: &mut Answer,
+    round: Round,
+    arithmetic: Arithmetic,
+    x: u128,
+    y: u128,
+)
+    requires { S.PRECISION < S.BITS }
+    ensures { let kind = of_format (constants_of S.Flagged) in
+        IsKindAnswer kind round (PlainOfTwo arithmetic x y) answer.new }
+{
+    match arithmetic {
+        Arithmetic::Sum => answers::sum_of_type_here::<IeeeFloat<S>>(answer, round, x, y),
+        Arithmetic::Difference => {
+            answers::difference_of_type_here::<IeeeFloat<S>>(answer, round, x, y)
+        }
+        Arithmetic::Product => answers::product_here::<S>(answer, round, x, y),
+        Arithmetic::Quotient => answers::quotient_here::<IeeeFloat<S>>(answer, round, x, y),
+        Arithmetic::NearestRemainder => {
+            answers::nearest_remainder::<IeeeFloat<S>>(answer, round, x, y)
+        }
+        Arithmetic::TruncatedRemainder => {
+            answers::truncated_remainder::<IeeeFloat<S>>(answer, round, x, y)
+        }
     }
 }
 
@@ -585,26 +619,13 @@ fn root_in<S: Flagged>(answer: &mut Answer, machine: Machine, round: Round, x: u
         answer.old answer.new result }
 {
     if is_root_of::<S>(x) {
-        plain_root::<S>(answer, round, x);
+        answers::root_here::<S>(answer, round, x);
         ANSWERED
     } else if is_divisor::<S>(x) {
         *answer = written(Status::INVALID_OP.and(default_nan::<S>(machine)));
         ANSWERED
     } else {
         root::<S>(answer, machine, round, x)
-    }
-}
-
-/// The square root of a value, as the plain call gives it: from bits to bits, if it is a word.
-#[inline(always)]
-fn plain_root<S: Flagged>(answer: &mut Answer, round: Round, x: u128)
-    requires { S.PRECISION < S.BITS }
-    ensures { IsKindAnswer (of_format (constants_of S.Flagged)) round (PlainRoot x) answer.new }
-{
-    if S::BITS <= 64 {
-        answers::root_here::<S>(answer, round, x)
-    } else {
-        answers::root_of_type_here::<IeeeFloat<S>>(answer, round, x)
     }
 }
 

@@ -3,8 +3,8 @@ use Rattle.rustc_apfloat.specs.FlaggedTypes.{format_of, layout_of}
 use Rattle.rustc_apfloat.specs.Layout.{IsEncodedBy}
 use Rattle.apfloat_c.proofs.answers.product_here.Goals as goal
 
-pub returns : goal.returns
-returns g c =
+pub returns-then-BITS-le64 : goal.returns-then-BITS-le64
+returns-then-BITS-le64 g c =
     let answer = c.multiply_bits.ensures in
     record {
       given = record { status = c.multiply_bits.result.status; value = answer.value };

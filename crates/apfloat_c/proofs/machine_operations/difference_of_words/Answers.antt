@@ -1,9 +1,11 @@
+use Rattle.std.proofs.Common.{sym, ◌∙◌}
 use Rattle.rustc_apfloat.specs.FlaggedTypes.{constants_of}
-use Rattle.formats_at_run_time.specs.declared.Arithmetic.TheVariants.{Difference}
-use Rattle.apfloat_c.proofs.UsualAnswers.{usual_of_two}
+use Rattle.apfloat_c.proofs.NumberAnswers.{left_difference}
 use Rattle.apfloat_c.proofs.machine_operations.difference_of_words.Goals as goal
 
-pub returns-then-are_normal : goal.returns-then-are_normal
-returns-then-are_normal g c = λ infinite.
-    usual_of_two (constants_of g.S.Flagged) c.args.machine Difference c.args.round c.args.x c.args.y c.args.answer.now
-    c.difference_here.new.answer (c.are_normal.ensures c.if-are_normal.true Difference) c.difference_here.ensures
+pub returns-in-Some : goal.returns-in-Some
+returns-in-Some g c = λ infinite.
+    left_difference (constants_of g.S.Flagged) c.args.machine c.args.round c.args.x c.args.y c.in-Some.difference
+    c.args.answer.now c.with_bits.result (sym c.both_fit.ensures ∙ c.if-both_fit.true) c.in-Some.ensures
+    c.with_bits.ensures.bits
+    c.with_bits.ensures.status c.with_bits.ensures.number
