@@ -1,10 +1,10 @@
--- Results that were computed from bits to bits. A sum or a difference that is no NaN is that of every machine.
+-- Results that were computed from bits to bits.
 use Rattle.std.proofs.Common.{◌≡◌, ℕ, pos, Bool, true, false, not, ◌&&◌, eqb, sym, refl, ap, ◌∙◌, subst, arith}
 use Rattle.std.proofs.lemmas.Bool.{true≢false, ne_eqb}
 use Rattle.rustc_apfloat.specs.Classes.{is_nan}
 use Rattle.rustc_apfloat.specs.Conversions.{IsConversion}
 use Rattle.rustc_apfloat.specs.Datum.{Datum, finite, infinite, nan}
-use Rattle.rustc_apfloat.specs.Flags.{bits_of}
+use Rattle.rustc_apfloat.specs.Flags.{Gives, bits_of}
 use Rattle.rustc_apfloat.specs.Format.{Format}
 use Rattle.rustc_apfloat.specs.Lawful.{Constants, format_with, layout_with}
 use Rattle.rustc_apfloat.specs.Layout.{IsEncodedBy}
@@ -15,15 +15,36 @@ use Rattle.apfloat_machines.specs.declared.machine.Machine.{Machine}
 use Rattle.apfloat_machines.specs.Operations.{IsMachineSum, IsMachineDifference}
 use Rattle.formats_at_run_time.specs.declared.Arithmetic.{Arithmetic}
 use Rattle.formats_at_run_time.specs.declared.Arithmetic.TheVariants.{Sum, Difference}
+use Rattle.formats_at_run_time.specs.Relations.{in_format}
 use Rattle.formats_at_run_time.specs.ValueKinds.{of_format, value_of}
 use Rattle.apfloat_encoded.specs.declared.encoded.Encoded.{Encoded}
-use Rattle.apfloat_encoded.specs.Encoded.{IsConvertedNumber, IsNumberAnswer}
+use Rattle.apfloat_encoded.specs.Encoded.{IsConvertedNumber, IsEncodedAnswer, IsNumberAnswer}
 use Rattle.apfloat_c.specs.declared.data.Answer.{Answer}
 use Rattle.apfloat_c.specs.declared.machine_call.MachineOperation.TheVariants.{OfTwo}
-use Rattle.apfloat_c.specs.Answers.{IsConvertedInto, IsLeftBy, one_if, whole}
+use Rattle.apfloat_c.specs.Answers.{IsConvertedInto, IsLeftBy, IsValue, one_if, whole}
 use Rattle.apfloat_c.specs.KnownCalls.{answered}
 use Rattle.apfloat_c.specs.MachineCalls.{IsMachineAnswer, IsMachineOfTwo, fits, operation_fault_in}
 use Rattle.apfloat_c.proofs.UsualAnswers.{fitting}
+
+-- a result in bits, written with its flags
+abbrev pub value_of_encoded : (c : Constants) (Says : Datum → ℕ → Type 0) (encoded : Encoded) (answer : Answer)
+    → IsEncodedAnswer c Says encoded → whole answer.bits ≡ encoded.bits
+    → answer.status ≡ bits_of encoded.status → answer.number ≡ pos 0
+    → IsValue (in_format c) (λ given. Gives Says given) answer
+value_of_encoded c Says encoded answer is bits_are status_is number_is =
+    record {
+      given = record { status = encoded.status; value = is.value };
+      holds = is.says;
+      is_written = record {
+        is_encoded =
+            subst (λ (bits : ℕ). IsEncodedBy (format_with c) (layout_with c) bits is.value) (sym bits_are)
+            is.is_encoded;
+        status_is = status_is;
+        number_is = number_is;
+      };
+    }
+
+-- ---- a sum or a difference that is no NaN is that of every machine
 
 no_nan : (negative : Bool) (significand : ℕ) (value : Datum) (Any : Type 0) → is_nan value ≡ false
     → value ≡ nan negative significand → Any
@@ -77,19 +98,14 @@ left_number : (c : Constants) (machine : Machine) (arithmetic : Arithmetic) (mod
     (IsMachineAnswer c machine mode (OfTwo arithmetic x y)) old answer answered
 left_number c machine arithmetic mode x y Says encoded old answer fit every number bits_are status_is number_is =
     let plain = number.is_answer in
+    let value = value_of_encoded c Says encoded answer plain bits_are status_is number_is in
     fitting c.bits machine (OfTwo arithmetic x y) (IsMachineAnswer c machine mode (OfTwo arithmetic x y)) old answer
     answered fit (
       refl,
       record {
-        given = record { status = encoded.status; value = plain.value };
+        given = value.given;
         holds = every plain.value (sym (ap is_nan plain.is_encoded.is) ∙ number.is_number) plain.says;
-        is_written = record {
-          is_encoded =
-              subst (λ (bits : ℕ). IsEncodedBy (format_with c) (layout_with c) bits plain.value) (sym bits_are)
-              plain.is_encoded;
-          status_is = status_is;
-          number_is = number_is;
-        };
+        is_written = value.is_written;
       },
     )
 

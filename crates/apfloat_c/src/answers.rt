@@ -38,9 +38,9 @@ pub fn with_bits(encoded: Encoded) -> Answer
     Answer::of(encoded.bits, encoded.status, 0)
 }
 
-/// A sum in a format, from bits to bits, in line.
-#[inline(always)]
-pub fn sum_here<S: Flagged>(answer: &mut Answer, round: Round, x: u128, y: u128)
+/// A sum in a format, from bits to bits.
+#[inline(never)]
+pub fn sum_in<S: Flagged>(answer: &mut Answer, round: Round, x: u128, y: u128)
     requires { S.PRECISION < S.BITS }
     ensures { let kind = of_format (constants_of S.Flagged) in
         IsKindAnswer kind round (OfTwo Sum x y) answer.new }
@@ -52,19 +52,9 @@ pub fn sum_here<S: Flagged>(answer: &mut Answer, round: Round, x: u128, y: u128)
     }
 }
 
-/// A sum in a format, from bits to bits.
+/// A difference in a format, from bits to bits.
 #[inline(never)]
-pub fn sum_in<S: Flagged>(answer: &mut Answer, round: Round, x: u128, y: u128)
-    requires { S.PRECISION < S.BITS }
-    ensures { let kind = of_format (constants_of S.Flagged) in
-        IsKindAnswer kind round (OfTwo Sum x y) answer.new }
-{
-    sum_here::<S>(answer, round, x, y)
-}
-
-/// A difference in a format, from bits to bits, in line.
-#[inline(always)]
-pub fn difference_here<S: Flagged>(answer: &mut Answer, round: Round, x: u128, y: u128)
+pub fn difference_in<S: Flagged>(answer: &mut Answer, round: Round, x: u128, y: u128)
     requires { S.PRECISION < S.BITS }
     ensures { let kind = of_format (constants_of S.Flagged) in
         IsKindAnswer kind round (OfTwo Difference x y) answer.new }
@@ -74,16 +64,6 @@ pub fn difference_here<S: Flagged>(answer: &mut Answer, round: Round, x: u128, y
     } else {
         difference::<IeeeFloat<S>>(answer, round, x, y);
     }
-}
-
-/// A difference in a format, from bits to bits.
-#[inline(never)]
-pub fn difference_in<S: Flagged>(answer: &mut Answer, round: Round, x: u128, y: u128)
-    requires { S.PRECISION < S.BITS }
-    ensures { let kind = of_format (constants_of S.Flagged) in
-        IsKindAnswer kind round (OfTwo Difference x y) answer.new }
-{
-    difference_here::<S>(answer, round, x, y)
 }
 
 /// A product in a format, in line: from bits to bits, if they fit in a word.

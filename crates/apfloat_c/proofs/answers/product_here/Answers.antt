@@ -1,19 +1,9 @@
-use Rattle.std.proofs.Common.{ℕ, sym, subst}
-use Rattle.rustc_apfloat.specs.FlaggedTypes.{format_of, layout_of}
-use Rattle.rustc_apfloat.specs.Layout.{IsEncodedBy}
+use Rattle.rustc_apfloat.specs.FlaggedTypes.{constants_of}
+use Rattle.apfloat_c.proofs.NumberAnswers.{value_of_encoded}
 use Rattle.apfloat_c.proofs.answers.product_here.Goals as goal
 
 pub returns-then-BITS-le64 : goal.returns-then-BITS-le64
 returns-then-BITS-le64 g c =
-    let answer = c.multiply_bits.ensures in
-    record {
-      given = record { status = c.multiply_bits.result.status; value = answer.value };
-      holds = answer.says;
-      is_written = record {
-        is_encoded =
-            subst (λ (bits : ℕ). IsEncodedBy (format_of g.S.Flagged) (layout_of g.S.Flagged) bits answer.value)
-            (sym c.with_bits.ensures.bits) answer.is_encoded;
-        status_is = c.with_bits.ensures.status;
-        number_is = c.with_bits.ensures.number;
-      };
-    }
+    let value = value_of_encoded (constants_of g.S.Flagged) _ c.multiply_bits.result c.with_bits.result c.multiply_bits.ensures
+    c.with_bits.ensures.bits c.with_bits.ensures.status c.with_bits.ensures.number in
+    record { given = value.given; holds = value.holds; is_written = value.is_written }

@@ -7,5 +7,4 @@ pub returns-in-Some : goal.returns-in-Some
 returns-in-Some g c = λ infinite.
     left_difference (constants_of g.S.Flagged) c.args.machine c.args.round c.args.x c.args.y c.in-Some.difference
     c.args.answer.now c.with_bits.result (sym c.both_fit.ensures ∙ c.if-both_fit.true) c.in-Some.ensures
-    c.with_bits.ensures.bits
-    c.with_bits.ensures.status c.with_bits.ensures.number
+    c.with_bits.ensures.bits c.with_bits.ensures.status c.with_bits.ensures.number
