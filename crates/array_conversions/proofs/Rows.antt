@@ -1,6 +1,6 @@
 -- Values given by their places, one more of them or one in place of another; and what zeros in place of infinities and
 -- NaNs count.
-use Rattle.std.proofs.Common.{◌≡◌, ℕ, suc, ◌+◌, ◌-◌, ◌*◌, ◌/◌, ◌%◌, ◌^◌, ◌<◌, ◌≤◌, Bool, true, false, cond, not, ⊎_elim, if◌then◌else◌, List, [], ◌∷◌, ◌++◌, length, take, drop, set, length-set, Option, Some, refl, sym, ◌∙◌, ap, subst, arith, ltb, ◌||◌}
+use Rattle.std.proofs.Common.{◌≡◌, ℕ, ◌+◌, ◌-◌, ◌*◌, ◌/◌, ◌%◌, ◌^◌, ◌<◌, ◌≤◌, Bool, true, false, ⊎_elim, if◌then◌else◌, List, [], ◌∷◌, ◌++◌, length, take, set, length-set, Option, Some, refl, sym, ◌∙◌, ap, subst, arith, ltb, ◌||◌}
 use Rattle.std.specs.Prelude.{slice_get, IfSome, count_by, get_or}
 use Rattle.std.proofs.Math.Nat.{min-eq_left}
 use Rattle.std.proofs.lemmas.Bool.{cases_eq, cases_lt, le-ltb, lt-ltb}
@@ -29,7 +29,7 @@ use Rattle.saturating_conversions.specs.declared.saturation.Overflow.{Overflow}
 use Rattle.saturating_conversions.specs.declared.saturation.Overflow.TheVariants.{Rounded, Saturated, Finite}
 use Rattle.array_conversions.specs.declared.counts.Counts.{Counts}
 use Rattle.array_conversions.specs.declared.counts.Outcome.{Outcome}
-use Rattle.array_conversions.specs.Blocks.{AreInPlaces, IsBlock, value_at}
+use Rattle.array_conversions.specs.Blocks.{IsBlock, value_at}
 use Rattle.array_conversions.specs.Bytes.{number_of}
 use Rattle.array_conversions.specs.Outcomes.{became_nan, counts_of, one_if, raised, sum_to_top, with_flags, with_outcome}
 use Rattle.array_conversions.specs.Rows.{IsRow, number_from, number_in}
@@ -350,6 +350,30 @@ next_number index input number k =
     (number_there index input index number ∙ sym (number_there (index + 1) input index number)))
     (λ (other : k ≡ index → ⊥). next_there index input k other)
     (cases_eq k index)
+
+-- more values are done if all of them are numbers
+pub numbers_there : (done more : ℕ) (input : List ℕ)
+    → ((j : ℕ) → j < more → number_of (value_at 4 (done + j) input) % 2 ^ 31 < 255 * 2 ^ 23)
+    → (k : ℕ) → number_from done input k ≡ number_from (done + more) input k
+numbers_there done more input numbers k =
+    let Same : Type 0 = number_from done input k ≡ number_from (done + more) input k in
+    ⊎_elim {C = Same}
+    (λ (before : k < done).
+    done_there done input k before ∙ sym (done_there (done + more) input k (omega (arith, before))))
+    (λ (from : done ≤ k).
+    ⊎_elim {C = Same}
+    (λ (within : k < done + more).
+    let place : done + (k - done) ≡ k = omega (arith, from) in
+    let number : ltb (number_of (value_at 4 k input) % 2 ^ 31) (255 * 2 ^ 23) ≡ true =
+    lt-ltb (number_of (value_at 4 k input) % 2 ^ 31) (255 * 2 ^ 23)
+    (subst (λ (n : ℕ). number_of (value_at 4 n input) % 2 ^ 31 < 255 * 2 ^ 23) place
+    (numbers (k - done) (omega (arith, from, within)))) in
+    number_there done input k number ∙ sym (number_there (done + more) input k number))
+    (λ (past : done + more ≤ k).
+    ap (λ (b : Bool). if b || ltb (number_of (value_at 4 k input) % 2 ^ 31) (255 * 2 ^ 23) then value_at 4 k input
+    else []) (le-ltb k done from ∙ sym (le-ltb k (done + more) past)))
+    (cases_lt k (done + more)))
+    (cases_lt k done)
 
 -- ---- cleared halves
 

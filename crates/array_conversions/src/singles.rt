@@ -254,7 +254,8 @@ fn convert_by_plan<S: Flagged, T: Flagged>(
 }
 
 /// Converts `count` singles, each in its place. The widths and the format are constants, so that the loops know how
-/// many bytes they read and write, and where a significand is cut; and so is the usual mode.
+/// many bytes they read and write, and where a significand is cut; and so is the usual mode, and with it whether
+/// conversions saturate.
 #[inline(never)]
 pub fn convert_singles<S: Flagged, T: Flagged>(
     overflow: Overflow,
@@ -276,9 +277,13 @@ pub fn convert_singles<S: Flagged, T: Flagged>(
 {
     let target = target_of::<T>();
     let saturates = saturates(overflow);
-    match round {
-        Round::NearestTiesToEven => {
-            let plan = plan_of(target, saturates, Round::NearestTiesToEven);
+    match (round, saturates) {
+        (Round::NearestTiesToEven, false) => {
+            let plan = plan_of(target, false, Round::NearestTiesToEven);
+            convert_by_plan::<S, T>(plan, overflow, round, count, input, output)
+        }
+        (Round::NearestTiesToEven, true) => {
+            let plan = plan_of(target, true, Round::NearestTiesToEven);
             convert_by_plan::<S, T>(plan, overflow, round, count, input, output)
         }
         _ => {
