@@ -259,19 +259,26 @@ conversion_of Saturated c d mode input output o it =
 conversion_of (Finite nans) c d mode input output o it =
     record { value = it.value; loses = it.loses; is_conversion = it.is_conversion; nan_is = it.nan_is }
 
--- what no bytes encode is the zero of a single, whose conversion counts nothing
-pub zero_quiet : (overflow : Overflow) (c d : Constants) (mode : Round)
-    → IsSingle (format_with c) (layout_with c) → (bytes : List ℕ) (o : Outcome)
-    → IsConvertedBy overflow c d mode [] bytes o → IsQuiet o
-zero_quiet overflow c d mode is_single bytes o it =
-    let of = conversion_of overflow c d mode [] bytes o it in
-    let read : datum_of (format_with c) (layout_with c) 0 ≡ finite false 0 =
-    single_read (format_with c) (layout_with c) 0 is_single (omega arith) (omega arith) in
+-- the zero of a single, whose conversion counts nothing
+pub zeros_quiet : (overflow : Overflow) (c d : Constants) (mode : Round)
+    → IsSingle (format_with c) (layout_with c) → (input bytes : List ℕ) (o : Outcome) → number_of input ≡ 0
+    → IsConvertedBy overflow c d mode input bytes o → IsQuiet o
+zeros_quiet overflow c d mode is_single input bytes o none it =
+    let of = conversion_of overflow c d mode input bytes o it in
+    let read : datum_of (format_with c) (layout_with c) (number_of input) ≡ finite false 0 =
+    ap (datum_of (format_with c) (layout_with c)) none
+    ∙ single_read (format_with c) (layout_with c) 0 is_single (omega arith) (omega arith) in
     let zero = zero_by overflow (format_with c) (format_with d) mode of.value (bits_of o.status) of.loses
     (subst
     (λ (x : Datum). IsConversionBy overflow (format_with c) (format_with d) mode x of.value (bits_of o.status)
     of.loses) read of.is_conversion) in
     quiet_from o zero.0 (of.nan_is ∙ zero.1)
+
+-- what no bytes encode is one
+pub zero_quiet : (overflow : Overflow) (c d : Constants) (mode : Round)
+    → IsSingle (format_with c) (layout_with c) → (bytes : List ℕ) (o : Outcome)
+    → IsConvertedBy overflow c d mode [] bytes o → IsQuiet o
+zero_quiet overflow c d mode is_single bytes o it = zeros_quiet overflow c d mode is_single [] bytes o refl it
 
 -- ---- which values are numbers
 
