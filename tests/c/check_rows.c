@@ -470,6 +470,40 @@ static unsigned saturated(void) {
     return count;
 }
 
+/* Arrays of singles of each length up to two blocks and more, in which infinities and NaNs stand here and there: how
+ * many of them agree with calls on single values. */
+static unsigned lengths_agree(void) {
+    enum { MOST = 150 };
+    static const uint32_t formats[] = {APFLOAT_E4M3FN, APFLOAT_E5M2, APFLOAT_E4M3FNUZ, APFLOAT_HALF, APFLOAT_BFLOAT};
+    static uint8_t values[4 * MOST], results[2 * MOST + 1], wanted[sizeof results];
+    unsigned count = 0;
+    for (size_t format = 0; format < COUNT(formats); format++)
+        for (uint32_t mode = 0; mode < 5; mode++)
+            for (uint32_t length = 0; length <= MOST; length++) {
+                uint32_t to = formats[format], code = APFLOAT_ANSWERED;
+                size_t width = bytes_of(to);
+                apfloat_array_answer counts = {0}, answer;
+                memset(wanted, 0xa5, sizeof wanted);
+                memset(results, 0xa5, sizeof results);
+                for (uint32_t i = 0; i < length; i++) {
+                    uint32_t spread = (i * MOST + length) * UINT32_C(2654435761);
+                    uint32_t near_one = (spread & UINT32_C(0x807fffff)) | (UINT32_C(110) + spread % 32) << 23;
+                    apfloat_halves x = {(i + length) % 37 == 0 ? beyond[i % COUNT(beyond)] : near_one, 0};
+                    apfloat_answer single;
+                    code |= apfloat_convert(APFLOAT_SINGLE, mode, to, x, &single);
+                    put(values, 4, i, x);
+                    put(wanted, width, i, single.bits);
+                    count_answer(&counts, to, &single);
+                }
+                code |= apfloat_convert_array(APFLOAT_SINGLE, mode, to, values, 4 * length, results, width * length,
+                                              &answer);
+                if (code == APFLOAT_ANSWERED && memcmp(results, wanted, sizeof results) == 0 &&
+                    memcmp(&answer, &counts, sizeof answer) == 0)
+                    count++;
+            }
+    return count;
+}
+
 /* 0.75, -5, 1000, -1000, both infinities, a signaling NaN, 464, the largest value of binary32, and -0, each in
  * binary32, and their conversions to storage formats, to nearest, as the classes of evidence/storage_formats.py and
  * evidence/e3m4.py compute them. */
@@ -1021,6 +1055,7 @@ int main(void) {
     printf("%u errors of arrays agree\n", array_refusals());
     printf("%u operations by tables agree\n", tables());
     printf("%u conversions that saturate agree\n", saturated());
+    printf("%u arrays of each length agree\n", lengths_agree());
     printf("%u conversions of storage formats agree\n", stored_and_loaded());
     printf("%u formats of blocks agree\n", blocks_agree());
     printf("%u errors of blocks agree\n", block_refusals());

@@ -80,7 +80,7 @@ before_write target index from to k output new is before within =
     ∙ sym (between_is output (k * target) (k * target + target))
 
 -- the value of an index from the start of a range on is a value of the range
-in_range : (width index more k : ℕ) (bytes : List ℕ) → k < more
+pub in_range : (width index more k : ℕ) (bytes : List ℕ) → k < more
     → value_at width k (slice_range bytes (index * width) ((index + more) * width))
     ≡ value_at width (index + k) bytes
 in_range width index more k bytes within =

@@ -13,3 +13,4 @@ pub mod Joined
 pub mod SingleTargets
 pub mod Rows
 pub mod Items
+pub mod FirstValues

@@ -1,6 +1,6 @@
 -- Values given by their places, one more of them or one in place of another; and what zeros in place of infinities and
 -- NaNs count.
-use Rattle.std.proofs.Common.{◌≡◌, ℕ, suc, ◌+◌, ◌-◌, ◌*◌, ◌/◌, ◌%◌, ◌^◌, ◌<◌, ◌≤◌, Bool, true, false, cond, not, ⊎_elim, if◌then◌else◌, List, [], ◌∷◌, ◌++◌, length, take, drop, set, length-set, Option, Some, refl, sym, ◌∙◌, ap, subst, arith, ltb, ◌||◌}
+use Rattle.std.proofs.Common.{◌≡◌, ℕ, ◌+◌, ◌-◌, ◌*◌, ◌/◌, ◌%◌, ◌^◌, ◌<◌, ◌≤◌, Bool, true, false, ⊎_elim, if◌then◌else◌, List, [], ◌∷◌, ◌++◌, length, take, set, length-set, Option, Some, refl, sym, ◌∙◌, ap, subst, arith, ltb, ◌||◌}
 use Rattle.std.specs.Prelude.{slice_get, IfSome, count_by, get_or}
 use Rattle.std.proofs.Math.Nat.{min-eq_left}
 use Rattle.std.proofs.lemmas.Bool.{cases_eq, cases_lt, le-ltb, lt-ltb}
@@ -29,7 +29,7 @@ use Rattle.saturating_conversions.specs.declared.saturation.Overflow.{Overflow}
 use Rattle.saturating_conversions.specs.declared.saturation.Overflow.TheVariants.{Rounded, Saturated, Finite}
 use Rattle.array_conversions.specs.declared.counts.Counts.{Counts}
 use Rattle.array_conversions.specs.declared.counts.Outcome.{Outcome}
-use Rattle.array_conversions.specs.Blocks.{AreInPlaces, IsBlock, value_at}
+use Rattle.array_conversions.specs.Blocks.{IsBlock, value_at}
 use Rattle.array_conversions.specs.Bytes.{number_of}
 use Rattle.array_conversions.specs.Outcomes.{became_nan, counts_of, one_if, raised, sum_to_top, with_flags, with_outcome}
 use Rattle.array_conversions.specs.Rows.{IsRow, number_from, number_in}
@@ -259,19 +259,26 @@ conversion_of Saturated c d mode input output o it =
 conversion_of (Finite nans) c d mode input output o it =
     record { value = it.value; loses = it.loses; is_conversion = it.is_conversion; nan_is = it.nan_is }
 
--- what no bytes encode is the zero of a single, whose conversion counts nothing
-pub zero_quiet : (overflow : Overflow) (c d : Constants) (mode : Round)
-    → IsSingle (format_with c) (layout_with c) → (bytes : List ℕ) (o : Outcome)
-    → IsConvertedBy overflow c d mode [] bytes o → IsQuiet o
-zero_quiet overflow c d mode is_single bytes o it =
-    let of = conversion_of overflow c d mode [] bytes o it in
-    let read : datum_of (format_with c) (layout_with c) 0 ≡ finite false 0 =
-    single_read (format_with c) (layout_with c) 0 is_single (omega arith) (omega arith) in
+-- the zero of a single, whose conversion counts nothing
+pub zeros_quiet : (overflow : Overflow) (c d : Constants) (mode : Round)
+    → IsSingle (format_with c) (layout_with c) → (input bytes : List ℕ) (o : Outcome) → number_of input ≡ 0
+    → IsConvertedBy overflow c d mode input bytes o → IsQuiet o
+zeros_quiet overflow c d mode is_single input bytes o none it =
+    let of = conversion_of overflow c d mode input bytes o it in
+    let read : datum_of (format_with c) (layout_with c) (number_of input) ≡ finite false 0 =
+    ap (datum_of (format_with c) (layout_with c)) none
+    ∙ single_read (format_with c) (layout_with c) 0 is_single (omega arith) (omega arith) in
     let zero = zero_by overflow (format_with c) (format_with d) mode of.value (bits_of o.status) of.loses
     (subst
     (λ (x : Datum). IsConversionBy overflow (format_with c) (format_with d) mode x of.value (bits_of o.status)
     of.loses) read of.is_conversion) in
     quiet_from o zero.0 (of.nan_is ∙ zero.1)
+
+-- what no bytes encode is one
+pub zero_quiet : (overflow : Overflow) (c d : Constants) (mode : Round)
+    → IsSingle (format_with c) (layout_with c) → (bytes : List ℕ) (o : Outcome)
+    → IsConvertedBy overflow c d mode [] bytes o → IsQuiet o
+zero_quiet overflow c d mode is_single bytes o it = zeros_quiet overflow c d mode is_single [] bytes o refl it
 
 -- ---- which values are numbers
 
@@ -350,6 +357,30 @@ next_number index input number k =
     (number_there index input index number ∙ sym (number_there (index + 1) input index number)))
     (λ (other : k ≡ index → ⊥). next_there index input k other)
     (cases_eq k index)
+
+-- more values are done if all of them are numbers
+pub numbers_there : (done more : ℕ) (input : List ℕ)
+    → ((j : ℕ) → j < more → number_of (value_at 4 (done + j) input) % 2 ^ 31 < 255 * 2 ^ 23)
+    → (k : ℕ) → number_from done input k ≡ number_from (done + more) input k
+numbers_there done more input numbers k =
+    let Same : Type 0 = number_from done input k ≡ number_from (done + more) input k in
+    ⊎_elim {C = Same}
+    (λ (before : k < done).
+    done_there done input k before ∙ sym (done_there (done + more) input k (omega (arith, before))))
+    (λ (from : done ≤ k).
+    ⊎_elim {C = Same}
+    (λ (within : k < done + more).
+    let place : done + (k - done) ≡ k = omega (arith, from) in
+    let number : ltb (number_of (value_at 4 k input) % 2 ^ 31) (255 * 2 ^ 23) ≡ true =
+    lt-ltb (number_of (value_at 4 k input) % 2 ^ 31) (255 * 2 ^ 23)
+    (subst (λ (n : ℕ). number_of (value_at 4 n input) % 2 ^ 31 < 255 * 2 ^ 23) place
+    (numbers (k - done) (omega (arith, from, within)))) in
+    number_there done input k number ∙ sym (number_there (done + more) input k number))
+    (λ (past : done + more ≤ k).
+    ap (λ (b : Bool). if b || ltb (number_of (value_at 4 k input) % 2 ^ 31) (255 * 2 ^ 23) then value_at 4 k input
+    else []) (le-ltb k done from ∙ sym (le-ltb k (done + more) past)))
+    (cases_lt k (done + more)))
+    (cases_lt k done)
 
 -- ---- cleared halves
 

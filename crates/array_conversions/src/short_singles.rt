@@ -203,7 +203,8 @@ fn convert_by_plan<S: Flagged, T: Flagged>(
     counts
 }
 
-/// Converts `count` singles, each in its place, to a format of at most eight bits, with the usual mode as a constant.
+/// Converts `count` singles, each in its place, to a format of at most eight bits, with the usual mode as a constant,
+/// and whether conversions saturate.
 #[inline(never)]
 fn convert_short_singles<S: Flagged, T: Flagged>(
     overflow: Overflow,
@@ -226,9 +227,13 @@ fn convert_short_singles<S: Flagged, T: Flagged>(
 {
     let target = target_of::<T>();
     let saturates = saturates(overflow);
-    match round {
-        Round::NearestTiesToEven => {
-            let plan = short_plan_of(target, saturates, Round::NearestTiesToEven);
+    match (round, saturates) {
+        (Round::NearestTiesToEven, false) => {
+            let plan = short_plan_of(target, false, Round::NearestTiesToEven);
+            convert_by_plan::<S, T>(plan, overflow, round, count, input, output)
+        }
+        (Round::NearestTiesToEven, true) => {
+            let plan = short_plan_of(target, true, Round::NearestTiesToEven);
             convert_by_plan::<S, T>(plan, overflow, round, count, input, output)
         }
         _ => {

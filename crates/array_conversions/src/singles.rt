@@ -1,7 +1,7 @@
 //! Singles converted sixty-four at a time. The loops below have no jump that depends on a value, and compute all in
 //! words of sixteen bits, so that a compiler can work on several values at once.
 
-ghost use Rattle.std.specs.Prelude.{◌≡◌, ℕ, ◌+◌, ◌*◌, ◌/◌, ◌%◌, ◌^◌, ◌≤◌, ◌<◌, List, length, slice_index, IsTrue};
+ghost use Rattle.std.specs.Prelude.{◌≡◌, ℕ, ◌+◌, ◌*◌, ◌/◌, ◌%◌, ◌^◌, ◌≤◌, ◌<◌, List, length, replicate, slice_index, IsTrue};
 ghost use Rattle.lane_conversions.specs.FewCounts.{AreAtMost};
 ghost use Rattle.lane_conversions.specs.Targets.{IsSingle, IsTarget};
 ghost use Rattle.rustc_apfloat.specs.declared.Round.{Round as Mode};
@@ -25,6 +25,9 @@ use lane_conversions::{FewCounts, Lane, Plan, convert_finite, plan_of, with_lane
 use rustc_apfloat::Round;
 use rustc_apfloat::ieee::Flagged;
 use saturating_conversions::Overflow;
+
+/// From how many values on it takes less time to convert a whole block than each of them.
+const FEWEST: usize = 20;
 
 /// The upper halves of the bits of sixty-four singles.
 #[inline(always)]
@@ -216,6 +219,113 @@ fn convert_blocks<S: Flagged, T: Flagged>(
     counts
 }
 
+/// Converts a few values with zeros after them, which raise no flag and are no NaNs: as many as a block lacks. They
+/// stand in `singles`, and what they become in `room`.
+#[inline(always)]
+fn convert_between<S: Flagged, T: Flagged>(
+    overflow: Overflow,
+    round: Round,
+    count: usize,
+    singles: &mut [u8],
+    room: &mut [u8],
+    input: &[u8],
+    output: &mut [u8],
+) -> Counts
+    requires read { S.PRECISION < S.BITS }
+    requires written { T.PRECISION < T.BITS }
+    requires single { IsSingle (format_of S.Flagged) (layout_of S.Flagged) }
+    requires target { IsTarget (format_of T.Flagged) (layout_of T.Flagged) T.MIN_EXP T.MAX_EXP }
+    requires width { T.BITS ≤ 8 * bytes_of T.BITS }
+    requires few { count ≤ 64 }
+    requires zeros { singles.old ≡ replicate 256 0 }
+    requires room { length room.old ≡ 128 }
+    requires input { length input.now ≡ count * 4 }
+    requires output { length output.old ≡ count * bytes_of T.BITS }
+    ensures { let c = constants_of S.Flagged in let d = constants_of T.Flagged in
+        IsBlock (IsConvertedBy overflow c d round) 4 (bytes_of T.BITS) count input.now output.new
+        result }
+{
+    let plan = plan_of(target_of::<T>(), saturates(overflow), round);
+    let widths = Widths {
+        source: 4,
+        target: bytes_of(T::BITS),
+    };
+    singles[..count * 4].copy_from_slice(input);
+    let made = &mut room[..BLOCK * widths.target];
+    let counts = convert_block::<S, T>(plan, overflow, round, widths, singles, made);
+    output.copy_from_slice(&room[..count * widths.target]);
+    Counts {
+        values: count as u64,
+        ..counts
+    }
+}
+
+/// Converts a few values as a block.
+#[inline(always)]
+fn convert_padded<S: Flagged, T: Flagged>(
+    overflow: Overflow,
+    round: Round,
+    count: usize,
+    input: &[u8],
+    output: &mut [u8],
+) -> Counts
+    requires read { S.PRECISION < S.BITS }
+    requires written { T.PRECISION < T.BITS }
+    requires single { IsSingle (format_of S.Flagged) (layout_of S.Flagged) }
+    requires target { IsTarget (format_of T.Flagged) (layout_of T.Flagged) T.MIN_EXP T.MAX_EXP }
+    requires width { T.BITS ≤ 8 * bytes_of T.BITS }
+    requires few { count ≤ 64 }
+    requires input { length input.now ≡ count * 4 }
+    requires output { length output.old ≡ count * bytes_of T.BITS }
+    ensures { let c = constants_of S.Flagged in let d = constants_of T.Flagged in
+        IsBlock (IsConvertedBy overflow c d round) 4 (bytes_of T.BITS) count input.now output.new
+        result }
+{
+    let mut singles = [0; BLOCK * 4];
+    let mut room = [0; BLOCK * 2];
+    convert_between::<S, T>(
+        overflow,
+        round,
+        count,
+        &mut singles,
+        &mut room,
+        input,
+        output,
+    )
+}
+
+/// Converts the last values of an array, fewer than a block has.
+#[inline(never)]
+fn convert_last<S: Flagged, T: Flagged>(
+    overflow: Overflow,
+    round: Round,
+    count: usize,
+    input: &[u8],
+    output: &mut [u8],
+) -> Counts
+    requires read { S.PRECISION < S.BITS }
+    requires written { T.PRECISION < T.BITS }
+    requires single { IsSingle (format_of S.Flagged) (layout_of S.Flagged) }
+    requires target { IsTarget (format_of T.Flagged) (layout_of T.Flagged) T.MIN_EXP T.MAX_EXP }
+    requires width { T.BITS ≤ 8 * bytes_of T.BITS }
+    requires few { count < 64 }
+    requires input { length input.now ≡ count * 4 }
+    requires output { length output.old ≡ count * bytes_of T.BITS }
+    ensures { let c = constants_of S.Flagged in let d = constants_of T.Flagged in
+        IsBlock (IsConvertedBy overflow c d round) 4 (bytes_of T.BITS) count input.now output.new
+        result }
+{
+    if count < FEWEST {
+        let widths = Widths {
+            source: 4,
+            target: bytes_of(T::BITS),
+        };
+        convert_one_by_one::<S, T>(overflow, round, widths, count, input, output)
+    } else {
+        convert_padded::<S, T>(overflow, round, count, input, output)
+    }
+}
+
 /// Converts `count` singles, each in its place, by a plan.
 #[inline(always)]
 fn convert_by_plan<S: Flagged, T: Flagged>(
@@ -230,6 +340,7 @@ fn convert_by_plan<S: Flagged, T: Flagged>(
     requires written { T.PRECISION < T.BITS }
     requires single { IsSingle (format_of S.Flagged) (layout_of S.Flagged) }
     requires plan { IsPlanFor overflow (constants_of T.Flagged) round plan }
+    requires target { IsTarget (format_of T.Flagged) (layout_of T.Flagged) T.MIN_EXP T.MAX_EXP }
     requires width { T.BITS ≤ 8 * bytes_of T.BITS }
     requires input { length input.now ≡ count * 4 }
     requires output { length output.old ≡ count * bytes_of T.BITS }
@@ -249,12 +360,13 @@ fn convert_by_plan<S: Flagged, T: Flagged>(
     let rest = count - done;
     let source = &input[done * widths.source..count * widths.source];
     let target = &mut output[done * widths.target..count * widths.target];
-    counts.add(convert_one_by_one::<S, T>(overflow, round, widths, rest, source, target));
+    counts.add(convert_last::<S, T>(overflow, round, rest, source, target));
     counts
 }
 
 /// Converts `count` singles, each in its place. The widths and the format are constants, so that the loops know how
-/// many bytes they read and write, and where a significand is cut; and so is the usual mode.
+/// many bytes they read and write, and where a significand is cut; and so is the usual mode, and with it whether
+/// conversions saturate.
 #[inline(never)]
 pub fn convert_singles<S: Flagged, T: Flagged>(
     overflow: Overflow,
@@ -276,9 +388,13 @@ pub fn convert_singles<S: Flagged, T: Flagged>(
 {
     let target = target_of::<T>();
     let saturates = saturates(overflow);
-    match round {
-        Round::NearestTiesToEven => {
-            let plan = plan_of(target, saturates, Round::NearestTiesToEven);
+    match (round, saturates) {
+        (Round::NearestTiesToEven, false) => {
+            let plan = plan_of(target, false, Round::NearestTiesToEven);
+            convert_by_plan::<S, T>(plan, overflow, round, count, input, output)
+        }
+        (Round::NearestTiesToEven, true) => {
+            let plan = plan_of(target, true, Round::NearestTiesToEven);
             convert_by_plan::<S, T>(plan, overflow, round, count, input, output)
         }
         _ => {

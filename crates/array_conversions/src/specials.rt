@@ -1,10 +1,10 @@
 //! Infinities and NaNs in blocks of sixty-four singles that are converted all at once: zeros take their places, which
 //! raise no flag and are no NaNs, until they are converted one by one.
 
-ghost use Rattle.std.specs.Prelude.{◌≡◌, ◌*◌, ◌<◌, ◌≤◌, length, slice_index, IsTrue};
+ghost use Rattle.std.specs.Prelude.{◌≡◌, ℕ, ◌+◌, ◌*◌, ◌%◌, ◌^◌, ◌<◌, ◌≤◌, length, slice_index, IsTrue};
 ghost use Rattle.lane_conversions.specs.Targets.{IsSingle};
 ghost use Rattle.rustc_apfloat.specs.FlaggedTypes.{constants_of, format_of, layout_of};
-ghost use Rattle.array_conversions.specs.Blocks.{IsBlock};
+ghost use Rattle.array_conversions.specs.Blocks.{IsBlock, value_at};
 ghost use Rattle.array_conversions.specs.Bytes.{number_of};
 ghost use Rattle.array_conversions.specs.Rows.{AreFiniteHalves, IsRow, lower_in, number_from, number_in};
 ghost use Rattle.array_conversions.specs.Values.{IsConvertedBy};
@@ -19,6 +19,9 @@ use saturating_conversions::Overflow;
 
 /// How many values are converted at once.
 pub(crate) const BLOCK: usize = 64;
+
+/// How many values are looked through at once for infinities and NaNs.
+const GROUP: usize = 16;
 
 /// The bits of a single.
 #[inline(always)]
@@ -57,6 +60,59 @@ pub(crate) fn lower_in(upper: u16, lower: u16) -> u16
     if is_finite_half(upper) { lower } else { 0 }
 }
 
+/// Whether all of sixteen singles are numbers.
+#[inline(always)]
+fn are_numbers(bytes: &[u8]) -> bool
+    requires { length bytes.now ≡ 64 }
+    ensures { IsTrue result → (index : ℕ) → index < 16
+        → number_of (value_at 4 index bytes.now) % 2 ^ 31 < 255 * 2 ^ 23 }
+{
+    let mut numbers = true;
+    for index in 0..GROUP {
+        let from = index * 4;
+        numbers = numbers & is_finite(word_of(&bytes[from..from + 4]));
+    }
+    numbers
+}
+
+/// Converts the infinities and NaNs among the sixteen singles from `first` on, as `convert_specials` does.
+#[inline(always)]
+fn convert_group<S: Flagged, T: Flagged>(
+    overflow: Overflow,
+    round: Round,
+    width: usize,
+    first: usize,
+    counts: Counts,
+    input: &[u8],
+    output: &mut [u8],
+) -> Counts
+    requires read { S.PRECISION < S.BITS }
+    requires written { T.PRECISION < T.BITS }
+    requires single { IsSingle (format_of S.Flagged) (layout_of S.Flagged) }
+    requires target { T.BITS ≤ 8 * width }
+    requires within { first + 16 ≤ 64 }
+    requires input { length input.now ≡ 256 }
+    requires output { length output.old ≡ 64 * width }
+    requires numbers { let c = constants_of S.Flagged in let d = constants_of T.Flagged in
+        IsRow (IsConvertedBy overflow c d round) (number_from first input.now) width 64 output.old
+        counts }
+    ensures { let c = constants_of S.Flagged in let d = constants_of T.Flagged in
+        IsRow (IsConvertedBy overflow c d round) (number_from (first + 16) input.now) width 64
+        output.new result }
+{
+    let mut counts = counts;
+    for index in first..first + GROUP {
+        let from = index * 4;
+        let source = &input[from..from + 4];
+        if !is_finite(word_of(source)) {
+            let to = index * width;
+            let target = &mut output[to..to + width];
+            counts.raise(convert_slowly::<S, T>(overflow, round, source, target));
+        }
+    }
+    counts
+}
+
 /// Converts the infinities and NaNs among sixty-four singles, each to its place, where a converted zero is. `counts`
 /// are those with the zeros.
 #[inline(never)]
@@ -81,13 +137,10 @@ pub(crate) fn convert_specials<S: Flagged, T: Flagged>(
         IsBlock (IsConvertedBy overflow c d round) 4 width 64 input.now output.new result }
 {
     let mut counts = counts;
-    for index in 0..BLOCK {
-        let from = index * 4;
-        let source = &input[from..from + 4];
-        if !is_finite(word_of(source)) {
-            let to = index * width;
-            let target = &mut output[to..to + width];
-            counts.raise(convert_slowly::<S, T>(overflow, round, source, target));
+    for group in 0..BLOCK / GROUP {
+        let first = group * GROUP;
+        if !are_numbers(&input[first * 4..(first + GROUP) * 4]) {
+            counts = convert_group::<S, T>(overflow, round, width, first, counts, input, output);
         }
     }
     counts

@@ -10,3 +10,4 @@ pub mod LowBits
 pub mod UpperHalves
 pub mod PlacedNumbers
 pub mod Words
+pub mod PowersOfTwo

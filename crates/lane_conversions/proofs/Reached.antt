@@ -194,7 +194,7 @@ pub steps_are : (f : Format) (layout : Layout) (min_exp max_exp : ℤ) (m place 
     → m < 2 ^ 24 → (place ≡ 0) ⊎ (2 ^ 23 ≤ m) → pos first ≡ (min_exp +ℤ pos 126)
     → odd ≡ odd_quotient m (2 ^ 9) → above ≡ min (place - first) (f.span + 1)
     → up ≡ f.precision + 1 - (first - place)
-    → moved ≡ odd * 2 ^ up % 4294967296 → places ≡ above * 2 ^ (f.precision - 1) % 65536
+    → moved ≡ odd * 2 ^ up → places ≡ above * 2 ^ (f.precision - 1) % 65536
     → AreSteps f (moved / 65536 + places) (moved % 65536) m place
 unfolding steps
 steps_are f layout min_exp max_exp m place first odd above up moved places is scale fits full first_is odd_is above_is
@@ -206,7 +206,6 @@ steps_are f layout min_exp max_exp m place first odd above up moved places is sc
     (λ i. odd_is i * 2 ^ up_is i) in
     let right_is : above * 2 ^ (p - 1) ≡ min (place - first) (f.span + 1) * 2 ^ (p - 1) =
     ap (λ (n : ℕ). n * 2 ^ (p - 1)) above_is in
-    let left : odd * 2 ^ up % 4294967296 ≡ odd * 2 ^ up = mod-eq_of_lt (omega (arith, left_is, below.0)) in
     let right : above * 2 ^ (p - 1) % 65536 ≡ above * 2 ^ (p - 1) =
     mod-eq_of_lt (omega (arith, right_is, below.1)) in
     let power : 2 ^ (p - 1 + 16) ≡ 2 ^ (p - 1) * 2 ^ 16 = pow-add 2 (p - 1) 16 in
@@ -214,7 +213,7 @@ steps_are f layout min_exp max_exp m place first odd above up moved places is sc
     ≡ min (place - first) (f.span + 1) * 2 ^ (p - 1) * 2 ^ 16 =
     ap (λ (n : ℕ). min (place - first) (f.span + 1) * n) power ∙ omega arith in
     let sum : steps f first m place ≡ (moved / 65536 + places) * 2 ^ 16 + moved % 65536 =
-    omega (arith, left, right, left_is, right_is, whole, moved_is, places_are) in
+    omega (arith, right, left_is, right_is, whole, moved_is, places_are) in
     let it : IsReached f (steps f first m place) (m * 2 ^ place * 2 ^ f.scale) (2 ^ 149) =
     ⊎_elim {C = IsReached f (steps f first m place) (m * 2 ^ place * 2 ^ f.scale) (2 ^ 149)}
     (λ (z : m < 1).
@@ -226,5 +225,5 @@ steps_are f layout min_exp max_exp m place first odd above up moved places is sc
     (cases_lt m 1) in
     record {
       reached = subst (λ (n : ℕ). IsReached f n (m * 2 ^ place * 2 ^ f.scale) (2 ^ 149)) sum it;
-      below = omega (arith, left, right, left_is, right_is, below.0, below.1, moved_is, places_are);
+      below = omega (arith, right, left_is, right_is, below.0, below.1, moved_is, places_are);
     }

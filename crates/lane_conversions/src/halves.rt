@@ -42,6 +42,18 @@ pub(crate) fn first_exponent(target: Target) -> u16
     (target.min_exp + 120) as u16
 }
 
+/// A power of two, as a product of one for each binary digit of its exponent: vectors have no shift by places that
+/// differ, and compilers make a longer way of it.
+#[inline(always)]
+pub(crate) fn power_of_two(exponent: u16) -> u16
+    requires { exponent < 2 ^ 4 }
+    ensures is { result ≡ 2 ^ exponent }
+{
+    let low = (exponent % 2 + 1) * (exponent / 2 % 2 * 4).max(1);
+    let high = (exponent / 4 % 2 * 16).max(1) * (exponent / 8 % 2 * 256).max(1);
+    low * high
+}
+
 /// A significand, moved up: by fewer places for each that the number is below the least normal one.
 #[inline(always)]
 fn moved(significand: u16, exponent: u16, first: u16) -> u16
@@ -49,7 +61,7 @@ fn moved(significand: u16, exponent: u16, first: u16) -> u16
     ensures is { result ≡ significand * 2 ^ min (exponent - first) 7 }
     ensures below { result < 2 ^ 15 }
 {
-    significand << (exponent.max(first) - first).min(7)
+    significand * power_of_two((exponent.max(first) - first).min(7))
 }
 
 /// The digits of a number, the target's last one at a place of its own.

@@ -92,11 +92,7 @@ fn with_sign(target: Target, negative: bool, code: u32) -> u32
 {
     let sign = 1 << (target.bits - 1);
     let is_bare = (target.nonfinite == NonfiniteBehavior::NanNegativeZero) & (code % sign == 0);
-    if negative & !is_bare {
-        code + sign
-    } else {
-        code
-    }
+    code + (u32::from(negative & !is_bare) << (target.bits - 1))
 }
 
 /// A rounded number, encoded and with its flags. `code` is what is delivered for it, and `some` says whether digits

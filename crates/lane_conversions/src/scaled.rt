@@ -7,7 +7,7 @@ ghost use Rattle.lane_conversions.specs.At.{format_at};
 
 use crate::constants::Target;
 use crate::few_counts::one_if;
-use crate::halves::significand_of;
+use crate::halves::{power_of_two, significand_of};
 use crate::targets::places;
 
 /// A number in a target's quanta, with sixteen binary digits below them. As one number, these could not be computed in
@@ -87,10 +87,11 @@ pub(crate) fn scaled_to(target: Target, magnitude: u16, lower: u16) -> Scaled
 {
     let place = place_of(magnitude);
     let first = first_place(target);
-    let moved = u32::from(odd_significand(magnitude, lower)) << up(target, place, first);
+    let power = power_of_two(up(target, place, first));
+    let significand = odd_significand(magnitude, lower);
     let places = above(target, place, first) << (target.precision - 1);
     Scaled {
-        kept: (moved / 0x1_0000) as u16 + places,
-        rest: (moved % 0x1_0000) as u16,
+        kept: (u32::from(significand) * u32::from(power) / 0x1_0000) as u16 + places,
+        rest: significand.wrapping_mul(power),
     }
 }

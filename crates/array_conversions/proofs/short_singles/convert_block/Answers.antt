@@ -1,11 +1,11 @@
-use Rattle.std.proofs.Common.{◌≡◌, ℕ, List, ◌/◌, ◌%◌, ◌^◌, ◌<◌, ◌*◌, ltb, refl, sym, ap, ◌∙◌, subst}
+use Rattle.std.proofs.Common.{ℕ, ◌%◌, ◌^◌, ◌<◌, ◌*◌, ltb, refl, sym, ap, ◌∙◌, subst}
 use Rattle.apfloat_model.specs.rounding.RoundingToOdd.{odd_quotient}
 use Rattle.rustc_apfloat.specs.FlaggedTypes.{constants_of}
 use Rattle.array_conversions.specs.Blocks.{value_at}
 use Rattle.array_conversions.specs.Bytes.{number_of}
 use Rattle.array_conversions.specs.Rows.{number_from, number_in}
 use Rattle.array_conversions.specs.Values.{IsConvertedBy}
-use Rattle.array_conversions.proofs.Rows.{finite_there, half_alike, made_there, row_block, upper_alike}
+use Rattle.array_conversions.proofs.Rows.{finite_there, half_alike, made_there, row_block}
 use Rattle.array_conversions.proofs.short_singles.convert_block.Goals as goal
 
 pub convert_specials-requires-clause-numbers : goal.convert_specials-requires-clause-numbers

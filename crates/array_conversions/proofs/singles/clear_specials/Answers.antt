@@ -1,10 +1,9 @@
-use Rattle.std.proofs.Common.{◌≡◌, ℕ, List, refl, ap, ◌∙◌, subst, sym, ◌/◌, ◌%◌, ◌^◌, ◌<◌, ◌*◌, ltb, arith, length-set}
+use Rattle.std.proofs.Common.{◌≡◌, ℕ, refl, ap, ◌∙◌, subst, sym, ◌/◌, ◌%◌, ◌^◌, ◌<◌, ◌*◌, ltb, arith, length-set}
 use Rattle.std.specs.Prelude.{slice_index}
 use Rattle.std.proofs.lemmas.List.{get_or-set_other}
 use Rattle.array_conversions.specs.Blocks.{value_at}
 use Rattle.array_conversions.specs.Bytes.{number_of}
-use Rattle.array_conversions.specs.Rows.{lower_in, number_from, number_in}
-use Rattle.array_conversions.specs.Singles.{AreHalves}
+use Rattle.array_conversions.specs.Rows.{lower_in, number_in}
 use Rattle.array_conversions.proofs.Items.{set_says}
 use Rattle.array_conversions.proofs.Rows.{cleared_finite, made_there, upper_alike}
 use Rattle.array_conversions.proofs.singles.clear_specials.Goals as goal

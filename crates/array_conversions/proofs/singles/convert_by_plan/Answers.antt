@@ -1,4 +1,4 @@
-use Rattle.std.proofs.Common.{◌≡◌, ℕ, ◌*◌, ◌/◌, ◌≤◌, length, ◌∙◌, ap, sym}
+use Rattle.std.proofs.Common.{◌≡◌, ℕ, ◌-◌, ◌*◌, ◌/◌, ◌≤◌, length, ◌∙◌, ap, sym}
 use Rattle.std.proofs.Math.Nat.{div-mul-le_self}
 use Rattle.rustc_apfloat.specs.FlaggedTypes.{constants_of}
 use Rattle.array_conversions.specs.Values.{IsConvertedBy}
@@ -6,13 +6,13 @@ use Rattle.array_conversions.specs.Widths.{bytes_of}
 use Rattle.array_conversions.proofs.Joined.{block_rest, block_width, rest_size}
 use Rattle.array_conversions.proofs.singles.convert_by_plan.Goals as goal
 
-pub convert_one_by_one-requires-clause-output : goal.convert_one_by_one-requires-clause-output
-convert_one_by_one-requires-clause-output g c =
+pub convert_last-requires-clause-output : goal.convert_last-requires-clause-output
+convert_last-requires-clause-output g c =
     let width : c.bytes_of.result ≡ bytes_of g.T.Flagged.BITS = c.bytes_of.ensures ∙ ap bytes_of c.BITS.ensures in
     let size : length c.convert_blocks-counts.new.output ≡ c.args.count * c.bytes_of.result =
     c.convert_blocks-counts.auto.output ∙ c.requires.output ∙ ap (λ (n : ℕ). c.args.count * n) (sym width) in
     rest_size c.bytes_of.result (c.args.count / 64 * 64) c.args.count c.convert_blocks-counts.new.output
-    (div-mul-le_self c.args.count 64) size
+    (div-mul-le_self c.args.count 64) size ∙ ap (λ (n : ℕ). (c.args.count - c.args.count / 64 * 64) * n) width
 
 pub returns : goal.returns
 returns g c =
@@ -26,8 +26,9 @@ returns g c =
     rw c.add.ensures
     (block_width Holds 4 target (bytes_of g.T.Flagged.BITS) c.args.count c.args.input.now _ _ width
     (block_rest Holds 4 target done c.args.count c.args.input.now c.convert_blocks-counts.new.output
-    c.convert_one_by_one.new.output c.convert_blocks-counts.result c.convert_one_by_one.result before
+    c.convert_last.new.output c.convert_blocks-counts.result c.convert_last.result before
     c.ranges.count.fits size
-    (c.convert_one_by_one.auto.output ∙ rest_size target done c.args.count c.convert_blocks-counts.new.output before
+    (c.convert_last.auto.output ∙ rest_size target done c.args.count c.convert_blocks-counts.new.output before
     size)
-    c.convert_one_by_one.ensures c.convert_blocks-counts.ensures))
+    (block_width Holds 4 (bytes_of g.T.Flagged.BITS) target (c.args.count - c.args.count / 64 * 64) _ _ _ (sym width)
+    c.convert_last.ensures) c.convert_blocks-counts.ensures))

@@ -1,55 +1,49 @@
-use Rattle.std.proofs.Common.{◌≡◌, ℕ, ◌+◌, ◌*◌, ◌%◌, ◌^◌, ◌<◌, length, Bool, false, true, not, ltb, ap, ◌∙◌, sym, refl, subst, List, arith}
+use Rattle.std.proofs.Common.{◌≡◌, ℕ, ◌+◌, ◌*◌, ◌%◌, ◌^◌, ◌<◌, subst, List, arith}
 use Rattle.rustc_apfloat.specs.FlaggedTypes.{constants_of}
-use Rattle.array_conversions.specs.Blocks.{value_at}
 use Rattle.array_conversions.specs.Bytes.{number_of}
-use Rattle.array_conversions.specs.Rows.{number_from}
+use Rattle.array_conversions.specs.Rows.{IsRow, number_from}
 use Rattle.array_conversions.specs.Values.{IsConvertedBy}
-use Rattle.array_conversions.proofs.Places.{place_size}
-use Rattle.array_conversions.proofs.Rows.{done_there, next_number, next_there, row_block, row_given, row_set, zero_quiet, zero_there}
-use Rattle.array_conversions.proofs.specials.convert_specials.Goals.{then-not-is_finite, else-not-is_finite}
+use Rattle.array_conversions.proofs.Joined.{in_range}
+use Rattle.array_conversions.proofs.Rows.{done_there, numbers_there, row_block, row_given}
+use Rattle.array_conversions.proofs.specials.convert_specials.Goals.{then-not-are_numbers, else-not-are_numbers}
 use Rattle.array_conversions.proofs.specials.convert_specials.Goals as goal
 
-pub loop-index-init : goal.loop-index-init
-loop-index-init g c = c.requires.numbers
+pub loop-group-init : goal.loop-group-init
+loop-group-init g c = c.requires.numbers
 
-pub loop-index-preserved : goal.loop-index-preserved
-loop-index-preserved g c =
+pub convert_group-counts-requires-clause-numbers : goal.convert_group-counts-requires-clause-numbers
+convert_group-counts-requires-clause-numbers g c = c.loop-group.invariant
+
+pub loop-group-preserved : goal.loop-group-preserved
+loop-group-preserved g c =
     let Holds = IsConvertedBy c.args.overflow (constants_of g.S.Flagged) (constants_of g.T.Flagged) c.args.round in
     let input = c.args.input.now in
-    let index = c.loop-index.index in
-    let before = c.loop-index-test.true in
-    let room : length c.loop-index.output ≡ 64 * c.args.width = c.loop-index.auto.output ∙ c.requires.output in
-    let number : c.is_finite.result ≡ ltb (number_of (value_at 4 index input) % 2 ^ 31) (255 * 2 ^ 23) =
-    c.is_finite.ensures ∙ ap (λ (n : ℕ). ltb (n % 2 ^ 31) (255 * 2 ^ 23)) c.word_of.ensures in
-    elim c.if-not-is_finite.branch [
-      | then-not-is_finite w ↦
-          let special : ltb (number_of (value_at 4 index input) % 2 ^ 31) (255 * 2 ^ 23) ≡ false =
-          sym number ∙ w.if-not-is_finite.true in
-          rw (w.output-is, w.counts-is, w.raise.ensures)
-          (row_set Holds (number_from index input) (number_from (index + 1) input) c.args.width index 64
-          c.loop-index.output w.convert_slowly.new.output c.loop-index.counts w.convert_slowly.result before
-          (omega arith)
-          room
-          (w.convert_slowly.auto.output ∙ place_size c.args.width index 64 c.loop-index.output before room)
-          (next_there index input)
-          (subst (λ (bytes : List ℕ). Holds bytes w.convert_slowly.new.output w.convert_slowly.result)
-          (sym (done_there (index + 1) input index (omega arith))) w.convert_slowly.ensures)
-          (λ bytes o it. zero_quiet c.args.overflow (constants_of g.S.Flagged) (constants_of g.T.Flagged) c.args.round
-          c.requires.single bytes o
-          (subst (λ (given : List ℕ). Holds given bytes o) (zero_there index input special) it))
-          c.loop-index.invariant)
-      | else-not-is_finite w ↦
-          rw (w.output-is, w.counts-is)
-          (row_given Holds (number_from index input) (number_from (index + 1) input) c.args.width 64 c.loop-index.output
-          c.loop-index.counts (λ k low. next_number index input (sym number ∙ w.if-not-is_finite.false) k)
-          c.loop-index.invariant)
+    let done = c.loop-group.group * 16 in
+    let next : done + 16 ≡ (c.loop-group.group + 1) * 16 = omega arith in
+    elim c.if-not-are_numbers.branch [
+      | then-not-are_numbers w ↦
+          subst
+          (λ (n : ℕ). IsRow Holds (number_from n input) c.args.width 64 c.if-not-are_numbers.output
+          c.if-not-are_numbers.counts) next
+          (rw (w.output-is, w.counts-is) w.convert_group-counts.ensures)
+      | else-not-are_numbers w ↦
+          let numbers = c.are_numbers.ensures w.if-not-are_numbers.false in
+          subst
+          (λ (n : ℕ). IsRow Holds (number_from n input) c.args.width 64 c.if-not-are_numbers.output
+          c.if-not-are_numbers.counts) next
+          (rw (w.output-is, w.counts-is)
+          (row_given Holds (number_from done input) (number_from (done + 16) input) c.args.width 64
+          c.loop-group.output c.loop-group.counts
+          (λ k low. numbers_there done 16 input
+          (λ j within. subst (λ (bytes : List ℕ). number_of bytes % 2 ^ 31 < 255 * 2 ^ 23)
+          (in_range 4 done 16 j input within) (numbers j within)) k)
+          c.loop-group.invariant))
     ]
 
 pub returns : goal.returns
 returns g c =
-    let past = c.loop-index-test.false in
+    let past = c.loop-group-test.false in
+    let done = c.loop-group.group * 16 in
     row_block (IsConvertedBy c.args.overflow (constants_of g.S.Flagged) (constants_of g.T.Flagged) c.args.round)
-    (number_from c.loop-index.index c.args.input.now) 4 c.args.width 64 c.args.input.now c.loop-index.output
-    c.loop-index.counts
-    (λ k before. done_there c.loop-index.index c.args.input.now k (omega (arith, before, past)))
-    c.loop-index.invariant
+    (number_from done c.args.input.now) 4 c.args.width 64 c.args.input.now c.loop-group.output c.loop-group.counts
+    (λ k before. done_there done c.args.input.now k (omega (arith, before, past))) c.loop-group.invariant

@@ -1,9 +1,10 @@
+use Rattle.std.specs.Prelude.{◌*◌}
 use Rattle.rustc_apfloat.specs.FlaggedTypes.{constants_of}
 use Rattle.array_conversions.specs.Rows.{IsRow, number_from}
 use Rattle.array_conversions.specs.Values.{IsConvertedBy}
 use Rattle.array_conversions.proofs.specials.convert_specials.Given as goal
 
-abbrev pub invariant-loop-index : goal.invariant-loop-index
-invariant-loop-index g l =
+abbrev pub invariant-loop-group : goal.invariant-loop-group
+invariant-loop-group g l =
     IsRow (IsConvertedBy l.overflow (constants_of g.S.Flagged) (constants_of g.T.Flagged) l.round)
-    (number_from l.index l.input) l.width 64 l.output l.counts
+    (number_from (l.group * 16) l.input) l.width 64 l.output l.counts
