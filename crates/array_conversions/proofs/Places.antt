@@ -124,7 +124,8 @@ places_push {O} Holds width index bytes outcomes outcome here so_far =
     let Says : ℕ → Type 0 = λ k. IfSome (slice_get (outcomes ++ outcome ∷ []) k)
     (λ o. Holds k (value_at width k bytes) o) in
     let at_end : Says index =
-    last_of Holds (value_at width index bytes) (value_at width index bytes) outcomes outcome index so_far.size refl here in
+    last_of Holds (value_at width index bytes) (value_at width index bytes) outcomes outcome index so_far.size
+    refl here in
     let before_it : (k : ℕ) → k < index → Says k = λ k h.
     kept_of Holds (value_at width k bytes) (value_at width k bytes) outcomes (outcome ∷ []) k
     (let size = so_far.size in omega (arith, size, h)) refl (so_far.each k) in

@@ -24,12 +24,9 @@ lowest digit rest packed is few = omega (arith, is, few)
 others : (digit rest packed : ℕ) → packed ≡ digit + 32 * rest → digit ≤ 31 → packed / 32 ≡ rest
 others digit rest packed is few = omega (arith, is, few)
 
-digits_fit : (a b c d e f : ℕ) → a ≤ 31 → b ≤ 31 → c ≤ 31 → d ≤ 31 → e ≤ 31 → f ≤ 31
-    → a + 32 * (b + 32 * (c + 32 * (d + 32 * (e + 32 * f)))) < 2 ^ 30
-digits_fit a b c d e f la lb lc ld le lf = omega (arith, la, lb, lc, ld, le, lf)
-
 digits_added : (a b c d e f p q r s t u : ℕ)
-    → a + 32 * (b + 32 * (c + 32 * (d + 32 * (e + 32 * f)))) + (p + 32 * (q + 32 * (r + 32 * (s + 32 * (t + 32 * u)))))
+    → a + 32 * (b + 32 * (c + 32 * (d + 32 * (e + 32 * f))))
+    + (p + 32 * (q + 32 * (r + 32 * (s + 32 * (t + 32 * u)))))
     ≡ a + p + 32 * (b + q + 32 * (c + r + 32 * (d + s + 32 * (e + t + 32 * (f + u)))))
 digits_added a b c d e f p q r s t u = omega arith
 
@@ -37,13 +34,6 @@ pub packed_more : (some others : Tally) → packed_of some + packed_of others �
 packed_more some others =
     digits_added some.invalid some.div_by_zero some.overflow some.underflow some.inexact some.nans others.invalid
     others.div_by_zero others.overflow others.underflow others.inexact others.nans
-
-pub packed_fits : (most : ℕ) (tally : Tally) → most ≤ 31 → AreAtMost most tally → packed_of tally < 2 ^ 30
-packed_fits most tally few it =
-    let fits : (n : ℕ) → n ≤ most → n ≤ 31 = λ n h. omega (arith, h, few) in
-    digits_fit tally.invalid tally.div_by_zero tally.overflow tally.underflow tally.inexact tally.nans
-    (fits _ it.invalid) (fits _ it.div_by_zero) (fits _ it.overflow) (fits _ it.underflow) (fits _ it.inexact)
-    (fits _ it.nans)
 
 abbrev with_counts : ℕ → ℕ → ℕ → ℕ → ℕ → ℕ → Tally
 with_counts a b c d e f =
@@ -54,7 +44,8 @@ same_tally : {a b c d e f p q r s t u : ℕ} → a ≡ p → b ≡ q → c ≡ r
 same_tally x y z u v w = cc
 
 -- the digits are the counts, if these are few
-pub taken_out : (tally : Tally) (most : ℕ) → most ≤ 31 → AreAtMost most tally → unpacked (packed_of tally) ≡ tally
+pub taken_out : (tally : Tally) (most : ℕ) → most ≤ 31 → AreAtMost most tally
+    → unpacked (packed_of tally) ≡ tally
 taken_out t most few it =
     let fits : (n : ℕ) → n ≤ most → n ≤ 31 = λ n h. omega (arith, h, few) in
     let all = packed_of t in
@@ -92,7 +83,8 @@ tally_most flags is_nan =
 pub most_sum : (first size : ℕ) (some others : Tally) → AreAtMost first some → AreAtMost size others
     → AreAtMost (first + size) (sum_of some others)
 most_sum first size some others p q =
-    let added : (a b : ℕ) → a ≤ first → b ≤ size → a + b ≤ first + size = λ a b p q. omega (arith, p, q) in
+    let added : (a b : ℕ) → a ≤ first → b ≤ size → a + b ≤ first + size =
+    λ a b p q. omega (arith, p, q) in
     record {
       inexact = added _ _ p.inexact q.inexact;
       underflow = added _ _ p.underflow q.underflow;
@@ -193,7 +185,8 @@ total_more marks first index tally packed mark so_far =
     }
 
 -- the digits of the number are the tally
-digits_are : (marks : ℕ → ℕ) (first index size : ℕ) (tally : Tally) (packed : ℕ) → index ≡ first + size → size ≤ 31
+digits_are : (marks : ℕ → ℕ) (first index size : ℕ) (tally : Tally) (packed : ℕ) → index ≡ first + size
+    → size ≤ 31
     → (it : IsTotal marks first index tally packed) → (it.done ≡ size) × (unpacked packed ≡ it.few)
 digits_are marks first index size tally packed last few it =
     let is = it.index_is in
@@ -201,7 +194,8 @@ digits_are marks first index size tally packed last few it =
     let most : it.done ≤ 31 = omega (arith, all, few) in
     (all, ap unpacked it.packed_is ∙ taken_out it.few it.done most it.most)
 
-pub total_done : (marks : ℕ → ℕ) (first index size : ℕ) (tally : Tally) (packed : ℕ) → index ≡ first + size
+pub total_done : (marks : ℕ → ℕ) (first index size : ℕ) (tally : Tally) (packed : ℕ)
+    → index ≡ first + size
     → size ≤ 31 → AreAtMost first tally → IsTotal marks first index tally packed
     → (sum_of tally (unpacked packed) ≡ total marks (first + size))
     × AreAtMost (first + size) (sum_of tally (unpacked packed))
@@ -213,26 +207,17 @@ total_done marks first index size tally packed last few before it =
           (most_sum first size tally it.few before most),
     )
 
--- there is room for one more in the number
-pub mark_fits : (marks : ℕ → ℕ) (first index size mark : ℕ) (tally : Tally) (packed : ℕ) → index < first + size
-    → size ≤ 31 → IsMark mark → IsTotal marks first index tally packed → packed + mark < 2 ^ 64
-mark_fits marks first index size mark tally packed before few one it =
-    let done : it.done ≤ 31 = (let is = it.index_is in omega (arith, is, few, before)) in
-    let p : packed_of it.few < 2 ^ 30 = packed_fits it.done it.few done it.most in
-    let q : packed_of one.tally < 2 ^ 30 = packed_fits 1 one.tally (lit≤ tt) one.few in
-    let a : packed < 2 ^ 30 = subst (λ (n : ℕ). n < 2 ^ 30) (sym it.packed_is) p in
-    let b : mark < 2 ^ 30 = subst (λ (n : ℕ). n < 2 ^ 30) (sym one.is) q in
-    omega (arith, a, b)
-
 -- ---- entries
 
-quotient_is : (result mark entry power : ℕ) → entry ≡ result + power * mark → result < power → entry / power ≡ mark
+quotient_is : (result mark entry power : ℕ) → entry ≡ result + power * mark → result < power
+    → entry / power ≡ mark
 quotient_is result mark entry power is fits =
     let turned : power * mark ≡ mark * power = mul_comm power mark in
     let parts : entry ≡ mark * power + result = omega (arith, is, turned) in
     ap (λ (n : ℕ). n / power) parts ∙ div-mul-add mark power result fits
 
-rest_is : (result mark entry power : ℕ) → entry ≡ result + power * mark → result < power → entry % power ≡ result
+rest_is : (result mark entry power : ℕ) → entry ≡ result + power * mark → result < power
+    → entry % power ≡ result
 rest_is result mark entry power is fits =
     let turned : power * mark ≡ mark * power = mul_comm power mark in
     let parts : entry ≡ mark * power + result = omega (arith, is, turned) in
@@ -258,9 +243,11 @@ pub each_more : (value : ℕ → ℕ) (width index count : ℕ) (output new : Li
     → length output ≡ count * width → length new ≡ width → number_of new ≡ value index
     → ((k : ℕ) → k < index → number_of (value_at width k output) ≡ value k)
     → (k : ℕ) → k < index + 1
-    → number_of (value_at width k (put_mid (index * width) (index * width + width - index * width) output new)) ≡ value k
+    → number_of (value_at width k (put_mid (index * width) (index * width + width - index * width) output new))
+    ≡ value k
 each_more value width index count output new before size wide here so_far k within =
-    let room : index * width ≤ length output = let below = place_below index count width before in omega (arith, below, size) in
+    let below = place_below index count width before in
+    let room : index * width ≤ length output = omega (arith, below, size) in
     let written = put_mid (index * width) (index * width + width - index * width) output new in
     ⊎_elim {C = number_of (value_at width k written) ≡ value k}
     (λ (same : k ≡ index). ap (λ (n : ℕ). number_of (value_at width n written)) same
@@ -270,13 +257,15 @@ each_more value width index count output new before size wide here so_far k with
     (cases_eq k index)
 
 -- what holds of the values up to an index holds of one more
-below_more : {P : ℕ → Type 0} (index : ℕ) → P index → ((k : ℕ) → k < index → P k) → (k : ℕ) → k < index + 1 → P k
+below_more : {P : ℕ → Type 0} (index : ℕ) → P index → ((k : ℕ) → k < index → P k)
+    → (k : ℕ) → k < index + 1 → P k
 below_more {P} index here so_far k within =
     ⊎_elim {C = P k} (λ (same : k ≡ index). subst P (sym same) here)
     (λ (other : k ≡ index → ⊥). so_far k (omega (arith, other, within))) (cases_eq k index)
 
 -- what was looked up, the tally of the values since `first` packed in a number
-pub record AreLookedUpSince (place : ℕ → ℕ) (size width first index : ℕ) (table output : List ℕ) (tally : Tally)
+pub record AreLookedUpSince (place : ℕ → ℕ) (size width first index : ℕ) (table output : List ℕ)
+    (tally : Tally)
     (packed : ℕ) : Type 0 where
   pub within : (k : ℕ) → k < index → place k < size
   pub copied : (k : ℕ) → k < index → number_of (value_at width k output) ≡ entry_of table (place k) % 2 ^ 32
@@ -296,7 +285,8 @@ module _ (place : ℕ → ℕ) (size width first : ℕ) (table : List ℕ) (tall
 
   pub since_more : (index count : ℕ) (output new : List ℕ) (at packed mark : ℕ) → index < count
       → length output ≡ count * width → length new ≡ width → at ≡ place index → at < size
-      → AreEntries width size table → number_of new ≡ entry_of table at % 2 ^ 32 → mark ≡ entry_of table at / 2 ^ 32
+      → AreEntries width size table → number_of new ≡ entry_of table at % 2 ^ 32
+      → mark ≡ entry_of table at / 2 ^ 32
       → AreLookedUpSince place size width first index table output tally packed
       → AreLookedUpSince place size width first (index + 1) table
       (put_mid (index * width) (index * width + width - index * width) output new) tally (packed + mark)
@@ -321,7 +311,8 @@ module _ (place : ℕ → ℕ) (size width first : ℕ) (table : List ℕ) (tall
       sum_fits (first + few) (sum_of tally (unpacked packed)) room
       (total_done marks first index few tally packed last is_few before it.counted).1
 
-  pub since_done : (index few : ℕ) (output : List ℕ) (all : Tally) (packed : ℕ) → index ≡ first + few → few ≤ 31
+  pub since_done : (index few : ℕ) (output : List ℕ) (all : Tally) (packed : ℕ) → index ≡ first + few
+      → few ≤ 31
       → AreAtMost first tally → all ≡ sum_of tally (unpacked packed)
       → AreLookedUpSince place size width first index table output tally packed
       → AreLookedUp place size width (first + few) table output all
@@ -329,7 +320,8 @@ module _ (place : ℕ → ℕ) (size width first : ℕ) (table : List ℕ) (tall
       let done = total_done marks first index few tally packed last is_few before it.counted in
       record {
         within = subst (λ (n : ℕ). (k : ℕ) → k < n → place k < size) last it.within;
-        each = subst (λ (n : ℕ). (k : ℕ) → k < n → number_of (value_at width k output) ≡ results k) last it.copied;
+        each = subst
+            (λ (n : ℕ). (k : ℕ) → k < n → number_of (value_at width k output) ≡ results k) last it.copied;
         tally_is = is ∙ done.0;
         most = subst (AreAtMost (first + few)) (sym is) done.1;
       }

@@ -28,7 +28,8 @@ pub record AreEntries (width size : ℕ) (table : List ℕ) : Type 0 where
   pub each : (place : ℕ) → place < size → IsEntryOf width (entry_of table place)
 
 -- the entry in a place: a result for the place, and the tally of its outcome
-pub record HasEntry {O : Type 0} (Answers : ℕ → ℕ → O → Type 0) (tally : O → Tally) (place : ℕ) (bytes : List ℕ)
+pub record HasEntry {O : Type 0} (Answers : ℕ → ℕ → O → Type 0) (tally : O → Tally) (place : ℕ)
+    (bytes : List ℕ)
     (outcome : O) : Type 0 where
   pub result : ℕ
   pub is_answer : Answers place result outcome
