@@ -5,6 +5,7 @@ pub mod Places
 pub mod WidthBounds
 pub mod PlacesOnce
 pub mod OneBlock
+pub mod TalliedResults
 pub mod TabledResults
 pub mod ShortSources
 pub mod NormalNumbers

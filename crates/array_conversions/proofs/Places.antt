@@ -115,6 +115,30 @@ pub places_none : {O : Type 0} (Holds : ℕ → List ℕ → O → Type 0) (widt
     → AreInPlaces Holds width 0 bytes []
 places_none Holds width bytes = record { size = refl; each = λ index. tt }
 
+-- one more value is in its place
+pub places_push : {O : Type 0} (Holds : ℕ → List ℕ → O → Type 0) (width index : ℕ) (bytes : List ℕ)
+    (outcomes : List O) (outcome : O) → Holds index (value_at width index bytes) outcome
+    → AreInPlaces Holds width index bytes outcomes
+    → AreInPlaces Holds width (suc index) bytes (outcomes ++ outcome ∷ [])
+places_push {O} Holds width index bytes outcomes outcome here so_far =
+    let Says : ℕ → Type 0 = λ k. IfSome (slice_get (outcomes ++ outcome ∷ []) k)
+    (λ o. Holds k (value_at width k bytes) o) in
+    let at_end : Says index =
+    last_of Holds (value_at width index bytes) (value_at width index bytes) outcomes outcome index so_far.size
+    refl here in
+    let before_it : (k : ℕ) → k < index → Says k = λ k h.
+    kept_of Holds (value_at width k bytes) (value_at width k bytes) outcomes (outcome ∷ []) k
+    (let size = so_far.size in omega (arith, size, h)) refl (so_far.each k) in
+    let longer : length (outcomes ++ outcome ∷ []) ≡ suc index =
+    length_push outcomes outcome ∙ (let size = so_far.size in omega (arith, size)) in
+    record {
+      size = longer;
+      each = λ k. ⊎_elim {C = Says k} (before_it k)
+          (λ h. ⊎_elim {C = Says k} (λ e. subst Says (sym e) at_end)
+          (λ past. none_of Holds _ (outcomes ++ outcome ∷ []) k (omega (arith, longer, past, h))) (cases_eq k index))
+          (cases_lt k index);
+    }
+
 -- one more value is written to its place
 pub places_more : {O : Type 0} (Holds : ℕ → List ℕ → O → Type 0) (width index count : ℕ)
     (bytes new : List ℕ) (outcomes : List O) (outcome : O)

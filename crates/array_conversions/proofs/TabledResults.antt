@@ -1,20 +1,28 @@
 -- Results in the places of a table.
-use Rattle.std.proofs.Common.{◌≡◌, ℕ, ◌+◌, ◌-◌, ◌*◌, ◌<◌, List, length, take, set, Option, Some, refl, sym, ap, ◌∙◌, subst, arith}
+use Rattle.std.proofs.Common.{◌≡◌, ℕ, ◌+◌, ◌-◌, ◌*◌, ◌<◌, ◌≤◌, List, length, take, set, Option, Some, refl, sym, ap, ◌∙◌, subst, arith}
 use Rattle.std.specs.Prelude.{slice_get, IfSome}
+use Rattle.std.proofs.Math.Path.{ap₂}
 use Rattle.std.proofs.lemmas.List.{take_more_set}
+use Rattle.std.proofs.lemmas.Option.{IfSome_then}
 use borrow.Rule.Slice.PartMut.{put_mid}
 use Rattle.rustc_apfloat.specs.declared.Round.{Round}
 use Rattle.rustc_apfloat.specs.Lawful.{Constants, format_with, layout_with}
 use Rattle.rustc_apfloat.specs.Layout.{IsEncodedBy}
 use Rattle.array_conversions.specs.declared.converted.Converted.{Converted}
+use Rattle.array_conversions.specs.declared.counts.Counts.{Counts}
 use Rattle.array_conversions.specs.declared.counts.Outcome.{Outcome}
+use Rattle.array_conversions.specs.declared.tallies.Tally.{Tally}
 use Rattle.saturating_conversions.specs.declared.saturation.Overflow.{Overflow}
-use Rattle.array_conversions.specs.Blocks.{AreInPlaces, value_at}
+use Rattle.array_conversions.specs.Blocks.{AreInPlaces, IsBlock, value_at}
 use Rattle.array_conversions.specs.Bytes.{number_of}
-use Rattle.array_conversions.specs.Tables.{IsResult, IsTable}
+use Rattle.array_conversions.specs.Entries.{AreEntries, AreLookedUp}
+use Rattle.array_conversions.specs.Tables.{AreConversions, IsAnswerAt, IsResult, IsTable, outcome_tally}
+use Rattle.array_conversions.specs.Tallies.{counts_with}
 use Rattle.array_conversions.specs.Values.{IsAnswerFrom, IsConvertedBy}
 use Rattle.array_conversions.proofs.ConversionsBy.{converted_from}
+use Rattle.array_conversions.proofs.LittleEndian.{fits}
 use Rattle.array_conversions.proofs.Places.{places_more}
+use Rattle.array_conversions.proofs.TalliedResults.{are_entries, looked_up as outcomes_looked_up}
 
 -- an answer whose bits are written is a result
 pub result_of : (overflow : Overflow) (c d : Constants) (mode : Round) (bits : ℕ) (output : List ℕ) (answer : Converted)
@@ -70,3 +78,31 @@ looked_up overflow c d mode width count place at size values new outcomes outcom
     ap (λ (n : ℕ). value_at n place values) (sym wide) ∙ sym copied in
     subst (λ (n : ℕ). IsResult overflow c d mode n new outcome) is
     (subst (λ (bytes : List ℕ). IsResult overflow c d mode place bytes outcome) same here)
+
+-- ---- tables of entries
+
+-- the results fit in the bytes of a value of the target
+pub entries_of : (overflow : Overflow) (c d : Constants) (mode : Round) (width size : ℕ) (table : List ℕ)
+    → length table ≡ size * 8 → d.bits ≤ 8 * width → AreConversions overflow c d mode size table
+    → AreEntries width size table
+entries_of overflow c d mode width size table room wide is =
+    are_entries (IsAnswerAt overflow c d mode) outcome_tally width size table room
+    (λ place result outcome made. fits result d.bits width made.is_encoded.below wide) is
+
+-- the values whose results were looked up are converted
+pub block_looked_up : (overflow : Overflow) (c d : Constants) (mode : Round) (source width size count : ℕ)
+    (input output table : List ℕ) (tally : Tally) (counts : Counts) → AreConversions overflow c d mode size table
+    → AreLookedUp (λ k. number_of (value_at source k input)) size width count table output tally
+    → counts ≡ counts_with count tally
+    → IsBlock (IsConvertedBy overflow c d mode) source width count input output counts
+block_looked_up overflow c d mode source width size count input output table tally counts is it counts_are =
+    let found = outcomes_looked_up (IsAnswerAt overflow c d mode) outcome_tally
+    (λ k. number_of (value_at source k input)) size width count table output tally is it in
+    record {
+      outcomes = found.outcomes;
+      size = found.places.size;
+      each = λ index. IfSome_then (slice_get found.outcomes index) (found.places.each index)
+          (λ outcome made. converted_by_result overflow c d mode (value_at source index input)
+          (value_at width index output) outcome made);
+      counted = counts_are ∙ ap₂ counts_with (sym found.places.size) found.total_is;
+    }

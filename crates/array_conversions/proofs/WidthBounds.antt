@@ -4,7 +4,10 @@ use Rattle.std.proofs.lemmas.Bool.{ltb-true, eqb-true}
 use Rattle.std.specs.Int.{div_ceil}
 use Rattle.rustc_apfloat.specs.Lawful.{HasBits, HasNoBits}
 use Rattle.formats_at_run_time.specs.declared.built_in.BuiltInFormat.{BuiltInFormat}
+use Rattle.formats_at_run_time.specs.declared.FlaggedFormat.{FlaggedFormat}
+use Rattle.formats_at_run_time.specs.declared.FlaggedFormat.TheVariants.{BuiltIn, AfterRounding, BeforeRounding}
 use Rattle.formats_at_run_time.specs.BuiltIns.{KnownFormat, constants_in, known_format}
+use Rattle.formats_at_run_time.specs.FlaggedKinds.{flagged_constants, format_of_ieee, format_without_rule}
 use Rattle.array_conversions.specs.declared.widths.Extended.{Extended}
 use Rattle.array_conversions.specs.declared.widths.Extended.TheVariants.{Packed, Padded}
 use Rattle.array_conversions.specs.Widths.{bytes_of, width_of, width_with}
@@ -60,3 +63,10 @@ room_of known Padded =
 pub width_room : (format : BuiltInFormat) (extended : Extended)
     → HasRoom (constants_in format).bits (width_of format extended)
 width_room format extended = room_of (known_format format) extended
+
+-- the same of a format with a rule of flags
+pub flagged_room : (format : FlaggedFormat)
+    → (flagged_constants format).bits ≤ 8 * width_of (format_without_rule format) Packed
+flagged_room (BuiltIn format) = (width_room format Packed).enough
+flagged_room (AfterRounding format) = (width_room (format_of_ieee format) Packed).enough
+flagged_room (BeforeRounding format) = (width_room (format_of_ieee format) Packed).enough

@@ -7,6 +7,8 @@ pub mod OneBlock
 pub mod Widths
 pub mod Calls
 pub mod Words
+pub mod Tallies
+pub mod Entries
 pub mod Tables
 pub mod ShortSources
 pub mod Singles

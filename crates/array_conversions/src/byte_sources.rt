@@ -1,15 +1,15 @@
 //! Values of one byte, converted by a table of all 256.
 
 ghost use Rattle.std.specs.Prelude.{◌≡◌, ◌*◌, ◌<◌, ◌≤◌, IsTrue, length};
-ghost use Rattle.std.specs.Int.{div_ceil};
 ghost use Rattle.rustc_apfloat.specs.FlaggedTypes.{constants_of};
 ghost use Rattle.array_conversions.specs.Blocks.{IsBlock};
-ghost use Rattle.array_conversions.specs.Bytes.{number_of};
 ghost use Rattle.array_conversions.specs.Values.{IsConvertedBy};
+ghost use Rattle.array_conversions.specs.Widths.{bytes_of};
 
 use crate::counts::{Counts, Outcome};
-use crate::tables::{fill_table, look_up};
-use crate::widths::Widths;
+use crate::entries::{ENTRY, OneByte, TablePlaces, look_up};
+use crate::tables::{fill_entries, fill_table, look_up as look_up_value};
+use crate::widths::{Widths, bytes_of};
 use rustc_apfloat::Round;
 use rustc_apfloat::ieee::Flagged;
 use saturating_conversions::Overflow;
@@ -23,13 +23,13 @@ const LEAST_COUNT: usize = 2 * PLACES;
 /// Whether a table of all bytes has the results, and there are enough values to fill it.
 #[inline(always)]
 pub fn has_byte_table<S: Flagged, T: Flagged>(widths: Widths, count: usize) -> bool
-    ensures { IsTrue result → (widths.source ≡ 1) × (widths.target ≡ div_ceil T.BITS 8)
+    ensures { IsTrue result → (widths.source ≡ 1) × (widths.target ≡ bytes_of T.BITS)
         × (T.BITS ≤ 128) }
 {
     (S::BITS <= 8)
         & (T::BITS <= 128)
         & (widths.source == 1)
-        & (widths.target == T::BITS.div_ceil(8))
+        & (widths.target == bytes_of(T::BITS))
         & (count >= LEAST_COUNT)
 }
 
@@ -47,18 +47,68 @@ pub fn convert_bytes<S: Flagged, T: Flagged>(
     requires written { T.PRECISION < T.BITS }
     requires few { T.BITS ≤ 128 }
     requires source { widths.source ≡ 1 }
-    requires target { widths.target ≡ div_ceil T.BITS 8 }
+    requires target { widths.target ≡ bytes_of T.BITS }
     requires input { length input.now ≡ count * widths.source }
     requires output { length output.old ≡ count * widths.target }
     ensures { let c = constants_of S.Flagged in let d = constants_of T.Flagged in
         IsBlock (IsConvertedBy overflow c d round) widths.source widths.target count
         input.now output.new result }
 {
-    let width = T::BITS.div_ceil(8);
+    if T::BITS <= 32 {
+        convert_by_entries::<S, T>(overflow, round, widths.target, count, input, output)
+    } else {
+        convert_wide::<S, T>(overflow, round, count, input, output)
+    }
+}
+
+/// The same by a table of entries, which results of at most 32 bits fit in.
+#[inline(always)]
+fn convert_by_entries<S: Flagged, T: Flagged>(
+    overflow: Overflow,
+    round: Round,
+    width: usize,
+    count: usize,
+    input: &[u8],
+    output: &mut [u8],
+) -> Counts
+    requires read { S.PRECISION < S.BITS }
+    requires written { T.PRECISION < T.BITS }
+    requires few { T.BITS ≤ 32 }
+    requires target { T.BITS ≤ 8 * width }
+    requires input { length input.now ≡ count * 1 }
+    requires output { length output.old ≡ count * width }
+    ensures { let c = constants_of S.Flagged in let d = constants_of T.Flagged in
+        IsBlock (IsConvertedBy overflow c d round) 1 width count input.now output.new result }
+{
+    let mut table = [0_u8; ENTRY * PLACES];
+    fill_entries::<S, T>(overflow, round, PLACES, &mut table);
+    let bytes = OneByte { bytes: input };
+    look_up(bytes, width, count, &table, output).counts(count as u64)
+}
+
+/// The same by a table of results of any number of bits, and one of their outcomes.
+#[inline(always)]
+fn convert_wide<S: Flagged, T: Flagged>(
+    overflow: Overflow,
+    round: Round,
+    count: usize,
+    input: &[u8],
+    output: &mut [u8],
+) -> Counts
+    requires read { S.PRECISION < S.BITS }
+    requires written { T.PRECISION < T.BITS }
+    requires few { T.BITS ≤ 128 }
+    requires input { length input.now ≡ count * 1 }
+    requires output { length output.old ≡ count * bytes_of T.BITS }
+    ensures { let c = constants_of S.Flagged in let d = constants_of T.Flagged in
+        IsBlock (IsConvertedBy overflow c d round) 1 (bytes_of T.BITS) count input.now output.new
+        result }
+{
+    let width = bytes_of(T::BITS);
     let mut values = [0_u8; 16 * PLACES];
     let mut outcomes = [Outcome::EXACT; PLACES];
     let front = &mut values[..PLACES * width];
-    convert_bytes_with::<S, T>(
+    convert_wide_with::<S, T>(
         overflow,
         round,
         width,
@@ -70,9 +120,9 @@ pub fn convert_bytes<S: Flagged, T: Flagged>(
     )
 }
 
-/// The same, with room for the table.
+/// The same, with room for the tables.
 #[inline(always)]
-fn convert_bytes_with<S: Flagged, T: Flagged>(
+fn convert_wide_with<S: Flagged, T: Flagged>(
     overflow: Overflow,
     round: Round,
     width: usize,
@@ -93,22 +143,13 @@ fn convert_bytes_with<S: Flagged, T: Flagged>(
         IsBlock (IsConvertedBy overflow c d round) 1 width count input.now output.new result }
 {
     fill_table::<S, T>(overflow, round, width, PLACES, values, outcomes);
+    let places = OneByte { bytes: input };
     let mut counts = Counts::NONE;
     for index in 0..count {
-        let (from, to) = (index * 1, index * width);
-        let place = place_of(&input[from..from + 1]);
+        let to = index * width;
+        let place = places.place(index);
         let target = &mut output[to..to + width];
-        counts.count(look_up(values, outcomes, place, target));
+        counts.count(look_up_value(values, outcomes, place, target));
     }
     counts
-}
-
-/// The place of the result for this byte.
-#[inline(always)]
-fn place_of(bytes: &[u8]) -> usize
-    requires { length bytes.now ≡ 1 }
-    ensures is { result ≡ number_of bytes.now }
-    ensures within { result < 256 }
-{
-    usize::from(bytes[0])
 }

@@ -4,14 +4,16 @@
 ghost use Rattle.std.specs.Prelude.{◌≡◌, ◌*◌, ◌<◌, ◌≤◌, length, slice_get, Some};
 ghost use Rattle.rustc_apfloat.specs.FlaggedTypes.{constants_of};
 ghost use Rattle.array_conversions.specs.Blocks.{value_at};
-ghost use Rattle.array_conversions.specs.Tables.{IsTable};
+ghost use Rattle.array_conversions.specs.Tables.{AreConversions, IsTable};
 
 use crate::bytes::write_number;
 use crate::counts::Outcome;
+use crate::entries::{ENTRY, write_entry};
 use crate::far_numbers::far_answers_for;
 use crate::one_value::convert_bits;
-use rustc_apfloat::Round;
+use crate::tallies::mark_of;
 use rustc_apfloat::ieee::Flagged;
+use rustc_apfloat::{Flags, Round};
 use saturating_conversions::Overflow;
 
 /// Fills a table with the results for the values whose bits are its `count` places, each in `width` bytes.
@@ -38,6 +40,34 @@ pub fn fill_table<S: Flagged, T: Flagged>(
         let answer = convert_bits::<S, T>(&far, overflow, round, bits as u128);
         write_number(answer.bits, target);
         outcomes[bits] = answer.outcome;
+    }
+}
+
+/// Fills a table of entries with the results for the values whose bits are its `count` places.
+pub fn fill_entries<S: Flagged, T: Flagged>(
+    overflow: Overflow,
+    round: Round,
+    count: usize,
+    table: &mut [u8],
+)
+    requires read { S.PRECISION < S.BITS }
+    requires written { T.PRECISION < T.BITS }
+    requires few { T.BITS ≤ 32 }
+    requires table { length table.old ≡ count * 8 }
+    ensures { AreConversions overflow (constants_of S.Flagged) (constants_of T.Flagged) round count
+        table.new }
+{
+    let far = far_answers_for::<S, T>(overflow, round, count);
+    for place in 0..count {
+        let from = place * ENTRY;
+        let entry = &mut table[from..from + ENTRY];
+        let answer = convert_bits::<S, T>(&far, overflow, round, place as u128);
+        let Outcome { status, is_nan } = answer.outcome;
+        write_entry(
+            answer.bits,
+            mark_of(u32::from(status.bits()), is_nan),
+            entry,
+        );
     }
 }
 

@@ -1,7 +1,7 @@
 use Rattle.rustc_apfloat.specs.FlaggedTypes.{constants_of}
 use Rattle.array_conversions.specs.Values.{IsConvertedBy}
 use Rattle.array_conversions.specs.Blocks.{IsBlock}
-use Rattle.array_conversions.proofs.byte_sources.convert_bytes_with.Given as goal
+use Rattle.array_conversions.proofs.byte_sources.convert_wide_with.Given as goal
 
 abbrev pub invariant-loop-index : goal.invariant-loop-index
 invariant-loop-index g l =

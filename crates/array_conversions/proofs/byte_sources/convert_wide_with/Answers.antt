@@ -3,7 +3,7 @@ use Rattle.rustc_apfloat.specs.FlaggedTypes.{constants_of}
 use Rattle.array_conversions.specs.Values.{IsConvertedBy}
 use Rattle.array_conversions.proofs.Places.{block_none, block_more, place_size}
 use Rattle.array_conversions.proofs.TabledResults.{converted_by_result, looked_up}
-use Rattle.array_conversions.proofs.byte_sources.convert_bytes_with.Goals as goal
+use Rattle.array_conversions.proofs.byte_sources.convert_wide_with.Goals as goal
 
 pub loop-index-init : goal.loop-index-init
 loop-index-init g c =
@@ -19,9 +19,9 @@ loop-index-preserved g c =
     let width : length c.look_up.new.target ≡ c.args.width = c.look_up.auto.target ∙ room in
     let result =
     looked_up c.args.overflow (constants_of g.S.Flagged) (constants_of g.T.Flagged) c.args.round c.args.width _
-    c.place_of-place.result _ _ c.fill_table.new.values c.look_up.new.target c.fill_table.new.outcomes
+    c.place-place.result _ _ c.fill_table.new.values c.look_up.new.target c.fill_table.new.outcomes
     c.look_up.result c.fill_table.ensures c.look_up.ensures.outcome c.look_up.ensures.bytes room
-    c.place_of-place.ensures.is in
+    c.place-place.ensures.is in
     rw c.count.ensures
     (block_more (IsConvertedBy c.args.overflow (constants_of g.S.Flagged) (constants_of g.T.Flagged) c.args.round)
     1 c.args.width
