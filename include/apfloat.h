@@ -415,6 +415,15 @@ uint32_t apfloat_convert_array(uint32_t format, uint32_t mode, uint32_t to, cons
                                size_t values_length, uint8_t *results, size_t results_length,
                                apfloat_array_answer *answer);
 
+/* The same with memory lent to the call: with at least APFLOAT_TABLE_BYTES of it, at least 2^17 values of 16 bits are
+ * converted to a format of at most 32 by computing the results for all values once, there, and taking each value's
+ * result from these. Without, or for other arrays, it is apfloat_convert_array. What the memory contains afterwards is
+ * not said. */
+#define APFLOAT_TABLE_BYTES ((size_t)1 << 19)
+uint32_t apfloat_convert_array_by_table(uint32_t format, uint32_t mode, uint32_t to, const uint8_t *values,
+                                        size_t values_length, uint8_t *results, size_t results_length,
+                                        uint8_t *table, size_t table_length, apfloat_array_answer *answer);
+
 /* An operation on each element of xs, or on the elements of xs and ys, or of xs, ys and zs, as the function of its name
  * does it. APFLOAT_REM and APFLOAT_MOD do not depend on the mode, but it has to be known. Arrays of operands that the
  * operation does not take have length 0, the others the length of xs. APFLOAT_WRONG_LENGTH says that they do not, that
@@ -436,7 +445,6 @@ uint32_t apfloat_map_array(uint32_t format, uint32_t mode, uint32_t operation, c
  * least 2^17 values of 8 bits computes its results for all pairs of values once, there, and takes each element's
  * result from these. Without, or for other arrays, it is apfloat_map_array. What the memory contains afterwards is not
  * said. */
-#define APFLOAT_TABLE_BYTES ((size_t)1 << 19)
 uint32_t apfloat_map_array_by_table(uint32_t format, uint32_t mode, uint32_t operation, const uint8_t *xs,
                                     size_t xs_length, const uint8_t *ys, size_t ys_length, const uint8_t *zs,
                                     size_t zs_length, uint8_t *results, size_t results_length, uint8_t *table,

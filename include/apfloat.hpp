@@ -1719,6 +1719,26 @@ expected<array_counts> convert_array(const stored<From> *values, std::size_t cou
     return detail::convert_values(values, count, results, mode, large);
 }
 
+/// The same for values of 16 bits, with memory lent to the call: with at least APFLOAT_TABLE_BYTES of it, the results of
+/// long arrays in a format of at most 32 bits are taken from a table of all results, which the call makes there. No
+/// pointer is null, `table` overlaps nothing else, and what it contains afterwards is not said.
+template <class To, class From>
+expected<array_counts> convert_array_by_table(const value<From> *values, std::size_t count, value<To> *results,
+                                              unsigned char *table, std::size_t table_length,
+                                              rounding mode = rounding::nearest_even,
+                                              overflowing large = overflowing::rounds) {
+    static_assert(sizeof(value<From>) == 2, "a table is for values of 16 bits");
+    static_assert(sizeof(value<To>) <= 4, "a table has results of at most 32 bits");
+    if (!detail::has_lowest_byte_first()) return errc::no_such_operation;
+    if (values == nullptr || results == nullptr) return errc::wrong_length;
+    apfloat_array_answer answer = {0, 0, 0, 0, 0, 0, 0, 0, 0};
+    const std::uint32_t code = apfloat_convert_array_by_table(
+        From::code, detail::code_of(mode) | static_cast<std::uint32_t>(large), To::code, detail::bytes_of(values),
+        count * sizeof(value<From>), detail::bytes_of(results), count * sizeof(value<To>), table, table_length,
+        &answer);
+    return detail::counts_of(code, answer);
+}
+
 /// Makes an operation on each element of xs, or on the elements of xs and ys, or of xs, ys and zs: as many arrays of
 /// `count` values as the operation has operands, else wrong_length, as for results that are null. `results` overlaps
 /// none of the operands.

@@ -220,7 +220,8 @@ def _parameters() -> dict[str, list[Any]]:
         **dict.fromkeys(('parse', 'parse_decimal'), [code, code, *text, answer]),
         'shortest': [code, _Halves, ctypes.POINTER(_Text)],
         'error_text': [code, ctypes.POINTER(_Text)],
-        'convert_array': [code, code, code, *array, *array, ctypes.POINTER(_ArrayAnswer)],
+        'convert_array': [code, code, code, *array * 2, ctypes.POINTER(_ArrayAnswer)],
+        'convert_array_by_table': [code, code, code, *array * 3, ctypes.POINTER(_ArrayAnswer)],
         'map_array': [code, code, code, *array * 4, ctypes.POINTER(_ArrayAnswer)],
         'map_array_by_table': [code, code, code, *array * 5, ctypes.POINTER(_ArrayAnswer)],
         'quantize_blocks': [code, code, code, length, *array * 3, ctypes.POINTER(_ArrayAnswer)],
@@ -1420,7 +1421,8 @@ def _aligned(text: str, fill: str, alignment: str, plus: str, zero: str, width: 
 
 # ---- arrays
 
-# The memory for a table of the results of an operation on values of 8 bits, and from how many values on it is used.
+# The memory for a table of the results of an operation on values of 8 bits or of the conversion of values of 16, and
+# from how many values on it is used.
 _TABLE_BYTES = 1 << 19
 _LEAST_BY_TABLE = 1 << 17
 # The codes of operations on arrays.
@@ -1783,13 +1785,9 @@ class Array(_Elements, _Arithmetic[Any]):
             return self._with_signs(*[operand._stretched(shape) for operand in operands])
         data = [operand._stretched(shape)._data for operand in operands] + [b''] * (3 - len(operands))
         words = [word for each in data for word in (each, len(each))]
-        call = 'map_array'
-        lent: tuple[Any, ...] = ()
-        if self.format._bytes == 1 and len(operands) == 2 and len(data[0]) >= _LEAST_BY_TABLE:
-            call = 'map_array_by_table'
-            lent = ctypes.create_string_buffer(_TABLE_BYTES), _TABLE_BYTES
-        return _array_call(call, self.format.code, context().mode, _OPERATIONS[name], *words, of=self.format,
-                           shape=shape, lent=lent)
+        by_table = self.format._bytes == 1 and len(operands) == 2 and len(data[0]) >= _LEAST_BY_TABLE
+        return _array_call('map_array', self.format.code, context().mode, _OPERATIONS[name], *words, of=self.format,
+                           shape=shape, by_table=by_table)
 
     def _floored(self, divisor: Array) -> Array:
         format, rest = self.format, self._computed('mod', self, divisor)
@@ -2016,8 +2014,9 @@ def _converted_to(values: Any, format: Any, saturate: bool | str) -> Any:
         raise TypeError(f'{format!r} is no format')
     mode = context().mode | _saturation(saturate)
     data = bytes(values)
+    by_table = values.format._bytes == 2 and format._bytes <= 4 and values.size >= _LEAST_BY_TABLE
     return _array_call('convert_array', values.format.code, mode, format.code, data, len(data), of=format,
-                       shape=values.shape)
+                       shape=values.shape, by_table=by_table)
 
 
 def _saturation(saturate: bool | str) -> int:
@@ -2048,8 +2047,12 @@ def _named(dtype: Any) -> Format:
     return format
 
 
-def _array_call(name: str, *arguments: Any, of: Any, shape: tuple[int, ...], lent: tuple[Any, ...] = ()) -> Any:
+def _array_call(name: str, *arguments: Any, of: Any, shape: tuple[int, ...], by_table: bool = False) -> Any:
     length = math.prod(shape) * of._bytes
+    lent: tuple[Any, ...] = ()
+    if by_table:
+        name += '_by_table'
+        lent = ctypes.create_string_buffer(_TABLE_BYTES), _TABLE_BYTES
     room, answer = ctypes.create_string_buffer(max(length, 1)), _ArrayAnswer()
     code = getattr(_functions, 'apfloat_' + name)(*arguments, room, length, *lent, ctypes.byref(answer))
     if code:

@@ -729,6 +729,16 @@ class ArrayTests(unittest.TestCase):
                 self.assertEqual(whole.bits, half.bits * 2)
                 self.assertEqual(whole.counts, {name: 2 * count for name, count in half.counts.items()})
 
+    def test_long_arrays_of_16_bits(self):
+        """They are converted by a table of all results, and each half of them without."""
+        for source in apfloat.half, apfloat.bfloat:
+            values = source.from_bits([place & 0xffff for place in range(1 << 17)])
+            for target in SMALL + [apfloat.half, apfloat.bfloat, apfloat.single, apfloat.double]:
+                for saturate in False, 'all':
+                    whole, half = values.to(target, saturate), values[:1 << 16].to(target, saturate)
+                    self.assertEqual(bytes(whole), 2 * bytes(half))
+                    self.assertEqual(whole.counts, {name: 2 * count for name, count in half.counts.items()})
+
     def test_parts(self):
         nested = [[[n * 12 + m * 4 + k for k in range(4)] for m in range(3)] for n in range(2)]
         xs = apfloat.single.array(nested)

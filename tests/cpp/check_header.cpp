@@ -373,6 +373,21 @@ void check_arrays() {
           without->invalid_op == by_table->invalid_op && without->nans == by_table->nans);
     CHECK(!map_array_by_table(array_operation::fma, left.size(), looked_up.data(), rounding::downward, left.data(),
                               right.data(), table.data(), table.size()));
+
+    // Each value of binary16 three times, by a table and without.
+    std::vector<value<binary16>> halves;
+    for (std::uint32_t place = 0; place < 3 * 65536; place++)
+        halves.push_back(value<binary16>::from_bits(static_cast<std::uint16_t>(place)));
+    std::vector<value<bfloat16>> converted(halves.size()), found(halves.size());
+    const auto plainly = convert_array(halves.data(), halves.size(), converted.data(), rounding::upward);
+    const auto from_table = convert_array_by_table(halves.data(), halves.size(), found.data(), table.data(),
+                                                   table.size(), rounding::upward);
+    CHECK(plainly && from_table &&
+          std::memcmp(converted.data(), found.data(), converted.size() * sizeof converted[0]) == 0);
+    CHECK(plainly->values == from_table->values && plainly->inexact == from_table->inexact &&
+          plainly->invalid_op == from_table->invalid_op && plainly->nans == from_table->nans);
+    CHECK(!convert_array_by_table(halves.data(), halves.size(), found.data(), table.data(), table.size(),
+                                  static_cast<rounding>(7)));
 }
 
 void check_stored_arrays() {

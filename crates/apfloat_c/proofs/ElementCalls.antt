@@ -1,20 +1,17 @@
 -- One more element of an operation on arrays, and the bytes of its result.
-use Rattle.std.proofs.Common.{◌≡◌, ℕ, ◌+◌, ◌-◌, ◌*◌, ◌^◌, ◌<◌, ◌≤◌, List, [], ◌∷◌, ◌++◌, length, sym, subst, ap, ◌∙◌, lit≤}
+use Rattle.std.proofs.Common.{◌≡◌, ℕ, ◌+◌, ◌-◌, ◌*◌, ◌^◌, ◌<◌, List, [], ◌∷◌, ◌++◌, length, sym, subst, ap, ◌∙◌, lit≤}
 use Rattle.std.specs.Prelude.{slice_range}
 use Rattle.std.proofs.Math.Path.{subst₃}
 use Rattle.std.proofs.lemmas.List.{length_push}
 use borrow.Rule.Slice.PartMut.{put_mid}
 use Rattle.rustc_apfloat.specs.declared.Round.{Round}
-use Rattle.formats_at_run_time.specs.declared.FlaggedFormat.{FlaggedFormat}
-use Rattle.formats_at_run_time.specs.declared.FlaggedFormat.TheVariants.{BuiltIn, AfterRounding, BeforeRounding}
 use Rattle.formats_at_run_time.specs.declared.FlaggedKind.{FlaggedKind}
 use Rattle.formats_at_run_time.specs.declared.FlaggedKind.TheVariants.{OfFormat, Pairs}
-use Rattle.formats_at_run_time.specs.FlaggedKinds.{flagged_constants, flagged_kind_of, format_of_ieee}
-use Rattle.array_conversions.specs.declared.Extended.TheVariants.{Packed}
+use Rattle.formats_at_run_time.specs.FlaggedKinds.{flagged_constants, flagged_kind_of}
 use Rattle.array_conversions.specs.Bytes.{number_of}
 use Rattle.array_conversions.proofs.LittleEndian.{fits}
 use Rattle.array_conversions.proofs.Places.{count_push, places_more}
-use Rattle.array_conversions.proofs.WidthBounds.{width_room}
+use Rattle.array_conversions.proofs.WidthBounds.{flagged_room}
 use Rattle.apfloat_c.specs.declared.data.Answer.{Answer}
 use Rattle.apfloat_c.specs.declared.array_calls.ElementOperation.{ElementOperation}
 use Rattle.apfloat_c.specs.declared.array_calls.ElementOperation.TheVariants.{OfTwo, FusedSum, SquareRoot}
@@ -72,25 +69,19 @@ elements_more map xs ys zs width index count x y z bytes new counted element is 
 
 -- ---- the bytes of a result
 
--- the bits of a value of a format fit in the bytes of an element
-pub format_fits : (format : FlaggedFormat) → (flagged_constants format).bits ≤ 8 * bytes_in (OfFormat format)
-format_fits (BuiltIn format) = (width_room format Packed).enough
-format_fits (AfterRounding format) = (width_room (format_of_ieee format) Packed).enough
-format_fits (BeforeRounding format) = (width_room (format_of_ieee format) Packed).enough
-
 -- the bits of a result fit in the bytes of an element of its kind
 pub result_fits : (kind : FlaggedKind) (mode : Round) (operation : ElementOperation) (x y z : ℕ) (answer : Answer)
     → IsKindAnswer (flagged_kind_of kind) mode (call_of operation x y z) answer
     → whole answer.bits < 256 ^ bytes_in kind
 result_fits (OfFormat format) mode (OfTwo arithmetic) x y z answer is =
     fits (whole answer.bits) (flagged_constants format).bits (bytes_in (OfFormat format))
-    is.is_written.is_encoded.below (format_fits format)
+    is.is_written.is_encoded.below (flagged_room format)
 result_fits (OfFormat format) mode FusedSum x y z answer is =
     fits (whole answer.bits) (flagged_constants format).bits (bytes_in (OfFormat format))
-    is.is_written.is_encoded.below (format_fits format)
+    is.is_written.is_encoded.below (flagged_room format)
 result_fits (OfFormat format) mode SquareRoot x y z answer is =
     fits (whole answer.bits) (flagged_constants format).bits (bytes_in (OfFormat format))
-    is.is_written.is_encoded.below (format_fits format)
+    is.is_written.is_encoded.below (flagged_room format)
 result_fits Pairs mode (OfTwo arithmetic) x y z answer is =
     fits (whole answer.bits) 128 16 is.is_written.is_encoded.below (lit≤ tt)
 result_fits Pairs mode FusedSum x y z answer is = absurd is

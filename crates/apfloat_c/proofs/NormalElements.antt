@@ -28,11 +28,11 @@ use Rattle.apfloat_c.specs.declared.data.Halves.{Halves}
 use Rattle.apfloat_c.specs.Answers.{IsKindAnswer, whole}
 use Rattle.apfloat_c.specs.ArrayCalls.{bytes_in}
 use Rattle.apfloat_c.specs.Arrays.{IsElement, call_of, relation_of_two}
-use Rattle.apfloat_c.proofs.ElementCalls.{format_fits}
+use Rattle.array_conversions.proofs.WidthBounds.{flagged_room}
 
 -- the bits of a value of a kind fit in the bytes of an element
 kind_fits : (kind : FlaggedKind) → bits_in (flagged_kind_of kind) ≤ 8 * bytes_in kind
-kind_fits (OfFormat format) = format_fits format
+kind_fits (OfFormat format) = flagged_room format
 kind_fits Pairs = lit≤ tt
 
 -- the bits of a value fit in the bytes of an element of its kind

@@ -214,15 +214,23 @@ impl KnownConversion {
         }
     }
 
-    /// Converts `count` values, each in its place.
-    pub fn convert(self, count: usize, input: &[u8], output: &mut [u8]) -> Counts
+    /// Converts `count` values, each in its place, with memory that is lent for a table.
+    pub fn convert_with(
+        self,
+        count: usize,
+        input: &[u8],
+        output: &mut [u8],
+        table: &mut [u8],
+    ) -> Counts
         requires input { length input.now ≡ count * (conversion_widths self).source }
         requires output { length output.old ≡ count * (conversion_widths self).target }
         ensures { IsBlock (IsValueConverted self) (conversion_widths self).source
             (conversion_widths self).target count input.now output.new result }
     {
         match self {
-            KnownConversion::BuiltIn(conversion) => conversion.convert(count, input, output),
+            KnownConversion::BuiltIn(conversion) => {
+                conversion.convert_with(count, input, output, table)
+            }
             KnownConversion::Storage(array) => convert_stored(array, count, input, output),
         }
     }

@@ -1,4 +1,4 @@
-//! The export that converts arrays, declared for C programs in `include/apfloat.h`.
+//! The exports that convert arrays, declared for C programs in `include/apfloat.h`.
 
 ghost use Rattle.std.specs.Prelude.{length};
 ghost use Rattle.apfloat_c.specs.ArrayCalls.{array_format_coded, conversion_mode_coded, known_array_conversion};
@@ -31,6 +31,35 @@ pub extern "C" fn apfloat_convert_array(
         array_format_coded(to),
         values,
         results,
+        &mut [],
+        answer,
+    )
+}
+
+/// The same with memory lent for a table of all results, by which a long array of values of 16 bits is converted to a
+/// format of at most 32 if there are 2^19 bytes. What the memory contains afterwards is not said.
+#[unsafe(no_mangle)]
+pub extern "C" fn apfloat_convert_array_by_table(
+    format: u32,
+    mode: u32,
+    to: u32,
+    values: &[u8],
+    results: &mut [u8],
+    table: &mut [u8],
+    answer: &mut ArrayAnswer,
+) -> u32
+    ensures { let known = known_array_conversion (array_format_coded format)
+        (conversion_mode_coded mode) (array_format_coded to) (length values.now)
+        (length results.old) in
+        IsConvertedArray known values.now results.old results.new answer.old answer.new result }
+{
+    convert_array(
+        array_format_coded(format),
+        conversion_mode_coded(mode),
+        array_format_coded(to),
+        values,
+        results,
+        table,
         answer,
     )
 }
@@ -42,6 +71,7 @@ fn convert_array(
     target: Option<ArrayFormat>,
     values: &[u8],
     results: &mut [u8],
+    table: &mut [u8],
     answer: &mut ArrayAnswer,
 ) -> u32
     ensures { let known = known_array_conversion source mode target (length values.now)
@@ -55,7 +85,7 @@ fn convert_array(
             let widths = conversion.widths();
             let count = values.len() / widths.source;
             let front = &mut results[..count * widths.target];
-            let counts = conversion.convert(count, values, front);
+            let counts = conversion.convert_with(count, values, front, table);
             *answer = ArrayAnswer::of(ElementCounts {
                 counts,
                 div_by_zero: 0,

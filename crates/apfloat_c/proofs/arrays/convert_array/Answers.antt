@@ -26,8 +26,8 @@ slice_bounds-front-end-in-Ok c =
     (length c.args.results.now) c.in-Ok.conversion c.widths-widths.result c.widths-widths.ensures.is
     (sym c.known_array_conversion-known.ensures ∙ c.in-Ok.is)).enough)
 
-pub convert-counts-requires : goal.convert-counts-requires
-convert-counts-requires c =
+pub convert_with-counts-requires : goal.convert_with-counts-requires
+convert_with-counts-requires c =
     let room = conversion_room c.args.source c.args.mode c.args.target (length c.args.values.now)
     (length c.args.results.now) c.in-Ok.conversion c.widths-widths.result c.widths-widths.ensures.is
     (sym c.known_array_conversion-known.ensures ∙ c.in-Ok.is) in
@@ -46,7 +46,7 @@ returns-in-Ok c =
     (length c.args.results.now) c.in-Ok.conversion c.widths-widths.result c.widths-widths.ensures.is
     (sym c.known_array_conversion-known.ensures ∙ c.in-Ok.is) in
     conversion_left _ c.in-Ok.conversion c.widths-widths.result c.args.values.now c.args.results.now
-    c.convert-counts.new.output c.convert-counts.result c.args.answer.now c.of.result c.widths-widths.ensures.is
-    (sym c.known_array_conversion-known.ensures ∙ c.in-Ok.is)
-    (c.convert-counts.auto.output ∙ length-take-le _ c.args.results.now room.enough)
-    c.convert-counts.ensures c.of.ensures
+    c.convert_with-counts.new.output c.convert_with-counts.result c.args.answer.now c.of.result
+    c.widths-widths.ensures.is (sym c.known_array_conversion-known.ensures ∙ c.in-Ok.is)
+    (c.convert_with-counts.auto.output ∙ length-take-le _ c.args.results.now room.enough)
+    c.convert_with-counts.ensures c.of.ensures

@@ -1,15 +1,17 @@
 use Rattle.std.proofs.Common.{◌≡◌, ◌*◌, length, ◌∙◌}
 use Rattle.array_conversions.proofs.Places.{place_size}
-use Rattle.apfloat_c.proofs.OperationTables.{entries_more, no_entries}
+use Rattle.array_conversions.proofs.TalliedResults.{no_entries}
+use Rattle.apfloat_c.specs.OperationTables.{IsResultAt, element_tally}
+use Rattle.apfloat_c.proofs.OperationTables.{table_more}
 use Rattle.apfloat_c.proofs.operation_tables.fill.Goals as goal
 
 pub loop-place-init : goal.loop-place-init
-loop-place-init g c = no_entries (g.C.ElementCalls.map c.args.calls) c.args.table.now
+loop-place-init g c = no_entries (IsResultAt (g.C.ElementCalls.map c.args.calls)) element_tally c.args.table.now
 
 pub loop-place-preserved : goal.loop-place-preserved
 loop-place-preserved g c =
     let size : length c.loop-place.table ≡ 65536 * 8 = c.loop-place.auto.table ∙ c.requires.size in
     let long : length c.fill_entry.new.entry ≡ 8 =
     c.fill_entry.auto.entry ∙ place_size 8 c.loop-place.place 65536 c.loop-place.table c.loop-place-test.true size in
-    entries_more (g.C.ElementCalls.map c.args.calls) c.loop-place.place c.loop-place.table c.fill_entry.new.entry
+    table_more (g.C.ElementCalls.map c.args.calls) c.loop-place.place c.loop-place.table c.fill_entry.new.entry
     c.fill_entry.result c.loop-place-test.true size long c.fill_entry.ensures c.loop-place.invariant
