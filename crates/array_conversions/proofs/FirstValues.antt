@@ -72,7 +72,8 @@ block_first Holds source target all count input first output counts within same 
     let few : length (take count block.outcomes) ≡ count = length-take-le count outcomes inside in
     let held : (k : ℕ) → k < length block.outcomes
     → Holds (value_at source k input) (value_at target k output) (get_or block.outcomes k exact) = λ k low.
-    subst (λ (found : Option Outcome). IfSome found (λ o. Holds (value_at source k input) (value_at target k output) o))
+    subst
+    (λ (found : Option Outcome). IfSome found (λ o. Holds (value_at source k input) (value_at target k output) o))
     (slice_get-get_or outcomes k exact low) (block.each k) in
     let nothing : (k : ℕ) → count ≤ k → k < length block.outcomes → IsQuiet (get_or block.outcomes k exact) =
     λ k from low.
@@ -137,7 +138,8 @@ padded_first count k zeros input size low =
     ap (λ (n : ℕ). slice_range padded 0 n) end
     ∙ between_from_start padded (length input)
     ∙ take-append_seam input (drop (count * 4) zeros) in
-    sym (sym (ap (value_at 4 k) whole) ∙ in_range 4 0 count k padded low ∙ ap (λ (n : ℕ). value_at 4 n padded) place)
+    sym (sym (ap (value_at 4 k) whole) ∙ in_range 4 0 count k padded low
+    ∙ ap (λ (n : ℕ). value_at 4 n padded) place)
 
 pub padded_zero : (count k : ℕ) (input : List ℕ) → length input ≡ count * 4 → count ≤ k → k < 64
     → number_of (value_at 4 k (input ++ drop (count * 4) (replicate 256 0))) ≡ 0

@@ -53,6 +53,7 @@ returns g c =
     let most = c.loop-index.auto.index-end in
     let all : c.loop-index.index ≡ c.args.first + 16 = omega (arith, past, most) in
     subst
-    (λ (n : ℕ). IsRow (IsConvertedBy c.args.overflow (constants_of g.S.Flagged) (constants_of g.T.Flagged) c.args.round)
+    (λ (n : ℕ).
+    IsRow (IsConvertedBy c.args.overflow (constants_of g.S.Flagged) (constants_of g.T.Flagged) c.args.round)
     (number_from n c.args.input.now) c.args.width 64 c.loop-index.output c.loop-index.counts) all
     c.loop-index.invariant
