@@ -1719,9 +1719,10 @@ expected<array_counts> convert_array(const stored<From> *values, std::size_t cou
     return detail::convert_values(values, count, results, mode, large);
 }
 
-/// The same for values of 16 bits, with memory lent to the call: with at least APFLOAT_TABLE_BYTES of it, the results of
-/// long arrays in a format of at most 32 bits are taken from a table of all results, which the call makes there. No
-/// pointer is null, `table` overlaps nothing else, and what it contains afterwards is not said.
+/// The same for values of 16 bits, with memory lent to the call: with at least APFLOAT_TABLE_BYTES of it, the results
+/// of long arrays in a format of at most 32 bits are taken from a table of all results, which the call makes there.
+/// `table` is not null, overlaps nothing else, and what it contains afterwards is not said. For `values` or `results`
+/// that are null the error is wrong_length.
 template <class To, class From>
 expected<array_counts> convert_array_by_table(const value<From> *values, std::size_t count, value<To> *results,
                                               unsigned char *table, std::size_t table_length,

@@ -1,5 +1,5 @@
-/* The time of operations on arrays of values of 8 bits, and of conversions of those of 16, by a table of all results and
-   without, in turn.
+/* The time of operations on arrays of values of 8 bits, and of conversions of those of 16, by a table of all results
+   and without, in turn.
 
        cc -O2 -Iinclude evidence/speed/tables_bench.c LIBRARY.a -o tables_bench -lpthread -ldl -lm
 

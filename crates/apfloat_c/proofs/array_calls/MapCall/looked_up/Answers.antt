@@ -9,5 +9,6 @@ look_up-tally-requires-clause-table c =
 pub returns : goal.returns
 returns c =
     elements_found c.args.self c.args.xs.now c.args.ys.now c.args.table.now c.look_up-tally.new.output c.args.count
-    c.look_up-tally.result c.counts.result c.requires.byte (λ index. let byte = c.type_inv.ys index in omega (arith, byte))
+    c.look_up-tally.result c.counts.result c.requires.byte
+    (λ index. let byte = c.type_inv.ys index in omega (arith, byte))
     c.requires.table c.look_up-tally.ensures c.counts.ensures

@@ -11,11 +11,11 @@ use Rattle.array_conversions.proofs.array.ArrayConversion.convert_by_table.Goals
 pub look_up-requires-clause-table : goal.look_up-requires-clause-table
 look_up-requires-clause-table c =
     let room : (flagged_constants c.args.self.target).bits ≤ 8 * c.widths-width.result.target =
-    subst (λ (w : Widths). (flagged_constants c.args.self.target).bits ≤ 8 * w.target) (sym c.widths-width.ensures.is)
-    (flagged_room c.args.self.target) in
+    subst (λ (w : Widths). (flagged_constants c.args.self.target).bits ≤ 8 * w.target)
+    (sym c.widths-width.ensures.is) (flagged_room c.args.self.target) in
     entries_of c.args.self.overflow (constants_in c.args.self.source) (flagged_constants c.args.self.target)
-    c.args.self.round c.widths-width.result.target 65536 c.write.new.bytes (c.write.auto.bytes ∙ c.requires.table) room
-    c.write.ensures
+    c.args.self.round c.widths-width.result.target 65536 c.write.new.bytes
+    (c.write.auto.bytes ∙ c.requires.table) room c.write.ensures
 
 pub returns : goal.returns
 returns c =
