@@ -210,8 +210,10 @@ fn look_up_few<P: TablePlaces>(
     requires has { (index : ℕ) → index < count → P.has places index }
     requires table { AreEntries width (P.size places) table.now }
     requires output { length output.old ≡ count * width }
-    requires before { AreLookedUp (P.place places) (P.size places) width first table.now output.old tally }
-    ensures { AreLookedUp (P.place places) (P.size places) width (first + size) table.now output.new result }
+    requires before { AreLookedUp (P.place places) (P.size places) width first table.now
+        output.old tally }
+    ensures { AreLookedUp (P.place places) (P.size places) width (first + size) table.now
+        output.new result }
 {
     let mut packed = 0_u64;
     for index in first..first + size {

@@ -54,8 +54,8 @@ impl ArrayConversion {
     /// Whether a table serves: the values have two bytes and their results at most four, there are enough of them, and
     /// the memory has room.
     fn has_table(self, count: usize, room: usize) -> bool
-        ensures { IsTrue result → ((array_widths self).source ≡ 2) × ((array_widths self).target ≤ 4)
-            × (65536 * 8 ≤ room) }
+        ensures { IsTrue result → ((array_widths self).source ≡ 2)
+            × ((array_widths self).target ≤ 4) × (65536 * 8 ≤ room) }
     {
         let widths = self.widths();
         widths.source == 2 && widths.target <= 4 && count >= LEAST_COUNT && room >= TABLE
