@@ -726,7 +726,7 @@ class ArrayTests(unittest.TestCase):
             for operation in operator.add, operator.sub, operator.mul, operator.truediv:
                 whole = operation(lefts, rights)
                 half = operation(lefts[:1 << 16], rights[:1 << 16])
-                self.assertEqual(whole.bits, half.bits * 2)
+                self.assertEqual(bytes(whole), 2 * bytes(half))
                 self.assertEqual(whole.counts, {name: 2 * count for name, count in half.counts.items()})
 
     def test_long_arrays_of_16_bits(self):
