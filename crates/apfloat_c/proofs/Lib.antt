@@ -13,6 +13,7 @@ pub mod IeeeOnce
 pub mod MachineFormats
 pub mod MachineAnswers
 pub mod UsualAnswers
+pub mod KnownRequests
 pub mod MachineOnce
 pub mod OperationTables
 pub mod NormalElements

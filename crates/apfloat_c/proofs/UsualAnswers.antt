@@ -24,8 +24,6 @@ use Rattle.formats_at_run_time.specs.declared.Arithmetic.{Arithmetic}
 use Rattle.formats_at_run_time.specs.declared.Arithmetic.TheVariants.{Sum, Difference, Product, Quotient}
 use Rattle.formats_at_run_time.specs.declared.Arithmetic.TheVariants.{NearestRemainder, TruncatedRemainder}
 use Rattle.formats_at_run_time.specs.declared.FlaggedKind.{FlaggedKind}
-use Rattle.formats_at_run_time.specs.BuiltIns.{constants_in}
-use Rattle.formats_at_run_time.specs.FlaggedKinds.{format_of_ieee}
 use Rattle.formats_at_run_time.specs.OfTwo.{IsOfTwo}
 use Rattle.formats_at_run_time.specs.Relations.{in_format}
 use Rattle.formats_at_run_time.specs.ValueKinds.{of_format, value_of}
@@ -40,8 +38,7 @@ use Rattle.apfloat_c.specs.declared.machine_call.MachineOperation.{MachineOperat
 use Rattle.apfloat_c.specs.declared.machine_call.MachineOperation.TheVariants.{OfTwo, FusedSum, SquareRoot, IntegralExact}
 use Rattle.apfloat_c.specs.Answers.{IsKindAnswer, IsLeftBy}
 use Rattle.apfloat_c.specs.KnownCalls.{answered, without}
-use Rattle.apfloat_c.specs.MachineCalls.{IsMachineAnswer, IsMachineCallAnswer, IsMachineConversionTried}
-use Rattle.apfloat_c.specs.MachineCalls.{IsMachineOfTwo, IsMachineReply}
+use Rattle.apfloat_c.specs.MachineCalls.{IsMachineAnswer, IsMachineCallAnswer, IsMachineOfTwo, IsMachineReply}
 use Rattle.apfloat_c.specs.MachineCalls.{MachineRequest, are_usual, are_usual_of_three, conversion_call, divides, fits}
 use Rattle.apfloat_c.specs.MachineCalls.{is_divisor, is_number, is_root_of, known_machine_call, lacking_operation}
 use Rattle.apfloat_c.specs.MachineCalls.{machine_call, machine_fault, machine_format, operands_fit}
@@ -333,25 +330,6 @@ pub conversion_known : (kind : Option FlaggedKind) (target : MachineFormat) (x :
     → option_and_then machine_format kind ≡ Some target → conversion_call kind x ≡ Ok (Conversion x target)
 conversion_known None target x f = cc
 conversion_known (Some kind) target x f = rw f refl
-
--- what the conversion to the format of a known code leaves is the reply
-pub tried_replied : (kind : Option FlaggedKind) (source : MachineFormat) (mode : Option Round) (round : Round)
-    (to : Option FlaggedKind) (x : ℕ) (machine : Option Machine) (on : Machine) (old new : Answer) (code : ℕ)
-    → option_and_then machine_format kind ≡ Some source → mode ≡ Some round → machine ≡ Some on
-    → IsMachineConversionTried (of_format (constants_in (format_of_ieee source.format))) on round x
-    (option_and_then machine_format to) old new (Some code)
-    → IsMachineReply (known_machine_call kind mode (conversion_call to x) machine) old new code
-tried_replied kind source mode round to x machine on old new code f m h left =
-    by_target (option_and_then machine_format to) refl left
-  where
-    by_target : (target : Option MachineFormat) → option_and_then machine_format to ≡ target
-        → IsMachineConversionTried (of_format (constants_in (format_of_ieee source.format))) on round x target old new
-        (Some code)
-        → IsMachineReply (known_machine_call kind mode (conversion_call to x) machine) old new code
-    by_target None t left = absurd left
-    by_target (Some target) t left =
-        replied kind source mode round (conversion_call to x) (Conversion x target) machine on old new code f m
-        (conversion_known to target x t) h left
 
 -- only a fused sum has a third operand
 pub third_unused : (code to x y z w : ℕ) → eqb code 7 ≡ false

@@ -1,6 +1,6 @@
 -- The operations of machines, as their export makes them.
 use Rattle.std.specs.Prelude.{◌≡◌, ℕ, ◌^◌, ◌==◌, ltb, pos, Bool, true, false, not, ◌&&◌, if◌then◌else◌}
-use Rattle.std.specs.Prelude.{Option, Some, None, ok_or, option_map, Result, Ok, Err}
+use Rattle.std.specs.Prelude.{Option, Some, None, ok_or, option_and_then, option_map, Result, Ok, Err}
 use Rattle.std.specs.Int.{w128, cast_unsigned}
 use Rattle.apfloat_model.specs.declared.kinds.NonfiniteBehavior.TheVariants.{IEEE754}
 use Rattle.rustc_apfloat.specs.declared.Round.{Round}
@@ -32,7 +32,7 @@ use Rattle.formats_at_run_time.specs.declared.FlaggedFormat.TheVariants.{BuiltIn
 use Rattle.formats_at_run_time.specs.declared.FlaggedKind.{FlaggedKind}
 use Rattle.formats_at_run_time.specs.declared.FlaggedKind.TheVariants.{OfFormat, Pairs}
 use Rattle.formats_at_run_time.specs.declared.IeeeFormat.{IeeeFormat}
-use Rattle.formats_at_run_time.specs.BuiltIns.{constants_in}
+use Rattle.formats_at_run_time.specs.BuiltIns.{constants_in, kind_coded}
 use Rattle.formats_at_run_time.specs.FlaggedKinds.{flagged_constants, flagged_kind_coded, format_of_ieee}
 use Rattle.formats_at_run_time.specs.FlaggedKinds.{ieee_format_in}
 use Rattle.formats_at_run_time.specs.Relations.{in_format}
@@ -45,6 +45,12 @@ use Rattle.apfloat_c.specs.declared.machine_call.MachineOperation.{MachineOperat
 use Rattle.apfloat_c.specs.declared.machine_call.MachineOperation.TheVariants.{OfTwo, FusedSum, SquareRoot}
 use Rattle.apfloat_c.specs.declared.machine_call.MachineOperation.TheVariants.{IntegralExact, Integral, ToUnsigned}
 use Rattle.apfloat_c.specs.declared.machine_call.MachineOperation.TheVariants.{ToSigned, Least, Greatest}
+use Rattle.apfloat_c.specs.declared.machine_call.OneOperation.{OneOperation}
+use Rattle.apfloat_c.specs.declared.machine_call.OneOperation.TheVariants.{SquareRoot as SquareRootOf}
+use Rattle.apfloat_c.specs.declared.machine_call.OneOperation.TheVariants.{IntegralExact as IntegralExactOf}
+use Rattle.apfloat_c.specs.declared.machine_call.OneOperation.TheVariants.{Integral as IntegralOf}
+use Rattle.apfloat_c.specs.declared.machine_call.OneOperation.TheVariants.{ToUnsigned as ToUnsignedOf}
+use Rattle.apfloat_c.specs.declared.machine_call.OneOperation.TheVariants.{ToSigned as ToSignedOf}
 use Rattle.apfloat_c.specs.Answers.{IsLeftBy, IsValue, whole}
 use Rattle.apfloat_c.specs.KnownCalls.{◌>>=◌, answered, no_such_operation, unknown_format, unknown_mode, unless}
 use Rattle.apfloat_c.specs.KnownCalls.{width_fault, without}
@@ -61,12 +67,6 @@ abbrev pub lacking_operation : ℕ
 lacking_operation = 10
 
 -- ---- formats
-
-abbrev pub untold : IeeeFormat → MachineFormat
-untold format = record { format = format; tiny_before = None }
-
-abbrev pub told : IeeeFormat → Bool → MachineFormat
-told format tiny_before = record { format = format; tiny_before = Some tiny_before }
 
 -- formats with a choice of flags; a code without a rule of flags leaves tininess to the machine
 abbrev pub machine_format : FlaggedKind → Option MachineFormat
@@ -85,6 +85,18 @@ format_on machine m =
     if is_tiny_before machine m.tiny_before then BeforeRounding m.format else AfterRounding m.format
 
 -- ---- codes
+
+-- the format of the lower byte of a code
+abbrev pub ieee_format_coded : ℕ → Option IeeeFormat
+ieee_format_coded byte = option_and_then ieee_format_in (kind_coded byte)
+
+-- whether a result is tiny by its exact magnitude, by what is above the lower byte of a code
+abbrev pub tiny_before_coded : Machine → ℕ → Option Bool
+tiny_before_coded machine rule =
+    if rule == 0 then Some (tiny_before_rounding machine)
+    else if rule == 1 then Some false
+    else if rule == 3 then Some true
+    else None
 
 abbrev pub machine_coded : ℕ → Option Machine
 machine_coded code =
@@ -149,6 +161,29 @@ abbrev pub machine_call : ℕ → ℕ → ℕ → ℕ → ℕ → Result Machine
 machine_call code to x y z =
     if code == 11 then conversion_call (flagged_kind_coded to) x
     else operation_call (machine_operation code to x y z)
+
+abbrev pub two_code : Arithmetic → ℕ
+two_code Sum = 1
+two_code Difference = 2
+two_code Product = 3
+two_code Quotient = 4
+two_code NearestRemainder = 5
+two_code TruncatedRemainder = 6
+
+abbrev pub one_code : OneOperation → ℕ
+one_code SquareRootOf = 8
+one_code IntegralExactOf = 9
+one_code IntegralOf = 10
+one_code ToUnsignedOf = 12
+one_code ToSignedOf = 13
+
+-- an operation on one value, of that value
+abbrev pub of_one : OneOperation → ℕ → ℕ → MachineOperation
+of_one SquareRootOf to x = SquareRoot x
+of_one IntegralExactOf to x = IntegralExact x
+of_one IntegralOf to x = Integral x
+of_one ToUnsignedOf to x = ToUnsigned x to
+of_one ToSignedOf to x = ToSigned x to
 
 -- ---- what is refused
 
@@ -343,14 +378,34 @@ IsMachineConversionLeft (of_format c) machine mode x target old new code =
     old new code
 IsMachineConversionLeft of_pairs machine mode x target old new code = ⊥
 
--- the same to a format that may be unknown; then nothing is left
-abbrev pub IsMachineConversionTried : Kind → Machine → Round → ℕ → Option MachineFormat
-    → Answer → Answer → Option ℕ
-    → Type 0
-IsMachineConversionTried kind machine mode x target old new None = new ≡ old
-IsMachineConversionTried kind machine mode x (Some target) old new (Some code) =
-    IsMachineConversionLeft kind machine mode x (of_format (flagged_constants (format_on machine target))) old new code
-IsMachineConversionTried kind machine mode x None old new (Some code) = ⊥
+-- What a call leaves in a place at the kind of a format that may be unknown. Where it is not made, nothing is left.
+abbrev pub IsFilledIn : {P O : Type 0} → (MachineFormat → Kind) → (Kind → P → P → O → Type 0)
+    → Option MachineFormat → P → P → Option O → Type 0
+IsFilledIn kind_of gives format old new None = new ≡ old
+IsFilledIn kind_of gives (Some format) old new (Some given) = gives (kind_of format) old new given
+IsFilledIn kind_of gives None old new (Some given) = ⊥
+
+-- the same in a format that a byte names, with these constants
+abbrev pub IsFilledAs : {P O : Type 0} → (IeeeFormat → Constants) → (Kind → P → P → O → Type 0)
+    → Option IeeeFormat → P → P → Option O → Type 0
+IsFilledAs constants gives format old new None = new ≡ old
+IsFilledAs constants gives (Some format) old new (Some given) = gives (of_format (constants format)) old new given
+IsFilledAs constants gives None old new (Some given) = ⊥
+
+abbrev pub without_rule : IeeeFormat → Constants
+without_rule format = constants_in (format_of_ieee format)
+
+-- the kind of a format with its rule of flags on a machine
+abbrev pub kind_on : Machine → MachineFormat → Kind
+kind_on machine format = of_format (flagged_constants (format_on machine format))
+
+-- the same without a rule of flags
+abbrev pub kind_without_rule : MachineFormat → Kind
+kind_without_rule m = of_format (without_rule m.format)
+
+-- the format of a code, if it has a choice of flags
+abbrev pub machine_format_coded : ℕ → Option MachineFormat
+machine_format_coded code = option_and_then machine_format (flagged_kind_coded code)
 
 -- the code 0 and the result, or the code of the first error and the previous contents
 abbrev pub IsMachineReply : Result MachineRequest ℕ → Answer → Answer → ℕ → Type 0

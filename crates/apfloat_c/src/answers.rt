@@ -25,7 +25,7 @@ use apfloat_encoded::{
 };
 use formats_at_run_time::{FillsInFormat, FlaggedKind, ValueType};
 use rustc_apfloat::ieee::{Flagged, IeeeFloat};
-use rustc_apfloat::{Flags, Float, FloatConvert, Round, Status, StatusAnd};
+use rustc_apfloat::{FUSED_LIMIT, Flags, Float, FloatConvert, Round, Status, StatusAnd};
 use std::marker::PhantomData;
 
 /// A result that was computed from bits to bits.
@@ -196,7 +196,7 @@ pub fn truncated_remainder<F: ValueType>(answer: &mut Answer, round: Round, x: u
     *answer = written(x.c_fmod(y));
 }
 
-/// A product plus a third value, rounded once, in line.
+/// A product plus a third value, rounded once, in line, unless the format has too many digits for that.
 #[inline(always)]
 pub fn fused_sum_here<S: Flagged>(answer: &mut Answer, round: Round, x: u128, y: u128, z: u128)
     requires { S.PRECISION < S.BITS }
@@ -208,7 +208,11 @@ pub fn fused_sum_here<S: Flagged>(answer: &mut Answer, round: Round, x: u128, y:
         IeeeFloat::<S>::from_bits(y),
         IeeeFloat::<S>::from_bits(z),
     );
-    *answer = written(x.wide_mul_add_r(y, z, round));
+    *answer = written(if S::PRECISION <= FUSED_LIMIT {
+        x.mul_add_r(y, z, round)
+    } else {
+        x.wide_mul_add_r(y, z, round)
+    });
 }
 
 /// A product plus a third value, rounded once.
@@ -221,7 +225,7 @@ pub fn fused_sum<S: Flagged>(answer: &mut Answer, round: Round, x: u128, y: u128
     fused_sum_here::<S>(answer, round, x, y, z)
 }
 
-/// A square root in a format, in line: from bits to bits, if they fit in a word.
+/// A square root in a format: from bits to bits in line, if they fit in a word.
 #[inline(always)]
 pub fn root_here<S: Flagged>(answer: &mut Answer, round: Round, x: u128)
     requires { S.PRECISION < S.BITS }
@@ -231,7 +235,7 @@ pub fn root_here<S: Flagged>(answer: &mut Answer, round: Round, x: u128)
     if S::BITS <= 64 {
         *answer = with_bits(root_bits::<S>(x, round));
     } else {
-        root_of_type_here::<IeeeFloat<S>>(answer, round, x);
+        root::<IeeeFloat<S>>(answer, round, x);
     }
 }
 
@@ -245,16 +249,6 @@ pub fn root_in<S: Flagged>(answer: &mut Answer, round: Round, x: u128)
     root_here::<S>(answer, round, x)
 }
 
-/// The square root of a value, in line.
-#[inline(always)]
-pub fn root_of_type_here<F: ValueType>(answer: &mut Answer, round: Round, x: u128)
-    requires { F.PRECISION < F.BITS }
-    ensures { let of_type = relations_of F.Float.own F.partial_cmp F.takes_root in
-        IsTypeAnswer of_type round (SquareRoot x) answer.new }
-{
-    *answer = written(F::from_bits(x).sqrt_r(round));
-}
-
 /// The square root of a value.
 #[inline(never)]
 pub fn root<F: ValueType>(answer: &mut Answer, round: Round, x: u128)
@@ -262,7 +256,7 @@ pub fn root<F: ValueType>(answer: &mut Answer, round: Round, x: u128)
     ensures { let of_type = relations_of F.Float.own F.partial_cmp F.takes_root in
         IsTypeAnswer of_type round (SquareRoot x) answer.new }
 {
-    root_of_type_here::<F>(answer, round, x)
+    *answer = written(F::from_bits(x).sqrt_r(round));
 }
 
 /// An integer.

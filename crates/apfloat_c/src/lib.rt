@@ -11,6 +11,7 @@ mod array_data;
 mod arrays;
 mod blocks;
 mod by_code;
+mod coded_formats;
 mod codes;
 mod data;
 mod decimals;

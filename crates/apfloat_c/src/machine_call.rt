@@ -1,7 +1,7 @@
 //! The operations of machines, by which the contract of their export names them, and the codes of machines, operations
 //! and rules of minima.
 
-ghost use Rattle.std.specs.Prelude.{◌≡◌, ◌&&◌, IfSome, Ok, Some, option_and_then};
+ghost use Rattle.std.specs.Prelude.{◌≡◌, IfSome, Some};
 ghost use Rattle.formats_at_run_time.specs.FlaggedKinds.{flagged_constants, flagged_kind_coded};
 ghost use Rattle.formats_at_run_time.specs.Modes.{mode_coded};
 ghost use Rattle.formats_at_run_time.specs.ValueKinds.{of_format};
@@ -9,10 +9,9 @@ ghost use Rattle.apfloat_c.specs.Answers.{whole};
 ghost use Rattle.apfloat_c.specs.declared.machine_call.MachineCall.TheVariants.{Operation};
 ghost use Rattle.apfloat_c.specs.MachineCalls.{conversion_call, format_on, greatest_by, is_tiny_before, least_by};
 ghost use Rattle.apfloat_c.specs.MachineCalls.{machine_call, machine_coded, machine_format, machine_operation};
-ghost use Rattle.apfloat_c.specs.MachineCalls.{operation_call, rule_coded, told, untold};
+ghost use Rattle.apfloat_c.specs.MachineCalls.{one_code, operation_call, rule_coded, two_code};
 
 use crate::codes::{NO_SUCH_OPERATION, UNKNOWN_FORMAT};
-use crate::data::Halves;
 use apfloat_machines::{Machine, MinimumRule};
 use formats_at_run_time::{
     Arithmetic, BuiltInKind, FillsInFormat, FlaggedFormat, FlaggedKind, IeeeFormat, mode_coded,
@@ -54,6 +53,21 @@ pub enum MachineOperation {
     Greatest(MinimumRule, u128, u128),
 }
 
+/// An operation on one value, without the value.
+#[derive(Clone, Copy)]
+pub enum OneOperation {
+    /// The square root.
+    SquareRoot,
+    /// Rounded to an integral value, with INEXACT.
+    IntegralExact,
+    /// Rounded to an integral value, without INEXACT.
+    Integral,
+    /// As an integer.
+    ToUnsigned,
+    /// As an integer in two's complement.
+    ToSigned,
+}
+
 /// A format with a choice of flags, as its code names it.
 #[derive(Clone, Copy)]
 pub struct MachineFormat {
@@ -88,77 +102,6 @@ impl MachineFormat {
                 format,
                 tiny_before: Some(true),
             }),
-        }
-    }
-
-    /// The format of this code, if it has a choice of flags. It is one match, so that a call at it is made in the arms.
-    #[inline(always)]
-    pub fn coded(code: u32) -> Option<MachineFormat>
-        ensures { IfSome result (λ format.
-            option_and_then machine_format (flagged_kind_coded code) ≡ Some format) }
-    {
-        match code {
-            1 => Some(MachineFormat::untold(IeeeFormat::Half)),
-            2 => Some(MachineFormat::untold(IeeeFormat::Single)),
-            3 => Some(MachineFormat::untold(IeeeFormat::Double)),
-            4 => Some(MachineFormat::untold(IeeeFormat::Quad)),
-            5 => Some(MachineFormat::untold(IeeeFormat::BFloat)),
-            6 => Some(MachineFormat::untold(IeeeFormat::E5M2)),
-            9 => Some(MachineFormat::untold(IeeeFormat::X87)),
-            257 => Some(MachineFormat::told(IeeeFormat::Half, false)),
-            258 => Some(MachineFormat::told(IeeeFormat::Single, false)),
-            259 => Some(MachineFormat::told(IeeeFormat::Double, false)),
-            260 => Some(MachineFormat::told(IeeeFormat::Quad, false)),
-            261 => Some(MachineFormat::told(IeeeFormat::BFloat, false)),
-            262 => Some(MachineFormat::told(IeeeFormat::E5M2, false)),
-            265 => Some(MachineFormat::told(IeeeFormat::X87, false)),
-            769 => Some(MachineFormat::told(IeeeFormat::Half, true)),
-            770 => Some(MachineFormat::told(IeeeFormat::Single, true)),
-            771 => Some(MachineFormat::told(IeeeFormat::Double, true)),
-            772 => Some(MachineFormat::told(IeeeFormat::Quad, true)),
-            773 => Some(MachineFormat::told(IeeeFormat::BFloat, true)),
-            774 => Some(MachineFormat::told(IeeeFormat::E5M2, true)),
-            777 => Some(MachineFormat::told(IeeeFormat::X87, true)),
-            _ => None,
-        }
-    }
-
-    /// The format of this code, if it has a choice of flags and more than 64 bits.
-    #[inline(always)]
-    fn wide_coded(code: u32) -> Option<MachineFormat>
-        ensures { IfSome result (λ format.
-            option_and_then machine_format (flagged_kind_coded code) ≡ Some format) }
-    {
-        match code {
-            4 => Some(MachineFormat::untold(IeeeFormat::Quad)),
-            9 => Some(MachineFormat::untold(IeeeFormat::X87)),
-            260 => Some(MachineFormat::told(IeeeFormat::Quad, false)),
-            265 => Some(MachineFormat::told(IeeeFormat::X87, false)),
-            772 => Some(MachineFormat::told(IeeeFormat::Quad, true)),
-            777 => Some(MachineFormat::told(IeeeFormat::X87, true)),
-            _ => None,
-        }
-    }
-
-    /// A format without a rule of flags.
-    #[inline(always)]
-    fn untold(format: IeeeFormat) -> MachineFormat
-        ensures { result ≡ untold format }
-    {
-        MachineFormat {
-            format,
-            tiny_before: None,
-        }
-    }
-
-    /// A format with a rule of flags.
-    #[inline(always)]
-    fn told(format: IeeeFormat, tiny_before: bool) -> MachineFormat
-        ensures { result ≡ told format tiny_before }
-    {
-        MachineFormat {
-            format,
-            tiny_before: Some(tiny_before),
         }
     }
 
@@ -282,6 +225,35 @@ fn machine_operation(code: u32, to: u32, x: u128, y: u128, z: u128) -> Option<Ma
     }
 }
 
+/// The code of an operation on one value.
+#[inline(always)]
+pub fn one_code(operation: OneOperation) -> u32
+    ensures { result ≡ one_code operation }
+{
+    match operation {
+        OneOperation::SquareRoot => 8,
+        OneOperation::IntegralExact => 9,
+        OneOperation::Integral => 10,
+        OneOperation::ToUnsigned => 12,
+        OneOperation::ToSigned => 13,
+    }
+}
+
+/// The code of an operation on two values.
+#[inline(always)]
+pub fn two_code(arithmetic: Arithmetic) -> u32
+    ensures { result ≡ two_code arithmetic }
+{
+    match arithmetic {
+        Arithmetic::Sum => 1,
+        Arithmetic::Difference => 2,
+        Arithmetic::Product => 3,
+        Arithmetic::Quotient => 4,
+        Arithmetic::NearestRemainder => 5,
+        Arithmetic::TruncatedRemainder => 6,
+    }
+}
+
 /// The lesser of two values by a rule, if it is known.
 #[inline(always)]
 fn least_by(rule: Option<MinimumRule>, x: u128, y: u128) -> Option<MachineOperation>
@@ -318,124 +290,20 @@ fn conversion_call(target: Option<FlaggedKind>, x: u128) -> Result<MachineCall, 
     }
 }
 
-/// What is known of a request for an operation.
+/// On what machine, and in which rounding mode, an operation is asked for.
 #[derive(Clone, Copy)]
-pub struct KnownOperation {
+pub struct Setting {
     /// The machine.
     pub machine: Machine,
-    /// The format, with its rule of flags.
-    pub format: MachineFormat,
-    /// The rounding mode.
-    pub round: Round,
-    /// The operation.
-    pub operation: MachineOperation,
-}
-
-/// The request of these codes, if all of them are known and it is no conversion.
-#[inline(always)]
-pub fn known_operation(
-    machine: u32,
-    code: u32,
-    format: u32,
-    mode: u32,
-    to: u32,
-    x: Halves,
-    y: Halves,
-    z: Halves,
-) -> Option<KnownOperation>
-    ensures machine { IfSome result (λ known. machine_coded machine ≡ Some known.machine) }
-    ensures mode { IfSome result (λ known. mode_coded mode ≡ Some known.round) }
-    ensures format { IfSome result (λ known.
-        option_and_then machine_format (flagged_kind_coded format) ≡ Some known.format) }
-    ensures call { IfSome result (λ known.
-        machine_call code to (whole x) (whole y) (whole z) ≡ Ok (Operation known.operation)) }
-{
-    if code == CONVERSION {
-        return None;
-    }
-    let (first, second, third) = (x.number(), y.number(), z.number());
-    let Some(operation) = machine_operation(code, to, first, second, third) else {
-        return None;
-    };
-    let Some(machine) = machine_coded(machine) else {
-        return None;
-    };
-    let Some(round) = mode_coded(mode) else {
-        return None;
-    };
-    // Last, so that nothing stands between it and the call.
-    let Some(format) = MachineFormat::coded(format) else {
-        return None;
-    };
-    Some(KnownOperation {
-        machine,
-        format,
-        round,
-        operation,
-    })
-}
-
-/// The request of these codes, if all of them are known, it is no conversion, and the format has more than 64 bits.
-#[inline(always)]
-pub fn known_wide_operation(
-    machine: u32,
-    code: u32,
-    format: u32,
-    mode: u32,
-    to: u32,
-    x: Halves,
-    y: Halves,
-    z: Halves,
-) -> Option<KnownOperation>
-    ensures machine { IfSome result (λ known. machine_coded machine ≡ Some known.machine) }
-    ensures mode { IfSome result (λ known. mode_coded mode ≡ Some known.round) }
-    ensures format { IfSome result (λ known.
-        option_and_then machine_format (flagged_kind_coded format) ≡ Some known.format) }
-    ensures call { IfSome result (λ known.
-        machine_call code to (whole x) (whole y) (whole z) ≡ Ok (Operation known.operation)) }
-{
-    if code == CONVERSION {
-        return None;
-    }
-    let (first, second, third) = (x.number(), y.number(), z.number());
-    let Some(operation) = machine_operation(code, to, first, second, third) else {
-        return None;
-    };
-    let Some(machine) = machine_coded(machine) else {
-        return None;
-    };
-    let Some(round) = mode_coded(mode) else {
-        return None;
-    };
-    let Some(format) = MachineFormat::wide_coded(format) else {
-        return None;
-    };
-    Some(KnownOperation {
-        machine,
-        format,
-        round,
-        operation,
-    })
-}
-
-/// What is known of a request for a conversion, but for the format of its result.
-#[derive(Clone, Copy)]
-pub struct KnownSource {
-    /// The machine.
-    pub machine: Machine,
-    /// The format of the operand.
-    pub source: MachineFormat,
     /// The rounding mode.
     pub round: Round,
 }
 
-/// What is known of the request of these codes, if all of them are known.
+/// The setting of these codes, if both are known.
 #[inline(always)]
-pub fn known_source(machine: u32, source: u32, mode: u32) -> Option<KnownSource>
+pub fn known_setting(machine: u32, mode: u32) -> Option<Setting>
     ensures machine { IfSome result (λ known. machine_coded machine ≡ Some known.machine) }
     ensures mode { IfSome result (λ known. mode_coded mode ≡ Some known.round) }
-    ensures source { IfSome result (λ known.
-        option_and_then machine_format (flagged_kind_coded source) ≡ Some known.source) }
 {
     let Some(machine) = machine_coded(machine) else {
         return None;
@@ -443,13 +311,5 @@ pub fn known_source(machine: u32, source: u32, mode: u32) -> Option<KnownSource>
     let Some(round) = mode_coded(mode) else {
         return None;
     };
-    // Last, so that nothing stands between it and the call.
-    let Some(source) = MachineFormat::coded(source) else {
-        return None;
-    };
-    Some(KnownSource {
-        machine,
-        source,
-        round,
-    })
+    Some(Setting { machine, round })
 }

@@ -1,6 +1,6 @@
 //! What machines deliver, and the export that makes it.
 
-ghost use Rattle.std.specs.Prelude.{◌≡◌, ◌<◌, ◌≤◌, option_and_then, true};
+ghost use Rattle.std.specs.Prelude.{◌≡◌, ◌<◌, ◌≤◌, true};
 ghost use Rattle.apfloat_model.specs.declared.kinds.NonfiniteBehavior.TheVariants.{IEEE754};
 ghost use Rattle.rustc_apfloat.specs.Flags.{Gives};
 ghost use Rattle.rustc_apfloat.specs.FlaggedTypes.{constants_of, format_of};
@@ -8,6 +8,7 @@ ghost use Rattle.rustc_apfloat.specs.Lawful.{format_with};
 ghost use Rattle.apfloat_machines.specs.Machines.{has_unsigned};
 ghost use Rattle.apfloat_machines.specs.Operations.{IsOffered};
 ghost use Rattle.apfloat_machines.specs.WholeNumbers.{IsMachineSigned, IsMachineUnsigned};
+ghost use Rattle.formats_at_run_time.specs.declared.Arithmetic.{Arithmetic};
 ghost use Rattle.formats_at_run_time.specs.declared.Arithmetic.TheVariants.{Sum, Difference, Product, Quotient};
 ghost use Rattle.formats_at_run_time.specs.FlaggedKinds.{flagged_constants, flagged_kind_coded};
 ghost use Rattle.formats_at_run_time.specs.Modes.{mode_coded};
@@ -21,13 +22,18 @@ ghost use Rattle.apfloat_c.specs.declared.exported_call.ExportedCall.TheVariants
 ghost use Rattle.apfloat_c.specs.declared.exported_call.ExportedCall.TheVariants.{RoundToIntegral as PlainIntegral};
 ghost use Rattle.apfloat_c.specs.Answers.{IsKindAnswer, IsLeftBy, whole};
 ghost use Rattle.apfloat_c.specs.MachineCalls.{IsMachineAnswer, IsMachineCallAnswer, IsMachineConverted};
-ghost use Rattle.apfloat_c.specs.MachineCalls.{IsMachineConversionLeft, IsMachineConversionTried, IsMachineLeft};
-ghost use Rattle.apfloat_c.specs.MachineCalls.{IsMachineLeftIn, is_number, machine_format};
+ghost use Rattle.apfloat_c.specs.MachineCalls.{IsFilledAs, IsFilledIn, IsMachineConversionLeft, IsMachineLeft};
+ghost use Rattle.apfloat_c.specs.MachineCalls.{ieee_format_coded};
+ghost use Rattle.formats_at_run_time.specs.FlaggedKinds.{after_rounding, before_rounding};
+ghost use Rattle.apfloat_c.specs.MachineCalls.{IsMachineLeftIn, is_number, kind_on, machine_format_coded};
 ghost use Rattle.apfloat_c.specs.MachineCalls.{conversion_call, machine_fault};
 ghost use Rattle.apfloat_c.specs.MachineCalls.{IsMachineReply, format_on, known_machine_call};
-ghost use Rattle.apfloat_c.specs.MachineCalls.{machine_call, machine_coded};
+ghost use Rattle.apfloat_c.specs.MachineCalls.{machine_call, machine_coded, of_one, one_code, two_code};
 
 use crate::answers;
+use crate::coded_formats::{
+    fill_coded_without_rule, fill_short_coded, fill_wide_coded, tiny_before_coded,
+};
 use crate::codes::{
     ANSWERED, LACKING_OPERATION, NO_SUCH_OPERATION, UNKNOWN_FORMAT, UNKNOWN_MACHINE, UNKNOWN_MODE,
     WIDE_OPERAND, WRONG_WIDTH, is_width,
@@ -35,8 +41,8 @@ use crate::codes::{
 use crate::data::{Answer, Halves};
 use crate::ieee_answers::{value, written};
 use crate::machine_call::{
-    KnownOperation, MachineCall, MachineFormat, MachineOperation, known_operation, known_source,
-    known_wide_operation, machine_call, machine_coded,
+    MachineCall, MachineFormat, MachineOperation, OneOperation, known_setting, machine_call,
+    machine_coded, one_code, two_code,
 };
 use crate::usual_operands::{
     are_normal, are_normal_of_three, are_usual, are_usual_of_three, both_fit, fits, is_divisor,
@@ -49,7 +55,10 @@ use apfloat_machines::{
     settled_signed, settled_unary, settled_unsigned,
 };
 use formats_at_run_time::{Arithmetic, FillsInFormat, FlaggedFormat, FlaggedKind, mode_coded};
-use rustc_apfloat::ieee::{Flagged, IeeeFloat};
+use rustc_apfloat::ieee::{
+    BFloatS, DoubleS, Flagged, Float8E5M2S, HalfS, IeeeFlags, IeeeFloat, QuadS, SingleS,
+    TinyBefore, X87DoubleExtendedS,
+};
 use rustc_apfloat::{Float, FloatConvert, Round, Status, StatusAnd};
 use std::marker::PhantomData;
 
@@ -100,6 +109,208 @@ impl FillsInFormat for OnMachine {
             MachineOperation::Greatest(rule, x, y) => {
                 greater_in::<S>(answer, machine, round, rule, x, y)
             }
+        }
+    }
+}
+
+/// An operation of a machine on two words.
+#[derive(Clone, Copy)]
+struct TwoWordsOnMachine {
+    machine: Machine,
+    round: Round,
+    arithmetic: Arithmetic,
+    x: u64,
+    y: u64,
+}
+
+impl FillsInFormat for TwoWordsOnMachine {
+    type Place = Answer;
+
+    type Output = u32;
+
+    ghost gives = { λ it kind old new code.
+        IsMachineLeftIn kind it.machine it.round (OfTwo it.arithmetic it.x it.y) old new code };
+
+    #[inline(always)]
+    fn fill_in_format<S: Flagged>(self, answer: &mut Answer) -> u32 {
+        let TwoWordsOnMachine {
+            machine,
+            round,
+            arithmetic,
+            x,
+            y,
+        } = self;
+        two_of_words::<S>(answer, machine, round, arithmetic, x, y)
+    }
+}
+
+/// An operation of a machine on two values of more than 64 bits.
+#[derive(Clone, Copy)]
+struct TwoOnMachine {
+    machine: Machine,
+    round: Round,
+    arithmetic: Arithmetic,
+    x: u128,
+    y: u128,
+}
+
+impl FillsInFormat for TwoOnMachine {
+    type Place = Answer;
+
+    type Output = u32;
+
+    ghost gives = { λ it kind old new code.
+        IsMachineLeftIn kind it.machine it.round (OfTwo it.arithmetic it.x it.y) old new code };
+
+    #[inline(always)]
+    fn fill_in_format<S: Flagged>(self, answer: &mut Answer) -> u32 {
+        let TwoOnMachine {
+            machine,
+            round,
+            arithmetic,
+            x,
+            y,
+        } = self;
+        two_of_values::<S>(answer, machine, round, arithmetic, x, y)
+    }
+}
+
+/// The fused sum of a machine, of words.
+#[derive(Clone, Copy)]
+struct FusedWordsOnMachine {
+    machine: Machine,
+    round: Round,
+    x: u64,
+    y: u64,
+    z: u64,
+}
+
+impl FillsInFormat for FusedWordsOnMachine {
+    type Place = Answer;
+
+    type Output = u32;
+
+    ghost gives = { λ it kind old new code.
+        IsMachineLeftIn kind it.machine it.round (FusedSum it.x it.y it.z) old new code };
+
+    #[inline(always)]
+    fn fill_in_format<S: Flagged>(self, answer: &mut Answer) -> u32 {
+        let FusedWordsOnMachine {
+            machine,
+            round,
+            x,
+            y,
+            z,
+        } = self;
+        fused_sum_of_words::<S>(answer, machine, round, x, y, z)
+    }
+}
+
+/// The fused sum of a machine, of values of more than 64 bits.
+#[derive(Clone, Copy)]
+struct FusedOnMachine {
+    machine: Machine,
+    round: Round,
+    x: u128,
+    y: u128,
+    z: u128,
+}
+
+impl FillsInFormat for FusedOnMachine {
+    type Place = Answer;
+
+    type Output = u32;
+
+    ghost gives = { λ it kind old new code.
+        IsMachineLeftIn kind it.machine it.round (FusedSum it.x it.y it.z) old new code };
+
+    #[inline(always)]
+    fn fill_in_format<S: Flagged>(self, answer: &mut Answer) -> u32 {
+        let FusedOnMachine {
+            machine,
+            round,
+            x,
+            y,
+            z,
+        } = self;
+        fused_sum_of_values::<S>(answer, machine, round, x, y, z)
+    }
+}
+
+/// An operation of a machine on one word.
+#[derive(Clone, Copy)]
+struct OneWordOnMachine {
+    machine: Machine,
+    round: Round,
+    operation: OneOperation,
+    to: u32,
+    x: u64,
+}
+
+impl FillsInFormat for OneWordOnMachine {
+    type Place = Answer;
+
+    type Output = u32;
+
+    ghost gives = { λ it kind old new code.
+        IsMachineLeftIn kind it.machine it.round (of_one it.operation it.to it.x) old new code };
+
+    #[inline(always)]
+    fn fill_in_format<S: Flagged>(self, answer: &mut Answer) -> u32 {
+        let OneWordOnMachine {
+            machine,
+            round,
+            operation,
+            to,
+            x,
+        } = self;
+        match operation {
+            OneOperation::SquareRoot => root_in::<S>(answer, machine, round, x as u128),
+            OneOperation::IntegralExact => {
+                integral_exact_of_word::<S>(answer, machine, round, x)
+            }
+            OneOperation::Integral => integral_in::<S>(answer, machine, round, x as u128),
+            OneOperation::ToUnsigned => { to_unsigned_of_word::<S>(answer, machine, round, x, to) }
+            OneOperation::ToSigned => { to_signed_of_word::<S>(answer, machine, round, x, to) }
+        }
+    }
+}
+
+/// An operation of a machine on one value of more than 64 bits.
+#[derive(Clone, Copy)]
+struct OneOnMachine {
+    machine: Machine,
+    round: Round,
+    operation: OneOperation,
+    to: u32,
+    x: u128,
+}
+
+impl FillsInFormat for OneOnMachine {
+    type Place = Answer;
+
+    type Output = u32;
+
+    ghost gives = { λ it kind old new code.
+        IsMachineLeftIn kind it.machine it.round (of_one it.operation it.to it.x) old new code };
+
+    #[inline(always)]
+    fn fill_in_format<S: Flagged>(self, answer: &mut Answer) -> u32 {
+        let OneOnMachine {
+            machine,
+            round,
+            operation,
+            to,
+            x,
+        } = self;
+        match operation {
+            OneOperation::SquareRoot => root_in::<S>(answer, machine, round, x),
+            OneOperation::IntegralExact => {
+                integral_exact_of_value::<S>(answer, machine, round, x)
+            }
+            OneOperation::Integral => integral_in::<S>(answer, machine, round, x),
+            OneOperation::ToUnsigned => { to_unsigned_of_value::<S>(answer, machine, round, x, to) }
+            OneOperation::ToSigned => { to_signed_of_value::<S>(machine, x, round, to, answer) }
         }
     }
 }
@@ -241,14 +452,7 @@ fn product_of_words<S: Flagged>(
     ensures { IsMachineLeftIn (of_format (constants_of S.Flagged)) machine round
         (OfTwo Product x y) answer.old answer.new result }
 {
-    normal_of_two::<S>(
-        answer,
-        machine,
-        round,
-        Arithmetic::Product,
-        x as u128,
-        y as u128,
-    )
+    normal_of_two::<S, ProductInLine>(ProductInLine, answer, machine, round, x as u128, y as u128)
 }
 
 /// A quotient of words.
@@ -264,14 +468,7 @@ fn quotient_of_words<S: Flagged>(
     ensures { IsMachineLeftIn (of_format (constants_of S.Flagged)) machine round
         (OfTwo Quotient x y) answer.old answer.new result }
 {
-    normal_of_two::<S>(
-        answer,
-        machine,
-        round,
-        Arithmetic::Quotient,
-        x as u128,
-        y as u128,
-    )
+    normal_of_two::<S, QuotientInLine>(QuotientInLine, answer, machine, round, x as u128, y as u128)
 }
 
 /// A sum of values.
@@ -287,7 +484,7 @@ fn sum_of_values<S: Flagged>(
     ensures { IsMachineLeftIn (of_format (constants_of S.Flagged)) machine round
         (OfTwo Sum x y) answer.old answer.new result }
 {
-    normal_of_two::<S>(answer, machine, round, Arithmetic::Sum, x, y)
+    normal_of_two::<S, SumInLine>(SumInLine, answer, machine, round, x, y)
 }
 
 /// A difference of values.
@@ -303,7 +500,7 @@ fn difference_of_values<S: Flagged>(
     ensures { IsMachineLeftIn (of_format (constants_of S.Flagged)) machine round
         (OfTwo Difference x y) answer.old answer.new result }
 {
-    normal_of_two::<S>(answer, machine, round, Arithmetic::Difference, x, y)
+    normal_of_two::<S, DifferenceInLine>(DifferenceInLine, answer, machine, round, x, y)
 }
 
 /// A product of values.
@@ -319,7 +516,7 @@ fn product_of_values<S: Flagged>(
     ensures { IsMachineLeftIn (of_format (constants_of S.Flagged)) machine round
         (OfTwo Product x y) answer.old answer.new result }
 {
-    normal_of_two::<S>(answer, machine, round, Arithmetic::Product, x, y)
+    normal_of_two::<S, ProductInLine>(ProductInLine, answer, machine, round, x, y)
 }
 
 /// A quotient of values.
@@ -335,57 +532,116 @@ fn quotient_of_values<S: Flagged>(
     ensures { IsMachineLeftIn (of_format (constants_of S.Flagged)) machine round
         (OfTwo Quotient x y) answer.old answer.new result }
 {
-    normal_of_two::<S>(answer, machine, round, Arithmetic::Quotient, x, y)
+    normal_of_two::<S, QuotientInLine>(QuotientInLine, answer, machine, round, x, y)
+}
+
+/// An operation on two values whose plain call is made in line. As one match of all, these would be too long for that.
+trait InLine: Copy {
+    // Which operation it is.
+    ghost arithmetic: { Self → Arithmetic };
+
+    /// Which operation it is.
+    fn arithmetic(self) -> Arithmetic
+        ensures { result ≡ arithmetic self };
+
+    /// The plain call, in line.
+    fn plain_here<S: Flagged>(self, answer: &mut Answer, round: Round, x: u128, y: u128)
+        requires { S.PRECISION < S.BITS }
+        ensures { let kind = of_format (constants_of S.Flagged) in
+            IsKindAnswer kind round (PlainOfTwo (arithmetic self) x y) answer.new };
+}
+
+/// The sum of two values.
+#[derive(Clone, Copy)]
+struct SumInLine;
+
+impl InLine for SumInLine {
+    ghost arithmetic = { λ it. Sum };
+
+    #[inline(always)]
+    fn arithmetic(self) -> Arithmetic {
+        Arithmetic::Sum
+    }
+
+    #[inline(always)]
+    fn plain_here<S: Flagged>(self, answer: &mut Answer, round: Round, x: u128, y: u128) {
+        answers::sum_of_type_here::<IeeeFloat<S>>(answer, round, x, y);
+    }
+}
+
+/// The difference of two values.
+#[derive(Clone, Copy)]
+struct DifferenceInLine;
+
+impl InLine for DifferenceInLine {
+    ghost arithmetic = { λ it. Difference };
+
+    #[inline(always)]
+    fn arithmetic(self) -> Arithmetic {
+        Arithmetic::Difference
+    }
+
+    #[inline(always)]
+    fn plain_here<S: Flagged>(self, answer: &mut Answer, round: Round, x: u128, y: u128) {
+        answers::difference_of_type_here::<IeeeFloat<S>>(answer, round, x, y);
+    }
+}
+
+/// The product of two values.
+#[derive(Clone, Copy)]
+struct ProductInLine;
+
+impl InLine for ProductInLine {
+    ghost arithmetic = { λ it. Product };
+
+    #[inline(always)]
+    fn arithmetic(self) -> Arithmetic {
+        Arithmetic::Product
+    }
+
+    #[inline(always)]
+    fn plain_here<S: Flagged>(self, answer: &mut Answer, round: Round, x: u128, y: u128) {
+        answers::product_here::<S>(answer, round, x, y);
+    }
+}
+
+/// The quotient of two values.
+#[derive(Clone, Copy)]
+struct QuotientInLine;
+
+impl InLine for QuotientInLine {
+    ghost arithmetic = { λ it. Quotient };
+
+    #[inline(always)]
+    fn arithmetic(self) -> Arithmetic {
+        Arithmetic::Quotient
+    }
+
+    #[inline(always)]
+    fn plain_here<S: Flagged>(self, answer: &mut Answer, round: Round, x: u128, y: u128) {
+        answers::quotient_here::<IeeeFloat<S>>(answer, round, x, y);
+    }
 }
 
 /// An operation on two values: the plain one in line, if they are normal numbers.
 #[inline(always)]
-fn normal_of_two<S: Flagged>(
+fn normal_of_two<S: Flagged, O: InLine>(
+    operation: O,
     answer: &mut Answer,
     machine: Machine,
     round: Round,
-    arithmetic: Arithmetic,
     x: u128,
     y: u128,
 ) -> u32
     requires { S.PRECISION < S.BITS }
     ensures { IsMachineLeftIn (of_format (constants_of S.Flagged)) machine round
-        (OfTwo arithmetic x y) answer.old answer.new result }
+        (OfTwo (O.arithmetic operation) x y) answer.old answer.new result }
 {
     if are_normal::<S>(x, y) {
-        plain_of_two_here::<S>(answer, round, arithmetic, x, y);
+        operation.plain_here::<S>(answer, round, x, y);
         ANSWERED
     } else {
-        of_two_in::<S>(answer, machine, round, arithmetic, x, y)
-    }
-}
-
-/// The plain call of an operation on two values, in line.
-#[inline(always)]
-fn plain_of_two_here<S: Flagged>(
-    answer: &mut Answer,
-    round: Round,
-    arithmetic: Arithmetic,
-    x: u128,
-    y: u128,
-)
-    requires { S.PRECISION < S.BITS }
-    ensures { let kind = of_format (constants_of S.Flagged) in
-        IsKindAnswer kind round (PlainOfTwo arithmetic x y) answer.new }
-{
-    match arithmetic {
-        Arithmetic::Sum => answers::sum_of_type_here::<IeeeFloat<S>>(answer, round, x, y),
-        Arithmetic::Difference => {
-            answers::difference_of_type_here::<IeeeFloat<S>>(answer, round, x, y)
-        }
-        Arithmetic::Product => answers::product_here::<S>(answer, round, x, y),
-        Arithmetic::Quotient => answers::quotient_here::<IeeeFloat<S>>(answer, round, x, y),
-        Arithmetic::NearestRemainder => {
-            answers::nearest_remainder::<IeeeFloat<S>>(answer, round, x, y)
-        }
-        Arithmetic::TruncatedRemainder => {
-            answers::truncated_remainder::<IeeeFloat<S>>(answer, round, x, y)
-        }
+        of_two_in::<S>(answer, machine, round, operation.arithmetic(), x, y)
     }
 }
 
@@ -1204,8 +1460,8 @@ impl FillsInFormat for ConversionToCode {
     type Output = Option<u32>;
 
     ghost gives = { λ it kind old new left.
-        let target = option_and_then machine_format (flagged_kind_coded it.to) in
-        IsMachineConversionTried kind it.machine it.round it.x target old new left };
+        IsFilledIn (kind_on it.machine) (IsMachineConversionLeft kind it.machine it.round it.x)
+        (machine_format_coded it.to) old new left };
 
     #[inline(always)]
     fn fill_in_format<S: Flagged>(self, answer: &mut Answer) -> Option<u32> {
@@ -1215,17 +1471,81 @@ impl FillsInFormat for ConversionToCode {
             round,
             x,
         } = self;
-        let Some(target) = MachineFormat::coded(to) else {
-            return None;
-        };
-        let call = ConversionTo {
-            target,
-            machine,
-            round,
-            x,
-        };
-        Some(call.fill_in_format::<S>(answer))
+        converted_to_code::<S>(answer, machine, round, x, to)
     }
+}
+
+/// A value of the format `S` in the format of a code, if that has one.
+#[inline(always)]
+fn converted_to_code<S: Flagged>(
+    answer: &mut Answer,
+    machine: Machine,
+    round: Round,
+    x: u128,
+    to: u32,
+) -> Option<u32>
+    requires { S.PRECISION < S.BITS }
+    ensures { let kind = of_format (constants_of S.Flagged) in
+        IsFilledIn (kind_on machine) (IsMachineConversionLeft kind machine round x)
+        (machine_format_coded to) answer.old answer.new result }
+{
+    match tiny_before_coded(machine, to / 0x100) {
+        None => None,
+        Some(true) => converted_before_rounding::<S>(answer, machine, round, x, to % 0x100),
+        Some(false) => converted_after_rounding::<S>(answer, machine, round, x, to % 0x100),
+    }
+}
+
+/// A value of the format `S` in the format of this byte, tininess detected before rounding.
+#[inline(always)]
+fn converted_before_rounding<S: Flagged>(
+    answer: &mut Answer,
+    machine: Machine,
+    round: Round,
+    x: u128,
+    byte: u32,
+) -> Option<u32>
+    requires { S.PRECISION < S.BITS }
+    ensures { let kind = of_format (constants_of S.Flagged) in
+        IsFilledAs before_rounding (IsMachineConversionLeft kind machine round x) (ieee_format_coded byte)
+        answer.old answer.new result }
+{
+    Some(match byte {
+        1 => converted::<S, IeeeFlags<TinyBefore<HalfS>>>(answer, machine, round, x),
+        2 => converted::<S, IeeeFlags<TinyBefore<SingleS>>>(answer, machine, round, x),
+        3 => converted::<S, IeeeFlags<TinyBefore<DoubleS>>>(answer, machine, round, x),
+        4 => converted::<S, IeeeFlags<TinyBefore<QuadS>>>(answer, machine, round, x),
+        5 => converted::<S, IeeeFlags<TinyBefore<BFloatS>>>(answer, machine, round, x),
+        6 => converted::<S, IeeeFlags<TinyBefore<Float8E5M2S>>>(answer, machine, round, x),
+        9 => converted::<S, IeeeFlags<TinyBefore<X87DoubleExtendedS>>>(answer, machine, round, x),
+        _ => return None,
+    })
+}
+
+/// A value of the format `S` in the format of this byte, tininess detected after rounding.
+#[inline(always)]
+fn converted_after_rounding<S: Flagged>(
+    answer: &mut Answer,
+    machine: Machine,
+    round: Round,
+    x: u128,
+    byte: u32,
+) -> Option<u32>
+    requires { S.PRECISION < S.BITS }
+    ensures { let kind = of_format (constants_of S.Flagged) in
+        IsFilledAs after_rounding (IsMachineConversionLeft kind machine round x) (ieee_format_coded byte)
+        answer.old answer.new result }
+{
+    Some(match byte {
+        1 => converted::<S, IeeeFlags<HalfS>>(answer, machine, round, x),
+        2 => converted::<S, IeeeFlags<SingleS>>(answer, machine, round, x),
+        3 => converted::<S, IeeeFlags<DoubleS>>(answer, machine, round, x),
+        4 => converted::<S, IeeeFlags<QuadS>>(answer, machine, round, x),
+        5 => converted::<S, IeeeFlags<BFloatS>>(answer, machine, round, x),
+        6 => converted::<S, IeeeFlags<Float8E5M2S>>(answer, machine, round, x),
+        9 => converted::<S, IeeeFlags<X87DoubleExtendedS>>(answer, machine, round, x),
+        _ => return None,
+    })
 }
 
 /// A conversion, from any format to a known one.
@@ -1475,31 +1795,66 @@ pub extern "C" fn apfloat_machine(
         IsMachineReply (known_machine_call (flagged_kind_coded format) (mode_coded mode) call
         (machine_coded machine)) answer.old answer.new result }
 {
-    // In a copy for one operation its code folds. What an operation does not take is not passed, so that it needs no
-    // register.
-    if 1 <= operation && operation <= 10 {
+    // What an operation does not take is not passed, so that it needs no register.
+    if 1 <= operation && operation <= 11 {
         match operation {
-            1 => two_on_machine(machine, 1, format, mode, x, y, answer),
-            2 => two_on_machine(machine, 2, format, mode, x, y, answer),
-            3 => two_on_machine(machine, 3, format, mode, x, y, answer),
-            4 => two_on_machine(machine, 4, format, mode, x, y, answer),
-            5 => any_on_machine(machine, 5, format, mode, 0, x, y, NOTHING, answer),
-            6 => any_on_machine(machine, 6, format, mode, 0, x, y, NOTHING, answer),
+            1 => two_on_machine(machine, Arithmetic::Sum, format, mode, x, y, answer),
+            2 => two_on_machine(machine, Arithmetic::Difference, format, mode, x, y, answer),
+            3 => two_on_machine(machine, Arithmetic::Product, format, mode, x, y, answer),
+            4 => two_on_machine(machine, Arithmetic::Quotient, format, mode, x, y, answer),
+            5 => any_of_two(
+                machine,
+                Arithmetic::NearestRemainder,
+                format,
+                mode,
+                x,
+                y,
+                answer,
+            ),
+            6 => any_of_two(
+                machine,
+                Arithmetic::TruncatedRemainder,
+                format,
+                mode,
+                x,
+                y,
+                answer,
+            ),
             7 => fused_on_machine(machine, format, mode, x, y, z, answer),
-            8 => one_on_machine(machine, 8, format, mode, 0, x, answer),
-            9 => one_on_machine(machine, 9, format, mode, 0, x, answer),
-            10 => one_on_machine(machine, 10, format, mode, 0, x, answer),
+            8 => one_on_machine(
+                machine,
+                OneOperation::SquareRoot,
+                format,
+                mode,
+                0,
+                x,
+                answer,
+            ),
+            9 => one_on_machine(
+                machine,
+                OneOperation::IntegralExact,
+                format,
+                mode,
+                0,
+                x,
+                answer,
+            ),
+            10 => any_of_one(machine, OneOperation::Integral, format, mode, 0, x, answer),
+            11 => converted_on_machine(machine, format, mode, to, x, answer),
             _ => any_on_machine(machine, operation, format, mode, to, x, y, z, answer),
-        }
-    } else if operation >= 13 {
-        match operation {
-            13 => one_on_machine(machine, 13, format, mode, to, x, answer),
-            _ => any_on_machine(machine, operation, format, mode, to, x, y, NOTHING, answer),
         }
     } else {
         match operation {
-            11 => converted_on_machine(machine, format, mode, to, x, answer),
-            12 => one_on_machine(machine, 12, format, mode, to, x, answer),
+            12 => one_on_machine(
+                machine,
+                OneOperation::ToUnsigned,
+                format,
+                mode,
+                to,
+                x,
+                answer,
+            ),
+            13 => one_on_machine(machine, OneOperation::ToSigned, format, mode, to, x, answer),
             _ => any_on_machine(machine, operation, format, mode, to, x, y, NOTHING, answer),
         }
     }
@@ -1508,85 +1863,215 @@ pub extern "C" fn apfloat_machine(
 /// What stands for an operand that an operation does not take.
 const NOTHING: Halves = Halves { low: 0, high: 0 };
 
-/// The same as `apfloat_machine`, of any operands. Few words leave it enough registers.
-#[inline(always)]
-fn on_machine(
-    machine: u32,
-    operation: u32,
-    format: u32,
-    mode: u32,
-    to: u32,
-    x: Halves,
-    y: Halves,
-    z: Halves,
-    answer: &mut Answer,
-) -> u32
-    ensures { let call = machine_call operation to (whole x) (whole y) (whole z) in
-        IsMachineReply (known_machine_call (flagged_kind_coded format) (mode_coded mode) call
-        (machine_coded machine)) answer.old answer.new result }
-{
-    match known_operation(machine, operation, format, mode, to, x, y, z) {
-        Some(known) => {
-            let KnownOperation {
-                machine,
-                format,
-                round,
-                operation,
-            } = known;
-            operated(machine, format, round, operation, answer)
-        }
-        None => any_on_machine(machine, operation, format, mode, to, x, y, z, answer),
-    }
-}
-
 /// The same as `apfloat_machine`, of an operation on one value.
 #[inline(always)]
 fn one_on_machine(
     machine: u32,
-    operation: u32,
+    operation: OneOperation,
     format: u32,
     mode: u32,
     to: u32,
     x: Halves,
     answer: &mut Answer,
 ) -> u32
-    ensures { let call = machine_call operation to (whole x) 0 0 in
+    ensures { let call = machine_call (one_code operation) to (whole x) 0 0 in
         IsMachineReply (known_machine_call (flagged_kind_coded format) (mode_coded mode) call
         (machine_coded machine)) answer.old answer.new result }
 {
     if let Some(word) = one_word(x.number()) {
-        let x = Halves::of_word(word);
-        on_machine(
-            machine, operation, format, mode, to, x, NOTHING, NOTHING, answer,
-        )
+        one_word_on_machine(machine, operation, format, mode, to, word, answer)
     } else {
-        wide_on_machine(
-            machine, operation, format, mode, to, x, NOTHING, NOTHING, answer,
-        )
+        one_value_on_machine(machine, operation, format, mode, to, x, answer)
     }
+}
+
+/// The same as `apfloat_machine`, of an operation on one word.
+#[inline(always)]
+fn one_word_on_machine(
+    machine: u32,
+    operation: OneOperation,
+    format: u32,
+    mode: u32,
+    to: u32,
+    x: u64,
+    answer: &mut Answer,
+) -> u32
+    ensures { let call = machine_call (one_code operation) to x 0 0 in
+        IsMachineReply (known_machine_call (flagged_kind_coded format) (mode_coded mode) call
+        (machine_coded machine)) answer.old answer.new result }
+{
+    if let Some(known) = known_setting(machine, mode) {
+        let call = OneWordOnMachine {
+            machine: known.machine,
+            round: known.round,
+            operation,
+            to,
+            x,
+        };
+        if let Some(code) = fill_short_coded(format, known.machine, call, answer) {
+            return code;
+        }
+    }
+    any_of_one(
+        machine,
+        operation,
+        format,
+        mode,
+        to,
+        Halves::of_word(x),
+        answer,
+    )
+}
+
+/// The same as `apfloat_machine`, of an operation on one value that is no word: few formats have it.
+#[inline(always)]
+fn one_value_on_machine(
+    machine: u32,
+    operation: OneOperation,
+    format: u32,
+    mode: u32,
+    to: u32,
+    x: Halves,
+    answer: &mut Answer,
+) -> u32
+    ensures { let call = machine_call (one_code operation) to (whole x) 0 0 in
+        IsMachineReply (known_machine_call (flagged_kind_coded format) (mode_coded mode) call
+        (machine_coded machine)) answer.old answer.new result }
+{
+    if let Some(known) = known_setting(machine, mode) {
+        let call = OneOnMachine {
+            machine: known.machine,
+            round: known.round,
+            operation,
+            to,
+            x: x.number(),
+        };
+        if let Some(code) = fill_wide_coded(format, known.machine, call, answer) {
+            return code;
+        }
+    }
+    any_of_one(machine, operation, format, mode, to, x, answer)
+}
+
+/// The same as `apfloat_machine`, of any operation on one value.
+#[inline(never)]
+fn any_of_one(
+    machine: u32,
+    operation: OneOperation,
+    format: u32,
+    mode: u32,
+    to: u32,
+    x: Halves,
+    answer: &mut Answer,
+) -> u32
+    ensures { let call = machine_call (one_code operation) to (whole x) 0 0 in
+        IsMachineReply (known_machine_call (flagged_kind_coded format) (mode_coded mode) call
+        (machine_coded machine)) answer.old answer.new result }
+{
+    let code = one_code(operation);
+    any_on_machine(machine, code, format, mode, to, x, NOTHING, NOTHING, answer)
 }
 
 /// The same as `apfloat_machine`, of an operation on two values.
 #[inline(always)]
 fn two_on_machine(
     machine: u32,
-    operation: u32,
+    arithmetic: Arithmetic,
     format: u32,
     mode: u32,
     x: Halves,
     y: Halves,
     answer: &mut Answer,
 ) -> u32
-    ensures { let call = machine_call operation 0 (whole x) (whole y) 0 in
+    ensures { let call = machine_call (two_code arithmetic) 0 (whole x) (whole y) 0 in
         IsMachineReply (known_machine_call (flagged_kind_coded format) (mode_coded mode) call
         (machine_coded machine)) answer.old answer.new result }
 {
     if let Some((x, y)) = two_words(x.number(), y.number()) {
-        let (x, y) = (Halves::of_word(x), Halves::of_word(y));
-        on_machine(machine, operation, format, mode, 0, x, y, NOTHING, answer)
+        two_words_on_machine(machine, arithmetic, format, mode, x, y, answer)
     } else {
-        wide_on_machine(machine, operation, format, mode, 0, x, y, NOTHING, answer)
+        two_values_on_machine(machine, arithmetic, format, mode, x, y, answer)
     }
+}
+
+/// The same as `apfloat_machine`, of an operation on two words.
+#[inline(always)]
+fn two_words_on_machine(
+    machine: u32,
+    arithmetic: Arithmetic,
+    format: u32,
+    mode: u32,
+    x: u64,
+    y: u64,
+    answer: &mut Answer,
+) -> u32
+    ensures { let call = machine_call (two_code arithmetic) 0 x y 0 in
+        IsMachineReply (known_machine_call (flagged_kind_coded format) (mode_coded mode) call
+        (machine_coded machine)) answer.old answer.new result }
+{
+    if let Some(known) = known_setting(machine, mode) {
+        let call = TwoWordsOnMachine {
+            machine: known.machine,
+            round: known.round,
+            arithmetic,
+            x,
+            y,
+        };
+        if let Some(code) = fill_short_coded(format, known.machine, call, answer) {
+            return code;
+        }
+    }
+    let (x, y) = (Halves::of_word(x), Halves::of_word(y));
+    any_of_two(machine, arithmetic, format, mode, x, y, answer)
+}
+
+/// The same as `apfloat_machine`, of an operation on two values that are not both words.
+#[inline(always)]
+fn two_values_on_machine(
+    machine: u32,
+    arithmetic: Arithmetic,
+    format: u32,
+    mode: u32,
+    x: Halves,
+    y: Halves,
+    answer: &mut Answer,
+) -> u32
+    ensures { let call = machine_call (two_code arithmetic) 0 (whole x) (whole y) 0 in
+        IsMachineReply (known_machine_call (flagged_kind_coded format) (mode_coded mode) call
+        (machine_coded machine)) answer.old answer.new result }
+{
+    if let Some(known) = known_setting(machine, mode) {
+        let call = TwoOnMachine {
+            machine: known.machine,
+            round: known.round,
+            arithmetic,
+            x: x.number(),
+            y: y.number(),
+        };
+        if let Some(code) = fill_wide_coded(format, known.machine, call, answer) {
+            return code;
+        }
+    }
+    any_of_two(machine, arithmetic, format, mode, x, y, answer)
+}
+
+/// The same as `apfloat_machine`, of any operation on two values.
+#[inline(never)]
+fn any_of_two(
+    machine: u32,
+    arithmetic: Arithmetic,
+    format: u32,
+    mode: u32,
+    x: Halves,
+    y: Halves,
+    answer: &mut Answer,
+) -> u32
+    ensures { let call = machine_call (two_code arithmetic) 0 (whole x) (whole y) 0 in
+        IsMachineReply (known_machine_call (flagged_kind_coded format) (mode_coded mode) call
+        (machine_coded machine)) answer.old answer.new result }
+{
+    let code = two_code(arithmetic);
+    any_on_machine(machine, code, format, mode, 0, x, y, NOTHING, answer)
 }
 
 /// The same as `apfloat_machine`, of the fused sum.
@@ -1605,42 +2090,71 @@ fn fused_on_machine(
         (machine_coded machine)) answer.old answer.new result }
 {
     if let Some((x, y, z)) = three_words(x.number(), y.number(), z.number()) {
-        let (x, y, z) = (Halves::of_word(x), Halves::of_word(y), Halves::of_word(z));
-        on_machine(machine, 7, format, mode, 0, x, y, z, answer)
+        fused_words_on_machine(machine, format, mode, x, y, z, answer)
     } else {
-        wide_on_machine(machine, 7, format, mode, 0, x, y, z, answer)
+        fused_values_on_machine(machine, format, mode, x, y, z, answer)
     }
 }
 
-/// The same as `on_machine`, of operands that are not all words: few formats have them.
+/// The same as `apfloat_machine`, of the fused sum of words.
 #[inline(always)]
-fn wide_on_machine(
+fn fused_words_on_machine(
     machine: u32,
-    operation: u32,
     format: u32,
     mode: u32,
-    to: u32,
+    x: u64,
+    y: u64,
+    z: u64,
+    answer: &mut Answer,
+) -> u32
+    ensures { let call = machine_call 7 0 x y z in
+        IsMachineReply (known_machine_call (flagged_kind_coded format) (mode_coded mode) call
+        (machine_coded machine)) answer.old answer.new result }
+{
+    if let Some(known) = known_setting(machine, mode) {
+        let call = FusedWordsOnMachine {
+            machine: known.machine,
+            round: known.round,
+            x,
+            y,
+            z,
+        };
+        if let Some(code) = fill_short_coded(format, known.machine, call, answer) {
+            return code;
+        }
+    }
+    let (x, y, z) = (Halves::of_word(x), Halves::of_word(y), Halves::of_word(z));
+    any_on_machine(machine, 7, format, mode, 0, x, y, z, answer)
+}
+
+/// The same as `apfloat_machine`, of the fused sum of values that are not all words.
+#[inline(always)]
+fn fused_values_on_machine(
+    machine: u32,
+    format: u32,
+    mode: u32,
     x: Halves,
     y: Halves,
     z: Halves,
     answer: &mut Answer,
 ) -> u32
-    ensures { let call = machine_call operation to (whole x) (whole y) (whole z) in
+    ensures { let call = machine_call 7 0 (whole x) (whole y) (whole z) in
         IsMachineReply (known_machine_call (flagged_kind_coded format) (mode_coded mode) call
         (machine_coded machine)) answer.old answer.new result }
 {
-    match known_wide_operation(machine, operation, format, mode, to, x, y, z) {
-        Some(known) => {
-            let KnownOperation {
-                machine,
-                format,
-                round,
-                operation,
-            } = known;
-            operated(machine, format, round, operation, answer)
+    if let Some(known) = known_setting(machine, mode) {
+        let call = FusedOnMachine {
+            machine: known.machine,
+            round: known.round,
+            x: x.number(),
+            y: y.number(),
+            z: z.number(),
+        };
+        if let Some(code) = fill_wide_coded(format, known.machine, call, answer) {
+            return code;
         }
-        None => any_on_machine(machine, operation, format, mode, to, x, y, z, answer),
     }
+    any_on_machine(machine, 7, format, mode, 0, x, y, z, answer)
 }
 
 /// The same as `apfloat_machine`, of a conversion.
@@ -1657,24 +2171,84 @@ fn converted_on_machine(
         IsMachineReply (known_machine_call (flagged_kind_coded format) (mode_coded mode) call
         (machine_coded machine)) answer.old answer.new result }
 {
-    match known_source(machine, format, mode) {
-        Some(known) => {
-            let call = ConversionToCode {
-                to,
-                machine: known.machine,
-                round: known.round,
-                x: x.number(),
-            };
-            let source = FlaggedFormat::AfterRounding(known.source.format).built_in();
-            match source.fill(call, answer) {
-                Some(code) => code,
-                None => {
-                    any_on_machine(machine, 11, format, mode, to, x, NOTHING, NOTHING, answer)
-                }
-            }
-        }
-        None => any_on_machine(machine, 11, format, mode, to, x, NOTHING, NOTHING, answer),
+    if let Some(word) = one_word(x.number()) {
+        converted_word_on_machine(machine, format, mode, to, word, answer)
+    } else {
+        converted_value_on_machine(machine, format, mode, to, x, answer)
     }
+}
+
+/// The same as `apfloat_machine`, of a conversion of a word: all arguments are in registers.
+#[inline(never)]
+fn converted_word_on_machine(
+    machine: u32,
+    format: u32,
+    mode: u32,
+    to: u32,
+    x: u64,
+    answer: &mut Answer,
+) -> u32
+    ensures { let call = conversion_call (flagged_kind_coded to) x in
+        IsMachineReply (known_machine_call (flagged_kind_coded format) (mode_coded mode) call
+        (machine_coded machine)) answer.old answer.new result }
+{
+    if let Some(known) = known_setting(machine, mode) {
+        let call = ConversionToCode {
+            to,
+            machine: known.machine,
+            round: known.round,
+            x: x as u128,
+        };
+        if let Some(Some(code)) = fill_coded_without_rule(format, call, answer) {
+            return code;
+        }
+    }
+    any_converted_on_machine(machine, format, mode, to, Halves::of_word(x), answer)
+}
+
+/// The same as `apfloat_machine`, of a conversion of a value that is no word.
+#[inline(never)]
+fn converted_value_on_machine(
+    machine: u32,
+    format: u32,
+    mode: u32,
+    to: u32,
+    x: Halves,
+    answer: &mut Answer,
+) -> u32
+    ensures { let call = conversion_call (flagged_kind_coded to) (whole x) in
+        IsMachineReply (known_machine_call (flagged_kind_coded format) (mode_coded mode) call
+        (machine_coded machine)) answer.old answer.new result }
+{
+    if let Some(known) = known_setting(machine, mode) {
+        let call = ConversionToCode {
+            to,
+            machine: known.machine,
+            round: known.round,
+            x: x.number(),
+        };
+        if let Some(Some(code)) = fill_coded_without_rule(format, call, answer) {
+            return code;
+        }
+    }
+    any_converted_on_machine(machine, format, mode, to, x, answer)
+}
+
+/// The same as `apfloat_machine`, of any conversion.
+#[inline(never)]
+fn any_converted_on_machine(
+    machine: u32,
+    format: u32,
+    mode: u32,
+    to: u32,
+    x: Halves,
+    answer: &mut Answer,
+) -> u32
+    ensures { let call = conversion_call (flagged_kind_coded to) (whole x) in
+        IsMachineReply (known_machine_call (flagged_kind_coded format) (mode_coded mode) call
+        (machine_coded machine)) answer.old answer.new result }
+{
+    any_on_machine(machine, 11, format, mode, to, x, NOTHING, NOTHING, answer)
 }
 
 /// The same as `apfloat_machine`, of any operation, and the errors of all.

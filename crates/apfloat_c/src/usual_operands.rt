@@ -1,7 +1,7 @@
 //! Tests of the operands of machines by their bits: whether they fit in their format, and whether every machine gives
 //! the plain result of them. That is tested before the plain call, so that nothing has to be kept for after it.
 
-ghost use Rattle.std.specs.Prelude.{◌≡◌, ◌+◌, ◌^◌, ◌&&◌, ◌<◌, true, IsTrue, IfSome};
+ghost use Rattle.std.specs.Prelude.{◌≡◌, ◌+◌, ◌^◌, ◌%◌, ◌&&◌, ◌<◌, true, IsTrue, IfSome};
 ghost use Rattle.rustc_apfloat.specs.FlaggedTypes.{constants_of};
 ghost use Rattle.apfloat_c.specs.MachineCalls.{are_usual, are_usual_of_three, divides, fits, is_divisor, is_number};
 ghost use Rattle.apfloat_c.specs.MachineCalls.{is_root_of};
@@ -103,6 +103,15 @@ fn power_of_two(places: usize) -> u128
     1 << places
 }
 
+/// So many of the lowest digits of a number, by a mask, as the plain call has them.
+#[inline(always)]
+fn lowest(number: u128, places: usize) -> u128
+    requires { places < 128 }
+    ensures { result ≡ number % 2 ^ places }
+{
+    number & (power_of_two(places) - 1)
+}
+
 /// Whether the bits are those of a normal number, in a format with an explicit integer bit: it is set.
 #[inline(always)]
 fn is_written_normal<S: Flagged>(bits: u128) -> bool
@@ -112,9 +121,9 @@ fn is_written_normal<S: Flagged>(bits: u128) -> bool
     ensures { IsTrue result → is_divisor (constants_of S.Flagged) bits ≡ true }
 {
     let above = power_of_two(S::PRECISION);
-    let exponents = power_of_two(S::EXP_BITS);
+    let biased = lowest(bits / above, S::EXP_BITS);
     let integer_bit = power_of_two(S::PRECISION - 1);
-    is_inner::<S>((bits / above % exponents) as u32) && integer_bit <= bits % above
+    is_inner::<S>(biased as u32) && integer_bit <= bits % above
 }
 
 /// Whether the bits are those of a normal number, whose exponent is not the greatest. Plain calls begin with the same

@@ -1,5 +1,5 @@
 use Rattle.std.proofs.Common.{subst}
-use Rattle.apfloat_c.proofs.answers.root_of_type_here.Goals as goal
+use Rattle.apfloat_c.proofs.answers.root.Goals as goal
 
 pub returns : goal.returns
 returns g c = record {
