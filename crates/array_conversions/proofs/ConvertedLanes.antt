@@ -1,5 +1,6 @@
 -- A converted number is a converted value.
-use Rattle.std.proofs.Common.{◌≡◌, ℕ, Bool, true, false, List, refl, sym, subst}
+use Rattle.std.proofs.Common.{◌≡◌, ℕ, Bool, true, false, List, refl, sym, subst, inl, inr}
+use Rattle.std.proofs.lemmas.Bool.{true≢false}
 use Rattle.apfloat_model.specs.bits.Layout.{Layout}
 use Rattle.apfloat_model.specs.formats.Format.{Format}
 use Rattle.apfloat_model.specs.formats.Datum.{Datum, finite}
@@ -8,7 +9,7 @@ use Rattle.lane_conversions.specs.declared.constants.Target.{Target}
 use Rattle.lane_conversions.specs.declared.plans.Plan.{Plan}
 use Rattle.lane_conversions.specs.declared.plans.ShortPlan.{ShortPlan}
 use Rattle.lane_conversions.specs.At.{format_at, layout_at}
-use Rattle.lane_conversions.specs.Lanes.{IsConvertedLane, finished, flags_of}
+use Rattle.lane_conversions.specs.Lanes.{IsLane, finished, flags_of}
 use Rattle.rustc_apfloat.specs.Conversions.{IsConversion}
 use Rattle.rustc_apfloat.specs.Lawful.{Constants, format_with, layout_with}
 use Rattle.rustc_apfloat.specs.declared.Round.{Round}
@@ -34,11 +35,19 @@ finished_by Saturated f g mode negative quanta rounded status loses it =
 finished_by (Finite nans) f g mode negative quanta rounded status loses it =
     record { rounded = rounded; is_conversion = it; value_is = refl }
 
+-- an infinity's or a NaN's, where no conversion saturates
+special_by : (overflow : Overflow) (f g : Format) (mode : Round) (special value : Datum) (status : ℕ) (loses : Bool)
+    → saturates overflow ≡ false → IsConversion f g mode special value status loses
+    → IsConversionBy overflow f g mode special value status loses
+special_by Rounded f g mode special value status loses kept it = it
+special_by Saturated f g mode special value status loses kept it = absurd (true≢false kept)
+special_by (Finite nans) f g mode special value status loses kept it = absurd (true≢false kept)
+
 pub lane_answers : (overflow : Overflow) (c d : Constants) (mode : Round) (bits : ℕ) (lane : Lane)
-    → IsConvertedLane (saturates overflow) (format_with c) (layout_with c) (format_with d)
+    → IsLane (saturates overflow) (format_with c) (layout_with c) (format_with d)
     (layout_with d) mode bits lane
     → IsAnswerFrom overflow c d mode bits (record { bits = lane.bits; outcome = outcome_of lane })
-lane_answers overflow c d mode bits lane it =
+lane_answers overflow c d mode bits lane (inl it) =
     record {
       value = finished (saturates overflow) (format_with d) it.negative it.rounded;
       loses = it.loses;
@@ -52,28 +61,43 @@ lane_answers overflow c d mode bits lane it =
       is_encoded = it.is_encoded;
       nan_is = it.nan_is;
     }
+lane_answers overflow c d mode bits lane (inr both) =
+    let it = both.1 in
+    record {
+      value = it.value;
+      loses = it.loses;
+      is_conversion =
+          subst
+          (λ (x : Datum). IsConversionBy overflow (format_with c) (format_with d) mode x it.value (flags_of lane)
+          it.loses)
+          (sym it.special_is)
+          (special_by overflow (format_with c) (format_with d) mode it.special it.value (flags_of lane) it.loses both.0
+          it.is_conversion);
+      is_encoded = it.is_encoded;
+      nan_is = it.nan_is;
+    }
 
 -- by the plan
 answers_by : (overflow : Overflow) (c d : Constants) (mode : Round) (target : Target) (by : Bool) (round : Round)
     (input output : List ℕ) (bits : ℕ) (lane : Lane) → format_at target ≡ format_with d
     → layout_at target ≡ layout_with d → by ≡ saturates overflow → round ≡ mode → bits ≡ number_of input
     → number_of output ≡ lane.bits
-    → IsConvertedLane by (format_with c) (layout_with c) (format_at target) (layout_at target) round bits lane
+    → IsLane by (format_with c) (layout_with c) (format_at target) (layout_at target) round bits lane
     → IsConvertedBy overflow c d mode input output (outcome_of lane)
 answers_by overflow c d mode target by round input output bits lane format layout by_is round_is read written it =
-    let there : IsConvertedLane (saturates overflow) (format_with c) (layout_with c) (format_with d)
+    let there : IsLane (saturates overflow) (format_with c) (layout_with c) (format_with d)
     (layout_with d) mode
     (number_of input) lane =
-    subst (λ (n : ℕ). IsConvertedLane (saturates overflow) (format_with c) (layout_with c) (format_with d)
+    subst (λ (n : ℕ). IsLane (saturates overflow) (format_with c) (layout_with c) (format_with d)
     (layout_with d)
     mode n lane) read
-    (subst (λ (r : Round). IsConvertedLane (saturates overflow) (format_with c) (layout_with c) (format_with d)
+    (subst (λ (r : Round). IsLane (saturates overflow) (format_with c) (layout_with c) (format_with d)
     (layout_with d) r bits lane) round_is
-    (subst (λ (b : Bool). IsConvertedLane b (format_with c) (layout_with c) (format_with d) (layout_with d) round
+    (subst (λ (b : Bool). IsLane b (format_with c) (layout_with c) (format_with d) (layout_with d) round
     bits lane) by_is
-    (subst (λ (l : Layout). IsConvertedLane by (format_with c) (layout_with c) (format_with d) l round
+    (subst (λ (l : Layout). IsLane by (format_with c) (layout_with c) (format_with d) l round
     bits lane) layout
-    (subst (λ (f : Format). IsConvertedLane by (format_with c) (layout_with c) f (layout_at target) round bits lane)
+    (subst (λ (f : Format). IsLane by (format_with c) (layout_with c) f (layout_at target) round bits lane)
     format it)))) in
     converted_from overflow c d mode input output (record { bits = lane.bits; outcome = outcome_of lane })
     (lane_answers overflow c d mode (number_of input) lane there) written
@@ -81,7 +105,7 @@ answers_by overflow c d mode target by round input output bits lane format layou
 pub plan_answers : (overflow : Overflow) (c d : Constants) (mode : Round) (plan : Plan) (input output : List ℕ)
     (bits : ℕ) (lane : Lane) → IsPlanFor overflow d mode plan → bits ≡ number_of input
     → number_of output ≡ lane.bits
-    → IsConvertedLane plan.saturates (format_with c) (layout_with c) (format_at plan.target) (layout_at plan.target)
+    → IsLane plan.saturates (format_with c) (layout_with c) (format_at plan.target) (layout_at plan.target)
     plan.round bits lane
     → IsConvertedBy overflow c d mode input output (outcome_of lane)
 plan_answers overflow c d mode plan input output bits lane is read written it =
@@ -92,7 +116,7 @@ pub short_plan_answers : (overflow : Overflow) (c d : Constants) (mode : Round) 
     (input output : List ℕ) (bits : ℕ) (lane : Lane) → IsShortPlanFor overflow d mode plan
     → bits ≡ number_of input
     → number_of output ≡ lane.bits
-    → IsConvertedLane plan.saturates (format_with c) (layout_with c) (format_at plan.target) (layout_at plan.target)
+    → IsLane plan.saturates (format_with c) (layout_with c) (format_at plan.target) (layout_at plan.target)
     plan.round bits lane
     → IsConvertedBy overflow c d mode input output (outcome_of lane)
 short_plan_answers overflow c d mode plan input output bits lane is read written it =
@@ -106,43 +130,54 @@ pub record AreCounted (lane : Lane) : Type 0 where
   pub inexact : raised 16 (outcome_of lane) ≡ lane.inexact
   pub underflow : raised 8 (outcome_of lane) ≡ lane.underflow
   pub overflow : raised 4 (outcome_of lane) ≡ lane.overflow
-  pub invalid : raised 1 (outcome_of lane) ≡ false
+  pub invalid : raised 1 (outcome_of lane) ≡ lane.invalid
 
-abbrev pub lane_with : ℕ → Bool → Bool → Bool → Bool → Lane
-lane_with bits inexact underflow overflow is_nan =
-    record { bits = bits; inexact = inexact; underflow = underflow; overflow = overflow; is_nan = is_nan }
+abbrev pub lane_with : ℕ → Bool → Bool → Bool → Bool → Bool → Lane
+lane_with bits inexact underflow overflow invalid is_nan =
+    record {
+      bits = bits;
+      inexact = inexact;
+      underflow = underflow;
+      overflow = overflow;
+      invalid = invalid;
+      is_nan = is_nan;
+    }
 
-flags_counted : (bits : ℕ) (inexact underflow overflow is_nan : Bool)
-    → AreCounted (lane_with bits inexact underflow overflow is_nan)
-flags_counted bits true true true is_nan = record { inexact = refl; underflow = refl; overflow = refl; invalid = refl }
-flags_counted bits true true false is_nan = record { inexact = refl; underflow = refl; overflow = refl; invalid = refl }
-flags_counted bits true false true is_nan = record { inexact = refl; underflow = refl; overflow = refl; invalid = refl }
-flags_counted bits true false false is_nan = record {
-  inexact = refl;
-  underflow = refl;
-  overflow = refl;
-  invalid = refl;
-}
-flags_counted bits false true true is_nan = record { inexact = refl; underflow = refl; overflow = refl; invalid = refl }
-flags_counted bits false true false is_nan = record {
-  inexact = refl;
-  underflow = refl;
-  overflow = refl;
-  invalid = refl;
-}
-flags_counted bits false false true is_nan = record {
-  inexact = refl;
-  underflow = refl;
-  overflow = refl;
-  invalid = refl;
-}
-flags_counted bits false false false is_nan = record {
-  inexact = refl;
-  underflow = refl;
-  overflow = refl;
-  invalid =
-      refl;
-}
+flags_counted : (bits : ℕ) (inexact underflow overflow invalid is_nan : Bool)
+    → AreCounted (lane_with bits inexact underflow overflow invalid is_nan)
+flags_counted bits true true true true is_nan =
+    record { inexact = refl; underflow = refl; overflow = refl; invalid = refl }
+flags_counted bits true true true false is_nan =
+    record { inexact = refl; underflow = refl; overflow = refl; invalid = refl }
+flags_counted bits true true false true is_nan =
+    record { inexact = refl; underflow = refl; overflow = refl; invalid = refl }
+flags_counted bits true true false false is_nan =
+    record { inexact = refl; underflow = refl; overflow = refl; invalid = refl }
+flags_counted bits true false true true is_nan =
+    record { inexact = refl; underflow = refl; overflow = refl; invalid = refl }
+flags_counted bits true false true false is_nan =
+    record { inexact = refl; underflow = refl; overflow = refl; invalid = refl }
+flags_counted bits true false false true is_nan =
+    record { inexact = refl; underflow = refl; overflow = refl; invalid = refl }
+flags_counted bits true false false false is_nan =
+    record { inexact = refl; underflow = refl; overflow = refl; invalid = refl }
+flags_counted bits false true true true is_nan =
+    record { inexact = refl; underflow = refl; overflow = refl; invalid = refl }
+flags_counted bits false true true false is_nan =
+    record { inexact = refl; underflow = refl; overflow = refl; invalid = refl }
+flags_counted bits false true false true is_nan =
+    record { inexact = refl; underflow = refl; overflow = refl; invalid = refl }
+flags_counted bits false true false false is_nan =
+    record { inexact = refl; underflow = refl; overflow = refl; invalid = refl }
+flags_counted bits false false true true is_nan =
+    record { inexact = refl; underflow = refl; overflow = refl; invalid = refl }
+flags_counted bits false false true false is_nan =
+    record { inexact = refl; underflow = refl; overflow = refl; invalid = refl }
+flags_counted bits false false false true is_nan =
+    record { inexact = refl; underflow = refl; overflow = refl; invalid = refl }
+flags_counted bits false false false false is_nan =
+    record { inexact = refl; underflow = refl; overflow = refl; invalid = refl }
 
 pub lane_counted : (lane : Lane) → AreCounted lane
-lane_counted lane = flags_counted lane.bits lane.inexact lane.underflow lane.overflow lane.is_nan
+lane_counted lane =
+    flags_counted lane.bits lane.inexact lane.underflow lane.overflow lane.invalid lane.is_nan

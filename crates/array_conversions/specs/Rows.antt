@@ -28,6 +28,6 @@ number_in half = if ltb (half % 2 ^ 15) (255 * 2 ^ 7) then half else 0
 abbrev pub lower_in : ℕ → ℕ → ℕ
 lower_in upper lower = if ltb (upper % 2 ^ 15) (255 * 2 ^ 7) then lower else 0
 
--- none of sixty-four upper halves is that of an infinity or a NaN
-abbrev pub AreFiniteHalves : List ℕ → Type 0
-AreFiniteHalves halves = (index : ℕ) → index < 64 → slice_index halves index % 2 ^ 15 < 255 * 2 ^ 7
+-- none of so many upper halves is that of an infinity or a NaN
+abbrev pub AreFiniteHalves : ℕ → List ℕ → Type 0
+AreFiniteHalves count halves = (index : ℕ) → index < count → slice_index halves index % 2 ^ 15 < 255 * 2 ^ 7

@@ -16,7 +16,7 @@ pub record IsShortPlanFor (overflow : Overflow) (d : Constants) (mode : Round) (
   pub saturates_is : plan.saturates ≡ saturates overflow
   pub round : plan.round ≡ mode
 
--- they are the upper halves of the words of the given values, rounded to odd
-abbrev pub AreHalvesOf : List ℕ → (ℕ → List ℕ) → Type 0
-AreHalvesOf halves given =
-    (index : ℕ) → index < 64 → slice_index halves index ≡ odd_quotient (number_of (given index)) (2 ^ 16)
+-- they are the upper halves of the words of so many given values, rounded to odd
+abbrev pub AreHalvesOf : ℕ → List ℕ → (ℕ → List ℕ) → Type 0
+AreHalvesOf count halves given =
+    (index : ℕ) → index < count → slice_index halves index ≡ odd_quotient (number_of (given index)) (2 ^ 16)

@@ -26,7 +26,7 @@ pub record IsPlanFor (overflow : Overflow) (d : Constants) (mode : Round) (plan 
   pub saturates_is : plan.saturates ≡ saturates overflow
   pub round : plan.round ≡ mode
 
--- the number of values and the counts of a block without infinities and NaNs
+-- the number of values and the counts of a block
 abbrev pub counts_with : FewCounts → ℕ → Counts
 counts_with few values =
     record {
@@ -34,14 +34,14 @@ counts_with few values =
       inexact = few.inexact;
       underflow = few.underflow;
       overflow = few.overflow;
-      invalid = 0;
+      invalid = few.invalid;
       nans = few.nans;
     }
 
 abbrev pub outcome_of : Lane → Outcome
 outcome_of lane = record { status = record { 0 = flags_of lane }; is_nan = lane.is_nan }
 
--- they are the upper and the lower halves of the words of the given values
-pub record AreHalves (uppers lowers : List ℕ) (given : ℕ → List ℕ) : Type 0 where
-  pub upper : (index : ℕ) → index < 64 → slice_index uppers index ≡ number_of (given index) / 2 ^ 16
-  pub lower : (index : ℕ) → index < 64 → slice_index lowers index ≡ number_of (given index) % 2 ^ 16
+-- they are the upper and the lower halves of the words of so many given values
+pub record AreHalves (count : ℕ) (uppers lowers : List ℕ) (given : ℕ → List ℕ) : Type 0 where
+  pub upper : (index : ℕ) → index < count → slice_index uppers index ≡ number_of (given index) / 2 ^ 16
+  pub lower : (index : ℕ) → index < count → slice_index lowers index ≡ number_of (given index) % 2 ^ 16

@@ -1,7 +1,8 @@
-//! Singles converted to formats of at most eight bits, sixty-four at a time, by their upper sixteen bits. The loops are
-//! as in `singles`, which also converts the last values.
+//! Singles converted to formats of at most eight bits, a block at a time, by their upper sixteen bits. The loops and
+//! the blocks are as in `singles`, which also converts the last values.
 
-ghost use Rattle.std.specs.Prelude.{◌≡◌, ℕ, ◌+◌, ◌*◌, ◌≤◌, ◌<◌, List, length, slice_index, IsTrue};
+ghost use Rattle.std.specs.Prelude.{◌≡◌, ℕ, ◌+◌, ◌*◌, ◌%◌, ◌^◌, ◌≤◌, ◌<◌, List, length, slice_index, false, IsTrue};
+ghost use Rattle.lane_conversions.specs.Sides.{LeadsPast};
 ghost use Rattle.lane_conversions.specs.Targets.{IsShort, IsSingle, IsTarget};
 ghost use Rattle.rustc_apfloat.specs.declared.Round.{Round as Mode};
 ghost use Rattle.rustc_apfloat.specs.Lawful.{Constants, format_with, layout_with};
@@ -16,47 +17,47 @@ ghost use Rattle.array_conversions.specs.Widths.{bytes_of};
 use crate::bytes::write_number;
 use crate::counts::Counts;
 use crate::single_targets::{is_short_target, saturates, target_of};
-use crate::singles::{all_counts, convert_singles, counted};
-use crate::specials::{BLOCK, are_finite, convert_specials, number_in, word_of};
+use crate::singles::{all_counts, convert_last, convert_singles, counted};
+use crate::specials::{BLOCK, LONG, are_finite, convert_specials, number_in, word_of};
 use crate::widths::{Widths, bytes_of};
-use lane_conversions::{FewCounts, ShortPlan, convert_half, short_plan_of, upper_half};
+use lane_conversions::{
+    FewCounts, ShortPlan, convert_half, delivers_past, short_plan_of, upper_half,
+};
 use rustc_apfloat::Round;
 use rustc_apfloat::ieee::Flagged;
 use saturating_conversions::Overflow;
 
-/// The upper sixteen bits of sixty-four singles.
+/// Reads the upper sixteen bits of the singles of a block.
 #[inline(always)]
-fn halves_of(bytes: &[u8]) -> [u16; 64]
-    requires { length bytes.now ≡ 256 }
-    ensures { AreHalvesOf result (λ index. value_at 4 index bytes.now) }
+fn read_halves<const N: usize>(bytes: &[u8], halves: &mut [u16; N])
+    requires { length bytes.now ≡ N * 4 }
+    ensures { AreHalvesOf N halves.new (λ index. value_at 4 index bytes.now) }
 {
-    let mut halves = [0; BLOCK];
-    for index in 0..BLOCK {
+    for index in 0..N {
         let from = index * 4;
         halves[index] = upper_half(word_of(&bytes[from..from + 4]));
     }
-    halves
 }
 
 /// Zeros in place of infinities and NaNs.
 #[inline(never)]
-fn clear_specials(halves: &mut [u16; 64])
-    ensures finite { AreFiniteHalves halves.new }
-    ensures kept { (index : ℕ) → index < 64
+fn clear_specials<const N: usize>(halves: &mut [u16; N])
+    ensures finite { AreFiniteHalves N halves.new }
+    ensures kept { (index : ℕ) → index < N
         → slice_index halves.new index ≡ number_in (slice_index halves.old index) }
 {
-    for index in 0..BLOCK {
+    for index in 0..N {
         halves[index] = number_in(halves[index]);
     }
 }
 
 /// The same, unless there are none. Returns whether there are none.
 #[inline(always)]
-fn leave_numbers(halves: &mut [u16; 64]) -> bool
-    ensures finite { AreFiniteHalves halves.new }
-    ensures kept { (index : ℕ) → index < 64
+fn leave_numbers<const N: usize>(halves: &mut [u16; N]) -> bool
+    ensures finite { AreFiniteHalves N halves.new }
+    ensures kept { (index : ℕ) → index < N
         → slice_index halves.new index ≡ number_in (slice_index halves.old index) }
-    ensures all { IsTrue result → AreFiniteHalves halves.old }
+    ensures all { IsTrue result → AreFiniteHalves N halves.old }
 {
     if are_finite(halves) {
         true
@@ -66,41 +67,76 @@ fn leave_numbers(halves: &mut [u16; 64]) -> bool
     }
 }
 
-/// Converts sixty-four numbers, each to its place.
+/// Converts the values of a block, each to its place. With `specials`, infinities and NaNs may be among them.
 #[inline(always)]
-fn convert_halves(plan: ShortPlan, width: usize, halves: &[u16; 64], output: &mut [u8]) -> FewCounts
+fn convert_halves<const N: usize>(
+    plan: ShortPlan,
+    specials: bool,
+    width: usize,
+    halves: &[u16; N],
+    output: &mut [u8],
+) -> FewCounts
     requires width { plan.target.bits ≤ 8 * width }
-    requires finite { AreFiniteHalves halves.now }
-    requires output { length output.old ≡ 64 * width }
+    requires finite { specials ≡ false → AreFiniteHalves N halves.now }
+    requires leads { IsTrue specials → LeadsPast plan.saturates plan.round }
+    requires few { N < 2 ^ 16 }
+    requires output { length output.old ≡ N * width }
     ensures { (overflow : Overflow) (c d : Constants) (mode : Mode) (given : ℕ → List ℕ)
         → IsSingle (format_with c) (layout_with c) → IsShortPlanFor overflow d mode plan
-        → AreHalvesOf halves.now given
-        → IsRow (IsConvertedBy overflow c d mode) given width 64 output.new
-        (counts_with result 64) }
+        → AreHalvesOf N halves.now given
+        → IsRow (IsConvertedBy overflow c d mode) given width N output.new (counts_with result N) }
 {
     let mut few = FewCounts {
         inexact: 0,
         underflow: 0,
         overflow: 0,
+        invalid: 0,
         nans: 0,
     };
-    for index in 0..BLOCK {
+    for index in 0..N {
         let from = index * width;
         let target = &mut output[from..from + width];
-        let lane = convert_half(plan, halves[index]);
+        let lane = convert_half(plan, specials, halves[index]);
         write_number(u128::from(lane.bits), target);
         few = counted(few, lane);
     }
     few
 }
 
-/// Converts sixty-four values.
+/// Converts the values of a block, where infinities and NaNs take the same steps as numbers.
 #[inline(always)]
-fn convert_block<S: Flagged, T: Flagged>(
+fn convert_alike<const N: usize>(
+    plan: ShortPlan,
+    width: usize,
+    halves: &[u16; N],
+    output: &mut [u8],
+) -> Counts
+    requires width { plan.target.bits ≤ 8 * width }
+    requires leads { LeadsPast plan.saturates plan.round }
+    requires few { N < 2 ^ 16 }
+    requires output { length output.old ≡ N * width }
+    ensures { (overflow : Overflow) (c d : Constants) (mode : Mode) (given : ℕ → List ℕ)
+        → IsSingle (format_with c) (layout_with c) → IsShortPlanFor overflow d mode plan
+        → AreHalvesOf N halves.now given
+        → IsRow (IsConvertedBy overflow c d mode) given width N output.new result }
+{
+    if are_finite(halves) {
+        let few = convert_halves(plan, false, width, halves, output);
+        all_counts(few, N)
+    } else {
+        let few = convert_halves(plan, true, width, halves, output);
+        all_counts(few, N)
+    }
+}
+
+/// Converts the values of a block, its infinities and NaNs apart.
+#[inline(always)]
+fn convert_apart<S: Flagged, T: Flagged, const N: usize>(
     plan: ShortPlan,
     overflow: Overflow,
     round: Round,
     widths: Widths,
+    halves: &mut [u16; N],
     input: &[u8],
     output: &mut [u8],
 ) -> Counts
@@ -112,25 +148,63 @@ fn convert_block<S: Flagged, T: Flagged>(
     requires short { IsTarget (format_of T.Flagged) (layout_of T.Flagged) T.MIN_EXP T.MAX_EXP }
     requires target { widths.target ≡ bytes_of T.BITS }
     requires written_width { T.BITS ≤ 8 * bytes_of T.BITS }
-    requires input { length input.now ≡ 64 * widths.source }
-    requires output { length output.old ≡ 64 * widths.target }
+    requires halves { AreHalvesOf N halves.old (λ index. value_at 4 index input.now) }
+    requires groups { N % 16 ≡ 0 }
+    requires few { N < 2 ^ 16 }
+    requires input { length input.now ≡ N * widths.source }
+    requires output { length output.old ≡ N * widths.target }
     ensures { let c = constants_of S.Flagged in let d = constants_of T.Flagged in
-        IsBlock (IsConvertedBy overflow c d round) widths.source widths.target 64 input.now
+        IsBlock (IsConvertedBy overflow c d round) widths.source widths.target N input.now
         output.new result }
 {
-    let mut halves = halves_of(input);
-    let finite = leave_numbers(&mut halves);
-    let counts = all_counts(convert_halves(plan, widths.target, &halves, output));
+    let finite = leave_numbers(halves);
+    let few = convert_halves(plan, false, widths.target, halves, output);
+    let counts = all_counts(few, N);
     if finite {
         counts
     } else {
-        convert_specials::<S, T>(overflow, round, widths.target, counts, input, output)
+        convert_specials::<S, T, N>(overflow, round, widths.target, counts, input, output)
     }
 }
 
-/// Converts the first values of an array, in blocks of sixty-four.
+/// Converts the values of a block.
 #[inline(always)]
-fn convert_blocks<S: Flagged, T: Flagged>(
+fn convert_block<S: Flagged, T: Flagged, const N: usize>(
+    plan: ShortPlan,
+    overflow: Overflow,
+    round: Round,
+    widths: Widths,
+    halves: &mut [u16; N],
+    input: &[u8],
+    output: &mut [u8],
+) -> Counts
+    requires read { S.PRECISION < S.BITS }
+    requires written { T.PRECISION < T.BITS }
+    requires single { IsSingle (format_of S.Flagged) (layout_of S.Flagged) }
+    requires plan { IsShortPlanFor overflow (constants_of T.Flagged) round plan }
+    requires source { widths.source ≡ 4 }
+    requires short { IsTarget (format_of T.Flagged) (layout_of T.Flagged) T.MIN_EXP T.MAX_EXP }
+    requires target { widths.target ≡ bytes_of T.BITS }
+    requires written_width { T.BITS ≤ 8 * bytes_of T.BITS }
+    requires groups { N % 16 ≡ 0 }
+    requires few { N < 2 ^ 16 }
+    requires input { length input.now ≡ N * widths.source }
+    requires output { length output.old ≡ N * widths.target }
+    ensures { let c = constants_of S.Flagged in let d = constants_of T.Flagged in
+        IsBlock (IsConvertedBy overflow c d round) widths.source widths.target N input.now
+        output.new result }
+{
+    read_halves(input, halves);
+    if delivers_past(plan.target, plan.positive, plan.negative) {
+        convert_alike(plan, widths.target, halves, output)
+    } else {
+        convert_apart::<S, T, N>(plan, overflow, round, widths, halves, input, output)
+    }
+}
+
+/// Converts the first values of an array, in blocks.
+#[inline(always)]
+fn convert_whole<S: Flagged, T: Flagged, const N: usize>(
     plan: ShortPlan,
     overflow: Overflow,
     round: Round,
@@ -148,26 +222,157 @@ fn convert_blocks<S: Flagged, T: Flagged>(
     requires short { IsTarget (format_of T.Flagged) (layout_of T.Flagged) T.MIN_EXP T.MAX_EXP }
     requires target { widths.target ≡ bytes_of T.BITS }
     requires written_width { T.BITS ≤ 8 * bytes_of T.BITS }
-    requires blocks { blocks * 64 ≤ count }
+    requires groups { N % 16 ≡ 0 }
+    requires few { N < 2 ^ 16 }
+    requires blocks { blocks * N ≤ count }
     requires input { length input.now ≡ count * widths.source }
     requires output { length output.old ≡ count * widths.target }
     ensures { let c = constants_of S.Flagged in let d = constants_of T.Flagged in
-        IsBlock (IsConvertedBy overflow c d round) widths.source widths.target (blocks * 64)
+        IsBlock (IsConvertedBy overflow c d round) widths.source widths.target (blocks * N)
         input.now output.new result }
 {
     let mut counts = Counts::NONE;
+    let mut halves = [0; N];
     for index in 0..blocks {
-        let (first, last) = (index * BLOCK, index * BLOCK + BLOCK);
+        let (first, last) = (index * N, index * N + N);
         let source = &input[first * widths.source..last * widths.source];
         let target = &mut output[first * widths.target..last * widths.target];
-        counts.add(convert_block::<S, T>(plan, overflow, round, widths, source, target));
+        counts.add(convert_block::<S, T, N>(
+            plan,
+            overflow,
+            round,
+            widths,
+            &mut halves,
+            source,
+            target,
+        ));
     }
     counts
 }
 
+/// The same, in less time where there are none.
+#[inline(always)]
+fn convert_blocks<S: Flagged, T: Flagged, const N: usize>(
+    plan: ShortPlan,
+    overflow: Overflow,
+    round: Round,
+    widths: Widths,
+    blocks: usize,
+    count: usize,
+    input: &[u8],
+    output: &mut [u8],
+) -> Counts
+    requires read { S.PRECISION < S.BITS }
+    requires written { T.PRECISION < T.BITS }
+    requires single { IsSingle (format_of S.Flagged) (layout_of S.Flagged) }
+    requires plan { IsShortPlanFor overflow (constants_of T.Flagged) round plan }
+    requires source { widths.source ≡ 4 }
+    requires short { IsTarget (format_of T.Flagged) (layout_of T.Flagged) T.MIN_EXP T.MAX_EXP }
+    requires target { widths.target ≡ bytes_of T.BITS }
+    requires written_width { T.BITS ≤ 8 * bytes_of T.BITS }
+    requires groups { N % 16 ≡ 0 }
+    requires few { N < 2 ^ 16 }
+    requires blocks { blocks * N ≤ count }
+    requires input { length input.now ≡ count * widths.source }
+    requires output { length output.old ≡ count * widths.target }
+    ensures { let c = constants_of S.Flagged in let d = constants_of T.Flagged in
+        IsBlock (IsConvertedBy overflow c d round) widths.source widths.target (blocks * N)
+        input.now output.new result }
+{
+    if blocks == 0 {
+        Counts::NONE
+    } else {
+        convert_whole::<S, T, N>(plan, overflow, round, widths, blocks, count, input, output)
+    }
+}
+
 /// Converts `count` singles, each in its place, by a plan.
 #[inline(always)]
-fn convert_by_plan<S: Flagged, T: Flagged>(
+fn convert_few<S: Flagged, T: Flagged>(
+    plan: ShortPlan,
+    overflow: Overflow,
+    round: Round,
+    count: usize,
+    input: &[u8],
+    output: &mut [u8],
+) -> Counts
+    requires read { S.PRECISION < S.BITS }
+    requires written { T.PRECISION < T.BITS }
+    requires single { IsSingle (format_of S.Flagged) (layout_of S.Flagged) }
+    requires plan { IsShortPlanFor overflow (constants_of T.Flagged) round plan }
+    requires short { IsTarget (format_of T.Flagged) (layout_of T.Flagged) T.MIN_EXP T.MAX_EXP }
+    requires width { T.BITS ≤ 8 * bytes_of T.BITS }
+    requires input { length input.now ≡ count * 4 }
+    requires output { length output.old ≡ count * bytes_of T.BITS }
+    ensures { let c = constants_of S.Flagged in let d = constants_of T.Flagged in
+        IsBlock (IsConvertedBy overflow c d round) 4 (bytes_of T.BITS) count input.now output.new
+        result }
+{
+    if count < BLOCK {
+        return convert_last::<S, T>(overflow, round, count, input, output);
+    }
+    let widths = Widths {
+        source: 4,
+        target: bytes_of(T::BITS),
+    };
+    let blocks = count / BLOCK;
+    let mut counts = convert_blocks::<S, T, BLOCK>(
+        plan, overflow, round, widths, blocks, count, input, output,
+    );
+    let done = blocks * BLOCK;
+    if done == count {
+        return counts;
+    }
+    let rest = count - done;
+    let source = &input[done * widths.source..count * widths.source];
+    let target = &mut output[done * widths.target..count * widths.target];
+    counts.add(convert_last::<S, T>(overflow, round, rest, source, target));
+    counts
+}
+
+/// Converts `count` singles, fewer than a long block has, each in its place. It makes the plan anew: one that is passed
+/// to it would not be a constant for its callers either.
+#[inline(never)]
+fn convert_rest<S: Flagged, T: Flagged>(
+    overflow: Overflow,
+    round: Round,
+    count: usize,
+    input: &[u8],
+    output: &mut [u8],
+) -> Counts
+    requires read { S.PRECISION < S.BITS }
+    requires written { T.PRECISION < T.BITS }
+    requires single { IsSingle (format_of S.Flagged) (layout_of S.Flagged) }
+    requires target { IsTarget (format_of T.Flagged) (layout_of T.Flagged) T.MIN_EXP T.MAX_EXP }
+    requires short { IsShort (layout_of T.Flagged) T.PRECISION T.MIN_EXP }
+    requires width { T.BITS ≤ 8 * bytes_of T.BITS }
+    requires input { length input.now ≡ count * 4 }
+    requires output { length output.old ≡ count * bytes_of T.BITS }
+    ensures { let c = constants_of S.Flagged in let d = constants_of T.Flagged in
+        IsBlock (IsConvertedBy overflow c d round) 4 (bytes_of T.BITS) count input.now output.new
+        result }
+{
+    let target = target_of::<T>();
+    let saturates = saturates(overflow);
+    match (round, saturates) {
+        (Round::NearestTiesToEven, false) => {
+            let plan = short_plan_of(target, false, Round::NearestTiesToEven);
+            convert_few::<S, T>(plan, overflow, round, count, input, output)
+        }
+        (Round::NearestTiesToEven, true) => {
+            let plan = short_plan_of(target, true, Round::NearestTiesToEven);
+            convert_few::<S, T>(plan, overflow, round, count, input, output)
+        }
+        _ => {
+            let plan = short_plan_of(target, saturates, round);
+            convert_few::<S, T>(plan, overflow, round, count, input, output)
+        }
+    }
+}
+
+/// Converts `count` singles, each in its place, by a plan: in long blocks as long as there are enough values.
+#[inline(always)]
+fn convert_many<S: Flagged, T: Flagged>(
     plan: ShortPlan,
     overflow: Overflow,
     round: Round,
@@ -191,15 +396,15 @@ fn convert_by_plan<S: Flagged, T: Flagged>(
         source: 4,
         target: bytes_of(T::BITS),
     };
-    let blocks = count / BLOCK;
-    let mut counts = convert_blocks::<S, T>(
+    let blocks = count / LONG;
+    let mut counts = convert_blocks::<S, T, LONG>(
         plan, overflow, round, widths, blocks, count, input, output,
     );
-    let done = blocks * BLOCK;
+    let done = blocks * LONG;
     let rest = count - done;
     let source = &input[done * widths.source..count * widths.source];
     let target = &mut output[done * widths.target..count * widths.target];
-    counts.add(convert_singles::<S, T>(overflow, round, rest, source, target));
+    counts.add(convert_rest::<S, T>(overflow, round, rest, source, target));
     counts
 }
 
@@ -225,21 +430,21 @@ fn convert_short_singles<S: Flagged, T: Flagged>(
         IsBlock (IsConvertedBy overflow c d round) 4 (bytes_of T.BITS) count input.now output.new
         result }
 {
+    if count < LONG {
+        return convert_rest::<S, T>(overflow, round, count, input, output);
+    }
     let target = target_of::<T>();
     let saturates = saturates(overflow);
     match (round, saturates) {
         (Round::NearestTiesToEven, false) => {
             let plan = short_plan_of(target, false, Round::NearestTiesToEven);
-            convert_by_plan::<S, T>(plan, overflow, round, count, input, output)
+            convert_many::<S, T>(plan, overflow, round, count, input, output)
         }
         (Round::NearestTiesToEven, true) => {
             let plan = short_plan_of(target, true, Round::NearestTiesToEven);
-            convert_by_plan::<S, T>(plan, overflow, round, count, input, output)
+            convert_many::<S, T>(plan, overflow, round, count, input, output)
         }
-        _ => {
-            let plan = short_plan_of(target, saturates, round);
-            convert_by_plan::<S, T>(plan, overflow, round, count, input, output)
-        }
+        _ => convert_rest::<S, T>(overflow, round, count, input, output),
     }
 }
 

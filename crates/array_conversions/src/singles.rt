@@ -1,8 +1,9 @@
-//! Singles converted sixty-four at a time. The loops below have no jump that depends on a value, and compute all in
-//! words of sixteen bits, so that a compiler can work on several values at once.
+//! Singles converted a block at a time. The loops below have no jump that depends on a value, and compute all in words
+//! of sixteen bits, so that a compiler can work on several values at once.
 
-ghost use Rattle.std.specs.Prelude.{◌≡◌, ℕ, ◌+◌, ◌*◌, ◌/◌, ◌%◌, ◌^◌, ◌≤◌, ◌<◌, List, length, replicate, slice_index, IsTrue};
+ghost use Rattle.std.specs.Prelude.{◌≡◌, ℕ, ◌+◌, ◌*◌, ◌/◌, ◌%◌, ◌^◌, ◌≤◌, ◌<◌, List, length, replicate, slice_index, false, IsTrue};
 ghost use Rattle.lane_conversions.specs.FewCounts.{AreAtMost};
+ghost use Rattle.lane_conversions.specs.Sides.{LeadsPast};
 ghost use Rattle.lane_conversions.specs.Targets.{IsSingle, IsTarget};
 ghost use Rattle.rustc_apfloat.specs.declared.Round.{Round as Mode};
 ghost use Rattle.rustc_apfloat.specs.Lawful.{Constants, format_with, layout_with};
@@ -19,9 +20,9 @@ use crate::bytes::write_number;
 use crate::counts::Counts;
 use crate::one_by_one::convert_one_by_one;
 use crate::single_targets::{is_single, is_target, saturates, target_of};
-use crate::specials::{BLOCK, are_finite, convert_specials, lower_in, number_in, word_of};
+use crate::specials::{BLOCK, LONG, are_finite, convert_specials, lower_in, number_in, word_of};
 use crate::widths::{Widths, bytes_of};
-use lane_conversions::{FewCounts, Lane, Plan, convert_finite, plan_of, with_lane};
+use lane_conversions::{FewCounts, Lane, Plan, convert_single, delivers_past, plan_of, with_lane};
 use rustc_apfloat::Round;
 use rustc_apfloat::ieee::Flagged;
 use saturating_conversions::Overflow;
@@ -29,45 +30,29 @@ use saturating_conversions::Overflow;
 /// From how many values on it takes less time to convert a whole block than each of them.
 const FEWEST: usize = 20;
 
-/// The upper halves of the bits of sixty-four singles.
+/// Reads the upper and the lower halves of the bits of the singles of a block.
 #[inline(always)]
-fn uppers_of(bytes: &[u8]) -> [u16; 64]
-    requires { length bytes.now ≡ 256 }
-    ensures { (index : ℕ) → index < 64
-        → slice_index result index ≡ number_of (value_at 4 index bytes.now) / 2 ^ 16 }
+fn read_halves<const N: usize>(bytes: &[u8], uppers: &mut [u16; N], lowers: &mut [u16; N])
+    requires { length bytes.now ≡ N * 4 }
+    ensures { AreHalves N uppers.new lowers.new (λ index. value_at 4 index bytes.now) }
 {
-    let mut halves = [0; BLOCK];
-    for index in 0..BLOCK {
+    for index in 0..N {
         let from = index * 4;
-        halves[index] = (word_of(&bytes[from..from + 4]) / 0x1_0000) as u16;
+        let word = word_of(&bytes[from..from + 4]);
+        uppers[index] = (word / 0x1_0000) as u16;
+        lowers[index] = (word % 0x1_0000) as u16;
     }
-    halves
-}
-
-/// The lower halves.
-#[inline(always)]
-fn lowers_of(bytes: &[u8]) -> [u16; 64]
-    requires { length bytes.now ≡ 256 }
-    ensures { (index : ℕ) → index < 64
-        → slice_index result index ≡ number_of (value_at 4 index bytes.now) % 2 ^ 16 }
-{
-    let mut halves = [0; BLOCK];
-    for index in 0..BLOCK {
-        let from = index * 4;
-        halves[index] = (word_of(&bytes[from..from + 4]) % 0x1_0000) as u16;
-    }
-    halves
 }
 
 /// Zeros in place of infinities and NaNs.
 #[inline(never)]
-fn clear_specials(uppers: &mut [u16; 64], lowers: &mut [u16; 64])
-    ensures finite { AreFiniteHalves uppers.new }
+fn clear_specials<const N: usize>(uppers: &mut [u16; N], lowers: &mut [u16; N])
+    ensures finite { AreFiniteHalves N uppers.new }
     ensures kept { (input : List ℕ)
-        → AreHalves uppers.old lowers.old (λ index. value_at 4 index input)
-        → AreHalves uppers.new lowers.new (number_from 0 input) }
+        → AreHalves N uppers.old lowers.old (λ index. value_at 4 index input)
+        → AreHalves N uppers.new lowers.new (number_from 0 input) }
 {
-    for index in 0..BLOCK {
+    for index in 0..N {
         lowers[index] = lower_in(uppers[index], lowers[index]);
         uppers[index] = number_in(uppers[index]);
     }
@@ -75,12 +60,12 @@ fn clear_specials(uppers: &mut [u16; 64], lowers: &mut [u16; 64])
 
 /// The same, unless there are none. Returns whether there are none.
 #[inline(always)]
-fn leave_numbers(uppers: &mut [u16; 64], lowers: &mut [u16; 64]) -> bool
-    ensures finite { AreFiniteHalves uppers.new }
+fn leave_numbers<const N: usize>(uppers: &mut [u16; N], lowers: &mut [u16; N]) -> bool
+    ensures finite { AreFiniteHalves N uppers.new }
     ensures kept { (input : List ℕ)
-        → AreHalves uppers.old lowers.old (λ index. value_at 4 index input)
-        → AreHalves uppers.new lowers.new (number_from 0 input) }
-    ensures all { IsTrue result → AreFiniteHalves uppers.old }
+        → AreHalves N uppers.old lowers.old (λ index. value_at 4 index input)
+        → AreHalves N uppers.new lowers.new (number_from 0 input) }
+    ensures all { IsTrue result → AreFiniteHalves N uppers.old }
 {
     if are_finite(uppers) {
         true
@@ -93,7 +78,7 @@ fn leave_numbers(uppers: &mut [u16; 64], lowers: &mut [u16; 64]) -> bool
 /// The counts after one more value.
 #[inline(always)]
 pub(crate) fn counted(few: FewCounts, lane: Lane) -> FewCounts
-    requires { AreAtMost 63 few }
+    requires { AreAtMost 65534 few }
     ensures counts { (values : ℕ) → counts_with result (values + 1)
         ≡ with_outcome (counts_with few values) (outcome_of lane) }
     ensures most { (most : ℕ) → AreAtMost most few → AreAtMost (most + 1) result }
@@ -103,60 +88,92 @@ pub(crate) fn counted(few: FewCounts, lane: Lane) -> FewCounts
 
 /// All counts of a block.
 #[inline(always)]
-pub(crate) fn all_counts(few: FewCounts) -> Counts
-    ensures { result ≡ counts_with few 64 }
+pub(crate) fn all_counts(few: FewCounts, values: usize) -> Counts
+    ensures { result ≡ counts_with few values }
 {
     Counts {
-        values: 64,
+        values: values as u64,
         inexact: u64::from(few.inexact),
         underflow: u64::from(few.underflow),
         overflow: u64::from(few.overflow),
-        invalid: 0,
+        invalid: u64::from(few.invalid),
         nans: u64::from(few.nans),
     }
 }
 
-/// Converts sixty-four numbers, each to its place.
+/// Converts the values of a block, each to its place. With `specials`, infinities and NaNs may be among them.
 #[inline(always)]
-fn convert_halves(
+fn convert_halves<const N: usize>(
     plan: Plan,
+    specials: bool,
     width: usize,
-    uppers: &[u16; 64],
-    lowers: &[u16; 64],
+    uppers: &[u16; N],
+    lowers: &[u16; N],
     output: &mut [u8],
 ) -> FewCounts
     requires width { plan.target.bits ≤ 8 * width }
-    requires finite { AreFiniteHalves uppers.now }
-    requires output { length output.old ≡ 64 * width }
+    requires finite { specials ≡ false → AreFiniteHalves N uppers.now }
+    requires leads { IsTrue specials → LeadsPast plan.saturates plan.round }
+    requires few { N < 2 ^ 16 }
+    requires output { length output.old ≡ N * width }
     ensures { (overflow : Overflow) (c d : Constants) (mode : Mode) (given : ℕ → List ℕ)
         → IsSingle (format_with c) (layout_with c) → IsPlanFor overflow d mode plan
-        → AreHalves uppers.now lowers.now given
-        → IsRow (IsConvertedBy overflow c d mode) given width 64 output.new
-        (counts_with result 64) }
+        → AreHalves N uppers.now lowers.now given
+        → IsRow (IsConvertedBy overflow c d mode) given width N output.new (counts_with result N) }
 {
     let mut few = FewCounts {
         inexact: 0,
         underflow: 0,
         overflow: 0,
+        invalid: 0,
         nans: 0,
     };
-    for index in 0..BLOCK {
+    for index in 0..N {
         let from = index * width;
         let target = &mut output[from..from + width];
-        let lane = convert_finite(plan, uppers[index], lowers[index]);
+        let lane = convert_single(plan, specials, uppers[index], lowers[index]);
         write_number(u128::from(lane.bits), target);
         few = counted(few, lane);
     }
     few
 }
 
-/// Converts sixty-four values.
+/// Converts the values of a block, where infinities and NaNs take the same steps as numbers.
 #[inline(always)]
-fn convert_block<S: Flagged, T: Flagged>(
+fn convert_alike<const N: usize>(
+    plan: Plan,
+    width: usize,
+    uppers: &[u16; N],
+    lowers: &[u16; N],
+    output: &mut [u8],
+) -> Counts
+    requires width { plan.target.bits ≤ 8 * width }
+    requires leads { LeadsPast plan.saturates plan.round }
+    requires few { N < 2 ^ 16 }
+    requires output { length output.old ≡ N * width }
+    ensures { (overflow : Overflow) (c d : Constants) (mode : Mode) (given : ℕ → List ℕ)
+        → IsSingle (format_with c) (layout_with c) → IsPlanFor overflow d mode plan
+        → AreHalves N uppers.now lowers.now given
+        → IsRow (IsConvertedBy overflow c d mode) given width N output.new result }
+{
+    if are_finite(uppers) {
+        let few = convert_halves(plan, false, width, uppers, lowers, output);
+        all_counts(few, N)
+    } else {
+        let few = convert_halves(plan, true, width, uppers, lowers, output);
+        all_counts(few, N)
+    }
+}
+
+/// Converts the values of a block, its infinities and NaNs apart.
+#[inline(always)]
+fn convert_apart<S: Flagged, T: Flagged, const N: usize>(
     plan: Plan,
     overflow: Overflow,
     round: Round,
     widths: Widths,
+    uppers: &mut [u16; N],
+    lowers: &mut [u16; N],
     input: &[u8],
     output: &mut [u8],
 ) -> Counts
@@ -166,27 +183,62 @@ fn convert_block<S: Flagged, T: Flagged>(
     requires plan { IsPlanFor overflow (constants_of T.Flagged) round plan }
     requires source { widths.source ≡ 4 }
     requires target { T.BITS ≤ 8 * widths.target }
-    requires input { length input.now ≡ 64 * widths.source }
-    requires output { length output.old ≡ 64 * widths.target }
+    requires halves { AreHalves N uppers.old lowers.old (λ index. value_at 4 index input.now) }
+    requires groups { N % 16 ≡ 0 }
+    requires few { N < 2 ^ 16 }
+    requires input { length input.now ≡ N * widths.source }
+    requires output { length output.old ≡ N * widths.target }
     ensures { let c = constants_of S.Flagged in let d = constants_of T.Flagged in
-        IsBlock (IsConvertedBy overflow c d round) widths.source widths.target 64 input.now
+        IsBlock (IsConvertedBy overflow c d round) widths.source widths.target N input.now
         output.new result }
 {
-    let mut uppers = uppers_of(input);
-    let mut lowers = lowers_of(input);
-    let finite = leave_numbers(&mut uppers, &mut lowers);
-    let few = convert_halves(plan, widths.target, &uppers, &lowers, output);
-    let counts = all_counts(few);
+    let finite = leave_numbers(uppers, lowers);
+    let few = convert_halves(plan, false, widths.target, uppers, lowers, output);
+    let counts = all_counts(few, N);
     if finite {
         counts
     } else {
-        convert_specials::<S, T>(overflow, round, widths.target, counts, input, output)
+        convert_specials::<S, T, N>(overflow, round, widths.target, counts, input, output)
     }
 }
 
-/// Converts the first values of an array, in blocks of sixty-four.
+/// Converts the values of a block.
 #[inline(always)]
-fn convert_blocks<S: Flagged, T: Flagged>(
+fn convert_block<S: Flagged, T: Flagged, const N: usize>(
+    plan: Plan,
+    overflow: Overflow,
+    round: Round,
+    widths: Widths,
+    uppers: &mut [u16; N],
+    lowers: &mut [u16; N],
+    input: &[u8],
+    output: &mut [u8],
+) -> Counts
+    requires read { S.PRECISION < S.BITS }
+    requires written { T.PRECISION < T.BITS }
+    requires single { IsSingle (format_of S.Flagged) (layout_of S.Flagged) }
+    requires plan { IsPlanFor overflow (constants_of T.Flagged) round plan }
+    requires source { widths.source ≡ 4 }
+    requires target { T.BITS ≤ 8 * widths.target }
+    requires groups { N % 16 ≡ 0 }
+    requires few { N < 2 ^ 16 }
+    requires input { length input.now ≡ N * widths.source }
+    requires output { length output.old ≡ N * widths.target }
+    ensures { let c = constants_of S.Flagged in let d = constants_of T.Flagged in
+        IsBlock (IsConvertedBy overflow c d round) widths.source widths.target N input.now
+        output.new result }
+{
+    read_halves(input, uppers, lowers);
+    if delivers_past(plan.target, plan.positive, plan.negative) {
+        convert_alike(plan, widths.target, uppers, lowers, output)
+    } else {
+        convert_apart::<S, T, N>(plan, overflow, round, widths, uppers, lowers, input, output)
+    }
+}
+
+/// Converts the first values of an array, in blocks.
+#[inline(always)]
+fn convert_whole<S: Flagged, T: Flagged, const N: usize>(
     plan: Plan,
     overflow: Overflow,
     round: Round,
@@ -202,21 +254,68 @@ fn convert_blocks<S: Flagged, T: Flagged>(
     requires plan { IsPlanFor overflow (constants_of T.Flagged) round plan }
     requires source { widths.source ≡ 4 }
     requires target { T.BITS ≤ 8 * widths.target }
-    requires blocks { blocks * 64 ≤ count }
+    requires groups { N % 16 ≡ 0 }
+    requires few { N < 2 ^ 16 }
+    requires blocks { blocks * N ≤ count }
     requires input { length input.now ≡ count * widths.source }
     requires output { length output.old ≡ count * widths.target }
     ensures { let c = constants_of S.Flagged in let d = constants_of T.Flagged in
-        IsBlock (IsConvertedBy overflow c d round) widths.source widths.target (blocks * 64)
+        IsBlock (IsConvertedBy overflow c d round) widths.source widths.target (blocks * N)
         input.now output.new result }
 {
     let mut counts = Counts::NONE;
+    let mut uppers = [0; N];
+    let mut lowers = [0; N];
     for index in 0..blocks {
-        let (first, last) = (index * BLOCK, index * BLOCK + BLOCK);
+        let (first, last) = (index * N, index * N + N);
         let source = &input[first * widths.source..last * widths.source];
         let target = &mut output[first * widths.target..last * widths.target];
-        counts.add(convert_block::<S, T>(plan, overflow, round, widths, source, target));
+        counts.add(convert_block::<S, T, N>(
+            plan,
+            overflow,
+            round,
+            widths,
+            &mut uppers,
+            &mut lowers,
+            source,
+            target,
+        ));
     }
     counts
+}
+
+/// The same, in less time where there are none.
+#[inline(always)]
+fn convert_blocks<S: Flagged, T: Flagged, const N: usize>(
+    plan: Plan,
+    overflow: Overflow,
+    round: Round,
+    widths: Widths,
+    blocks: usize,
+    count: usize,
+    input: &[u8],
+    output: &mut [u8],
+) -> Counts
+    requires read { S.PRECISION < S.BITS }
+    requires written { T.PRECISION < T.BITS }
+    requires single { IsSingle (format_of S.Flagged) (layout_of S.Flagged) }
+    requires plan { IsPlanFor overflow (constants_of T.Flagged) round plan }
+    requires source { widths.source ≡ 4 }
+    requires target { T.BITS ≤ 8 * widths.target }
+    requires groups { N % 16 ≡ 0 }
+    requires few { N < 2 ^ 16 }
+    requires blocks { blocks * N ≤ count }
+    requires input { length input.now ≡ count * widths.source }
+    requires output { length output.old ≡ count * widths.target }
+    ensures { let c = constants_of S.Flagged in let d = constants_of T.Flagged in
+        IsBlock (IsConvertedBy overflow c d round) widths.source widths.target (blocks * N)
+        input.now output.new result }
+{
+    if blocks == 0 {
+        Counts::NONE
+    } else {
+        convert_whole::<S, T, N>(plan, overflow, round, widths, blocks, count, input, output)
+    }
 }
 
 /// Converts a few values with zeros after them, which raise no flag and are no NaNs: as many as a block lacks. They
@@ -252,7 +351,16 @@ fn convert_between<S: Flagged, T: Flagged>(
     };
     singles[..count * 4].copy_from_slice(input);
     let made = &mut room[..BLOCK * widths.target];
-    let counts = convert_block::<S, T>(plan, overflow, round, widths, singles, made);
+    let counts = convert_block::<S, T, BLOCK>(
+        plan,
+        overflow,
+        round,
+        widths,
+        &mut [0; BLOCK],
+        &mut [0; BLOCK],
+        singles,
+        made,
+    );
     output.copy_from_slice(&room[..count * widths.target]);
     Counts {
         values: count as u64,
@@ -296,7 +404,7 @@ fn convert_padded<S: Flagged, T: Flagged>(
 
 /// Converts the last values of an array, fewer than a block has.
 #[inline(never)]
-fn convert_last<S: Flagged, T: Flagged>(
+pub(crate) fn convert_last<S: Flagged, T: Flagged>(
     overflow: Overflow,
     round: Round,
     count: usize,
@@ -328,7 +436,90 @@ fn convert_last<S: Flagged, T: Flagged>(
 
 /// Converts `count` singles, each in its place, by a plan.
 #[inline(always)]
-fn convert_by_plan<S: Flagged, T: Flagged>(
+fn convert_few<S: Flagged, T: Flagged>(
+    plan: Plan,
+    overflow: Overflow,
+    round: Round,
+    count: usize,
+    input: &[u8],
+    output: &mut [u8],
+) -> Counts
+    requires read { S.PRECISION < S.BITS }
+    requires written { T.PRECISION < T.BITS }
+    requires single { IsSingle (format_of S.Flagged) (layout_of S.Flagged) }
+    requires plan { IsPlanFor overflow (constants_of T.Flagged) round plan }
+    requires target { IsTarget (format_of T.Flagged) (layout_of T.Flagged) T.MIN_EXP T.MAX_EXP }
+    requires width { T.BITS ≤ 8 * bytes_of T.BITS }
+    requires input { length input.now ≡ count * 4 }
+    requires output { length output.old ≡ count * bytes_of T.BITS }
+    ensures { let c = constants_of S.Flagged in let d = constants_of T.Flagged in
+        IsBlock (IsConvertedBy overflow c d round) 4 (bytes_of T.BITS) count input.now output.new
+        result }
+{
+    if count < BLOCK {
+        return convert_last::<S, T>(overflow, round, count, input, output);
+    }
+    let widths = Widths {
+        source: 4,
+        target: bytes_of(T::BITS),
+    };
+    let blocks = count / BLOCK;
+    let mut counts = convert_blocks::<S, T, BLOCK>(
+        plan, overflow, round, widths, blocks, count, input, output,
+    );
+    let done = blocks * BLOCK;
+    if done == count {
+        return counts;
+    }
+    let rest = count - done;
+    let source = &input[done * widths.source..count * widths.source];
+    let target = &mut output[done * widths.target..count * widths.target];
+    counts.add(convert_last::<S, T>(overflow, round, rest, source, target));
+    counts
+}
+
+/// Converts `count` singles, fewer than a long block has, each in its place. It makes the plan anew: one that is passed
+/// to it would not be a constant for its callers either.
+#[inline(never)]
+fn convert_rest<S: Flagged, T: Flagged>(
+    overflow: Overflow,
+    round: Round,
+    count: usize,
+    input: &[u8],
+    output: &mut [u8],
+) -> Counts
+    requires read { S.PRECISION < S.BITS }
+    requires written { T.PRECISION < T.BITS }
+    requires single { IsSingle (format_of S.Flagged) (layout_of S.Flagged) }
+    requires target { IsTarget (format_of T.Flagged) (layout_of T.Flagged) T.MIN_EXP T.MAX_EXP }
+    requires width { T.BITS ≤ 8 * bytes_of T.BITS }
+    requires input { length input.now ≡ count * 4 }
+    requires output { length output.old ≡ count * bytes_of T.BITS }
+    ensures { let c = constants_of S.Flagged in let d = constants_of T.Flagged in
+        IsBlock (IsConvertedBy overflow c d round) 4 (bytes_of T.BITS) count input.now output.new
+        result }
+{
+    let target = target_of::<T>();
+    let saturates = saturates(overflow);
+    match (round, saturates) {
+        (Round::NearestTiesToEven, false) => {
+            let plan = plan_of(target, false, Round::NearestTiesToEven);
+            convert_few::<S, T>(plan, overflow, round, count, input, output)
+        }
+        (Round::NearestTiesToEven, true) => {
+            let plan = plan_of(target, true, Round::NearestTiesToEven);
+            convert_few::<S, T>(plan, overflow, round, count, input, output)
+        }
+        _ => {
+            let plan = plan_of(target, saturates, round);
+            convert_few::<S, T>(plan, overflow, round, count, input, output)
+        }
+    }
+}
+
+/// Converts `count` singles, each in its place, by a plan: in long blocks as long as there are enough values.
+#[inline(always)]
+fn convert_many<S: Flagged, T: Flagged>(
     plan: Plan,
     overflow: Overflow,
     round: Round,
@@ -352,15 +543,15 @@ fn convert_by_plan<S: Flagged, T: Flagged>(
         source: 4,
         target: bytes_of(T::BITS),
     };
-    let blocks = count / BLOCK;
-    let mut counts = convert_blocks::<S, T>(
+    let blocks = count / LONG;
+    let mut counts = convert_blocks::<S, T, LONG>(
         plan, overflow, round, widths, blocks, count, input, output,
     );
-    let done = blocks * BLOCK;
+    let done = blocks * LONG;
     let rest = count - done;
     let source = &input[done * widths.source..count * widths.source];
     let target = &mut output[done * widths.target..count * widths.target];
-    counts.add(convert_last::<S, T>(overflow, round, rest, source, target));
+    counts.add(convert_rest::<S, T>(overflow, round, rest, source, target));
     counts
 }
 
@@ -386,21 +577,21 @@ pub fn convert_singles<S: Flagged, T: Flagged>(
         IsBlock (IsConvertedBy overflow c d round) 4 (bytes_of T.BITS) count input.now output.new
         result }
 {
+    if count < LONG {
+        return convert_rest::<S, T>(overflow, round, count, input, output);
+    }
     let target = target_of::<T>();
     let saturates = saturates(overflow);
     match (round, saturates) {
         (Round::NearestTiesToEven, false) => {
             let plan = plan_of(target, false, Round::NearestTiesToEven);
-            convert_by_plan::<S, T>(plan, overflow, round, count, input, output)
+            convert_many::<S, T>(plan, overflow, round, count, input, output)
         }
         (Round::NearestTiesToEven, true) => {
             let plan = plan_of(target, true, Round::NearestTiesToEven);
-            convert_by_plan::<S, T>(plan, overflow, round, count, input, output)
+            convert_many::<S, T>(plan, overflow, round, count, input, output)
         }
-        _ => {
-            let plan = plan_of(target, saturates, round);
-            convert_by_plan::<S, T>(plan, overflow, round, count, input, output)
-        }
+        _ => convert_rest::<S, T>(overflow, round, count, input, output),
     }
 }
 

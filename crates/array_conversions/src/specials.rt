@@ -1,4 +1,4 @@
-//! Infinities and NaNs in blocks of sixty-four singles that are converted all at once: zeros take their places, which
+//! Infinities and NaNs in blocks of singles that are converted all at once: zeros take their places, which
 //! raise no flag and are no NaNs, until they are converted one by one.
 
 ghost use Rattle.std.specs.Prelude.{◌≡◌, ℕ, ◌+◌, ◌*◌, ◌%◌, ◌^◌, ◌<◌, ◌≤◌, length, slice_index, IsTrue};
@@ -20,6 +20,9 @@ use saturating_conversions::Overflow;
 /// How many values are converted at once.
 pub(crate) const BLOCK: usize = 64;
 
+/// How many are in a long array. Its counts are added up less often.
+pub(crate) const LONG: usize = 256;
+
 /// How many values are looked through at once for infinities and NaNs.
 const GROUP: usize = 16;
 
@@ -34,11 +37,11 @@ pub(crate) fn word_of(bytes: &[u8]) -> u32
 
 /// Whether all of these are upper halves of numbers.
 #[inline(always)]
-pub(crate) fn are_finite(halves: &[u16; 64]) -> bool
-    ensures { IsTrue result → AreFiniteHalves halves.now }
+pub(crate) fn are_finite<const N: usize>(halves: &[u16; N]) -> bool
+    ensures { IsTrue result → AreFiniteHalves N halves.now }
 {
     let mut finite = true;
-    for index in 0..BLOCK {
+    for index in 0..N {
         finite = finite & is_finite_half(halves[index]);
     }
     finite
@@ -77,7 +80,7 @@ fn are_numbers(bytes: &[u8]) -> bool
 
 /// Converts the infinities and NaNs among the sixteen singles from `first` on, as `convert_specials` does.
 #[inline(always)]
-fn convert_group<S: Flagged, T: Flagged>(
+fn convert_group<S: Flagged, T: Flagged, const N: usize>(
     overflow: Overflow,
     round: Round,
     width: usize,
@@ -90,14 +93,14 @@ fn convert_group<S: Flagged, T: Flagged>(
     requires written { T.PRECISION < T.BITS }
     requires single { IsSingle (format_of S.Flagged) (layout_of S.Flagged) }
     requires target { T.BITS ≤ 8 * width }
-    requires within { first + 16 ≤ 64 }
-    requires input { length input.now ≡ 256 }
-    requires output { length output.old ≡ 64 * width }
+    requires within { first + 16 ≤ N }
+    requires input { length input.now ≡ N * 4 }
+    requires output { length output.old ≡ N * width }
     requires numbers { let c = constants_of S.Flagged in let d = constants_of T.Flagged in
-        IsRow (IsConvertedBy overflow c d round) (number_from first input.now) width 64 output.old
+        IsRow (IsConvertedBy overflow c d round) (number_from first input.now) width N output.old
         counts }
     ensures { let c = constants_of S.Flagged in let d = constants_of T.Flagged in
-        IsRow (IsConvertedBy overflow c d round) (number_from (first + 16) input.now) width 64
+        IsRow (IsConvertedBy overflow c d round) (number_from (first + 16) input.now) width N
         output.new result }
 {
     let mut counts = counts;
@@ -113,10 +116,10 @@ fn convert_group<S: Flagged, T: Flagged>(
     counts
 }
 
-/// Converts the infinities and NaNs among sixty-four singles, each to its place, where a converted zero is. `counts`
-/// are those with the zeros.
+/// Converts the infinities and NaNs among the singles of a block, each to its place, where a converted zero is.
+/// `counts` are those with the zeros.
 #[inline(never)]
-pub(crate) fn convert_specials<S: Flagged, T: Flagged>(
+pub(crate) fn convert_specials<S: Flagged, T: Flagged, const N: usize>(
     overflow: Overflow,
     round: Round,
     width: usize,
@@ -128,19 +131,20 @@ pub(crate) fn convert_specials<S: Flagged, T: Flagged>(
     requires written { T.PRECISION < T.BITS }
     requires single { IsSingle (format_of S.Flagged) (layout_of S.Flagged) }
     requires target { T.BITS ≤ 8 * width }
-    requires input { length input.now ≡ 256 }
-    requires output { length output.old ≡ 64 * width }
+    requires groups { N % 16 ≡ 0 }
+    requires input { length input.now ≡ N * 4 }
+    requires output { length output.old ≡ N * width }
     requires numbers { let c = constants_of S.Flagged in let d = constants_of T.Flagged in
-        IsRow (IsConvertedBy overflow c d round) (number_from 0 input.now) width 64 output.old
+        IsRow (IsConvertedBy overflow c d round) (number_from 0 input.now) width N output.old
         counts }
     ensures { let c = constants_of S.Flagged in let d = constants_of T.Flagged in
-        IsBlock (IsConvertedBy overflow c d round) 4 width 64 input.now output.new result }
+        IsBlock (IsConvertedBy overflow c d round) 4 width N input.now output.new result }
 {
     let mut counts = counts;
-    for group in 0..BLOCK / GROUP {
+    for group in 0..N / GROUP {
         let first = group * GROUP;
         if !are_numbers(&input[first * 4..(first + GROUP) * 4]) {
-            counts = convert_group::<S, T>(overflow, round, width, first, counts, input, output);
+            counts = convert_group::<S, T, N>(overflow, round, width, first, counts, input, output);
         }
     }
     counts

@@ -108,7 +108,7 @@ picked_code precision low mode negative t amount parts precise any it =
 -- ---- bits
 
 -- with infinities or a NaN of each sign, a code keeps its sign
-keeps_sign : (kind : NonfiniteBehavior) (negative : Bool) (bits code : ℕ) → has_no_sign kind bits code ≡ false
+pub keeps_sign : (kind : NonfiniteBehavior) (negative : Bool) (bits code : ℕ) → has_no_sign kind bits code ≡ false
     → cond (negative && not (has_no_sign kind bits code)) (2 ^ (bits - 1)) 0 ≡ cond negative (2 ^ (bits - 1)) 0
 keeps_sign kind true bits code has = rw has refl
 keeps_sign kind false bits code has = refl
@@ -215,6 +215,23 @@ top_bits true e t biased trailing bits top at is =
     omega (arith, both, is)
 top_bits false e t biased trailing bits top at is = omega (arith, is)
 
+-- the code after the largest one, where it is that of infinities
+infinity_code : (f : Format) (layout : Layout) → IsInterchange f layout → f.nonfinite ≡ IEEE754
+    → largest_code f + 1 ≡ all_ones layout.exponent_bits * 2 ^ (f.precision - 1)
+infinity_code f layout law is =
+    let half : ℕ = 2 ^ (f.precision - 1) in
+    let span : f.span + 3 ≡ 2 ^ layout.exponent_bits =
+    law.span ∙ ap (λ (k : NonfiniteBehavior). 2 ^ layout.exponent_bits + more_exponents k) is ∙ omega arith in
+    let precise = law.precise in
+    let twice : 2 * 2 ^ (f.precision - 1) ≡ 2 ^ f.precision = twice_half f.precision (omega (arith, precise)) in
+    let some : 0 < 2 ^ (f.precision - 1) = pow_pos (f.precision - 1) in
+    let top : greatest_significand f.nonfinite f.precision ≡ 2 ^ f.precision - 1 =
+    ap (λ (k : NonfiniteBehavior). greatest_significand k f.precision) is in
+    let biased : 2 ^ layout.exponent_bits - 1 ≡ f.span + 2 = omega (arith, span) in
+    let ones : all_ones layout.exponent_bits * 2 ^ (f.precision - 1) ≡ (f.span + 2) * 2 ^ (f.precision - 1) =
+    ap (λ (n : ℕ). n * half) biased in
+    omega (arith, ones, top, twice, some)
+
 -- an infinity: the greatest exponent without digits
 infinity_encoded : (f : Format) (layout : Layout) (negative : Bool) (bits : ℕ) → IsInterchange f layout
     → f.nonfinite ≡ IEEE754 → f.explicit_integer_bit ≡ false
@@ -227,18 +244,8 @@ infinity_encoded f layout negative bits law is implied bits_are =
     let width : trailing_bits f ≡ f.precision - 1 = cond-false f.explicit_integer_bit _ _ implied in
     let none : cond f.explicit_integer_bit (smallest_normalized f) 0
     ≡ 0 = cond-false f.explicit_integer_bit _ _ implied in
-    let span : f.span + 3 ≡ 2 ^ layout.exponent_bits =
-    law.span ∙ ap (λ (k : NonfiniteBehavior). 2 ^ layout.exponent_bits + more_exponents k) is ∙ omega arith in
-    let precise = law.precise in
-    let twice : 2 * 2 ^ (f.precision - 1) ≡ 2 ^ f.precision = twice_half f.precision (omega (arith, precise)) in
-    let some : 0 < 2 ^ (f.precision - 1) = pow_pos (f.precision - 1) in
-    let top : greatest_significand f.nonfinite f.precision ≡ 2 ^ f.precision - 1 =
-    ap (λ (k : NonfiniteBehavior). greatest_significand k f.precision) is in
-    let biased : 2 ^ layout.exponent_bits - 1 ≡ f.span + 2 = omega (arith, span) in
-    let ones : all_ones layout.exponent_bits * 2 ^ (f.precision - 1) ≡ (f.span + 2) * 2 ^ (f.precision - 1) =
-    ap (λ (n : ℕ). n * half) biased in
-    let code : largest_code f + 1 ≡ all_ones layout.exponent_bits * 2 ^ (f.precision - 1) + 0 =
-    omega (arith, ones, top, twice, some) in
+    let top = infinity_code f layout law is in
+    let code : largest_code f + 1 ≡ all_ones layout.exponent_bits * 2 ^ (f.precision - 1) + 0 = omega (arith, top) in
     let sized = law.bits in
     let same : bits_of_fields f layout x ≡ bits =
     rw (width, none) (top_bits negative layout.exponent_bits (f.precision - 1) (all_ones layout.exponent_bits) 0 bits
@@ -289,6 +296,30 @@ nan_encoded f layout negative bits law is implied bits_are =
     (subst (λ (k : NonfiniteBehavior). IsNanSignificand k f.explicit_integer_bit f.precision
     (nan_base_of k f.precision))
     (sym is) refl)))
+
+-- a NaN beside infinities: the greatest exponent with digits
+pub digits_encoded : (f : Format) (layout : Layout) (negative : Bool) (s bits : ℕ) → IsInterchange f layout
+    → f.nonfinite ≡ IEEE754 → f.explicit_integer_bit ≡ false → 0 < s → s < 2 ^ (f.precision - 1)
+    → bits ≡ cond negative (2 ^ (layout.bits - 1)) 0 + (largest_code f + 1) + s
+    → IsEncodedBy f layout bits (nan negative s)
+digits_encoded f layout negative s bits law is implied some below bits_are =
+    let half : ℕ = 2 ^ (f.precision - 1) in
+    let x = fields_with negative (all_ones layout.exponent_bits) s in
+    let width : trailing_bits f ≡ f.precision - 1 = cond-false f.explicit_integer_bit _ _ implied in
+    let code = infinity_code f layout law is in
+    let sized = law.bits in
+    let sum : cond negative (2 ^ (layout.bits - 1)) 0 + (largest_code f + 1) + s
+    ≡ cond negative (2 ^ (layout.bits - 1)) 0 + (all_ones layout.exponent_bits * 2 ^ (f.precision - 1) + s) =
+    omega (arith, code) in
+    let same : bits_of_fields f layout x ≡ bits =
+    rw width (top_bits negative layout.exponent_bits (f.precision - 1) (all_ones layout.exponent_bits) s bits
+    (layout.bits - 1)
+    (omega (arith, sized, width)) (bits_are ∙ sum)) in
+    subst (λ (b : ℕ). IsEncodedBy f layout b (nan negative s)) same
+    (fields_encode f layout x (nan negative s) law
+    (nan_fields_of f layout negative s law (λ one. true≢false (sym (ap is_ieee is) ∙ ap is_ieee one))
+    (subst (λ (k : NonfiniteBehavior). IsNanSignificand k f.explicit_integer_bit f.precision s) (sym is)
+    (subst (λ (b : Bool). IsNanSignificand IEEE754 b f.precision s) (sym implied) (some, below)))))
 
 -- the one NaN: the sign bit alone
 one_nan_encoded : (f : Format) (layout : Layout) (bits : ℕ) → IsInterchange f layout
@@ -389,7 +420,7 @@ largest_given f layout negative law implied =
     (inr full) (omega (arith, fits)) (omega arith) refl (omega arith))
 
 -- what is past it
-past_given : (kind : NonfiniteBehavior) (f : Format) (layout : Layout) (negative : Bool) → f.nonfinite ≡ kind
+pub past_given : (kind : NonfiniteBehavior) (f : Format) (layout : Layout) (negative : Bool) → f.nonfinite ≡ kind
     → IsInterchange f layout → f.explicit_integer_bit ≡ false
     → IsGiven f layout negative (largest_code f + 1) (past_largest kind (nan_base f) negative)
 past_given IEEE754 f layout negative is law implied =
@@ -535,6 +566,7 @@ value_given saturates f layout mode negative amount parts r rest law implied pic
 -- the sum of the flags, by what raises them; what is past is not tiny
 flag_sum : (past some normal raises : Bool) → (past ≡ true → normal ≡ true)
     → flag_if 16 (some || past) + flag_if 8 ((some || past) && not normal) + flag_if 4 (past && raises)
+    + flag_if 1 false
     ≡ cond past (cond raises 20 16) (cond some (cond normal 16 24) 0)
 flag_sum true true true true large = refl
 flag_sum true true true false large = refl
@@ -609,7 +641,7 @@ flags_given : (low : ℕ) (f : Format) (layout : Layout) (mode : Round) (negativ
     let normal = cond f.tiny_before_rounding (leb (2 ^ (f.precision - 1)) (t / 2 ^ low))
     (leb (2 ^ (f.precision - 1)) (rounded_by low mode negative t)) in
     flag_if 16 (some || past) + flag_if 8 ((some || past) && not normal)
-    + flag_if 4 (past && raises_overflow f mode negative)
+    + flag_if 4 (past && raises_overflow f mode negative) + flag_if 1 false
     ≡ delivered_status f mode negative amount parts (picked.next * 2 ^ picked.place)
 flags_given low f layout mode negative t amount parts law rule any scaled picked =
     let precise = law.precise in
@@ -665,6 +697,7 @@ pub record IsMade (low : ℕ) (saturates : Bool) (f : Format) (layout : Layout) 
       (leb (2 ^ (f.precision - 1)) (rounded_by low mode negative t))))
   pub overflow : lane.overflow
       ≡ (ltb (largest_code f) (rounded_by low mode negative t) && raises_overflow f mode negative)
+  pub invalid : lane.invalid ≡ false
   pub nan_is : lane.is_nan
       ≡ (not (is_ieee f.nonfinite)
       && ltb (largest_code f) (min (rounded_by low mode negative t) (greatest_code saturates f mode negative)))
@@ -681,7 +714,7 @@ made_rounded low saturates f layout mode negative t amount parts lane law implie
     (t % 2 ^ low) law implied
     picked in
     let flags : flags_of lane ≡ delivered_status f mode negative amount parts pick =
-    rw (made.underflow, made.inexact, made.overflow)
+    rw (made.underflow, made.inexact, made.overflow, made.invalid)
     (flags_given low f layout mode negative t amount parts law rule any scaled picked) in
     record {
       rounded = delivered_value f mode negative pick;

@@ -11,3 +11,4 @@ pub mod UpperHalves
 pub mod PlacedNumbers
 pub mod Words
 pub mod PowersOfTwo
+pub mod Specials

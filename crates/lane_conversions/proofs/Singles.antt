@@ -98,14 +98,16 @@ zero_back a none =
 -- ---- conversions
 
 -- only flags that are false add up to 0
-no_flags : (inexact underflow overflow : Bool) → flag_if 16 inexact + flag_if 8 underflow + flag_if 4 overflow ≡ 0
-    → (inexact ≡ false) × (underflow ≡ false) × (overflow ≡ false)
-no_flags false false false e = (refl, refl, refl)
-no_flags false false true e = absurd (omega (arith, e))
-no_flags false true overflow e = absurd (omega (arith, e))
-no_flags true underflow overflow e = absurd (omega (arith, e))
+no_flags : (inexact underflow overflow invalid : Bool)
+    → flag_if 16 inexact + flag_if 8 underflow + flag_if 4 overflow + flag_if 1 invalid ≡ 0
+    → (inexact ≡ false) × (underflow ≡ false) × (overflow ≡ false) × (invalid ≡ false)
+no_flags false false false false e = (refl, refl, refl, refl)
+no_flags false false false true e = absurd (omega (arith, e))
+no_flags false false true invalid e = absurd (omega (arith, e))
+no_flags false true overflow invalid e = absurd (omega (arith, e))
+no_flags true underflow overflow invalid e = absurd (omega (arith, e))
 
-one_flag : (b : Bool) → flag_if 16 b + 0 + 0 ≡ cond b 16 0
+one_flag : (b : Bool) → flag_if 16 b + 0 + 0 + 0 ≡ cond b 16 0
 one_flag true = refl
 one_flag false = refl
 
@@ -136,6 +138,7 @@ with_inexact lane inexact =
       inexact = inexact;
       underflow = lane.underflow;
       overflow = lane.overflow;
+      invalid = lane.invalid;
       is_nan = lane.is_nan;
     }
 
@@ -154,7 +157,7 @@ module _ (saturates : Bool) (single : Format) (read : Layout) (f : Format) (layo
       let once = delivered_once f mode negative (quanta * 2 ^ f.scale) (2 ^ 149) it.rounded
       (finite (zero_sign f.nonfinite negative) 0) (flags_of lane) ok_bits it.is_delivered
       (zero_delivered f mode negative (2 ^ 149) (quanta * 2 ^ f.scale) (pow_pos 149) amount) in
-      let flags = no_flags lane.inexact lane.underflow lane.overflow once.1 in
+      let flags = no_flags lane.inexact lane.underflow lane.overflow lane.invalid once.1 in
       record {
         negative = negative;
         quanta = quanta;
@@ -165,7 +168,7 @@ module _ (saturates : Bool) (single : Format) (read : Layout) (f : Format) (layo
             rw (eq-eqb quanta 0 none)
             (record {
               value_is = once.0;
-              status_is = rw (flags.0, flags.1, flags.2, lost) (one_flag (loses_zero_sign f negative));
+              status_is = rw (flags.0, flags.1, flags.2, flags.3, lost) (one_flag (loses_zero_sign f negative));
               loses_is = refl;
             });
         is_encoded = it.is_encoded;

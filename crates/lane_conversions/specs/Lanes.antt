@@ -1,12 +1,14 @@
 -- One number, from bits to bits.
-use Rattle.std.specs.Prelude.{◌≡◌, ℕ, ◌+◌, ◌-◌, ◌^◌, Bool, not, ◌&&◌, ◌||◌, ltb, leb, if◌then◌else◌}
+use Rattle.std.specs.Prelude.{◌≡◌, ◌⊎◌, ℕ, ◌+◌, ◌-◌, ◌/◌, ◌%◌, ◌^◌, Bool, true, false, not, ◌&&◌, ◌||◌, ltb, leb, if◌then◌else◌}
 use Rattle.apfloat_model.specs.arithmetic.Conversions.{IsConversion}
 use Rattle.apfloat_model.specs.bits.Layout.{IsEncodedBy, Layout, datum_of}
 use Rattle.apfloat_model.specs.declared.kinds.Round.{Round}
+use Rattle.apfloat_model.specs.declared.kinds.NonfiniteBehavior.{NonfiniteBehavior}
 use Rattle.apfloat_model.specs.order.Classes.{is_finite, is_nan}
 use Rattle.apfloat_model.specs.formats.Datum.{Datum, finite}
-use Rattle.apfloat_model.specs.formats.Format.{Format, largest}
-use Rattle.apfloat_model.specs.rounding.Rounding.{IsDelivered, inexact_bit, overflow_bit, underflow_bit}
+use Rattle.apfloat_model.specs.formats.Format.{Format, largest, nan_base}
+use Rattle.apfloat_model.specs.formats.Nan.{invalid_bit}
+use Rattle.apfloat_model.specs.rounding.Rounding.{IsDelivered, inexact_bit, overflow_bit, past_largest, underflow_bit}
 use Rattle.lane_conversions.specs.declared.lanes.Lane.{Lane}
 use Rattle.lane_conversions.specs.Targets.{is_ieee, largest_code, signed_code}
 
@@ -17,6 +19,7 @@ flag_if flag holds = if holds then flag else 0
 abbrev pub flags_of : Lane → ℕ
 flags_of lane =
     flag_if inexact_bit lane.inexact + flag_if underflow_bit lane.underflow + flag_if overflow_bit lane.overflow
+    + flag_if invalid_bit lane.invalid
 
 -- the bits and the flags of a lane: by what is kept, what that is rounded to, and what is delivered for it
 pub record IsDeliveredLane (f : Format) (bits : ℕ) (raises negative : Bool) (kept rounded code : ℕ) (some : Bool)
@@ -27,6 +30,7 @@ pub record IsDeliveredLane (f : Format) (bits : ℕ) (raises negative : Bool) (k
       ≡ (lane.inexact && not (if f.tiny_before_rounding then leb (2 ^ (f.precision - 1)) kept
       else leb (2 ^ (f.precision - 1)) rounded))
   pub overflow : lane.overflow ≡ (ltb (largest_code f) rounded && raises)
+  pub invalid : lane.invalid ≡ false
   pub nan_is : lane.is_nan ≡ (not (is_ieee f.nonfinite) && ltb (largest_code f) code)
 
 -- what a number becomes that is rounded to that datum, where conversions may saturate
@@ -53,3 +57,47 @@ pub record IsConvertedLane (saturates : Bool) (from : Format) (read : Layout) (f
   pub is_conversion : IsConversion from f mode (finite negative quanta) rounded (flags_of lane) loses
   pub is_encoded : IsEncodedBy f layout lane.bits (finished saturates f negative rounded)
   pub nan_is : lane.is_nan ≡ is_nan (finished saturates f negative rounded)
+
+-- ---- infinities and NaNs
+
+-- the lane of a number past the largest value, where that becomes what is past it
+pub record IsPastLane (f : Format) (layout : Layout) (negative : Bool) (lane : Lane) : Type 0 where
+  pub inexact : lane.inexact ≡ true
+  pub underflow : lane.underflow ≡ false
+  pub invalid : lane.invalid ≡ false
+  pub is_encoded : IsEncodedBy f layout lane.bits (past_largest f.nonfinite (nan_base f) negative)
+  pub nan_is : lane.is_nan ≡ is_nan (past_largest f.nonfinite (nan_base f) negative)
+
+-- the first digits of a NaN's significand, made quiet, for a format with so many
+abbrev pub quiet_digits : ℕ → ℕ → ℕ
+quiet_digits precision payload = (payload % 2 ^ 15 + 2 ^ 15) / 2 ^ (17 - precision)
+
+-- the lane of an infinity or a NaN, by that of a number past the largest value; any other lane stays
+abbrev pub with_special : NonfiniteBehavior → ℕ → Lane → Bool → Bool → ℕ → Lane
+with_special kind precision lane special nan payload =
+    record {
+      bits = if nan && is_ieee kind then lane.bits + quiet_digits precision payload else lane.bits;
+      inexact = not (special && (nan || is_ieee kind)) && lane.inexact;
+      underflow = lane.underflow;
+      overflow = not special && lane.overflow;
+      invalid = (nan && ltb payload (2 ^ 15)) || lane.invalid;
+      is_nan = (nan && is_ieee kind) || lane.is_nan;
+    }
+
+-- the bits encode an infinity or a NaN of one format, and the lane is its conversion to the other
+pub record IsSpecialLane (from : Format) (read : Layout) (f : Format) (layout : Layout) (mode : Round) (bits : ℕ)
+    (lane : Lane) : Type 0 where
+  pub special : Datum
+  pub special_is : datum_of from read bits ≡ special
+  pub not_finite : is_finite special ≡ false
+  pub value : Datum
+  pub loses : Bool
+  pub is_conversion : IsConversion from f mode special value (flags_of lane) loses
+  pub is_encoded : IsEncodedBy f layout lane.bits value
+  pub nan_is : lane.is_nan ≡ is_nan value
+
+-- the same for any datum; an infinity or a NaN is converted so only where no conversion saturates
+abbrev pub IsLane : Bool → Format → Layout → Format → Layout → Round → ℕ → Lane → Type 0
+IsLane saturates from read f layout mode bits lane =
+    IsConvertedLane saturates from read f layout mode bits lane
+    ⊎ ((saturates ≡ false) × IsSpecialLane from read f layout mode bits lane)

@@ -1,5 +1,5 @@
 -- The constants by which numbers of one sign are rounded and delivered.
-use Rattle.std.specs.Prelude.{◌≡◌, ℕ, ◌+◌, ◌-◌, ◌/◌, ◌%◌, ◌^◌, Bool, not, ◌&&◌, eqb, if◌then◌else◌}
+use Rattle.std.specs.Prelude.{◌≡◌, ℕ, ◌+◌, ◌-◌, ◌/◌, ◌%◌, ◌^◌, Bool, true, false, not, ◌&&◌, eqb, if◌then◌else◌}
 use Rattle.std.specs.Int.RustNames.{bit_and}
 use Rattle.apfloat_model.specs.declared.kinds.Round.{Round}
 use Rattle.apfloat_model.specs.formats.Format.{Format}
@@ -32,3 +32,8 @@ pub record IsSideOf (low : ℕ) (saturates : Bool) (f : Format) (mode : Round) (
   pub addend : IsAddendOf low mode negative side.addend
   pub greatest : side.greatest ≡ greatest_code saturates f mode negative
   pub raises : side.raises ≡ raises_overflow f mode negative
+
+-- numbers past the largest value become what is past it
+pub record LeadsPast (saturates : Bool) (mode : Round) : Type 0 where
+  pub kept : saturates ≡ false
+  pub out : (negative : Bool) → leads_out mode negative ≡ true

@@ -5,8 +5,8 @@ ghost use Rattle.lane_conversions.specs.FewCounts.{AreAtMost, one_if, with_lane}
 
 use crate::lanes::Lane;
 
-/// The counts of a block of few values without infinities and NaNs, in words as short as those that numbers are
-/// converted in, so that a compiler can count several at once.
+/// The counts of a block of few values, in words as short as those that numbers are converted in, so that a compiler
+/// can count several at once.
 #[derive(Clone, Copy)]
 pub struct FewCounts {
     /// Those that raised `INEXACT`.
@@ -15,6 +15,8 @@ pub struct FewCounts {
     pub underflow: u16,
     /// Those that raised `OVERFLOW`.
     pub overflow: u16,
+    /// Those that raised `INVALID_OP`.
+    pub invalid: u16,
     /// Those whose converted value is a NaN.
     pub nans: u16,
 }
@@ -27,10 +29,10 @@ pub(crate) fn one_if(holds: bool) -> u16
     u16::from(holds)
 }
 
-/// The counts after one more number.
+/// The counts after one more value.
 #[inline(always)]
 pub fn with_lane(few: FewCounts, lane: Lane) -> FewCounts
-    requires { AreAtMost 63 few }
+    requires { AreAtMost 65534 few }
     ensures counts { result ≡ with_lane few lane }
     ensures most { (most : ℕ) → AreAtMost most few → AreAtMost (most + 1) result }
 {
@@ -38,6 +40,7 @@ pub fn with_lane(few: FewCounts, lane: Lane) -> FewCounts
         inexact: few.inexact + one_if(lane.inexact),
         underflow: few.underflow + one_if(lane.underflow),
         overflow: few.overflow + one_if(lane.overflow),
+        invalid: few.invalid + one_if(lane.invalid),
         nans: few.nans + one_if(lane.is_nan),
     }
 }

@@ -27,8 +27,7 @@ pub(crate) fn significand_of(magnitude: u16) -> u16
     ensures is { result ≡ magnitude % 2 ^ 7 + min (magnitude / 2 ^ 7) 1 * 2 ^ 7 }
     ensures below { result < 2 ^ 8 }
 {
-    let integer_bit = if magnitude >= 0x80 { 0x80 } else { 0 };
-    magnitude % 0x80 + integer_bit
+    magnitude - (magnitude / 0x80).saturating_sub(1) * 0x80
 }
 
 /// The biased exponent of numbers whose digits are all below half of the target's quantum; seven more is that of its

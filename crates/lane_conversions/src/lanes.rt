@@ -1,24 +1,25 @@
 //! One number, from bits to bits.
 
-ghost use Rattle.std.specs.Prelude.{◌≡◌, ◌⊎◌, ℕ, ◌+◌, ◌-◌, ◌*◌, ◌/◌, ◌%◌, ◌^◌, ◌<◌, ◌≤◌, min, Bool, not, ◌&&◌, ltb, leb, if◌then◌else◌};
+ghost use Rattle.std.specs.Prelude.{◌≡◌, ◌⊎◌, ℕ, ◌+◌, ◌-◌, ◌*◌, ◌/◌, ◌%◌, ◌^◌, ◌<◌, ◌≤◌, min, Bool, false, not, ◌&&◌, eqb, ltb, leb, if◌then◌else◌, IsTrue};
 ghost use Rattle.std.specs.Int.RustNames.{bit_and};
 ghost use Rattle.apfloat_model.specs.declared.kinds.Round.{Round as Mode};
 ghost use Rattle.apfloat_model.specs.bits.Layout.{Layout};
 ghost use Rattle.apfloat_model.specs.formats.Format.{Format};
 ghost use Rattle.lane_conversions.specs.At.{format_at, layout_at};
-ghost use Rattle.lane_conversions.specs.Lanes.{IsConvertedLane, IsDeliveredLane, IsRounded};
+ghost use Rattle.lane_conversions.specs.Lanes.{IsConvertedLane, IsDeliveredLane, IsLane, IsPastLane, IsRounded};
 ghost use Rattle.lane_conversions.specs.Scaled.{IsReached};
-ghost use Rattle.lane_conversions.specs.Sides.{IsSideOf};
+ghost use Rattle.lane_conversions.specs.Sides.{IsSideOf, LeadsPast};
 ghost use Rattle.lane_conversions.specs.Targets.{IsSingle, has_one_zero, is_ieee, largest_code, signed_code};
 
 use crate::constants::{Addend, Side, Target};
 use crate::few_counts::one_if;
 use crate::plans::Plan;
 use crate::scaled::{Scaled, scaled_to};
+use crate::special_lanes::with_special;
 use crate::targets::largest_code;
 use apfloat_model::NonfiniteBehavior;
 
-/// A converted number.
+/// A converted value.
 #[derive(Clone, Copy)]
 pub struct Lane {
     /// The bits of its encoding.
@@ -29,6 +30,8 @@ pub struct Lane {
     pub underflow: bool,
     /// Whether it raised `OVERFLOW`.
     pub overflow: bool,
+    /// Whether it raised `INVALID_OP`.
+    pub invalid: bool,
     /// Whether it became a NaN.
     pub is_nan: bool,
 }
@@ -119,6 +122,7 @@ pub(crate) fn delivered(
         inexact,
         underflow: inexact & !normal,
         overflow: past & raises,
+        invalid: false,
         is_nan: is_nan_code(target, code),
     }
 }
@@ -154,14 +158,18 @@ pub(crate) fn loses_sign(target: Target, negative: bool, zero: bool) -> bool
     (target.nonfinite == NonfiniteBehavior::NanNegativeZero) & negative & zero
 }
 
-/// Converts a finite single, given the upper and the lower half of its bits.
+/// Converts a finite single, given the upper and the lower half of its bits. An infinity or a NaN is taken for a number
+/// past the largest value.
 #[inline(always)]
-pub fn convert_finite(plan: Plan, upper: u16, lower: u16) -> Lane
-    requires { upper % 2 ^ 15 < 255 * 2 ^ 7 }
+fn convert_number(plan: Plan, upper: u16, lower: u16) -> Lane
     ensures below { result.bits < 2 ^ plan.target.bits }
-    ensures converted { (single : Format) (layout : Layout) → IsSingle single layout
+    ensures converted { (single : Format) (layout : Layout) → upper % 2 ^ 15 < 255 * 2 ^ 7
+        → IsSingle single layout
         → IsConvertedLane plan.saturates single layout (format_at plan.target)
         (layout_at plan.target) plan.round (upper * 2 ^ 16 + lower) result }
+    ensures past { 255 * 2 ^ 7 ≤ upper % 2 ^ 15 → LeadsPast plan.saturates plan.round
+        → IsPastLane (format_at plan.target) (layout_at plan.target) (eqb (upper / 2 ^ 15) 1)
+        result }
 {
     let negative = upper / 0x8000 == 1;
     let magnitude = upper % 0x8000;
@@ -181,4 +189,26 @@ pub fn convert_finite(plan: Plan, upper: u16, lower: u16) -> Lane
         inexact: lane.inexact | loses_sign(plan.target, negative, zero),
         ..lane
     }
+}
+
+/// Converts a single, given the upper and the lower half of its bits. With `specials` it may be an infinity or a NaN.
+#[inline(always)]
+pub fn convert_single(plan: Plan, specials: bool, upper: u16, lower: u16) -> Lane
+    requires number { specials ≡ false → upper % 2 ^ 15 < 255 * 2 ^ 7 }
+    requires leads { IsTrue specials → LeadsPast plan.saturates plan.round }
+    ensures below { result.bits < 2 ^ plan.target.bits }
+    ensures converted { (single : Format) (layout : Layout) → IsSingle single layout
+        → IsLane plan.saturates single layout (format_at plan.target) (layout_at plan.target)
+        plan.round (upper * 2 ^ 16 + lower) result }
+{
+    let magnitude = upper % 0x8000;
+    let special = specials & (magnitude >= 0x7f80);
+    let nan = specials & ((magnitude >= 0x7f80) & ((magnitude != 0x7f80) | (lower != 0)));
+    with_special(
+        plan.target,
+        convert_number(plan, upper, lower),
+        special,
+        nan,
+        upper % 0x80 * 0x200 + lower / 0x80,
+    )
 }

@@ -15,12 +15,13 @@ mod plans;
 mod scaled;
 mod short_lanes;
 mod sides;
+mod special_lanes;
 mod targets;
 
 pub use constants::{Addend, Side, Target};
 pub use few_counts::{FewCounts, with_lane};
 pub use halves::{is_finite_half, upper_half};
-pub use lanes::{Lane, convert_finite, is_finite};
+pub use lanes::{Lane, convert_single, is_finite};
 pub use plans::{Plan, ShortPlan};
 pub use short_lanes::convert_half;
-pub use sides::{plan_of, short_plan_of};
+pub use sides::{delivers_past, plan_of, short_plan_of};

@@ -35,7 +35,7 @@ fn first_place(target: Target) -> u16
 fn place_of(magnitude: u16) -> u16
     ensures { result ≡ magnitude / 2 ^ 7 - 1 }
 {
-    (magnitude / 0x80).max(1) - 1
+    (magnitude / 0x80).saturating_sub(1)
 }
 
 /// The place, among the target's from `first` on, of a number at this place, at most the first one past them.

@@ -1,21 +1,22 @@
 //! One number from its upper sixteen bits, to a format of at most eight.
 
-ghost use Rattle.std.specs.Prelude.{◌≡◌, ℕ, ◌+◌, ◌-◌, ◌*◌, ◌/◌, ◌%◌, ◌^◌, ◌<◌, ◌≤◌, Bool, not, nat_eq};
+ghost use Rattle.std.specs.Prelude.{◌≡◌, ℕ, ◌+◌, ◌-◌, ◌*◌, ◌/◌, ◌%◌, ◌^◌, ◌<◌, ◌≤◌, Bool, false, not, eqb, nat_eq, IsTrue};
 ghost use Rattle.std.specs.Int.RustNames.{bit_and};
 ghost use Rattle.apfloat_model.specs.declared.kinds.Round.{Round as Mode};
 ghost use Rattle.apfloat_model.specs.bits.Layout.{Layout};
 ghost use Rattle.apfloat_model.specs.formats.Format.{Format};
 ghost use Rattle.apfloat_model.specs.rounding.RoundingToOdd.{odd_quotient};
 ghost use Rattle.lane_conversions.specs.At.{format_at, layout_at};
-ghost use Rattle.lane_conversions.specs.Lanes.{IsConvertedLane, IsRounded};
+ghost use Rattle.lane_conversions.specs.Lanes.{IsConvertedLane, IsLane, IsPastLane, IsRounded};
 ghost use Rattle.lane_conversions.specs.Scaled.{IsScaled};
-ghost use Rattle.lane_conversions.specs.Sides.{IsSideOf};
+ghost use Rattle.lane_conversions.specs.Sides.{IsSideOf, LeadsPast};
 ghost use Rattle.lane_conversions.specs.Targets.{IsSingle};
 
 use crate::constants::{Addend, Side, Target};
 use crate::halves::{digits_of, first_exponent, place_of};
 use crate::lanes::{Lane, delivered, loses_sign};
 use crate::plans::ShortPlan;
+use crate::special_lanes::with_special;
 
 /// Digits without those below the last kept one.
 #[inline(always)]
@@ -89,15 +90,18 @@ fn finish(target: Target, side: Side, negative: bool, digits: u16, place: u16) -
     )
 }
 
-/// Converts a finite single, given its upper sixteen bits, rounded to odd.
+/// Converts a finite single, given its upper sixteen bits, rounded to odd. An infinity or a NaN is taken for a number
+/// past the largest value.
 #[inline(always)]
-pub fn convert_half(plan: ShortPlan, half: u16) -> Lane
-    requires { half % 2 ^ 15 < 255 * 2 ^ 7 }
+fn convert_number(plan: ShortPlan, half: u16) -> Lane
     ensures below { result.bits < 2 ^ plan.target.bits }
     ensures converted { (bits : ℕ) (single : Format) (layout : Layout)
-        → half ≡ odd_quotient bits (2 ^ 16) → IsSingle single layout
+        → half % 2 ^ 15 < 255 * 2 ^ 7 → half ≡ odd_quotient bits (2 ^ 16)
+        → IsSingle single layout
         → IsConvertedLane plan.saturates single layout (format_at plan.target)
         (layout_at plan.target) plan.round bits result }
+    ensures past { 255 * 2 ^ 7 ≤ half % 2 ^ 15 → LeadsPast plan.saturates plan.round
+        → IsPastLane (format_at plan.target) (layout_at plan.target) (eqb (half / 2 ^ 15) 1) result }
 {
     let negative = half / 0x8000 == 1;
     let magnitude = half % 0x8000;
@@ -118,4 +122,27 @@ pub fn convert_half(plan: ShortPlan, half: u16) -> Lane
         inexact: lane.inexact | loses_sign(plan.target, negative, magnitude == 0),
         ..lane
     }
+}
+
+/// Converts a single, given its upper sixteen bits, rounded to odd. With `specials` it may be an infinity or a NaN.
+#[inline(always)]
+pub fn convert_half(plan: ShortPlan, specials: bool, half: u16) -> Lane
+    requires number { specials ≡ false → half % 2 ^ 15 < 255 * 2 ^ 7 }
+    requires leads { IsTrue specials → LeadsPast plan.saturates plan.round }
+    ensures below { result.bits < 2 ^ plan.target.bits }
+    ensures converted { (bits : ℕ) (single : Format) (layout : Layout)
+        → half ≡ odd_quotient bits (2 ^ 16) → IsSingle single layout
+        → IsLane plan.saturates single layout (format_at plan.target) (layout_at plan.target)
+        plan.round bits result }
+{
+    let magnitude = half % 0x8000;
+    let special = specials & (magnitude >= 0x7f80);
+    let nan = specials & (magnitude > 0x7f80);
+    with_special(
+        plan.target,
+        convert_number(plan, half),
+        special,
+        nan,
+        half % 0x80 * 0x200,
+    )
 }

@@ -1,9 +1,10 @@
 //! The constants by which numbers of one sign are rounded and delivered.
 
-ghost use Rattle.std.specs.Prelude.{◌≡◌, ◌+◌, ◌-◌, ◌*◌, ◌^◌, ◌<◌, ◌≤◌, if◌then◌else◌};
+ghost use Rattle.std.specs.Prelude.{◌≡◌, ℕ, ◌+◌, ◌-◌, ◌*◌, ◌^◌, ◌<◌, ◌≤◌, Bool, true, false, if◌then◌else◌, IsTrue};
+ghost use Rattle.apfloat_model.specs.declared.kinds.Round.{Round as Mode};
 ghost use Rattle.apfloat_model.specs.rounding.Rounding.{leads_out};
 ghost use Rattle.lane_conversions.specs.At.{format_at, layout_at};
-ghost use Rattle.lane_conversions.specs.Sides.{IsAddendOf, IsSideOf};
+ghost use Rattle.lane_conversions.specs.Sides.{IsAddendOf, IsSideOf, LeadsPast};
 ghost use Rattle.lane_conversions.specs.Targets.{IsShort};
 
 use crate::constants::{Addend, Side, Target};
@@ -116,4 +117,15 @@ pub fn short_plan_of(target: Target, saturates: bool, round: Round) -> ShortPlan
         positive: side_of(low, target, saturates, round, false),
         negative: side_of(low, target, saturates, round, true),
     }
+}
+
+/// Whether numbers of either sign past the largest value become what is past it.
+#[inline(always)]
+pub fn delivers_past(target: Target, positive: Side, negative: Side) -> bool
+    ensures { IsTrue result → (low : ℕ) (saturates : Bool) (mode : Mode)
+        → IsSideOf low saturates (format_at target) mode false positive
+        → IsSideOf low saturates (format_at target) mode true negative
+        → LeadsPast saturates mode }
+{
+    (positive.greatest > largest_code(target)) & (negative.greatest > largest_code(target))
 }

@@ -7,14 +7,14 @@ use Rattle.array_conversions.proofs.Rows.{cleared_finite}
 use Rattle.array_conversions.proofs.short_singles.clear_specials.Goals as goal
 
 pub loop-index-init : goal.loop-index-init
-loop-index-init c = record {
+loop-index-init g c = record {
   size = c.told-halves;
   each = λ k none. absurd (omega (arith, none));
   rest = λ k from. refl;
 }
 
 pub loop-index-preserved : goal.loop-index-preserved
-loop-index-preserved c =
+loop-index-preserved g c =
     let old = c.args.halves.now in
     let halves = c.loop-index.halves in
     let index = c.loop-index.index in
@@ -33,9 +33,9 @@ loop-index-preserved c =
     }
 
 pub returns : goal.returns
-returns c =
+returns g c =
     let past = c.loop-index-test.false in
-    let kept : (k : ℕ) → k < 64
+    let kept : (k : ℕ) → k < g.row.N
     → slice_index c.loop-index.halves k ≡ number_in (slice_index c.args.halves.now k) =
     λ k before. c.loop-index.invariant.each k (omega (arith, before, past)) in
     record {

@@ -2,10 +2,10 @@ use Rattle.std.specs.Prelude.{◌≡◌, ℕ, ◌<◌, ◌≤◌, List, length, 
 use Rattle.array_conversions.specs.Rows.{number_in}
 use Rattle.array_conversions.proofs.short_singles.clear_specials.Given as goal
 
-pub record AreCleared (old halves : List ℕ) (index : ℕ) : Type 0 where
-  pub size : length halves ≡ 64
+pub record AreCleared (old halves : List ℕ) (count index : ℕ) : Type 0 where
+  pub size : length halves ≡ count
   pub each : (k : ℕ) → k < index → slice_index halves k ≡ number_in (slice_index old k)
   pub rest : (k : ℕ) → index ≤ k → slice_index halves k ≡ slice_index old k
 
 abbrev pub invariant-loop-index : goal.invariant-loop-index
-invariant-loop-index l = AreCleared l.fn.halves l.halves l.index
+invariant-loop-index g l = AreCleared l.fn.halves l.halves g.row.N l.index

@@ -10,33 +10,39 @@ use Rattle.array_conversions.proofs.Rows.{row_more, row_none}
 use Rattle.array_conversions.proofs.short_singles.convert_halves.Goals as goal
 
 pub loop-index-init : goal.loop-index-init
-loop-index-init c = record {
-  few_are = record { inexact = omega arith; underflow = omega arith; overflow = omega arith; nans = omega arith };
+loop-index-init g c = record {
+  few_are = record {
+    inexact = omega arith;
+    underflow = omega arith;
+    overflow = omega arith;
+    invalid = omega arith;
+    nans = omega arith;
+  };
   row = λ overflow from to mode given is_single is_plan read.
       row_none (IsConvertedBy overflow from to mode) given c.args.width c.args.output.now;
 }
 
 pub write_number-requires : goal.write_number-requires
-write_number-requires c =
-    let size : length c.loop-index.output ≡ 64 * c.args.width = c.loop-index.auto.output ∙ c.requires.output in
-    let width = place_size c.args.width c.loop-index.index 64 c.loop-index.output c.loop-index-test.true size in
+write_number-requires g c =
+    let size : length c.loop-index.output ≡ g.row.N * c.args.width = c.loop-index.auto.output ∙ c.requires.output in
+    let width = place_size c.args.width c.loop-index.index g.row.N c.loop-index.output c.loop-index-test.true size in
     let room = c.requires.width in
     rw c.from.ensures
     (fits c.convert_half-lane.result.bits c.args.plan.target.bits _ c.convert_half-lane.ensures.below
     (omega (arith, room, width)))
 
 pub loop-index-preserved : goal.loop-index-preserved
-loop-index-preserved c =
+loop-index-preserved g c =
     let index = c.loop-index.index in
     let before = c.loop-index-test.true in
-    let size : length c.loop-index.output ≡ 64 * c.args.width = c.loop-index.auto.output ∙ c.requires.output in
+    let size : length c.loop-index.output ≡ g.row.N * c.args.width = c.loop-index.auto.output ∙ c.requires.output in
     let width : length c.write_number.new.bytes ≡ c.args.width =
-    c.write_number.auto.bytes ∙ place_size c.args.width index 64 c.loop-index.output before size in
+    c.write_number.auto.bytes ∙ place_size c.args.width index g.row.N c.loop-index.output before size in
     record {
       few_are = c.counted-few.ensures.most index c.loop-index.invariant.few_are;
       row = λ overflow from to mode given is_single is_plan read.
           rw (c.counted-few.ensures.counts index)
-          (row_more (IsConvertedBy overflow from to mode) given c.args.width index 64 c.loop-index.output
+          (row_more (IsConvertedBy overflow from to mode) given c.args.width index g.row.N c.loop-index.output
           c.write_number.new.bytes (counts_with c.loop-index.few index)
           (outcome_of c.convert_half-lane.result) before size width
           (short_plan_answers overflow from to mode c.args.plan (given index) c.write_number.new.bytes
@@ -46,10 +52,10 @@ loop-index-preserved c =
     }
 
 pub returns : goal.returns
-returns c = λ overflow from to mode given is_single is_plan read.
+returns g c = λ overflow from to mode given is_single is_plan read.
     let low = c.loop-index-test.false in
     let high = c.loop-index.auto.index-end in
-    let last : c.loop-index.index ≡ 64 = omega (arith, low, high) in
+    let last : c.loop-index.index ≡ g.row.N = omega (arith, low, high) in
     subst
     (λ (n : ℕ). IsRow (IsConvertedBy overflow from to mode) given c.args.width n c.loop-index.output
     (counts_with c.loop-index.few n)) last

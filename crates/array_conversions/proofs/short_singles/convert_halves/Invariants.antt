@@ -12,12 +12,12 @@ use Rattle.array_conversions.specs.Singles.{counts_with}
 use Rattle.array_conversions.specs.Values.{IsConvertedBy}
 use Rattle.array_conversions.proofs.short_singles.convert_halves.Given as goal
 
-pub record AreConverted (plan : ShortPlan) (width index : ℕ) (halves output : List ℕ)
+pub record AreConverted (plan : ShortPlan) (width count index : ℕ) (halves output : List ℕ)
     (few : FewCounts) : Type 0 where
   pub few_are : AreAtMost index few
   pub row : (overflow : Overflow) (c d : Constants) (mode : Round) (given : ℕ → List ℕ)
-      → IsSingle (format_with c) (layout_with c) → IsShortPlanFor overflow d mode plan → AreHalvesOf halves given
+      → IsSingle (format_with c) (layout_with c) → IsShortPlanFor overflow d mode plan → AreHalvesOf count halves given
       → IsRow (IsConvertedBy overflow c d mode) given width index output (counts_with few index)
 
 abbrev pub invariant-loop-index : goal.invariant-loop-index
-invariant-loop-index l = AreConverted l.plan l.width l.index l.halves l.output l.few
+invariant-loop-index g l = AreConverted l.plan l.width g.row.N l.index l.halves l.output l.few

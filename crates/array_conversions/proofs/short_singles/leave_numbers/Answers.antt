@@ -5,7 +5,7 @@ use Rattle.array_conversions.proofs.Rows.{finite_kept}
 use Rattle.array_conversions.proofs.short_singles.leave_numbers.Goals as goal
 
 pub returns-then-are_finite : goal.returns-then-are_finite
-returns-then-are_finite c =
+returns-then-are_finite g c =
     let all = c.are_finite.ensures c.if-are_finite.true in
     record {
       finite = all;
@@ -14,7 +14,7 @@ returns-then-are_finite c =
     }
 
 pub returns-else-are_finite : goal.returns-else-are_finite
-returns-else-are_finite c = record {
+returns-else-are_finite g c = record {
   finite = c.clear_specials.ensures.finite;
   kept = c.clear_specials.ensures.kept;
   all = λ none. absurd (true≢false (sym none));

@@ -9,7 +9,7 @@ use Rattle.array_conversions.proofs.Rows.{cleared_finite, made_there, upper_alik
 use Rattle.array_conversions.proofs.singles.clear_specials.Goals as goal
 
 pub loop-index-init : goal.loop-index-init
-loop-index-init c = record {
+loop-index-init g c = record {
   size = c.told-uppers;
   lower_size = c.told-lowers;
   each = λ k none. absurd (omega (arith, none));
@@ -19,7 +19,7 @@ loop-index-init c = record {
 }
 
 pub loop-index-preserved : goal.loop-index-preserved
-loop-index-preserved c =
+loop-index-preserved g c =
     let old = c.args.uppers.now in
     let old_lowers = c.args.lowers.now in
     let uppers = c.loop-index.uppers in
@@ -52,10 +52,10 @@ loop-index-preserved c =
     }
 
 pub returns : goal.returns
-returns c =
+returns g c =
     let past = c.loop-index-test.false in
     let so_far = c.loop-index.invariant in
-    let kept : (k : ℕ) → k < 64
+    let kept : (k : ℕ) → k < g.row.N
     → slice_index c.loop-index.uppers k ≡ number_in (slice_index c.args.uppers.now k) =
     λ k before. so_far.each k (omega (arith, before, past)) in
     record {

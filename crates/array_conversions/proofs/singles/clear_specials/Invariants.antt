@@ -2,9 +2,9 @@ use Rattle.std.specs.Prelude.{◌≡◌, ℕ, ◌<◌, ◌≤◌, List, length, 
 use Rattle.array_conversions.specs.Rows.{lower_in, number_in}
 use Rattle.array_conversions.proofs.singles.clear_specials.Given as goal
 
-pub record AreCleared (old_uppers old_lowers uppers lowers : List ℕ) (index : ℕ) : Type 0 where
-  pub size : length uppers ≡ 64
-  pub lower_size : length lowers ≡ 64
+pub record AreCleared (old_uppers old_lowers uppers lowers : List ℕ) (count index : ℕ) : Type 0 where
+  pub size : length uppers ≡ count
+  pub lower_size : length lowers ≡ count
   pub each : (k : ℕ) → k < index → slice_index uppers k ≡ number_in (slice_index old_uppers k)
   pub each_lower : (k : ℕ) → k < index
       → slice_index lowers k ≡ lower_in (slice_index old_uppers k) (slice_index old_lowers k)
@@ -12,4 +12,4 @@ pub record AreCleared (old_uppers old_lowers uppers lowers : List ℕ) (index : 
   pub rest_lower : (k : ℕ) → index ≤ k → slice_index lowers k ≡ slice_index old_lowers k
 
 abbrev pub invariant-loop-index : goal.invariant-loop-index
-invariant-loop-index l = AreCleared l.fn.uppers l.fn.lowers l.uppers l.lowers l.index
+invariant-loop-index g l = AreCleared l.fn.uppers l.fn.lowers l.uppers l.lowers g.row.N l.index

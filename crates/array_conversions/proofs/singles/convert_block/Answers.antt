@@ -1,36 +1,27 @@
-use Rattle.std.proofs.Common.{ℕ, ◌/◌, ◌%◌, ◌^◌, ◌<◌, ◌*◌, sym, ap, ◌∙◌, subst}
+use Rattle.std.proofs.Common.{ℕ, ◌*◌, ◌≤◌, sym, ap, subst, arith}
+use Rattle.apfloat_model.specs.bits.Layout.{Layout}
 use Rattle.rustc_apfloat.specs.FlaggedTypes.{constants_of}
 use Rattle.array_conversions.specs.Blocks.{value_at}
-use Rattle.array_conversions.specs.Bytes.{number_of}
-use Rattle.array_conversions.specs.Rows.{number_from}
 use Rattle.array_conversions.specs.Values.{IsConvertedBy}
-use Rattle.array_conversions.proofs.Rows.{finite_there, row_block, upper_alike}
+use Rattle.array_conversions.proofs.Rows.{row_block}
 use Rattle.array_conversions.proofs.singles.convert_block.Goals as goal
 
-pub convert_specials-requires-clause-numbers : goal.convert_specials-requires-clause-numbers
-convert_specials-requires-clause-numbers g c =
-    rw c.all_counts-counts.ensures
-    (c.convert_halves-few.ensures c.args.overflow (constants_of g.S.Flagged) (constants_of g.T.Flagged) c.args.round
-    (number_from 0 c.args.input.now) c.requires.single c.requires.plan
-    (c.leave_numbers-finite.ensures.kept c.args.input.now
-    (record { upper = c.uppers_of-uppers.ensures; lower = c.lowers_of-lowers.ensures })))
+pub returns-then-delivers_past : goal.returns-then-delivers_past
+returns-then-delivers_past g c =
+    let input = c.args.input.now in
+    row_block (IsConvertedBy c.args.overflow (constants_of g.S.Flagged) (constants_of g.T.Flagged) c.args.round)
+    (λ k. value_at 4 k input) c.args.widths.source c.args.widths.target g.row.N input c.convert_alike.new.output _
+    (λ k before. ap (λ (n : ℕ). value_at n k input) (sym c.requires.source))
+    (c.convert_alike.ensures c.args.overflow (constants_of g.S.Flagged) (constants_of g.T.Flagged) c.args.round
+    (λ k. value_at 4 k input) c.requires.single c.requires.plan
+    c.read_halves.ensures)
 
-pub returns-then-finite : goal.returns-then-finite
-returns-then-finite g c =
-    rw c.all_counts-counts.ensures
-    (row_block (IsConvertedBy c.args.overflow (constants_of g.S.Flagged) (constants_of g.T.Flagged) c.args.round)
-    (number_from 0 c.args.input.now) c.args.widths.source c.args.widths.target 64 c.args.input.now
-    c.convert_halves-few.new.output _
-    (λ k before.
-    finite_there 0 c.args.input.now k (number_of (value_at 4 k c.args.input.now) / 2 ^ 16)
-    (upper_alike (number_of (value_at 4 k c.args.input.now)))
-    (subst (λ (n : ℕ). n % 2 ^ 15 < 255 * 2 ^ 7) (c.uppers_of-uppers.ensures k before)
-    (c.leave_numbers-finite.ensures.all c.if-finite.true k before))
-    ∙ ap (λ (n : ℕ). value_at n k c.args.input.now) (sym c.requires.source))
-    (c.convert_halves-few.ensures c.args.overflow (constants_of g.S.Flagged) (constants_of g.T.Flagged) c.args.round
-    (number_from 0 c.args.input.now) c.requires.single c.requires.plan
-    (c.leave_numbers-finite.ensures.kept c.args.input.now
-    (record { upper = c.uppers_of-uppers.ensures; lower = c.lowers_of-lowers.ensures }))))
-
-pub returns-else-finite : goal.returns-else-finite
-returns-else-finite g c = rw c.requires.source c.convert_specials.ensures
+pub convert_alike-requires : goal.convert_alike-requires
+convert_alike-requires g c =
+    let plan = c.args.plan in
+    let few = c.requires.few in
+    let width : c.args.plan.target.bits ≤ 8 * c.args.widths.target =
+    subst (λ (l : Layout). l.bits ≤ 8 * c.args.widths.target) (sym c.requires.plan.layout) c.requires.target in
+    let leads = c.delivers_past.ensures c.if-delivers_past.true 16 plan.saturates plan.round plan.positive_is
+    plan.negative_is in
+    (omega (arith, few), (width, (leads, (few, c.requires.output))))

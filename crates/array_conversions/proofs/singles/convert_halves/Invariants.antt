@@ -11,12 +11,12 @@ use Rattle.array_conversions.specs.Singles.{AreHalves, IsPlanFor, counts_with}
 use Rattle.array_conversions.specs.Values.{IsConvertedBy}
 use Rattle.array_conversions.proofs.singles.convert_halves.Given as goal
 
-pub record AreConverted (plan : Plan) (width index : ℕ) (uppers lowers output : List ℕ) (few : FewCounts)
+pub record AreConverted (plan : Plan) (width count index : ℕ) (uppers lowers output : List ℕ) (few : FewCounts)
     : Type 0 where
   pub few_are : AreAtMost index few
   pub row : (overflow : Overflow) (c d : Constants) (mode : Round) (given : ℕ → List ℕ)
-      → IsSingle (format_with c) (layout_with c) → IsPlanFor overflow d mode plan → AreHalves uppers lowers given
+      → IsSingle (format_with c) (layout_with c) → IsPlanFor overflow d mode plan → AreHalves count uppers lowers given
       → IsRow (IsConvertedBy overflow c d mode) given width index output (counts_with few index)
 
 abbrev pub invariant-loop-index : goal.invariant-loop-index
-invariant-loop-index l = AreConverted l.plan l.width l.index l.uppers l.lowers l.output l.few
+invariant-loop-index g l = AreConverted l.plan l.width g.row.N l.index l.uppers l.lowers l.output l.few

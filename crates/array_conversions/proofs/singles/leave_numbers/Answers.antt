@@ -7,12 +7,12 @@ use Rattle.array_conversions.proofs.Rows.{finite_there, upper_alike}
 use Rattle.array_conversions.proofs.singles.leave_numbers.Goals as goal
 
 pub returns-then-are_finite : goal.returns-then-are_finite
-returns-then-are_finite c =
+returns-then-are_finite g c =
     let all = c.are_finite.ensures c.if-are_finite.true in
     record {
       finite = all;
       kept = λ input read.
-          let same : (k : ℕ) → k < 64 → number_from 0 input k ≡ value_at 4 k input = λ k before.
+          let same : (k : ℕ) → k < g.row.N → number_from 0 input k ≡ value_at 4 k input = λ k before.
           finite_there 0 input k (number_of (value_at 4 k input) / 2 ^ 16)
           (upper_alike (number_of (value_at 4 k input)))
           (subst (λ (n : ℕ). n % 2 ^ 15 < 255 * 2 ^ 7) (read.upper k before) (all k before)) in
@@ -24,7 +24,7 @@ returns-then-are_finite c =
     }
 
 pub returns-else-are_finite : goal.returns-else-are_finite
-returns-else-are_finite c = record {
+returns-else-are_finite g c = record {
   finite = c.clear_specials.ensures.finite;
   kept = c.clear_specials.ensures.kept;
   all = λ none. absurd (true≢false (sym none));

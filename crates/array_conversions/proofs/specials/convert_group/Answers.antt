@@ -19,8 +19,8 @@ loop-index-preserved g c =
     let index = c.loop-index.index in
     let next = c.loop-index-test.true in
     let within = c.requires.within in
-    let before : c.loop-index.index < 64 = omega (arith, next, within) in
-    let room : length c.loop-index.output ≡ 64 * c.args.width = c.loop-index.auto.output ∙ c.requires.output in
+    let before : c.loop-index.index < g.row.N = omega (arith, next, within) in
+    let room : length c.loop-index.output ≡ g.row.N * c.args.width = c.loop-index.auto.output ∙ c.requires.output in
     let number : c.is_finite.result ≡ ltb (number_of (value_at 4 index input) % 2 ^ 31) (255 * 2 ^ 23) =
     c.is_finite.ensures ∙ ap (λ (n : ℕ). ltb (n % 2 ^ 31) (255 * 2 ^ 23)) c.word_of.ensures in
     elim c.if-not-is_finite.branch [
@@ -28,11 +28,11 @@ loop-index-preserved g c =
           let special : ltb (number_of (value_at 4 index input) % 2 ^ 31) (255 * 2 ^ 23) ≡ false =
           sym number ∙ w.if-not-is_finite.true in
           rw (w.output-is, w.counts-is, w.raise.ensures)
-          (row_set Holds (number_from index input) (number_from (index + 1) input) c.args.width index 64
+          (row_set Holds (number_from index input) (number_from (index + 1) input) c.args.width index g.row.N
           c.loop-index.output w.convert_slowly.new.output c.loop-index.counts w.convert_slowly.result before
           (omega arith)
           room
-          (w.convert_slowly.auto.output ∙ place_size c.args.width index 64 c.loop-index.output before room)
+          (w.convert_slowly.auto.output ∙ place_size c.args.width index g.row.N c.loop-index.output before room)
           (next_there index input)
           (subst (λ (bytes : List ℕ). Holds bytes w.convert_slowly.new.output w.convert_slowly.result)
           (sym (done_there (index + 1) input index (omega arith))) w.convert_slowly.ensures)
@@ -42,8 +42,9 @@ loop-index-preserved g c =
           c.loop-index.invariant)
       | else-not-is_finite w ↦
           rw (w.output-is, w.counts-is)
-          (row_given Holds (number_from index input) (number_from (index + 1) input) c.args.width 64 c.loop-index.output
-          c.loop-index.counts (λ k low. next_number index input (sym number ∙ w.if-not-is_finite.false) k)
+          (row_given Holds (number_from index input) (number_from (index + 1) input) c.args.width g.row.N
+          c.loop-index.output c.loop-index.counts
+          (λ k low. next_number index input (sym number ∙ w.if-not-is_finite.false) k)
           c.loop-index.invariant)
     ]
 
@@ -55,5 +56,5 @@ returns g c =
     subst
     (λ (n : ℕ).
     IsRow (IsConvertedBy c.args.overflow (constants_of g.S.Flagged) (constants_of g.T.Flagged) c.args.round)
-    (number_from n c.args.input.now) c.args.width 64 c.loop-index.output c.loop-index.counts) all
+    (number_from n c.args.input.now) c.args.width g.row.N c.loop-index.output c.loop-index.counts) all
     c.loop-index.invariant

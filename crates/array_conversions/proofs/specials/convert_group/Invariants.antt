@@ -6,4 +6,4 @@ use Rattle.array_conversions.proofs.specials.convert_group.Given as goal
 abbrev pub invariant-loop-index : goal.invariant-loop-index
 invariant-loop-index g l =
     IsRow (IsConvertedBy l.overflow (constants_of g.S.Flagged) (constants_of g.T.Flagged) l.round)
-    (number_from l.index l.input) l.width 64 l.output l.counts
+    (number_from l.index l.input) l.width g.row.N l.output l.counts

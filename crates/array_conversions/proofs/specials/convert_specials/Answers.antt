@@ -23,16 +23,16 @@ loop-group-preserved g c =
     elim c.if-not-are_numbers.branch [
       | then-not-are_numbers w ↦
           subst
-          (λ (n : ℕ). IsRow Holds (number_from n input) c.args.width 64 c.if-not-are_numbers.output
+          (λ (n : ℕ). IsRow Holds (number_from n input) c.args.width g.row.N c.if-not-are_numbers.output
           c.if-not-are_numbers.counts) next
           (rw (w.output-is, w.counts-is) w.convert_group-counts.ensures)
       | else-not-are_numbers w ↦
           let numbers = c.are_numbers.ensures w.if-not-are_numbers.false in
           subst
-          (λ (n : ℕ). IsRow Holds (number_from n input) c.args.width 64 c.if-not-are_numbers.output
+          (λ (n : ℕ). IsRow Holds (number_from n input) c.args.width g.row.N c.if-not-are_numbers.output
           c.if-not-are_numbers.counts) next
           (rw (w.output-is, w.counts-is)
-          (row_given Holds (number_from done input) (number_from (done + 16) input) c.args.width 64
+          (row_given Holds (number_from done input) (number_from (done + 16) input) c.args.width g.row.N
           c.loop-group.output c.loop-group.counts
           (λ k low. numbers_there done 16 input
           (λ j within. subst (λ (bytes : List ℕ). number_of bytes % 2 ^ 31 < 255 * 2 ^ 23)
@@ -45,5 +45,5 @@ returns g c =
     let past = c.loop-group-test.false in
     let done = c.loop-group.group * 16 in
     row_block (IsConvertedBy c.args.overflow (constants_of g.S.Flagged) (constants_of g.T.Flagged) c.args.round)
-    (number_from done c.args.input.now) 4 c.args.width 64 c.args.input.now c.loop-group.output c.loop-group.counts
+    (number_from done c.args.input.now) 4 c.args.width g.row.N c.args.input.now c.loop-group.output c.loop-group.counts
     (λ k before. done_there done c.args.input.now k (omega (arith, before, past))) c.loop-group.invariant

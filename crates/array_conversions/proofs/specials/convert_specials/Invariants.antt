@@ -7,4 +7,4 @@ use Rattle.array_conversions.proofs.specials.convert_specials.Given as goal
 abbrev pub invariant-loop-group : goal.invariant-loop-group
 invariant-loop-group g l =
     IsRow (IsConvertedBy l.overflow (constants_of g.S.Flagged) (constants_of g.T.Flagged) l.round)
-    (number_from (l.group * 16) l.input) l.width 64 l.output l.counts
+    (number_from (l.group * 16) l.input) l.width g.row.N l.output l.counts

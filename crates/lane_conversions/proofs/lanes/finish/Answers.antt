@@ -30,6 +30,7 @@ returns c = λ saturates mode amount parts some side reached.
       inexact = rw (is.inexact, c.from-2.ensures, sum, low) refl;
       underflow = rw (is.underflow, c.from.ensures, c.from-2.ensures, sum, high) refl;
       overflow = rw (is.overflow, c.from-2.ensures, sum, side.raises) refl;
+      invalid = is.invalid;
       nan_is = rw (is.nan_is, c.from-3.ensures, c.min-code.ensures, sum, side.greatest) refl;
     })
     reached

@@ -1,81 +1,77 @@
-use Rattle.std.proofs.Common.{◌≡◌, ℕ, ◌+◌, ◌-◌, ◌*◌, ◌/◌, ◌%◌, ◌^◌, ◌<◌, Bool, eqb, ◌&&◌, sym, ap, ◌∙◌, subst, pos, ◌-ℤ◌, arith}
-use Rattle.std.proofs.lemmas.Bool.{ne_eqb}
-use Rattle.std.proofs.lemmas.Int.{ints}
-use Rattle.std.proofs.lemmas.Nat.{pow_pos}
-use Rattle.apfloat_model.specs.bits.Layout.{datum_of}
-use Rattle.apfloat_model.specs.formats.Datum.{finite}
+use Rattle.std.proofs.Common.{◌≡◌, ℕ, ◌*◌, ◌/◌, ◌%◌, ◌^◌, ◌<◌, ◌≤◌, true, ◌&&◌, eqb, ltb, leb, sym, ◌∙◌, subst, inl, inr, ⊎_elim, arith}
+use Rattle.std.proofs.lemmas.Bool.{cases_lt, le-leb, le-ltb, lt-leb}
+use Rattle.apfloat_model.specs.bits.Layout.{Layout}
+use Rattle.apfloat_model.specs.formats.Format.{Format}
 use Rattle.apfloat_model.specs.rounding.RoundingToOdd.{odd_quotient}
+use Rattle.lane_conversions.specs.declared.lanes.Lane.{Lane}
 use Rattle.lane_conversions.specs.At.{format_at, layout_at}
-use Rattle.lane_conversions.specs.Lanes.{IsRounded}
-use Rattle.lane_conversions.specs.Scaled.{IsScaled}
-use Rattle.lane_conversions.specs.Sides.{IsSideOf}
-use Rattle.lane_conversions.specs.Targets.{has_one_zero}
-use Rattle.lane_conversions.proofs.Singles.{lane_converted, place_of, significand_of, single_read}
-use Rattle.lane_conversions.proofs.UpperHalves.{IsHalf, half_alone, half_is, half_scaled, word_below}
-use Rattle.lane_conversions.proofs.short_lanes.convert_half.Goals.{then-negative, else-negative}
+use Rattle.lane_conversions.specs.Lanes.{IsLane, IsPastLane, with_special}
+use Rattle.lane_conversions.specs.Targets.{IsSingle}
+use Rattle.lane_conversions.proofs.Interchanges.{target_interchange}
+use Rattle.lane_conversions.proofs.Specials.{a_layout, a_single, a_single_is, as_number, as_special, half_nan, half_payload, not_false, special_converted}
+use Rattle.lane_conversions.proofs.UpperHalves.{half_alone, half_is, word_below}
 use Rattle.lane_conversions.proofs.short_lanes.convert_half.Goals as goal
 
--- the argument is the upper half of a word
-halves : (c : goal.After-struct_known-1) (x : ℕ) → c.args.half ≡ odd_quotient x (2 ^ 16)
-    → (x < 2 ^ 32) × IsHalf c.args.half x
-halves c x is =
-    let below : odd_quotient x (2 ^ 16) < 2 ^ 16 =
-    subst (λ (n : ℕ). n < 2 ^ 16) is c.ranges.half.fits in
-    let word = word_below x below in
-    (word, subst (λ (n : ℕ). IsHalf n x) (sym is) (half_is x word))
+lane_of : (c : goal.After-with_special) (Says : Lane → Type 0)
+    → (c.args.half % 2 ^ 15 < 255 * 2 ^ 7 → Says c.convert_number.result)
+    → (255 * 2 ^ 7 ≤ c.args.half % 2 ^ 15 → Says (with_special c.args.plan.target.nonfinite
+    c.args.plan.target.precision c.convert_number.result true (ltb (255 * 2 ^ 7) (c.args.half % 2 ^ 15))
+    (c.args.half % 2 ^ 7 * 2 ^ 9)))
+    → Says c.with_special.result
+lane_of c Says number special =
+    let t = c.args.plan.target in
+    let h = c.args.half in
+    let m = c.args.half % 2 ^ 15 in
+    subst Says (sym c.with_special.ensures)
+    (⊎_elim
+    {C = Says (with_special t.nonfinite t.precision c.convert_number.result (c.args.specials && leb (255 * 2 ^ 7) m)
+    (c.args.specials && ltb (255 * 2 ^ 7) m) (h % 2 ^ 7 * 2 ^ 9))}
+    (λ (low : c.args.half % 2 ^ 15 < 255 * 2 ^ 7).
+    as_number Says t.nonfinite t.precision (h % 2 ^ 7 * 2 ^ 9) c.convert_number.result c.args.specials
+    (leb (255 * 2 ^ 7) m) (ltb (255 * 2 ^ 7) m) (lt-leb (255 * 2 ^ 7) m low)
+    (le-ltb (255 * 2 ^ 7) m (omega (arith, low))) (number low))
+    (λ (high : 255 * 2 ^ 7 ≤ c.args.half % 2 ^ 15).
+    as_special Says t.nonfinite t.precision (h % 2 ^ 7 * 2 ^ 9) c.convert_number.result c.args.specials
+    (leb (255 * 2 ^ 7) m) (ltb (255 * 2 ^ 7) m)
+    (not_false c.args.specials (λ off. let low = c.requires.number off in omega (arith, low, high)))
+    (le-leb (255 * 2 ^ 7) m high) (special high))
+    (cases_lt m (255 * 2 ^ 7)))
 
--- so its lane is that of the word, rounded
-lane_is : (c : goal.After-struct_known-1) (x : ℕ) → c.args.half ≡ odd_quotient x (2 ^ 16)
-    → IsRounded c.args.plan.saturates (format_at c.args.plan.target) (layout_at c.args.plan.target) c.args.plan.round
-    (eqb (c.args.half / 2 ^ 15) 1)
-    (significand_of (x % 2 ^ 31) * 2 ^ place_of (x % 2 ^ 31) * 2 ^ (format_at c.args.plan.target).scale) (2 ^ 149)
-    c.finish-lane.result
-lane_is c x is =
+converted : (c : goal.After-with_special) (x : ℕ) (single : Format) (layout : Layout)
+    → c.args.half ≡ odd_quotient x (2 ^ 16) → IsSingle single layout
+    → IsLane c.args.plan.saturates single layout (format_at c.args.plan.target) (layout_at c.args.plan.target)
+    c.args.plan.round x c.with_special.result
+converted c x single layout is is_single =
     let plan = c.args.plan in
     let t = plan.target in
-    let f = format_at t in
     let h = c.args.half in
-    let amount = significand_of (x % 2 ^ 31) * 2 ^ place_of (x % 2 ^ 31) * 2 ^ f.scale in
-    let precise = t.lawful.precise in
-    let low = t.lawful.below in
-    let side : IsSideOf (15 - t.precision) plan.saturates f plan.round (eqb (h / 2 ^ 15) 1) c.if-negative.side =
-    elim c.if-negative.branch [
-      | then-negative w ↦ rw (w.side-is, w.if-negative.true) plan.negative_is
-      | else-negative w ↦ rw (w.side-is, ne_eqb (h / 2 ^ 15) 1 w.if-negative.false) plan.positive_is
-    ] in
-    let scale : pos f.scale ≡ pos (t.precision - 1) -ℤ t.min_exp = omega (arith, ints, precise, low) in
-    let scaled = half_scaled f t.min_exp x h c.first_exponent-first.result precise plan.short.digits scale
-    plan.short.least c.first_exponent-first.ensures.is (halves c x is).1 in
-    let there : IsScaled t.precision (15 - t.precision) (c.digits_of.result + c.place_of.result * 2 ^ 14) amount
-    (2 ^ 149) =
-    subst (λ (n : ℕ). IsScaled t.precision (15 - t.precision) n amount (2 ^ 149))
-    (λ i. sym c.digits_of.ensures.is i + sym c.place_of.ensures.is i * 2 ^ 14) scaled in
-    c.finish-lane.ensures plan.saturates plan.round amount (2 ^ 149) (pow_pos 149) side there
+    lane_of c (λ one. IsLane plan.saturates single layout (format_at t) (layout_at t) plan.round x one)
+    (λ low. inl (c.convert_number.ensures.converted x single layout low is is_single))
+    (λ high.
+    let word : x < 2 ^ 32 = word_below x (subst (λ (n : ℕ). n < 2 ^ 16) is c.ranges.half.fits) in
+    let half = half_is x word in
+    let sign : odd_quotient x (2 ^ 16) / 2 ^ 15 ≡ x / 2 ^ 31 = half.sign in
+    let exponent : odd_quotient x (2 ^ 16) % 2 ^ 15 / 2 ^ 7 ≡ x % 2 ^ 31 / 2 ^ 23 = half.exponent in
+    let leads = c.requires.leads
+    (not_false c.args.specials (λ off. let low = c.requires.number off in omega (arith, low, high))) in
+    let signs : h / 2 ^ 15 ≡ x / 2 ^ 31 = (λ i. is i / 2 ^ 15) ∙ sign in
+    inr (
+      leads.kept,
+      special_converted single layout (format_at t) (layout_at t) plan.round x (h % 2 ^ 7 * 2 ^ 9)
+          c.convert_number.result is_single
+          (target_interchange (format_at t) (layout_at t) t.min_exp t.max_exp t.lawful) t.lawful.implied t.lawful.digits
+          word
+          (omega (arith, is, exponent, high))
+          (subst (λ (n : ℕ). IsPastLane (format_at t) (layout_at t) (eqb n 1) c.convert_number.result) signs
+          (c.convert_number.ensures.past high leads))
+          (ltb (255 * 2 ^ 7) (h % 2 ^ 15)) (half_nan h x is high) (half_payload t.precision h x plan.short.digits is),
+    ))
+
+-- the bits of either lane are those of an encoding
+encoded_below : (c : goal.After-with_special) → c.with_special.result.bits < 2 ^ c.args.plan.target.bits
+encoded_below c =
+    ⊎_elim (λ number. number.is_encoded.below) (λ special. special.1.is_encoded.below)
+    (converted c (c.args.half * 2 ^ 16) a_single a_layout (sym (half_alone c.args.half)) a_single_is)
 
 pub returns : goal.returns
-returns c =
-    let plan = c.args.plan in
-    let t = plan.target in
-    let f = format_at t in
-    let h = c.args.half in
-    let precise = t.lawful.precise in
-    let number = c.requires in
-    record {
-      below = (lane_is c (h * 2 ^ 16) (sym (half_alone h))).is_encoded.below;
-      converted = λ x single layout is is_single.
-          let both = halves c x is in
-          let sign = both.1.sign in
-          let exponent = both.1.exponent in
-          let few : x % 2 ^ 31 < 255 * 2 ^ 23 = omega (arith, exponent, number) in
-          let read : datum_of single layout x
-          ≡ finite (eqb (h / 2 ^ 15) 1) (significand_of (x % 2 ^ 31) * 2 ^ place_of (x % 2 ^ 31)) =
-          single_read single layout x is_single both.0 few
-          ∙ ap (λ (n : ℕ). finite (eqb n 1) (significand_of (x % 2 ^ 31) * 2 ^ place_of (x % 2 ^ 31)))
-          (sym sign) in
-          let lost : c.loses_sign.result ≡ (has_one_zero t.nonfinite && eqb (h / 2 ^ 15) 1 && eqb (x % 2 ^ 31) 0) =
-          c.loses_sign.ensures
-          ∙ ap (λ (b : Bool). has_one_zero t.nonfinite && eqb (h / 2 ^ 15) 1 && b) both.1.zero in
-          lane_converted plan.saturates single layout f (layout_at t) plan.round (eqb (h / 2 ^ 15) 1)
-          c.loses_sign.result (x % 2 ^ 31) x c.finish-lane.result read is_single.scale (omega (arith, precise)) lost
-          (lane_is c x is);
-    }
+returns c = record { below = encoded_below c; converted = converted c }

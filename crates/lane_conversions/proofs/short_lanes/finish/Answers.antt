@@ -42,6 +42,7 @@ returns c = λ saturates mode amount parts some side scaled.
       inexact = rw (is.inexact, c.from-2.ensures, rest, rounded) refl;
       underflow = rw (is.underflow, c.from.ensures, c.from-2.ensures, kept, rounded) refl;
       overflow = rw (is.overflow, c.from-2.ensures, rounded, side.raises) refl;
+      invalid = is.invalid;
       nan_is = rw (is.nan_is, c.from-3.ensures, c.min-code.ensures, rounded, side.greatest) refl;
     })
     there

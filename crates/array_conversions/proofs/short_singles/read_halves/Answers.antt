@@ -1,15 +1,15 @@
-use Rattle.std.proofs.Common.{◌≡◌, ℕ, ◌^◌, refl, ap, ◌∙◌, arith, length-set}
+use Rattle.std.proofs.Common.{◌≡◌, ℕ, ◌^◌, ap, ◌∙◌, arith, length-set}
 use Rattle.apfloat_model.specs.rounding.RoundingToOdd.{odd_quotient}
 use Rattle.array_conversions.specs.Blocks.{value_at}
 use Rattle.array_conversions.specs.Bytes.{number_of}
 use Rattle.array_conversions.proofs.Items.{set_says}
-use Rattle.array_conversions.proofs.short_singles.halves_of.Goals as goal
+use Rattle.array_conversions.proofs.short_singles.read_halves.Goals as goal
 
 pub loop-index-init : goal.loop-index-init
-loop-index-init c = record { size = refl; each = λ k none. absurd (omega (arith, none)) }
+loop-index-init g c = record { size = c.told-halves; each = λ k none. absurd (omega (arith, none)) }
 
 pub loop-index-preserved : goal.loop-index-preserved
-loop-index-preserved c =
+loop-index-preserved g c =
     let halves = c.loop-index.halves in
     let bytes = c.args.bytes.now in
     let index = c.loop-index.index in

@@ -1,4 +1,4 @@
-use Rattle.std.proofs.Common.{◌≡◌, ℕ, ◌+◌, ◌*◌, ◌/◌, ◌%◌, ◌^◌, ◌<◌, Bool, eqb, ◌&&◌, ◌∙◌, sym, ap, subst, arith}
+use Rattle.std.proofs.Common.{◌≡◌, ℕ, ◌+◌, ◌*◌, ◌/◌, ◌%◌, ◌^◌, ◌<◌, Bool, eqb, ◌&&◌, ◌∙◌, refl, sym, ap, subst, arith}
 use Rattle.std.proofs.lemmas.Bool.{ne_eqb}
 use Rattle.std.proofs.lemmas.Nat.{pow_pos}
 use Rattle.apfloat_model.specs.bits.Layout.{datum_of}
@@ -8,9 +8,10 @@ use Rattle.lane_conversions.specs.Scaled.{IsReached}
 use Rattle.lane_conversions.specs.Sides.{IsSideOf}
 use Rattle.lane_conversions.specs.Targets.{has_one_zero}
 use Rattle.lane_conversions.proofs.Singles.{lane_converted, place_of, significand_of, single_read}
+use Rattle.lane_conversions.proofs.Specials.{past_single, target_reach}
 use Rattle.lane_conversions.proofs.Words.{both_zero, word_is}
-use Rattle.lane_conversions.proofs.lanes.convert_finite.Goals.{then-negative, else-negative}
-use Rattle.lane_conversions.proofs.lanes.convert_finite.Goals as goal
+use Rattle.lane_conversions.proofs.lanes.convert_number.Goals.{then-negative, else-negative}
+use Rattle.lane_conversions.proofs.lanes.convert_number.Goals as goal
 
 pub returns : goal.returns
 returns c =
@@ -32,10 +33,8 @@ returns c =
     subst (λ (n : ℕ). IsReached f t_is (n * 2 ^ f.scale) (2 ^ 149))
     (λ i. word.significand i * 2 ^ word.place i) c.scaled_to.ensures.reached in
     let precise = t.lawful.precise in
-    let number = c.requires in
     let magnitude = word.magnitude in
     let low = c.ranges.lower.fits in
-    let few : (c.args.upper * 2 ^ 16 + c.args.lower) % 2 ^ 31 < 255 * 2 ^ 23 = omega (arith, magnitude, number, low) in
     let lost : c.loses_sign.result ≡ (has_one_zero t.nonfinite && negative && eqb a 0) =
     c.loses_sign.ensures
     ∙ ap (λ (b : Bool). has_one_zero t.nonfinite && negative && b)
@@ -45,10 +44,23 @@ returns c =
     (pow_pos 149) side reached in
     record {
       below = rounded.is_encoded.below;
-      converted = λ single layout is_single.
+      converted = λ single layout number is_single.
+          let few : (c.args.upper * 2 ^ 16 + c.args.lower) % 2 ^ 31 < 255 * 2 ^ 23 =
+          omega (arith, magnitude, number, low) in
           let read : datum_of single layout x ≡ finite negative (significand_of a * 2 ^ place_of a) =
           single_read single layout x is_single word.below few
           ∙ ap (λ (n : ℕ). finite (eqb n 1) (significand_of a * 2 ^ place_of a)) (sym word.sign) in
           lane_converted plan.saturates single layout f (layout_at t) plan.round negative c.loses_sign.result a x
           c.finish-lane.result read is_single.scale (omega (arith, precise)) lost rounded;
+      past = λ high leads.
+          let it = past_single plan.saturates f (layout_at t) plan.round negative a c.finish-lane.result
+          (target_reach t) (omega (arith, precise)) leads.kept (leads.out negative)
+          (omega (arith, magnitude, high)) (omega arith) rounded in
+          record {
+            inexact = rw it.inexact refl;
+            underflow = it.underflow;
+            invalid = it.invalid;
+            is_encoded = it.is_encoded;
+            nan_is = it.nan_is;
+          };
     }

@@ -2,9 +2,9 @@ use Rattle.std.specs.Prelude.{◌*◌}
 use Rattle.rustc_apfloat.specs.FlaggedTypes.{constants_of}
 use Rattle.array_conversions.specs.Blocks.{IsBlock}
 use Rattle.array_conversions.specs.Values.{IsConvertedBy}
-use Rattle.array_conversions.proofs.singles.convert_blocks.Given as goal
+use Rattle.array_conversions.proofs.singles.convert_whole.Given as goal
 
 abbrev pub invariant-loop-index : goal.invariant-loop-index
 invariant-loop-index g l =
     IsBlock (IsConvertedBy l.overflow (constants_of g.S.Flagged) (constants_of g.T.Flagged) l.round) l.widths.source
-    l.widths.target (l.index * 64) l.input l.output l.counts
+    l.widths.target (l.index * g.row.N) l.input l.output l.counts
