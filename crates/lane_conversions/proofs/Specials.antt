@@ -1,9 +1,9 @@
 -- Infinities and NaNs of singles, read from their bits, and their conversions.
 use Rattle.std.proofs.Common.{◌≡◌, ℕ, ◌+◌, ◌-◌, ◌*◌, ◌/◌, ◌%◌, ◌^◌, ◌<◌, ◌≤◌, Bool, true, false, cond, not, ◌&&◌, ◌||◌, eqb, leb, ltb, refl, sym, ap, ◌∙◌, subst, ⊎_elim, arith, pos, ◌-ℤ◌}
-use Rattle.std.proofs.Math.Bool.{and-false}
-use Rattle.std.proofs.Math.Nat.{div-div-eq-div-mul, div-lt_iff_lt-mul, min-eq_right, mod-eq_of_lt, mul-le-mul_right, pow-le-pow_right}
+use Rattle.std.proofs.Math.Arith.{mod-mul}
+use Rattle.std.proofs.Math.Nat.{div-div-eq-div-mul, div-lt_iff_lt-mul, le-div_iff_mul-le, min-eq_right, mod-eq_of_lt, mod-lt, mul-le-mul_right, pow-le-pow_right}
 use Rattle.std.proofs.lemmas.Int.{ints}
-use Rattle.std.proofs.lemmas.Nat.{and_mask, le-div, or_block, or_disjoint, pow-add, pow_pos}
+use Rattle.std.proofs.lemmas.Nat.{and_mask, div-mul-add, le-div, or_block, or_disjoint, pow-add, pow_pos}
 use Rattle.std.proofs.lemmas.Nat.Bits.{and_pow}
 use Rattle.std.proofs.lemmas.Bool.{cases_eq, cases_lt, cond-false, eq-eqb, le-leb, le-ltb, lt-ltb, ne_eqb, true≢false}
 use Rattle.std.specs.Int.RustNames.{bit_and, bit_or}
@@ -26,7 +26,7 @@ use Rattle.apfloat_model.specs.rounding.RoundingToOdd.{odd_quotient}
 use Rattle.lane_conversions.specs.declared.lanes.Lane.{Lane}
 use Rattle.lane_conversions.specs.declared.constants.Target.{Target}
 use Rattle.lane_conversions.specs.At.{format_at}
-use Rattle.lane_conversions.specs.Lanes.{IsPastLane, IsRounded, IsSpecialLane, flag_if, flags_of, quiet_digits, with_special}
+use Rattle.lane_conversions.specs.Lanes.{IsPastLane, IsRounded, IsPayload, IsSpecialLane, flag_if, flags_of}
 use Rattle.lane_conversions.specs.Targets.{IsSingle, has_no_sign, is_ieee, largest_code, signed_code}
 use Rattle.lane_conversions.proofs.Answers.{digits_encoded, keeps_sign, past_given}
 use Rattle.lane_conversions.proofs.Cuts.{exact_odd, inexact_odd}
@@ -39,13 +39,15 @@ pub far_single : (f : Format) (significand : ℕ) → f.precision + f.span ≤ f
     → IsFarAbove f (significand * 2 ^ 254 * 2 ^ f.scale) (2 ^ 149)
 far_single f significand below full =
     let top : 2 ^ (f.precision + f.span) ≤ 2 ^ (f.scale + 128) = pow-le-pow_right two_pos below in
-    let first : 2 ^ (f.precision + f.span) * 2 ^ 149 ≤ 2 ^ (f.scale + 128) * 2 ^ 149 = mul-le-mul_right (2 ^ 149) top in
+    let first : 2 ^ (f.precision + f.span) * 2 ^ 149 ≤ 2 ^ (f.scale + 128) * 2 ^ 149 =
+    mul-le-mul_right (2 ^ 149) top in
     let parts : 2 ^ (f.scale + 128) ≡ 2 ^ f.scale * 2 ^ 128 = pow-add 2 f.scale 128 in
     let same : 2 ^ f.scale * 2 ^ 128 * 2 ^ 149 ≡ 2 ^ 23 * 2 ^ 254 * 2 ^ f.scale = omega arith in
     let second : 2 ^ 23 * 2 ^ 254 ≤ significand * 2 ^ 254 = mul-le-mul_right (2 ^ 254) full in
     let last : 2 ^ 23 * 2 ^ 254 * 2 ^ f.scale ≤ significand * 2 ^ 254 * 2 ^ f.scale =
     mul-le-mul_right (2 ^ f.scale) second in
-    let moved : 2 ^ (f.scale + 128) * 2 ^ 149 ≡ 2 ^ f.scale * 2 ^ 128 * 2 ^ 149 = ap (λ (n : ℕ). n * 2 ^ 149) parts in
+    let moved : 2 ^ (f.scale + 128) * 2 ^ 149 ≡ 2 ^ f.scale * 2 ^ 128 * 2 ^ 149 =
+    ap (λ (n : ℕ). n * 2 ^ 149) parts in
     record { some = pow_pos 149; from = omega (arith, first, moved, same, last) }
 
 flag_most : (flag : ℕ) (holds : Bool) → flag_if flag holds ≤ flag
@@ -118,21 +120,14 @@ target_reach t =
     let span : pos (format_at t).span ≡ t.max_exp -ℤ t.min_exp = omega (arith, ints, order) in
     omega (arith, ints, scale, span, greatest, precise)
 
--- which sides become what is past the largest value
-pub leads_past : (saturates out : Bool) (top n : ℕ) → n ≡ cond (out && not saturates) (top + 1) top → top < n
-    → (saturates ≡ false) × (out ≡ true)
-leads_past false true top n is past = (refl, refl)
-leads_past true true top n is past = absurd (omega (arith, is, past))
-leads_past true false top n is past = absurd (omega (arith, is, past))
-leads_past false false top n is past = absurd (omega (arith, is, past))
-
 -- ---- from bits
 
 abbrev pub special_datum : Bool → ℕ → Datum
 special_datum negative s = cond (eqb s 0) (infinite negative) (nan negative s)
 
 -- the fields of the bits of an infinity or a NaN
-pub special_read : (f : Format) (layout : Layout) (x : ℕ) → IsSingle f layout → x < 2 ^ 32 → 255 * 2 ^ 23 ≤ x % 2 ^ 31
+pub special_read : (f : Format) (layout : Layout) (x : ℕ) → IsSingle f layout → x < 2 ^ 32
+    → 255 * 2 ^ 23 ≤ x % 2 ^ 31
     → datum_of f layout x ≡ special_datum (eqb (x / 2 ^ 31) 1) (x % 2 ^ 23)
 special_read f layout x single word high =
     let width : trailing_bits f ≡ 23 =
@@ -159,7 +154,8 @@ single_quiet f layout single =
     (λ i. quiet_bits_of (single.nonfinite i) (single.implied i) (single.precision i))
 
 quiet_bit_set : (s : ℕ) → s < 2 ^ 23 → 2 ^ 22 ≤ s → bit_and s (2 ^ 22) ≡ 2 ^ 22
-quiet_bit_set s below set = and_pow s 22 ∙ (let e : s / 2 ^ 22 % 2 * 2 ^ 22 ≡ 2 ^ 22 = omega (arith, below, set) in e)
+quiet_bit_set s below set =
+    and_pow s 22 ∙ (let e : s / 2 ^ 22 % 2 * 2 ^ 22 ≡ 2 ^ 22 = omega (arith, below, set) in e)
 
 quiet_bit_clear : (s : ℕ) → s < 2 ^ 22 → bit_and s (2 ^ 22) ≡ 0
 quiet_bit_clear s below = and_pow s 22 ∙ (let e : s / 2 ^ 22 % 2 * 2 ^ 22 ≡ 0 = omega (arith, below) in e)
@@ -176,7 +172,7 @@ signaling_is f layout s single below =
     ap not (eq-eqb (bit_and s (2 ^ 22)) (2 ^ 22) (quiet_bit_set s below l)) ∙ sym (le-ltb s (2 ^ 22) l))
     (cases_lt s (2 ^ 22))
 
-quieted_is : (f : Format) (layout : Layout) (s : ℕ) → IsSingle f layout → s < 2 ^ 23
+pub quieted_is : (f : Format) (layout : Layout) (s : ℕ) → IsSingle f layout → s < 2 ^ 23
     → quieted f s ≡ s % 2 ^ 22 + 2 ^ 22
 quieted_is f layout s single below =
     let quiet : quiet_bit f ≡ 2 ^ 22 = (λ i. quiet_bit_of (single.nonfinite i) (single.precision i)) in
@@ -274,23 +270,34 @@ one_nan NanNegativeZero f g negative s is none =
 
 -- ---- lanes
 
--- the digits and the first digit of a NaN's significand, as a lane has them
-pub record IsPayload (precision s payload : ℕ) : Type 0 where
-  pub digits : quiet_digits precision payload ≡ (s % 2 ^ 22 + 2 ^ 22) / 2 ^ (24 - precision)
-  pub quiet : ltb payload (2 ^ 15) ≡ ltb s (2 ^ 22)
+-- the first digits of a single's trailing significand, made quiet
+abbrev pub quiet_digits : ℕ → ℕ → ℕ
+quiet_digits precision s = (s % 2 ^ 22 + 2 ^ 22) / 2 ^ (24 - precision)
 
-infinity_flags : (kind : NonfiniteBehavior) (lane : Lane) (precision payload : ℕ) → lane.inexact ≡ true
+-- the lane of an infinity or a NaN, by that of a number past the largest value, and the digits of the NaN
+abbrev pub with_special : NonfiniteBehavior → ℕ → Lane → Bool → Bool → ℕ → Lane
+with_special kind digits lane special one payload =
+    record {
+      bits = cond (one && is_ieee kind) (lane.bits + digits) lane.bits;
+      inexact = not (special && (one || is_ieee kind)) && lane.inexact;
+      underflow = lane.underflow;
+      overflow = not special && lane.overflow;
+      invalid = (one && ltb payload (2 ^ 15)) || lane.invalid;
+      is_nan = (one && is_ieee kind) || lane.is_nan;
+    }
+
+infinity_flags : (kind : NonfiniteBehavior) (lane : Lane) (digits payload : ℕ) → lane.inexact ≡ true
     → lane.underflow ≡ false → lane.invalid ≡ false
-    → flags_of (with_special kind precision lane true false payload) ≡ cond (not (has_infinities kind)) 16 0
-infinity_flags IEEE754 lane precision payload inexact underflow invalid = rw (underflow, invalid) refl
-infinity_flags NanOnly lane precision payload inexact underflow invalid = rw (inexact, underflow, invalid) refl
-infinity_flags NanNegativeZero lane precision payload inexact underflow invalid = rw (inexact, underflow, invalid) refl
+    → flags_of (with_special kind digits lane true false payload) ≡ cond (not (has_infinities kind)) 16 0
+infinity_flags IEEE754 lane digits payload inexact underflow invalid = rw (underflow, invalid) refl
+infinity_flags NanOnly lane digits payload inexact underflow invalid = rw (inexact, underflow, invalid) refl
+infinity_flags NanNegativeZero lane digits payload inexact underflow invalid = rw (inexact, underflow, invalid) refl
 
-nan_flags : (kind : NonfiniteBehavior) (lane : Lane) (precision payload : ℕ) (signaling : Bool)
+nan_flags : (kind : NonfiniteBehavior) (lane : Lane) (digits payload : ℕ) (signaling : Bool)
     → ltb payload (2 ^ 15) ≡ signaling → lane.underflow ≡ false → lane.invalid ≡ false
-    → flags_of (with_special kind precision lane true true payload) ≡ invalid_if signaling
-nan_flags kind lane precision payload true is underflow invalid = rw (underflow, is) refl
-nan_flags kind lane precision payload false is underflow invalid = rw (underflow, is, invalid) refl
+    → flags_of (with_special kind digits lane true true payload) ≡ invalid_if signaling
+nan_flags kind lane digits payload true is underflow invalid = rw (underflow, is) refl
+nan_flags kind lane digits payload false is underflow invalid = rw (underflow, is, invalid) refl
 
 module _ (f : Format) (read : Layout) (g : Format) (layout : Layout) (mode : Round) (x payload : ℕ) (lane : Lane)
     (single : IsSingle f read) (law : IsInterchange g layout) (implied : g.explicit_integer_bit ≡ false)
@@ -299,7 +306,10 @@ module _ (f : Format) (read : Layout) (g : Format) (layout : Layout) (mode : Rou
   abbrev pub Becomes : Lane → Type 0
   Becomes one = IsSpecialLane f read g layout mode x one
 
-  infinity_converted : x % 2 ^ 23 ≡ 0 → Becomes (with_special g.nonfinite g.precision lane true false payload)
+  abbrev pub digits : ℕ
+  digits = quiet_digits g.precision (x % 2 ^ 23)
+
+  infinity_converted : x % 2 ^ 23 ≡ 0 → Becomes (with_special g.nonfinite digits lane true false payload)
   infinity_converted none = record {
     special = infinite (eqb (x / 2 ^ 31) 1);
     special_is = special_read f read x single word high ∙ rw (eq-eqb (x % 2 ^ 23) 0 none) refl;
@@ -309,22 +319,22 @@ module _ (f : Format) (read : Layout) (g : Format) (layout : Layout) (mode : Rou
     is_conversion = record {
       value_is = refl;
       status_is =
-          infinity_flags g.nonfinite lane g.precision payload past.inexact past.underflow past.invalid;
+          infinity_flags g.nonfinite lane digits payload past.inexact past.underflow past.invalid;
       loses_is = refl;
     };
     is_encoded = past.is_encoded;
     nan_is = past.nan_is;
   }
 
-  module _ (some : x % 2 ^ 23 ≡ 0 → ⊥) (it : IsPayload g.precision (x % 2 ^ 23) payload) where
+  module _ (some : x % 2 ^ 23 ≡ 0 → ⊥) (quiet : ltb payload (2 ^ 15) ≡ ltb (x % 2 ^ 23) (2 ^ 22)) where
     nan_read : datum_of f read x ≡ nan (eqb (x / 2 ^ 31) 1) (x % 2 ^ 23)
     nan_read = special_read f read x single word high ∙ rw (ne_eqb (x % 2 ^ 23) 0 some) refl
 
     signals : ltb payload (2 ^ 15) ≡ is_signaling f (x % 2 ^ 23)
-    signals = it.quiet ∙ sym (signaling_is f read (x % 2 ^ 23) single (omega arith))
+    signals = quiet ∙ sym (signaling_is f read (x % 2 ^ 23) single (omega arith))
 
     one_converted : (kind : NonfiniteBehavior) → g.nonfinite ≡ kind → is_ieee kind ≡ false
-        → Becomes (with_special kind g.precision lane true true payload)
+        → Becomes (with_special kind digits lane true true payload)
     one_converted kind is none = record {
       special = nan (eqb (x / 2 ^ 31) 1) (x % 2 ^ 23);
       special_is = nan_read;
@@ -334,14 +344,14 @@ module _ (f : Format) (read : Layout) (g : Format) (layout : Layout) (mode : Rou
       is_conversion = record {
         value_is = sym (one_nan kind f g (eqb (x / 2 ^ 31) 1) (x % 2 ^ 23) is none);
         status_is =
-            nan_flags kind lane g.precision payload (is_signaling f (x % 2 ^ 23)) signals past.underflow past.invalid;
+            nan_flags kind lane digits payload (is_signaling f (x % 2 ^ 23)) signals past.underflow past.invalid;
         loses_is = refl;
       };
       is_encoded = rw none past.is_encoded;
       nan_is = rw none past.nan_is;
     }
 
-    ieee_converted : g.nonfinite ≡ IEEE754 → Becomes (with_special IEEE754 g.precision lane true true payload)
+    ieee_converted : g.nonfinite ≡ IEEE754 → Becomes (with_special IEEE754 digits lane true true payload)
     ieee_converted is =
         let negative = eqb (x / 2 ^ 31) 1 in
         let precise = law.precise in
@@ -368,61 +378,41 @@ module _ (f : Format) (read : Layout) (g : Format) (layout : Layout) (mode : Rou
             value_is =
                 sym (nan_of_digits f g read negative (x % 2 ^ 23) single (omega arith) is implied precise few);
             status_is =
-                nan_flags IEEE754 lane g.precision payload (is_signaling f (x % 2 ^ 23)) signals past.underflow
+                nan_flags IEEE754 lane digits payload (is_signaling f (x % 2 ^ 23)) signals past.underflow
                 past.invalid;
             loses_is = refl;
           };
           is_encoded =
-              digits_encoded g layout negative d (lane.bits + quiet_digits g.precision payload) law is implied
-              (omega (arith, from, unit)) are.below (λ i. (infinity ∙ signed) i + it.digits i);
+              digits_encoded g layout negative d (lane.bits + d) law is implied
+              (omega (arith, from, unit)) are.below (λ i. (infinity ∙ signed) i + d);
           nan_is = refl;
         }
 
     nan_converted : (kind : NonfiniteBehavior) → g.nonfinite ≡ kind
-        → Becomes (with_special kind g.precision lane true true payload)
+        → Becomes (with_special kind digits lane true true payload)
     nan_converted IEEE754 is = ieee_converted is
     nan_converted NanOnly is = one_converted NanOnly is refl
     nan_converted NanNegativeZero is = one_converted NanNegativeZero is refl
 
   -- the lane of a number past the largest value, with what a lane says of an infinity or a NaN
-  pub special_converted : (some : Bool) → some ≡ not (eqb (x % 2 ^ 23) 0) → IsPayload g.precision (x % 2 ^ 23) payload
-      → Becomes (with_special g.nonfinite g.precision lane true some payload)
+  pub special_converted : (some : Bool) → some ≡ not (eqb (x % 2 ^ 23) 0)
+      → ltb payload (2 ^ 15) ≡ ltb (x % 2 ^ 23) (2 ^ 22)
+      → Becomes (with_special g.nonfinite digits lane true some payload)
   special_converted some is it =
-      ⊎_elim {C = Becomes (with_special g.nonfinite g.precision lane true some payload)}
+      ⊎_elim {C = Becomes (with_special g.nonfinite digits lane true some payload)}
       (λ (none : x % 2 ^ 23 ≡ 0).
       let no : some ≡ false = is ∙ ap not (eq-eqb (x % 2 ^ 23) 0 none) in
-      subst (λ (b : Bool). Becomes (with_special g.nonfinite g.precision lane true b payload)) (sym no)
+      subst (λ (b : Bool). Becomes (with_special g.nonfinite digits lane true b payload)) (sym no)
       (infinity_converted none))
-      (λ (digits : x % 2 ^ 23 ≡ 0 → ⊥).
-      let yes : some ≡ true = is ∙ ap not (ne_eqb (x % 2 ^ 23) 0 digits) in
-      subst (λ (b : Bool). Becomes (with_special g.nonfinite g.precision lane true b payload)) (sym yes)
-      (nan_converted digits it g.nonfinite refl))
+      (λ (other : x % 2 ^ 23 ≡ 0 → ⊥).
+      let yes : some ≡ true = is ∙ ap not (ne_eqb (x % 2 ^ 23) 0 other) in
+      subst (λ (b : Bool). Becomes (with_special g.nonfinite digits lane true b payload)) (sym yes)
+      (nan_converted other it g.nonfinite refl))
       (cases_eq (x % 2 ^ 23) 0)
-
--- ---- what is made of the tests of a lane
 
 pub not_false : (b : Bool) → (b ≡ false → ⊥) → b ≡ true
 not_false true other = refl
 not_false false other = absurd (other refl)
-
--- none of them holds for a number
-pub as_number : (Says : Lane → Type 0) (kind : NonfiniteBehavior) (precision payload : ℕ) (lane : Lane)
-    (specials special one : Bool) → special ≡ false → one ≡ false → Says lane
-    → Says (with_special kind precision lane (specials && special) (specials && one) payload)
-as_number Says kind precision payload lane specials special one off none it =
-    subst (λ (b : Bool). Says (with_special kind precision lane b (specials && one) payload))
-    (sym (ap (λ (b : Bool). specials && b) off ∙ and-false specials))
-    (subst (λ (b : Bool). Says (with_special kind precision lane false b payload))
-    (sym (ap (λ (b : Bool). specials && b) none ∙ and-false specials)) it)
-
--- the first holds for an infinity or a NaN
-pub as_special : (Says : Lane → Type 0) (kind : NonfiniteBehavior) (precision payload : ℕ) (lane : Lane)
-    (specials special one : Bool) → specials ≡ true → special ≡ true
-    → Says (with_special kind precision lane true one payload)
-    → Says (with_special kind precision lane (specials && special) (specials && one) payload)
-as_special Says kind precision payload lane specials special one asked on it =
-    subst (λ (b : Bool). Says (with_special kind precision lane (b && special) (b && one) payload)) (sym asked)
-    (subst (λ (b : Bool). Says (with_special kind precision lane b one payload)) (sym on) it)
 
 -- ---- what the halves of a word keep of a NaN
 
@@ -433,21 +423,68 @@ below_both a b m n forth back =
     (λ (l : m ≤ a). le-ltb a m l ∙ sym (le-ltb b n (back l)))
     (cases_lt a m)
 
+-- the digits from a given one on, after all that are above it are replaced by a single one
+quiet_first : (places unit n : ℕ) → 0 < unit
+    → (n % (2 ^ places * unit) + 2 ^ places * unit) / unit ≡ n / unit % 2 ^ places + 2 ^ places
+quiet_first places unit n some =
+    let parts = mod-mul n (pow_pos places) some in
+    let sum : n % (2 ^ places * unit) + 2 ^ places * unit ≡ (n / unit % 2 ^ places + 2 ^ places) * unit + n % unit =
+    omega (arith, parts) in
+    ap (λ (m : ℕ). m / unit) sum
+    ∙ div-mul-add (n / unit % 2 ^ places + 2 ^ places) unit (n % unit) (mod-lt n some)
+
+-- what sixteen digits tell of a single's trailing significand
+module _ (precision s payload : ℕ) (precise : 3 ≤ precision) (few : precision ≤ 11)
+    (it : IsPayload precision s payload) where
+  word : 2 ^ 15 ≡ 2 ^ (precision - 2) * 2 ^ (17 - precision)
+  word =
+      (let e : 15 ≡ precision - 2 + (17 - precision) = omega (arith, precise, few) in ap (λ (n : ℕ). 2 ^ n) e)
+      ∙ pow-add 2 (precision - 2) (17 - precision)
+
+  single_word : 2 ^ 22 ≡ 2 ^ (precision - 2) * 2 ^ (24 - precision)
+  single_word =
+      (let e : 22 ≡ precision - 2 + (24 - precision) = omega (arith, precise, few) in ap (λ (n : ℕ). 2 ^ n) e)
+      ∙ pow-add 2 (precision - 2) (24 - precision)
+
+  -- its first digits
+  pub payload_digits : (payload % 2 ^ 15 + 2 ^ 15) / 2 ^ (17 - precision) ≡ quiet_digits precision s
+  payload_digits =
+      ap (λ (n : ℕ). (payload % n + n) / 2 ^ (17 - precision)) word
+      ∙ quiet_first (precision - 2) (2 ^ (17 - precision)) payload (pow_pos (17 - precision))
+      ∙ ap (λ (n : ℕ). n % 2 ^ (precision - 2) + 2 ^ (precision - 2)) it.digits
+      ∙ sym (quiet_first (precision - 2) (2 ^ (24 - precision)) s (pow_pos (24 - precision)))
+      ∙ sym (ap (λ (n : ℕ). (s % n + n) / 2 ^ (24 - precision)) single_word)
+
+  -- whether the NaN is signaling
+  pub payload_quiet : ltb payload (2 ^ 15) ≡ ltb s (2 ^ 22)
+  payload_quiet =
+      let unit = pow_pos (17 - precision) in
+      let single_unit = pow_pos (24 - precision) in
+      below_both payload s (2 ^ 15) (2 ^ 22)
+      (λ l.
+      let first = (div-lt_iff_lt-mul {x = payload} {y = 2 ^ (precision - 2)} unit).1
+      (subst (λ (n : ℕ). payload < n) word l) in
+      subst (λ (n : ℕ). s < n) (sym single_word)
+      ((div-lt_iff_lt-mul {x = s} {y = 2 ^ (precision - 2)} single_unit).0
+      (subst (λ (n : ℕ). n < 2 ^ (precision - 2)) it.digits first)))
+      (λ l.
+      let first = (le-div_iff_mul-le {x = 2 ^ (precision - 2)} {y = payload} unit).1
+      (subst (λ (n : ℕ). n ≤ payload) word l) in
+      subst (λ (n : ℕ). n ≤ s) (sym single_word)
+      ((le-div_iff_mul-le {x = 2 ^ (precision - 2)} {y = s} single_unit).0
+      (subst (λ (n : ℕ). 2 ^ (precision - 2) ≤ n) it.digits first)))
+
 -- both halves keep all digits that a target has
-pub word_payload : (precision s payload : ℕ) → precision ≤ 11 → payload ≡ s / 2 ^ 7 → s < 2 ^ 23
+pub word_payload : (precision s payload : ℕ) → precision ≤ 11 → payload ≡ s / 2 ^ 7
     → IsPayload precision s payload
-word_payload precision s payload few is below =
+word_payload precision s payload few is =
     let places : 24 - precision ≡ 7 + (17 - precision) = omega (arith, few) in
     let cut : 2 ^ (24 - precision) ≡ 2 ^ 7 * 2 ^ (17 - precision) =
     ap (λ (n : ℕ). 2 ^ n) places ∙ pow-add 2 7 (17 - precision) in
-    let digits : payload % 2 ^ 15 + 2 ^ 15 ≡ (s % 2 ^ 22 + 2 ^ 22) / 2 ^ 7 = omega (arith, is, below) in
     record {
       digits =
-          ap (λ (n : ℕ). n / 2 ^ (17 - precision)) digits
-          ∙ div-div-eq-div-mul (s % 2 ^ 22 + 2 ^ 22) (2 ^ 7) (2 ^ (17 - precision))
-          ∙ ap (λ (n : ℕ). (s % 2 ^ 22 + 2 ^ 22) / n) (sym cut);
-      quiet = below_both payload s (2 ^ 15) (2 ^ 22) (λ l. omega (arith, l, is, below))
-          (λ l. omega (arith, l, is, below));
+          ap (λ (n : ℕ). n / 2 ^ (17 - precision)) is ∙ div-div-eq-div-mul s (2 ^ 7) (2 ^ (17 - precision))
+          ∙ ap (λ (n : ℕ). s / n) (sym cut);
     }
 
 -- the upper half, rounded to odd, keeps those of a short target
@@ -460,25 +497,22 @@ half_payload precision h x few is =
     ap (λ (n : ℕ). 2 ^ n) first ∙ pow-add 2 11 (6 - precision) in
     let cut_word : 2 ^ (24 - precision) ≡ 2 ^ 18 * 2 ^ (6 - precision) =
     ap (λ (n : ℕ). 2 ^ n) second ∙ pow-add 2 18 (6 - precision) in
-    let u = h % 2 ^ 7 * 2 ^ 9 % 2 ^ 15 + 2 ^ 15 in
-    let v = x % 2 ^ 23 % 2 ^ 22 + 2 ^ 22 in
-    let made : (h % 2 ^ 7 * 2 ^ 9 % 2 ^ 15 + 2 ^ 15) / 2 ^ 11 ≡ (x % 2 ^ 23 % 2 ^ 22 + 2 ^ 22) / 2 ^ 18
-    → h % 2 ^ 7 / 2 ^ 6 ≡ x % 2 ^ 23 / 2 ^ 22 → IsPayload precision (x % 2 ^ 23) (h % 2 ^ 7 * 2 ^ 9) =
-    λ same top. record {
+    let u = h % 2 ^ 7 * 2 ^ 9 in
+    let v = x % 2 ^ 23 in
+    let made : h % 2 ^ 7 * 2 ^ 9 / 2 ^ 11 ≡ x % 2 ^ 23 / 2 ^ 18
+    → IsPayload precision (x % 2 ^ 23) (h % 2 ^ 7 * 2 ^ 9) =
+    λ same. record {
       digits =
           ap (λ (n : ℕ). u / n) cut ∙ sym (div-div-eq-div-mul u (2 ^ 11) (2 ^ (6 - precision)))
           ∙ ap (λ (n : ℕ). n / 2 ^ (6 - precision)) same ∙ div-div-eq-div-mul v (2 ^ 18) (2 ^ (6 - precision))
           ∙ ap (λ (n : ℕ). v / n) (sym cut_word);
-      quiet = below_both (h % 2 ^ 7 * 2 ^ 9) (x % 2 ^ 23) (2 ^ 15) (2 ^ 22) (λ l. omega (arith, l, top))
-          (λ l. omega (arith, l, top));
     } in
     ⊎_elim {C = IsPayload precision (x % 2 ^ 23) (h % 2 ^ 7 * 2 ^ 9)}
     (λ (none : x % 2 ^ 16 ≡ 0).
-    let half : h ≡ x / 2 ^ 16 = is ∙ exact_odd (x / 2 ^ 16) (x % 2 ^ 16) none in
-    made (omega (arith, half)) (omega (arith, half)))
+    let half : h ≡ x / 2 ^ 16 = is ∙ exact_odd (x / 2 ^ 16) (x % 2 ^ 16) none in made (omega (arith, half)))
     (λ (some : x % 2 ^ 16 ≡ 0 → ⊥).
     let half : h ≡ x / 2 ^ 16 + 1 - x / 2 ^ 16 % 2 = is ∙ inexact_odd (x / 2 ^ 16) (x % 2 ^ 16) some in
-    made (omega (arith, half)) (omega (arith, half)))
+    made (omega (arith, half)))
     (cases_eq (x % 2 ^ 16) 0)
 
 -- the upper half tells infinities from NaNs
@@ -486,7 +520,8 @@ pub half_nan : (h x : ℕ) → h ≡ odd_quotient x (2 ^ 16) → 255 * 2 ^ 7 ≤
     → ltb (255 * 2 ^ 7) (h % 2 ^ 15) ≡ not (eqb (x % 2 ^ 23) 0)
 half_nan h x is high =
     let Says : Type 0 = ltb (255 * 2 ^ 7) (h % 2 ^ 15) ≡ not (eqb (x % 2 ^ 23) 0) in
-    let by : (h % 2 ^ 15 ≡ 255 * 2 ^ 7 → x % 2 ^ 23 ≡ 0) → (x % 2 ^ 23 ≡ 0 → h % 2 ^ 15 ≡ 255 * 2 ^ 7) → Says =
+    let by : (h % 2 ^ 15 ≡ 255 * 2 ^ 7 → x % 2 ^ 23 ≡ 0) → (x % 2 ^ 23 ≡ 0 → h % 2 ^ 15 ≡ 255 * 2 ^ 7)
+    → Says =
     λ forth back. ⊎_elim {C = Says}
     (λ (none : x % 2 ^ 23 ≡ 0).
     let same = back none in

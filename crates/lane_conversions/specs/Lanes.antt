@@ -1,9 +1,8 @@
 -- One number, from bits to bits.
-use Rattle.std.specs.Prelude.{◌≡◌, ◌⊎◌, ℕ, ◌+◌, ◌-◌, ◌/◌, ◌%◌, ◌^◌, Bool, true, false, not, ◌&&◌, ◌||◌, ltb, leb, if◌then◌else◌}
+use Rattle.std.specs.Prelude.{◌≡◌, ◌⊎◌, ℕ, ◌+◌, ◌-◌, ◌/◌, ◌^◌, Bool, true, false, not, ◌&&◌, ◌||◌, ltb, leb, if◌then◌else◌}
 use Rattle.apfloat_model.specs.arithmetic.Conversions.{IsConversion}
 use Rattle.apfloat_model.specs.bits.Layout.{IsEncodedBy, Layout, datum_of}
 use Rattle.apfloat_model.specs.declared.kinds.Round.{Round}
-use Rattle.apfloat_model.specs.declared.kinds.NonfiniteBehavior.{NonfiniteBehavior}
 use Rattle.apfloat_model.specs.order.Classes.{is_finite, is_nan}
 use Rattle.apfloat_model.specs.formats.Datum.{Datum, finite}
 use Rattle.apfloat_model.specs.formats.Format.{Format, largest, nan_base}
@@ -68,21 +67,10 @@ pub record IsPastLane (f : Format) (layout : Layout) (negative : Bool) (lane : L
   pub is_encoded : IsEncodedBy f layout lane.bits (past_largest f.nonfinite (nan_base f) negative)
   pub nan_is : lane.is_nan ≡ is_nan (past_largest f.nonfinite (nan_base f) negative)
 
--- the first digits of a NaN's significand, made quiet, for a format with so many
-abbrev pub quiet_digits : ℕ → ℕ → ℕ
-quiet_digits precision payload = (payload % 2 ^ 15 + 2 ^ 15) / 2 ^ (17 - precision)
-
--- the lane of an infinity or a NaN, by that of a number past the largest value; any other lane stays
-abbrev pub with_special : NonfiniteBehavior → ℕ → Lane → Bool → Bool → ℕ → Lane
-with_special kind precision lane special nan payload =
-    record {
-      bits = if nan && is_ieee kind then lane.bits + quiet_digits precision payload else lane.bits;
-      inexact = not (special && (nan || is_ieee kind)) && lane.inexact;
-      underflow = lane.underflow;
-      overflow = not special && lane.overflow;
-      invalid = (nan && ltb payload (2 ^ 15)) || lane.invalid;
-      is_nan = (nan && is_ieee kind) || lane.is_nan;
-    }
+-- Sixteen digits begin with the first ones of a single's trailing significand, as many as a format of that precision
+-- keeps.
+pub record IsPayload (precision trailing payload : ℕ) : Type 0 where
+  pub digits : payload / 2 ^ (17 - precision) ≡ trailing / 2 ^ (24 - precision)
 
 -- the bits encode an infinity or a NaN of one format, and the lane is its conversion to the other
 pub record IsSpecialLane (from : Format) (read : Layout) (f : Format) (layout : Layout) (mode : Round) (bits : ℕ)

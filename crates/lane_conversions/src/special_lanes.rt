@@ -1,7 +1,13 @@
 //! Infinities and NaNs, by the steps that are the same for each number.
 
-ghost use Rattle.std.specs.Prelude.{◌≡◌, ◌^◌, ◌<◌};
-ghost use Rattle.lane_conversions.specs.Lanes.{quiet_digits, with_special};
+ghost use Rattle.std.specs.Prelude.{◌≡◌, ℕ, ◌*◌, ◌-◌, ◌/◌, ◌%◌, ◌^◌, ◌<◌, ◌≤◌, false, not, eqb, IsTrue};
+ghost use Rattle.apfloat_model.specs.bits.Layout.{Layout};
+ghost use Rattle.apfloat_model.specs.declared.kinds.Round.{Round as Mode};
+ghost use Rattle.apfloat_model.specs.formats.Format.{Format};
+ghost use Rattle.apfloat_model.specs.formats.Nan.{quieted};
+ghost use Rattle.lane_conversions.specs.At.{format_at, layout_at};
+ghost use Rattle.lane_conversions.specs.Lanes.{IsPastLane, IsPayload, IsSpecialLane};
+ghost use Rattle.lane_conversions.specs.Targets.{IsSingle};
 
 use crate::constants::Target;
 use crate::lanes::Lane;
@@ -10,7 +16,9 @@ use apfloat_model::NonfiniteBehavior;
 /// The first digits of a NaN's significand, made quiet, given sixteen of them.
 #[inline(always)]
 fn quiet_digits(target: Target, payload: u16) -> u16
-    ensures is { result ≡ quiet_digits target.precision payload }
+    ensures is { (single : Format) (layout : Layout) (trailing : ℕ) → IsSingle single layout
+        → trailing < 2 ^ 23 → IsPayload target.precision trailing payload
+        → result ≡ quieted single trailing / 2 ^ (24 - target.precision) }
     ensures below { result < 2 ^ 15 }
 {
     (payload % 0x8000 + 0x8000) >> (17 - target.precision)
@@ -27,8 +35,13 @@ pub(crate) fn with_special(
     payload: u16,
 ) -> Lane
     requires { lane.bits < 2 ^ 16 }
-    ensures { result
-        ≡ with_special target.nonfinite target.precision lane special nan payload }
+    ensures number { special ≡ false → nan ≡ false → result ≡ lane }
+    ensures special { (single : Format) (read : Layout) (mode : Mode) (bits : ℕ)
+        → IsSingle single read → bits < 2 ^ 32 → 255 * 2 ^ 23 ≤ bits % 2 ^ 31
+        → IsPastLane (format_at target) (layout_at target) (eqb (bits / 2 ^ 31) 1) lane
+        → IsTrue special → nan ≡ not (eqb (bits % 2 ^ 23) 0)
+        → IsPayload target.precision (bits % 2 ^ 23) payload
+        → IsSpecialLane single read (format_at target) (layout_at target) mode bits result }
 {
     let ieee = target.nonfinite == NonfiniteBehavior::IEEE754;
     Lane {

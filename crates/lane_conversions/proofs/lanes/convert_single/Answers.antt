@@ -1,46 +1,19 @@
-use Rattle.std.proofs.Common.{ℕ, ◌+◌, ◌*◌, ◌/◌, ◌%◌, ◌^◌, ◌<◌, ◌≤◌, Bool, true, not, ◌&&◌, ◌||◌, eqb, leb, refl, sym, ap, subst, inl, inr, ⊎_elim, arith}
+use Rattle.std.proofs.Common.{◌≡◌, false, ◌∙◌, ℕ, ◌+◌, ◌*◌, ◌/◌, ◌%◌, ◌^◌, ◌<◌, ◌≤◌, Bool, true, not, ◌&&◌, ◌||◌, eqb, leb, refl, sym, ap, subst, inl, inr, ⊎_elim, arith}
+use Rattle.std.proofs.Math.Bool.{and-false}
 use Rattle.std.proofs.lemmas.Bool.{cases_lt, le-leb, lt-leb}
 use Rattle.apfloat_model.specs.bits.Layout.{Layout}
 use Rattle.apfloat_model.specs.formats.Format.{Format}
 use Rattle.lane_conversions.specs.declared.lanes.Lane.{Lane}
 use Rattle.lane_conversions.specs.At.{format_at, layout_at}
-use Rattle.lane_conversions.specs.Lanes.{IsLane, IsPastLane, with_special}
+use Rattle.lane_conversions.specs.Lanes.{IsLane, IsPastLane}
 use Rattle.lane_conversions.specs.Targets.{IsSingle}
-use Rattle.lane_conversions.proofs.Interchanges.{target_interchange}
-use Rattle.lane_conversions.proofs.Specials.{a_layout, a_single, a_single_is, as_number, as_special, not_false, special_converted, word_nan, word_payload}
+use Rattle.lane_conversions.proofs.Specials.{a_layout, a_single, a_single_is, not_false, word_nan, word_payload}
 use Rattle.lane_conversions.proofs.Words.{word_is}
 use Rattle.lane_conversions.proofs.lanes.convert_single.Goals as goal
 
 -- whether the halves are those of a NaN, given the upper one without its sign
 abbrev nan_test : ℕ → ℕ → Bool
 nan_test m lower = leb (255 * 2 ^ 7) m && (not (eqb m (255 * 2 ^ 7)) || not (eqb lower 0))
-
-lane_of : (c : goal.After-with_special) (Says : Lane → Type 0)
-    → (c.args.upper % 2 ^ 15 < 255 * 2 ^ 7 → Says c.convert_number.result)
-    → (255 * 2 ^ 7 ≤ c.args.upper % 2 ^ 15 → Says (with_special c.args.plan.target.nonfinite
-    c.args.plan.target.precision c.convert_number.result true (nan_test (c.args.upper % 2 ^ 15) c.args.lower)
-    (c.args.upper % 2 ^ 7 * 2 ^ 9 + c.args.lower / 2 ^ 7)))
-    → Says c.with_special.result
-lane_of c Says number special =
-    let t = c.args.plan.target in
-    let m = c.args.upper % 2 ^ 15 in
-    let lower = c.args.lower in
-    let payload = c.args.upper % 2 ^ 7 * 2 ^ 9 + c.args.lower / 2 ^ 7 in
-    subst Says (sym c.with_special.ensures)
-    (⊎_elim
-    {C = Says (with_special t.nonfinite t.precision c.convert_number.result (c.args.specials && leb (255 * 2 ^ 7) m)
-    (c.args.specials && nan_test m lower) payload)}
-    (λ (low : c.args.upper % 2 ^ 15 < 255 * 2 ^ 7).
-    as_number Says t.nonfinite t.precision payload c.convert_number.result c.args.specials
-    (leb (255 * 2 ^ 7) m) (nan_test m lower) (lt-leb (255 * 2 ^ 7) m low)
-    (ap (λ (b : Bool). b && (not (eqb m (255 * 2 ^ 7)) || not (eqb lower 0))) (lt-leb (255 * 2 ^ 7) m low))
-    (number low))
-    (λ (high : 255 * 2 ^ 7 ≤ c.args.upper % 2 ^ 15).
-    as_special Says t.nonfinite t.precision payload c.convert_number.result c.args.specials
-    (leb (255 * 2 ^ 7) m) (nan_test m lower)
-    (not_false c.args.specials (λ off. let low = c.requires.number off in omega (arith, low, high)))
-    (le-leb (255 * 2 ^ 7) m high) (special high))
-    (cases_lt m (255 * 2 ^ 7)))
 
 converted : (c : goal.After-with_special) (single : Format) (layout : Layout) → IsSingle single layout
     → IsLane c.args.plan.saturates single layout (format_at c.args.plan.target) (layout_at c.args.plan.target)
@@ -50,29 +23,38 @@ converted c single layout is_single =
     let t = plan.target in
     let upper = c.args.upper in
     let lower = c.args.lower in
+    let m = c.args.upper % 2 ^ 15 in
+    let specials = c.args.specials in
     let x = c.args.upper * 2 ^ 16 + c.args.lower in
     let short = c.ranges.lower.fits in
     let word = word_is c.args.upper c.args.lower c.ranges.upper.fits c.ranges.lower.fits in
     let magnitude = word.magnitude in
-    lane_of c (λ one. IsLane plan.saturates single layout (format_at t) (layout_at t) plan.round x one)
-    (λ low. inl (c.convert_number.ensures.converted single layout low is_single))
-    (λ high.
-    let leads = c.requires.leads
-    (not_false c.args.specials (λ off. let low = c.requires.number off in omega (arith, low, high))) in
+    let Says : Lane → Type 0 = λ one.
+    IsLane plan.saturates single layout (format_at t) (layout_at t) plan.round x one in
+    ⊎_elim {C = Says c.with_special.result}
+    (λ (low : c.args.upper % 2 ^ 15 < 255 * 2 ^ 7).
+    let off : leb (255 * 2 ^ 7) (c.args.upper % 2 ^ 15) ≡ false = lt-leb (255 * 2 ^ 7) m low in
+    let none : nan_test (c.args.upper % 2 ^ 15) c.args.lower ≡ false =
+    ap (λ (b : Bool). b && (not (eqb m (255 * 2 ^ 7)) || not (eqb lower 0))) off in
+    subst Says
+    (sym (c.with_special.ensures.number (ap (λ (b : Bool). specials && b) off ∙ and-false specials)
+    (ap (λ (b : Bool). specials && b) none ∙ and-false specials)))
+    (inl (c.convert_number.ensures.converted single layout low is_single)))
+    (λ (high : 255 * 2 ^ 7 ≤ c.args.upper % 2 ^ 15).
+    let asked : c.args.specials ≡ true =
+    not_false c.args.specials (λ off. let low = c.requires.number off in omega (arith, low, high)) in
+    let leads = c.requires.leads asked in
     inr (
       leads.kept,
-      special_converted single layout (format_at t) (layout_at t) plan.round x
-          (upper % 2 ^ 7 * 2 ^ 9 + lower / 2 ^ 7)
-          c.convert_number.result is_single
-          (target_interchange (format_at t) (layout_at t) t.min_exp t.max_exp t.lawful) t.lawful.implied t.lawful.digits
-          word.below
-          (omega (arith, magnitude, high))
+      c.with_special.ensures.special single layout plan.round x is_single word.below (omega (arith, magnitude, high))
           (subst (λ (n : ℕ). IsPastLane (format_at t) (layout_at t) (eqb n 1) c.convert_number.result) word.sign
           (c.convert_number.ensures.past high leads))
-          (nan_test (upper % 2 ^ 15) lower) (word_nan (upper % 2 ^ 15) upper lower x refl refl short high)
+          ((λ i. asked i && leb (255 * 2 ^ 7) m) ∙ le-leb (255 * 2 ^ 7) m high)
+          (ap (λ (b : Bool). b && nan_test m lower) asked ∙ word_nan m upper lower x refl refl short high)
           (word_payload t.precision (x % 2 ^ 23) (upper % 2 ^ 7 * 2 ^ 9 + lower / 2 ^ 7) t.lawful.digits
-          (omega (arith, short)) (omega arith)),
+          (omega (arith, short))),
     ))
+    (cases_lt m (255 * 2 ^ 7))
 
 -- the bits of either lane are those of an encoding
 encoded_below : (c : goal.After-with_special) → c.with_special.result.bits < 2 ^ c.args.plan.target.bits

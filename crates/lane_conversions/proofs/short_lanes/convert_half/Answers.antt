@@ -1,41 +1,16 @@
-use Rattle.std.proofs.Common.{◌≡◌, ℕ, ◌*◌, ◌/◌, ◌%◌, ◌^◌, ◌<◌, ◌≤◌, true, ◌&&◌, eqb, ltb, leb, sym, ◌∙◌, subst, inl, inr, ⊎_elim, arith}
+use Rattle.std.proofs.Common.{Bool, ap, ◌≡◌, ℕ, ◌*◌, ◌/◌, ◌%◌, ◌^◌, ◌<◌, ◌≤◌, true, ◌&&◌, eqb, ltb, leb, sym, ◌∙◌, subst, inl, inr, ⊎_elim, arith}
+use Rattle.std.proofs.Math.Bool.{and-false}
 use Rattle.std.proofs.lemmas.Bool.{cases_lt, le-leb, le-ltb, lt-leb}
 use Rattle.apfloat_model.specs.bits.Layout.{Layout}
 use Rattle.apfloat_model.specs.formats.Format.{Format}
 use Rattle.apfloat_model.specs.rounding.RoundingToOdd.{odd_quotient}
 use Rattle.lane_conversions.specs.declared.lanes.Lane.{Lane}
 use Rattle.lane_conversions.specs.At.{format_at, layout_at}
-use Rattle.lane_conversions.specs.Lanes.{IsLane, IsPastLane, with_special}
+use Rattle.lane_conversions.specs.Lanes.{IsLane, IsPastLane}
 use Rattle.lane_conversions.specs.Targets.{IsSingle}
-use Rattle.lane_conversions.proofs.Interchanges.{target_interchange}
-use Rattle.lane_conversions.proofs.Specials.{a_layout, a_single, a_single_is, as_number, as_special, half_nan, half_payload, not_false, special_converted}
+use Rattle.lane_conversions.proofs.Specials.{a_layout, a_single, a_single_is, half_nan, half_payload, not_false}
 use Rattle.lane_conversions.proofs.UpperHalves.{half_alone, half_is, word_below}
 use Rattle.lane_conversions.proofs.short_lanes.convert_half.Goals as goal
-
-lane_of : (c : goal.After-with_special) (Says : Lane → Type 0)
-    → (c.args.half % 2 ^ 15 < 255 * 2 ^ 7 → Says c.convert_number.result)
-    → (255 * 2 ^ 7 ≤ c.args.half % 2 ^ 15 → Says (with_special c.args.plan.target.nonfinite
-    c.args.plan.target.precision c.convert_number.result true (ltb (255 * 2 ^ 7) (c.args.half % 2 ^ 15))
-    (c.args.half % 2 ^ 7 * 2 ^ 9)))
-    → Says c.with_special.result
-lane_of c Says number special =
-    let t = c.args.plan.target in
-    let h = c.args.half in
-    let m = c.args.half % 2 ^ 15 in
-    subst Says (sym c.with_special.ensures)
-    (⊎_elim
-    {C = Says (with_special t.nonfinite t.precision c.convert_number.result (c.args.specials && leb (255 * 2 ^ 7) m)
-    (c.args.specials && ltb (255 * 2 ^ 7) m) (h % 2 ^ 7 * 2 ^ 9))}
-    (λ (low : c.args.half % 2 ^ 15 < 255 * 2 ^ 7).
-    as_number Says t.nonfinite t.precision (h % 2 ^ 7 * 2 ^ 9) c.convert_number.result c.args.specials
-    (leb (255 * 2 ^ 7) m) (ltb (255 * 2 ^ 7) m) (lt-leb (255 * 2 ^ 7) m low)
-    (le-ltb (255 * 2 ^ 7) m (omega (arith, low))) (number low))
-    (λ (high : 255 * 2 ^ 7 ≤ c.args.half % 2 ^ 15).
-    as_special Says t.nonfinite t.precision (h % 2 ^ 7 * 2 ^ 9) c.convert_number.result c.args.specials
-    (leb (255 * 2 ^ 7) m) (ltb (255 * 2 ^ 7) m)
-    (not_false c.args.specials (λ off. let low = c.requires.number off in omega (arith, low, high)))
-    (le-leb (255 * 2 ^ 7) m high) (special high))
-    (cases_lt m (255 * 2 ^ 7)))
 
 converted : (c : goal.After-with_special) (x : ℕ) (single : Format) (layout : Layout)
     → c.args.half ≡ odd_quotient x (2 ^ 16) → IsSingle single layout
@@ -45,27 +20,36 @@ converted c x single layout is is_single =
     let plan = c.args.plan in
     let t = plan.target in
     let h = c.args.half in
-    lane_of c (λ one. IsLane plan.saturates single layout (format_at t) (layout_at t) plan.round x one)
-    (λ low. inl (c.convert_number.ensures.converted x single layout low is is_single))
-    (λ high.
+    let m = c.args.half % 2 ^ 15 in
+    let specials = c.args.specials in
+    let Says : Lane → Type 0 = λ one.
+    IsLane plan.saturates single layout (format_at t) (layout_at t) plan.round x one in
+    ⊎_elim {C = Says c.with_special.result}
+    (λ (low : c.args.half % 2 ^ 15 < 255 * 2 ^ 7).
+    subst Says
+    (sym (c.with_special.ensures.number
+    (ap (λ (b : Bool). specials && b) (lt-leb (255 * 2 ^ 7) m low) ∙ and-false specials)
+    (ap (λ (b : Bool). specials && b) (le-ltb (255 * 2 ^ 7) m (omega (arith, low))) ∙ and-false specials)))
+    (inl (c.convert_number.ensures.converted x single layout low is is_single)))
+    (λ (high : 255 * 2 ^ 7 ≤ c.args.half % 2 ^ 15).
     let word : x < 2 ^ 32 = word_below x (subst (λ (n : ℕ). n < 2 ^ 16) is c.ranges.half.fits) in
     let half = half_is x word in
     let sign : odd_quotient x (2 ^ 16) / 2 ^ 15 ≡ x / 2 ^ 31 = half.sign in
     let exponent : odd_quotient x (2 ^ 16) % 2 ^ 15 / 2 ^ 7 ≡ x % 2 ^ 31 / 2 ^ 23 = half.exponent in
-    let leads = c.requires.leads
-    (not_false c.args.specials (λ off. let low = c.requires.number off in omega (arith, low, high))) in
+    let asked : c.args.specials ≡ true =
+    not_false c.args.specials (λ off. let low = c.requires.number off in omega (arith, low, high)) in
+    let leads = c.requires.leads asked in
     let signs : h / 2 ^ 15 ≡ x / 2 ^ 31 = (λ i. is i / 2 ^ 15) ∙ sign in
     inr (
       leads.kept,
-      special_converted single layout (format_at t) (layout_at t) plan.round x (h % 2 ^ 7 * 2 ^ 9)
-          c.convert_number.result is_single
-          (target_interchange (format_at t) (layout_at t) t.min_exp t.max_exp t.lawful) t.lawful.implied t.lawful.digits
-          word
-          (omega (arith, is, exponent, high))
+      c.with_special.ensures.special single layout plan.round x is_single word (omega (arith, is, exponent, high))
           (subst (λ (n : ℕ). IsPastLane (format_at t) (layout_at t) (eqb n 1) c.convert_number.result) signs
           (c.convert_number.ensures.past high leads))
-          (ltb (255 * 2 ^ 7) (h % 2 ^ 15)) (half_nan h x is high) (half_payload t.precision h x plan.short.digits is),
+          ((λ i. asked i && leb (255 * 2 ^ 7) m) ∙ le-leb (255 * 2 ^ 7) m high)
+          (ap (λ (b : Bool). b && ltb (255 * 2 ^ 7) m) asked ∙ half_nan h x is high)
+          (half_payload t.precision h x plan.short.digits is),
     ))
+    (cases_lt m (255 * 2 ^ 7))
 
 -- the bits of either lane are those of an encoding
 encoded_below : (c : goal.After-with_special) → c.with_special.result.bits < 2 ^ c.args.plan.target.bits
