@@ -1,6 +1,6 @@
 //! The constants by which numbers of one sign are rounded and delivered.
 
-ghost use Rattle.std.specs.Prelude.{◌≡◌, ℕ, ◌+◌, ◌-◌, ◌*◌, ◌^◌, ◌<◌, ◌≤◌, Bool, true, false, if◌then◌else◌, IsTrue};
+ghost use Rattle.std.specs.Prelude.{◌≡◌, ℕ, ◌+◌, ◌-◌, ◌*◌, ◌^◌, ◌<◌, ◌≤◌, ◌↔◌, Bool, true, false, if◌then◌else◌, IsTrue};
 ghost use Rattle.apfloat_model.specs.declared.kinds.Round.{Round as Mode};
 ghost use Rattle.apfloat_model.specs.rounding.Rounding.{leads_out};
 ghost use Rattle.lane_conversions.specs.At.{format_at, layout_at};
@@ -122,10 +122,10 @@ pub fn short_plan_of(target: Target, saturates: bool, round: Round) -> ShortPlan
 /// Whether numbers of either sign past the largest value become what is past it.
 #[inline(always)]
 pub fn delivers_past(target: Target, positive: Side, negative: Side) -> bool
-    ensures { IsTrue result → (low : ℕ) (saturates : Bool) (mode : Mode)
+    ensures { (low : ℕ) (saturates : Bool) (mode : Mode)
         → IsSideOf low saturates (format_at target) mode false positive
         → IsSideOf low saturates (format_at target) mode true negative
-        → LeadsPast saturates mode }
+        → IsTrue result ↔ LeadsPast saturates mode }
 {
     (positive.greatest > largest_code(target)) & (negative.greatest > largest_code(target))
 }

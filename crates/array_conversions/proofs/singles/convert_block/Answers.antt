@@ -22,6 +22,6 @@ convert_alike-requires g c =
     let few = c.requires.few in
     let width : c.args.plan.target.bits ≤ 8 * c.args.widths.target =
     subst (λ (l : Layout). l.bits ≤ 8 * c.args.widths.target) (sym c.requires.plan.layout) c.requires.target in
-    let leads = c.delivers_past.ensures c.if-delivers_past.true 16 plan.saturates plan.round plan.positive_is
-    plan.negative_is in
+    let leads = (c.delivers_past.ensures 16 plan.saturates plan.round plan.positive_is plan.negative_is).0
+    c.if-delivers_past.true in
     (omega (arith, few), (width, (leads, (few, c.requires.output))))
