@@ -16,7 +16,8 @@ pub record AreConverted (plan : ShortPlan) (width count index : ℕ) (halves out
     (few : FewCounts) : Type 0 where
   pub few_are : AreAtMost index few
   pub row : (overflow : Overflow) (c d : Constants) (mode : Round) (given : ℕ → List ℕ)
-      → IsSingle (format_with c) (layout_with c) → IsShortPlanFor overflow d mode plan → AreHalvesOf count halves given
+      → IsSingle (format_with c) (layout_with c) → IsShortPlanFor overflow d mode plan
+      → AreHalvesOf count halves given
       → IsRow (IsConvertedBy overflow c d mode) given width index output (counts_with few index)
 
 abbrev pub invariant-loop-index : goal.invariant-loop-index

@@ -15,7 +15,8 @@ pub record AreConverted (plan : Plan) (width count index : ℕ) (uppers lowers o
     : Type 0 where
   pub few_are : AreAtMost index few
   pub row : (overflow : Overflow) (c d : Constants) (mode : Round) (given : ℕ → List ℕ)
-      → IsSingle (format_with c) (layout_with c) → IsPlanFor overflow d mode plan → AreHalves count uppers lowers given
+      → IsSingle (format_with c) (layout_with c) → IsPlanFor overflow d mode plan
+      → AreHalves count uppers lowers given
       → IsRow (IsConvertedBy overflow c d mode) given width index output (counts_with few index)
 
 abbrev pub invariant-loop-index : goal.invariant-loop-index
