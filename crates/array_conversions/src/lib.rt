@@ -16,6 +16,7 @@ mod one_by_one;
 mod one_value;
 mod short_singles;
 mod short_sources;
+mod single_blocks;
 mod single_targets;
 mod singles;
 mod specials;

@@ -1,9 +1,9 @@
-//! Singles converted to formats of at most eight bits, a block at a time, by their upper sixteen bits. The loops and
-//! the blocks are as in `singles`, which also converts the last values.
+//! Singles converted to formats of at most eight bits, a block at a time, by their upper sixteen bits. The loops are as
+//! in `singles`, which also converts the last values.
 
 ghost use Rattle.std.specs.Prelude.{◌≡◌, ℕ, ◌+◌, ◌*◌, ◌%◌, ◌^◌, ◌≤◌, ◌<◌, List, length, slice_index, false, IsTrue};
 ghost use Rattle.lane_conversions.specs.Sides.{LeadsPast};
-ghost use Rattle.lane_conversions.specs.Targets.{IsShort, IsSingle, IsTarget};
+ghost use Rattle.lane_conversions.specs.Targets.{IsSingle, IsTarget};
 ghost use Rattle.rustc_apfloat.specs.declared.Round.{Round as Mode};
 ghost use Rattle.rustc_apfloat.specs.Lawful.{Constants, format_with, layout_with};
 ghost use Rattle.rustc_apfloat.specs.FlaggedTypes.{constants_of, format_of, layout_of};
@@ -16,13 +16,10 @@ ghost use Rattle.array_conversions.specs.Widths.{bytes_of};
 
 use crate::bytes::write_number;
 use crate::counts::Counts;
-use crate::single_targets::{is_short_target, saturates, target_of};
-use crate::singles::{all_counts, convert_last, convert_singles, counted};
-use crate::specials::{BLOCK, LONG, are_finite, convert_specials, number_in, word_of};
-use crate::widths::{Widths, bytes_of};
-use lane_conversions::{
-    FewCounts, ShortPlan, convert_half, delivers_past, short_plan_of, upper_half,
-};
+use crate::singles::{all_counts, counted};
+use crate::specials::{are_finite, convert_specials, number_in, word_of};
+use crate::widths::Widths;
+use lane_conversions::{FewCounts, ShortPlan, convert_half, delivers_past, upper_half};
 use rustc_apfloat::Round;
 use rustc_apfloat::ieee::Flagged;
 use saturating_conversions::Overflow;
@@ -169,7 +166,7 @@ fn convert_apart<S: Flagged, T: Flagged, const N: usize>(
 
 /// Converts the values of a block.
 #[inline(always)]
-fn convert_block<S: Flagged, T: Flagged, const N: usize>(
+pub(crate) fn convert_block<S: Flagged, T: Flagged, const N: usize>(
     plan: ShortPlan,
     overflow: Overflow,
     round: Round,
@@ -199,278 +196,5 @@ fn convert_block<S: Flagged, T: Flagged, const N: usize>(
         convert_alike(plan, widths.target, halves, output)
     } else {
         convert_apart::<S, T, N>(plan, overflow, round, widths, halves, input, output)
-    }
-}
-
-/// Converts the first values of an array, in blocks.
-#[inline(always)]
-fn convert_whole<S: Flagged, T: Flagged, const N: usize>(
-    plan: ShortPlan,
-    overflow: Overflow,
-    round: Round,
-    widths: Widths,
-    blocks: usize,
-    count: usize,
-    input: &[u8],
-    output: &mut [u8],
-) -> Counts
-    requires read { S.PRECISION < S.BITS }
-    requires written { T.PRECISION < T.BITS }
-    requires single { IsSingle (format_of S.Flagged) (layout_of S.Flagged) }
-    requires plan { IsShortPlanFor overflow (constants_of T.Flagged) round plan }
-    requires source { widths.source ≡ 4 }
-    requires short { IsTarget (format_of T.Flagged) (layout_of T.Flagged) T.MIN_EXP T.MAX_EXP }
-    requires target { widths.target ≡ bytes_of T.BITS }
-    requires written_width { T.BITS ≤ 8 * bytes_of T.BITS }
-    requires groups { N % 16 ≡ 0 }
-    requires few { N < 2 ^ 16 }
-    requires blocks { blocks * N ≤ count }
-    requires input { length input.now ≡ count * widths.source }
-    requires output { length output.old ≡ count * widths.target }
-    ensures { let c = constants_of S.Flagged in let d = constants_of T.Flagged in
-        IsBlock (IsConvertedBy overflow c d round) widths.source widths.target (blocks * N)
-        input.now output.new result }
-{
-    let mut counts = Counts::NONE;
-    let mut halves = [0; N];
-    for index in 0..blocks {
-        let (first, last) = (index * N, index * N + N);
-        let source = &input[first * widths.source..last * widths.source];
-        let target = &mut output[first * widths.target..last * widths.target];
-        counts.add(convert_block::<S, T, N>(
-            plan,
-            overflow,
-            round,
-            widths,
-            &mut halves,
-            source,
-            target,
-        ));
-    }
-    counts
-}
-
-/// The same, in less time where there are none.
-#[inline(always)]
-fn convert_blocks<S: Flagged, T: Flagged, const N: usize>(
-    plan: ShortPlan,
-    overflow: Overflow,
-    round: Round,
-    widths: Widths,
-    blocks: usize,
-    count: usize,
-    input: &[u8],
-    output: &mut [u8],
-) -> Counts
-    requires read { S.PRECISION < S.BITS }
-    requires written { T.PRECISION < T.BITS }
-    requires single { IsSingle (format_of S.Flagged) (layout_of S.Flagged) }
-    requires plan { IsShortPlanFor overflow (constants_of T.Flagged) round plan }
-    requires source { widths.source ≡ 4 }
-    requires short { IsTarget (format_of T.Flagged) (layout_of T.Flagged) T.MIN_EXP T.MAX_EXP }
-    requires target { widths.target ≡ bytes_of T.BITS }
-    requires written_width { T.BITS ≤ 8 * bytes_of T.BITS }
-    requires groups { N % 16 ≡ 0 }
-    requires few { N < 2 ^ 16 }
-    requires blocks { blocks * N ≤ count }
-    requires input { length input.now ≡ count * widths.source }
-    requires output { length output.old ≡ count * widths.target }
-    ensures { let c = constants_of S.Flagged in let d = constants_of T.Flagged in
-        IsBlock (IsConvertedBy overflow c d round) widths.source widths.target (blocks * N)
-        input.now output.new result }
-{
-    if blocks == 0 {
-        Counts::NONE
-    } else {
-        convert_whole::<S, T, N>(plan, overflow, round, widths, blocks, count, input, output)
-    }
-}
-
-/// Converts `count` singles, each in its place, by a plan.
-#[inline(always)]
-fn convert_few<S: Flagged, T: Flagged>(
-    plan: ShortPlan,
-    overflow: Overflow,
-    round: Round,
-    count: usize,
-    input: &[u8],
-    output: &mut [u8],
-) -> Counts
-    requires read { S.PRECISION < S.BITS }
-    requires written { T.PRECISION < T.BITS }
-    requires single { IsSingle (format_of S.Flagged) (layout_of S.Flagged) }
-    requires plan { IsShortPlanFor overflow (constants_of T.Flagged) round plan }
-    requires short { IsTarget (format_of T.Flagged) (layout_of T.Flagged) T.MIN_EXP T.MAX_EXP }
-    requires width { T.BITS ≤ 8 * bytes_of T.BITS }
-    requires input { length input.now ≡ count * 4 }
-    requires output { length output.old ≡ count * bytes_of T.BITS }
-    ensures { let c = constants_of S.Flagged in let d = constants_of T.Flagged in
-        IsBlock (IsConvertedBy overflow c d round) 4 (bytes_of T.BITS) count input.now output.new
-        result }
-{
-    if count < BLOCK {
-        return convert_last::<S, T>(overflow, round, count, input, output);
-    }
-    let widths = Widths {
-        source: 4,
-        target: bytes_of(T::BITS),
-    };
-    let blocks = count / BLOCK;
-    let mut counts = convert_blocks::<S, T, BLOCK>(
-        plan, overflow, round, widths, blocks, count, input, output,
-    );
-    let done = blocks * BLOCK;
-    if done == count {
-        return counts;
-    }
-    let rest = count - done;
-    let source = &input[done * widths.source..count * widths.source];
-    let target = &mut output[done * widths.target..count * widths.target];
-    counts.add(convert_last::<S, T>(overflow, round, rest, source, target));
-    counts
-}
-
-/// Converts `count` singles, fewer than a long block has, each in its place. It makes the plan anew: one that is passed
-/// to it would not be a constant for its callers either.
-#[inline(never)]
-fn convert_rest<S: Flagged, T: Flagged>(
-    overflow: Overflow,
-    round: Round,
-    count: usize,
-    input: &[u8],
-    output: &mut [u8],
-) -> Counts
-    requires read { S.PRECISION < S.BITS }
-    requires written { T.PRECISION < T.BITS }
-    requires single { IsSingle (format_of S.Flagged) (layout_of S.Flagged) }
-    requires target { IsTarget (format_of T.Flagged) (layout_of T.Flagged) T.MIN_EXP T.MAX_EXP }
-    requires short { IsShort (layout_of T.Flagged) T.PRECISION T.MIN_EXP }
-    requires width { T.BITS ≤ 8 * bytes_of T.BITS }
-    requires input { length input.now ≡ count * 4 }
-    requires output { length output.old ≡ count * bytes_of T.BITS }
-    ensures { let c = constants_of S.Flagged in let d = constants_of T.Flagged in
-        IsBlock (IsConvertedBy overflow c d round) 4 (bytes_of T.BITS) count input.now output.new
-        result }
-{
-    let target = target_of::<T>();
-    let saturates = saturates(overflow);
-    match (round, saturates) {
-        (Round::NearestTiesToEven, false) => {
-            let plan = short_plan_of(target, false, Round::NearestTiesToEven);
-            convert_few::<S, T>(plan, overflow, round, count, input, output)
-        }
-        (Round::NearestTiesToEven, true) => {
-            let plan = short_plan_of(target, true, Round::NearestTiesToEven);
-            convert_few::<S, T>(plan, overflow, round, count, input, output)
-        }
-        _ => {
-            let plan = short_plan_of(target, saturates, round);
-            convert_few::<S, T>(plan, overflow, round, count, input, output)
-        }
-    }
-}
-
-/// Converts `count` singles, each in its place, by a plan: in long blocks as long as there are enough values.
-#[inline(always)]
-fn convert_many<S: Flagged, T: Flagged>(
-    plan: ShortPlan,
-    overflow: Overflow,
-    round: Round,
-    count: usize,
-    input: &[u8],
-    output: &mut [u8],
-) -> Counts
-    requires read { S.PRECISION < S.BITS }
-    requires written { T.PRECISION < T.BITS }
-    requires single { IsSingle (format_of S.Flagged) (layout_of S.Flagged) }
-    requires plan { IsShortPlanFor overflow (constants_of T.Flagged) round plan }
-    requires short { IsTarget (format_of T.Flagged) (layout_of T.Flagged) T.MIN_EXP T.MAX_EXP }
-    requires width { T.BITS ≤ 8 * bytes_of T.BITS }
-    requires input { length input.now ≡ count * 4 }
-    requires output { length output.old ≡ count * bytes_of T.BITS }
-    ensures { let c = constants_of S.Flagged in let d = constants_of T.Flagged in
-        IsBlock (IsConvertedBy overflow c d round) 4 (bytes_of T.BITS) count input.now output.new
-        result }
-{
-    let widths = Widths {
-        source: 4,
-        target: bytes_of(T::BITS),
-    };
-    let blocks = count / LONG;
-    let mut counts = convert_blocks::<S, T, LONG>(
-        plan, overflow, round, widths, blocks, count, input, output,
-    );
-    let done = blocks * LONG;
-    let rest = count - done;
-    let source = &input[done * widths.source..count * widths.source];
-    let target = &mut output[done * widths.target..count * widths.target];
-    counts.add(convert_rest::<S, T>(overflow, round, rest, source, target));
-    counts
-}
-
-/// Converts `count` singles, each in its place, to a format of at most eight bits, with the usual mode as a constant,
-/// and whether conversions saturate.
-#[inline(never)]
-fn convert_short_singles<S: Flagged, T: Flagged>(
-    overflow: Overflow,
-    round: Round,
-    count: usize,
-    input: &[u8],
-    output: &mut [u8],
-) -> Counts
-    requires read { S.PRECISION < S.BITS }
-    requires written { T.PRECISION < T.BITS }
-    requires single { IsSingle (format_of S.Flagged) (layout_of S.Flagged) }
-    requires target { IsTarget (format_of T.Flagged) (layout_of T.Flagged) T.MIN_EXP T.MAX_EXP }
-    requires short { IsShort (layout_of T.Flagged) T.PRECISION T.MIN_EXP }
-    requires width { T.BITS ≤ 8 * bytes_of T.BITS }
-    requires input { length input.now ≡ count * 4 }
-    requires output { length output.old ≡ count * bytes_of T.BITS }
-    ensures { let c = constants_of S.Flagged in let d = constants_of T.Flagged in
-        IsBlock (IsConvertedBy overflow c d round) 4 (bytes_of T.BITS) count input.now output.new
-        result }
-{
-    if count < LONG {
-        return convert_rest::<S, T>(overflow, round, count, input, output);
-    }
-    let target = target_of::<T>();
-    let saturates = saturates(overflow);
-    match (round, saturates) {
-        (Round::NearestTiesToEven, false) => {
-            let plan = short_plan_of(target, false, Round::NearestTiesToEven);
-            convert_many::<S, T>(plan, overflow, round, count, input, output)
-        }
-        (Round::NearestTiesToEven, true) => {
-            let plan = short_plan_of(target, true, Round::NearestTiesToEven);
-            convert_many::<S, T>(plan, overflow, round, count, input, output)
-        }
-        _ => convert_rest::<S, T>(overflow, round, count, input, output),
-    }
-}
-
-/// Converts `count` singles, each in its place.
-#[inline(always)]
-pub fn convert_all_singles<S: Flagged, T: Flagged>(
-    overflow: Overflow,
-    round: Round,
-    count: usize,
-    input: &[u8],
-    output: &mut [u8],
-) -> Counts
-    requires read { S.PRECISION < S.BITS }
-    requires written { T.PRECISION < T.BITS }
-    requires single { IsSingle (format_of S.Flagged) (layout_of S.Flagged) }
-    requires target { IsTarget (format_of T.Flagged) (layout_of T.Flagged) T.MIN_EXP T.MAX_EXP }
-    requires width { T.BITS ≤ 8 * bytes_of T.BITS }
-    requires input { length input.now ≡ count * 4 }
-    requires output { length output.old ≡ count * bytes_of T.BITS }
-    ensures { let c = constants_of S.Flagged in let d = constants_of T.Flagged in
-        IsBlock (IsConvertedBy overflow c d round) 4 (bytes_of T.BITS) count input.now output.new
-        result }
-{
-    if is_short_target::<T>() {
-        convert_short_singles::<S, T>(overflow, round, count, input, output)
-    } else {
-        convert_singles::<S, T>(overflow, round, count, input, output)
     }
 }

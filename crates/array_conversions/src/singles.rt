@@ -1,7 +1,7 @@
 //! Singles converted a block at a time. The loops below have no jump that depends on a value, and compute all in words
 //! of sixteen bits, so that a compiler can work on several values at once.
 
-ghost use Rattle.std.specs.Prelude.{◌≡◌, ℕ, ◌+◌, ◌*◌, ◌/◌, ◌%◌, ◌^◌, ◌≤◌, ◌<◌, List, length, replicate, slice_index, false, IsTrue};
+ghost use Rattle.std.specs.Prelude.{◌≡◌, ℕ, ◌+◌, ◌*◌, ◌/◌, ◌%◌, ◌^◌, ◌≤◌, ◌<◌, List, length, replicate, false, IsTrue};
 ghost use Rattle.lane_conversions.specs.FewCounts.{AreAtMost};
 ghost use Rattle.lane_conversions.specs.Sides.{LeadsPast};
 ghost use Rattle.lane_conversions.specs.Targets.{IsSingle, IsTarget};
@@ -9,7 +9,6 @@ ghost use Rattle.rustc_apfloat.specs.declared.Round.{Round as Mode};
 ghost use Rattle.rustc_apfloat.specs.Lawful.{Constants, format_with, layout_with};
 ghost use Rattle.rustc_apfloat.specs.FlaggedTypes.{constants_of, format_of, layout_of};
 ghost use Rattle.array_conversions.specs.Blocks.{IsBlock, value_at};
-ghost use Rattle.array_conversions.specs.Bytes.{number_of};
 ghost use Rattle.array_conversions.specs.Outcomes.{with_outcome};
 ghost use Rattle.array_conversions.specs.Rows.{AreFiniteHalves, IsRow, number_from};
 ghost use Rattle.array_conversions.specs.Singles.{AreHalves, IsPlanFor, counts_with, outcome_of};
@@ -20,7 +19,7 @@ use crate::bytes::write_number;
 use crate::counts::Counts;
 use crate::one_by_one::convert_one_by_one;
 use crate::single_targets::{is_single, is_target, saturates, target_of};
-use crate::specials::{BLOCK, LONG, are_finite, convert_specials, lower_in, number_in, word_of};
+use crate::specials::{BLOCK, are_finite, convert_specials, lower_in, number_in, word_of};
 use crate::widths::{Widths, bytes_of};
 use lane_conversions::{FewCounts, Lane, Plan, convert_single, delivers_past, plan_of, with_lane};
 use rustc_apfloat::Round;
@@ -204,7 +203,7 @@ fn convert_apart<S: Flagged, T: Flagged, const N: usize>(
 
 /// Converts the values of a block.
 #[inline(always)]
-fn convert_block<S: Flagged, T: Flagged, const N: usize>(
+pub(crate) fn convert_block<S: Flagged, T: Flagged, const N: usize>(
     plan: Plan,
     overflow: Overflow,
     round: Round,
@@ -233,88 +232,6 @@ fn convert_block<S: Flagged, T: Flagged, const N: usize>(
         convert_alike(plan, widths.target, uppers, lowers, output)
     } else {
         convert_apart::<S, T, N>(plan, overflow, round, widths, uppers, lowers, input, output)
-    }
-}
-
-/// Converts the first values of an array, in blocks.
-#[inline(always)]
-fn convert_whole<S: Flagged, T: Flagged, const N: usize>(
-    plan: Plan,
-    overflow: Overflow,
-    round: Round,
-    widths: Widths,
-    blocks: usize,
-    count: usize,
-    input: &[u8],
-    output: &mut [u8],
-) -> Counts
-    requires read { S.PRECISION < S.BITS }
-    requires written { T.PRECISION < T.BITS }
-    requires single { IsSingle (format_of S.Flagged) (layout_of S.Flagged) }
-    requires plan { IsPlanFor overflow (constants_of T.Flagged) round plan }
-    requires source { widths.source ≡ 4 }
-    requires target { T.BITS ≤ 8 * widths.target }
-    requires groups { N % 16 ≡ 0 }
-    requires few { N < 2 ^ 16 }
-    requires blocks { blocks * N ≤ count }
-    requires input { length input.now ≡ count * widths.source }
-    requires output { length output.old ≡ count * widths.target }
-    ensures { let c = constants_of S.Flagged in let d = constants_of T.Flagged in
-        IsBlock (IsConvertedBy overflow c d round) widths.source widths.target (blocks * N)
-        input.now output.new result }
-{
-    let mut counts = Counts::NONE;
-    let mut uppers = [0; N];
-    let mut lowers = [0; N];
-    for index in 0..blocks {
-        let (first, last) = (index * N, index * N + N);
-        let source = &input[first * widths.source..last * widths.source];
-        let target = &mut output[first * widths.target..last * widths.target];
-        counts.add(convert_block::<S, T, N>(
-            plan,
-            overflow,
-            round,
-            widths,
-            &mut uppers,
-            &mut lowers,
-            source,
-            target,
-        ));
-    }
-    counts
-}
-
-/// The same, in less time where there are none.
-#[inline(always)]
-fn convert_blocks<S: Flagged, T: Flagged, const N: usize>(
-    plan: Plan,
-    overflow: Overflow,
-    round: Round,
-    widths: Widths,
-    blocks: usize,
-    count: usize,
-    input: &[u8],
-    output: &mut [u8],
-) -> Counts
-    requires read { S.PRECISION < S.BITS }
-    requires written { T.PRECISION < T.BITS }
-    requires single { IsSingle (format_of S.Flagged) (layout_of S.Flagged) }
-    requires plan { IsPlanFor overflow (constants_of T.Flagged) round plan }
-    requires source { widths.source ≡ 4 }
-    requires target { T.BITS ≤ 8 * widths.target }
-    requires groups { N % 16 ≡ 0 }
-    requires few { N < 2 ^ 16 }
-    requires blocks { blocks * N ≤ count }
-    requires input { length input.now ≡ count * widths.source }
-    requires output { length output.old ≡ count * widths.target }
-    ensures { let c = constants_of S.Flagged in let d = constants_of T.Flagged in
-        IsBlock (IsConvertedBy overflow c d round) widths.source widths.target (blocks * N)
-        input.now output.new result }
-{
-    if blocks == 0 {
-        Counts::NONE
-    } else {
-        convert_whole::<S, T, N>(plan, overflow, round, widths, blocks, count, input, output)
     }
 }
 
@@ -431,167 +348,6 @@ pub(crate) fn convert_last<S: Flagged, T: Flagged>(
         convert_one_by_one::<S, T>(overflow, round, widths, count, input, output)
     } else {
         convert_padded::<S, T>(overflow, round, count, input, output)
-    }
-}
-
-/// Converts `count` singles, each in its place, by a plan.
-#[inline(always)]
-fn convert_few<S: Flagged, T: Flagged>(
-    plan: Plan,
-    overflow: Overflow,
-    round: Round,
-    count: usize,
-    input: &[u8],
-    output: &mut [u8],
-) -> Counts
-    requires read { S.PRECISION < S.BITS }
-    requires written { T.PRECISION < T.BITS }
-    requires single { IsSingle (format_of S.Flagged) (layout_of S.Flagged) }
-    requires plan { IsPlanFor overflow (constants_of T.Flagged) round plan }
-    requires target { IsTarget (format_of T.Flagged) (layout_of T.Flagged) T.MIN_EXP T.MAX_EXP }
-    requires width { T.BITS ≤ 8 * bytes_of T.BITS }
-    requires input { length input.now ≡ count * 4 }
-    requires output { length output.old ≡ count * bytes_of T.BITS }
-    ensures { let c = constants_of S.Flagged in let d = constants_of T.Flagged in
-        IsBlock (IsConvertedBy overflow c d round) 4 (bytes_of T.BITS) count input.now output.new
-        result }
-{
-    if count < BLOCK {
-        return convert_last::<S, T>(overflow, round, count, input, output);
-    }
-    let widths = Widths {
-        source: 4,
-        target: bytes_of(T::BITS),
-    };
-    let blocks = count / BLOCK;
-    let mut counts = convert_blocks::<S, T, BLOCK>(
-        plan, overflow, round, widths, blocks, count, input, output,
-    );
-    let done = blocks * BLOCK;
-    if done == count {
-        return counts;
-    }
-    let rest = count - done;
-    let source = &input[done * widths.source..count * widths.source];
-    let target = &mut output[done * widths.target..count * widths.target];
-    counts.add(convert_last::<S, T>(overflow, round, rest, source, target));
-    counts
-}
-
-/// Converts `count` singles, fewer than a long block has, each in its place. It makes the plan anew: one that is passed
-/// to it would not be a constant for its callers either.
-#[inline(never)]
-fn convert_rest<S: Flagged, T: Flagged>(
-    overflow: Overflow,
-    round: Round,
-    count: usize,
-    input: &[u8],
-    output: &mut [u8],
-) -> Counts
-    requires read { S.PRECISION < S.BITS }
-    requires written { T.PRECISION < T.BITS }
-    requires single { IsSingle (format_of S.Flagged) (layout_of S.Flagged) }
-    requires target { IsTarget (format_of T.Flagged) (layout_of T.Flagged) T.MIN_EXP T.MAX_EXP }
-    requires width { T.BITS ≤ 8 * bytes_of T.BITS }
-    requires input { length input.now ≡ count * 4 }
-    requires output { length output.old ≡ count * bytes_of T.BITS }
-    ensures { let c = constants_of S.Flagged in let d = constants_of T.Flagged in
-        IsBlock (IsConvertedBy overflow c d round) 4 (bytes_of T.BITS) count input.now output.new
-        result }
-{
-    let target = target_of::<T>();
-    let saturates = saturates(overflow);
-    match (round, saturates) {
-        (Round::NearestTiesToEven, false) => {
-            let plan = plan_of(target, false, Round::NearestTiesToEven);
-            convert_few::<S, T>(plan, overflow, round, count, input, output)
-        }
-        (Round::NearestTiesToEven, true) => {
-            let plan = plan_of(target, true, Round::NearestTiesToEven);
-            convert_few::<S, T>(plan, overflow, round, count, input, output)
-        }
-        _ => {
-            let plan = plan_of(target, saturates, round);
-            convert_few::<S, T>(plan, overflow, round, count, input, output)
-        }
-    }
-}
-
-/// Converts `count` singles, each in its place, by a plan: in long blocks as long as there are enough values.
-#[inline(always)]
-fn convert_many<S: Flagged, T: Flagged>(
-    plan: Plan,
-    overflow: Overflow,
-    round: Round,
-    count: usize,
-    input: &[u8],
-    output: &mut [u8],
-) -> Counts
-    requires read { S.PRECISION < S.BITS }
-    requires written { T.PRECISION < T.BITS }
-    requires single { IsSingle (format_of S.Flagged) (layout_of S.Flagged) }
-    requires plan { IsPlanFor overflow (constants_of T.Flagged) round plan }
-    requires target { IsTarget (format_of T.Flagged) (layout_of T.Flagged) T.MIN_EXP T.MAX_EXP }
-    requires width { T.BITS ≤ 8 * bytes_of T.BITS }
-    requires input { length input.now ≡ count * 4 }
-    requires output { length output.old ≡ count * bytes_of T.BITS }
-    ensures { let c = constants_of S.Flagged in let d = constants_of T.Flagged in
-        IsBlock (IsConvertedBy overflow c d round) 4 (bytes_of T.BITS) count input.now output.new
-        result }
-{
-    let widths = Widths {
-        source: 4,
-        target: bytes_of(T::BITS),
-    };
-    let blocks = count / LONG;
-    let mut counts = convert_blocks::<S, T, LONG>(
-        plan, overflow, round, widths, blocks, count, input, output,
-    );
-    let done = blocks * LONG;
-    let rest = count - done;
-    let source = &input[done * widths.source..count * widths.source];
-    let target = &mut output[done * widths.target..count * widths.target];
-    counts.add(convert_rest::<S, T>(overflow, round, rest, source, target));
-    counts
-}
-
-/// Converts `count` singles, each in its place. The widths and the format are constants, so that the loops know how
-/// many bytes they read and write, and where a significand is cut; and so is the usual mode, and with it whether
-/// conversions saturate.
-#[inline(never)]
-pub fn convert_singles<S: Flagged, T: Flagged>(
-    overflow: Overflow,
-    round: Round,
-    count: usize,
-    input: &[u8],
-    output: &mut [u8],
-) -> Counts
-    requires read { S.PRECISION < S.BITS }
-    requires written { T.PRECISION < T.BITS }
-    requires single { IsSingle (format_of S.Flagged) (layout_of S.Flagged) }
-    requires target { IsTarget (format_of T.Flagged) (layout_of T.Flagged) T.MIN_EXP T.MAX_EXP }
-    requires width { T.BITS ≤ 8 * bytes_of T.BITS }
-    requires input { length input.now ≡ count * 4 }
-    requires output { length output.old ≡ count * bytes_of T.BITS }
-    ensures { let c = constants_of S.Flagged in let d = constants_of T.Flagged in
-        IsBlock (IsConvertedBy overflow c d round) 4 (bytes_of T.BITS) count input.now output.new
-        result }
-{
-    if count < LONG {
-        return convert_rest::<S, T>(overflow, round, count, input, output);
-    }
-    let target = target_of::<T>();
-    let saturates = saturates(overflow);
-    match (round, saturates) {
-        (Round::NearestTiesToEven, false) => {
-            let plan = plan_of(target, false, Round::NearestTiesToEven);
-            convert_many::<S, T>(plan, overflow, round, count, input, output)
-        }
-        (Round::NearestTiesToEven, true) => {
-            let plan = plan_of(target, true, Round::NearestTiesToEven);
-            convert_many::<S, T>(plan, overflow, round, count, input, output)
-        }
-        _ => convert_rest::<S, T>(overflow, round, count, input, output),
     }
 }
 

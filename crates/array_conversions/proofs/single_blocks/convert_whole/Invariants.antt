@@ -2,7 +2,7 @@ use Rattle.std.specs.Prelude.{◌*◌}
 use Rattle.rustc_apfloat.specs.FlaggedTypes.{constants_of}
 use Rattle.array_conversions.specs.Blocks.{IsBlock}
 use Rattle.array_conversions.specs.Values.{IsConvertedBy}
-use Rattle.array_conversions.proofs.short_singles.convert_whole.Given as goal
+use Rattle.array_conversions.proofs.single_blocks.convert_whole.Given as goal
 
 abbrev pub invariant-loop-index : goal.invariant-loop-index
 invariant-loop-index g l =

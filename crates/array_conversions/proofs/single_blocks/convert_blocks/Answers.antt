@@ -4,13 +4,14 @@ use Rattle.array_conversions.specs.Blocks.{IsBlock}
 use Rattle.array_conversions.specs.Outcomes.{counts_of}
 use Rattle.array_conversions.specs.Values.{IsConvertedBy}
 use Rattle.array_conversions.proofs.Places.{block_none}
-use Rattle.array_conversions.proofs.singles.convert_blocks.Goals as goal
+use Rattle.array_conversions.proofs.single_blocks.convert_blocks.Goals as goal
 
 pub returns-then-blocks-eq0 : goal.returns-then-blocks-eq0
 returns-then-blocks-eq0 g c =
     let Holds = IsConvertedBy c.args.overflow (constants_of g.S.Flagged) (constants_of g.T.Flagged) c.args.round in
     let none : 0 ≡ c.args.blocks * g.row.N =
-    (let zero : 0 ≡ 0 * g.row.N = omega arith in zero) ∙ ap (λ (n : ℕ). n * g.row.N) (sym c.if-blocks-eq0.true) in
+    (let zero : 0 ≡ 0 * g.row.N = omega arith in zero)
+    ∙ ap (λ (n : ℕ). n * g.row.N) (sym c.if-blocks-eq0.true) in
     subst
     (λ (n : ℕ). IsBlock Holds c.args.widths.source c.args.widths.target n c.args.input.now c.args.output.now
     (counts_of [])) none

@@ -7,7 +7,7 @@ use Rattle.array_conversions.specs.Outcomes.{counts_of}
 use Rattle.array_conversions.specs.Values.{IsConvertedBy}
 use Rattle.array_conversions.proofs.Joined.{block_joined}
 use Rattle.array_conversions.proofs.Places.{block_named, block_none}
-use Rattle.array_conversions.proofs.singles.convert_whole.Goals as goal
+use Rattle.array_conversions.proofs.single_blocks.convert_whole.Goals as goal
 
 pub loop-index-init : goal.loop-index-init
 loop-index-init g c =
@@ -37,7 +37,8 @@ loop-index-preserved g c =
     c.convert_block.auto.output
     ∙ length-between c.loop-index.output (index * count * target) ((index * count + count) * target)
     (omega (arith, size, room))
-    ∙ (let rest : (index * count + count) * target - index * count * target ≡ count * target = omega (arith, ends) in
+    ∙ (let rest : (index * count + count) * target - index * count * target ≡ count * target =
+    omega (arith, ends) in
     rest) in
     rw c.add.ensures
     (block_named (IsConvertedBy c.args.overflow (constants_of g.S.Flagged) (constants_of g.T.Flagged) c.args.round)
