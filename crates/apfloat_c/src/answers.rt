@@ -21,7 +21,7 @@ use crate::codes::{
 };
 use crate::data::Answer;
 use apfloat_encoded::{
-    Encoded, add_normal, convert_normal, multiply_bits, root_bits, subtract_normal,
+    Encoded, add_normal, convert_normal, multiply_bits, root_bits, subtract_normal, word_of,
 };
 use formats_at_run_time::{FillsInFormat, FlaggedKind, ValueType};
 use rustc_apfloat::ieee::{Flagged, IeeeFloat};
@@ -48,6 +48,7 @@ pub fn sum_in<S: Flagged>(answer: &mut Answer, round: Round, x: u128, y: u128)
     if let Some(sum) = add_normal::<S>(x, y, round) {
         *answer = with_bits(sum);
     } else {
+        let (x, y) = (word_of::<S>(x), word_of::<S>(y));
         sum::<IeeeFloat<S>>(answer, round, x, y);
     }
 }
@@ -62,6 +63,7 @@ pub fn difference_in<S: Flagged>(answer: &mut Answer, round: Round, x: u128, y: 
     if let Some(difference) = subtract_normal::<S>(x, y, round) {
         *answer = with_bits(difference);
     } else {
+        let (x, y) = (word_of::<S>(x), word_of::<S>(y));
         difference::<IeeeFloat<S>>(answer, round, x, y);
     }
 }

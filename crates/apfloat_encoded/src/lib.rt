@@ -22,7 +22,7 @@ mod totals;
 pub use conversions::convert_normal;
 pub use decimals::read_decimal_bits;
 pub use encoded::Encoded;
-pub use numbers::{biased_exponent, is_minus};
+pub use numbers::{biased_exponent, is_minus, word_of};
 pub use products::{multiply_bits, multiply_normal};
 pub use roots::root_bits;
 pub use sums::{add_bits, add_normal, subtract_bits, subtract_normal};

@@ -39,7 +39,7 @@ pub(crate) fn precision_of<S: Flagged>() -> u32
 /// The low word of an encoding in a format that fits in one. It encodes the same value, and takes half the registers
 /// until a call that is seldom made. In other formats it is the encoding itself.
 #[inline(always)]
-pub(crate) fn word_of<S: Flagged>(bits: u128) -> u128
+pub fn word_of<S: Flagged>(bits: u128) -> u128
     requires { S.PRECISION < S.BITS }
     ensures { value_in (constants_of S.Flagged) result ≡ value_in (constants_of S.Flagged) bits }
 {

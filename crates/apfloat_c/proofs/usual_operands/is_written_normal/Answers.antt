@@ -7,7 +7,8 @@ use Rattle.apfloat_c.proofs.usual_operands.is_written_normal.Goals as goal
 pub returns-then-is_inner : goal.returns-then-is_inner
 returns-then-is_inner g c = λ full.
     let k = constants_of g.S.Flagged in
-    let is = c.lowest-biased.ensures ∙ ap (λ (n : ℕ). c.args.bits / c.power_of_two-above.result % 2 ^ n) c.EXP_BITS.ensures in
+    let is = c.lowest-biased.ensures
+    ∙ ap (λ (n : ℕ). c.args.bits / c.power_of_two-above.result % 2 ^ n) c.EXP_BITS.ensures in
     let inner = subst (λ (n : ℕ). (0 < n) × (n + 1 < 2 ^ k.exp_bits)) is
     (c.is_inner.ensures c.if-is_inner.true) in
     computed_is_divisor k c.args.bits c.power_of_two-above.result (2 ^ k.exp_bits)
