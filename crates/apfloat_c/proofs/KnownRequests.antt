@@ -1,29 +1,21 @@
 -- Requests whose codes are known: what their operation leaves is the reply.
-use Rattle.std.proofs.Common.{◌≡◌, ℕ, subst, Option, None, Some, Result, Ok, refl}
+use Rattle.std.proofs.Common.{◌≡◌, ℕ, subst, Option, None, Some, Ok, refl}
 use Rattle.std.specs.Prelude.{option_and_then}
 use Rattle.rustc_apfloat.specs.declared.Round.{Round}
 use Rattle.apfloat_machines.specs.declared.machine.Machine.{Machine}
-use Rattle.formats_at_run_time.specs.declared.Arithmetic.{Arithmetic}
-use Rattle.formats_at_run_time.specs.declared.Arithmetic.TheVariants.{Sum, Difference, Product, Quotient}
-use Rattle.formats_at_run_time.specs.declared.Arithmetic.TheVariants.{NearestRemainder, TruncatedRemainder}
 use Rattle.formats_at_run_time.specs.declared.FlaggedKind.{FlaggedKind}
 use Rattle.formats_at_run_time.specs.FlaggedKinds.{flagged_constants}
 use Rattle.formats_at_run_time.specs.ValueKinds.{of_format}
 use Rattle.apfloat_c.specs.declared.data.Answer.{Answer}
-use Rattle.apfloat_c.specs.declared.machine_call.MachineCall.{MachineCall}
 use Rattle.apfloat_c.specs.declared.machine_call.MachineCall.TheVariants.{Operation, Conversion}
 use Rattle.apfloat_c.specs.declared.machine_call.MachineFormat.{MachineFormat}
 use Rattle.apfloat_c.specs.declared.machine_call.MachineOperation.{MachineOperation}
-use Rattle.apfloat_c.specs.declared.machine_call.MachineOperation.TheVariants.{OfTwo}
-use Rattle.apfloat_c.specs.declared.machine_call.OneOperation.{OneOperation}
-use Rattle.apfloat_c.specs.declared.machine_call.OneOperation.TheVariants.{SquareRoot, IntegralExact, Integral}
-use Rattle.apfloat_c.specs.declared.machine_call.OneOperation.TheVariants.{ToUnsigned, ToSigned}
 use Rattle.apfloat_c.specs.Answers.{IsLeftBy}
 use Rattle.apfloat_c.specs.MachineCalls.{IsFilledIn, IsMachineAnswer, IsMachineCallAnswer, IsMachineConversionLeft}
 use Rattle.apfloat_c.specs.MachineCalls.{IsMachineLeftIn, IsMachineReply, conversion_call, kind_on}
 use Rattle.apfloat_c.specs.MachineCalls.{kind_without_rule}
-use Rattle.apfloat_c.specs.MachineCalls.{format_on, known_machine_call, machine_call, machine_fault, machine_format}
-use Rattle.apfloat_c.specs.MachineCalls.{of_one, one_code, operation_fault_in, two_code}
+use Rattle.apfloat_c.specs.MachineCalls.{format_on, known_machine_call, machine_fault, machine_format}
+use Rattle.apfloat_c.specs.MachineCalls.{operation_fault_in}
 use Rattle.apfloat_c.proofs.MachineFormats.{has_infinities_on, has_width_on}
 use Rattle.apfloat_c.proofs.UsualAnswers.{conversion_known, replied}
 
@@ -41,22 +33,22 @@ operation_left machine format mode operation old new code left =
     (has_width_on machine format) (left (has_infinities_on machine format))
 
 -- a request of a known machine and mode, in a format that is known
-pub operation_filled : (kind : Option FlaggedKind) (mode : Option Round) (round : Round) (call : Result MachineCall ℕ)
-    (operation : MachineOperation) (machine : Option Machine) (on : Machine) (old new : Answer) (code : ℕ)
-    → mode ≡ Some round → call ≡ Ok (Operation operation) → machine ≡ Some on
+pub operation_filled : (kind : Option FlaggedKind) (mode : Option Round) (round : Round) (operation : MachineOperation)
+    (machine : Option Machine) (on : Machine) (old new : Answer) (code : ℕ)
+    → mode ≡ Some round → machine ≡ Some on
     → IsFilledIn (kind_on on) (λ k o n c. IsMachineLeftIn k on round operation o n c)
     (option_and_then machine_format kind) old new (Some code)
-    → IsMachineReply (known_machine_call kind mode call machine) old new code
-operation_filled kind mode round call operation machine on old new code m k h filled =
+    → IsMachineReply (known_machine_call kind mode (Ok (Operation operation)) machine) old new code
+operation_filled kind mode round operation machine on old new code m h filled =
     by_format (option_and_then machine_format kind) refl filled
   where
     by_format : (target : Option MachineFormat) → option_and_then machine_format kind ≡ target
         → IsFilledIn (kind_on on) (λ k o n c. IsMachineLeftIn k on round operation o n c) target old new (Some code)
-        → IsMachineReply (known_machine_call kind mode call machine) old new code
+        → IsMachineReply (known_machine_call kind mode (Ok (Operation operation)) machine) old new code
     by_format None t filled = absurd filled
     by_format (Some format) t filled =
-        replied kind format mode round call (Operation operation) machine on old new code t m k h
-        (operation_left on format round operation old new code filled)
+        replied kind format mode round (Ok (Operation operation)) (Operation operation) machine on old new code t m
+        refl h (operation_left on format round operation old new code filled)
 
 -- the same for a conversion, of a value of a known format to a known one
 pub conversion_filled : (kind to : Option FlaggedKind) (mode : Option Round) (round : Round) (x : ℕ)
@@ -94,20 +86,3 @@ conversion_filled kind to mode round x machine on old new left code m h e filled
         → IsMachineReply (known_machine_call kind mode (conversion_call to x) machine) old new code
     by_source None s filled = absurd filled
     by_source (Some source) s filled = by_target source s (option_and_then machine_format to) refl filled
-
-pub two_called : (arithmetic : Arithmetic) (x y z : ℕ)
-    → machine_call (two_code arithmetic) 0 x y z ≡ Ok (Operation (OfTwo arithmetic x y))
-two_called Sum x y z = refl
-two_called Difference x y z = refl
-two_called Product x y z = refl
-two_called Quotient x y z = refl
-two_called NearestRemainder x y z = refl
-two_called TruncatedRemainder x y z = refl
-
-pub one_called : (operation : OneOperation) (to x y z : ℕ)
-    → machine_call (one_code operation) to x y z ≡ Ok (Operation (of_one operation to x))
-one_called SquareRoot to x y z = refl
-one_called IntegralExact to x y z = refl
-one_called Integral to x y z = refl
-one_called ToUnsigned to x y z = refl
-one_called ToSigned to x y z = refl

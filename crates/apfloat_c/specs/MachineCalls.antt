@@ -162,21 +162,6 @@ machine_call code to x y z =
     if code == 11 then conversion_call (flagged_kind_coded to) x
     else operation_call (machine_operation code to x y z)
 
-abbrev pub two_code : Arithmetic → ℕ
-two_code Sum = 1
-two_code Difference = 2
-two_code Product = 3
-two_code Quotient = 4
-two_code NearestRemainder = 5
-two_code TruncatedRemainder = 6
-
-abbrev pub one_code : OneOperation → ℕ
-one_code SquareRootOf = 8
-one_code IntegralExactOf = 9
-one_code IntegralOf = 10
-one_code ToUnsignedOf = 12
-one_code ToSignedOf = 13
-
 -- an operation on one value, of that value
 abbrev pub of_one : OneOperation → ℕ → ℕ → MachineOperation
 of_one SquareRootOf to x = SquareRoot x
@@ -379,21 +364,11 @@ IsMachineConversionLeft (of_format c) machine mode x target old new code =
 IsMachineConversionLeft of_pairs machine mode x target old new code = ⊥
 
 -- What a call leaves in a place at the kind of a format that may be unknown. Where it is not made, nothing is left.
-abbrev pub IsFilledIn : {P O : Type 0} → (MachineFormat → Kind) → (Kind → P → P → O → Type 0)
-    → Option MachineFormat → P → P → Option O → Type 0
+abbrev pub IsFilledIn : {F P O : Type 0} → (F → Kind) → (Kind → P → P → O → Type 0) → Option F → P → P
+    → Option O → Type 0
 IsFilledIn kind_of gives format old new None = new ≡ old
 IsFilledIn kind_of gives (Some format) old new (Some given) = gives (kind_of format) old new given
 IsFilledIn kind_of gives None old new (Some given) = ⊥
-
--- the same in a format that a byte names, with these constants
-abbrev pub IsFilledAs : {P O : Type 0} → (IeeeFormat → Constants) → (Kind → P → P → O → Type 0)
-    → Option IeeeFormat → P → P → Option O → Type 0
-IsFilledAs constants gives format old new None = new ≡ old
-IsFilledAs constants gives (Some format) old new (Some given) = gives (of_format (constants format)) old new given
-IsFilledAs constants gives None old new (Some given) = ⊥
-
-abbrev pub without_rule : IeeeFormat → Constants
-without_rule format = constants_in (format_of_ieee format)
 
 -- the kind of a format with its rule of flags on a machine
 abbrev pub kind_on : Machine → MachineFormat → Kind
@@ -401,7 +376,7 @@ kind_on machine format = of_format (flagged_constants (format_on machine format)
 
 -- the same without a rule of flags
 abbrev pub kind_without_rule : MachineFormat → Kind
-kind_without_rule m = of_format (without_rule m.format)
+kind_without_rule m = of_format (constants_in (format_of_ieee m.format))
 
 -- the format of a code, if it has a choice of flags
 abbrev pub machine_format_coded : ℕ → Option MachineFormat

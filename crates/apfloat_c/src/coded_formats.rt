@@ -7,9 +7,8 @@ ghost use Rattle.formats_at_run_time.specs.declared.flagged.IeeeFormat.{IeeeForm
 ghost use Rattle.formats_at_run_time.specs.FlaggedKinds.{after_rounding, before_rounding, format_of_ieee};
 ghost use Rattle.formats_at_run_time.specs.BuiltIns.{constants_in};
 ghost use Rattle.formats_at_run_time.specs.ValueKinds.{of_format};
-ghost use Rattle.apfloat_c.specs.MachineCalls.{IsFilledAs, IsFilledIn, ieee_format_coded, kind_on};
-ghost use Rattle.apfloat_c.specs.MachineCalls.{kind_without_rule, machine_format_coded};
-ghost use Rattle.apfloat_c.specs.MachineCalls.{tiny_before_coded, without_rule};
+ghost use Rattle.apfloat_c.specs.MachineCalls.{IsFilledIn, ieee_format_coded, kind_on, kind_without_rule};
+ghost use Rattle.apfloat_c.specs.MachineCalls.{machine_format_coded, tiny_before_coded};
 
 use apfloat_machines::Machine;
 use formats_at_run_time::FillsInFormat;
@@ -110,8 +109,8 @@ fn fill_short_before_rounding<C: FillsInFormat + Copy>(
     call: C,
     place: &mut C::Place,
 ) -> Option<C::Output>
-    ensures { IsFilledAs before_rounding (C.gives call) (ieee_format_coded byte) place.old
-        place.new result }
+    ensures { IsFilledIn (λ format. of_format (before_rounding format)) (C.gives call)
+        (ieee_format_coded byte) place.old place.new result }
 {
     match byte {
         1 => Some(call.fill_in_format::<IeeeFlags<TinyBefore<HalfS>>>(place)),
@@ -130,8 +129,8 @@ fn fill_short_after_rounding<C: FillsInFormat + Copy>(
     call: C,
     place: &mut C::Place,
 ) -> Option<C::Output>
-    ensures { IsFilledAs after_rounding (C.gives call) (ieee_format_coded byte) place.old
-        place.new result }
+    ensures { IsFilledIn (λ format. of_format (after_rounding format)) (C.gives call)
+        (ieee_format_coded byte) place.old place.new result }
 {
     match byte {
         1 => Some(call.fill_in_format::<IeeeFlags<HalfS>>(place)),
@@ -150,8 +149,8 @@ fn fill_without_rule<C: FillsInFormat + Copy>(
     call: C,
     place: &mut C::Place,
 ) -> Option<C::Output>
-    ensures { IsFilledAs without_rule (C.gives call) (ieee_format_coded byte) place.old
-        place.new result }
+    ensures { IsFilledIn (λ format. of_format (constants_in (format_of_ieee format)))
+        (C.gives call) (ieee_format_coded byte) place.old place.new result }
 {
     match byte {
         1 => Some(call.fill_in_format::<HalfS>(place)),

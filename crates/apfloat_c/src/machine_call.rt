@@ -1,15 +1,16 @@
 //! The operations of machines, by which the contract of their export names them, and the codes of machines, operations
 //! and rules of minima.
 
-ghost use Rattle.std.specs.Prelude.{◌≡◌, IfSome, Some};
+ghost use Rattle.std.specs.Prelude.{◌≡◌, ℕ, IfSome, Some, Ok};
 ghost use Rattle.formats_at_run_time.specs.FlaggedKinds.{flagged_constants, flagged_kind_coded};
 ghost use Rattle.formats_at_run_time.specs.Modes.{mode_coded};
 ghost use Rattle.formats_at_run_time.specs.ValueKinds.{of_format};
 ghost use Rattle.apfloat_c.specs.Answers.{whole};
 ghost use Rattle.apfloat_c.specs.declared.machine_call.MachineCall.TheVariants.{Operation};
+ghost use Rattle.apfloat_c.specs.declared.machine_call.MachineOperation.TheVariants.{OfTwo};
 ghost use Rattle.apfloat_c.specs.MachineCalls.{conversion_call, format_on, greatest_by, is_tiny_before, least_by};
 ghost use Rattle.apfloat_c.specs.MachineCalls.{machine_call, machine_coded, machine_format, machine_operation};
-ghost use Rattle.apfloat_c.specs.MachineCalls.{one_code, operation_call, rule_coded, two_code};
+ghost use Rattle.apfloat_c.specs.MachineCalls.{of_one, operation_call, rule_coded};
 
 use crate::codes::{NO_SUCH_OPERATION, UNKNOWN_FORMAT};
 use apfloat_machines::{Machine, MinimumRule};
@@ -228,7 +229,8 @@ fn machine_operation(code: u32, to: u32, x: u128, y: u128, z: u128) -> Option<Ma
 /// The code of an operation on one value.
 #[inline(always)]
 pub fn one_code(operation: OneOperation) -> u32
-    ensures { result ≡ one_code operation }
+    ensures { (to x y z : ℕ) → machine_call result to x y z
+        ≡ Ok (Operation (of_one operation to x)) }
 {
     match operation {
         OneOperation::SquareRoot => 8,
@@ -242,7 +244,8 @@ pub fn one_code(operation: OneOperation) -> u32
 /// The code of an operation on two values.
 #[inline(always)]
 pub fn two_code(arithmetic: Arithmetic) -> u32
-    ensures { result ≡ two_code arithmetic }
+    ensures { (to x y z : ℕ) → machine_call result to x y z
+        ≡ Ok (Operation (OfTwo arithmetic x y)) }
 {
     match arithmetic {
         Arithmetic::Sum => 1,

@@ -1,6 +1,6 @@
 //! What machines deliver, and the export that makes it.
 
-ghost use Rattle.std.specs.Prelude.{◌≡◌, ◌<◌, ◌≤◌, true};
+ghost use Rattle.std.specs.Prelude.{◌≡◌, ◌<◌, ◌≤◌, true, Ok};
 ghost use Rattle.apfloat_model.specs.declared.kinds.NonfiniteBehavior.TheVariants.{IEEE754};
 ghost use Rattle.rustc_apfloat.specs.Flags.{Gives};
 ghost use Rattle.rustc_apfloat.specs.FlaggedTypes.{constants_of, format_of};
@@ -22,13 +22,13 @@ ghost use Rattle.apfloat_c.specs.declared.exported_call.ExportedCall.TheVariants
 ghost use Rattle.apfloat_c.specs.declared.exported_call.ExportedCall.TheVariants.{RoundToIntegral as PlainIntegral};
 ghost use Rattle.apfloat_c.specs.Answers.{IsKindAnswer, IsLeftBy, whole};
 ghost use Rattle.apfloat_c.specs.MachineCalls.{IsMachineAnswer, IsMachineCallAnswer, IsMachineConverted};
-ghost use Rattle.apfloat_c.specs.MachineCalls.{IsFilledAs, IsFilledIn, IsMachineConversionLeft, IsMachineLeft};
+ghost use Rattle.apfloat_c.specs.MachineCalls.{IsFilledIn, IsMachineConversionLeft, IsMachineLeft};
 ghost use Rattle.apfloat_c.specs.MachineCalls.{ieee_format_coded};
 ghost use Rattle.formats_at_run_time.specs.FlaggedKinds.{after_rounding, before_rounding};
 ghost use Rattle.apfloat_c.specs.MachineCalls.{IsMachineLeftIn, is_number, kind_on, machine_format_coded};
 ghost use Rattle.apfloat_c.specs.MachineCalls.{conversion_call, machine_fault};
 ghost use Rattle.apfloat_c.specs.MachineCalls.{IsMachineReply, format_on, known_machine_call};
-ghost use Rattle.apfloat_c.specs.MachineCalls.{machine_call, machine_coded, of_one, one_code, two_code};
+ghost use Rattle.apfloat_c.specs.MachineCalls.{machine_call, machine_coded, of_one};
 
 use crate::answers;
 use crate::coded_formats::{
@@ -1507,7 +1507,8 @@ fn converted_before_rounding<S: Flagged>(
 ) -> Option<u32>
     requires { S.PRECISION < S.BITS }
     ensures { let kind = of_format (constants_of S.Flagged) in
-        IsFilledAs before_rounding (IsMachineConversionLeft kind machine round x) (ieee_format_coded byte)
+        IsFilledIn (λ format. of_format (before_rounding format))
+        (IsMachineConversionLeft kind machine round x) (ieee_format_coded byte)
         answer.old answer.new result }
 {
     Some(match byte {
@@ -1533,7 +1534,8 @@ fn converted_after_rounding<S: Flagged>(
 ) -> Option<u32>
     requires { S.PRECISION < S.BITS }
     ensures { let kind = of_format (constants_of S.Flagged) in
-        IsFilledAs after_rounding (IsMachineConversionLeft kind machine round x) (ieee_format_coded byte)
+        IsFilledIn (λ format. of_format (after_rounding format))
+        (IsMachineConversionLeft kind machine round x) (ieee_format_coded byte)
         answer.old answer.new result }
 {
     Some(match byte {
@@ -1874,7 +1876,7 @@ fn one_on_machine(
     x: Halves,
     answer: &mut Answer,
 ) -> u32
-    ensures { let call = machine_call (one_code operation) to (whole x) 0 0 in
+    ensures { let call = Ok (Operation (of_one operation to (whole x))) in
         IsMachineReply (known_machine_call (flagged_kind_coded format) (mode_coded mode) call
         (machine_coded machine)) answer.old answer.new result }
 {
@@ -1896,7 +1898,7 @@ fn one_word_on_machine(
     x: u64,
     answer: &mut Answer,
 ) -> u32
-    ensures { let call = machine_call (one_code operation) to x 0 0 in
+    ensures { let call = Ok (Operation (of_one operation to x)) in
         IsMachineReply (known_machine_call (flagged_kind_coded format) (mode_coded mode) call
         (machine_coded machine)) answer.old answer.new result }
 {
@@ -1934,7 +1936,7 @@ fn one_value_on_machine(
     x: Halves,
     answer: &mut Answer,
 ) -> u32
-    ensures { let call = machine_call (one_code operation) to (whole x) 0 0 in
+    ensures { let call = Ok (Operation (of_one operation to (whole x))) in
         IsMachineReply (known_machine_call (flagged_kind_coded format) (mode_coded mode) call
         (machine_coded machine)) answer.old answer.new result }
 {
@@ -1964,7 +1966,7 @@ fn any_of_one(
     x: Halves,
     answer: &mut Answer,
 ) -> u32
-    ensures { let call = machine_call (one_code operation) to (whole x) 0 0 in
+    ensures { let call = Ok (Operation (of_one operation to (whole x))) in
         IsMachineReply (known_machine_call (flagged_kind_coded format) (mode_coded mode) call
         (machine_coded machine)) answer.old answer.new result }
 {
@@ -1983,7 +1985,7 @@ fn two_on_machine(
     y: Halves,
     answer: &mut Answer,
 ) -> u32
-    ensures { let call = machine_call (two_code arithmetic) 0 (whole x) (whole y) 0 in
+    ensures { let call = Ok (Operation (OfTwo arithmetic (whole x) (whole y))) in
         IsMachineReply (known_machine_call (flagged_kind_coded format) (mode_coded mode) call
         (machine_coded machine)) answer.old answer.new result }
 {
@@ -2005,7 +2007,7 @@ fn two_words_on_machine(
     y: u64,
     answer: &mut Answer,
 ) -> u32
-    ensures { let call = machine_call (two_code arithmetic) 0 x y 0 in
+    ensures { let call = Ok (Operation (OfTwo arithmetic x y)) in
         IsMachineReply (known_machine_call (flagged_kind_coded format) (mode_coded mode) call
         (machine_coded machine)) answer.old answer.new result }
 {
@@ -2036,7 +2038,7 @@ fn two_values_on_machine(
     y: Halves,
     answer: &mut Answer,
 ) -> u32
-    ensures { let call = machine_call (two_code arithmetic) 0 (whole x) (whole y) 0 in
+    ensures { let call = Ok (Operation (OfTwo arithmetic (whole x) (whole y))) in
         IsMachineReply (known_machine_call (flagged_kind_coded format) (mode_coded mode) call
         (machine_coded machine)) answer.old answer.new result }
 {
@@ -2066,7 +2068,7 @@ fn any_of_two(
     y: Halves,
     answer: &mut Answer,
 ) -> u32
-    ensures { let call = machine_call (two_code arithmetic) 0 (whole x) (whole y) 0 in
+    ensures { let call = Ok (Operation (OfTwo arithmetic (whole x) (whole y))) in
         IsMachineReply (known_machine_call (flagged_kind_coded format) (mode_coded mode) call
         (machine_coded machine)) answer.old answer.new result }
 {
@@ -2085,7 +2087,7 @@ fn fused_on_machine(
     z: Halves,
     answer: &mut Answer,
 ) -> u32
-    ensures { let call = machine_call 7 0 (whole x) (whole y) (whole z) in
+    ensures { let call = Ok (Operation (FusedSum (whole x) (whole y) (whole z))) in
         IsMachineReply (known_machine_call (flagged_kind_coded format) (mode_coded mode) call
         (machine_coded machine)) answer.old answer.new result }
 {
@@ -2107,7 +2109,7 @@ fn fused_words_on_machine(
     z: u64,
     answer: &mut Answer,
 ) -> u32
-    ensures { let call = machine_call 7 0 x y z in
+    ensures { let call = Ok (Operation (FusedSum x y z)) in
         IsMachineReply (known_machine_call (flagged_kind_coded format) (mode_coded mode) call
         (machine_coded machine)) answer.old answer.new result }
 {
@@ -2138,7 +2140,7 @@ fn fused_values_on_machine(
     z: Halves,
     answer: &mut Answer,
 ) -> u32
-    ensures { let call = machine_call 7 0 (whole x) (whole y) (whole z) in
+    ensures { let call = Ok (Operation (FusedSum (whole x) (whole y) (whole z))) in
         IsMachineReply (known_machine_call (flagged_kind_coded format) (mode_coded mode) call
         (machine_coded machine)) answer.old answer.new result }
 {

@@ -1,9 +1,9 @@
-use Rattle.std.proofs.Common.{ℕ, Some, refl, subst}
+use Rattle.std.proofs.Common.{ℕ, Some, subst}
 use Rattle.formats_at_run_time.specs.FlaggedKinds.{flagged_kind_coded}
 use Rattle.formats_at_run_time.specs.Modes.{mode_coded}
 use Rattle.apfloat_c.specs.Answers.{whole}
 use Rattle.apfloat_c.specs.declared.machine_call.MachineOperation.TheVariants.{FusedSum}
-use Rattle.apfloat_c.specs.MachineCalls.{IsFilledIn, IsMachineLeftIn, kind_on, machine_call, machine_coded}
+use Rattle.apfloat_c.specs.MachineCalls.{IsFilledIn, IsMachineLeftIn, kind_on, machine_coded}
 use Rattle.apfloat_c.specs.MachineCalls.{machine_format_coded}
 use Rattle.apfloat_c.proofs.KnownRequests.{operation_filled}
 use Rattle.apfloat_c.proofs.machine_operations.fused_values_on_machine.Goals as goal
@@ -23,6 +23,6 @@ returns-in-Some-fill_wide_coded c =
     (subst (λ (second : ℕ). Filled x second c.number-in-Some-2.result) c.number-in-Some.ensures
     (subst (λ (first : ℕ). Filled first c.number-in-Some.result c.number-in-Some-2.result) c.number.ensures
     c.in-Some-fill_wide_coded.ensures)) in
-    operation_filled (flagged_kind_coded c.args.format) (mode_coded c.args.mode) known.round
-    (machine_call 7 0 x y z) (FusedSum x y z) (machine_coded c.args.machine) known.machine c.args.answer.now
-    c.fill_wide_coded.new.place code c.in-Some.ensures.mode refl c.in-Some.ensures.machine filled
+    operation_filled (flagged_kind_coded c.args.format) (mode_coded c.args.mode) known.round (FusedSum x y z)
+    (machine_coded c.args.machine) known.machine c.args.answer.now c.fill_wide_coded.new.place code
+    c.in-Some.ensures.mode c.in-Some.ensures.machine filled

@@ -1,8 +1,7 @@
-use Rattle.std.proofs.Common.{refl}
 use Rattle.formats_at_run_time.specs.FlaggedKinds.{flagged_kind_coded}
 use Rattle.formats_at_run_time.specs.Modes.{mode_coded}
 use Rattle.apfloat_c.specs.declared.machine_call.MachineOperation.TheVariants.{FusedSum}
-use Rattle.apfloat_c.specs.MachineCalls.{machine_call, machine_coded}
+use Rattle.apfloat_c.specs.MachineCalls.{machine_coded}
 use Rattle.apfloat_c.proofs.KnownRequests.{operation_filled}
 use Rattle.apfloat_c.proofs.machine_operations.fused_words_on_machine.Goals as goal
 
@@ -10,7 +9,6 @@ pub returns-in-Some-fill_short_coded : goal.returns-in-Some-fill_short_coded
 returns-in-Some-fill_short_coded c =
     let known = c.in-Some.known in
     operation_filled (flagged_kind_coded c.args.format) (mode_coded c.args.mode) known.round
-    (machine_call 7 0 c.args.x c.args.y c.args.z) (FusedSum c.args.x c.args.y c.args.z)
-    (machine_coded c.args.machine) known.machine c.args.answer.now c.fill_short_coded.new.place
-    c.in-Some-fill_short_coded.code
-    c.in-Some.ensures.mode refl c.in-Some.ensures.machine c.in-Some-fill_short_coded.ensures
+    (FusedSum c.args.x c.args.y c.args.z) (machine_coded c.args.machine) known.machine c.args.answer.now
+    c.fill_short_coded.new.place c.in-Some-fill_short_coded.code c.in-Some.ensures.mode c.in-Some.ensures.machine
+    c.in-Some-fill_short_coded.ensures

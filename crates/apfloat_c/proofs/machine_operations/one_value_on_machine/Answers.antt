@@ -2,9 +2,9 @@ use Rattle.std.proofs.Common.{ℕ, Some, subst}
 use Rattle.formats_at_run_time.specs.FlaggedKinds.{flagged_kind_coded}
 use Rattle.formats_at_run_time.specs.Modes.{mode_coded}
 use Rattle.apfloat_c.specs.Answers.{whole}
-use Rattle.apfloat_c.specs.MachineCalls.{IsFilledIn, IsMachineLeftIn, kind_on, machine_call, machine_coded}
-use Rattle.apfloat_c.specs.MachineCalls.{machine_format_coded, of_one, one_code}
-use Rattle.apfloat_c.proofs.KnownRequests.{one_called, operation_filled}
+use Rattle.apfloat_c.specs.MachineCalls.{IsFilledIn, IsMachineLeftIn, kind_on, machine_coded}
+use Rattle.apfloat_c.specs.MachineCalls.{machine_format_coded, of_one}
+use Rattle.apfloat_c.proofs.KnownRequests.{operation_filled}
 use Rattle.apfloat_c.proofs.machine_operations.one_value_on_machine.Goals as goal
 
 pub returns-in-Some-fill_wide_coded : goal.returns-in-Some-fill_wide_coded
@@ -20,6 +20,5 @@ returns-in-Some-fill_wide_coded c =
     (machine_format_coded c.args.format) c.args.answer.now c.fill_wide_coded.new.place (Some code))
     c.number.ensures c.in-Some-fill_wide_coded.ensures in
     operation_filled (flagged_kind_coded c.args.format) (mode_coded c.args.mode) known.round
-    (machine_call (one_code operation) c.args.to x 0 0) (of_one operation c.args.to x) (machine_coded c.args.machine)
-    known.machine c.args.answer.now c.fill_wide_coded.new.place code c.in-Some.ensures.mode
-    (one_called operation c.args.to x 0 0) c.in-Some.ensures.machine filled
+    (of_one operation c.args.to x) (machine_coded c.args.machine) known.machine c.args.answer.now
+    c.fill_wide_coded.new.place code c.in-Some.ensures.mode c.in-Some.ensures.machine filled

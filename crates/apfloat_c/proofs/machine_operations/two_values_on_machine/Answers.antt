@@ -3,9 +3,9 @@ use Rattle.formats_at_run_time.specs.FlaggedKinds.{flagged_kind_coded}
 use Rattle.formats_at_run_time.specs.Modes.{mode_coded}
 use Rattle.apfloat_c.specs.Answers.{whole}
 use Rattle.apfloat_c.specs.declared.machine_call.MachineOperation.TheVariants.{OfTwo}
-use Rattle.apfloat_c.specs.MachineCalls.{IsFilledIn, IsMachineLeftIn, kind_on, machine_call, machine_coded}
-use Rattle.apfloat_c.specs.MachineCalls.{machine_format_coded, two_code}
-use Rattle.apfloat_c.proofs.KnownRequests.{operation_filled, two_called}
+use Rattle.apfloat_c.specs.MachineCalls.{IsFilledIn, IsMachineLeftIn, kind_on, machine_coded}
+use Rattle.apfloat_c.specs.MachineCalls.{machine_format_coded}
+use Rattle.apfloat_c.proofs.KnownRequests.{operation_filled}
 use Rattle.apfloat_c.proofs.machine_operations.two_values_on_machine.Goals as goal
 
 pub returns-in-Some-fill_wide_coded : goal.returns-in-Some-fill_wide_coded
@@ -22,7 +22,6 @@ returns-in-Some-fill_wide_coded c =
     let filled = subst (λ (second : ℕ). Filled x second) c.number-in-Some.ensures
     (subst (λ (first : ℕ). Filled first c.number-in-Some.result) c.number.ensures
     c.in-Some-fill_wide_coded.ensures) in
-    operation_filled (flagged_kind_coded c.args.format) (mode_coded c.args.mode) known.round
-    (machine_call (two_code arithmetic) 0 x y 0) (OfTwo arithmetic x y) (machine_coded c.args.machine) known.machine
-    c.args.answer.now c.fill_wide_coded.new.place code c.in-Some.ensures.mode (two_called arithmetic x y 0)
-    c.in-Some.ensures.machine filled
+    operation_filled (flagged_kind_coded c.args.format) (mode_coded c.args.mode) known.round (OfTwo arithmetic x y)
+    (machine_coded c.args.machine) known.machine c.args.answer.now c.fill_wide_coded.new.place code
+    c.in-Some.ensures.mode c.in-Some.ensures.machine filled
