@@ -364,8 +364,8 @@ IsMachineConversionLeft (of_format c) machine mode x target old new code =
 IsMachineConversionLeft of_pairs machine mode x target old new code = ⊥
 
 -- What a call leaves in a place at the kind of a format that may be unknown. Where it is not made, nothing is left.
-abbrev pub IsFilledIn : {F P O : Type 0} → (F → Kind) → (Kind → P → P → O → Type 0) → Option F → P → P
-    → Option O → Type 0
+abbrev pub IsFilledIn : {F P O : Type 0} → (F → Kind) → (Kind → P → P → O → Type 0)
+    → Option F → P → P → Option O → Type 0
 IsFilledIn kind_of gives format old new None = new ≡ old
 IsFilledIn kind_of gives (Some format) old new (Some given) = gives (kind_of format) old new given
 IsFilledIn kind_of gives None old new (Some given) = ⊥
