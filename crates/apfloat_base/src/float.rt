@@ -16,6 +16,7 @@ ghost use Rattle.apfloat_model.specs.texts.Parsing.{without_status};
 ghost use Rattle.apfloat_model.specs.rounding.Flags.{bits_of};
 ghost use Rattle.apfloat_model.specs.whole_numbers.SignedWholes.{IsNegatedWhole};
 ghost use Rattle.apfloat_model.specs.Determined.{IsDetermined};
+ghost use Rattle.apfloat_base.specs.Meaning.{Meaning};
 
 use apfloat_model::{Category, ExpInt, ParseError, Round, Status, StatusAnd};
 use std::cmp::Ordering;
@@ -26,8 +27,8 @@ use std::str::FromStr;
 
 /// A floating-point type.
 ///
-/// Its ghost members state what its functions return: some as a value or a function, the others as a relation.
-/// `IeeeFloat` sets them to the definitions of the model.
+/// Its ghost member `meaning` states what its functions return: some as a value or a function, the others as a
+/// relation. `IeeeFloat` sets it to the definitions of the model.
 ///
 /// The docs below describe `IeeeFloat`; the docs of pairs of doubles say where those differ.
 pub trait Float: Copy
@@ -72,100 +73,20 @@ pub trait Float: Copy
 
     ghost MULTIPLIES: { Bool };
 
-    // Particular values, and the NaNs with a payload.
-    ghost the_zero: { Self };
-
-    ghost the_infinity: { Self };
-
-    ghost quiet_nan_of: { ℕ → Self };
-
-    ghost signaling_nan_of: { ℕ → Self };
-
-    ghost the_largest: { Self };
-
-    ghost the_smallest: { Self };
-
-    ghost the_smallest_normalized: { Self };
-
-    // Sums, differences, products and quotients.
-    ghost adds: { Self → Self → Round → StatusAnd Self → Type 0 };
-
-    ghost subtracts: { Self → Self → Round → StatusAnd Self → Type 0 };
-
-    ghost multiplies: { Self → Self → Round → StatusAnd Self → Type 0 };
-
-    ghost divides: { Self → Self → Round → StatusAnd Self → Type 0 };
-
-    // Remainders: by the integer nearest to the quotient, and by the quotient truncated toward zero.
-    ghost leaves_nearest: { Self → Self → StatusAnd Self → Type 0 };
-
-    ghost leaves: { Self → Self → StatusAnd Self → Type 0 };
-
-    // Rounding to an integer.
-    ghost rounds_to_integral: { Self → Round → StatusAnd Self → Type 0 };
-
-    // The next values above and below.
-    ghost steps_up: { Self → StatusAnd Self → Type 0 };
-
-    ghost steps_down: { Self → StatusAnd Self → Type 0 };
-
-    // The negated value.
-    ghost negated: { Self → Self };
-
-    // Values from bits, from signed and unsigned integers, and from texts.
-    ghost value_of_bits: { ℕ → Self };
-
-    ghost converts_signed: { ℤ → Round → StatusAnd Self → Type 0 };
-
-    ghost converts_unsigned: { ℕ → Round → StatusAnd Self → Type 0 };
-
-    ghost reads: { List ℕ → Round → Result (StatusAnd Self) ParseError → Type 0 };
-
-    // Bits of values, and integers of a given width from them.
-    ghost writes_bits: { Self → ℕ → Type 0 };
-
-    ghost converts_to_signed: { Self → ℕ → Round → StatusAnd ℤ → Bool → Type 0 };
-
-    ghost converts_to_unsigned: { Self → ℕ → Round → StatusAnd ℕ → Bool → Type 0 };
-
-    // The order of magnitudes, where they can be compared, and whether two values are the same.
-    ghost can_compare_magnitudes: { Self → Self → Type 0 };
-
-    ghost magnitude_order: { Self → Self → Ordering };
-
-    ghost same: { Self → Self → Bool };
-
-    // What a value is: its sign, whether it is denormal or signaling, its category, whether it is an integer.
-    ghost sign_of: { Self → Bool };
-
-    ghost denormal: { Self → Bool };
-
-    ghost signals: { Self → Bool };
-
-    ghost category_of: { Self → Category };
-
-    ghost is_whole: { Self → Bool };
-
-    // The exact inverse, the exponent, a value times a power of two, and a fraction with its exponent.
-    ghost inverts: { Self → Option Self → Type 0 };
-
-    ghost has_exponent: { Self → ℤ → Type 0 };
-
-    ghost scales: { Self → ℤ → Round → Self → Type 0 };
-
-    ghost has_fraction: { Self → Round → Self → ℤ → Type 0 };
+    // What the functions return.
+    ghost meaning: { Meaning Self };
 
     /// +0.
     fn zero() -> Self
-        ensures { result ≡ the_zero };
+        ensures { result ≡ meaning.the_zero };
 
     /// Positive infinity; in a format without infinities, its positive NaN.
     fn infinity() -> Self
-        ensures { result ≡ the_infinity };
+        ensures { result ≡ meaning.the_infinity };
 
     /// The positive quiet NaN without a payload (IEEE 754-2019 6.2).
     fn nan() -> Self
-        ensures { result ≡ quiet_nan_of 0 }
+        ensures { result ≡ meaning.quiet_nan_of 0 }
     {
         Self::qnan(None)
     }
@@ -173,25 +94,25 @@ pub trait Float: Copy
     /// The positive quiet NaN with this payload, truncated to the bits that the format has room for (IEEE 754-2019
     /// 6.2.1).
     fn qnan(payload: Option<u128>) -> Self
-        ensures { result ≡ quiet_nan_of (unwrap_or payload 0) };
+        ensures { result ≡ meaning.quiet_nan_of (unwrap_or payload 0) };
 
     /// The positive signaling NaN with this payload, truncated to the bits that the format has room for. If no bit is
     /// left set, the bit below the quiet bit is set, since a signaling NaN needs a payload; in a format with a single
     /// NaN, the result is that NaN (IEEE 754-2019 6.2.1).
     fn snan(payload: Option<u128>) -> Self
-        ensures { result ≡ signaling_nan_of (unwrap_or payload 0) };
+        ensures { result ≡ meaning.signaling_nan_of (unwrap_or payload 0) };
 
     /// The largest finite value.
     fn largest() -> Self
-        ensures { result ≡ the_largest };
+        ensures { result ≡ meaning.the_largest };
 
     /// The smallest positive value, which is denormal.
     fn smallest() -> Self
-        ensures { result ≡ the_smallest };
+        ensures { result ≡ meaning.the_smallest };
 
     /// The smallest positive normal value, 2 to the power of `MIN_EXP`.
     fn smallest_normalized() -> Self
-        ensures { result ≡ the_smallest_normalized };
+        ensures { result ≡ meaning.the_smallest_normalized };
 
     /// `self + rhs`, rounded once (IEEE 754-2019 5.4.1, addition).
     ///
@@ -200,14 +121,14 @@ pub trait Float: Copy
     /// payload, with `INVALID_OP`. An exact zero has the sign of the operands if their signs are equal; otherwise it is
     /// +0, or, when rounding toward negative, -0 if the format has that zero (6.3).
     fn add_r(self, rhs: Self, round: Round) -> StatusAnd<Self>
-        ensures { adds self rhs round result };
+        ensures { meaning.adds self rhs round result };
 
     /// `self - rhs`, rounded once (IEEE 754-2019 5.4.1, subtraction), computed as the sum of `self` and `-rhs`; so
     /// subtracting infinities of equal signs is invalid.
     ///
     /// A NaN operand is treated as in `add_r`; a NaN on the right is not negated.
     fn sub_r(self, rhs: Self, round: Round) -> StatusAnd<Self>
-        ensures { subtracts self rhs round result };
+        ensures { meaning.subtracts self rhs round result };
 
     /// The product, rounded once (IEEE 754-2019 5.4.1, multiplication), for a type whose `MULTIPLIES` holds: for
     /// `IeeeFloat`, the precision must be at most `PRODUCT_LIMIT`.
@@ -216,7 +137,7 @@ pub trait Float: Copy
     /// NaN operand is returned quieted (6.2.3).
     fn mul_r(self, rhs: Self, round: Round) -> StatusAnd<Self>
         requires { IsTrue MULTIPLIES }
-        ensures { multiplies self rhs round result };
+        ensures { meaning.multiplies self rhs round result };
 
     /// The quotient, rounded once (IEEE 754-2019 5.4.1, division).
     ///
@@ -224,7 +145,7 @@ pub trait Float: Copy
     /// with `DIV_BY_ZERO` (7.3). Zero divided by zero and infinity divided by infinity are invalid (7.2): the result is
     /// the quiet NaN without a payload, with `INVALID_OP`. A NaN operand is returned quieted (6.2.3).
     fn div_r(self, rhs: Self, round: Round) -> StatusAnd<Self>
-        ensures { divides self rhs round result };
+        ensures { meaning.divides self rhs round result };
 
     /// The remainder `self - rhs * n`, where `n` is the integer nearest to the quotient, ties to even (IEEE 754-2019
     /// 5.3.1, remainder). It is exact.
@@ -233,38 +154,38 @@ pub trait Float: Copy
     /// unchanged. The remainder of an infinity and the remainder by a zero are invalid (7.2): the result is the quiet
     /// NaN without a payload, with `INVALID_OP`. A NaN operand is returned quieted (6.2.3).
     fn ieee_rem(self, rhs: Self) -> StatusAnd<Self>
-        ensures { leaves_nearest self rhs result };
+        ensures { meaning.leaves_nearest self rhs result };
 
     /// The remainder `self - rhs * t`, where `t` is the quotient truncated toward zero, as in C's `fmod`. It is exact,
     /// and has the sign of `self`.
     ///
     /// Zeros, infinities and NaNs are treated as in `ieee_rem`.
     fn c_fmod(self, rhs: Self) -> StatusAnd<Self>
-        ensures { leaves self rhs result };
+        ensures { meaning.leaves self rhs result };
 
     /// The value rounded to an integral value of the same type, with its sign (IEEE 754-2019 5.9,
     /// roundToIntegralExact). `INEXACT` is raised if the result differs from the value. Infinities and zeros are
     /// unchanged; a NaN is quieted, with `INVALID_OP` if it was signaling.
     fn round_to_integral(self, round: Round) -> StatusAnd<Self>
-        ensures { rounds_to_integral self round result };
+        ensures { meaning.rounds_to_integral self round result };
 
     /// The least value that compares greater (IEEE 754-2019 5.3.1, nextUp), always exact. The value after the largest
     /// is the infinity, or the NaN in its place. Positive infinity and quiet NaNs are unchanged; for a signaling NaN,
     /// the result is the quiet NaN of its sign without a payload, with `INVALID_OP`.
     fn next_up(self) -> StatusAnd<Self>
-        ensures { steps_up self result };
+        ensures { meaning.steps_up self result };
 
     /// The greatest value that compares less (IEEE 754-2019 5.3.1, nextDown), computed as the negation of `next_up` of
     /// the negated value.
     fn next_down(self) -> StatusAnd<Self>
-        ensures { steps_down self result }
+        ensures { meaning.steps_down self result }
     {
         (-self).next_up().map(|value| -value)
     }
 
     /// The value without its sign (IEEE 754-2019 5.5.1, abs). A NaN loses its sign too, and no flag is raised.
     fn abs(self) -> Self
-        ensures { result ≡ (if sign_of self then negated self else self) }
+        ensures { result ≡ (if meaning.sign_of self then meaning.negated self else self) }
     {
         if self.is_negative() { -self } else { self }
     }
@@ -272,7 +193,8 @@ pub trait Float: Copy
     /// The value with the sign of `rhs` (IEEE 754-2019 5.5.1, copySign). Either may be a NaN; no flag is raised.
     fn copy_sign(self, rhs: Self) -> Self
         ensures { result
-            ≡ (if not (same_sign (sign_of self) (sign_of rhs)) then negated self else self) }
+            ≡ (if not (same_sign (meaning.sign_of self) (meaning.sign_of rhs))
+            then meaning.negated self else self) }
     {
         if self.is_negative() != rhs.is_negative() {
             -self
@@ -285,11 +207,11 @@ pub trait Float: Copy
     /// Bits at and above `BITS` are ignored.
     fn from_bits(bits: u128) -> Self
         requires { PRECISION < BITS }
-        ensures { result ≡ value_of_bits bits };
+        ensures { result ≡ meaning.value_of_bits bits };
 
     /// The value of a signed integer, rounded once (IEEE 754-2019 5.4.1, convertFromInt).
     fn from_i128_r(input: i128, round: Round) -> StatusAnd<Self>
-        ensures { converts_signed input round result }
+        ensures { meaning.converts_signed input round result }
     {
         if input < 0 {
             Self::from_u128_r(input.unsigned_abs(), -round).map(|value| -value)
@@ -300,18 +222,18 @@ pub trait Float: Copy
 
     /// The value of a signed integer, rounded once to the nearest value, ties to even.
     fn from_i128(input: i128) -> StatusAnd<Self>
-        ensures { converts_signed input NearestTiesToEven result }
+        ensures { meaning.converts_signed input NearestTiesToEven result }
     {
         Self::from_i128_r(input, Round::NearestTiesToEven)
     }
 
     /// The value of an unsigned integer, rounded once (IEEE 754-2019 5.4.1, convertFromInt).
     fn from_u128_r(input: u128, round: Round) -> StatusAnd<Self>
-        ensures { converts_unsigned input round result };
+        ensures { meaning.converts_unsigned input round result };
 
     /// The value of an unsigned integer, rounded once to the nearest value, ties to even.
     fn from_u128(input: u128) -> StatusAnd<Self>
-        ensures { converts_unsigned input NearestTiesToEven result }
+        ensures { meaning.converts_unsigned input NearestTiesToEven result }
     {
         Self::from_u128_r(input, Round::NearestTiesToEven)
     }
@@ -323,15 +245,15 @@ pub trait Float: Copy
     /// preceded by an `s` if it is signaling, with an optional payload after it, plain or in parentheses; or a
     /// hexadecimal number such as `-0x1.8p-1`, of any length and with any exponent. Decimal numbers are refused.
     fn from_str_r(s: &str, round: Round) -> Result<StatusAnd<Self>, ParseError>
-        ensures { reads s.now round result };
+        ensures { meaning.reads s.now round result };
 
     /// The bits of the canonical encoding of the value (IEEE 754-2019 3.4), for a type with bits, with `PRECISION`
     /// below `BITS`. `from_bits` of them returns the value.
     fn to_bits(self) -> u128
         requires { PRECISION < BITS }
-        ensures written { writes_bits self result }
+        ensures written { meaning.writes_bits self result }
         ensures below { result < 2 ^ BITS }
-        ensures back { value_of_bits result ≡ self };
+        ensures back { meaning.value_of_bits result ≡ self };
 
     /// The value rounded to a signed integer of `width` bits, 2 to 128, in two's complement (IEEE 754-2019 5.4.1,
     /// convertToInteger).
@@ -342,7 +264,7 @@ pub trait Float: Copy
     fn to_i128_r(self, width: usize, round: Round, is_exact: &mut bool) -> StatusAnd<i128>
         requires low { 2 ≤ width }
         requires high { width ≤ 128 }
-        ensures { converts_to_signed self width round result is_exact.new }
+        ensures { meaning.converts_to_signed self width round result is_exact.new }
     {
         let answer = if self.is_negative() {
             let is_zero = self.is_zero();
@@ -360,7 +282,7 @@ pub trait Float: Copy
     fn to_i128(self, width: usize) -> StatusAnd<i128>
         requires low { 2 ≤ width }
         requires high { width ≤ 128 }
-        ensures { (exact : Bool) × converts_to_signed self width TowardZero result exact }
+        ensures { (exact : Bool) × meaning.converts_to_signed self width TowardZero result exact }
     {
         let mut is_exact = true;
         self.to_i128_r(width, Round::TowardZero, &mut is_exact)
@@ -374,14 +296,15 @@ pub trait Float: Copy
     fn to_u128_r(self, width: usize, round: Round, is_exact: &mut bool) -> StatusAnd<u128>
         requires low { 1 ≤ width }
         requires high { width ≤ 128 }
-        ensures answer { converts_to_unsigned self width round result is_exact.new }
+        ensures answer { meaning.converts_to_unsigned self width round result is_exact.new }
         ensures fits { result.value < 2 ^ width };
 
     /// The value as an unsigned integer of `width` bits, 1 to 128, truncated toward zero.
     fn to_u128(self, width: usize) -> StatusAnd<u128>
         requires low { 1 ≤ width }
         requires high { width ≤ 128 }
-        ensures answer { (exact : Bool) × converts_to_unsigned self width TowardZero result exact }
+        ensures answer { (exact : Bool)
+            × meaning.converts_to_unsigned self width TowardZero result exact }
         ensures fits { result.value < 2 ^ width }
     {
         let mut is_exact = true;
@@ -391,18 +314,18 @@ pub trait Float: Copy
     /// The order of the magnitudes of two values for which `can_compare_magnitudes` holds. For `IeeeFloat` these are
     /// the nonzero finite values.
     fn cmp_abs_normal(self, rhs: Self) -> Ordering
-        requires { can_compare_magnitudes self rhs }
-        ensures { result ≡ magnitude_order self rhs };
+        requires { meaning.can_compare_magnitudes self rhs }
+        ensures { result ≡ meaning.magnitude_order self rhs };
 
     /// Whether the values are identical: the same category, the same sign and the same number, or for NaNs the same
     /// significand. So a NaN is identical to itself, and -0 is not identical to +0.
     fn bitwise_eq(self, rhs: Self) -> bool
-        ensures { result ≡ same self rhs };
+        ensures { result ≡ meaning.same self rhs };
 
     /// The lesser value (minNum of IEEE 754-2008 5.3.1, but a signaling NaN counts as a quiet one). If one operand is a
     /// NaN, returns the other; if neither is less, returns `self`.
     fn min(self, other: Self) -> Self
-        ensures { result ≡ min_by category_of Self.partial_cmp self other }
+        ensures { result ≡ min_by meaning.category_of Self.partial_cmp self other }
     {
         if self.is_nan() {
             other
@@ -418,7 +341,7 @@ pub trait Float: Copy
     /// The greater value (maxNum of IEEE 754-2008 5.3.1, but a signaling NaN counts as a quiet one). If one operand is
     /// a NaN, returns the other; if neither is greater, returns `self`.
     fn max(self, other: Self) -> Self
-        ensures { result ≡ max_by category_of Self.partial_cmp self other }
+        ensures { result ≡ max_by meaning.category_of Self.partial_cmp self other }
     {
         if self.is_nan() {
             other
@@ -434,7 +357,8 @@ pub trait Float: Copy
     /// The lesser value; -0 is below +0. This is minimum of IEEE 754-2019 9.6, except that the first NaN is returned
     /// unchanged, even a signaling one.
     fn minimum(self, other: Self) -> Self
-        ensures { result ≡ minimum_by category_of sign_of Self.partial_cmp self other }
+        ensures { result
+            ≡ minimum_by meaning.category_of meaning.sign_of Self.partial_cmp self other }
     {
         if self.is_nan() {
             self
@@ -450,7 +374,8 @@ pub trait Float: Copy
     /// The greater value; -0 is below +0. This is maximum of IEEE 754-2019 9.6, except that the first NaN is returned
     /// unchanged, even a signaling one.
     fn maximum(self, other: Self) -> Self
-        ensures { result ≡ maximum_by category_of sign_of Self.partial_cmp self other }
+        ensures { result
+            ≡ maximum_by meaning.category_of meaning.sign_of Self.partial_cmp self other }
     {
         if self.is_nan() {
             self
@@ -465,25 +390,26 @@ pub trait Float: Copy
 
     /// Whether the sign is minus, for zeros and NaNs too (IEEE 754-2019 5.7.2, isSignMinus).
     fn is_negative(self) -> bool
-        ensures { result ≡ sign_of self };
+        ensures { result ≡ meaning.sign_of self };
 
     /// Whether the value is finite, nonzero and not denormal (IEEE 754-2019 5.7.2, isNormal).
     fn is_normal(self) -> bool
-        ensures { result ≡ (is_finite_non_zero_category (category_of self) && not (denormal self)) }
+        ensures { result ≡ (is_finite_non_zero_category (meaning.category_of self)
+            && not (meaning.denormal self)) }
     {
         self.is_finite_non_zero() && !self.is_denormal()
     }
 
     /// Whether the value is finite (IEEE 754-2019 5.7.2, isFinite).
     fn is_finite(self) -> bool
-        ensures { result ≡ is_finite_category (category_of self) }
+        ensures { result ≡ is_finite_category (meaning.category_of self) }
     {
         !self.is_nan() && !self.is_infinite()
     }
 
     /// Whether the value is +0 or -0 (IEEE 754-2019 5.7.2, isZero).
     fn is_zero(self) -> bool
-        ensures { result ≡ is_zero_category (category_of self) }
+        ensures { result ≡ is_zero_category (meaning.category_of self) }
     {
         self.category() == Category::Zero
     }
@@ -491,18 +417,18 @@ pub trait Float: Copy
     /// Whether the value is nonzero and smaller in magnitude than the smallest normal value (IEEE 754-2019 5.7.2,
     /// isSubnormal).
     fn is_denormal(self) -> bool
-        ensures { result ≡ denormal self };
+        ensures { result ≡ meaning.denormal self };
 
     /// Whether the value is an infinity (IEEE 754-2019 5.7.2, isInfinite).
     fn is_infinite(self) -> bool
-        ensures { result ≡ is_infinite_category (category_of self) }
+        ensures { result ≡ is_infinite_category (meaning.category_of self) }
     {
         self.category() == Category::Infinity
     }
 
     /// Whether the value is a NaN, quiet or signaling (IEEE 754-2019 5.7.2, isNaN).
     fn is_nan(self) -> bool
-        ensures { result ≡ is_nan_category (category_of self) }
+        ensures { result ≡ is_nan_category (meaning.category_of self) }
     {
         self.category() == Category::NaN
     }
@@ -510,22 +436,22 @@ pub trait Float: Copy
     /// Whether the value is a signaling NaN (IEEE 754-2019 5.7.2, isSignaling). Never true in a format with a single
     /// NaN.
     fn is_signaling(self) -> bool
-        ensures { result ≡ signals self };
+        ensures { result ≡ meaning.signals self };
 
     /// The category of the value.
     fn category(self) -> Category
-        ensures { result ≡ category_of self };
+        ensures { result ≡ meaning.category_of self };
 
     /// Whether the value is neither +0 nor -0; true for a NaN.
     fn is_non_zero(self) -> bool
-        ensures { result ≡ not (is_zero_category (category_of self)) }
+        ensures { result ≡ not (is_zero_category (meaning.category_of self)) }
     {
         !self.is_zero()
     }
 
     /// Whether the value is a nonzero number.
     fn is_finite_non_zero(self) -> bool
-        ensures { result ≡ is_finite_non_zero_category (category_of self) }
+        ensures { result ≡ is_finite_non_zero_category (meaning.category_of self) }
     {
         match self.category() {
             Category::Normal => true,
@@ -537,75 +463,81 @@ pub trait Float: Copy
 
     /// Whether the value is +0.
     fn is_pos_zero(self) -> bool
-        ensures { result ≡ (is_zero_category (category_of self) && not (sign_of self)) }
+        ensures { result
+            ≡ (is_zero_category (meaning.category_of self) && not (meaning.sign_of self)) }
     {
         self.is_zero() && !self.is_negative()
     }
 
     /// Whether the value is -0.
     fn is_neg_zero(self) -> bool
-        ensures { result ≡ (is_zero_category (category_of self) && sign_of self) }
+        ensures { result ≡ (is_zero_category (meaning.category_of self) && meaning.sign_of self) }
     {
         self.is_zero() && self.is_negative()
     }
 
     /// Whether the value is positive infinity.
     fn is_pos_infinity(self) -> bool
-        ensures { result ≡ (is_infinite_category (category_of self) && not (sign_of self)) }
+        ensures { result
+            ≡ (is_infinite_category (meaning.category_of self) && not (meaning.sign_of self)) }
     {
         self.is_infinite() && !self.is_negative()
     }
 
     /// Whether the value is negative infinity.
     fn is_neg_infinity(self) -> bool
-        ensures { result ≡ (is_infinite_category (category_of self) && sign_of self) }
+        ensures { result
+            ≡ (is_infinite_category (meaning.category_of self) && meaning.sign_of self) }
     {
         self.is_infinite() && self.is_negative()
     }
 
     /// Whether the magnitude is one quantum, the smallest nonzero one.
     fn is_smallest(self) -> bool
-        ensures { result ≡ same self (signed_like sign_of negated the_smallest self) }
+        ensures { result ≡ meaning.same self
+            (signed_like meaning.sign_of meaning.negated meaning.the_smallest self) }
     {
         self.bitwise_eq(Self::smallest().copy_sign(self))
     }
 
     /// Whether the magnitude is that of the smallest normal value.
     fn is_smallest_normalized(self) -> bool
-        ensures { result ≡ same self (signed_like sign_of negated the_smallest_normalized self) }
+        ensures { result ≡ meaning.same self
+            (signed_like meaning.sign_of meaning.negated meaning.the_smallest_normalized self) }
     {
         self.bitwise_eq(Self::smallest_normalized().copy_sign(self))
     }
 
     /// Whether the magnitude is that of the largest finite value.
     fn is_largest(self) -> bool
-        ensures { result ≡ same self (signed_like sign_of negated the_largest self) }
+        ensures { result ≡ meaning.same self
+            (signed_like meaning.sign_of meaning.negated meaning.the_largest self) }
     {
         self.bitwise_eq(Self::largest().copy_sign(self))
     }
 
     /// Whether the value is finite and an integer; true for zeros.
     fn is_integer(self) -> bool
-        ensures { result ≡ is_whole self };
+        ensures { result ≡ meaning.is_whole self };
 
     /// The inverse of a power of two of either sign, if the type has the inverse and neither value is denormal;
     /// otherwise `None`.
     fn get_exact_inverse(self) -> Option<Self>
-        ensures { inverts self result };
+        ensures { meaning.inverts self result };
 
     /// The exponent of the highest binary digit, for denormal values too (IEEE 754-2019 5.3.3, logB): the floor of the
     /// binary logarithm of the magnitude. For a zero, an infinity or a NaN it is `IEK_ZERO`, `IEK_INF` or `IEK_NAN`.
     fn ilogb(self) -> ExpInt
-        ensures { has_exponent self result };
+        ensures { meaning.has_exponent self result };
 
     /// The value times 2 to the power of `exp`, rounded once (IEEE 754-2019 5.3.3, scaleB). Infinities and zeros are
     /// unchanged, and a NaN is quieted. No status is returned.
     fn scalbn_r(self, exp: ExpInt, round: Round) -> Self
-        ensures { scales self exp round result };
+        ensures { meaning.scales self exp round result };
 
     /// The value times 2 to the power of `exp`, rounded once to the nearest value, ties to even.
     fn scalbn(self, exp: ExpInt) -> Self
-        ensures { scales self exp NearestTiesToEven result }
+        ensures { meaning.scales self exp NearestTiesToEven result }
     {
         self.scalbn_r(exp, Round::NearestTiesToEven)
     }
@@ -614,11 +546,11 @@ pub trait Float: Copy
     /// the fraction times 2 to the power of `exp`, which is one more than `ilogb`. For a zero, the result is that zero,
     /// with exponent 0; for an infinity, that infinity, with `IEK_INF`; for a NaN, the quieted NaN, with `IEK_NAN`.
     fn frexp_r(self, exp: &mut ExpInt, round: Round) -> Self
-        ensures { has_fraction self round result exp.new };
+        ensures { meaning.has_fraction self round result exp.new };
 
     /// The fraction of the value and its exponent, one more than `ilogb`, rounding to nearest, ties to even.
     fn frexp(self, exp: &mut ExpInt) -> Self
-        ensures { has_fraction self NearestTiesToEven result exp.new }
+        ensures { meaning.has_fraction self NearestTiesToEven result exp.new }
     {
         self.frexp_r(exp, Round::NearestTiesToEven)
     }
@@ -627,109 +559,114 @@ pub trait Float: Copy
 
     ghost can_neg_law: { (x : Self) → Self.can_neg x };
 
-    ghost neg_law: { (x r : Self) → Self.neg_gives x r → r ≡ negated x };
+    ghost neg_law: { (x r : Self) → Self.neg_gives x r → r ≡ meaning.negated x };
 
     // The binary operators are the calls, rounded to nearest, ties to even; a remainder is exact.
 
     ghost can_add_law: { (x y : Self) → Self.can_add x y };
 
     ghost add_law: { (x y : Self) (r : StatusAnd Self) → Self.add_gives x y r
-        → adds x y NearestTiesToEven r };
+        → meaning.adds x y NearestTiesToEven r };
 
     ghost can_sub_law: { (x y : Self) → Self.can_sub x y };
 
     ghost sub_law: { (x y : Self) (r : StatusAnd Self) → Self.sub_gives x y r
-        → subtracts x y NearestTiesToEven r };
+        → meaning.subtracts x y NearestTiesToEven r };
 
     ghost can_mul_law: { IsTrue MULTIPLIES → (x y : Self) → Self.can_mul x y };
 
     ghost mul_law: { (x y : Self) (r : StatusAnd Self) → Self.mul_gives x y r
-        → multiplies x y NearestTiesToEven r };
+        → meaning.multiplies x y NearestTiesToEven r };
 
     ghost can_div_law: { (x y : Self) → Self.can_div x y };
 
     ghost div_law: { (x y : Self) (r : StatusAnd Self) → Self.div_gives x y r
-        → divides x y NearestTiesToEven r };
+        → meaning.divides x y NearestTiesToEven r };
 
     ghost can_rem_law: { (x y : Self) → Self.can_rem x y };
 
-    ghost rem_law: { (x y : Self) (r : StatusAnd Self) → Self.rem_gives x y r → leaves x y r };
+    ghost rem_law: { (x y : Self) (r : StatusAnd Self) → Self.rem_gives x y r
+        → meaning.leaves x y r };
 
     // The assigning operators store the value of that result and discard its status.
 
     ghost can_add_assign_law: { (x y : Self) → Self.can_add_assign x y };
 
     ghost add_assign_law: { (x y z : Self) → Self.add_assign_gives x y z
-        → (r : StatusAnd Self) × adds x y NearestTiesToEven r × (z ≡ r.value) };
+        → (r : StatusAnd Self) × meaning.adds x y NearestTiesToEven r × (z ≡ r.value) };
 
     ghost can_sub_assign_law: { (x y : Self) → Self.can_sub_assign x y };
 
     ghost sub_assign_law: { (x y z : Self) → Self.sub_assign_gives x y z
-        → (r : StatusAnd Self) × subtracts x y NearestTiesToEven r × (z ≡ r.value) };
+        → (r : StatusAnd Self) × meaning.subtracts x y NearestTiesToEven r × (z ≡ r.value) };
 
     ghost can_mul_assign_law: { IsTrue MULTIPLIES → (x y : Self) → Self.can_mul_assign x y };
 
     ghost mul_assign_law: { (x y z : Self) → Self.mul_assign_gives x y z
-        → (r : StatusAnd Self) × multiplies x y NearestTiesToEven r × (z ≡ r.value) };
+        → (r : StatusAnd Self) × meaning.multiplies x y NearestTiesToEven r × (z ≡ r.value) };
 
     ghost can_div_assign_law: { (x y : Self) → Self.can_div_assign x y };
 
     ghost div_assign_law: { (x y z : Self) → Self.div_assign_gives x y z
-        → (r : StatusAnd Self) × divides x y NearestTiesToEven r × (z ≡ r.value) };
+        → (r : StatusAnd Self) × meaning.divides x y NearestTiesToEven r × (z ≡ r.value) };
 
     ghost can_rem_assign_law: { (x y : Self) → Self.can_rem_assign x y };
 
     ghost rem_assign_law: { (x y z : Self) → Self.rem_assign_gives x y z
-        → (r : StatusAnd Self) × leaves x y r × (z ≡ r.value) };
+        → (r : StatusAnd Self) × meaning.leaves x y r × (z ≡ r.value) };
 
     // The default is +0.
 
-    ghost default_law: { (x : Self) → Self.is_default x → x ≡ the_zero };
+    ghost default_law: { (x : Self) → Self.is_default x → x ≡ meaning.the_zero };
 
     // The next value down is the negated next value up of the negated value.
 
-    ghost steps_down_law: { (x : Self) (r : StatusAnd Self) → steps_up (negated x) r
-        → steps_down x (record { status = r.status; value = negated r.value }) };
+    ghost steps_down_law: { (x : Self) (r : StatusAnd Self) → meaning.steps_up (meaning.negated x) r
+        → meaning.steps_down x (record { status = r.status; value = meaning.negated r.value }) };
 
     // A signed integer is converted from its magnitude, which is rounded in the opposite mode if the integer is
     // negative.
 
     ghost signed_above_law: { (n : ℕ) (mode : Round) (r : StatusAnd Self)
-        → converts_unsigned n mode r → converts_signed (pos n) mode r };
+        → meaning.converts_unsigned n mode r → meaning.converts_signed (pos n) mode r };
 
     ghost signed_below_law: { (n : ℕ) (mode : Round) (r : StatusAnd Self) → 0 < n
-        → converts_unsigned n (swapped mode) r
-        → converts_signed (neg_ℤ (pos n)) mode
-        (record { status = r.status; value = negated r.value }) };
+        → meaning.converts_unsigned n (swapped mode) r
+        → meaning.converts_signed (neg_ℤ (pos n)) mode
+        (record { status = r.status; value = meaning.negated r.value }) };
 
     // `FromStr` rounds to the nearest value and discards the status.
 
     ghost read_law: { (text : List ℕ) (r : Result Self ParseError) → Self.from_str_gives text r
-        → (answer : Result (StatusAnd Self) ParseError) × reads text NearestTiesToEven answer
-        × (r ≡ without_status answer) };
+        → (answer : Result (StatusAnd Self) ParseError)
+        × meaning.reads text NearestTiesToEven answer × (r ≡ without_status answer) };
 
     // A value is converted to a signed integer from the unsigned integer of its magnitude.
 
     ghost to_signed_above_law: { (x : Self) (width : ℕ) (mode : Round) (number : StatusAnd ℕ)
-        (exact : Bool) → sign_of x ≡ false → converts_to_unsigned x (width - 1) mode number exact
-        → converts_to_signed x width mode
+        (exact : Bool) → meaning.sign_of x ≡ false
+        → meaning.converts_to_unsigned x (width - 1) mode number exact
+        → meaning.converts_to_signed x width mode
         (record { status = number.status; value = pos number.value }) exact };
 
     ghost to_signed_below_law: { (x : Self) (width : ℕ) (mode : Round) (number : StatusAnd ℕ)
-        (exact : Bool) (answer : StatusAnd ℤ) (is_exact : Bool) → sign_of x ≡ true → 2 ≤ width
-        → converts_to_unsigned (negated x) width (swapped mode) number exact
-        → IsNegatedWhole (is_zero_category (category_of x)) width number.value
+        (exact : Bool) (answer : StatusAnd ℤ) (is_exact : Bool) → meaning.sign_of x ≡ true
+        → 2 ≤ width
+        → meaning.converts_to_unsigned (meaning.negated x) width (swapped mode) number exact
+        → IsNegatedWhole (is_zero_category (meaning.category_of x)) width number.value
         (bits_of number.status) exact answer.value (bits_of answer.status) is_exact
-        → converts_to_signed x width mode answer is_exact };
+        → meaning.converts_to_signed x width mode answer is_exact };
 
     // Each relation determines its result, so an operator and the corresponding call have the same result. The facts
     // are given for one mode, so that the search does not try all of them in proofs that do not cite them.
 
     ghost determined: { (mode : Round) →
-        IsDetermined mode PRECISION BITS adds subtracts multiplies divides inverts leaves
-        leaves_nearest writes_bits converts_unsigned converts_signed rounds_to_integral
-        converts_to_unsigned converts_to_signed steps_up steps_down scales has_exponent
-        has_fraction reads };
+        IsDetermined mode PRECISION BITS meaning.adds meaning.subtracts meaning.multiplies
+        meaning.divides meaning.inverts meaning.leaves meaning.leaves_nearest meaning.writes_bits
+        meaning.converts_unsigned meaning.converts_signed meaning.rounds_to_integral
+        meaning.converts_to_unsigned meaning.converts_to_signed meaning.steps_up
+        meaning.steps_down meaning.scales meaning.has_exponent meaning.has_fraction
+        meaning.reads };
 }
 
 /// The signed integer with the magnitude of an unsigned one of `width` bits.

@@ -43,14 +43,14 @@ pub record ValueFunctions (A : Type 0) : Type 1 where
 abbrev pub functions_of : {X : Type 0} → Ghosts X → (X → X → Option Ordering) → ValueFunctions X
 functions_of g order =
     record {
-      value_of_bits = g.value_of_bits;
-      writes_bits = g.writes_bits;
-      opposite = g.negated;
-      sign = g.sign_of;
-      category = g.category_of;
+      value_of_bits = g.meaning.value_of_bits;
+      writes_bits = g.meaning.writes_bits;
+      opposite = g.meaning.negated;
+      sign = g.meaning.sign_of;
+      category = g.meaning.category_of;
       order = order;
-      quiet_nan = g.quiet_nan_of;
-      signaling_nan = g.signaling_nan_of;
+      quiet_nan = g.meaning.quiet_nan_of;
+      signaling_nan = g.meaning.signaling_nan_of;
     }
 
 -- the functions of a format

@@ -362,7 +362,7 @@ pub fn fraction<F: ValueType>(answer: &mut Answer, round: Round, x: u128)
 #[inline(never)]
 pub fn exponent<F: Float>(answer: &mut Answer, x: u128)
     requires { F.PRECISION < F.BITS }
-    ensures { IsNumber (F.has_exponent (F.value_of_bits x)) answer.new }
+    ensures { IsNumber (F.meaning.has_exponent (F.meaning.value_of_bits x)) answer.new }
 {
     *answer = Answer::number(F::from_bits(x).ilogb());
 }
@@ -372,7 +372,7 @@ pub fn exponent<F: Float>(answer: &mut Answer, x: u128)
 pub fn next_up<F: ValueType>(answer: &mut Answer, x: u128)
     requires { F.PRECISION < F.BITS }
     ensures { let of_type = relations_of F.Float.own F.partial_cmp F.takes_root in
-        IsValue of_type (F.steps_up (F.value_of_bits x)) answer.new }
+        IsValue of_type (F.meaning.steps_up (F.meaning.value_of_bits x)) answer.new }
 {
     *answer = written(F::from_bits(x).next_up());
 }
@@ -382,7 +382,7 @@ pub fn next_up<F: ValueType>(answer: &mut Answer, x: u128)
 pub fn next_down<F: ValueType>(answer: &mut Answer, x: u128)
     requires { F.PRECISION < F.BITS }
     ensures { let of_type = relations_of F.Float.own F.partial_cmp F.takes_root in
-        IsValue of_type (F.steps_down (F.value_of_bits x)) answer.new }
+        IsValue of_type (F.meaning.steps_down (F.meaning.value_of_bits x)) answer.new }
 {
     *answer = written(F::from_bits(x).next_down());
 }
@@ -392,7 +392,9 @@ pub fn next_down<F: ValueType>(answer: &mut Answer, x: u128)
 pub fn comparison<F: Float>(answer: &mut Answer, x: u128, y: u128)
     requires { F.PRECISION < F.BITS }
     ensures { IsNumber
-        (λ n. n ≡ order_code (F.partial_cmp (F.value_of_bits x) (F.value_of_bits y))) answer.new }
+        (λ n. n
+        ≡ order_code (F.partial_cmp (F.meaning.value_of_bits x) (F.meaning.value_of_bits y)))
+        answer.new }
 {
     let (x, y) = (F::from_bits(x), F::from_bits(y));
     *answer = Answer::number(order_code(x.partial_cmp(&y)));
@@ -403,7 +405,7 @@ pub fn comparison<F: Float>(answer: &mut Answer, x: u128, y: u128)
 pub fn class<F: ValueType>(answer: &mut Answer, x: u128)
     requires { F.PRECISION < F.BITS }
     ensures { let of_type = relations_of F.Float.own F.partial_cmp F.takes_root in
-        IsNumber (λ n. n ≡ class_of of_type (F.value_of_bits x)) answer.new }
+        IsNumber (λ n. n ≡ class_of of_type (F.meaning.value_of_bits x)) answer.new }
 {
     let x = F::from_bits(x);
     let code = class_code(

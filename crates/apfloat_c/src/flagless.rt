@@ -77,7 +77,7 @@ fn flagless_answer<F: Float>(call: FlaglessCall) -> Answer
 /// The value with the opposite sign.
 #[inline(always)]
 fn opposite<F: Float>(x: F) -> F
-    ensures { result ≡ F.negated x }
+    ensures { result ≡ F.meaning.negated x }
 {
     -x
 }
@@ -85,7 +85,7 @@ fn opposite<F: Float>(x: F) -> F
 /// A value, with the opposite sign if it is to be negative.
 #[inline(always)]
 fn signed<F: Float>(negative: bool, x: F) -> F
-    ensures { result ≡ signed F.negated negative x }
+    ensures { result ≡ signed F.meaning.negated negative x }
 {
     if negative { opposite(x) } else { x }
 }

@@ -79,89 +79,49 @@ impl<S: Flagged> Float for IeeeFloat<S> {
 
     ghost MULTIPLIES = { leb S.PRECISION product_limit };
 
-    ghost the_zero = { zero_datum };
-
-    ghost the_infinity = { infinity_datum (format_of S.Flagged) };
-
-    ghost quiet_nan_of = { qnan (format_of S.Flagged) };
-
-    ghost signaling_nan_of = { snan (format_of S.Flagged) };
-
-    ghost the_largest = { largest_datum (format_of S.Flagged) };
-
-    ghost the_smallest = { smallest_datum };
-
-    ghost the_smallest_normalized = { smallest_normalized_datum (format_of S.Flagged) };
-
-    ghost adds = { λ x y mode answer. Gives (IsSum (format_of S.Flagged) mode x y) answer };
-
-    ghost subtracts = { λ x y mode answer. Gives (IsDifference (format_of S.Flagged) mode x y)
-        answer };
-
-    ghost multiplies = { λ x y mode answer. Gives (IsProduct (format_of S.Flagged) mode x y)
-        answer };
-
-    ghost divides = { λ x y mode answer. Gives (IsQuotient (format_of S.Flagged) mode x y)
-        answer };
-
-    ghost leaves_nearest = { λ x y answer. Gives (IsNearestRemainder (format_of S.Flagged) x y)
-        answer };
-
-    ghost leaves = { λ x y answer. Gives (IsTruncatedRemainder (format_of S.Flagged) x y)
-        answer };
-
-    ghost rounds_to_integral = { λ x mode answer. Gives
-        (IsRoundToIntegral (format_of S.Flagged) mode x) answer };
-
-    ghost steps_up = { λ x answer. Gives (IsNextUp (format_of S.Flagged) x) answer };
-
-    ghost steps_down = { λ x answer. Gives (IsNextDown (format_of S.Flagged) x) answer };
-
-    ghost negated = { negated (format_of S.Flagged).nonfinite };
-
-    ghost value_of_bits = { datum_of (format_of S.Flagged) (layout_of S.Flagged) };
-
-    ghost converts_signed = { λ number mode answer. Gives
-        (IsFromSigned (format_of S.Flagged) mode number) answer };
-
-    ghost converts_unsigned = { λ number mode answer. Gives
-        (IsFromUnsigned (format_of S.Flagged) mode number) answer };
-
-    ghost reads = { λ text mode answer. IsRead (format_of S.Flagged) mode text answer };
-
-    ghost writes_bits = { λ x bits. IsEncodedBy (format_of S.Flagged) (layout_of S.Flagged)
-        bits x };
-
-    ghost converts_to_signed = { λ x width mode answer exact. IsToSigned (format_of S.Flagged)
-        mode width x answer.value (bits_of answer.status) exact };
-
-    ghost converts_to_unsigned = { λ x width mode answer exact. IsToUnsigned
-        (format_of S.Flagged) mode width x answer.value (bits_of answer.status) exact };
-
-    ghost can_compare_magnitudes = { AreFiniteNonZero };
-
-    ghost magnitude_order = { compared_magnitudes };
-
-    ghost same = { same_datum };
-
-    ghost sign_of = { is_negative };
-
-    ghost denormal = { is_denormal (format_of S.Flagged) };
-
-    ghost signals = { is_signaling_nan (format_of S.Flagged) };
-
-    ghost category_of = { category_of };
-
-    ghost is_whole = { is_integer (format_of S.Flagged) };
-
-    ghost inverts = { IsExactInverse (format_of S.Flagged) };
-
-    ghost has_exponent = { λ x exponent. IsIlogb (format_of S.Flagged) x exponent };
-
-    ghost scales = { λ x places mode value. IsScaling (format_of S.Flagged) mode x places value };
-
-    ghost has_fraction = { λ x mode value exponent. IsFrexp (format_of S.Flagged) x value
-        exponent };
+    ghost meaning = { record {
+      the_zero = zero_datum;
+      the_infinity = infinity_datum (format_of S.Flagged);
+      quiet_nan_of = qnan (format_of S.Flagged);
+      signaling_nan_of = snan (format_of S.Flagged);
+      the_largest = largest_datum (format_of S.Flagged);
+      the_smallest = smallest_datum;
+      the_smallest_normalized = smallest_normalized_datum (format_of S.Flagged);
+      adds = λ x y mode answer. Gives (IsSum (format_of S.Flagged) mode x y) answer;
+      subtracts = λ x y mode answer. Gives (IsDifference (format_of S.Flagged) mode x y) answer;
+      multiplies = λ x y mode answer. Gives (IsProduct (format_of S.Flagged) mode x y) answer;
+      divides = λ x y mode answer. Gives (IsQuotient (format_of S.Flagged) mode x y) answer;
+      leaves_nearest = λ x y answer. Gives (IsNearestRemainder (format_of S.Flagged) x y) answer;
+      leaves = λ x y answer. Gives (IsTruncatedRemainder (format_of S.Flagged) x y) answer;
+      rounds_to_integral = λ x mode answer. Gives
+          (IsRoundToIntegral (format_of S.Flagged) mode x) answer;
+      steps_up = λ x answer. Gives (IsNextUp (format_of S.Flagged) x) answer;
+      steps_down = λ x answer. Gives (IsNextDown (format_of S.Flagged) x) answer;
+      negated = negated (format_of S.Flagged).nonfinite;
+      value_of_bits = datum_of (format_of S.Flagged) (layout_of S.Flagged);
+      converts_signed = λ number mode answer. Gives
+          (IsFromSigned (format_of S.Flagged) mode number) answer;
+      converts_unsigned = λ number mode answer. Gives
+          (IsFromUnsigned (format_of S.Flagged) mode number) answer;
+      reads = λ text mode answer. IsRead (format_of S.Flagged) mode text answer;
+      writes_bits = λ x bits. IsEncodedBy (format_of S.Flagged) (layout_of S.Flagged) bits x;
+      converts_to_signed = λ x width mode answer exact. IsToSigned (format_of S.Flagged)
+          mode width x answer.value (bits_of answer.status) exact;
+      converts_to_unsigned = λ x width mode answer exact. IsToUnsigned
+          (format_of S.Flagged) mode width x answer.value (bits_of answer.status) exact;
+      can_compare_magnitudes = AreFiniteNonZero;
+      magnitude_order = compared_magnitudes;
+      same = same_datum;
+      sign_of = is_negative;
+      denormal = is_denormal (format_of S.Flagged);
+      signals = is_signaling_nan (format_of S.Flagged);
+      category_of = category_of;
+      is_whole = is_integer (format_of S.Flagged);
+      inverts = IsExactInverse (format_of S.Flagged);
+      has_exponent = λ x exponent. IsIlogb (format_of S.Flagged) x exponent;
+      scales = λ x places mode value. IsScaling (format_of S.Flagged) mode x places value;
+      has_fraction = λ x mode value exponent. IsFrexp (format_of S.Flagged) x value exponent;
+    } };
 
     #[inline]
     fn zero() -> Self {

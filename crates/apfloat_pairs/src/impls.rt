@@ -71,80 +71,46 @@ impl Float for DoubleFloat {
 
     ghost MULTIPLIES = { true };
 
-    ghost the_zero = { pair_zero };
-
-    ghost the_infinity = { pair_infinity };
-
-    ghost quiet_nan_of = { pair_qnan };
-
-    ghost signaling_nan_of = { pair_snan };
-
-    ghost the_largest = { pair_largest };
-
-    ghost the_smallest = { pair_smallest };
-
-    ghost the_smallest_normalized = { pair_smallest_normalized };
-
-    ghost adds = { λ x y round answer. Gives (IsPairSum round x y) answer };
-
-    ghost subtracts = { λ x y round answer. Gives (IsPairDifference round x y) answer };
-
-    ghost multiplies = { λ x y round answer. Gives (IsPairProduct round x y) answer };
-
-    ghost divides = { λ x y round answer. Gives (IsPairQuotient round x y) answer };
-
-    ghost leaves_nearest = { λ x y answer. Gives (IsPairNearestRemainder x y) answer };
-
-    ghost leaves = { λ x y answer. Gives (IsPairTruncatedRemainder x y) answer };
-
-    ghost rounds_to_integral = { λ x round answer. Gives (IsPairRoundToIntegral round x) answer };
-
-    ghost steps_up = { λ x answer. Gives (IsPairNextUp x) answer };
-
-    ghost steps_down = { λ x answer. Gives (IsPairNextDown x) answer };
-
-    ghost negated = { negated_pair };
-
-    ghost value_of_bits = { pair_of };
-
-    ghost converts_signed = { λ number round answer. Gives (IsPairFromSigned round number) answer };
-
-    ghost converts_unsigned = { λ number round answer. Gives (IsPairFromUnsigned round number)
-        answer };
-
-    ghost reads = { λ text round answer. IsPairRead round text answer };
-
-    ghost writes_bits = { λ x bits. IsPairEncodedBy bits x };
-
-    ghost converts_to_signed = { λ x width round answer exact. IsPairToSigned round width x
-        answer.value (bits_of answer.status) exact };
-
-    ghost converts_to_unsigned = { λ x width round answer exact.
-        IsPairToUnsigned round width x answer.value (bits_of answer.status) exact };
-
-    ghost can_compare_magnitudes = { CanComparePairMagnitudes };
-
-    ghost magnitude_order = { compared_pair_magnitudes };
-
-    ghost same = { same_pair };
-
-    ghost sign_of = { is_negative_pair };
-
-    ghost denormal = { is_denormal_pair };
-
-    ghost signals = { is_signaling_pair };
-
-    ghost category_of = { pair_category };
-
-    ghost is_whole = { is_integer_pair };
-
-    ghost inverts = { IsPairExactInverse };
-
-    ghost has_exponent = { IsPairIlogb };
-
-    ghost scales = { λ x places round value. IsPairScaling round x places value };
-
-    ghost has_fraction = { λ x round value exponent. IsPairFraction round x value exponent };
+    ghost meaning = { record {
+      the_zero = pair_zero;
+      the_infinity = pair_infinity;
+      quiet_nan_of = pair_qnan;
+      signaling_nan_of = pair_snan;
+      the_largest = pair_largest;
+      the_smallest = pair_smallest;
+      the_smallest_normalized = pair_smallest_normalized;
+      adds = λ x y round answer. Gives (IsPairSum round x y) answer;
+      subtracts = λ x y round answer. Gives (IsPairDifference round x y) answer;
+      multiplies = λ x y round answer. Gives (IsPairProduct round x y) answer;
+      divides = λ x y round answer. Gives (IsPairQuotient round x y) answer;
+      leaves_nearest = λ x y answer. Gives (IsPairNearestRemainder x y) answer;
+      leaves = λ x y answer. Gives (IsPairTruncatedRemainder x y) answer;
+      rounds_to_integral = λ x round answer. Gives (IsPairRoundToIntegral round x) answer;
+      steps_up = λ x answer. Gives (IsPairNextUp x) answer;
+      steps_down = λ x answer. Gives (IsPairNextDown x) answer;
+      negated = negated_pair;
+      value_of_bits = pair_of;
+      converts_signed = λ number round answer. Gives (IsPairFromSigned round number) answer;
+      converts_unsigned = λ number round answer. Gives (IsPairFromUnsigned round number) answer;
+      reads = λ text round answer. IsPairRead round text answer;
+      writes_bits = λ x bits. IsPairEncodedBy bits x;
+      converts_to_signed = λ x width round answer exact. IsPairToSigned round width x
+          answer.value (bits_of answer.status) exact;
+      converts_to_unsigned = λ x width round answer exact.
+          IsPairToUnsigned round width x answer.value (bits_of answer.status) exact;
+      can_compare_magnitudes = CanComparePairMagnitudes;
+      magnitude_order = compared_pair_magnitudes;
+      same = same_pair;
+      sign_of = is_negative_pair;
+      denormal = is_denormal_pair;
+      signals = is_signaling_pair;
+      category_of = pair_category;
+      is_whole = is_integer_pair;
+      inverts = IsPairExactInverse;
+      has_exponent = IsPairIlogb;
+      scales = λ x places round value. IsPairScaling round x places value;
+      has_fraction = λ x round value exponent. IsPairFraction round x value exponent;
+    } };
 
     #[inline]
     fn zero() -> Self {

@@ -11,7 +11,7 @@ use std::cmp::Ordering;
 pub trait Magnitudes: Float {
     /// Whether the magnitudes can be compared.
     fn is_comparable(self, rhs: Self) -> bool
-        ensures { result ≡ true → Self.can_compare_magnitudes self rhs };
+        ensures { result ≡ true → Self.meaning.can_compare_magnitudes self rhs };
 }
 
 impl<S: Flagged> Magnitudes for IeeeFloat<S> {

@@ -78,92 +78,57 @@ impl<F: FiniteFormat> Float for FiniteFloat<F> {
 
     ghost MULTIPLIES = { true };
 
-    ghost the_zero = { zero_datum };
-
-    ghost the_infinity = { largest_datum (format_of F.Semantics) };
-
-    ghost quiet_nan_of = { λ payload. zero_datum };
-
-    ghost signaling_nan_of = { λ payload. zero_datum };
-
-    ghost the_largest = { largest_datum (format_of F.Semantics) };
-
-    ghost the_smallest = { smallest_datum };
-
-    ghost the_smallest_normalized = { smallest_normalized_datum (format_of F.Semantics) };
-
-    ghost adds = { λ x y mode answer. Gives (IsSettled
-        (IsSum (format_of F.Semantics) mode x y) (format_of F.Semantics)) answer };
-
-    ghost subtracts = { λ x y mode answer. Gives (IsSettled
-        (IsDifference (format_of F.Semantics) mode x y) (format_of F.Semantics)) answer };
-
-    ghost multiplies = { λ x y mode answer. Gives (IsSettled
-        (IsProduct (format_of F.Semantics) mode x y) (format_of F.Semantics)) answer };
-
-    ghost divides = { λ x y mode answer. Gives (IsSettled
-        (IsQuotient (format_of F.Semantics) mode x y) (format_of F.Semantics)) answer };
-
-    ghost leaves_nearest = { λ x y answer. Gives (IsSettled
-        (IsNearestRemainder (format_of F.Semantics) x y) (format_of F.Semantics)) answer };
-
-    ghost leaves = { λ x y answer. Gives (IsSettled
-        (IsTruncatedRemainder (format_of F.Semantics) x y) (format_of F.Semantics)) answer };
-
-    ghost rounds_to_integral = { λ x mode answer. Gives (IsSettled
-        (IsRoundToIntegral (format_of F.Semantics) mode x) (format_of F.Semantics)) answer };
-
-    ghost steps_up = { λ x answer. Gives (IsSettled
-        (IsNextUp (format_of F.Semantics) x) (format_of F.Semantics)) answer };
-
-    ghost steps_down = { λ x answer. Gives (IsSettledNextDown (format_of F.Semantics) x) answer };
-
-    ghost negated = { negated (format_of F.Semantics).nonfinite };
-
-    ghost value_of_bits = { value_of_bits (codes_of F.StorageFormat) };
-
-    ghost converts_signed = { λ number mode answer. Gives (IsSettled
-        (IsFromSigned (format_of F.Semantics) mode number) (format_of F.Semantics)) answer };
-
-    ghost converts_unsigned = { λ number mode answer. Gives (IsSettled
-        (IsFromUnsigned (format_of F.Semantics) mode number) (format_of F.Semantics)) answer };
-
-    ghost reads = { λ text mode answer. IsSettledReading (format_of F.Semantics) mode text answer };
-
-    ghost writes_bits = { λ x bits. IsCodeOf (codes_of F.StorageFormat)
-        bits x };
-
-    ghost converts_to_signed = { λ x width mode answer exact. IsToSigned (format_of F.Semantics)
-        mode width x answer.value (bits_of answer.status) exact };
-
-    ghost converts_to_unsigned = { λ x width mode answer exact. IsToUnsigned
-        (format_of F.Semantics) mode width x answer.value (bits_of answer.status) exact };
-
-    ghost can_compare_magnitudes = { AreFiniteNonZero };
-
-    ghost magnitude_order = { compared_magnitudes };
-
-    ghost same = { same_datum };
-
-    ghost sign_of = { is_negative };
-
-    ghost denormal = { is_denormal (format_of F.Semantics) };
-
-    ghost signals = { is_signaling_nan (format_of F.Semantics) };
-
-    ghost category_of = { category_of };
-
-    ghost is_whole = { is_integer (format_of F.Semantics) };
-
-    ghost inverts = { IsExactInverse (format_of F.Semantics) };
-
-    ghost has_exponent = { λ x exponent. IsIlogb (format_of F.Semantics) x exponent };
-
-    ghost scales = { λ x places mode value. IsSettledValue
-        (IsScaling (format_of F.Semantics) mode x places) (format_of F.Semantics) value };
-
-    ghost has_fraction = { λ x mode value exponent. IsFrexp (format_of F.Semantics) x value
-        exponent };
+    ghost meaning = { record {
+      the_zero = zero_datum;
+      the_infinity = largest_datum (format_of F.Semantics);
+      quiet_nan_of = λ payload. zero_datum;
+      signaling_nan_of = λ payload. zero_datum;
+      the_largest = largest_datum (format_of F.Semantics);
+      the_smallest = smallest_datum;
+      the_smallest_normalized = smallest_normalized_datum (format_of F.Semantics);
+      adds = λ x y mode answer. Gives (IsSettled
+          (IsSum (format_of F.Semantics) mode x y) (format_of F.Semantics)) answer;
+      subtracts = λ x y mode answer. Gives (IsSettled
+          (IsDifference (format_of F.Semantics) mode x y) (format_of F.Semantics)) answer;
+      multiplies = λ x y mode answer. Gives (IsSettled
+          (IsProduct (format_of F.Semantics) mode x y) (format_of F.Semantics)) answer;
+      divides = λ x y mode answer. Gives (IsSettled
+          (IsQuotient (format_of F.Semantics) mode x y) (format_of F.Semantics)) answer;
+      leaves_nearest = λ x y answer. Gives (IsSettled
+          (IsNearestRemainder (format_of F.Semantics) x y) (format_of F.Semantics)) answer;
+      leaves = λ x y answer. Gives (IsSettled
+          (IsTruncatedRemainder (format_of F.Semantics) x y) (format_of F.Semantics)) answer;
+      rounds_to_integral = λ x mode answer. Gives (IsSettled
+          (IsRoundToIntegral (format_of F.Semantics) mode x) (format_of F.Semantics)) answer;
+      steps_up = λ x answer. Gives (IsSettled
+          (IsNextUp (format_of F.Semantics) x) (format_of F.Semantics)) answer;
+      steps_down = λ x answer. Gives (IsSettledNextDown (format_of F.Semantics) x) answer;
+      negated = negated (format_of F.Semantics).nonfinite;
+      value_of_bits = value_of_bits (codes_of F.StorageFormat);
+      converts_signed = λ number mode answer. Gives (IsSettled
+          (IsFromSigned (format_of F.Semantics) mode number) (format_of F.Semantics)) answer;
+      converts_unsigned = λ number mode answer. Gives (IsSettled
+          (IsFromUnsigned (format_of F.Semantics) mode number) (format_of F.Semantics)) answer;
+      reads = λ text mode answer. IsSettledReading (format_of F.Semantics) mode text answer;
+      writes_bits = λ x bits. IsCodeOf (codes_of F.StorageFormat) bits x;
+      converts_to_signed = λ x width mode answer exact. IsToSigned (format_of F.Semantics)
+          mode width x answer.value (bits_of answer.status) exact;
+      converts_to_unsigned = λ x width mode answer exact. IsToUnsigned
+          (format_of F.Semantics) mode width x answer.value (bits_of answer.status) exact;
+      can_compare_magnitudes = AreFiniteNonZero;
+      magnitude_order = compared_magnitudes;
+      same = same_datum;
+      sign_of = is_negative;
+      denormal = is_denormal (format_of F.Semantics);
+      signals = is_signaling_nan (format_of F.Semantics);
+      category_of = category_of;
+      is_whole = is_integer (format_of F.Semantics);
+      inverts = IsExactInverse (format_of F.Semantics);
+      has_exponent = λ x exponent. IsIlogb (format_of F.Semantics) x exponent;
+      scales = λ x places mode value. IsSettledValue
+          (IsScaling (format_of F.Semantics) mode x places) (format_of F.Semantics) value;
+      has_fraction = λ x mode value exponent. IsFrexp (format_of F.Semantics) x value exponent;
+    } };
 
     #[inline]
     fn zero() -> Self {

@@ -65,31 +65,31 @@ abbrev pub relations_of : {X : Type 0} → Ghosts X → (X → X → Option Orde
     → (X → Round → StatusAnd X → Type 0) → Relations X
 relations_of g order takes_root =
     record {
-      value_of_bits = g.value_of_bits;
-      writes_bits = g.writes_bits;
-      adds = g.adds;
-      subtracts = g.subtracts;
-      multiplies = g.multiplies;
-      divides = g.divides;
-      leaves_nearest = g.leaves_nearest;
-      leaves = g.leaves;
-      converts_unsigned = g.converts_unsigned;
-      converts_signed = g.converts_signed;
-      converts_to_unsigned = g.converts_to_unsigned;
-      converts_to_signed = g.converts_to_signed;
-      rounds_to_integral = g.rounds_to_integral;
+      value_of_bits = g.meaning.value_of_bits;
+      writes_bits = g.meaning.writes_bits;
+      adds = g.meaning.adds;
+      subtracts = g.meaning.subtracts;
+      multiplies = g.meaning.multiplies;
+      divides = g.meaning.divides;
+      leaves_nearest = g.meaning.leaves_nearest;
+      leaves = g.meaning.leaves;
+      converts_unsigned = g.meaning.converts_unsigned;
+      converts_signed = g.meaning.converts_signed;
+      converts_to_unsigned = g.meaning.converts_to_unsigned;
+      converts_to_signed = g.meaning.converts_to_signed;
+      rounds_to_integral = g.meaning.rounds_to_integral;
       takes_root = takes_root;
-      scales = g.scales;
-      has_fraction = g.has_fraction;
-      has_exponent = g.has_exponent;
-      steps_up = g.steps_up;
-      steps_down = g.steps_down;
+      scales = g.meaning.scales;
+      has_fraction = g.meaning.has_fraction;
+      has_exponent = g.meaning.has_exponent;
+      steps_up = g.meaning.steps_up;
+      steps_down = g.meaning.steps_down;
       order = order;
-      category = g.category_of;
-      sign = g.sign_of;
-      denormal = g.denormal;
-      signals = g.signals;
-      reads = g.reads;
+      category = g.meaning.category_of;
+      sign = g.meaning.sign_of;
+      denormal = g.meaning.denormal;
+      signals = g.meaning.signals;
+      reads = g.meaning.reads;
     }
 
 -- the relations of a format

@@ -22,7 +22,7 @@ pub trait ValueType: Float {
 
     /// The product, which every type of values has, whatever its precision.
     fn wide_mul_r(self, rhs: Self, round: Round) -> StatusAnd<Self>
-        ensures { Self.multiplies self rhs round result };
+        ensures { Self.meaning.multiplies self rhs round result };
 
     /// The square root.
     fn sqrt_r(self, round: Round) -> StatusAnd<Self>
@@ -34,10 +34,10 @@ pub trait ValueType: Float {
 
     /// Reads a text, given by its bytes, as `from_str_r` does. A byte above 127 is refused, since it has no meaning.
     fn from_ascii_r(text: &[u8], round: Round) -> Result<StatusAnd<Self>, ParseError>
-        ensures { Self.reads text.now round result };
+        ensures { Self.meaning.reads text.now round result };
 
     // A text is refused only for a fault, which does not depend on the type.
-    ghost reads_texts: { ReadsTexts Self.reads };
+    ghost reads_texts: { ReadsTexts Self.meaning.reads };
 }
 
 impl<S: Flagged> ValueType for IeeeFloat<S> {

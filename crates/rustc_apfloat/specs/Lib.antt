@@ -54,6 +54,7 @@ pub use Rattle.apfloat_model.specs.texts.Parsing
 pub use Rattle.apfloat_model.specs.Determined
 pub use Rattle.apfloat_ieee.specs.Types
 pub use Rattle.apfloat_ieee.specs.FlaggedTypes
+pub use Rattle.apfloat_base.specs.Meaning
 -- pairs of doubles
 pub use Rattle.apfloat_pair_theory.specs.PairFormats
 pub use Rattle.apfloat_pair_theory.specs.Pairs

@@ -7,13 +7,14 @@ use Rattle.apfloat_c.proofs.answers.fraction.Goals as goal
 pub returns : goal.returns
 returns g c =
     let exponent = c.frexp_r-fraction.new.exp in
-    let holds = subst (λ x. g.F.Float.has_fraction x c.args.round c.frexp_r-fraction.result exponent)
+    let means = g.F.Float.meaning in
+    let holds = subst (λ x. means.has_fraction x c.args.round c.frexp_r-fraction.result exponent)
     c.from_bits.ensures c.frexp_r-fraction.ensures in
     let fits = c.requires.fits c.args.round c.frexp_r-fraction.result exponent holds in
     record {
       given = c.and.result;
       exponent = exponent;
-      holds = subst (λ value. g.F.Float.has_fraction (g.F.Float.value_of_bits c.args.x) c.args.round value exponent)
+      holds = subst (λ value. means.has_fraction (means.value_of_bits c.args.x) c.args.round value exponent)
           (sym c.and.ensures.value) holds;
       no_flags = ap bits_of c.and.ensures.status;
       is_written = record {

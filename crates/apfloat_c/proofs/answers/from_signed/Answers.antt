@@ -6,7 +6,7 @@ use Rattle.apfloat_c.proofs.answers.from_signed.Goals as goal
 pub returns : goal.returns
 returns g c = record {
   given = c.from_i128_r.result;
-  holds = subst (λ n. g.F.Float.converts_signed n c.args.round c.from_i128_r.result)
+  holds = subst (λ n. g.F.Float.meaning.converts_signed n c.args.round c.from_i128_r.result)
       (to_z-of_z w128 c.args.number c.ranges.number) c.from_i128_r.ensures;
   is_written = c.written.ensures;
 }

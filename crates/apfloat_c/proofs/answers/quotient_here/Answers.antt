@@ -4,7 +4,7 @@ use Rattle.apfloat_c.proofs.answers.quotient_here.Goals as goal
 pub returns : goal.returns
 returns g c = record {
   given = c.div_r.result;
-  holds = subst₂ (λ x y. g.F.Float.divides x y c.args.round c.div_r.result) c.from_bits-x.ensures
+  holds = subst₂ (λ x y. g.F.Float.meaning.divides x y c.args.round c.div_r.result) c.from_bits-x.ensures
       c.from_bits-y.ensures c.div_r.ensures;
   is_written = c.written.ensures;
 }

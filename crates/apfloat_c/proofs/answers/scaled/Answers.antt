@@ -8,7 +8,7 @@ use Rattle.apfloat_c.proofs.answers.scaled.Goals as goal
 pub returns : goal.returns
 returns g c = record {
   given = c.and.result;
-  holds = subst₃ (λ x power value. g.F.Float.scales x power c.args.round value) c.from_bits.ensures
+  holds = subst₃ (λ x power value. g.F.Float.meaning.scales x power c.args.round value) c.from_bits.ensures
       (to_z-of_z w32 c.args.power c.ranges.power) (sym c.and.ensures.value) c.scalbn_r-scaled.ensures;
   no_flags = ap bits_of c.and.ensures.status;
   is_written = c.written.ensures;

@@ -17,4 +17,4 @@ finite_is Zero h = refl
 pub returns-then-not-is_nan : goal.returns-then-not-is_nan
 returns-then-not-is_nan g c =
     ap not (assumption) ∙
-    finite_is (g.Self.Float.category_of c.args.self) (sym c.is_nan.ensures ∙ c.if-not-is_nan.true)
+    finite_is (g.Self.Float.meaning.category_of c.args.self) (sym c.is_nan.ensures ∙ c.if-not-is_nan.true)

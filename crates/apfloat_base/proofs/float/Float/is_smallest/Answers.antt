@@ -2,4 +2,6 @@ use Rattle.std.proofs.Common.{ap}
 use Rattle.apfloat_base.proofs.float.Float.is_smallest.Goals as goal
 
 pub returns : goal.returns
-returns g c = rw c.bitwise_eq.ensures (ap (g.Self.Float.same c.args.self) (rw (← c.smallest.ensures) assumption))
+returns g c =
+    let same = g.Self.Float.meaning.same c.args.self in
+    rw c.bitwise_eq.ensures (ap same (rw (← c.smallest.ensures) assumption))

@@ -3,4 +3,5 @@ use Rattle.apfloat_base.proofs.float.Float.is_smallest_normalized.Goals as goal
 
 pub returns : goal.returns
 returns g c =
-    rw c.bitwise_eq.ensures (ap (g.Self.Float.same c.args.self) (rw (← c.smallest_normalized.ensures) assumption))
+    let same = g.Self.Float.meaning.same c.args.self in
+    rw c.bitwise_eq.ensures (ap same (rw (← c.smallest_normalized.ensures) assumption))
