@@ -5,6 +5,7 @@ use Rattle.apfloat_model.specs.declared.kinds.Category.{Category}
 use Rattle.apfloat_model.specs.declared.kinds.Round.{Round}
 use Rattle.apfloat_model.specs.declared.parse_error.ParseError.{ParseError}
 use Rattle.apfloat_model.specs.declared.status.StatusAnd.{StatusAnd}
+use Rattle.apfloat_model.specs.Determined.{IsDetermined}
 
 -- X is the type of values
 pub record Meaning (X : Type 0) : Type 1 where
@@ -55,3 +56,10 @@ pub record Meaning (X : Type 0) : Type 1 where
   pub has_exponent : X → ℤ → Type 0
   pub scales : X → ℤ → Round → X → Type 0
   pub has_fraction : X → Round → X → ℤ → Type 0
+
+-- Each relation determines its result; those that round do so under the mode.
+abbrev pub AreDetermined : {X : Type 0} → Meaning X → Round → (precision width : ℕ) → Type 0
+AreDetermined m mode precision width =
+    IsDetermined mode precision width m.adds m.subtracts m.multiplies m.divides m.inverts m.leaves m.leaves_nearest
+    m.writes_bits m.converts_unsigned m.converts_signed m.rounds_to_integral m.converts_to_unsigned
+    m.converts_to_signed m.steps_up m.steps_down m.scales m.has_exponent m.has_fraction m.reads

@@ -15,8 +15,7 @@ ghost use Rattle.apfloat_model.specs.declared.status.StatusAnd.{StatusAnd};
 ghost use Rattle.apfloat_model.specs.texts.Parsing.{without_status};
 ghost use Rattle.apfloat_model.specs.rounding.Flags.{bits_of};
 ghost use Rattle.apfloat_model.specs.whole_numbers.SignedWholes.{IsNegatedWhole};
-ghost use Rattle.apfloat_model.specs.Determined.{IsDetermined};
-ghost use Rattle.apfloat_base.specs.Meaning.{Meaning};
+ghost use Rattle.apfloat_base.specs.Meaning.{AreDetermined, Meaning};
 
 use apfloat_model::{Category, ExpInt, ParseError, Round, Status, StatusAnd};
 use std::cmp::Ordering;
@@ -660,13 +659,7 @@ pub trait Float: Copy
     // Each relation determines its result, so an operator and the corresponding call have the same result. The facts
     // are given for one mode, so that the search does not try all of them in proofs that do not cite them.
 
-    ghost determined: { (mode : Round) →
-        IsDetermined mode PRECISION BITS meaning.adds meaning.subtracts meaning.multiplies
-        meaning.divides meaning.inverts meaning.leaves meaning.leaves_nearest meaning.writes_bits
-        meaning.converts_unsigned meaning.converts_signed meaning.rounds_to_integral
-        meaning.converts_to_unsigned meaning.converts_to_signed meaning.steps_up
-        meaning.steps_down meaning.scales meaning.has_exponent meaning.has_fraction
-        meaning.reads };
+    ghost determined: { (mode : Round) → AreDetermined meaning mode PRECISION BITS };
 }
 
 /// The signed integer with the magnitude of an unsigned one of `width` bits.

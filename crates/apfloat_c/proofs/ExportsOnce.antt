@@ -9,13 +9,12 @@ use Rattle.rustc_apfloat.specs.declared.StatusAnd.{StatusAnd}
 use Rattle.rustc_apfloat.specs.Datum.{Datum}
 use Rattle.rustc_apfloat.specs.Flags.{bits_of}
 use Rattle.rustc_apfloat.specs.Lawful.{Constants, format_with, layout_with}
+use Rattle.rustc_apfloat.specs.Meaning.{AreDetermined}
 use Rattle.rustc_apfloat.specs.Determined.{Determines, DeterminesBoth}
-use Rattle.rustc_apfloat.specs.Exponents.{IsExactInverse}
 use Rattle.rustc_apfloat.specs.Roots.{IsRoot}
 use Rattle.rustc_apfloat.specs.PairFormats.{wide}
 use Rattle.rustc_apfloat.specs.Pairs.{Pair}
 use Rattle.rustc_apfloat.specs.PairAnswers.{OncePair}
-use Rattle.rustc_apfloat.specs.PairCalls.{IsPairExactInverse}
 use Rattle.rustc_apfloat.specs.PairRoots.{IsPairRoot}
 use Rattle.apfloat_model.proofs.Determined.{determined, gives_once, same_answer, scale_some}
 use Rattle.apfloat_model.proofs.bits.Encodings.{lawful_interchange}
@@ -27,7 +26,6 @@ use Rattle.apfloat_c.specs.declared.data.Halves.{Halves}
 use Rattle.formats_at_run_time.specs.declared.FlaggedKind.{FlaggedKind}
 use Rattle.formats_at_run_time.specs.declared.FlaggedKind.TheVariants.{OfFormat, Pairs}
 use Rattle.formats_at_run_time.specs.FlaggedKinds.{flagged_kind_of}
-use Rattle.formats_at_run_time.specs.Once.{AreDetermined}
 use Rattle.formats_at_run_time.specs.Relations.{Relations, in_format, in_pairs}
 use Rattle.formats_at_run_time.specs.ValueKinds.{Kind, of_format, of_pairs, value_of}
 use Rattle.formats_at_run_time.proofs.OfTwoOnce.{of_two_once}
@@ -84,13 +82,12 @@ given_once given = number_once (λ (n : ℤ). n ≡ given) (λ m n h k. h ∙ sy
 
 -- ---- values of a type
 
-module _ {A : Type 0} (of_type : Relations A) (inverts : A → Option A → Type 0)
-    (mode : Round) (precision width : ℕ)
-    (wide : precision < width) (once : AreDetermined of_type inverts mode precision width) where
+module _ {A : Type 0} (of_type : Relations A) (mode : Round) (precision width : ℕ) (wide : precision < width)
+    (once : AreDetermined of_type.meaning mode precision width) where
   written_once : (given other : StatusAnd A) (i j : ℤ) (first second : Answer) → given ≡ other → i ≡ j
       → IsWritten of_type given i first → IsWritten of_type other j second → SameAnswer first second
   written_once given other i j a b given_is number_is x y =
-      let encodes = λ (d : StatusAnd A). of_type.writes_bits d.value (whole a.bits) in
+      let encodes = λ (d : StatusAnd A). of_type.meaning.writes_bits d.value (whole a.bits) in
       record {
         bits = once.bits wide other.value (whole a.bits) (whole b.bits) (subst encodes given_is x.is_encoded)
             y.is_encoded;
@@ -122,7 +119,7 @@ module _ {A : Type 0} (of_type : Relations A) (inverts : A → Option A → Type
   type_once : ((x : A) → Determines (of_type.takes_root x mode)) → (call : ExportedCall)
       → OnceAnswer (IsTypeAnswer of_type mode call)
   type_once root (OfTwo arithmetic x y) =
-      value_once _ (of_two_once of_type inverts mode precision width once arithmetic _ _)
+      value_once _ (of_two_once of_type mode precision width once arithmetic _ _)
   type_once root (FusedSum x y z) = λ a b h k. absurd h
   type_once root (SquareRoot x) = value_once _ (root _)
   type_once root (FromUnsigned number) = value_once _ (once.of_unsigned number)
@@ -153,8 +150,7 @@ kind_law Pairs = tt
 -- ---- in a format
 
 module _ (constants : Constants) (has : HasLaw constants) (mode : Round) where
-  pub format_determined : AreDetermined (in_format constants) (IsExactInverse (format_with constants)) mode
-      constants.precision constants.bits
+  pub format_determined : AreDetermined (in_format constants).meaning mode constants.precision constants.bits
   format_determined =
       determined (format_with constants) (layout_with constants) constants.precision constants.bits mode
       (scale_some constants has.law) (lawful_interchange constants has.law)
@@ -165,8 +161,8 @@ module _ (constants : Constants) (has : HasLaw constants) (mode : Round) where
   converted_once Holds determines a b x y =
       let same = determines x.given.value y.given.value (bits_of x.given.status) (bits_of y.given.status) x.loses
       y.loses x.holds y.holds in
-      written_once (in_format constants) (IsExactInverse (format_with constants)) mode constants.precision
-      constants.bits has.wide format_determined x.given y.given _ _ a b
+      written_once (in_format constants) mode constants.precision constants.bits has.wide format_determined
+      x.given y.given _ _ a b
       (same_answer x.given y.given same.0 same.1) (ap one_if same.2) x.is_written y.is_written
 
 -- a conversion to a known kind has at most one result, and none to pairs
@@ -195,15 +191,15 @@ pair_root_once mode x = wide_answer_once (IsRoot wide mode) (root_once wide mode
 pub kind_once : (kind : Kind) → KindHasLaw kind → (mode : Round) (call : ExportedCall)
     → OnceAnswer (IsKindAnswer kind mode call)
 kind_once (of_format c) has mode (FusedSum x y z) =
-    value_once (in_format c) (IsExactInverse (format_with c)) mode c.precision c.bits has.wide
+    value_once (in_format c) mode c.precision c.bits has.wide
     (format_determined c has mode) _
     (gives_once _ (fused_sum_once (format_with c) mode (value_of c x) (value_of c y) (value_of c z)))
 kind_once (of_format c) has mode (Conversion x target) = conversion_answer_once c mode (value_of c x) target
 kind_once (of_format c) has mode call =
-    type_once (in_format c) (IsExactInverse (format_with c)) mode c.precision c.bits has.wide
+    type_once (in_format c) mode c.precision c.bits has.wide
     (format_determined c has mode) (λ x. gives_once _ (root_once (format_with c) mode x)) call
 kind_once of_pairs has mode call =
-    type_once in_pairs IsPairExactInverse mode 106 128 (lit< tt) (pairs_determined mode)
+    type_once in_pairs mode 106 128 (lit< tt) (pairs_determined mode)
     (λ x. gives_once _ (pair_root_once mode x)) call
 
 -- two results that are left as before are the same

@@ -1,25 +1,28 @@
 -- A call that raises no flag leaves one code and one result.
-use Rattle.std.proofs.Common.{None, Some, sym, ◌∙◌, lit<}
+use Rattle.std.proofs.Common.{Option, None, Some, sym, ◌∙◌, lit<}
+use Rattle.std.specs.declared.cmp.Ordering.{Ordering}
 use Rattle.rustc_apfloat.specs.declared.Round.TheVariants.{NearestTiesToEven}
 use Rattle.rustc_apfloat.specs.Determined.{Determines}
+use Rattle.rustc_apfloat.specs.Meaning.{Meaning}
 use Rattle.apfloat_pair_theory.proofs.calls.PairsDetermined.{pairs_determined}
 use Rattle.formats_at_run_time.specs.BuiltIns.{kind_of}
+use Rattle.formats_at_run_time.specs.Relations.{in_format, in_pairs}
 use Rattle.formats_at_run_time.specs.ValueKinds.{Kind, of_format, of_pairs}
 use Rattle.apfloat_c.specs.declared.flagless_call.FlaglessCall.{FlaglessCall}
 use Rattle.apfloat_c.specs.declared.flagless_call.FlaglessCall.TheVariants.{Negation, AbsoluteValue, SignCopy}
 use Rattle.apfloat_c.specs.declared.flagless_call.FlaglessCall.TheVariants.{LesserNumber, GreaterNumber, Minimum}
 use Rattle.apfloat_c.specs.declared.flagless_call.FlaglessCall.TheVariants.{Maximum, QuietNan, SignalingNan, SignTest}
 use Rattle.apfloat_c.specs.Answers.{whole}
-use Rattle.apfloat_c.specs.FlaglessCalls.{IsFlagless, IsFlaglessAnswer, IsFlaglessKindAnswer, ValueFunctions}
-use Rattle.apfloat_c.specs.FlaglessCalls.{functions_in_format, functions_in_pairs, kind_without_rule}
+use Rattle.apfloat_c.specs.FlaglessCalls.{IsFlagless, IsFlaglessAnswer, IsFlaglessKindAnswer, kind_without_rule}
 use Rattle.apfloat_c.specs.OneAnswer.{IsFlaglessReplyOnce}
 use Rattle.apfloat_c.proofs.ExportsOnce.{KindHasLaw, OnceAnswer, format_determined, given_once, unchanged}
 use Rattle.apfloat_c.proofs.ParsedOnce.{built_in_kind_law}
 
 -- no value of a type is written as two numbers
-module _ {A : Type 0} (of_type : ValueFunctions A) (bits : (value : A) → Determines (of_type.writes_bits value)) where
+module _ {A : Type 0} (meaning : Meaning A) (order : A → A → Option Ordering)
+    (bits : (value : A) → Determines (meaning.writes_bits value)) where
   -- a value leaves one result
-  flagless_once : (value : A) → OnceAnswer (IsFlagless of_type value)
+  flagless_once : (value : A) → OnceAnswer (IsFlagless meaning value)
   flagless_once value a b x y =
       record {
         bits = bits value (whole a.bits) (whole b.bits) x.is_encoded y.is_encoded;
@@ -27,7 +30,7 @@ module _ {A : Type 0} (of_type : ValueFunctions A) (bits : (value : A) → Deter
         number = x.number_is ∙ sym y.number_is;
       }
 
-  flagless_type_once : (call : FlaglessCall) → OnceAnswer (IsFlaglessAnswer of_type call)
+  flagless_type_once : (call : FlaglessCall) → OnceAnswer (IsFlaglessAnswer meaning order call)
   flagless_type_once (Negation x) = flagless_once _
   flagless_type_once (AbsoluteValue x) = flagless_once _
   flagless_type_once (SignCopy x y) = flagless_once _
@@ -42,10 +45,10 @@ module _ {A : Type 0} (of_type : ValueFunctions A) (bits : (value : A) → Deter
 flagless_kind_once : (kind : Kind) → KindHasLaw kind → (call : FlaglessCall)
     → OnceAnswer (IsFlaglessKindAnswer kind call)
 flagless_kind_once (of_format c) has call =
-    flagless_type_once (functions_in_format c)
+    flagless_type_once (in_format c).meaning (in_format c).order
     (λ value. (format_determined c has NearestTiesToEven).bits has.wide value) call
 flagless_kind_once of_pairs has call =
-    flagless_type_once functions_in_pairs
+    flagless_type_once in_pairs.meaning in_pairs.order
     (λ value. (pairs_determined NearestTiesToEven).bits (lit< tt) value) call
 
 -- two replies to the same arguments are the same

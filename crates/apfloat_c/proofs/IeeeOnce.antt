@@ -4,7 +4,6 @@ use Rattle.rustc_apfloat.specs.declared.Round.{Round}
 use Rattle.rustc_apfloat.specs.declared.StatusAnd.{StatusAnd}
 use Rattle.rustc_apfloat.specs.Datum.{Datum}
 use Rattle.rustc_apfloat.specs.Determined.{Determines}
-use Rattle.rustc_apfloat.specs.Exponents.{IsExactInverse}
 use Rattle.rustc_apfloat.specs.Flags.{bits_of}
 use Rattle.rustc_apfloat.specs.Lawful.{Constants, format_with}
 use Rattle.apfloat_model.proofs.Determined.{gives_once, same_answer}
@@ -54,7 +53,7 @@ module _ (c : Constants) (has : HasLaw c) (mode : Round) where
   -- if a relation has one value with one status in the format, it leaves one result
   pub in_format_once : (Holds : StatusAnd Datum → Type 0) → Determines Holds → OnceAnswer (IsValue (in_format c) Holds)
   in_format_once Holds determines =
-      value_once (in_format c) (IsExactInverse (format_with c)) mode c.precision c.bits has.wide
+      value_once (in_format c) mode c.precision c.bits has.wide
       (format_determined c has mode) Holds determines
 
   ieee_answer_once : (call : IeeeCall) → OnceAnswer (IsIeeeAnswer c mode call)

@@ -2,10 +2,8 @@
 use Rattle.std.proofs.Common.{◌≡◌, ℕ, true, false, List, Option, None, Some, Ok, Err, sym, ◌∙◌, subst, inl, inr, lit<}
 use Rattle.std.specs.Prelude.{IsTrue, is_some}
 use Rattle.rustc_apfloat.specs.declared.Round.{Round}
-use Rattle.rustc_apfloat.specs.Exponents.{IsExactInverse}
 use Rattle.rustc_apfloat.specs.Flags.{bits_of}
 use Rattle.rustc_apfloat.specs.Lawful.{format_with}
-use Rattle.rustc_apfloat.specs.PairCalls.{IsPairExactInverse}
 use Rattle.rustc_apfloat.specs.PairFormats.{wide}
 use Rattle.apfloat_model.specs.declared.parse_error.Fault.{Fault}
 use Rattle.apfloat_model.proofs.Determined.{gives_once}
@@ -28,10 +26,10 @@ use Rattle.block_arrays.proofs.FormatLaws.{built_in_law}
 decimal_answer_once : (kind : Kind) → KindHasLaw kind → (mode : Round) (text : List ℕ)
     → OnceAnswer (IsDecimalAnswer kind mode text)
 decimal_answer_once (of_format c) has mode text =
-    value_once (in_format c) (IsExactInverse (format_with c)) mode c.precision c.bits has.wide
+    value_once (in_format c) mode c.precision c.bits has.wide
     (format_determined c has mode) _ (gives_once _ (decimal_reading_once (format_with c) mode text))
 decimal_answer_once of_pairs has mode text =
-    value_once in_pairs IsPairExactInverse mode 106 128 (lit< tt) (pairs_determined mode) _
+    value_once in_pairs mode 106 128 (lit< tt) (pairs_determined mode) _
     (gives_once _ (pair_decimal_reading_once mode text))
 
 -- a text with a result has no fault

@@ -82,7 +82,7 @@ pub record IsNumber (Holds : ℤ → Type 0) (answer : Answer) : Type 0 where
 -- the bits of a value, its flags, and a number
 pub record IsWritten {A : Type 0} (of_type : Relations A) (given : StatusAnd A) (number : ℤ)
     (answer : Answer) : Type 0 where
-  pub is_encoded : of_type.writes_bits given.value (whole answer.bits)
+  pub is_encoded : of_type.meaning.writes_bits given.value (whole answer.bits)
   pub status_is : answer.status ≡ bits_of given.status
   pub number_is : answer.number ≡ number
 
@@ -110,43 +110,52 @@ pub record IsFractionOf {A : Type 0} (of_type : Relations A) (Holds : A → ℤ 
   pub is_written : IsWritten of_type given exponent answer
 
 abbrev pub class_of : {A : Type 0} → Relations A → A → ℤ
-class_of of_type x = class_code (of_type.category x) (of_type.sign x) (of_type.denormal x) (of_type.signals x)
+class_of of_type x =
+    class_code (of_type.meaning.category_of x) (of_type.meaning.sign_of x) (of_type.meaning.denormal x)
+    (of_type.meaning.signals x)
 
 -- fused sums and conversions, which are not calls of a type, have no result
 abbrev pub IsTypeAnswer : {A : Type 0} → Relations A → Round → ExportedCall → Answer → Type 0
 IsTypeAnswer of_type mode (OfTwo arithmetic x y) answer =
-    IsValue of_type (IsOfTwo of_type arithmetic mode (of_type.value_of_bits x) (of_type.value_of_bits y)) answer
+    IsValue of_type
+    (IsOfTwo of_type arithmetic mode (of_type.meaning.value_of_bits x) (of_type.meaning.value_of_bits y)) answer
 IsTypeAnswer of_type mode (FusedSum x y z) answer = ⊥
 IsTypeAnswer of_type mode (SquareRoot x) answer =
-    IsValue of_type (of_type.takes_root (of_type.value_of_bits x) mode) answer
+    IsValue of_type (of_type.takes_root (of_type.meaning.value_of_bits x) mode) answer
 IsTypeAnswer of_type mode (FromUnsigned number) answer =
-    IsValue of_type (of_type.converts_unsigned number mode) answer
-IsTypeAnswer of_type mode (FromSigned number) answer = IsValue of_type (of_type.converts_signed number mode) answer
+    IsValue of_type (of_type.meaning.converts_unsigned number mode) answer
+IsTypeAnswer of_type mode (FromSigned number) answer =
+    IsValue of_type (of_type.meaning.converts_signed number mode) answer
 IsTypeAnswer of_type mode (ToUnsigned x width) answer =
-    IsUnsigned (of_type.converts_to_unsigned (of_type.value_of_bits x) width mode) answer
+    IsUnsigned (of_type.meaning.converts_to_unsigned (of_type.meaning.value_of_bits x) width mode) answer
 IsTypeAnswer of_type mode (ToSigned x width) answer =
-    IsSigned (of_type.converts_to_signed (of_type.value_of_bits x) width mode) answer
+    IsSigned (of_type.meaning.converts_to_signed (of_type.meaning.value_of_bits x) width mode) answer
 IsTypeAnswer of_type mode (RoundToIntegral x) answer =
-    IsValue of_type (of_type.rounds_to_integral (of_type.value_of_bits x) mode) answer
+    IsValue of_type (of_type.meaning.rounds_to_integral (of_type.meaning.value_of_bits x) mode) answer
 IsTypeAnswer of_type mode (Scaling x power) answer =
-    IsUntold of_type (of_type.scales (of_type.value_of_bits x) power mode) answer
+    IsUntold of_type (of_type.meaning.scales (of_type.meaning.value_of_bits x) power mode) answer
 IsTypeAnswer of_type mode (Fraction x) answer =
-    IsFractionOf of_type (of_type.has_fraction (of_type.value_of_bits x) mode) answer
-IsTypeAnswer of_type mode (Exponent x) answer = IsNumber (of_type.has_exponent (of_type.value_of_bits x)) answer
-IsTypeAnswer of_type mode (NextUp x) answer = IsValue of_type (of_type.steps_up (of_type.value_of_bits x)) answer
-IsTypeAnswer of_type mode (NextDown x) answer = IsValue of_type (of_type.steps_down (of_type.value_of_bits x)) answer
+    IsFractionOf of_type (of_type.meaning.has_fraction (of_type.meaning.value_of_bits x) mode) answer
+IsTypeAnswer of_type mode (Exponent x) answer =
+    IsNumber (of_type.meaning.has_exponent (of_type.meaning.value_of_bits x)) answer
+IsTypeAnswer of_type mode (NextUp x) answer =
+    IsValue of_type (of_type.meaning.steps_up (of_type.meaning.value_of_bits x)) answer
+IsTypeAnswer of_type mode (NextDown x) answer =
+    IsValue of_type (of_type.meaning.steps_down (of_type.meaning.value_of_bits x)) answer
 IsTypeAnswer of_type mode (Comparison x y) answer =
-    IsNumber (λ n. n ≡ order_code (of_type.order (of_type.value_of_bits x) (of_type.value_of_bits y))) answer
-IsTypeAnswer of_type mode (Class x) answer = IsNumber (λ n. n ≡ class_of of_type (of_type.value_of_bits x)) answer
+    IsNumber
+    (λ n. n ≡ order_code (of_type.order (of_type.meaning.value_of_bits x) (of_type.meaning.value_of_bits y))) answer
+IsTypeAnswer of_type mode (Class x) answer =
+    IsNumber (λ n. n ≡ class_of of_type (of_type.meaning.value_of_bits x)) answer
 IsTypeAnswer of_type mode (Conversion x target) answer = ⊥
 IsTypeAnswer of_type mode (Text text) answer =
-    IsValue of_type (λ given. of_type.reads text.now mode (Ok given)) answer
+    IsValue of_type (λ given. of_type.meaning.reads text.now mode (Ok given)) answer
 
 -- the exponent of the requested fraction is a number of 32 bits
 abbrev pub FractionFits : {A : Type 0} → Relations A → ExportedCall → Type 0
 FractionFits {A} of_type (Fraction x) =
     (mode : Round) (value : A) (exponent : ℤ)
-    → of_type.has_fraction (of_type.value_of_bits x) mode value exponent → FitsSigned w32 exponent
+    → of_type.meaning.has_fraction (of_type.meaning.value_of_bits x) mode value exponent → FitsSigned w32 exponent
 FractionFits of_type call = ⊤
 
 -- ---- in a format

@@ -8,7 +8,7 @@ ghost use Rattle.apfloat_c.specs.declared.flagless_call.FlaglessCall.TheVariants
 ghost use Rattle.apfloat_c.specs.declared.flagless_call.FlaglessCall.TheVariants.{SignTest};
 ghost use Rattle.apfloat_c.specs.Answers.{whole};
 ghost use Rattle.apfloat_c.specs.FlaglessCalls.{IsFlagless, IsFlaglessAnswer, IsFlaglessKindAnswer, IsFlaglessReply};
-ghost use Rattle.apfloat_c.specs.FlaglessCalls.{functions_of, is_set, signed};
+ghost use Rattle.apfloat_c.specs.FlaglessCalls.{is_set, signed};
 
 use crate::codes::{ANSWERED, UNKNOWN_FORMAT, one_if};
 use crate::data::{Answer, Halves};
@@ -54,7 +54,7 @@ fn reply(format: u32, call: FlaglessCall, answer: &mut Answer) -> u32
 #[inline(always)]
 fn flagless_answer<F: Float>(call: FlaglessCall) -> Answer
     requires { F.PRECISION < F.BITS }
-    ensures { IsFlaglessAnswer (functions_of F.Float.own F.partial_cmp) call result }
+    ensures { IsFlaglessAnswer F.meaning F.partial_cmp call result }
 {
     match call {
         FlaglessCall::Negation(x) => in_bits(opposite(F::from_bits(x))),
@@ -94,7 +94,7 @@ fn signed<F: Float>(negative: bool, x: F) -> F
 #[inline(always)]
 fn in_bits<F: Float>(x: F) -> Answer
     requires { F.PRECISION < F.BITS }
-    ensures { IsFlagless (functions_of F.Float.own F.partial_cmp) x result }
+    ensures { IsFlagless F.meaning x result }
 {
     Answer::of(x.to_bits(), Status::OK, 0)
 }

@@ -1,3 +1,4 @@
 pub mod Types
 pub mod FlaggedTypes
+pub mod FormatMeaning
 pub mod AnyFloats

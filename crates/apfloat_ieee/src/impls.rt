@@ -2,31 +2,23 @@
 
 ghost use Rattle.std.specs.Prelude.{◌≡◌, ◌^◌, ◌<◌, ℕ, true, false, leb, IsTrue, refl};
 ghost use Rattle.apfloat_model.specs.rounding.Flags.{Gives, bits_of};
-ghost use Rattle.apfloat_model.specs.formats.Nan.{qnan, snan, is_signaling_nan};
-ghost use Rattle.apfloat_model.specs.rounding.Negation.{negated};
+ghost use Rattle.apfloat_model.specs.formats.Nan.{qnan, snan};
 ghost use Rattle.apfloat_model.specs.arithmetic.Sums.{IsSum, IsDifference, IsMonotone, IsNearby};
 ghost use Rattle.apfloat_model.proofs.whole_numbers.SignedNumbers.{signed_above, signed_below, largest_some};
-ghost use Rattle.apfloat_model.specs.arithmetic.Remainders.{IsTruncatedRemainder, IsNearestRemainder};
-ghost use Rattle.apfloat_model.specs.arithmetic.Exponents.{IsExactInverse, IsIlogb, IsFrexp};
 ghost use Rattle.apfloat_model.specs.formats.Members.{IsMember};
 ghost use Rattle.apfloat_model.specs.declared.kinds.NonfiniteBehavior.TheVariants.{IEEE754};
-ghost use Rattle.apfloat_model.specs.order.Classes.{category_of, is_negative, is_denormal, is_finite_non_zero, is_integer, same_datum};
-ghost use Rattle.apfloat_model.specs.order.Order.{AreFiniteNonZero, compared_magnitudes};
+ghost use Rattle.apfloat_model.specs.order.Classes.{category_of, is_negative, is_denormal, is_finite_non_zero, is_integer};
 ghost use Rattle.apfloat_model.specs.arithmetic.Products.{IsProduct, IsOpposite, product_limit};
-ghost use Rattle.apfloat_model.specs.arithmetic.Quotients.{IsQuotient};
 ghost use Rattle.std.proofs.lemmas.Bool.{leb-true};
-ghost use Rattle.apfloat_model.specs.formats.Constants.{zero_datum, smallest_datum, infinity_datum, largest_datum, smallest_normalized_datum};
+ghost use Rattle.apfloat_model.specs.formats.Constants.{zero_datum};
 ghost use Rattle.apfloat_model.specs.bits.Layout.{datum_of, IsEncodedBy, IsReadFrom};
 ghost use Rattle.apfloat_model.specs.arithmetic.NextUp.{IsNextUp, IsNextDown};
 ghost use Rattle.apfloat_model.specs.rounding.Rounding.{ok_bits};
-ghost use Rattle.apfloat_model.specs.arithmetic.Scaling.{IsScaling};
-ghost use Rattle.apfloat_model.specs.whole_numbers.WholeNumbers.{IsFromUnsigned, IsFromSigned, IsRoundToIntegral};
-ghost use Rattle.apfloat_model.specs.whole_numbers.WholeNumbersOut.{IsToUnsigned, IsToSigned};
 ghost use Rattle.apfloat_conversions.proofs.ToSigned.{to_signed_above, to_signed_below};
-ghost use Rattle.apfloat_model.specs.texts.Parsing.{IsRead};
 ghost use Rattle.apfloat_model.proofs.Determined.{determined, scale_some};
 ghost use Rattle.apfloat_model.proofs.bits.Encodings.{lawful_interchange};
 ghost use Rattle.apfloat_ieee.specs.FlaggedTypes.{constants_of, format_of, layout_of};
+ghost use Rattle.apfloat_ieee.specs.FormatMeaning.{format_meaning};
 
 use crate::flagged::Flagged;
 use crate::ieee_float::{IeeeFloat, decode, encode, shape_of};
@@ -79,49 +71,7 @@ impl<S: Flagged> Float for IeeeFloat<S> {
 
     ghost MULTIPLIES = { leb S.PRECISION product_limit };
 
-    ghost meaning = { record {
-      the_zero = zero_datum;
-      the_infinity = infinity_datum (format_of S.Flagged);
-      quiet_nan_of = qnan (format_of S.Flagged);
-      signaling_nan_of = snan (format_of S.Flagged);
-      the_largest = largest_datum (format_of S.Flagged);
-      the_smallest = smallest_datum;
-      the_smallest_normalized = smallest_normalized_datum (format_of S.Flagged);
-      adds = λ x y mode answer. Gives (IsSum (format_of S.Flagged) mode x y) answer;
-      subtracts = λ x y mode answer. Gives (IsDifference (format_of S.Flagged) mode x y) answer;
-      multiplies = λ x y mode answer. Gives (IsProduct (format_of S.Flagged) mode x y) answer;
-      divides = λ x y mode answer. Gives (IsQuotient (format_of S.Flagged) mode x y) answer;
-      leaves_nearest = λ x y answer. Gives (IsNearestRemainder (format_of S.Flagged) x y) answer;
-      leaves = λ x y answer. Gives (IsTruncatedRemainder (format_of S.Flagged) x y) answer;
-      rounds_to_integral = λ x mode answer. Gives
-          (IsRoundToIntegral (format_of S.Flagged) mode x) answer;
-      steps_up = λ x answer. Gives (IsNextUp (format_of S.Flagged) x) answer;
-      steps_down = λ x answer. Gives (IsNextDown (format_of S.Flagged) x) answer;
-      negated = negated (format_of S.Flagged).nonfinite;
-      value_of_bits = datum_of (format_of S.Flagged) (layout_of S.Flagged);
-      converts_signed = λ number mode answer. Gives
-          (IsFromSigned (format_of S.Flagged) mode number) answer;
-      converts_unsigned = λ number mode answer. Gives
-          (IsFromUnsigned (format_of S.Flagged) mode number) answer;
-      reads = λ text mode answer. IsRead (format_of S.Flagged) mode text answer;
-      writes_bits = λ x bits. IsEncodedBy (format_of S.Flagged) (layout_of S.Flagged) bits x;
-      converts_to_signed = λ x width mode answer exact. IsToSigned (format_of S.Flagged)
-          mode width x answer.value (bits_of answer.status) exact;
-      converts_to_unsigned = λ x width mode answer exact. IsToUnsigned
-          (format_of S.Flagged) mode width x answer.value (bits_of answer.status) exact;
-      can_compare_magnitudes = AreFiniteNonZero;
-      magnitude_order = compared_magnitudes;
-      same = same_datum;
-      sign_of = is_negative;
-      denormal = is_denormal (format_of S.Flagged);
-      signals = is_signaling_nan (format_of S.Flagged);
-      category_of = category_of;
-      is_whole = is_integer (format_of S.Flagged);
-      inverts = IsExactInverse (format_of S.Flagged);
-      has_exponent = λ x exponent. IsIlogb (format_of S.Flagged) x exponent;
-      scales = λ x places mode value. IsScaling (format_of S.Flagged) mode x places value;
-      has_fraction = λ x mode value exponent. IsFrexp (format_of S.Flagged) x value exponent;
-    } };
+    ghost meaning = { format_meaning (format_of S.Flagged) (layout_of S.Flagged) };
 
     #[inline]
     fn zero() -> Self {

@@ -8,13 +8,14 @@ ghost use Rattle.apfloat_model.specs.rounding.Flags.{Gives, bits_of};
 ghost use Rattle.apfloat_model.specs.formats.Members.{IsMember};
 ghost use Rattle.apfloat_model.specs.texts.Parsing.{without_status};
 ghost use Rattle.apfloat_pair_theory.specs.PairFormats.{double};
-ghost use Rattle.apfloat_pair_theory.specs.Pairs.{Pair, negated_pair, pair_category, pair_of, IsPairEncodedBy};
+ghost use Rattle.apfloat_pair_theory.specs.Pairs.{Pair, pair_category};
 ghost use Rattle.apfloat_pair_theory.specs.PairSums.{IsPairSum, IsPairDifference};
 ghost use Rattle.apfloat_pair_theory.specs.PairProducts.{IsPairProduct};
-ghost use Rattle.apfloat_pair_theory.specs.PairParts.{compared_pair_magnitudes, is_denormal_pair, is_integer_pair, is_negative_pair, is_signaling_pair, pair_infinity, pair_largest, pair_qnan, pair_smallest, pair_smallest_normalized, pair_snan, pair_zero, same_pair, CanComparePairMagnitudes, IsPairFraction, IsPairIlogb, IsPairScaling};
+ghost use Rattle.apfloat_pair_theory.specs.PairParts.{pair_zero};
 ghost use Rattle.apfloat_pair_theory.specs.PairAccuracy.{HasPlainStatus, IsAccurateDifference, IsAccurateProduct, IsAccurateSum, IsErrorFreeDifference, IsErrorFreeProduct, IsErrorFreeSum, IsExactNearestRemainder, IsExactQuotient, IsExactTruncatedRemainder};
-ghost use Rattle.apfloat_pair_theory.specs.PairCalls.{IsPairExactInverse, IsPairFromSigned, IsPairFromUnsigned, IsPairNearestRemainder, IsPairNextDown, IsPairNextUp, IsPairQuotient, IsPairRead, IsPairRoundToIntegral, IsPairToSigned, IsPairToUnsigned, IsPairTruncatedRemainder};
+ghost use Rattle.apfloat_pair_theory.specs.PairCalls.{IsPairNearestRemainder, IsPairQuotient, IsPairRead, IsPairTruncatedRemainder};
 ghost use Rattle.apfloat_pair_theory.proofs.calls.PairsDetermined.{pairs_determined};
+ghost use Rattle.apfloat_pairs.specs.PairMeaning.{pair_meaning};
 ghost use Rattle.apfloat_pair_theory.proofs.calls.SignedPairs.{pair_signed_above, pair_signed_below, pair_to_signed_above, pair_to_signed_below};
 
 use crate::order::compare_magnitudes;
@@ -71,46 +72,7 @@ impl Float for DoubleFloat {
 
     ghost MULTIPLIES = { true };
 
-    ghost meaning = { record {
-      the_zero = pair_zero;
-      the_infinity = pair_infinity;
-      quiet_nan_of = pair_qnan;
-      signaling_nan_of = pair_snan;
-      the_largest = pair_largest;
-      the_smallest = pair_smallest;
-      the_smallest_normalized = pair_smallest_normalized;
-      adds = λ x y round answer. Gives (IsPairSum round x y) answer;
-      subtracts = λ x y round answer. Gives (IsPairDifference round x y) answer;
-      multiplies = λ x y round answer. Gives (IsPairProduct round x y) answer;
-      divides = λ x y round answer. Gives (IsPairQuotient round x y) answer;
-      leaves_nearest = λ x y answer. Gives (IsPairNearestRemainder x y) answer;
-      leaves = λ x y answer. Gives (IsPairTruncatedRemainder x y) answer;
-      rounds_to_integral = λ x round answer. Gives (IsPairRoundToIntegral round x) answer;
-      steps_up = λ x answer. Gives (IsPairNextUp x) answer;
-      steps_down = λ x answer. Gives (IsPairNextDown x) answer;
-      negated = negated_pair;
-      value_of_bits = pair_of;
-      converts_signed = λ number round answer. Gives (IsPairFromSigned round number) answer;
-      converts_unsigned = λ number round answer. Gives (IsPairFromUnsigned round number) answer;
-      reads = λ text round answer. IsPairRead round text answer;
-      writes_bits = λ x bits. IsPairEncodedBy bits x;
-      converts_to_signed = λ x width round answer exact. IsPairToSigned round width x
-          answer.value (bits_of answer.status) exact;
-      converts_to_unsigned = λ x width round answer exact.
-          IsPairToUnsigned round width x answer.value (bits_of answer.status) exact;
-      can_compare_magnitudes = CanComparePairMagnitudes;
-      magnitude_order = compared_pair_magnitudes;
-      same = same_pair;
-      sign_of = is_negative_pair;
-      denormal = is_denormal_pair;
-      signals = is_signaling_pair;
-      category_of = pair_category;
-      is_whole = is_integer_pair;
-      inverts = IsPairExactInverse;
-      has_exponent = IsPairIlogb;
-      scales = λ x places round value. IsPairScaling round x places value;
-      has_fraction = λ x round value exponent. IsPairFraction round x value exponent;
-    } };
+    ghost meaning = { pair_meaning };
 
     #[inline]
     fn zero() -> Self {

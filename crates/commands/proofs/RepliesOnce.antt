@@ -1,5 +1,5 @@
 -- A calculation has only one reply.
-use Rattle.std.proofs.Common.{◌≡◌, ◌≤◌, ℕ, ◌/◌, false, List, Option, Some, None, Result, Ok, Err, nat_le, refl, sym, ap, ◌∙◌, subst}
+use Rattle.std.proofs.Common.{◌≡◌, ◌≤◌, ℕ, ◌/◌, false, List, Some, None, Result, Ok, Err, nat_le, refl, sym, ap, ◌∙◌, subst}
 use Rattle.std.proofs.Math.Path.{subst₂, subst₃}
 use Rattle.std.proofs.lemmas.Bool.{le-leb}
 use Rattle.rustc_apfloat.specs.declared.Round.{Round}
@@ -10,13 +10,13 @@ use Rattle.rustc_apfloat.specs.Flags.{Gives, bits_of}
 use Rattle.rustc_apfloat.specs.Datum.{Datum}
 use Rattle.rustc_apfloat.specs.FusedSums.{IsFusedSum, fused_limit}
 use Rattle.rustc_apfloat.specs.Lawful.{Constants, format_with}
+use Rattle.rustc_apfloat.specs.Meaning.{AreDetermined}
 use Rattle.rustc_apfloat.specs.Readings.{IsRefusal}
 use Rattle.apfloat_model.proofs.Once.{fused_sum_once}
 use Rattle.apfloat_model.proofs.Determined.{gives_once}
 use Rattle.formats_at_run_time.specs.declared.Arithmetic.{Arithmetic}
 use Rattle.formats_at_run_time.specs.Limits.{multiplies}
 use Rattle.formats_at_run_time.specs.OfTwo.{IsOfTwo}
-use Rattle.formats_at_run_time.specs.Once.{AreDetermined}
 use Rattle.formats_at_run_time.specs.Relations.{Relations, in_format, in_pairs}
 use Rattle.formats_at_run_time.specs.ValueKinds.{bits_in, of_format, of_pairs, value_of}
 use Rattle.formats_at_run_time.proofs.OfTwoOnce.{of_two_once}
@@ -29,7 +29,8 @@ use Rattle.commands.specs.Replies.{Reply, line, refused, IsFormatReply, IsFormat
 
 -- the line of a result is the only one
 pub only_line : {A : Type 0} (of_type : Relations A) (answer : StatusAnd A) (bits shown width : ℕ)
-    → of_type.writes_bits answer.value bits → Determines (of_type.writes_bits answer.value) → shown ≡ width
+    → of_type.meaning.writes_bits answer.value bits → Determines (of_type.meaning.writes_bits answer.value)
+    → shown ≡ width
     → IsOnly (IsLineOf of_type width answer) (line bits (shown / 4) (bits_of answer.status))
 only_line of_type answer bits shown width written once shown_is =
     let status = bits_of answer.status in
@@ -55,41 +56,41 @@ only_where {A} of_type width Holds answer reply once answers is_line = record {
 -- ---- the reply to operands, in a type of values
 
 -- an operation on two values has one reply
-pub only_of_two : {A : Type 0} (of_type : Relations A) (inverts : A → Option A → Type 0) (mode : Round)
-    (precision width : ℕ) (arithmetic : Arithmetic) (left right : List ℕ) (x y : ℕ) (a b : A)
-    (answer : StatusAnd A) (reply : Reply)
-    → AreDetermined of_type inverts mode precision width
+pub only_of_two : {A : Type 0} (of_type : Relations A) (mode : Round) (precision width : ℕ)
+    (arithmetic : Arithmetic) (left right : List ℕ) (x y : ℕ) (a b : A) (answer : StatusAnd A) (reply : Reply)
+    → AreDetermined of_type.meaning mode precision width
     → bits_of_word width left ≡ Some x → bits_of_word width right ≡ Some y
-    → a ≡ of_type.value_of_bits x → b ≡ of_type.value_of_bits y → IsOfTwo of_type arithmetic mode a b answer
+    → a ≡ of_type.meaning.value_of_bits x → b ≡ of_type.meaning.value_of_bits y
+    → IsOfTwo of_type arithmetic mode a b answer
     → IsOnly (IsLineOf of_type width answer) reply
     → IsOnly (IsReplyIn of_type width mode (with_two width arithmetic left right)) reply
-only_of_two {A} of_type inverts mode precision width arithmetic left right x y a b answer reply once first second a_is
+only_of_two {A} of_type mode precision width arithmetic left right x y a b answer reply once first second a_is
     b_is answers is_line =
     let of_both = subst₂ (λ (d : A) (e : A). IsOfTwo of_type arithmetic mode d e answer) a_is b_is answers in
     rw (first, second)
     (only_where of_type width (IsResult of_type mode (of_two arithmetic x y)) answer reply
-    (of_two_once of_type inverts mode precision width once arithmetic _ _) of_both is_line)
+    (of_two_once of_type mode precision width once arithmetic _ _) of_both is_line)
 
 -- the conversion of an integer has one reply
-pub only_whole_number : {A : Type 0} (of_type : Relations A) (inverts : A → Option A → Type 0) (mode : Round)
-    (precision width : ℕ) (word : List ℕ) (number : ℕ) (answer : StatusAnd A) (reply : Reply)
-    → AreDetermined of_type inverts mode precision width
-    → whole_number_of word ≡ Some number → of_type.converts_unsigned number mode answer
+pub only_whole_number : {A : Type 0} (of_type : Relations A) (mode : Round) (precision width : ℕ)
+    (word : List ℕ) (number : ℕ) (answer : StatusAnd A) (reply : Reply)
+    → AreDetermined of_type.meaning mode precision width
+    → whole_number_of word ≡ Some number → of_type.meaning.converts_unsigned number mode answer
     → IsOnly (IsLineOf of_type width answer) reply
     → IsOnly (IsReplyIn of_type width mode (with_whole_number word)) reply
-only_whole_number of_type inverts mode precision width word number answer reply once read answers is_line =
+only_whole_number of_type mode precision width word number answer reply once read answers is_line =
     rw (read)
     (only_where of_type width (IsResult of_type mode (from_whole_number number)) answer reply
     (once.of_unsigned number) answers is_line)
 
 -- a text without a fault has one reply
-pub only_text : {A : Type 0} (of_type : Relations A) (inverts : A → Option A → Type 0) (mode : Round)
-    (precision width : ℕ) (text : List ℕ) (answer : StatusAnd A) (reply : Reply)
-    → AreDetermined of_type inverts mode precision width
-    → fault_of text ≡ None → of_type.reads text mode (Ok answer)
+pub only_text : {A : Type 0} (of_type : Relations A) (mode : Round) (precision width : ℕ)
+    (text : List ℕ) (answer : StatusAnd A) (reply : Reply)
+    → AreDetermined of_type.meaning mode precision width
+    → fault_of text ≡ None → of_type.meaning.reads text mode (Ok answer)
     → IsOnly (IsLineOf of_type width answer) reply
     → IsOnly (IsReplyIn of_type width mode (with_text text)) reply
-only_text of_type inverts mode precision width text answer reply once none answers is_line =
+only_text of_type mode precision width text answer reply once none answers is_line =
     rw (none)
     (only_where of_type width (IsResult of_type mode (from_text text)) answer reply
     (λ a b h k. once.reading text (Ok a) (Ok b) h k) answers is_line)

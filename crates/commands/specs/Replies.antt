@@ -36,16 +36,16 @@ digit_count (refused word) = 0
 -- the result of a calculation; a fused sum, which not every type has, has none
 abbrev pub IsResult : {A : Type 0} → Relations A → Round → Calculation → StatusAnd A → Type 0
 IsResult of_type mode (of_two arithmetic x y) answer =
-    IsOfTwo of_type arithmetic mode (of_type.value_of_bits x) (of_type.value_of_bits y) answer
+    IsOfTwo of_type arithmetic mode (of_type.meaning.value_of_bits x) (of_type.meaning.value_of_bits y) answer
 IsResult of_type mode (fused_sum x y z) answer = ⊥
-IsResult of_type mode (from_whole_number n) answer = of_type.converts_unsigned n mode answer
-IsResult of_type mode (from_text text) answer = of_type.reads text mode (Ok answer)
+IsResult of_type mode (from_whole_number n) answer = of_type.meaning.converts_unsigned n mode answer
+IsResult of_type mode (from_text text) answer = of_type.meaning.reads text mode (Ok answer)
 
 -- the bits of a value, and its status
 pub record IsLineOf {A : Type 0} (of_type : Relations A) (width : ℕ) (answer : StatusAnd A)
     (reply : Reply) : Type 0 where
   pub bits : ℕ
-  pub is_encoded : of_type.writes_bits answer.value bits
+  pub is_encoded : of_type.meaning.writes_bits answer.value bits
   pub is : reply ≡ line bits (width / 4) (bits_of answer.status)
 
 -- the line of a result for which the relation holds

@@ -9,4 +9,3 @@ pub mod Relations
 pub mod OfTwo
 pub mod TextReadings
 pub mod TextsRead
-pub mod Once

@@ -17,9 +17,9 @@ has_operation multiplies TruncatedRemainder = true
 
 -- the result of an operation on two values; remainders do not depend on the mode
 abbrev pub IsOfTwo : {A : Type 0} → Relations A → Arithmetic → Round → A → A → StatusAnd A → Type 0
-IsOfTwo of_type Sum mode x y answer = of_type.adds x y mode answer
-IsOfTwo of_type Difference mode x y answer = of_type.subtracts x y mode answer
-IsOfTwo of_type Product mode x y answer = of_type.multiplies x y mode answer
-IsOfTwo of_type Quotient mode x y answer = of_type.divides x y mode answer
-IsOfTwo of_type NearestRemainder mode x y answer = of_type.leaves_nearest x y answer
-IsOfTwo of_type TruncatedRemainder mode x y answer = of_type.leaves x y answer
+IsOfTwo of_type Sum mode x y answer = of_type.meaning.adds x y mode answer
+IsOfTwo of_type Difference mode x y answer = of_type.meaning.subtracts x y mode answer
+IsOfTwo of_type Product mode x y answer = of_type.meaning.multiplies x y mode answer
+IsOfTwo of_type Quotient mode x y answer = of_type.meaning.divides x y mode answer
+IsOfTwo of_type NearestRemainder mode x y answer = of_type.meaning.leaves_nearest x y answer
+IsOfTwo of_type TruncatedRemainder mode x y answer = of_type.meaning.leaves x y answer

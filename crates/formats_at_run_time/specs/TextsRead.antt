@@ -6,12 +6,12 @@ use Rattle.formats_at_run_time.specs.Relations.{in_format, in_pairs}
 use Rattle.formats_at_run_time.specs.TextReadings.{ReadsTexts}
 
 -- formats read these texts
-pub format_reads : (constants : Constants) → ReadsTexts (in_format constants).reads
+pub format_reads : (constants : Constants) → ReadsTexts (in_format constants).meaning.reads
 format_reads constants text mode (Ok answer) reading = meaning_no_fault text reading.meaning reading.means
 format_reads constants text mode (Err error) refusal = refusal
 
 -- pairs of doubles are read from these texts
-pub pairs_read : ReadsTexts in_pairs.reads
+pub pairs_read : ReadsTexts in_pairs.meaning.reads
 pairs_read text mode (Ok answer) reading =
     meaning_no_fault text reading.is_value.meaning reading.is_value.means
 pairs_read text mode (Err error) refusal = refusal

@@ -55,6 +55,7 @@ pub use Rattle.apfloat_model.specs.Determined
 pub use Rattle.apfloat_ieee.specs.Types
 pub use Rattle.apfloat_ieee.specs.FlaggedTypes
 pub use Rattle.apfloat_base.specs.Meaning
+pub use Rattle.apfloat_ieee.specs.FormatMeaning
 -- pairs of doubles
 pub use Rattle.apfloat_pair_theory.specs.PairFormats
 pub use Rattle.apfloat_pair_theory.specs.Pairs
@@ -66,3 +67,4 @@ pub use Rattle.apfloat_pair_theory.specs.PairCalls
 pub use Rattle.apfloat_pair_theory.specs.PairRoots
 pub use Rattle.apfloat_pair_theory.specs.PairAnswers
 pub use Rattle.apfloat_pair_theory.specs.PairAccuracy
+pub use Rattle.apfloat_pairs.specs.PairMeaning

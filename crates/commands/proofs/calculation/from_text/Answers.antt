@@ -5,7 +5,7 @@ use Rattle.commands.proofs.calculation.from_text.Goals as goal
 
 pub returns-in-Ok-clause-reply : goal.returns-in-Ok-clause-reply
 returns-in-Ok-clause-reply g c =
-    only_text (relations_of g.F.Float g.F.PartialOrd.partial_cmp g.F.ValueType.takes_root) g.F.Float.meaning.inverts
+    only_text (relations_of g.F.Float g.F.PartialOrd.partial_cmp g.F.ValueType.takes_root)
     c.args.round g.F.Float.PRECISION g.F.Float.BITS c.args.text.now _ _ (g.met.F.Float.determined c.args.round)
     (g.met.F.ValueType.reads_texts c.args.text.now c.args.round (Ok c.in-Ok.answer) c.in-Ok.ensures)
     c.in-Ok.ensures c.line.ensures.line
