@@ -28,7 +28,7 @@ pub record Relations (A : Type 0) : Type 1 where
 -- from the ghost members of `Float`, the order of `PartialOrd`, and the square root of `ValueType`
 abbrev pub relations_of : {X : Type 0} → Ghosts X → (X → X → Option Ordering)
     → (X → Round → StatusAnd X → Type 0) → Relations X
-relations_of g order takes_root = record { meaning = g.meaning; order = order; takes_root = takes_root; }
+relations_of g order takes_root = record { meaning = g.meaning; order = order; takes_root = takes_root }
 
 -- the relations of a format
 abbrev pub in_format : Constants → Relations Datum
