@@ -34,8 +34,8 @@ pub record IsFlagless {A : Type 0} (meaning : Meaning A) (value : A) (answer : A
   pub status_is : answer.status ≡ 0
   pub number_is : answer.number ≡ pos 0
 
-abbrev pub IsFlaglessAnswer : {A : Type 0} → Meaning A → (order : A → A → Option Ordering) → FlaglessCall → Answer
-    → Type 0
+abbrev pub IsFlaglessAnswer : {A : Type 0} → Meaning A → (order : A → A → Option Ordering) → FlaglessCall
+    → Answer → Type 0
 IsFlaglessAnswer m order (Negation x) answer = IsFlagless m (m.negated (m.value_of_bits x)) answer
 IsFlaglessAnswer m order (AbsoluteValue x) answer =
     let value = m.value_of_bits x in
