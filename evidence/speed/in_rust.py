@@ -78,9 +78,9 @@ def main():
 
 def built(crate):
     """The program, as cargo builds it for a user of the crate."""
-    folder = ROOT / "rust" / "target" / "in_rust"
+    folder = ROOT / "target" / "in_rust"
     folder.mkdir(parents=True, exist_ok=True)
-    library = ROOT / "rust" / "rustc_apfloat"
+    library = ROOT
     (folder / "Cargo.toml").write_text(MANIFEST.format(program=HERE / "in_rust.rs", library=library))
     flags = f"--extern theirs={crate} -Ldependency={crate.parent} -Ldependency={crate.parent / 'deps'} {FLAGS}"
     environment = os.environ | {"RUSTFLAGS": flags, "CARGO_TARGET_DIR": str(folder / "target")}

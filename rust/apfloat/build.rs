@@ -1,15 +1,22 @@
 //! Erases the crates of the library for C into the folder of the build.
 
-use std::path::{Path, PathBuf};
+#[allow(dead_code)]
+#[path = "../erase/lib.rs"]
+mod erase;
+
+use std::path::Path;
 use std::process::exit;
 
 fn main() {
-    let crates: PathBuf = Path::new(&variable("CARGO_MANIFEST_DIR")).join("../../crates");
+    // Cargo runs this in the folder of the package.
+    let crates = Path::new("../../crates");
     let names: Vec<&str> = erase::LIBRARY.iter().chain(erase::FOR_C).copied().collect();
+    println!("cargo::rerun-if-changed=../erase");
+    println!("cargo::rerun-if-changed=build.rs");
     for name in &names {
         println!("cargo::rerun-if-changed={}", crates.join(name).join("src").display());
     }
-    if let Err(refusal) = erase::erase(&crates, &names, Path::new(&variable("OUT_DIR"))) {
+    if let Err(refusal) = erase::erase(crates, &names, Path::new(&variable("OUT_DIR"))) {
         println!("cargo::error={refusal}");
         exit(1);
     }

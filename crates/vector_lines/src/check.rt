@@ -10,9 +10,7 @@ use crate::row_error::RowError;
 use crate::summary::Summary;
 use crate::testfloat::TestFloat;
 use commands::Progress;
-use std::alloc::{AllocError, Allocator, Global};
 use std::io::{BufRead, ErrorKind, Write};
-use std::rt::Clock;
 use std::{fmt, io, str};
 
 /// Lines read between two readings of the clock.
@@ -26,7 +24,6 @@ const BYTE_ORDER_MARK: &[u8] = b"\xef\xbb\xbf";
 pub struct Check<M> {
     // What checks the rows of calls.
     calls: M,
-    alloc: Global,
     tally: Tally,
     task: Task,
     summary: Summary,
@@ -94,12 +91,12 @@ impl Lines {
     }
 
     /// Counts a line under its call and its format.
-    fn count(self, text: &str, agrees: bool, summary: &mut Summary) -> Result<(), AllocError> {
+    fn count(self, text: &str, agrees: bool, summary: &mut Summary) {
         match self {
             Lines::Rows => summary.count_row(text, agrees),
             Lines::TestFloat(function) => function.count(agrees, summary),
             Lines::Fpgen(fpgen) => fpgen.count(text, agrees, summary),
-            Lines::Unknown => Ok(()),
+            Lines::Unknown => {}
         }
     }
 }
@@ -111,13 +108,12 @@ fn is_option(word: &str) -> bool {
 
 impl<M: Calls> Check<M> {
     /// A check before the first line.
-    pub fn new(calls: M, task: Task, alloc: Global) -> Check<M> {
+    pub fn new(calls: M, task: Task) -> Check<M> {
         Check {
             calls,
-            alloc,
             tally: Tally::default(),
             task,
-            summary: Summary::new(alloc),
+            summary: Summary::new(),
         }
     }
 
@@ -128,16 +124,14 @@ impl<M: Calls> Check<M> {
 
     /// Checks the lines of an input to its end. Differences and malformed lines are written to `out`, and progress, if
     /// it is shown, to `err`. The buffer for a line, as long as the longest one, is allocated from `alloc`.
-    pub fn take<R: BufRead, A: Allocator, C: Clock, W: Write, V: Write>(
+    pub fn take<R: BufRead, W: Write, V: Write>(
         &mut self,
         input: &mut R,
-        alloc: A,
-        clock: &C,
         out: &mut W,
         err: &mut V,
     ) -> Result<(), Failure> {
-        let mut progress = Progress::new(self.task.shows_progress, clock);
-        let mut line = Vec::new(alloc);
+        let mut progress = Progress::new(self.task.shows_progress);
+        let mut line = Vec::new();
         for _ in 0..u64::MAX {
             line.clear();
             match read_line(input, &mut line) {
@@ -149,7 +143,7 @@ impl<M: Calls> Check<M> {
             if self.is_limit_reached() {
                 break;
             }
-            self.report_progress(&mut progress, clock, err);
+            self.report_progress(&mut progress, err);
         }
         Ok(())
     }
@@ -171,12 +165,12 @@ impl<M: Calls> Check<M> {
     }
 
     /// Says how far a long check has come, if it is time to say so. A failure of this write is harmless.
-    fn report_progress<C: Clock, V: Write>(&self, progress: &mut Progress, clock: &C, err: &mut V) {
+    fn report_progress<V: Write>(&self, progress: &mut Progress, err: &mut V) {
         let lines = self.tally.lines();
         if lines % LINES != 0 {
             return;
         }
-        if let Some(seconds) = progress.due(clock) {
+        if let Some(seconds) = progress.due() {
             let _ = writeln!(err, "check_vectors: {lines} lines after {seconds} seconds");
         }
     }
@@ -290,7 +284,7 @@ impl<M: Calls> Check<M> {
         text: &str,
         out: &mut W,
     ) -> Result<(), Failure> {
-        let wrong = row.wrong_reply(self.alloc)?;
+        let wrong = row.wrong_reply()?;
         if wrong.is_some()
             && let Some(error) = row.width_fault()
         {
@@ -318,7 +312,7 @@ impl<M: Calls> Check<M> {
             increment(&mut self.tally.differing);
         }
         if self.task.is_summary {
-            self.task.lines.count(text, agrees, &mut self.summary)?;
+            self.task.lines.count(text, agrees, &mut self.summary);
             return Ok(false);
         }
         if !agrees {
@@ -346,7 +340,7 @@ impl<M: Calls> Check<M> {
 }
 
 /// Reads a line with its newline. Returns its length in bytes, which is 0 at the end of the input.
-fn read_line<R: BufRead, A: Allocator>(input: &mut R, line: &mut Vec<u8, A>) -> io::Result<usize> {
+fn read_line<R: BufRead>(input: &mut R, line: &mut Vec<u8>) -> io::Result<usize> {
     let available = match input.fill_buf() {
         Ok(available) => available,
         Err(error) => match error.kind() {
@@ -358,7 +352,7 @@ fn read_line<R: BufRead, A: Allocator>(input: &mut R, line: &mut Vec<u8, A>) -> 
     let Some(end) = available.iter().position(|byte| *byte == b'\n') else {
         return input.read_until(b'\n', line);
     };
-    line.extend_from_slice(&available[..=end])?;
+    line.extend_from_slice(&available[..=end]);
     input.consume(end + 1);
     Ok(end + 1)
 }

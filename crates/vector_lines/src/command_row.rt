@@ -7,7 +7,6 @@ use crate::widths::mask;
 use commands::{agrees, bits_of, run};
 use formats_at_run_time::{CommandKind, mode_named};
 use rustc_apfloat::Flags;
-use std::alloc::{AllocError, Global};
 use std::{io, str};
 
 /// The form of a reply, for messages.
@@ -81,9 +80,9 @@ impl<'a> CommandRow<'a> {
     }
 
     /// The reply to the command, with its newline, unless it is the expected one.
-    pub fn wrong_reply(self, alloc: Global) -> io::Result<Option<Vec<u8>>> {
-        let words = self.words(alloc)?;
-        let given = reply_to(alloc, words.as_slice())?;
+    pub fn wrong_reply(self) -> io::Result<Option<Vec<u8>>> {
+        let words = self.words();
+        let given = reply_to(words.as_slice())?;
         if has_result(given.as_slice(), self.reply) {
             return Ok(None);
         }
@@ -91,20 +90,20 @@ impl<'a> CommandRow<'a> {
     }
 
     /// The words of the command.
-    fn words(self, alloc: Global) -> Result<Vec<String>, AllocError> {
-        let mut words = Vec::new(alloc);
+    fn words(self) -> Vec<String> {
+        let mut words = Vec::new();
         for word in self.command.split(' ') {
             let word = if word == "\"\"" { "" } else { word };
-            words.push(String::from_str(alloc, word)?)?;
+            words.push(word.to_owned());
         }
-        Ok(words)
+        words
     }
 }
 
 /// The reply to a command, with its newline.
-fn reply_to(alloc: Global, words: &[String]) -> io::Result<Vec<u8>> {
-    let mut line = Vec::new(alloc);
-    let mut refusal = Vec::new(alloc);
+fn reply_to(words: &[String]) -> io::Result<Vec<u8>> {
+    let mut line = Vec::new();
+    let mut refusal = Vec::new();
     // A write to memory fails only for lack of memory.
     if run(words, &mut line, &mut refusal) == 1 {
         return Err(io::Error::from(io::ErrorKind::OutOfMemory));

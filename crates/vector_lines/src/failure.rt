@@ -1,6 +1,5 @@
 //! Failures that end a check before the end of its input.
 
-use std::alloc::AllocError;
 use std::{fmt, io};
 
 /// The failure that ended a check.
@@ -39,12 +38,6 @@ impl From<io::Error> for Failure {
             io::ErrorKind::OutOfMemory => Failure::Memory,
             _ => Failure::Output(error),
         }
-    }
-}
-
-impl From<AllocError> for Failure {
-    fn from(_: AllocError) -> Failure {
-        Failure::Memory
     }
 }
 

@@ -33,7 +33,7 @@ impl FewerDigits {
     }
 
     /// Makes a call in the format.
-    pub fn run<C: CallInFormat + Drop>(self, call: C) -> C::Output {
+    pub fn run<C: CallInFormat>(self, call: C) -> C::Output {
         match self {
             FewerDigits::Single => call.made_in::<IeeeFlags<X87SingleS>>(),
             FewerDigits::SingleTinyBefore => call.made_in::<IeeeFlags<TinyBefore<X87SingleS>>>(),

@@ -89,7 +89,7 @@ impl MachineFormat {
     }
 
     /// Makes a call in the format, with the flags of the built-in formats: there are seven copies of it.
-    pub fn run_plain<C: CallInFormat + Drop>(self, call: C) -> C::Output {
+    pub fn run_plain<C: CallInFormat>(self, call: C) -> C::Output {
         match self.format {
             IeeeFormat::Half => call.made_in::<HalfS>(),
             IeeeFormat::Single => call.made_in::<SingleS>(),

@@ -7,7 +7,6 @@ use crate::request::Calls;
 use crate::testfloat::TestFloat;
 use commands::{About, WrongWord, write_fault};
 use std::io::{BufRead, BufReader, BufWriter, ErrorKind, Read, Write};
-use std::rt::{Clock, Files};
 use std::{fs, io};
 
 const PROGRAM: &str = "check_vectors";
@@ -110,9 +109,8 @@ static OPTIONS_OF_FPGEN: &[&str] = &[
 
 /// Runs the program with the arguments from the system, without its own name. If `err` is a terminal, it is told how
 /// far a long check has come. Returns the exit status.
-pub fn run<M: Calls, R: Files + Clock + Input + AllocGlobal, W: Write, V: Write>(
+pub fn run<M: Calls, W: Write, V: Write>(
     calls: M,
-    rt: &R,
     given: io::Result<Vec<String>>,
     is_terminal: bool,
     out: &mut W,
@@ -126,7 +124,6 @@ pub fn run<M: Calls, R: Files + Clock + Input + AllocGlobal, W: Write, V: Write>
         Ok(Job::Check(task, file)) => {
             check_input(
                 calls,
-                rt,
                 file,
                 task.showing_progress(is_terminal),
                 out,
@@ -327,55 +324,46 @@ fn answer<W: Write, V: Write>(about: About, out: &mut W, err: &mut V) -> u8 {
 }
 
 /// Checks the lines of a file, or of standard input. Returns the exit status.
-fn check_input<M: Calls, R: Files + Clock + Input + AllocGlobal, W: Write, V: Write>(
+fn check_input<M: Calls, W: Write, V: Write>(
     calls: M,
-    rt: &R,
     file: Option<&str>,
     task: Task,
     out: &mut W,
     err: &mut V,
 ) -> u8 {
     let Some(name) = file else {
-        return check_reader(calls, rt, "standard input", rt.reader(), task, out, err);
+        return check_reader(calls, "standard input", io::stdin(), task, out, err);
     };
-    match fs::open(rt, name) {
-        Ok(file) => check_reader(calls, rt, name, file, task, out, err),
+    match fs::File::open(name) {
+        Ok(file) => check_reader(calls, name, file, task, out, err),
         Err(error) => report(name, &Failure::of_input("open", error), err),
     }
 }
 
 /// Checks the lines from a reader; messages call it `name`. Returns the exit status.
-fn check_reader<M: Calls, R: Clock + AllocGlobal, I: Read + Drop, W: Write, V: Write>(
+fn check_reader<M: Calls, I: Read, W: Write, V: Write>(
     calls: M,
-    rt: &R,
     name: &str,
     reader: I,
     task: Task,
     out: &mut W,
     err: &mut V,
 ) -> u8 {
-    match BufReader::new(rt.alloc(), reader) {
-        Ok(mut input) => check_lines(calls, rt, name, &mut input, task, out, err),
-        Err(error) => report(name, &Failure::of_input("open", error), err),
-    }
+    check_lines(calls, name, &mut BufReader::new(reader), task, out, err)
 }
 
 /// Checks the lines of an input; messages call it `name`. Returns the exit status.
-pub fn check_lines<M: Calls, R: Clock + AllocGlobal, B: BufRead, W: Write, V: Write>(
+pub fn check_lines<M: Calls, B: BufRead, W: Write, V: Write>(
     calls: M,
-    rt: &R,
     name: &str,
     input: &mut B,
     task: Task,
     out: &mut W,
     err: &mut V,
 ) -> u8 {
-    let mut out = match BufWriter::new(rt.alloc(), out) {
-        Ok(out) => out,
-        Err(error) => return report(name, &Failure::from(error), err),
-    };
-    let mut check = Check::new(calls, task, rt.alloc());
-    let ended = check.take(input, rt.alloc(), rt, &mut out, err);
+    let mut out = BufWriter::new(out);
+    let mut check = Check::new(calls, task);
+    let ended = check.take(input, &mut out, err);
     if let Err(Failure::Output(error)) = ended {
         return report(name, &Failure::Output(error), err);
     }

@@ -111,7 +111,7 @@ impl RowFormat {
     }
 
     /// Makes a call in the format, with the flags of the built-in formats.
-    pub fn run_plain<C: CallInFormat + Drop>(self, call: C) -> C::Output {
+    pub fn run_plain<C: CallInFormat>(self, call: C) -> C::Output {
         match self {
             RowFormat::BuiltIn(format, _) => format.run(WithBits(call)),
             RowFormat::Other(format) => format.run(call),
@@ -119,7 +119,7 @@ impl RowFormat {
     }
 
     /// Makes a call in the format.
-    pub fn run<C: CallInFormat + Drop>(self, call: C) -> C::Output {
+    pub fn run<C: CallInFormat>(self, call: C) -> C::Output {
         match self {
             RowFormat::BuiltIn(_, format) => format.run(WithBits(call)),
             RowFormat::Other(format) => format.run(call),
@@ -166,7 +166,7 @@ fn built_in_named(word: &str) -> Option<RowFormat> {
 
 impl OtherFormat {
     /// Makes a call in the format.
-    pub fn run<C: CallInFormat + Drop>(self, call: C) -> C::Output {
+    pub fn run<C: CallInFormat>(self, call: C) -> C::Output {
         match self {
             OtherFormat::Fallback => call.made_in::<FallbackS>(),
             OtherFormat::FallbackExtended => call.made_in::<FallbackExtendedS>(),

@@ -1,6 +1,5 @@
 //! The counts of agreeing and differing rows, by call and format.
 
-use std::alloc::{AllocError, Global};
 use std::collections::BTreeMap;
 use std::io;
 use std::io::Write;
@@ -8,7 +7,6 @@ use std::io::Write;
 /// The counts by call and format, in the order in which these first occur.
 #[derive(Drop)]
 pub struct Summary {
-    alloc: Global,
     groups: Vec<Group>,
     // The group of the last row, which is tried first for the next one.
     last: usize,
@@ -27,30 +25,28 @@ struct Group {
 
 impl Summary {
     /// No rows yet.
-    pub fn new(alloc: Global) -> Summary {
+    pub fn new() -> Summary {
         Summary {
-            alloc,
-            groups: Vec::new(alloc),
+            groups: Vec::new(),
             last: 0,
-            places: BTreeMap::new(alloc),
+            places: BTreeMap::new(),
         }
     }
 
     /// Counts a row.
-    pub fn count_row(&mut self, text: &str, is_agreeing: bool) -> Result<(), AllocError> {
+    pub fn count_row(&mut self, text: &str, is_agreeing: bool) {
         let (call, format) = names_of(text);
         self.count(call, format, is_agreeing)
     }
 
     /// Counts a row of a call in a format.
-    pub fn count(&mut self, call: &str, format: &str, is_agreeing: bool) -> Result<(), AllocError> {
+    pub fn count(&mut self, call: &str, format: &str, is_agreeing: bool) {
         if !self.is_last(call, format) {
-            self.last = self.place_of(call, format)?;
+            self.last = self.place_of(call, format);
         }
         if let Some(group) = self.groups.get_mut(self.last) {
             group.count(is_agreeing);
         }
-        Ok(())
     }
 
     /// Whether the last row was of a call in a format.
@@ -62,17 +58,15 @@ impl Summary {
     }
 
     /// The index of the group of a call in a format, which is added if it does not exist.
-    fn place_of(&mut self, call: &str, format: &str) -> Result<usize, AllocError> {
-        let mut name = String::from_str(self.alloc, call)?;
-        name.push('\t')?;
-        name.push_str(format)?;
+    fn place_of(&mut self, call: &str, format: &str) -> usize {
+        let name = std::format!("{call}\t{format}");
         if let Some(place) = self.places.get(name.as_str()) {
-            return Ok(*place);
+            return *place;
         }
         let place = self.groups.len();
-        self.groups.push(Group::new(self.alloc, call, format)?)?;
-        self.places.insert(name, place)?;
-        Ok(place)
+        self.groups.push(Group::new(call, format));
+        let _ = self.places.insert(name, place);
+        place
     }
 
     /// Writes a line for each group.
@@ -91,13 +85,13 @@ impl Summary {
 
 impl Group {
     /// No rows yet of a call in a format.
-    fn new(alloc: Global, call: &str, format: &str) -> Result<Group, AllocError> {
-        Ok(Group {
-            call: String::from_str(alloc, call)?,
-            format: String::from_str(alloc, format)?,
+    fn new(call: &str, format: &str) -> Group {
+        Group {
+            call: call.to_owned(),
+            format: format.to_owned(),
             agreeing: 0,
             differing: 0,
-        })
+        }
     }
 
     /// Counts a row.

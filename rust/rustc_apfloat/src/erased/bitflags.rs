@@ -6,6 +6,16 @@ pub struct Flag<B: 'static> {
     pub value: B,
 }
 
+impl<B: 'static> Flag<B> {
+    pub fn name(&self) -> &'static str {
+        self.name
+    }
+
+    pub fn value(&self) -> &B {
+        &self.value
+    }
+}
+
 /// A set of flags in the bits of an integer.
 pub trait Flags: Copy + 'static {
     type Bits;
@@ -15,6 +25,18 @@ pub trait Flags: Copy + 'static {
     fn bits(&self) -> u8;
 
     fn from_bits_retain(bits: u8) -> Self;
+
+    fn is_empty(&self) -> bool {
+        self.bits() == 0
+    }
+
+    fn contains(&self, other: Self) -> bool {
+        other.bits() & !self.bits() == 0
+    }
+
+    fn from_name(name: &str) -> Option<Self> {
+        Self::flags().iter().find(|flag| flag.name == name).map(|flag| flag.value)
+    }
 
     #[inline]
     fn union(self, other: Self) -> Self {

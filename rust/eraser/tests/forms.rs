@@ -305,7 +305,8 @@ fn clauses_of_unknown_forms_are_refused() {
     is_refused("fn f() ensures { a // b\n } {}\n", 1, "a comment in a clause");
     is_refused("fn f() ensures { a -- b\n } {}\n", 1, "a comment in a clause");
     is_refused("fn f() ensures { (a ] } {}\n", 1, "closes no bracket");
-    is_refused("fn f() ensures { \"a\\n\" } {}\n", 1, "a string of an unknown form");
+    becomes("fn f() ensures { \"a\\n\" } {}\n", "fn f()  {}\n");
+    is_refused("fn f() ensures { \"a\\t\" } {}\n", 1, "a string of an unknown form");
     is_refused("fn f() ensures { a\n", 1, "without its end");
     is_refused("fn f() {\n    let g = |x: u8| requires { x < 2 } { x };\n}\n", 2, "outside the head of a function");
     is_refused("struct P { requires: u8 }\n", 1, "without its braces");
@@ -403,4 +404,20 @@ fn ranges_without_an_end_are_refused() {
 fn a_refusal_names_the_file_and_the_line() {
     let refusal = erase_text("fn f() {}\nstatic S: u8 = 1;\n", "apfloat_base").unwrap_err();
     assert_eq!(refusal.to_string(), "apfloat_base:2: `static`: a static");
+}
+
+#[test]
+fn ends_of_lines_may_be_those_of_windows() {
+    let erased = erase_text("fn f()\r\n    ensures { 1 }\r\n{}\r\n", "apfloat_base").unwrap();
+    assert_eq!(erased, "fn f()\n    \n{}\n");
+    is_refused("fn f() {}\r", 1, "the character '\\r'");
+}
+
+#[test]
+fn programs_have_the_standard_library() {
+    let text = "use std::{fs, io};\npub static KNOWN: &[(u8, Kind)] = &[(1, Kind { a: 2 })];\n\
+        fn f<W: io::Write>(words: &[String], out: &mut W) -> io::Result<()> {\n    writeln!(out, \"{}\", words.len())\n}\n";
+    assert_eq!(erase_text(text, "explain").unwrap(), text);
+    is_refused(text, 1, "`std::fs` is not known");
+    assert!(erase_text("fn f(rt: HostRuntime) {}\n", "explain").unwrap_err().why.contains("a handle of the runtime"));
 }

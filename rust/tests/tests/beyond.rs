@@ -556,7 +556,7 @@ fn examples_of_the_pages() {
     let here = env!("CARGO_MANIFEST_DIR");
     for (page, module) in [("STORAGE_FORMATS", "storage_formats"), ("SMALL_FORMATS", "finite_formats")] {
         let page = std::fs::read_to_string(format!("{here}/../../docs/{page}.md")).unwrap();
-        let module = std::fs::read_to_string(format!("{here}/src/{module}.rs")).unwrap();
+        let module = std::fs::read_to_string(format!("{here}/../rustc_apfloat/src/{module}.rs")).unwrap();
         let compiled: String =
             module.lines().map(|line| line.trim_start_matches("//!").trim_start().to_owned() + "\n").collect();
         let example = page.split("```rust\n").nth(1).unwrap().split("```").next().unwrap();

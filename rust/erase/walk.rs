@@ -1,8 +1,10 @@
 //! One file: its tokens, each kept, left out or replaced.
 
-use crate::forms::{ATTRIBUTES, Attribute, DERIVED, FMT, MACROS, MODEL, NUMBERS, PROVED, REFUSED, STD};
-use crate::refusal::Fault;
-use crate::tokens::{Kind, Token, tokens};
+use super::forms::{
+    ATTRIBUTES, Attribute, DERIVED, FMT, MACROS, MACROS_OF_PROGRAMS, MODEL, NUMBERS, OF_PROGRAMS, PROVED, REFUSED, STD,
+};
+use super::refusal::Fault;
+use super::tokens::{Kind, Token, tokens};
 use std::collections::HashMap;
 
 /// A file without its contracts.
@@ -26,6 +28,8 @@ pub(crate) struct Place<'a> {
     pub crates: &'a [&'a str],
     /// The modules of this crate that are left out.
     pub without: &'a [&'a str],
+    /// Whether it is of a program, which has the standard library.
+    pub of_program: bool,
 }
 
 /// What is between the innermost brackets.
@@ -278,6 +282,7 @@ impl<'a> Walk<'a, '_> {
             (Within::Items, "struct" | "enum") => Ok(Within::Fields),
             (Within::Fields, "enum") => Ok(Within::Fields),
             (Within::Items, "const") => Ok(Within::Code),
+            (Within::Items | Within::Group, "static") if self.place.of_program => Ok(Within::Code),
             _ => self.fault(at, "a brace that begins no known item"),
         }
     }
@@ -309,6 +314,9 @@ impl<'a> Walk<'a, '_> {
     /// Refuses the words that stand only in forms that are known.
     fn known_word(&self, at: usize) -> Result<(), Fault> {
         let word = self.text(at);
+        if self.place.of_program && OF_PROGRAMS.contains(&word) {
+            return Ok(());
+        }
         match REFUSED.iter().find(|(refused, _)| *refused == word) {
             Some((_, why)) => self.fault(at, format!("`{word}`: {why}")),
             None => Ok(()),
@@ -325,7 +333,8 @@ impl<'a> Walk<'a, '_> {
     /// takes first, if it uses one.
     fn known_macro(&self, at: usize) -> Result<(), Fault> {
         let name = self.text(at);
-        if !MACROS.contains(&name) && !self.defined.contains(&name) {
+        let of_program = self.place.of_program && MACROS_OF_PROGRAMS.contains(&name);
+        if !of_program && !MACROS.contains(&name) && !self.defined.contains(&name) {
             return self.fault(at, format!("the macro `{name}!`"));
         }
         if self.takers.contains(&name) { self.known_macro(at + 3) } else { Ok(()) }
@@ -347,6 +356,7 @@ impl<'a> Walk<'a, '_> {
             }
             "fn" => self.function(at),
             "const" | "type" | "struct" | "enum" | "trait" => Ok(at + 1),
+            "static" if self.place.of_program => Ok(at + 1),
             "impl" => self.implementation(at),
             "use" => self.import(at),
             "mod" if self.text(at + 2) == ";" && self.place.without.contains(&self.text(at + 1)) => {
@@ -371,7 +381,7 @@ impl<'a> Walk<'a, '_> {
             return Ok(at + form.len());
         }
         let generics = self.after_generics(at + 2)?;
-        if (at..generics).any(|i| self.text(i) == "Write") {
+        if !self.place.of_program && (at..generics).any(|i| self.text(i) == "Write") {
             return self.fault(at, "a function that is generic in what it writes to");
         }
         Ok(at + 1)
@@ -528,6 +538,7 @@ impl<'a> Walk<'a, '_> {
         }
         let begins = self.text(at + 1) == "::";
         match word {
+            "std" if begins && self.place.of_program => {}
             "std" if begins => {
                 let mut path = String::from("std");
                 let mut end = at + 1;
@@ -567,6 +578,7 @@ impl<'a> Walk<'a, '_> {
         self.item = "";
         let first = self.text(at + 1);
         match first {
+            "std" if self.place.of_program => {}
             "std" => self.import_std(at, end)?,
             "crate" if self.text(at + 2) == "::" => {
                 self.replace(at + 1, format!("{}::{}", self.place.root, self.place.name));

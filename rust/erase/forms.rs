@@ -72,6 +72,9 @@ pub(crate) const NUMBERS: [&str; 10] = ["i8", "i16", "i32", "i64", "isize", "u8"
 /// The macros that are the same in both languages, and those that the library's crates export.
 pub(crate) const MACROS: [&str; 5] = ["bitflag_items", "matches", "unpack", "unreachable", "write"];
 
+/// Those that programs use too.
+pub(crate) const MACROS_OF_PROGRAMS: [&str; 3] = ["format", "println", "writeln"];
+
 /// Assertions that are proved, as Rust's that are tested in a debug build.
 pub(crate) const PROVED: [(&str, &str); 3] =
     [("prove", "debug_assert"), ("prove_eq", "debug_assert_eq"), ("prove_ne", "debug_assert_ne")];
@@ -101,6 +104,10 @@ pub(crate) const REFUSED: [(&str, &str); 22] = [
     ("async", "no form of the proved language"),
     ("dyn", "a value without its type"),
 ];
+
+/// Those of these words that stand in programs, which have the standard library. What is passed an allocator there does
+/// not compile in Rust.
+pub(crate) const OF_PROGRAMS: [&str; 3] = ["String", "Vec", "static"];
 
 /// How `fmt` is written in the proved language, and in Rust. The former is generic in what it writes to.
 pub(crate) const FMT: (&[&str], &str) = (

@@ -1,6 +1,6 @@
 //! A text as tokens. Clauses, which have words and characters of their own, are one token each.
 
-use crate::refusal::Fault;
+use super::refusal::Fault;
 
 /// What a token is.
 #[derive(Clone, Copy, Debug, PartialEq, Eq)]
@@ -255,7 +255,8 @@ impl<'a> Reader<'a> {
     }
 
     /// The length of a text of the logic: a bracket with all in it, or, with an `end`, all before that outside of
-    /// brackets. A string in it may have any character but a backslash; comments and single quotes are not known.
+    /// brackets. A string in it may have any character, and of
+    /// those after a backslash an `n`; comments and single quotes are not known.
     fn logic(&self, end: &str) -> Result<usize, Fault> {
         let rest = self.rest();
         let mut open = Vec::new();
@@ -277,10 +278,20 @@ impl<'a> Reader<'a> {
                         return Ok(at + 1);
                     }
                 }
-                '"' => match rest[at + 1..].find(['"', '\\', '\n']) {
-                    Some(more) if rest[at + 1 + more..].starts_with('"') => at += more + 1,
-                    _ => return Fault::new(line_at(at), "a string of an unknown form in a clause"),
-                },
+                '"' => {
+                    // The only escape is that of a newline.
+                    let mut end = at + 1;
+                    loop {
+                        match rest[end..].find(['"', '\\', '\n']).map(|more| end + more) {
+                            Some(quote) if rest[quote..].starts_with('"') => {
+                                at = quote;
+                                break;
+                            }
+                            Some(escape) if rest[escape..].starts_with("\\n") => end = escape + 2,
+                            _ => return Fault::new(line_at(at), "a string of an unknown form in a clause"),
+                        }
+                    }
+                }
                 '\'' | '\\' | '`' | '\r' => {
                     return Fault::new(line_at(at), format!("the character {c:?} in a clause"));
                 }

@@ -1,0 +1,35 @@
+//! Erases the crates of the programs into the folder of the build.
+
+#[allow(dead_code)]
+#[path = "../erase/lib.rs"]
+mod erase;
+
+use std::path::Path;
+use std::process::exit;
+
+/// What the programs use of the crates that the library for C has above the library.
+const ABOVE: [&str; 7] = [
+    "apfloat_encoded",
+    "rustc_apfloat",
+    "formats_at_run_time",
+    "lane_conversions",
+    "saturating_conversions",
+    "array_conversions",
+    "storage_arrays",
+];
+
+fn main() {
+    // Cargo runs this in the folder of the package.
+    let crates = Path::new("../../crates");
+    let names: Vec<&str> = [erase::LIBRARY, &ABOVE, erase::PROGRAMS].concat();
+    println!("cargo::rerun-if-changed=../erase");
+    println!("cargo::rerun-if-changed=build.rs");
+    for name in &names {
+        println!("cargo::rerun-if-changed={}", crates.join(name).join("src").display());
+    }
+    let out = std::env::var("OUT_DIR").unwrap_or_default();
+    if let Err(refusal) = erase::erase(crates, &names, Path::new(&out)) {
+        println!("cargo::error={refusal}");
+        exit(1);
+    }
+}

@@ -1,0 +1,8 @@
+//! The crates without their contracts, a module each. `build.rs` makes them.
+// What only other crates of the repository use is unused here, and so is a parameter that only contracts name.
+#![allow(dead_code, missing_docs, unused_imports, unused_macros, unused_variables, clippy::all)]
+
+#[path = "../../rustc_apfloat/src/erased/bitflags.rs"]
+pub mod bitflags;
+
+include!(concat!(env!("OUT_DIR"), "/erased.rs"));

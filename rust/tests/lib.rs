@@ -1,0 +1,1 @@
+//! Tests of the crate `rustc_apfloat`, in `tests/`.
