@@ -62,6 +62,9 @@ pub(crate) const STD: [&str; 18] = [
     "std::marker::Model",
 ];
 
+/// Those that programs use beside them. `core` has none of these, so in a program `std` stays.
+pub(crate) const STD_OF_PROGRAMS: [&str; 3] = ["std::io", "std::io::ErrorKind", "std::io::Write"];
+
 /// The trait by which contracts see a type. Its import is left out, and so is `impl Model for ..`, which has ghost
 /// members alone.
 pub(crate) const MODEL: &str = "std::marker::Model";
@@ -72,8 +75,8 @@ pub(crate) const NUMBERS: [&str; 10] = ["i8", "i16", "i32", "i64", "isize", "u8"
 /// The macros that are the same in both languages, and those that the library's crates export.
 pub(crate) const MACROS: [&str; 5] = ["bitflag_items", "matches", "unpack", "unreachable", "write"];
 
-/// Those that programs use too.
-pub(crate) const MACROS_OF_PROGRAMS: [&str; 3] = ["format", "println", "writeln"];
+/// Those that programs use beside them.
+pub(crate) const MACROS_OF_PROGRAMS: [&str; 1] = ["writeln"];
 
 /// Assertions that are proved, as Rust's that are tested in a debug build.
 pub(crate) const PROVED: [(&str, &str); 3] =
@@ -105,9 +108,8 @@ pub(crate) const REFUSED: [(&str, &str); 22] = [
     ("dyn", "a value without its type"),
 ];
 
-/// Those of these words that stand in programs, which have the standard library. What is passed an allocator there does
-/// not compile in Rust.
-pub(crate) const OF_PROGRAMS: [&str; 3] = ["String", "Vec", "static"];
+/// Those of these words that programs use. What is passed an allocator there does not compile in Rust.
+pub(crate) const WORDS_OF_PROGRAMS: [&str; 3] = ["String", "Vec", "static"];
 
 /// How `fmt` is written in the proved language, and in Rust. The former is generic in what it writes to.
 pub(crate) const FMT: (&[&str], &str) = (

@@ -59,14 +59,32 @@ pub const FOR_C: &[&str] = &[
     "apfloat_c",
 ];
 
-/// The crates of programs, which have the standard library. Of one without a `lib.rt` only the modules are taken: its
-/// `main` is passed a handle of the runtime, and whoever builds it writes another one.
-pub const PROGRAMS: &[&str] = &["commands", "custom_formats", "explain", "vector_lines", "call_rows", "check_vectors"];
+/// The crates that the program `vectors` is made of, lowest first: the last one is the program but for its `main`.
+pub const VECTORS: &[&str] = &[
+    "apfloat_model",
+    "apfloat_words",
+    "apfloat_base",
+    "apfloat_pair_theory",
+    "apfloat_rounding",
+    "apfloat_arithmetic",
+    "apfloat_conversions",
+    "apfloat_format_of",
+    "apfloat_hex_texts",
+    "apfloat_ieee",
+    "apfloat_formats",
+    "apfloat_pairs",
+    "rustc_apfloat",
+    "formats_at_run_time",
+    "commands",
+];
+
+/// The crates that have the standard library, since they are of programs.
+pub const OF_PROGRAMS: &[&str] = &["commands"];
 
 /// Modules that are left out, since no call of the erased crates uses them: streams are converted in buffers that a
-/// program has allocated.
+/// program has allocated, and a clock and the words of the command line come from a handle of the runtime.
 const WITHOUT: [(&str, &[&str]); 2] =
-    [("array_conversions", &["block_call", "conversion"]), ("commands", &["system_words"])];
+    [("array_conversions", &["block_call", "conversion"]), ("commands", &["progress", "system_words"])];
 
 /// The crates that are not of the repository: whoever builds the erased ones writes a module in place of each.
 const GIVEN: [&str; 1] = ["bitflags"];
@@ -82,7 +100,7 @@ pub fn erase(crates: &Path, names: &[&str], out: &Path) -> Result<(), Refusal> {
     let mut modules = String::new();
     for &name in names {
         let place =
-            Place { name, root: ROOT, crates: &known, without: without(name), of_program: PROGRAMS.contains(&name) };
+            Place { name, root: ROOT, crates: &known, without: without(name), of_program: OF_PROGRAMS.contains(&name) };
         let (source, target) = (crates.join(name).join("src"), out.join(name));
         let macros = write_module(&place, &source, &target, &[])?;
         let uses: String = macros
@@ -102,7 +120,7 @@ pub fn erase(crates: &Path, names: &[&str], out: &Path) -> Result<(), Refusal> {
 pub fn erase_text(text: &str, name: &str) -> Result<String, Refusal> {
     let known: Vec<&str> = LIBRARY.iter().chain(FOR_C).chain(&GIVEN).copied().collect();
     let place =
-        Place { name, root: ROOT, crates: &known, without: without(name), of_program: PROGRAMS.contains(&name) };
+        Place { name, root: ROOT, crates: &known, without: without(name), of_program: OF_PROGRAMS.contains(&name) };
     erased(text, &place, Path::new(name)).map(|erased| erased.text)
 }
 
@@ -111,12 +129,9 @@ fn without(name: &str) -> &'static [&'static str] {
 }
 
 fn erased(text: &str, place: &Place<'_>, file: &Path) -> Result<Erased, Refusal> {
-    // A checkout may end its lines as Windows does. Rust reads such an end as a newline, in strings too.
-    walk::erase(&text.replace("\r\n", "\n"), place).map_err(|fault| Refusal {
-        file: file.to_owned(),
-        line: fault.line,
-        why: fault.why,
-    })
+    // Where lines end as on Windows, Rust reads a newline, in strings too.
+    let text = text.replace("\r\n", "\n");
+    walk::erase(&text, place).map_err(|fault| Refusal { file: file.to_owned(), line: fault.line, why: fault.why })
 }
 
 /// A macro and the module that exports it.
@@ -126,10 +141,7 @@ type Exported = (Vec<String>, String);
 fn write_module(place: &Place<'_>, source: &Path, target: &Path, module: &[String]) -> Result<Vec<Exported>, Refusal> {
     let path: PathBuf = if module.is_empty() { "lib".into() } else { module.iter().collect() };
     let file = source.join(&path).with_extension("rt");
-    let text = match fs::read_to_string(&file) {
-        Err(_) if place.of_program && module.is_empty() => modules_of(&source.join("main.rt"))?,
-        text => text.map_err(|error| failed(&file, &error))?,
-    };
+    let text = fs::read_to_string(&file).map_err(|error| failed(&file, &error))?;
     let erased = erased(&text, place, &file)?;
     write(&target.join(&path).with_extension("rs"), &erased.text)?;
     let mut macros: Vec<Exported> = erased.macros.into_iter().map(|name| (module.to_vec(), name)).collect();
@@ -139,12 +151,6 @@ fn write_module(place: &Place<'_>, source: &Path, target: &Path, module: &[Strin
         macros.extend(write_module(place, source, target, &inner)?);
     }
     Ok(macros)
-}
-
-/// The modules that a program declares, as a text that has nothing else.
-fn modules_of(file: &Path) -> Result<String, Refusal> {
-    let text = fs::read_to_string(file).map_err(|error| failed(file, &error))?;
-    Ok(text.lines().filter(|line| line.starts_with("mod ")).map(|line| format!("pub {line}\n")).collect())
 }
 
 fn write(file: &Path, text: &str) -> Result<(), Refusal> {

@@ -255,8 +255,8 @@ impl<'a> Reader<'a> {
     }
 
     /// The length of a text of the logic: a bracket with all in it, or, with an `end`, all before that outside of
-    /// brackets. A string in it may have any character, and of
-    /// those after a backslash an `n`; comments and single quotes are not known.
+    /// brackets. A string in it may have any character, but a backslash only before an `n`; comments and single quotes
+    /// are not known.
     fn logic(&self, end: &str) -> Result<usize, Fault> {
         let rest = self.rest();
         let mut open = Vec::new();
@@ -278,20 +278,10 @@ impl<'a> Reader<'a> {
                         return Ok(at + 1);
                     }
                 }
-                '"' => {
-                    // The only escape is that of a newline.
-                    let mut end = at + 1;
-                    loop {
-                        match rest[end..].find(['"', '\\', '\n']).map(|more| end + more) {
-                            Some(quote) if rest[quote..].starts_with('"') => {
-                                at = quote;
-                                break;
-                            }
-                            Some(escape) if rest[escape..].starts_with("\\n") => end = escape + 2,
-                            _ => return Fault::new(line_at(at), "a string of an unknown form in a clause"),
-                        }
-                    }
-                }
+                '"' => match string_length(&rest[at..]) {
+                    Some(length) => at += length - 1,
+                    None => return Fault::new(line_at(at), "a string of an unknown form in a clause"),
+                },
                 '\'' | '\\' | '`' | '\r' => {
                     return Fault::new(line_at(at), format!("the character {c:?} in a clause"));
                 }
@@ -304,6 +294,19 @@ impl<'a> Reader<'a> {
             at += c.len_utf8();
         }
         self.fault("a clause without its end")
+    }
+}
+
+/// The length of the string of the logic that a text begins with, with its quotes. Its only escape is `\n`.
+fn string_length(text: &str) -> Option<usize> {
+    let mut end = 1;
+    loop {
+        end += text[end..].find(['"', '\\', '\n'])?;
+        match text.as_bytes()[end] {
+            b'"' => return Some(end + 1),
+            b'\\' if text[end..].starts_with("\\n") => end += 2,
+            _ => return None,
+        }
     }
 }
 

@@ -1,7 +1,8 @@
 //! One file: its tokens, each kept, left out or replaced.
 
 use super::forms::{
-    ATTRIBUTES, Attribute, DERIVED, FMT, MACROS, MACROS_OF_PROGRAMS, MODEL, NUMBERS, OF_PROGRAMS, PROVED, REFUSED, STD,
+    ATTRIBUTES, Attribute, DERIVED, FMT, MACROS, MACROS_OF_PROGRAMS, MODEL, NUMBERS, PROVED, REFUSED, STD,
+    STD_OF_PROGRAMS, WORDS_OF_PROGRAMS,
 };
 use super::refusal::Fault;
 use super::tokens::{Kind, Token, tokens};
@@ -28,7 +29,7 @@ pub(crate) struct Place<'a> {
     pub crates: &'a [&'a str],
     /// The modules of this crate that are left out.
     pub without: &'a [&'a str],
-    /// Whether it is of a program, which has the standard library.
+    /// Whether the crate is of a program, and has the standard library.
     pub of_program: bool,
 }
 
@@ -282,7 +283,6 @@ impl<'a> Walk<'a, '_> {
             (Within::Items, "struct" | "enum") => Ok(Within::Fields),
             (Within::Fields, "enum") => Ok(Within::Fields),
             (Within::Items, "const") => Ok(Within::Code),
-            (Within::Items | Within::Group, "static") if self.place.of_program => Ok(Within::Code),
             _ => self.fault(at, "a brace that begins no known item"),
         }
     }
@@ -314,10 +314,8 @@ impl<'a> Walk<'a, '_> {
     /// Refuses the words that stand only in forms that are known.
     fn known_word(&self, at: usize) -> Result<(), Fault> {
         let word = self.text(at);
-        if self.place.of_program && OF_PROGRAMS.contains(&word) {
-            return Ok(());
-        }
         match REFUSED.iter().find(|(refused, _)| *refused == word) {
+            Some(_) if self.place.of_program && WORDS_OF_PROGRAMS.contains(&word) => Ok(()),
             Some((_, why)) => self.fault(at, format!("`{word}`: {why}")),
             None => Ok(()),
         }
@@ -333,8 +331,8 @@ impl<'a> Walk<'a, '_> {
     /// takes first, if it uses one.
     fn known_macro(&self, at: usize) -> Result<(), Fault> {
         let name = self.text(at);
-        let of_program = self.place.of_program && MACROS_OF_PROGRAMS.contains(&name);
-        if !of_program && !MACROS.contains(&name) && !self.defined.contains(&name) {
+        let is_of_programs = self.place.of_program && MACROS_OF_PROGRAMS.contains(&name);
+        if !is_of_programs && !MACROS.contains(&name) && !self.defined.contains(&name) {
             return self.fault(at, format!("the macro `{name}!`"));
         }
         if self.takers.contains(&name) { self.known_macro(at + 3) } else { Ok(()) }
@@ -538,7 +536,6 @@ impl<'a> Walk<'a, '_> {
         }
         let begins = self.text(at + 1) == "::";
         match word {
-            "std" if begins && self.place.of_program => {}
             "std" if begins => {
                 let mut path = String::from("std");
                 let mut end = at + 1;
@@ -578,7 +575,6 @@ impl<'a> Walk<'a, '_> {
         self.item = "";
         let first = self.text(at + 1);
         match first {
-            "std" if self.place.of_program => {}
             "std" => self.import_std(at, end)?,
             "crate" if self.text(at + 2) == "::" => {
                 self.replace(at + 1, format!("{}::{}", self.place.root, self.place.name));
@@ -618,7 +614,7 @@ impl<'a> Walk<'a, '_> {
                 self.leave_out(at, end + 1);
                 return Ok(());
             }
-            if !STD.contains(&base.as_str()) {
+            if !self.is_in_std(&base) {
                 return self.fault(at, format!("`{base}` is not known to be the same in Rust"));
             }
         }
@@ -626,7 +622,7 @@ impl<'a> Walk<'a, '_> {
             match self.text(i) {
                 "," => {}
                 "}" if i + 1 == end => {}
-                name if self.is_word(i) && STD.contains(&format!("{base}{name}").as_str()) => {
+                name if self.is_word(i) && self.is_in_std(&format!("{base}{name}")) => {
                     if format!("{base}{name}") == MODEL {
                         let comma = self.text(i + 1) == ",";
                         self.leave_out(i, if comma { i + 2 } else { i + 1 });
@@ -635,8 +631,15 @@ impl<'a> Walk<'a, '_> {
                 name => return self.fault(i, format!("`{base}{name}` is not known to be the same in Rust")),
             }
         }
-        self.replace(at + 1, "core");
+        if !self.place.of_program {
+            self.replace(at + 1, "core");
+        }
         Ok(())
+    }
+
+    /// Whether an item of `std` is the same in both languages.
+    fn is_in_std(&self, path: &str) -> bool {
+        STD.contains(&path) || self.place.of_program && STD_OF_PROGRAMS.contains(&path)
     }
 
     /// `#[..]` and `#![..]`.

@@ -1,9 +1,10 @@
-//! Erases the library's crates into the folder of the build.
+//! Erases the crates of the library into the folder of the build, and into a folder there those of the program `vectors`.
 
 #[allow(dead_code)]
 #[path = "../erase/lib.rs"]
 mod erase;
 
+use erase::{LIBRARY, VECTORS};
 use std::path::Path;
 use std::process::exit;
 
@@ -13,10 +14,12 @@ fn main() {
     let out = std::env::var("OUT_DIR").unwrap_or_default();
     println!("cargo::rerun-if-changed=rust/erase");
     println!("cargo::rerun-if-changed=rust/rustc_apfloat/build.rs");
-    for name in erase::LIBRARY {
+    for name in LIBRARY.iter().chain(VECTORS) {
         println!("cargo::rerun-if-changed={}", crates.join(name).join("src").display());
     }
-    if let Err(refusal) = erase::erase(crates, erase::LIBRARY, Path::new(&out)) {
+    let vectors = Path::new(&out).join("vectors");
+    let erased = erase::erase(crates, LIBRARY, Path::new(&out)).and_then(|()| erase::erase(crates, VECTORS, &vectors));
+    if let Err(refusal) = erased {
         println!("cargo::error={refusal}");
         exit(1);
     }

@@ -252,6 +252,10 @@ fn paths_are_of_one_crate() {
 fn functions_are_rewritten() {
     becomes("trait T {\n    final fn f() {}\n}\n", "trait T {\n     fn f() {}\n}\n");
     becomes(
+        "trait T: Copy {\n    /// The same.\n    #[inline]\n    final fn f(self) -> Self\n        ensures { result ≡ self }\n    {\n        self\n    }\n}\n",
+        "trait T: Copy {\n    /// The same.\n    #[inline]\n     fn f(self) -> Self\n        \n    {\n        self\n    }\n}\n",
+    );
+    becomes(
         "impl fmt::Display for P {
     fn fmt<W: fmt::Write>(&self, f: &mut fmt::Formatter<W>) -> fmt::Result {
         write!(f, \"\")
@@ -349,6 +353,7 @@ fn items_that_are_unknown_are_refused() {
     is_refused("fn f(x: P) -> P { x.clone() }\n", 1, "`clone`");
     is_refused("fn f(rt: &HostRuntime) {}\n", 1, "`HostRuntime`");
     is_refused("final struct P;\n", 1, "`final`");
+    is_refused("trait T {\n    final const N: u8;\n}\n", 2, "`final`");
     is_refused("pub(in crate::a) fn f() {}\n", 1, "a visibility");
     is_refused("fn f<W: fmt::Write>(w: &mut W) {}\n", 1, "generic in what it writes to");
 }
@@ -415,9 +420,17 @@ fn ends_of_lines_may_be_those_of_windows() {
 
 #[test]
 fn programs_have_the_standard_library() {
-    let text = "use std::{fs, io};\npub static KNOWN: &[(u8, Kind)] = &[(1, Kind { a: 2 })];\n\
-        fn f<W: io::Write>(words: &[String], out: &mut W) -> io::Result<()> {\n    writeln!(out, \"{}\", words.len())\n}\n";
-    assert_eq!(erase_text(text, "explain").unwrap(), text);
-    is_refused(text, 1, "`std::fs` is not known");
-    assert!(erase_text("fn f(rt: HostRuntime) {}\n", "explain").unwrap_err().why.contains("a handle of the runtime"));
+    let text = "use std::io;\nuse std::io::{ErrorKind, Write};\npub static KNOWN: &[&str] = &[\"a\"];\n\
+        fn f<W: Write>(words: &[String], out: &mut W) -> io::Result<()> {\n    writeln!(out, \"{}\", words.len())\n}\n";
+    assert_eq!(erase_text(text, "commands").unwrap(), text);
+    is_refused(text, 1, "`std::io` is not known");
+    for (text, why) in [
+        ("fn f(rt: HostRuntime) {}\n", "a handle of the runtime"),
+        ("use std::fs;\n", "`std::fs` is not known"),
+        ("fn f() {\n    println!()\n}\n", "the macro `println!`"),
+        ("fn f(x: Box<u8>) {}\n", "is passed its allocator"),
+    ] {
+        let refusal = erase_text(text, "commands").unwrap_err();
+        assert!(refusal.why.contains(why), "{refusal}");
+    }
 }

@@ -44,7 +44,7 @@ fn the_library_is_erased_line_by_line() {
     let crates = Path::new(concat!(env!("CARGO_MANIFEST_DIR"), "/../../crates"));
     let out = Path::new(env!("CARGO_TARGET_TMPDIR")).join("library");
     let _ = fs::remove_dir_all(&out);
-    let names: Vec<&str> = erase::LIBRARY.iter().chain(erase::FOR_C).copied().collect();
+    let names: Vec<&str> = [erase::LIBRARY, erase::FOR_C, erase::OF_PROGRAMS].concat();
     if let Err(refusal) = erase::erase(crates, &names, &out) {
         panic!("{refusal}");
     }
@@ -74,6 +74,30 @@ fn each_crate_stands_above_those_that_it_uses() {
     // None stands there for C that neither the library for C uses nor one below it that stands there.
     let for_c: Vec<&str> = erase::FOR_C.iter().flat_map(|name| used(&lines, name)).collect();
     assert!(erase::FOR_C.iter().all(|name| *name == "apfloat_c" || for_c.contains(name)));
+}
+
+#[test]
+fn the_program_has_each_crate_that_it_uses() {
+    let lines = fs::read_to_string(concat!(env!("CARGO_MANIFEST_DIR"), "/../../crates.txt")).unwrap();
+    for (place, name) in erase::VECTORS.iter().enumerate() {
+        for below in used(&lines, name) {
+            assert!(erase::VECTORS[..place].contains(&below), "{name} uses {below}, which does not stand before it");
+        }
+    }
+}
+
+#[test]
+fn the_package_has_the_crates_that_it_erases() {
+    let manifest = fs::read_to_string(concat!(env!("CARGO_MANIFEST_DIR"), "/../../Cargo.toml")).unwrap();
+    let mut included: Vec<&str> = manifest
+        .lines()
+        .filter_map(|line| line.trim().strip_prefix("\"/crates/")?.strip_suffix("/src/**/*.rt\","))
+        .collect();
+    let mut erased: Vec<&str> = erase::LIBRARY.iter().chain(erase::VECTORS).copied().collect();
+    included.sort_unstable();
+    erased.sort_unstable();
+    erased.dedup();
+    assert_eq!(included, erased);
 }
 
 #[test]

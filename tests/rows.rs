@@ -785,7 +785,7 @@ fn command_row(command: &str, reply: &str) -> Outcome {
 
 #[test]
 fn stored_rows() {
-    let file = concat!(env!("CARGO_MANIFEST_DIR"), "/../../crates/check_vectors/stdin");
+    let file = concat!(env!("CARGO_MANIFEST_DIR"), "/crates/check_vectors/stdin");
     let text = std::fs::read_to_string(file).unwrap();
     let (mut agreed, mut without) = (0, Vec::new());
     let mut differing = Vec::new();

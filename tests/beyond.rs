@@ -83,7 +83,7 @@ fn rows_of<'a>(table: &'a str, separator: &'a str) -> impl Iterator<Item = Vec<&
 
 /// The tables of a file of a crate's tests, by their names.
 fn tables(path: &str) -> Vec<(String, String)> {
-    let file = format!("{}/../../crates/{path}", env!("CARGO_MANIFEST_DIR"));
+    let file = format!("{}/crates/{path}", env!("CARGO_MANIFEST_DIR"));
     let text: String = std::fs::read_to_string(file).unwrap().split_whitespace().collect();
     let tables = text.split("static").skip(1).map(|table| table.split_once(':').unwrap());
     tables.map(|(name, rows)| (name.to_owned(), rows.to_owned())).collect()
@@ -555,8 +555,8 @@ fn order_of_e3m4() {
 fn examples_of_the_pages() {
     let here = env!("CARGO_MANIFEST_DIR");
     for (page, module) in [("STORAGE_FORMATS", "storage_formats"), ("SMALL_FORMATS", "finite_formats")] {
-        let page = std::fs::read_to_string(format!("{here}/../../docs/{page}.md")).unwrap();
-        let module = std::fs::read_to_string(format!("{here}/../rustc_apfloat/src/{module}.rs")).unwrap();
+        let page = std::fs::read_to_string(format!("{here}/docs/{page}.md")).unwrap();
+        let module = std::fs::read_to_string(format!("{here}/rust/rustc_apfloat/src/{module}.rs")).unwrap();
         let compiled: String =
             module.lines().map(|line| line.trim_start_matches("//!").trim_start().to_owned() + "\n").collect();
         let example = page.split("```rust\n").nth(1).unwrap().split("```").next().unwrap();

@@ -1,1 +1,0 @@
-//! Tests of the crate `rustc_apfloat`, in `tests/`.
