@@ -81,8 +81,8 @@ pub const VECTORS: &[&str] = &[
 /// The crates that have the standard library, since they are of programs.
 pub const OF_PROGRAMS: &[&str] = &["commands"];
 
-/// Modules that are left out, since no call of the erased crates uses them: streams are converted in buffers that a
-/// program has allocated, and a clock and the words of the command line come from a handle of the runtime.
+/// Modules that are left out, since no call of the erased crates uses them. They work with handles of the runtime: with
+/// buffers that a program has allocated, its clock, its arguments.
 const WITHOUT: [(&str, &[&str]); 2] =
     [("array_conversions", &["block_call", "conversion"]), ("commands", &["progress", "system_words"])];
 
