@@ -61,12 +61,12 @@ pub const FOR_C: &[&str] = &[
 
 /// The crates of programs, which have the standard library. Of one without a `lib.rt` only the modules are taken: its
 /// `main` is passed a handle of the runtime, and whoever builds it writes another one.
-pub const PROGRAMS: &[&str] = &["commands", "custom_formats", "explain", "vector_lines", "call_rows", "check_vectors"];
+pub const PROGRAMS: &[&str] = &["commands", "custom_formats", "explain", "vector_lines", "call_rows", "check_vectors", "bench"];
 
 /// Modules that are left out, since no call of the erased crates uses them: streams are converted in buffers that a
 /// program has allocated.
 const WITHOUT: [(&str, &[&str]); 2] =
-    [("array_conversions", &["block_call", "conversion"]), ("commands", &["system_words"])];
+    [("array_conversions", &["block_call", "conversion"]), ("commands", &["progress", "system_words"])];
 
 /// The crates that are not of the repository: whoever builds the erased ones writes a module in place of each.
 const GIVEN: [&str; 1] = ["bitflags"];

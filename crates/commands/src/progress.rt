@@ -1,5 +1,6 @@
 //! When a long task reports its progress.
 
+use std::rt::Clock;
 use std::time::Instant;
 
 /// Seconds before the first message, and between two of them.
@@ -14,10 +15,10 @@ pub struct Progress {
 
 impl Progress {
     /// The progress messages of a task that begins now; none if they are not shown, or if there is no clock.
-    pub fn new(is_shown: bool) -> Progress {
+    pub fn new<C: Clock>(is_shown: bool, clock: &C) -> Progress {
         Progress {
             start: if is_shown {
-                Some(Instant::now())
+                Instant::now(clock).ok()
             } else {
                 None
             },
@@ -26,8 +27,8 @@ impl Progress {
     }
 
     /// The seconds since the task began, if a message is due, which then counts as written; otherwise none.
-    pub fn due(&mut self) -> Option<u64> {
-        let seconds = self.start?.elapsed().as_secs();
+    pub fn due<C: Clock>(&mut self, clock: &C) -> Option<u64> {
+        let seconds = self.start?.elapsed(clock).ok()?.as_secs();
         if seconds < self.due {
             return None;
         }
