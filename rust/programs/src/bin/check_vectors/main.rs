@@ -4,11 +4,15 @@
 #![forbid(unsafe_code)]
 
 mod calls;
+mod check;
 #[path = "../../erased.rs"]
 mod erased;
+mod failure;
 mod lines;
+mod program;
 #[path = "../../progress.rs"]
 mod progress;
+mod summary;
 #[path = "../../words.rs"]
 mod words;
 
@@ -18,5 +22,5 @@ use std::process::ExitCode;
 fn main() -> ExitCode {
     let mut err = io::stderr();
     let is_terminal = err.is_terminal();
-    ExitCode::from(lines::run(words::words(), is_terminal, &mut io::stdout(), &mut err))
+    ExitCode::from(program::run(words::words(), is_terminal, &mut io::stdout(), &mut err))
 }

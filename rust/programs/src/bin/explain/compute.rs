@@ -4,18 +4,18 @@
 //! format of 125 digits, rounded downward: the midpoint of two neighbours is a value of that format, and the flag
 //! INEXACT says whether the exact result is above it.
 
-use crate::explanation::{
-    Between, Exact, Explanation, Meaning, NanSource, Operand, Place, Reading, Shown, Side, Widths,
-};
-use crate::grid::Grid;
-use crate::on_machine::{nan_source, on_machine};
-use crate::question::{Operation, Question};
 use crate::erased::apfloat_decimals::{read_decimal, shortest};
 use crate::erased::commands::bits_of;
 use crate::erased::custom_formats::Vast;
 use crate::erased::formats_at_run_time::InFormat;
 use crate::erased::rustc_apfloat::ieee::{Flagged, IeeeFloat, Semantics};
 use crate::erased::rustc_apfloat::{Category, ExpInt, Flags, Float, FloatConvert, Round, Status, StatusAnd};
+use crate::explanation::{
+    Between, Exact, Explanation, Meaning, NanSource, Operand, Place, Reading, Shown, Side, Widths,
+};
+use crate::grid::Grid;
+use crate::on_machine::{nan_source, on_machine};
+use crate::question::{Operation, Question};
 
 /// A computation in a format that is chosen while the program runs.
 #[derive(Clone, Copy)]
@@ -48,10 +48,7 @@ impl<S: Semantics> Clone for Given<S> {
 
 /// The computation in a format, or the word that is not a value.
 fn explained<'a, S: Semantics>(question: Question<'a>) -> Result<Explanation, &'a str> {
-    match values_of::<S>(question.operands) {
-        Ok(operands) => Ok(explanation(question, operands[0], operands[1], operands[2])),
-        Err(word) => Err(word),
-    }
+    values_of::<S>(question.operands).map(|operands| explanation(question, operands[0], operands[1], operands[2]))
 }
 
 /// The values of the words.

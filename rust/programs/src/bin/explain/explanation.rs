@@ -1,8 +1,8 @@
 //! The data of an explanation, independent of the format.
 
-use crate::grid::Grid;
 use crate::erased::apfloat_decimals::Decimal;
 use crate::erased::rustc_apfloat::{ExpInt, Status};
+use crate::grid::Grid;
 
 /// The widths of the fields of an encoding.
 #[derive(Clone, Copy)]

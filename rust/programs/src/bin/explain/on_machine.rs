@@ -1,11 +1,11 @@
 //! Results as machines give them: their NaNs, and the flags of IEEE 754 with the machine's rule of tininess.
 
 use crate::compute::computed;
-use crate::explanation::NanSource;
-use crate::question::Operation;
 use crate::erased::apfloat_machines::{Machine, settled, settled_fused, settled_unary};
 use crate::erased::rustc_apfloat::ieee::{Flagged, IeeeFlags, IeeeFloat, Semantics, TinyBefore};
 use crate::erased::rustc_apfloat::{Float, Round, StatusAnd};
+use crate::explanation::NanSource;
+use crate::question::Operation;
 
 /// The answer of an operation as the machine gives it.
 pub fn on_machine<S: Semantics>(

@@ -1,14 +1,14 @@
 //! Writes an explanation, in lines of at most 80 columns.
 
+use crate::erased::apfloat_decimals::Decimal;
+use crate::erased::apfloat_machines::{FusedOrder, Machine, NanChoice};
+use crate::erased::formats_at_run_time::Arithmetic;
+use crate::erased::rustc_apfloat::{Flags, Round, Status};
 use crate::explanation::{
     Between, Exact, Explanation, Meaning, NanSource, Operand, Place, Reading, Shown, Side, Widths,
 };
 use crate::grid::{Element, Grid};
 use crate::question::{Operation, Question};
-use crate::erased::apfloat_decimals::Decimal;
-use crate::erased::apfloat_machines::{FusedOrder, Machine, NanChoice};
-use crate::erased::formats_at_run_time::Arithmetic;
-use crate::erased::rustc_apfloat::{Flags, Round, Status};
 use std::io;
 use std::io::Write;
 
@@ -16,11 +16,11 @@ use std::io::Write;
 const WAY: u32 = 64;
 
 /// Writes an explanation.
-pub fn write_explanation<W: Write>(
+pub fn write_explanation(
     question: Question,
     explanation: &Explanation,
     in_colour: bool,
-    out: &mut W,
+    out: &mut impl Write,
 ) -> io::Result<()> {
     let widths = explanation.widths;
     if let Operation::Value = question.operation {
@@ -41,7 +41,7 @@ pub fn write_explanation<W: Write>(
 }
 
 /// Writes the operation, its format, its rounding mode, and the machine if there is one.
-fn write_question<W: Write>(question: Question, out: &mut W) -> io::Result<()> {
+fn write_question(question: Question, out: &mut impl Write) -> io::Result<()> {
     let (format, operation) = (question.format_word, name_of(question.operation));
     write!(out, "{format} {operation}, {}", rule_of(question.round))?;
     match question.machine {
@@ -51,7 +51,7 @@ fn write_question<W: Write>(question: Question, out: &mut W) -> io::Result<()> {
 }
 
 /// Writes the operands.
-fn write_operands<W: Write>(widths: Widths, count: usize, explanation: &Explanation, out: &mut W) -> io::Result<()> {
+fn write_operands(widths: Widths, count: usize, explanation: &Explanation, out: &mut impl Write) -> io::Result<()> {
     write_operand(widths, "A", &explanation.operands[0], out)?;
     if count > 1 {
         write_operand(widths, "B", &explanation.operands[1], out)?;
@@ -63,7 +63,7 @@ fn write_operands<W: Write>(widths: Widths, count: usize, explanation: &Explanat
 }
 
 /// Writes an operand: its value, and how its word was read.
-fn write_operand<W: Write>(widths: Widths, name: &str, operand: &Operand, out: &mut W) -> io::Result<()> {
+fn write_operand(widths: Widths, name: &str, operand: &Operand, out: &mut impl Write) -> io::Result<()> {
     write_shown(widths, name, &operand.value, out)?;
     match operand.reading {
         Reading::Only => {}
@@ -106,7 +106,7 @@ fn rule_of(round: Round) -> &'static str {
 }
 
 /// Writes a value: its bits and its shortest decimal, its fields, and what it is exactly.
-fn write_shown<W: Write>(widths: Widths, name: &str, shown: &Shown, out: &mut W) -> io::Result<()> {
+fn write_shown(widths: Widths, name: &str, shown: &Shown, out: &mut impl Write) -> io::Result<()> {
     write_head(widths, name, shown, out)?;
     write!(out, "        ")?;
     write_fields(widths, shown.bits, out)?;
@@ -116,7 +116,7 @@ fn write_shown<W: Write>(widths: Widths, name: &str, shown: &Shown, out: &mut W)
 }
 
 /// Writes the bits of a value and its shortest decimal, on separate lines if there are 128 bits.
-fn write_head<W: Write>(widths: Widths, name: &str, shown: &Shown, out: &mut W) -> io::Result<()> {
+fn write_head(widths: Widths, name: &str, shown: &Shown, out: &mut impl Write) -> io::Result<()> {
     write!(out, "{name:<7} ")?;
     write_digits(shown.bits, widths.bits.div_ceil(4), 4, out)?;
     out.write_all(if widths.bits > 80 { b"\n        " } else { b" = " })?;
@@ -125,7 +125,7 @@ fn write_head<W: Write>(widths: Widths, name: &str, shown: &Shown, out: &mut W) 
 }
 
 /// Writes the shortest decimal of a number, or the word for another value.
-fn write_decimal<W: Write>(shown: &Shown, out: &mut W) -> io::Result<()> {
+fn write_decimal(shown: &Shown, out: &mut impl Write) -> io::Result<()> {
     match shown.decimal {
         Some(decimal) => write!(out, "{decimal}"),
         None => write!(out, "{}{}", sign_of(shown), word_of(shown.meaning)),
@@ -147,7 +147,7 @@ fn word_of(meaning: Meaning) -> &'static str {
 }
 
 /// Writes the lowest `count` digits of a number, in base 2 or 16.
-fn write_digits<W: Write>(number: u128, count: u32, width: u32, out: &mut W) -> io::Result<()> {
+fn write_digits(number: u128, count: u32, width: u32, out: &mut impl Write) -> io::Result<()> {
     for place in 0..count {
         let below = (count - 1 - place).saturating_mul(width);
         let digit = number.checked_shr(below).unwrap_or(0) % (1 << width.min(4));
@@ -158,7 +158,7 @@ fn write_digits<W: Write>(number: u128, count: u32, width: u32, out: &mut W) -> 
 
 /// Writes the fields of an encoding: the sign and the biased exponent in binary digits, and the digits of the
 /// significand, in hexadecimal if they are more than 52.
-fn write_fields<W: Write>(widths: Widths, bits: u128, out: &mut W) -> io::Result<()> {
+fn write_fields(widths: Widths, bits: u128, out: &mut impl Write) -> io::Result<()> {
     let rest = widths.bits.saturating_sub(1).saturating_sub(widths.exponent);
     write_digits(bits.checked_shr(widths.bits.saturating_sub(1)).unwrap_or(0), 1, 1, out)?;
     write!(out, " ")?;
@@ -168,7 +168,7 @@ fn write_fields<W: Write>(widths: Widths, bits: u128, out: &mut W) -> io::Result
 }
 
 /// Writes what a value is exactly.
-fn write_meaning<W: Write>(shown: &Shown, out: &mut W) -> io::Result<()> {
+fn write_meaning(shown: &Shown, out: &mut impl Write) -> io::Result<()> {
     let sign = sign_of(shown);
     match shown.meaning {
         Meaning::Zero => write!(out, "{sign}0"),
@@ -183,12 +183,7 @@ fn write_meaning<W: Write>(shown: &Shown, out: &mut W) -> io::Result<()> {
 }
 
 /// Writes where the NaN of a machine's result comes from.
-fn write_nan_source<W: Write>(
-    machine: Machine,
-    operation: Operation,
-    source: NanSource,
-    out: &mut W,
-) -> io::Result<()> {
+fn write_nan_source(machine: Machine, operation: Operation, source: NanSource, out: &mut impl Write) -> io::Result<()> {
     match source {
         NanSource::NoNan => writeln!(out, "No operand is a NaN: the result is the default NaN.\n"),
         NanSource::InvalidProduct => writeln!(out, "An infinity times a zero: the default NaN takes the place of C.\n"),
@@ -225,7 +220,7 @@ fn order_of(machine: Machine) -> &'static str {
 }
 
 /// Writes where the exact result is.
-fn write_place<W: Write>(widths: Widths, round: Round, place: &Place, in_colour: bool, out: &mut W) -> io::Result<()> {
+fn write_place(widths: Widths, round: Round, place: &Place, in_colour: bool, out: &mut impl Write) -> io::Result<()> {
     match place {
         Place::None => Ok(()),
         Place::Exact => writeln!(out, "The exact result is a value of the format.\n"),
@@ -243,7 +238,7 @@ fn write_place<W: Write>(widths: Widths, round: Round, place: &Place, in_colour:
 }
 
 /// Writes an exact result, or its first binary digits if it has more than 125.
-fn write_exact<W: Write>(exact: &Exact, out: &mut W) -> io::Result<()> {
+fn write_exact(exact: &Exact, out: &mut impl Write) -> io::Result<()> {
     let sign = if exact.negative { "-" } else { "" };
     let more = if exact.is_cut { "a little more than " } else { "" };
     match exact.digits {
@@ -255,7 +250,7 @@ fn write_exact<W: Write>(exact: &Exact, out: &mut W) -> io::Result<()> {
 }
 
 /// Draws the line from one neighbour to the next.
-fn write_way<W: Write>(widths: Widths, between: &Between, in_colour: bool, out: &mut W) -> io::Result<()> {
+fn write_way(widths: Widths, between: &Between, in_colour: bool, out: &mut impl Write) -> io::Result<()> {
     let (start, end) = if in_colour { ("\x1b[1;32m", "\x1b[0m") } else { ("", "") };
     let parts = between.parts.min(WAY) as usize;
     write_head(widths, "lower", &between.lower, out)?;
@@ -266,7 +261,7 @@ fn write_way<W: Write>(widths: Widths, between: &Between, in_colour: bool, out: 
 }
 
 /// Writes the numbers of a storage format with the sign of the result, in order, and where A is among them.
-fn write_grid<W: Write>(grid: Grid, out: &mut W) -> io::Result<()> {
+fn write_grid(grid: Grid, out: &mut impl Write) -> io::Result<()> {
     let count = grid.element.count();
     let last = count.saturating_sub(1);
     let negative = grid.taken >= count;
@@ -288,7 +283,7 @@ fn write_grid<W: Write>(grid: Grid, out: &mut W) -> io::Result<()> {
 }
 
 /// Writes that A is between two numbers, or past the last one.
-fn write_between<W: Write>(out: &mut W) -> io::Result<()> {
+fn write_between(out: &mut impl Write) -> io::Result<()> {
     writeln!(out, "        ----------- A")
 }
 
@@ -306,7 +301,7 @@ fn without_zeros(fraction: u32) -> (u32, usize) {
 }
 
 /// Writes a number of a storage format, exactly, and whether it is the result.
-fn write_point<W: Write>(grid: Grid, code: u8, index: u8, negative: bool, out: &mut W) -> io::Result<()> {
+fn write_point(grid: Grid, code: u8, index: u8, negative: bool, out: &mut impl Write) -> io::Result<()> {
     let label = if code == grid.taken { "result" } else { "" };
     let sign = if negative { "-" } else { "" };
     let sixteenths = grid.element.sixteenths(index);
@@ -316,7 +311,7 @@ fn write_point<W: Write>(grid: Grid, code: u8, index: u8, negative: bool, out: &
 }
 
 /// Writes which neighbour is the result, and why.
-fn write_pick<W: Write>(round: Round, between: &Between, out: &mut W) -> io::Result<()> {
+fn write_pick(round: Round, between: &Between, out: &mut impl Write) -> io::Result<()> {
     let place = match between.side {
         Side::Lower => "below the middle",
         Side::Middle => "exactly in the middle",
@@ -340,7 +335,7 @@ fn reason_of(round: Round, side: Side) -> &'static str {
 }
 
 /// Writes the flags, each with the clause of IEEE 754-2019 that defines it.
-fn write_flags<W: Write>(status: Status, in_colour: bool, out: &mut W) -> io::Result<()> {
+fn write_flags(status: Status, in_colour: bool, out: &mut impl Write) -> io::Result<()> {
     if status.is_empty() {
         return writeln!(out, "flags   none");
     }
@@ -356,7 +351,7 @@ fn write_flags<W: Write>(status: Status, in_colour: bool, out: &mut W) -> io::Re
 }
 
 /// Writes the name of a flag and its clause.
-fn write_flag<W: Write>(name: &str, flag: Status, in_colour: bool, out: &mut W) -> io::Result<()> {
+fn write_flag(name: &str, flag: Status, in_colour: bool, out: &mut impl Write) -> io::Result<()> {
     let (start, end) = if in_colour { ("\x1b[1;33m", "\x1b[0m") } else { ("", "") };
     writeln!(out, "{start}{name}{end}: {}", clause_of(flag))
 }

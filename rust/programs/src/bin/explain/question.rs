@@ -1,9 +1,9 @@
 //! The question that the words of a command line ask.
 
-use crate::grid::Element;
 use crate::erased::apfloat_machines::Machine;
 use crate::erased::formats_at_run_time::{Arithmetic, BuiltInFormat, BuiltInKind, IeeeFormat, mode_named};
 use crate::erased::rustc_apfloat::Round;
+use crate::grid::Element;
 
 /// The help; `packaging/manual` makes the man page and the completions of it.
 pub const HELP: &str = "\
@@ -113,10 +113,7 @@ impl Operation {
             "mod" => Some(Operation::OfTwo(Arithmetic::TruncatedRemainder)),
             "fma" => Some(Operation::FusedSum),
             "sqrt" => Some(Operation::SquareRoot),
-            _ => match Element::named(word) {
-                Some(element) => Some(Operation::Into(element)),
-                None => None,
-            },
+            _ => Element::named(word).map(Operation::Into),
         }
     }
 

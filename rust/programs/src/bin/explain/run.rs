@@ -1,9 +1,9 @@
 //! Runs the program.
 
 use crate::compute::Computation;
+use crate::erased::commands::{About, FORMATS, MODES, WrongWord, suggested, write_fault};
 use crate::picture::write_explanation;
 use crate::question::{Fault, HELP, MACHINES, OPERATIONS, OPTIONS, Question};
-use crate::erased::commands::{About, FORMATS, MODES, WrongWord, suggested, write_fault};
 use std::io;
 use std::io::{ErrorKind, Write};
 
@@ -31,7 +31,7 @@ const OTHER_WORDS: u8 = 2;
 const NO_MEMORY: u8 = 3;
 
 /// Runs the program with the arguments from the system, and returns its exit status.
-pub fn run<W: Write, V: Write>(given: io::Result<Vec<String>>, in_colour: bool, out: &mut W, err: &mut V) -> u8 {
+pub fn run(given: io::Result<Vec<String>>, in_colour: bool, out: &mut impl Write, err: &mut impl Write) -> u8 {
     match given {
         Ok(words) => answer(words.as_slice(), in_colour, out, err).unwrap_or(FAILED),
         Err(error) => refuse_words(error, err).unwrap_or(FAILED),
@@ -39,7 +39,7 @@ pub fn run<W: Write, V: Write>(given: io::Result<Vec<String>>, in_colour: bool, 
 }
 
 /// The exit status, or the error of a write.
-fn answer<W: Write, V: Write>(words: &[String], in_colour: bool, out: &mut W, err: &mut V) -> io::Result<u8> {
+fn answer(words: &[String], in_colour: bool, out: &mut impl Write, err: &mut impl Write) -> io::Result<u8> {
     if let Some(about) = About::among(words) {
         about.answer(PROGRAM, HELP, out)?;
         return Ok(0);
@@ -59,13 +59,13 @@ fn answer<W: Write, V: Write>(words: &[String], in_colour: bool, out: &mut W, er
 }
 
 /// Reports why there is nothing to explain.
-fn refuse<V: Write>(fault: Fault, err: &mut V) -> io::Result<u8> {
+fn refuse(fault: Fault, err: &mut impl Write) -> io::Result<u8> {
     write_refusal(fault, err)?;
     Ok(OTHER_WORDS)
 }
 
 /// Writes why there is nothing to explain.
-fn write_refusal<V: Write>(fault: Fault, err: &mut V) -> io::Result<()> {
+fn write_refusal(fault: Fault, err: &mut impl Write) -> io::Result<()> {
     match fault {
         Fault::TooFew => write_fault(PROGRAM, "too few words", err),
         Fault::TooMany => write_fault(PROGRAM, "too many operands", err),
@@ -87,13 +87,13 @@ fn write_refusal<V: Write>(fault: Fault, err: &mut V) -> io::Result<()> {
 }
 
 /// Writes that nothing of this kind has the word, and the words that there are.
-fn write_unknown<V: Write>(kind: &str, word: &str, words: &str, known: &[&'static str], err: &mut V) -> io::Result<()> {
+fn write_unknown(kind: &str, word: &str, words: &str, known: &[&'static str], err: &mut impl Write) -> io::Result<()> {
     write!(err, "explain: no {kind} '{word}' ({words})")?;
     suggest(word, known, err)
 }
 
 /// Ends a line about a wrong word, with the word that was meant if it is one edit away.
-fn suggest<V: Write>(word: &str, known: &[&'static str], err: &mut V) -> io::Result<()> {
+fn suggest(word: &str, known: &[&'static str], err: &mut impl Write) -> io::Result<()> {
     match suggested(word, known) {
         Some(meant) => writeln!(err, "; did you mean '{meant}'?"),
         None => writeln!(err),
@@ -101,7 +101,7 @@ fn suggest<V: Write>(word: &str, known: &[&'static str], err: &mut V) -> io::Res
 }
 
 /// Reports why there are no arguments.
-fn refuse_words<V: Write>(error: io::Error, err: &mut V) -> io::Result<u8> {
+fn refuse_words(error: io::Error, err: &mut impl Write) -> io::Result<u8> {
     match error.kind() {
         ErrorKind::OutOfMemory => {
             writeln!(err, "explain: no memory for the words")?;

@@ -1,10 +1,10 @@
 //! Conversions with storage formats that saturate: those of an array of one value.
 
-use crate::lines::{RowAnswer, SaturateCall, ValueField};
 use crate::erased::array_conversions::{Counts, Extended, number_of};
 use crate::erased::rustc_apfloat::{Flags, Round, Status};
 use crate::erased::saturating_conversions::{FiniteNan, Overflow};
 use crate::erased::storage_arrays::{Ends, StorageArray};
+use crate::lines::{RowAnswer, SaturateCall, ValueField};
 
 /// What a number that overflows, an infinity and a NaN become.
 pub(crate) fn overflow_of(call: SaturateCall) -> Overflow {

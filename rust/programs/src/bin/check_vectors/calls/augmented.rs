@@ -1,16 +1,16 @@
 //! Augmented operations (9.5) and payloads of NaNs (9.7).
 
 use crate::calls::in_a_format::{two_values_in, value_in};
-use crate::lines::{
-    Answered, AugmentedCall, CallFault, ExtraField, Operand, Operands, PayloadCall, RowAnswer, RowFormat, StatusField,
-    ValueField,
-};
 use crate::erased::apfloat_augmented::{
     augmented_add, augmented_multiply, augmented_subtract, get_payload, set_payload, set_payload_signaling,
 };
 use crate::erased::formats_at_run_time::{BuiltInFormat, FlaggedFormat, InFormat};
 use crate::erased::rustc_apfloat::Float;
 use crate::erased::rustc_apfloat::ieee::{DoubleS, Flagged, HalfS, IeeeFlags, Semantics, SingleS};
+use crate::lines::{
+    Answered, AugmentedCall, CallFault, ExtraField, Operand, Operands, PayloadCall, RowAnswer, RowFormat, StatusField,
+    ValueField,
+};
 
 /// What an augmented operation returns in a format. It is made of several others, which are inlined, so rows can name
 /// three formats alone, with the flags of IEEE 754.

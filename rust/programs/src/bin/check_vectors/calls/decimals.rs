@@ -3,13 +3,13 @@
 //! The value of a row is that of `read_decimal`, or the text of a decimal as `Display` writes it.
 
 use crate::calls::in_a_format::{rounded_in, value_in};
-use crate::lines::{
-    Answered, CallFault, DecimalCall, ExtraField, Operand, Request, RowAnswer, RowFormat, Text, ValueField,
-};
 use crate::erased::apfloat_decimals::{Decimal, exact, read_decimal, rounded, shortest};
 use crate::erased::formats_at_run_time::{FlaggedFormat, InFormat};
 use crate::erased::rustc_apfloat::Round;
 use crate::erased::rustc_apfloat::ieee::{IeeeFloat, Semantics};
+use crate::lines::{
+    Answered, CallFault, DecimalCall, ExtraField, Operand, Request, RowAnswer, RowFormat, Text, ValueField,
+};
 use std::fmt::Write as _;
 
 /// What a call of decimals returns in a format, if that is a built-in one with the flags of the built-in formats.
@@ -68,7 +68,7 @@ fn rounded_columns<S: Semantics>(x: IeeeFloat<S>, count: Operand, round: Round) 
     let Ok(count) = u32::try_from(count) else {
         return Err(CallFault::Operands);
     };
-    if count < 1 || count > 36 {
+    if !(1..=36).contains(&count) {
         return Err(CallFault::Operands);
     }
     match rounded(x, count, round) {

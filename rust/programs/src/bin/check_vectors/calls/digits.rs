@@ -3,13 +3,13 @@
 //! The value of a row is the digits that `write_digits` writes, and `exponent=` the exponent of ten of the first one.
 
 use crate::calls::in_a_format::value_in;
+use crate::erased::decimal_digits::{Written, digit_count, write_digits};
+use crate::erased::formats_at_run_time::{FlaggedFormat, InFormat};
+use crate::erased::rustc_apfloat::ieee::{IeeeFloat, Semantics};
 use crate::lines::{
     Answered, CallFault, ExtraField, Operand, OperationCall, Request, RowAnswer, RowFormat, StatusField, Text,
     ValueField,
 };
-use crate::erased::decimal_digits::{Written, digit_count, write_digits};
-use crate::erased::formats_at_run_time::{FlaggedFormat, InFormat};
-use crate::erased::rustc_apfloat::ieee::{IeeeFloat, Semantics};
 use std::str;
 
 /// What a call on the digits of a value returns in a format, if that is a built-in one with the flags of the built-in
@@ -59,7 +59,7 @@ fn written<S: Semantics>(x: IeeeFloat<S>, request: Request) -> Answered {
     let Ok(count) = usize::try_from(count) else {
         return Err(CallFault::Operands);
     };
-    if count < 1 || count > 128 {
+    if !(1..=128).contains(&count) {
         return Err(CallFault::Operands);
     }
     let mut digits = [0; 128];

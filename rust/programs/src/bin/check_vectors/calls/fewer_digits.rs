@@ -2,11 +2,11 @@
 
 use crate::calls::in_a_format::rounded_in;
 use crate::calls::in_another::{Operation, delivered, operation_of};
-use crate::lines::{Answered, CallFault, CallInFormat, FewerDigits, FormatOfCall, Operands, RowFormat};
 use crate::erased::apfloat_odd::to_odd;
 use crate::erased::formats_at_run_time::BuiltInFormat;
 use crate::erased::rustc_apfloat::ieee::{Flagged, IeeeFloat, X87DoubleExtendedS};
 use crate::erased::rustc_apfloat::{Float, Round, StatusAnd};
+use crate::lines::{Answered, CallFault, CallInFormat, FewerDigits, FormatOfCall, Operands, RowFormat};
 
 /// What an operation on values of `x87` returns, as a value of `x87`; without a mode it is rounded to odd.
 pub(crate) fn in_fewer_digits(
@@ -46,11 +46,10 @@ impl CallInFormat for InFewerDigits {
 
 /// The result of an operation in the format `T`, rounded in a mode or to odd.
 fn rounded<T: Flagged>(operation: Operation, mode: Option<Round>) -> StatusAnd<IeeeFloat<T>> {
-    match mode {
-        Some(round) => delivered::<T>(operation, round),
-        None => {
-            let truncated = delivered::<T>(operation, Round::TowardZero);
-            to_odd(truncated, truncated.value.is_negative())
-        }
+    if let Some(round) = mode {
+        delivered::<T>(operation, round)
+    } else {
+        let truncated = delivered::<T>(operation, Round::TowardZero);
+        to_odd(truncated, truncated.value.is_negative())
     }
 }

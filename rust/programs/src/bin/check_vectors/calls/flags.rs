@@ -1,12 +1,12 @@
 //! The operations on flags (5.7.4).
 
-use crate::lines::{
-    Answered, CallFault, ExtraField, FlagsCall, Operand, Operands, RowAnswer, StatusField, Text, ValueField,
-};
 use crate::erased::apfloat_comparisons::{
     lower_flags, raise_flags, restore_flags, save_all_flags, test_flags, test_saved_flags,
 };
 use crate::erased::rustc_apfloat::Status;
+use crate::lines::{
+    Answered, CallFault, ExtraField, FlagsCall, Operand, Operands, RowAnswer, StatusField, Text, ValueField,
+};
 
 /// What an operation on flags returns: flags in their column, or whether any is raised.
 pub fn flags_of(call: FlagsCall, operands: Operands) -> Answered {

@@ -3,14 +3,14 @@
 use crate::calls::decimals::in_decimals;
 use crate::calls::in_a_format::{rounded_in, two_values_in, value_in};
 use crate::calls::of_type::of_type;
-use crate::lines::{
-    Answered, Call, CallFault, CallInFormat, ConversionCall, ExtraField, FormatCall, Formats, Operands, Quanta,
-    Request, Returned, RowAnswer, RowFormat, any_value, value_of,
-};
 use crate::erased::apfloat_ieee::AnyFloat;
 use crate::erased::rustc_apfloat::ieee::{Flagged, IeeeFloat};
 use crate::erased::rustc_apfloat::ppc::{DoubleDouble, FallbackS};
 use crate::erased::rustc_apfloat::{FUSED_LIMIT, Float, Round, StatusAnd};
+use crate::lines::{
+    Answered, Call, CallFault, CallInFormat, ConversionCall, ExtraField, FormatCall, Formats, Operands, Quanta,
+    Request, Returned, RowAnswer, RowFormat, any_value, value_of,
+};
 use std::fmt::Debug;
 
 /// What a call returns in its formats; `text` is its operand if that is a text.
@@ -99,10 +99,7 @@ fn of_format<S: Flagged>(request: Request, text: &str) -> Answered {
 fn of_format_alone<S: Flagged>(call: FormatCall, request: Request) -> Answered {
     match call {
         FormatCall::CFmodSteps => remainder_steps::<S>(request),
-        _ => match rounded_once::<S>(call, request) {
-            Ok(answer) => Ok(rounded_in(answer, request.stated)),
-            Err(fault) => Err(fault),
-        },
+        _ => rounded_once::<S>(call, request).map(|answer| rounded_in(answer, request.stated)),
     }
 }
 

@@ -2,13 +2,13 @@
 
 use crate::calls::array::in_array;
 use crate::calls::storage::converted;
-use crate::lines::{Answered, Call, CallFault, ConversionCall, OperationCall, Request, RowFormat, StorageName};
 use crate::erased::finite_formats::Float6E3M2FN;
 use crate::erased::formats_at_run_time::{FlaggedFormat, InFlaggedFormat};
 use crate::erased::rustc_apfloat::ieee::{Flagged, IeeeFloat};
 use crate::erased::rustc_apfloat::{Float, FloatConvert, Round, StatusAnd};
 use crate::erased::storage_arrays::{Ends, StoredFormat};
 use crate::erased::storage_formats::{E2M1FN, E2M3FN, E8M0FNU, Float8E3M4, StoredFloat, UE4M3};
+use crate::lines::{Answered, Call, CallFault, ConversionCall, OperationCall, Request, RowFormat, StorageName};
 
 /// What a conversion from a storage format to a built-in format returns.
 pub(crate) fn from_storage(source: StorageName, target: FlaggedFormat, bits: u128, request: Request) -> Answered {

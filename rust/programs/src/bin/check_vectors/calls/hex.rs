@@ -1,14 +1,14 @@
 //! The hexadecimal digits of a value (5.12.3), in the built-in formats.
 
 use crate::calls::in_a_format::value_in;
-use crate::lines::{
-    Answered, CallFault, ExtraField, Operand, OperationCall, Request, RowAnswer, RowFormat, StatusField, Text,
-    ValueField,
-};
 use crate::erased::formats_at_run_time::{FlaggedFormat, InFormat};
 use crate::erased::hex_digits::{write_hex, write_hex_rounded};
 use crate::erased::rustc_apfloat::Round;
 use crate::erased::rustc_apfloat::ieee::{IeeeFloat, Semantics};
+use crate::lines::{
+    Answered, CallFault, ExtraField, Operand, OperationCall, Request, RowAnswer, RowFormat, StatusField, Text,
+    ValueField,
+};
 use std::str;
 
 /// What a call on the hexadecimal digits of a value returns in a format, if that is a built-in one with the flags of

@@ -3,9 +3,9 @@
 //! `value_of` and `RowAnswer::of` serve every type of values. Each call of these at the type of a format is dear to
 //! prove and to compile, so there is one here, in functions that are not inlined.
 
-use crate::lines::{Operand, Operands, Quanta, Returned, RowAnswer, value_of};
 use crate::erased::rustc_apfloat::StatusAnd;
 use crate::erased::rustc_apfloat::ieee::{Flagged, IeeeFloat};
+use crate::lines::{Operand, Operands, Quanta, Returned, RowAnswer, value_of};
 
 /// The value of an operand in the format `S`.
 #[inline(never)]

@@ -4,10 +4,10 @@
 //! pair of formats.
 
 use crate::calls::in_a_format::rounded_in;
-use crate::lines::{Answered, CallFault, CallInFormat, FormatOfCall, Operands, Quanta, Request, RowFormat, any_value};
 use crate::erased::apfloat_ieee::AnyFloat;
 use crate::erased::rustc_apfloat::ieee::{Flagged, IeeeFloat};
 use crate::erased::rustc_apfloat::{Round, StatusAnd};
+use crate::lines::{Answered, CallFault, CallInFormat, FormatOfCall, Operands, Quanta, Request, RowFormat, any_value};
 
 /// What an operation on values of a built-in format returns in another.
 pub(crate) fn in_another(source: RowFormat, target: RowFormat, call: FormatOfCall, request: Request) -> Answered {
@@ -34,24 +34,17 @@ pub(crate) enum Operation {
 /// An operation with its operands, if they are values of the format.
 pub(crate) fn operation_of(call: FormatOfCall, format: RowFormat, operands: Operands) -> Option<Operation> {
     let Operands { first, second, third } = operands;
-    let Some(x) = any_value(format, first) else {
-        return None;
-    };
+    let x = any_value(format, first)?;
     if let FormatOfCall::Sqrt = call {
         return Some(Operation::Sqrt(x));
     }
-    let Some(y) = any_value(format, second) else {
-        return None;
-    };
+    let y = any_value(format, second)?;
     match call {
         FormatOfCall::Add => Some(Operation::Add(x, y)),
         FormatOfCall::Sub => Some(Operation::Sub(x, y)),
         FormatOfCall::Mul => Some(Operation::Mul(x, y)),
         FormatOfCall::Div => Some(Operation::Div(x, y)),
-        FormatOfCall::MulAdd => match any_value(format, third) {
-            Some(z) => Some(Operation::MulAdd(x, y, z)),
-            None => None,
-        },
+        FormatOfCall::MulAdd => any_value(format, third).map(|z| Operation::MulAdd(x, y, z)),
         FormatOfCall::Sqrt => None,
     }
 }

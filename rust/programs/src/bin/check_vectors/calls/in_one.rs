@@ -1,17 +1,17 @@
 //! Operations in one format.
 
 use crate::calls::in_a_format::{rounded_in, two_values_in, value_in};
-use crate::lines::{
-    Answered, CallFault, CallInFormat, GeneralCall, Operand, OperationCall, OrderCall, Request, RowAnswer, RowFormat,
-    ToIntegerCall, ValueField, mask, shown,
-};
 use crate::erased::apfloat_comparisons::{
     Extremum, class_of, compare, convert_to_signed, convert_to_signed_exact, convert_to_unsigned,
     convert_to_unsigned_exact, extremum_number_of, extremum_of, integer_log_b, is_canonical, is_canonical_encoding,
     log_b, radix, round_to_integral_in, total_cmp, total_order, total_order_mag,
 };
 use crate::erased::rustc_apfloat::ieee::{Flagged, IeeeFloat};
-use crate::erased::rustc_apfloat::{Float, Round, StatusAnd};
+use crate::erased::rustc_apfloat::{Round, StatusAnd};
+use crate::lines::{
+    Answered, CallFault, CallInFormat, GeneralCall, Operand, OperationCall, OrderCall, Request, RowAnswer, RowFormat,
+    ToIntegerCall, ValueField, mask, shown,
+};
 
 /// What an operation returns in a format.
 pub(crate) fn in_format(format: RowFormat, call: OperationCall, request: Request) -> Answered {
@@ -143,7 +143,7 @@ fn to_integer<S: Flagged>(call: ToIntegerCall, request: Request) -> Answered {
     let Some(x) = value_in::<S>(request.operands.first) else {
         return Err(CallFault::Operand);
     };
-    if width < 1 || width > 128 {
+    if !(1..=128).contains(&width) {
         return Err(CallFault::Operands);
     }
     match call {

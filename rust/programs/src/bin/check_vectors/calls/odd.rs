@@ -4,16 +4,16 @@ use crate::calls::fewer_digits::in_fewer_digits;
 use crate::calls::formats;
 use crate::calls::in_a_format::{rounded_in, value_in};
 use crate::calls::in_another::in_another;
-use crate::lines::{
-    Answered, Call, CallFault, ConversionCall, FormatOfCall, Formats, OddCall, Operand, Request, RowAnswer, RowFormat,
-    StatusField, ValueField,
-};
 use crate::erased::apfloat_odd::{
     from_i128_odd, from_u128_odd, round_to_odd_integral, to_i128_odd, to_odd, to_u128_odd,
 };
 use crate::erased::formats_at_run_time::{InFlaggedFormat, InFormat};
 use crate::erased::rustc_apfloat::ieee::{Flagged, IeeeFloat, Semantics};
 use crate::erased::rustc_apfloat::{Float, Round, Status};
+use crate::lines::{
+    Answered, Call, CallFault, ConversionCall, FormatOfCall, Formats, OddCall, Operand, Request, RowAnswer, RowFormat,
+    StatusField, ValueField,
+};
 
 /// What an operation rounded to odd returns in its formats, of which the target is a built-in one.
 pub(crate) fn in_odd(formats: Formats, call: OddCall, request: Request) -> Answered {
@@ -33,10 +33,7 @@ pub(crate) fn in_odd(formats: Formats, call: OddCall, request: Request) -> Answe
 /// An operation on values of a format whose result is of another, rounded to odd.
 fn arithmetic(source: RowFormat, target: RowFormat, call: FormatOfCall, request: Request) -> Answered {
     let truncated = Request { round: Round::TowardZero, ..request };
-    match in_another(source, target, call, truncated) {
-        Ok(answer) => made_odd(target, answer),
-        Err(fault) => Err(fault),
-    }
+    in_another(source, target, call, truncated).and_then(|answer| made_odd(target, answer))
 }
 
 /// A conversion between formats, rounded to odd.
@@ -47,10 +44,7 @@ fn converted(source: RowFormat, target: RowFormat, request: Request) -> Answered
         operands: request.operands,
         stated: None,
     };
-    match formats::answer(Formats::Between(source, target), truncated, "") {
-        Ok(answer) => made_odd(target, answer),
-        Err(fault) => Err(fault),
-    }
+    formats::answer(Formats::Between(source, target), truncated, "").and_then(|answer| made_odd(target, answer))
 }
 
 /// An answer toward zero in a built-in format, rounded to odd.
@@ -134,7 +128,7 @@ fn to_integer<S: Flagged>(call: OddCall, operand: Operand, width: Operand) -> An
     let Some(x) = value_in::<S>(operand) else {
         return Err(CallFault::Operand);
     };
-    if width < 1 || width > 128 {
+    if !(1..=128).contains(&width) {
         return Err(CallFault::Operands);
     }
     match call {

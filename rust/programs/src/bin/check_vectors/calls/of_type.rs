@@ -1,13 +1,13 @@
 //! The calls that every type of values has.
 
 use crate::calls::magnitudes::Magnitudes;
+use crate::erased::formats_at_run_time::ValueType;
+use crate::erased::rustc_apfloat::{ExpInt, Float, Round, StatusAnd};
 use crate::lines::{
     Answered, AssigningOperator, Call, CallFault, Constant, ExtraField, IntegerCall, OneValueCall, Operand, Property,
     Quanta, Request, Returned, RowAnswer, Text, TextCall, TwoValuesCall, ValueField, WordCall, shown, two_values,
     value_of,
 };
-use crate::erased::formats_at_run_time::ValueType;
-use crate::erased::rustc_apfloat::{ExpInt, Float, Round, StatusAnd};
 use std::fmt::Debug;
 
 /// What a call returns; `text` is its operand if that is a text.
@@ -138,10 +138,7 @@ fn returned_of_two<F: Magnitudes>(call: TwoValuesCall, x: F, y: F, round: Round)
             let order = x.cmp_abs_normal(y);
             Some(Returned::Field(ValueField::Order(Some(order))))
         }
-        _ => match computed(call, x, y, round) {
-            Some(answer) => Some(Returned::Rounded(answer)),
-            None => None,
-        },
+        _ => computed(call, x, y, round).map(Returned::Rounded),
     }
 }
 
@@ -205,10 +202,8 @@ fn of_value_and_integer<F: Float + Debug>(call: IntegerCall, request: Request) -
 
 /// A value as an integer, if the width is a valid one.
 fn to_integer<F: Float>(call: IntegerCall, x: F, width: ExpInt, round: Round) -> Option<Returned<F>> {
-    let Ok(width) = usize::try_from(width) else {
-        return None;
-    };
-    if width < 1 || width > 128 {
+    let width = usize::try_from(width).ok()?;
+    if !(1..=128).contains(&width) {
         return None;
     }
     match call {
@@ -221,12 +216,11 @@ fn to_integer<F: Float>(call: IntegerCall, x: F, width: ExpInt, round: Round) ->
 /// A value as an unsigned integer of this width.
 fn to_unsigned<F: Float>(call: IntegerCall, x: F, width: usize, round: Round) -> Returned<F> {
     let mut is_exact = false;
-    let (answer, extra) = match call {
-        IntegerCall::ToU128 => (x.to_u128(width), ExtraField::Nothing),
-        _ => {
-            let answer = x.to_u128_r(width, round, &mut is_exact);
-            (answer, ExtraField::IsExact(is_exact))
-        }
+    let (answer, extra) = if let IntegerCall::ToU128 = call {
+        (x.to_u128(width), ExtraField::Nothing)
+    } else {
+        let answer = x.to_u128_r(width, round, &mut is_exact);
+        (answer, ExtraField::IsExact(is_exact))
     };
     Returned::Integer(answer.status.and(ValueField::Unsigned(answer.value)), extra)
 }
@@ -234,12 +228,11 @@ fn to_unsigned<F: Float>(call: IntegerCall, x: F, width: usize, round: Round) ->
 /// A value as a signed integer of this width.
 fn to_signed<F: Float>(call: IntegerCall, x: F, width: usize, round: Round) -> Returned<F> {
     let mut is_exact = false;
-    let (answer, extra) = match call {
-        IntegerCall::ToI128 => (x.to_i128(width), ExtraField::Nothing),
-        _ => {
-            let answer = x.to_i128_r(width, round, &mut is_exact);
-            (answer, ExtraField::IsExact(is_exact))
-        }
+    let (answer, extra) = if let IntegerCall::ToI128 = call {
+        (x.to_i128(width), ExtraField::Nothing)
+    } else {
+        let answer = x.to_i128_r(width, round, &mut is_exact);
+        (answer, ExtraField::IsExact(is_exact))
     };
     Returned::Integer(answer.status.and(ValueField::Signed(answer.value)), extra)
 }

@@ -7,11 +7,6 @@
 use crate::calls::formats;
 use crate::calls::in_a_format::{rounded_in, two_values_in, value_in};
 use crate::calls::in_one::in_format;
-use crate::lines::{
-    Answered, Call, CallFault, CallInFormat, ConversionCall, FormatCall, Formats, GeneralCall, IntegerCall,
-    MachineFormat, OneValueCall, Operand, Operands, OperationCall, Request, RowAnswer, RowFormat, StatusField,
-    TwoValuesCall, ValueField,
-};
 use crate::erased::apfloat_machines::{
     Flush, Machine, MinimumRule, default_nan, flushed, greatest, least, settled, settled_conversion, settled_fused,
     settled_signed, settled_unary, settled_unsigned,
@@ -19,6 +14,11 @@ use crate::erased::apfloat_machines::{
 use crate::erased::formats_at_run_time::{BuiltInFormat, InFormat};
 use crate::erased::rustc_apfloat::ieee::{Flagged, IeeeFloat, Semantics};
 use crate::erased::rustc_apfloat::{Float, Status, StatusAnd};
+use crate::lines::{
+    Answered, Call, CallFault, CallInFormat, ConversionCall, FormatCall, Formats, GeneralCall, IntegerCall,
+    MachineFormat, OneValueCall, Operand, Operands, OperationCall, Request, RowAnswer, RowFormat, StatusField,
+    TwoValuesCall, ValueField,
+};
 
 /// What a call returns in the formats of a machine.
 pub fn answer(formats: Formats, request: Request) -> Answered {
@@ -34,10 +34,7 @@ fn on_machine(target: MachineFormat, request: Request) -> Answered {
     if let Call::Operation(OperationCall::OnMachine(rule, is_least)) = request.call {
         return target.run_plain(OfRule { rule, is_least, machine: target.machine, operands: request.operands });
     }
-    match plain_answer(target, request) {
-        Ok(plain) => target.run_plain(Settled { target, request, plain }),
-        Err(fault) => Err(fault),
-    }
+    plain_answer(target, request).and_then(|plain| target.run_plain(Settled { target, request, plain }))
 }
 
 /// The answer of a call in the format with the machine's rule of tininess, if machines have the call.
@@ -132,10 +129,7 @@ fn settled_answer<S: Flagged>(machine: Machine, operands: Operands, plain: Statu
 /// The width of an integer, if it is one of integers.
 fn width_of(operand: Operand) -> Option<usize> {
     match operand {
-        Operand::Integer(width) => match usize::try_from(width) {
-            Ok(width) => Some(width),
-            Err(_) => None,
-        },
+        Operand::Integer(width) => usize::try_from(width).ok(),
         _ => None,
     }
 }
@@ -146,7 +140,7 @@ fn unsigned<S: Flagged>(machine: Machine, operands: Operands, plain: StatusAnd<u
     let (Some(x), Some(width)) = (value_in::<S>(operands.first), width_of(operands.second)) else {
         return Err(CallFault::Operand);
     };
-    if width < 1 || width > 128 {
+    if !(1..=128).contains(&width) {
         return Err(CallFault::Operands);
     }
     match settled_unsigned(machine, x, width, plain) {
@@ -161,7 +155,7 @@ fn signed<S: Flagged>(machine: Machine, operands: Operands, plain: StatusAnd<i12
     let (Some(x), Some(width)) = (value_in::<S>(operands.first), width_of(operands.second)) else {
         return Err(CallFault::Operand);
     };
-    if width < 2 || width > 128 {
+    if !(2..=128).contains(&width) {
         return Err(CallFault::Operands);
     }
     let answer = settled_signed(machine, x, width, plain);

@@ -4,8 +4,7 @@ use crate::calls::from_storage::from_storage;
 use crate::calls::to_storage::to_storage;
 use crate::erased::rustc_apfloat::Status;
 use crate::lines::{
-    Answered, CallFault, ExtraField, Formats, Operand, Request,
-    RowAnswer, StatusField, ValueField, mask,
+    Answered, CallFault, ExtraField, Formats, Operand, Request, RowAnswer, StatusField, ValueField, mask,
 };
 
 /// What a conversion to or from a storage format returns.

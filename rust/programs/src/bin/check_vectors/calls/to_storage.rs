@@ -2,9 +2,6 @@
 
 use crate::calls::array::in_array;
 use crate::calls::storage::converted;
-use crate::lines::{
-    Answered, Call, CallFault, ConversionCall, OddCall, Operand, Operands, OperationCall, Request, StorageName,
-};
 use crate::erased::finite_formats::Float6E3M2FN;
 use crate::erased::formats_at_run_time::{BuiltInFormat, InFormat};
 use crate::erased::rustc_apfloat::ieee::{IeeeFloat, Semantics};
@@ -13,6 +10,9 @@ use crate::erased::storage_arrays::{Ends, StoredFormat};
 use crate::erased::storage_formats::{
     ConversionRound, E2M1FN, E2M3FN, E3M2FN, E8M0FNU, Float8E3M4, NanResult, RandomDigits, RandomError, StorageFormat,
     StoredFloat, UE4M3,
+};
+use crate::lines::{
+    Answered, Call, CallFault, ConversionCall, OddCall, Operand, Operands, OperationCall, Request, StorageName,
 };
 
 /// What a conversion from a built-in format to a storage format returns.
@@ -24,10 +24,7 @@ pub(crate) fn to_storage(source: BuiltInFormat, target: StorageName, bits: u128,
         let ends = Ends::Into(source, stored);
         return Ok(in_array(ends, call, request.round, bits, target.width));
     }
-    match mode_of(request) {
-        Ok(mode) => source.run(ToStorage { bits, target: stored, width: target.width, mode }),
-        Err(fault) => Err(fault),
-    }
+    mode_of(request).and_then(|mode| source.run(ToStorage { bits, target: stored, width: target.width, mode }))
 }
 
 /// How a conversion rounds.

@@ -1,10 +1,10 @@
 //! What a call returns, compared with the last three columns of a row.
 
+use crate::erased::commands::{bits_of, number_of, write_status};
+use crate::erased::rustc_apfloat::{ExpInt, Flags, Float, Status, StatusAnd};
 use crate::lines::call_fault::CallFault;
 use crate::lines::quanta::{Quanta, text_of};
 use crate::lines::text::{Text, shown};
-use crate::erased::commands::{bits_of, number_of, write_status};
-use crate::erased::rustc_apfloat::{ExpInt, Flags, Float, Status, StatusAnd};
 use std::cmp::Ordering;
 use std::fmt::Debug;
 use std::io;
@@ -144,7 +144,7 @@ impl RowAnswer {
     }
 
     /// Writes the columns, the last one only if the row has it.
-    pub fn write<W: Write>(&self, value: &str, extra: &str, out: &mut W) -> io::Result<()> {
+    pub fn write(&self, value: &str, extra: &str, out: &mut impl Write) -> io::Result<()> {
         self.value.write(value, out)?;
         out.write_all(b"\t")?;
         self.status.write(out)?;
@@ -215,7 +215,7 @@ impl ValueField {
     }
 
     /// Writes the word for this.
-    fn write<W: Write>(&self, in_row: &str, out: &mut W) -> io::Result<()> {
+    fn write(&self, in_row: &str, out: &mut impl Write) -> io::Result<()> {
         match self {
             ValueField::Bits(bits, width) => write_bits(*bits, *width, out),
             ValueField::TwoBits(first, second, width) => {
@@ -243,9 +243,7 @@ fn is_bits(bits: u128, width: usize, word: &str) -> Option<bool> {
 
 /// Whether two words spell these bits.
 fn are_bits(first: u128, second: u128, width: usize, words: &str) -> Option<bool> {
-    let Some((left, right)) = words.split_once(' ') else {
-        return None;
-    };
+    let (left, right) = words.split_once(' ')?;
     match (is_bits(first, width, left), is_bits(second, width, right)) {
         (Some(is_first), Some(is_second)) => Some(is_first && is_second),
         _ => None,
@@ -259,18 +257,12 @@ fn is_other_quanta(word: &str) -> Option<bool> {
 
 /// Whether a stated number equals this one.
 fn is_same(number: u128, stated: Option<u128>) -> Option<bool> {
-    match stated {
-        Some(stated) => Some(stated == number),
-        None => None,
-    }
+    stated.map(|stated| stated == number)
 }
 
 /// Whether a word spells this signed integer.
 fn is_signed(number: i128, word: &str) -> Option<bool> {
-    match word.parse::<i128>() {
-        Ok(stated) => Some(stated == number),
-        Err(_) => None,
-    }
+    word.parse::<i128>().ok().map(|stated| stated == number)
 }
 
 /// Whether a word is this truth value.
@@ -291,7 +283,7 @@ fn is_order(order: Option<Ordering>, word: &str) -> Option<bool> {
 }
 
 /// Writes all hexadecimal digits of bits.
-fn write_bits<W: Write>(bits: u128, width: usize, out: &mut W) -> io::Result<()> {
+fn write_bits(bits: u128, width: usize, out: &mut impl Write) -> io::Result<()> {
     let digits = width.div_ceil(4).max(1);
     write!(out, "{bits:0digits$x}")
 }
@@ -327,7 +319,7 @@ impl StatusField {
     }
 
     /// Writes the word for this.
-    fn write<W: Write>(&self, out: &mut W) -> io::Result<()> {
+    fn write(&self, out: &mut impl Write) -> io::Result<()> {
         match self {
             StatusField::Nothing => out.write_all(b"-"),
             StatusField::Refused => out.write_all(b"ParseError"),
@@ -342,9 +334,7 @@ impl ExtraField {
         if word == "-" {
             return Some(true);
         }
-        let Some(word) = word.strip_prefix(self.label()) else {
-            return None;
-        };
+        let word = word.strip_prefix(self.label())?;
         match self {
             ExtraField::Nothing => None,
             ExtraField::IsSignaling(holds) | ExtraField::IsExact(holds) | ExtraField::LosesInfo(holds) => {
@@ -380,7 +370,7 @@ impl ExtraField {
     }
 
     /// Writes the word for this, with the bound only if the row has it.
-    fn write<W: Write>(&self, in_row: &str, out: &mut W) -> io::Result<()> {
+    fn write(&self, in_row: &str, out: &mut impl Write) -> io::Result<()> {
         out.write_all(self.label().as_bytes())?;
         match self {
             ExtraField::Nothing => out.write_all(b"-"),
@@ -394,7 +384,7 @@ impl ExtraField {
 }
 
 /// Writes the number of steps that a remainder takes, and the bound if the row has it.
-fn write_steps<W: Write>(taken: u32, bound: ExpInt, in_row: &str, out: &mut W) -> io::Result<()> {
+fn write_steps(taken: u32, bound: ExpInt, in_row: &str, out: &mut impl Write) -> io::Result<()> {
     if in_row.contains(' ') { write!(out, "{taken} bound={bound}") } else { write!(out, "{taken}") }
 }
 
@@ -410,10 +400,7 @@ fn order_name(order: Option<Ordering>) -> &'static str {
 
 /// Whether a word spells this exponent.
 fn is_exponent(exponent: ExpInt, word: &str) -> Option<bool> {
-    match word.parse::<ExpInt>() {
-        Ok(stated) => Some(stated == exponent),
-        Err(_) => None,
-    }
+    word.parse::<ExpInt>().ok().map(|stated| stated == exponent)
 }
 
 /// Whether a remainder takes the stated number of steps, and no more than the stated bound, if there is one.
@@ -430,10 +417,7 @@ fn are_steps(taken: u32, bound: ExpInt, stated: &str) -> Option<bool> {
 
 /// Whether a word spells this count.
 fn is_count(count: u32, word: &str) -> Option<bool> {
-    match word.parse::<u32>() {
-        Ok(stated) => Some(stated == count),
-        Err(_) => None,
-    }
+    word.parse::<u32>().ok().map(|stated| stated == count)
 }
 
 /// The status of this word: `OK`, or the names of flags, joined by bars.
@@ -443,9 +427,7 @@ pub fn status_named(word: &str) -> Option<Status> {
         return Some(status);
     }
     for name in word.split('|') {
-        let Some(flag) = Status::from_name(name) else {
-            return None;
-        };
+        let flag = Status::from_name(name)?;
         if status.contains(flag) {
             return None;
         }

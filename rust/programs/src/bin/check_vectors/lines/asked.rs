@@ -1,5 +1,7 @@
 //! Checks rows of calls: the call is made, and what it returns is compared with the row.
 
+use crate::erased::formats_at_run_time::mode_named;
+use crate::erased::rustc_apfloat::Round;
 use crate::lines::call::Call;
 use crate::lines::call_fault::CallFault;
 use crate::lines::call_row::CallRow;
@@ -9,8 +11,6 @@ use crate::lines::operands::Operands;
 use crate::lines::quanta::Quanta;
 use crate::lines::reading::operands_of;
 use crate::lines::request::{Answered, Request};
-use crate::erased::formats_at_run_time::mode_named;
-use crate::erased::rustc_apfloat::Round;
 use std::io;
 use std::io::Write;
 
@@ -25,14 +25,12 @@ static MODES: &[(&str, Round)] = &[
 
 /// Whether a row agrees in each mode that it names.
 pub fn agrees(row: CallRow<'_>) -> Result<bool, CallFault> {
-    match Asked::of(row.call, row.format, row.mode, row.operands, row.value) {
-        Ok(asked) => asked.agrees(row.value, row.status, row.extra),
-        Err(fault) => Err(fault),
-    }
+    Asked::of(row.call, row.format, row.mode, row.operands, row.value)
+        .and_then(|asked| asked.agrees(row.value, row.status, row.extra))
 }
 
 /// Writes what a row expects, and what the call returns in each mode of the row in which they differ.
-pub fn write_answers<W: Write>(row: CallRow<'_>, out: &mut W) -> io::Result<()> {
+pub fn write_answers(row: CallRow<'_>, out: &mut impl Write) -> io::Result<()> {
     let (value, status, extra) = (row.value, row.status, row.extra);
     writeln!(out, "  expected: {value}\t{status}\t{extra}")?;
     match Asked::of(row.call, row.format, row.mode, row.operands, value) {
@@ -102,13 +100,7 @@ impl<'a> Asked<'a> {
     }
 
     /// Writes what the call returns, in each mode in which that is not what these columns state.
-    fn write_given<W: Write>(
-        self,
-        value: &str,
-        status: &str,
-        extra: &str,
-        out: &mut W,
-    ) -> io::Result<()> {
+    fn write_given(self, value: &str, status: &str, extra: &str, out: &mut impl Write) -> io::Result<()> {
         if let Some(round) = self.round {
             return write_other(self.answer_in(round), value, status, extra, "", out);
         }
@@ -122,20 +114,17 @@ impl<'a> Asked<'a> {
 
 /// Whether an answer is what these columns state.
 fn agree(answer: Answered, value: &str, status: &str, extra: &str) -> Result<bool, CallFault> {
-    match answer {
-        Ok(answer) => answer.is_of(value, status, extra),
-        Err(fault) => Err(fault),
-    }
+    answer.and_then(|answer| answer.is_of(value, status, extra))
 }
 
 /// Writes an answer, after a label, unless it is what these columns state.
-fn write_other<W: Write>(
+fn write_other(
     answer: Answered,
     value: &str,
     status: &str,
     extra: &str,
     label: &str,
-    out: &mut W,
+    out: &mut impl Write,
 ) -> io::Result<()> {
     let Ok(answer) = answer else {
         return Ok(());
@@ -154,10 +143,7 @@ fn mode_of(word: &str, takes_mode: bool) -> Option<Option<Round>> {
     match word {
         "any" if takes_mode => Some(None),
         "-" if !takes_mode => Some(Some(Round::NearestTiesToEven)),
-        _ if takes_mode => match mode_named(word) {
-            Some(round) => Some(Some(round)),
-            None => None,
-        },
+        _ if takes_mode => mode_named(word).map(Some),
         _ => None,
     }
 }

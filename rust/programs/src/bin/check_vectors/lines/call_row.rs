@@ -21,24 +21,12 @@ pub struct CallRow<'a> {
 
 /// The row on a line, if the line has seven columns.
 pub fn row_of(line: &str) -> Option<CallRow<'_>> {
-    let Some((call, others)) = cut_column(line) else {
-        return None;
-    };
-    let Some((format, others)) = cut_column(others) else {
-        return None;
-    };
-    let Some((mode, others)) = cut_column(others) else {
-        return None;
-    };
-    let Some((operands, others)) = cut_column(others) else {
-        return None;
-    };
-    let Some((value, others)) = cut_column(others) else {
-        return None;
-    };
-    let Some((status, extra)) = cut_column(others) else {
-        return None;
-    };
+    let (call, others) = cut_column(line)?;
+    let (format, others) = cut_column(others)?;
+    let (mode, others) = cut_column(others)?;
+    let (operands, others) = cut_column(others)?;
+    let (value, others) = cut_column(others)?;
+    let (status, extra) = cut_column(others)?;
     if extra.contains('\t') {
         return None;
     }

@@ -1,13 +1,14 @@
 //! Rows of commands: the reply that the program `vectors` gives is compared with that of the row.
 
+use crate::erased::commands::{agrees, bits_of, run};
+use crate::erased::formats_at_run_time::{CommandKind, mode_named};
+use crate::erased::rustc_apfloat::Flags;
 use crate::lines::answer::status_named;
 use crate::lines::fault::width_of;
 use crate::lines::row_error::{RowError, bits_error};
 use crate::lines::widths::mask;
-use crate::erased::commands::{agrees, bits_of, run};
-use crate::erased::formats_at_run_time::{CommandKind, mode_named};
-use crate::erased::rustc_apfloat::Flags;
-use std::{io, str};
+use std::collections::TryReserveError;
+use std::str;
 
 /// The form of a reply, for messages.
 const REPLY: &str = "bits and flags, as `5f40 OK`, or `refused: ` and a word";
@@ -20,6 +21,9 @@ const MODES: &str = "even, up, down, zero or away";
 
 /// The number of words that are looked at: one more than a command has.
 const WORDS: usize = 7;
+
+/// More bytes than a reply has beside a word that it refuses.
+const REPLY_ROOM: usize = 128;
 
 /// A command and its reply.
 #[derive(Clone, Copy)]
@@ -51,12 +55,8 @@ impl<'a> CommandRow<'a> {
 
     /// What is wrong with a reply that has more bits than the format of its command.
     pub fn width_fault(self) -> Option<RowError<'a>> {
-        let Some((format, _)) = self.command.split_once(' ') else {
-            return None;
-        };
-        let Some((bits, _)) = self.reply.split_once(' ') else {
-            return None;
-        };
+        let (format, _) = self.command.split_once(' ')?;
+        let (bits, _) = self.reply.split_once(' ')?;
         match (width_of(format), bits_of(bits, 128)) {
             (Some(width), Some(number)) if number > mask(width) => Some(bits_error("no reply", bits, width)),
             _ => None,
@@ -67,53 +67,42 @@ impl<'a> CommandRow<'a> {
     pub fn agrees(self) -> bool {
         let mut words = [""; WORDS];
         let mut count = 0;
-        for word in self.command.split(' ') {
-            if count >= WORDS {
-                break;
-            }
-            words[count] = if word == "\"\"" { "" } else { word };
+        for (place, word) in words.iter_mut().zip(self.words()) {
+            *place = word;
             count += 1;
         }
-        agrees(&words[..count.min(WORDS)], self.reply)
+        agrees(&words[..count], self.reply)
     }
 
     /// The reply to the command, with its newline, unless it is the expected one.
-    pub fn wrong_reply(self) -> io::Result<Option<Vec<u8>>> {
-        let words = self.words();
-        let given = reply_to(words.as_slice())?;
-        if has_result(given.as_slice(), self.reply) {
-            return Ok(None);
+    pub fn wrong_reply(self) -> Result<Option<Vec<u8>>, TryReserveError> {
+        let mut words = Vec::new();
+        for word in self.words() {
+            let mut copy = String::new();
+            copy.try_reserve(word.len())?;
+            copy.push_str(word);
+            words.try_reserve(1)?;
+            words.push(copy);
         }
-        Ok(Some(given))
+        let mut given = Vec::new();
+        // The longest reply is a refusal of a word.
+        given.try_reserve(REPLY_ROOM + self.command.len())?;
+        let mut refusal = Vec::new();
+        refusal.try_reserve(REPLY_ROOM + self.command.len())?;
+        run(&words, &mut given, &mut refusal);
+        given.append(&mut refusal);
+        Ok(if has_result(&given, self.reply) { None } else { Some(given) })
     }
 
     /// The words of the command.
-    fn words(self) -> Vec<String> {
-        let mut words = Vec::new();
-        for word in self.command.split(' ') {
-            let word = if word == "\"\"" { "" } else { word };
-            words.push(word.to_owned());
-        }
-        words
+    fn words(self) -> impl Iterator<Item = &'a str> {
+        self.command.split(' ').map(|word| if word == "\"\"" { "" } else { word })
     }
-}
-
-/// The reply to a command, with its newline.
-fn reply_to(words: &[String]) -> io::Result<Vec<u8>> {
-    let mut line = Vec::new();
-    let mut refusal = Vec::new();
-    // A write to memory fails only for lack of memory.
-    if run(words, &mut line, &mut refusal) == 1 {
-        return Err(io::Error::from(io::ErrorKind::OutOfMemory));
-    }
-    Ok(if line.is_empty() { refusal } else { line })
 }
 
 /// What is wrong with the mode, the second word after the format, if another word follows it.
 fn mode_fault(words: &str) -> Option<RowError<'_>> {
-    let Some((_, words)) = words.split_once(' ') else {
-        return None;
-    };
+    let (_, words) = words.split_once(' ')?;
     match words.split_once(' ') {
         Some((mode, _)) if mode_named(mode).is_none() => Some(RowError::Word("no mode", mode, MODES)),
         _ => None,
@@ -130,9 +119,7 @@ fn has_result(line: &[u8], reply: &str) -> bool {
 
 /// The bits and the flags of a reply that is not a refusal.
 fn result_of(reply: &str) -> Option<(u128, u8)> {
-    let Some((bits, flags)) = reply.split_once(' ') else {
-        return None;
-    };
+    let (bits, flags) = reply.split_once(' ')?;
     match (bits_of(bits, 128), status_named(flags)) {
         (Some(bits), Some(status)) => Some((bits, status.bits())),
         _ => None,

@@ -1,5 +1,6 @@
 //! The errors of malformed rows of calls.
 
+use crate::erased::commands::bits_of;
 use crate::lines::call::Call;
 use crate::lines::call_fault::CallFault;
 use crate::lines::call_row::CallRow;
@@ -9,7 +10,6 @@ use crate::lines::machine_format::{MACHINE_WORDS, unknown_machine};
 use crate::lines::operands::Operand;
 use crate::lines::operations::OperationCall;
 use crate::lines::row_error::{RowError, bits_error};
-use crate::erased::commands::bits_of;
 
 /// The form of a value, for messages.
 const VALUE: &str = "hexadecimal digits, or quanta as `+3q` in a format without bits";
@@ -53,10 +53,7 @@ const QUANTA: &str = "values of the format, in quanta as `+3q`";
 
 /// The width of an operand in these formats, if it has bits.
 pub fn width_of(formats: &str) -> Option<usize> {
-    match Formats::named(formats) {
-        Some(formats) => formats.width(),
-        None => None,
-    }
+    Formats::named(formats).and_then(|formats| formats.width())
 }
 
 /// The widths of the first operand of a call in these formats and of the others, if they have bits.

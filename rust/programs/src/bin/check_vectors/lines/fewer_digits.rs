@@ -1,9 +1,9 @@
 //! The formats to which an x87 rounds with fewer digits than its registers have, as its precision control asks.
 
-use crate::lines::row_format::CallInFormat;
-use crate::lines::table::found;
 use crate::erased::custom_formats::{X87DoubleS, X87SingleS};
 use crate::erased::rustc_apfloat::ieee::{IeeeFlags, TinyBefore};
+use crate::lines::row_format::CallInFormat;
+use crate::lines::table::found;
 
 /// A format of fewer digits than `x87`, with its exponents and the flags of IEEE 754.
 #[derive(Clone, Copy)]

@@ -1,11 +1,11 @@
 //! The formats that the row of a call names.
 
+use crate::erased::formats_at_run_time::{BuiltInFormat, FlaggedFormat};
 use crate::lines::call::Call;
 use crate::lines::fewer_digits::FewerDigits;
 use crate::lines::machine_format::MachineFormat;
 use crate::lines::row_format::RowFormat;
 use crate::lines::storage::StorageName;
-use crate::erased::formats_at_run_time::{BuiltInFormat, FlaggedFormat};
 
 /// The formats of a row.
 #[derive(Clone, Copy)]
@@ -56,16 +56,12 @@ impl Formats {
         }
         match word.split_once('>') {
             None if word == "dd" => Some(Formats::Pairs),
-            None => match RowFormat::named(word) {
-                Some(format) => Some(Formats::One(format)),
-                None => None,
-            },
+            None => RowFormat::named(word).map(Formats::One),
             Some(("dd", "fallback")) => Some(Formats::FromPairs),
             Some(("fallback", "dd")) => Some(Formats::ToPairs),
-            Some(("x87", target)) if target.starts_with("x87p") => match FewerDigits::named(target) {
-                Some(target) => Some(Formats::ToFewerDigits(target)),
-                None => None,
-            },
+            Some(("x87", target)) if target.starts_with("x87p") => {
+                FewerDigits::named(target).map(Formats::ToFewerDigits)
+            }
             Some((source, target)) => Formats::between(source, target),
         }
     }
@@ -86,10 +82,7 @@ impl Formats {
     /// One format, or from one to another, on the machine of this word.
     fn on_machine(formats: &str, machine: &str) -> Option<Formats> {
         let Some((source, target)) = formats.split_once('>') else {
-            return match MachineFormat::named(formats, machine) {
-                Some(target) => Some(Formats::OnMachine(target)),
-                None => None,
-            };
+            return MachineFormat::named(formats, machine).map(Formats::OnMachine);
         };
         match (RowFormat::named(source), MachineFormat::named(target, machine)) {
             (Some(RowFormat::BuiltIn(format, FlaggedFormat::BuiltIn(_))), Some(target)) => {
@@ -103,14 +96,12 @@ impl Formats {
     fn between(source: &str, target: &str) -> Option<Formats> {
         match (RowFormat::named(source), RowFormat::named(target)) {
             (Some(source), Some(target)) => Some(Formats::Between(source, target)),
-            (Some(RowFormat::BuiltIn(format, _)), None) => match StorageName::named(target) {
-                Some(target) => Some(Formats::ToStorage(format, target)),
-                None => None,
-            },
-            (None, Some(RowFormat::BuiltIn(_, format))) => match StorageName::named(source) {
-                Some(source) => Some(Formats::FromStorage(source, format)),
-                None => None,
-            },
+            (Some(RowFormat::BuiltIn(format, _)), None) => {
+                StorageName::named(target).map(|target| Formats::ToStorage(format, target))
+            }
+            (None, Some(RowFormat::BuiltIn(_, format))) => {
+                StorageName::named(source).map(|source| Formats::FromStorage(source, format))
+            }
             _ => None,
         }
     }

@@ -5,12 +5,12 @@
 //! processors raise. Comparisons and copies round nothing, and may have no mode. The result of a comparison is `<`,
 //! `>`, `=`, or `?` if the operands are unordered.
 
+use crate::erased::commands::bits_of;
 use crate::lines::columns::{Columns, LineCall, is_nan};
 use crate::lines::row_error::RowError;
 use crate::lines::table::found;
 use crate::lines::text::Text;
 use crate::lines::widths::mask;
-use crate::erased::commands::bits_of;
 use std::fmt::Write as _;
 use std::io;
 use std::io::Write;
@@ -191,13 +191,8 @@ impl Fpgen {
 
     /// The name of the call of a line, and its format.
     pub fn call_in(self, line: &str) -> Option<(&'static str, Text)> {
-        let Some((name, _, right)) = cut_line(line) else {
-            return None;
-        };
-        match self.operation_named(name) {
-            Ok(operation) => Some((operation.call_stating(right), operation.word())),
-            Err(_) => None,
-        }
+        let (name, _, right) = cut_line(line)?;
+        self.operation_named(name).ok().map(|operation| (operation.call_stating(right), operation.word()))
     }
 
     /// The error of a line whose call the library does not have.
@@ -235,7 +230,7 @@ impl FpgenTest {
     }
 
     /// Writes the bits and the flags that the library returns, or of a comparison whether its relation holds.
-    pub fn write_given<W: Write>(self, given: Columns, out: &mut W) -> io::Result<()> {
+    pub fn write_given(self, given: Columns, out: &mut impl Write) -> io::Result<()> {
         let Columns { result, flags } = given;
         let letters = letters_of(flags);
         match self.format {
@@ -258,9 +253,7 @@ impl FpgenTest {
 
 /// The first word of a line, the text between it and the arrow, and the text after the arrow.
 fn cut_line(line: &str) -> Option<(&str, &str, &str)> {
-    let Some((left, right)) = line.split_once(" -> ") else {
-        return None;
-    };
+    let (left, right) = line.split_once(" -> ")?;
     match left.split_once(' ') {
         Some((name, left)) => Some((name, left, right)),
         None => None,
@@ -410,9 +403,7 @@ fn format_of(name: &str) -> Option<(BinaryFormat, &str)> {
 fn operands_of(words: &str, format: BinaryFormat) -> Option<Text> {
     let mut text = Text::of("");
     for word in words.split(' ') {
-        let Some(bits) = bits_of_word(word, format) else {
-            return None;
-        };
+        let bits = bits_of_word(word, format)?;
         if !text.as_bytes().is_empty() {
             text.write_str(" ").ok()?;
         }
@@ -431,10 +422,7 @@ fn bits_of_word(word: &str, format: BinaryFormat) -> Option<u128> {
     if let Some(magnitude) = word.strip_prefix('-') {
         return negated(bits_of_magnitude(magnitude, format), format);
     }
-    match word.strip_prefix('+') {
-        Some(magnitude) => bits_of_magnitude(magnitude, format),
-        None => None,
-    }
+    word.strip_prefix('+').and_then(|magnitude| bits_of_magnitude(magnitude, format))
 }
 
 /// The distance between the bits of consecutive powers of two.
@@ -444,10 +432,7 @@ fn unit_of(format: BinaryFormat) -> u128 {
 
 /// The bits with the sign bit set, if there are bits.
 fn negated(bits: Option<u128>, format: BinaryFormat) -> Option<u128> {
-    match bits {
-        Some(bits) => Some(bits | (mask(format.width) ^ (mask(format.width) >> 1))),
-        None => None,
-    }
+    bits.map(|bits| bits | (mask(format.width) ^ (mask(format.width) >> 1)))
 }
 
 /// The bits of a word without its sign.
@@ -457,15 +442,9 @@ fn bits_of_magnitude(word: &str, format: BinaryFormat) -> Option<u128> {
         "Inf" => return Some(format.infinity),
         _ => {}
     }
-    let Some((digits, exponent)) = word.split_once('P') else {
-        return None;
-    };
-    let Ok(exponent) = exponent.parse::<i32>() else {
-        return None;
-    };
-    let Some((whole, fraction)) = digits.split_once('.') else {
-        return None;
-    };
+    let (digits, exponent) = word.split_once('P')?;
+    let exponent = exponent.parse::<i32>().ok()?;
+    let (whole, fraction) = digits.split_once('.')?;
     match (whole, bits_of(fraction, format.fraction)) {
         ("0", fraction) => fraction,
         ("1", Some(fraction)) => bits_of_normal(fraction, exponent, format),
@@ -475,16 +454,9 @@ fn bits_of_magnitude(word: &str, format: BinaryFormat) -> Option<u128> {
 
 /// The bits of a normal number.
 fn bits_of_normal(fraction: u128, exponent: i32, format: BinaryFormat) -> Option<u128> {
-    let Some(biased) = exponent.checked_add(format.bias) else {
-        return None;
-    };
-    let Ok(biased) = u32::try_from(biased) else {
-        return None;
-    };
-    match u128::from(biased).checked_mul(unit_of(format)) {
-        Some(bits) => Some(bits | fraction),
-        None => None,
-    }
+    let biased = exponent.checked_add(format.bias)?;
+    let biased = u32::try_from(biased).ok()?;
+    u128::from(biased).checked_mul(unit_of(format)).map(|bits| bits | fraction)
 }
 
 /// The letters of the flags: inexact, underflow, overflow, division by zero, invalid operation.

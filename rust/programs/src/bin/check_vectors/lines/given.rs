@@ -1,19 +1,15 @@
 //! What the library returns for a line of another program, as numbers.
 
+use crate::erased::rustc_apfloat::{Flags, Status};
 use crate::lines::answer::{StatusField, ValueField};
 use crate::lines::asked::Asked;
 use crate::lines::columns::{Columns, LineCall};
-use crate::erased::rustc_apfloat::{Flags, Status};
 
 /// What a call returns, if it exists; a call without a status raises no flag.
 pub fn given(call: &LineCall) -> Option<Columns> {
     let (format, operands) = (call.format.as_str(), call.operands.as_str());
-    let Ok(asked) = Asked::of(call.name, format, call.mode, operands, "-") else {
-        return None;
-    };
-    let Ok(answer) = asked.answer() else {
-        return None;
-    };
+    let asked = Asked::of(call.name, format, call.mode, operands, "-").ok()?;
+    let answer = asked.answer().ok()?;
     let flags = match answer.status {
         StatusField::Flags(status) => bits_of_status(status),
         StatusField::Nothing => 0,
@@ -28,7 +24,7 @@ fn bits_of_field(field: ValueField) -> Option<u128> {
         ValueField::Bits(bits, _) => Some(bits),
         ValueField::Unsigned(number) => Some(number),
         ValueField::Signed(number) => Some(bits_of_signed(number)),
-        ValueField::Truth(holds) => Some(if holds { 1 } else { 0 }),
+        ValueField::Truth(holds) => Some(u128::from(holds)),
         _ => None,
     }
 }

@@ -1,11 +1,11 @@
 //! Formats as a machine computes in them, as rows name them: `single@x86`, or `single@x86+ftz` where tiny results are
 //! flushed to zero.
 
-use crate::lines::row_format::{CallInFormat, RowFormat};
-use crate::lines::table::found;
 use crate::erased::apfloat_machines::{Flush, Machine};
 use crate::erased::formats_at_run_time::{BuiltInFormat, BuiltInKind, FlaggedFormat, IeeeFormat};
 use crate::erased::rustc_apfloat::ieee::{BFloatS, DoubleS, Float8E5M2S, HalfS, QuadS, SingleS, X87DoubleExtendedS};
+use crate::lines::row_format::{CallInFormat, RowFormat};
+use crate::lines::table::found;
 
 /// A format with the infinities of IEEE 754, and the machine that computes in it.
 #[derive(Clone, Copy)]
@@ -39,9 +39,7 @@ pub const MACHINE_WORDS: &str = "x86, x87, arm, arm_default_nan, arm_alternate, 
 
 /// The word of the machine that formats name, if it is the word of none.
 pub fn unknown_machine(formats: &str) -> Option<&str> {
-    let Some((_, word)) = formats.split_once('@') else {
-        return None;
-    };
+    let (_, word) = formats.split_once('@')?;
     let (name, _) = word.split_once('+').unwrap_or((word, ""));
     match found(MACHINES, name) {
         Some(_) => None,
@@ -53,12 +51,8 @@ impl MachineFormat {
     /// The format of this name on the machine of this word, which may end in `+ftz` if the machine flushes results.
     pub fn named(format: &str, word: &str) -> Option<MachineFormat> {
         let (name, option) = word.split_once('+').unwrap_or((word, ""));
-        let Some(machine) = found(MACHINES, name) else {
-            return None;
-        };
-        let Some(kind) = BuiltInKind::named(format) else {
-            return None;
-        };
+        let machine = found(MACHINES, name)?;
+        let kind = BuiltInKind::named(format)?;
         let (Some(built_in), Some(format)) = (kind.format(), IeeeFormat::of(kind)) else {
             return None;
         };

@@ -1,13 +1,13 @@
 //! The operands of a call.
 
-use crate::lines::answer::status_named;
-use crate::lines::quanta::Quanta;
-use crate::lines::row_format::{CallInFormat, RowFormat};
-use crate::lines::widths::mask;
 use crate::erased::apfloat_ieee::AnyFloat;
 use crate::erased::commands::{bits_of, number_of};
 use crate::erased::rustc_apfloat::ieee::{Flagged, IeeeFloat};
 use crate::erased::rustc_apfloat::{ExpInt, Float, Status};
+use crate::lines::answer::status_named;
+use crate::lines::quanta::Quanta;
+use crate::lines::row_format::{CallInFormat, RowFormat};
+use crate::lines::widths::mask;
 
 /// An operand, read without its format.
 #[derive(Clone, Copy)]
@@ -54,9 +54,7 @@ impl Operands {
 
     /// Two values, separated by a space.
     pub fn two_values(text: &str) -> Option<Operands> {
-        let Some((first, second)) = text.split_once(' ') else {
-            return None;
-        };
+        let (first, second) = text.split_once(' ')?;
         match (Operand::value(first), Operand::value(second)) {
             (Some(first), Some(second)) => Some(Operands { first, second, third: Operand::Nothing }),
             _ => None,
@@ -65,9 +63,7 @@ impl Operands {
 
     /// Three values, separated by spaces.
     pub fn three_values(text: &str) -> Option<Operands> {
-        let Some((first, others)) = text.split_once(' ') else {
-            return None;
-        };
+        let (first, others) = text.split_once(' ')?;
         match (Operand::value(first), Operands::two_values(others)) {
             (Some(value), Some(others)) => Some(Operands { first: value, second: others.first, third: others.second }),
             _ => None,
@@ -76,17 +72,12 @@ impl Operands {
 
     /// Flags, once.
     pub fn one_status(text: &str) -> Option<Operands> {
-        match status_named(text) {
-            Some(status) => Some(Operands::one(Operand::Status(status))),
-            None => None,
-        }
+        status_named(text).map(|status| Operands::one(Operand::Status(status)))
     }
 
     /// Flags, twice, separated by a space.
     pub fn two_statuses(text: &str) -> Option<Operands> {
-        let Some((first, second)) = text.split_once(' ') else {
-            return None;
-        };
+        let (first, second) = text.split_once(' ')?;
         match (status_named(first), status_named(second)) {
             (Some(first), Some(second)) => Some(Operands {
                 first: Operand::Status(first),
@@ -99,9 +90,7 @@ impl Operands {
 
     /// Flags, three times, separated by spaces.
     pub fn three_statuses(text: &str) -> Option<Operands> {
-        let Some((first, others)) = text.split_once(' ') else {
-            return None;
-        };
+        let (first, others) = text.split_once(' ')?;
         match (status_named(first), Operands::two_statuses(others)) {
             (Some(first), Some(others)) => {
                 Some(Operands { first: Operand::Status(first), second: others.first, third: others.second })
@@ -112,9 +101,7 @@ impl Operands {
 
     /// A value and an integer, separated by a space.
     pub fn value_and_integer(text: &str) -> Option<Operands> {
-        let Some((value, integer)) = text.split_once(' ') else {
-            return None;
-        };
+        let (value, integer) = text.split_once(' ')?;
         match (Operand::value(value), integer.parse::<ExpInt>()) {
             (Some(first), Ok(integer)) => {
                 Some(Operands { first, second: Operand::Integer(integer), third: Operand::Nothing })
@@ -125,9 +112,7 @@ impl Operands {
 
     /// A value, a number of digits and an integer without a sign, separated by spaces.
     pub fn value_and_random(text: &str) -> Option<Operands> {
-        let Some((rest, random)) = text.rsplit_once(' ') else {
-            return None;
-        };
+        let (rest, random) = text.rsplit_once(' ')?;
         match (Operands::value_and_integer(rest), Operand::unsigned(random)) {
             (Some(read), Some(third)) => Some(Operands { third, ..read }),
             _ => None,
@@ -141,26 +126,17 @@ impl Operand {
         if let Some(bits) = bits_of(word, 128) {
             return Some(Operand::Bits(bits));
         }
-        match Quanta::named(word) {
-            Some(quanta) => Some(Operand::Quanta(quanta)),
-            None => None,
-        }
+        Quanta::named(word).map(Operand::Quanta)
     }
 
     /// An unsigned integer.
     pub fn unsigned(word: &str) -> Option<Operand> {
-        match number_of(word) {
-            Some(number) => Some(Operand::Unsigned(number)),
-            None => None,
-        }
+        number_of(word).map(Operand::Unsigned)
     }
 
     /// An integer.
     pub fn signed(word: &str) -> Option<Operand> {
-        match word.parse::<i128>() {
-            Ok(number) => Some(Operand::Signed(number)),
-            Err(_) => None,
-        }
+        word.parse::<i128>().ok().map(Operand::Signed)
     }
 
     /// The payload of a NaN, or none.
@@ -204,9 +180,6 @@ impl CallInFormat for WithFormat {
     type Output = Option<AnyFloat>;
 
     fn made_in<S: Flagged>(self) -> Option<AnyFloat> {
-        match value_of::<IeeeFloat<S>>(self.operand) {
-            Some(x) => Some(x.with_format()),
-            None => None,
-        }
+        value_of::<IeeeFloat<S>>(self.operand).map(|x| x.with_format())
     }
 }

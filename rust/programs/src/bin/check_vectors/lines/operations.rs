@@ -2,10 +2,10 @@
 //!
 //! The crate `call_rows` makes the call of such a row.
 
-use crate::lines::form::Form;
-use crate::lines::table::found;
 use crate::erased::apfloat_comparisons::{Extremum, OnNan, Predicate};
 use crate::erased::apfloat_machines::MinimumRule;
+use crate::lines::form::Form;
+use crate::lines::table::found;
 
 /// An operation of IEEE 754-2019.
 #[derive(Clone, Copy)]

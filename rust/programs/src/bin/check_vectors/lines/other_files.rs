@@ -3,18 +3,15 @@
 use crate::lines::fpgen::Fpgen;
 use crate::lines::given::given;
 use crate::lines::row_error::RowError;
-use crate::lines::summary::Summary;
 use crate::lines::testfloat::TestFloat;
-use std::io;
-use std::io::Write;
+use crate::summary::Summary;
+use std::collections::TryReserveError;
+use std::io::{self, Write};
 
 impl TestFloat {
     /// Whether what the library returns agrees with a line.
     pub fn agrees_with(self, line: &str) -> Result<bool, RowError<'_>> {
-        let (call, stated) = match self.read(line) {
-            Ok(parts) => parts,
-            Err(error) => return Err(error),
-        };
+        let (call, stated) = self.read(line)?;
         match given(&call) {
             Some(given) => Ok(self.agrees(given, stated)),
             None => Err(self.no_call(line)),
@@ -22,13 +19,12 @@ impl TestFloat {
     }
 
     /// Counts a line under its call and its format.
-    pub fn count(self, agrees: bool, summary: &mut Summary) {
-        let format = self.format();
-        summary.count(self.call_name(), format.as_str(), agrees);
+    pub fn count(self, agrees: bool, summary: &mut Summary) -> Result<(), TryReserveError> {
+        summary.count(self.call_name(), self.format().as_str(), agrees)
     }
 
     /// Writes the result and the flags that the library returns for a line.
-    pub fn write_returned<W: Write>(self, line: &str, out: &mut W) -> io::Result<()> {
+    pub fn write_returned(self, line: &str, out: &mut impl Write) -> io::Result<()> {
         let Ok((call, _)) = self.read(line) else {
             return Ok(());
         };
@@ -43,10 +39,8 @@ impl Fpgen {
     /// Whether what the library returns agrees with a line; `None` if the line states what is delivered to a trap
     /// handler, or is skipped.
     pub fn agrees_with(self, line: &str) -> Result<Option<bool>, RowError<'_>> {
-        let test = match self.read(line) {
-            Ok(Some(test)) => test,
-            Ok(None) => return Ok(None),
-            Err(error) => return Err(error),
+        let Some(test) = self.read(line)? else {
+            return Ok(None);
         };
         match given(&test.call) {
             Some(given) => Ok(Some(test.agrees(given))),
@@ -55,15 +49,15 @@ impl Fpgen {
     }
 
     /// Counts a line under its call and its format.
-    pub fn count(self, line: &str, agrees: bool, summary: &mut Summary) {
+    pub fn count(self, line: &str, agrees: bool, summary: &mut Summary) -> Result<(), TryReserveError> {
         match self.call_in(line) {
             Some((call, format)) => summary.count(call, format.as_str(), agrees),
-            None => {}
+            None => Ok(()),
         }
     }
 
     /// Writes the bits and the flags that the library returns for a line.
-    pub fn write_returned<W: Write>(self, line: &str, out: &mut W) -> io::Result<()> {
+    pub fn write_returned(self, line: &str, out: &mut impl Write) -> io::Result<()> {
         let Ok(Some(test)) = self.read(line) else {
             return Ok(());
         };

@@ -9,9 +9,9 @@
 //! NaNs by comparison with the results of `qnan` and `snan`. Operands are made by calls too, and then checked in the
 //! same way.
 
-use crate::lines::text::Text;
 use crate::erased::commands::{bits_of, number_of};
 use crate::erased::rustc_apfloat::{Category, ExpInt, Flags, Float};
+use crate::lines::text::Text;
 use std::fmt::Write;
 
 /// The value that a word spells.
@@ -39,17 +39,12 @@ impl Quanta {
         if let Some(magnitude) = word.strip_prefix('-') {
             return signed(true, Magnitude::named(magnitude));
         }
-        match word.strip_prefix('+') {
-            Some(magnitude) => signed(false, Magnitude::named(magnitude)),
-            None => None,
-        }
+        word.strip_prefix('+').and_then(|magnitude| signed(false, Magnitude::named(magnitude)))
     }
 
     /// The value in the type `F`, if the type has it.
     pub fn value<F: Float>(self) -> Option<F> {
-        let Some(x) = self.magnitude.value::<F>() else {
-            return None;
-        };
+        let x = self.magnitude.value::<F>()?;
         let x = if self.is_negative { -x } else { x };
         if self.is_of(x) { Some(x) } else { None }
     }
@@ -62,10 +57,7 @@ impl Quanta {
 
 /// A magnitude with a sign, if there is a magnitude.
 fn signed(is_negative: bool, magnitude: Option<Magnitude>) -> Option<Quanta> {
-    match magnitude {
-        Some(magnitude) => Some(Quanta { is_negative, magnitude }),
-        None => None,
-    }
+    magnitude.map(|magnitude| Quanta { is_negative, magnitude })
 }
 
 /// The word for a value other than a NaN.
@@ -106,55 +98,34 @@ fn text_of_count(sign: &str, number: u128, power: ExpInt) -> Option<Text> {
 
 /// A count as a single number, if it is below 2^63.
 fn short(number: u128, power: ExpInt) -> Option<i64> {
-    let Ok(number) = i64::try_from(number) else {
-        return None;
-    };
-    let Ok(power) = u32::try_from(power) else {
-        return None;
-    };
-    match 2i64.checked_pow(power) {
-        Some(factor) => number.checked_mul(factor),
-        None => None,
-    }
+    let number = i64::try_from(number).ok()?;
+    let power = u32::try_from(power).ok()?;
+    2i64.checked_pow(power).and_then(|factor| number.checked_mul(factor))
 }
 
 /// The count of quanta of a nonzero number.
 fn count_of<F: Float>(x: F) -> Option<(u128, ExpInt)> {
     let power = x.ilogb().saturating_sub(F::MIN_EXP).max(0);
-    match exponent_to_count(F::PRECISION, F::MIN_EXP, power) {
-        Some(exponent) => odd_count(x.abs().scalbn(exponent).to_u128(128).value, power),
-        None => None,
-    }
+    exponent_to_count(F::PRECISION, F::MIN_EXP, power)
+        .and_then(|exponent| odd_count(x.abs().scalbn(exponent).to_u128(128).value, power))
 }
 
 /// The exponent of `2^power` quanta of a format with this precision and this least exponent.
 fn exponent_of(precision: usize, min_exp: ExpInt, power: ExpInt) -> Option<ExpInt> {
-    let Ok(digits) = ExpInt::try_from(precision) else {
-        return None;
-    };
-    let Some(below) = min_exp.checked_sub(digits) else {
-        return None;
-    };
-    match below.checked_add(1) {
-        Some(of_quantum) => of_quantum.checked_add(power),
-        None => None,
-    }
+    let digits = ExpInt::try_from(precision).ok()?;
+    let below = min_exp.checked_sub(digits)?;
+    below.checked_add(1).and_then(|of_quantum| of_quantum.checked_add(power))
 }
 
 /// The exponent that scales `2^power` quanta of such a format to 1.
 fn exponent_to_count(precision: usize, min_exp: ExpInt, power: ExpInt) -> Option<ExpInt> {
-    match exponent_of(precision, min_exp, power) {
-        Some(exponent) => exponent.checked_neg(),
-        None => None,
-    }
+    exponent_of(precision, min_exp, power).and_then(|exponent| exponent.checked_neg())
 }
 
 /// A nonzero integer times a power of two, with the integer odd.
 fn odd_count(number: u128, power: ExpInt) -> Option<(u128, ExpInt)> {
     let zeros = number.trailing_zeros();
-    let Ok(added) = ExpInt::try_from(zeros) else {
-        return None;
-    };
+    let added = ExpInt::try_from(zeros).ok()?;
     match (number.checked_shr(zeros), power.checked_add(added)) {
         (Some(number), Some(power)) => Some((number, power)),
         _ => None,
@@ -173,26 +144,17 @@ impl Magnitude {
         if let Some(digits) = word.strip_prefix("snan:") {
             return Magnitude::signaling(bits_of(digits, 128));
         }
-        match word.strip_suffix('q') {
-            Some(count) => Magnitude::counted(count),
-            None => None,
-        }
+        word.strip_suffix('q').and_then(Magnitude::counted)
     }
 
     /// The quiet NaN with a payload, if there is one.
     fn quiet(payload: Option<u128>) -> Option<Magnitude> {
-        match payload {
-            Some(payload) => Some(Magnitude::Quiet(payload)),
-            None => None,
-        }
+        payload.map(Magnitude::Quiet)
     }
 
     /// The signaling NaN with a payload, if there is one.
     fn signaling(payload: Option<u128>) -> Option<Magnitude> {
-        match payload {
-            Some(payload) => Some(Magnitude::Signaling(payload)),
-            None => None,
-        }
+        payload.map(Magnitude::Signaling)
     }
 
     /// The magnitude of a count of quanta.
@@ -211,10 +173,7 @@ impl Magnitude {
         if number == 0 {
             return Some(Magnitude::Zero);
         }
-        match odd_count(number, power) {
-            Some((number, power)) => Some(Magnitude::Count(number, power)),
-            None => None,
-        }
+        odd_count(number, power).map(|(number, power)| Magnitude::Count(number, power))
     }
 
     /// The value of this magnitude with a positive sign, if there is one.
@@ -242,10 +201,7 @@ impl Magnitude {
 
 /// The value of a count of quanta, rounded.
 fn counted<F: Float>(number: u128, power: ExpInt) -> Option<F> {
-    match exponent_of(F::PRECISION, F::MIN_EXP, power) {
-        Some(exponent) => Some(F::from_u128(number).value.scalbn(exponent)),
-        None => None,
-    }
+    exponent_of(F::PRECISION, F::MIN_EXP, power).map(|exponent| F::from_u128(number).value.scalbn(exponent))
 }
 
 /// Whether a number is this count of quanta.
@@ -259,8 +215,5 @@ fn has_count<F: Float>(x: F, number: u128, power: ExpInt) -> bool {
 
 /// The exponent that a word spells.
 fn exponent_named(word: &str) -> Option<ExpInt> {
-    match word.parse() {
-        Ok(exponent) => Some(exponent),
-        Err(_) => None,
-    }
+    word.parse().ok()
 }

@@ -20,10 +20,7 @@ pub fn operands_of(form: Form, text: &str) -> Option<Operands> {
         Form::OneStatus => Operands::one_status(text),
         Form::TwoStatuses => Operands::two_statuses(text),
         Form::ThreeStatuses => Operands::three_statuses(text),
-        _ => match operand_of(form, text) {
-            Some(operand) => Some(Operands::one(operand)),
-            None => None,
-        },
+        _ => operand_of(form, text).map(Operands::one),
     }
 }
 

@@ -1,12 +1,11 @@
 //! The calls that rows ask for.
 
+use crate::erased::rustc_apfloat::Round;
 use crate::lines::answer::RowAnswer;
 use crate::lines::call::Call;
 use crate::lines::call_fault::CallFault;
-use crate::lines::formats::Formats;
 use crate::lines::operands::Operands;
 use crate::lines::quanta::Quanta;
-use crate::erased::rustc_apfloat::Round;
 
 /// What the call of a row returns, or the fault of the row.
 pub type Answered = Result<RowAnswer, CallFault>;

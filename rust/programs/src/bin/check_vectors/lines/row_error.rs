@@ -1,7 +1,7 @@
 //! What is wrong with a malformed line.
 
-use crate::lines::widths::mask;
 use crate::erased::commands::bits_of;
+use crate::lines::widths::mask;
 use std::fmt;
 
 /// What is wrong with a line.

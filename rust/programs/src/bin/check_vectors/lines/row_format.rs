@@ -1,6 +1,5 @@
 //! The formats that rows can name, and calls in them.
 
-use crate::lines::table::found;
 use crate::erased::custom_formats::{
     BroadS, DeepS, FusedLimitS, HalfTinyBeforeS, LeastFiniteS, LeastS, PreciseS, SevenS, TenS, VastS, WrittenBitS,
 };
@@ -9,6 +8,7 @@ use crate::erased::formats_at_run_time::{
 };
 use crate::erased::rustc_apfloat::ieee::{Flagged, Semantics};
 use crate::erased::rustc_apfloat::ppc::{FallbackExtendedS, FallbackS};
+use crate::lines::table::found;
 
 /// A call that can be made in every format, with bits or without, under any rule of flags.
 pub trait CallInFormat {
@@ -139,12 +139,8 @@ impl CallInFormat for Width {
 /// The built-in format of this word, with the rule of flags after a `+`.
 fn built_in_named(word: &str) -> Option<RowFormat> {
     let (name, rule) = word.split_once('+').unwrap_or((word, ""));
-    let Some(kind) = BuiltInKind::named(name) else {
-        return None;
-    };
-    let Some(format) = kind.format() else {
-        return None;
-    };
+    let kind = BuiltInKind::named(name)?;
+    let format = kind.format()?;
     match (rule, IeeeFormat::of(kind)) {
         ("", _) if name == word => Some(RowFormat::plain(format)),
         ("ieee", Some(ieee)) => Some(RowFormat::BuiltIn(format, FlaggedFormat::AfterRounding(ieee))),

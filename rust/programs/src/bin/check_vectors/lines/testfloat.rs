@@ -3,12 +3,12 @@
 //!
 //! Flags are those that processors raise, so the formats have the rule of flags of IEEE 754-2019.
 
+use crate::erased::commands::bits_of;
 use crate::lines::columns::{Columns, LineCall, is_nan};
 use crate::lines::row_error::RowError;
 use crate::lines::table::found;
 use crate::lines::text::{Text, shown};
 use crate::lines::widths::mask;
-use crate::erased::commands::bits_of;
 use std::fmt::Write as _;
 use std::io;
 use std::io::Write;
@@ -208,10 +208,7 @@ impl TestFloat {
 
     /// The call that a line asks for, and the result and the flags that it states.
     pub fn read(self, line: &str) -> Result<(LineCall, Columns), RowError<'_>> {
-        let (operands, stated) = match self.cut(line) {
-            Ok(parts) => parts,
-            Err(error) => return Err(error),
-        };
+        let (operands, stated) = self.cut(line)?;
         match self.call_on(operands) {
             Some(call) => Ok((call, stated)),
             None => Err(operand_error(operands)),
@@ -233,7 +230,7 @@ impl TestFloat {
     }
 
     /// Writes the result and the flags that the library returns.
-    pub fn write_given<W: Write>(self, given: Columns, out: &mut W) -> io::Result<()> {
+    pub fn write_given(self, given: Columns, out: &mut impl Write) -> io::Result<()> {
         let Columns { result, flags } = self.cut_to_width(given);
         let digits = width_of(self.result).div_ceil(4);
         writeln!(out, "  given: {result:0digits$X} {flags:02X}")
@@ -287,10 +284,7 @@ impl TestFloat {
         if count != wanted {
             return Err(RowError::Numbers(count, wanted));
         }
-        match self.stated(result, flags) {
-            Ok(stated) => Ok((operands, stated)),
-            Err(error) => Err(error),
-        }
+        self.stated(result, flags).map(|stated| (operands, stated))
     }
 
     /// The result and the flags that two words spell.
@@ -304,15 +298,12 @@ impl TestFloat {
 
     /// The call on these operands, if they are well-formed.
     fn call_on(self, operands: &str) -> Option<LineCall> {
-        match self.words(operands) {
-            Some(words) => Some(LineCall {
-                name: self.call_name(),
-                format: self.format(),
-                mode: self.mode_word(),
-                operands: words,
-            }),
-            None => None,
-        }
+        self.words(operands).map(|words| LineCall {
+            name: self.call_name(),
+            format: self.format(),
+            mode: self.mode_word(),
+            operands: words,
+        })
     }
 
     /// The format of the row, or both formats of a conversion. The flags of a conversion are those of its target.
@@ -351,10 +342,7 @@ fn conversion(source: Option<Kind>, target: Option<Kind>) -> Option<TestFloat> {
     let (Some(source), Some(target)) = (source, target) else {
         return None;
     };
-    match call_between(source, target) {
-        Some(call) => Some(TestFloat::of(call, source, 1, target)),
-        None => None,
-    }
+    call_between(source, target).map(|call| TestFloat::of(call, source, 1, target))
 }
 
 /// The function that makes a call on operands of one kind, if the kind and the call exist.
@@ -420,9 +408,7 @@ fn width_of(kind: Kind) -> usize {
 
 /// The text before the last two words of a line, and the two words.
 fn last_two_words(line: &str) -> Option<(&str, &str, &str)> {
-    let Some((others, last)) = line.rsplit_once(' ') else {
-        return None;
-    };
+    let (others, last) = line.rsplit_once(' ')?;
     match others.rsplit_once(' ') {
         Some((others, last_but_one)) => Some((others, last_but_one, last)),
         None => None,
@@ -431,21 +417,13 @@ fn last_two_words(line: &str) -> Option<(&str, &str, &str)> {
 
 /// An integer in decimal digits, if there is one.
 fn decimal(number: Option<u128>) -> Option<Text> {
-    match number {
-        Some(number) => Some(shown(number)),
-        None => None,
-    }
+    number.map(shown)
 }
 
 /// The integer that bits of this width represent in two's complement, in decimal digits; `None` without bits.
 fn signed_decimal(bits: Option<u128>, width: usize) -> Option<Text> {
-    let Some(bits) = bits else {
-        return None;
-    };
-    match signed(bits, width) {
-        Some(number) => Some(shown(number)),
-        None => None,
-    }
+    let bits = bits?;
+    signed(bits, width).map(shown)
 }
 
 /// A text, a space and a width.
@@ -461,13 +439,7 @@ fn with_width(text: &str, width: usize) -> Option<Text> {
 fn signed(bits: u128, width: usize) -> Option<i128> {
     let mask = mask(width);
     if bits <= mask >> 1 {
-        return match i128::try_from(bits) {
-            Ok(number) => Some(number),
-            Err(_) => None,
-        };
+        return i128::try_from(bits).ok();
     }
-    match i128::try_from(mask.wrapping_sub(bits)) {
-        Ok(below) => Some(!below),
-        Err(_) => None,
-    }
+    i128::try_from(mask.wrapping_sub(bits)).ok().map(|below| !below)
 }

@@ -1,5 +1,6 @@
 //! Failures that end a check before the end of its input.
 
+use std::collections::TryReserveError;
 use std::{fmt, io};
 
 /// The failure that ended a check.
@@ -37,6 +38,12 @@ impl From<io::Error> for Failure {
             io::ErrorKind::OutOfMemory => Failure::Memory,
             _ => Failure::Output(error),
         }
+    }
+}
+
+impl From<TryReserveError> for Failure {
+    fn from(_: TryReserveError) -> Failure {
+        Failure::Memory
     }
 }
 

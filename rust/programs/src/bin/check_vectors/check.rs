@@ -1,16 +1,12 @@
 //! Checks the lines of an input one at a time, counts them, and reports progress.
 
-use crate::lines::asked::{agrees, write_answers};
-use crate::lines::call_row::{CallRow, row_of};
-use crate::lines::command_row::CommandRow;
-use crate::lines::failure::Failure;
-use crate::lines::fpgen::Fpgen;
-use crate::lines::row_error::RowError;
-use crate::lines::summary::Summary;
-use crate::lines::testfloat::TestFloat;
+use crate::failure::Failure;
+use crate::lines::{CallRow, CommandRow, Fpgen, RowError, TestFloat, agrees, row_of, write_answers};
 use crate::progress::Progress;
-use std::io::{BufRead, ErrorKind, Write};
-use std::{fmt, io, str};
+use crate::summary::Summary;
+use std::collections::TryReserveError;
+use std::io::{self, BufRead, ErrorKind, Write};
+use std::{fmt, str};
 
 /// Lines read between two readings of the clock.
 const LINES: u64 = 1024;
@@ -78,12 +74,12 @@ impl Lines {
     }
 
     /// Counts a line under its call and its format.
-    fn count(self, text: &str, agrees: bool, summary: &mut Summary) {
+    fn count(self, text: &str, agrees: bool, summary: &mut Summary) -> Result<(), TryReserveError> {
         match self {
             Lines::Rows => summary.count_row(text, agrees),
             Lines::TestFloat(function) => function.count(agrees, summary),
             Lines::Fpgen(fpgen) => fpgen.count(text, agrees, summary),
-            Lines::Unknown => {}
+            Lines::Unknown => Ok(()),
         }
     }
 }
@@ -105,23 +101,17 @@ impl Check {
     }
 
     /// Checks the lines of an input to its end. Differences and malformed lines are written to `out`, and progress, if
-    /// it is shown, to `err`. The buffer for a line, as long as the longest one, is allocated from `alloc`.
-    pub fn take<R: BufRead, W: Write, V: Write>(
+    /// it is shown, to `err`.
+    pub fn take(
         &mut self,
-        input: &mut R,
-        out: &mut W,
-        err: &mut V,
+        input: &mut impl BufRead,
+        out: &mut impl Write,
+        err: &mut impl Write,
     ) -> Result<(), Failure> {
         let mut progress = Progress::new(self.task.shows_progress);
         let mut line = Vec::new();
-        for _ in 0..u64::MAX {
-            line.clear();
-            match read_line(input, &mut line) {
-                Ok(0) => break,
-                Ok(_) => {}
-                Err(error) => return Err(Failure::of_input("read", error)),
-            }
-            self.take_next(without_end(line.as_slice()), out)?;
+        while read_line(input, &mut line)? > 0 {
+            self.take_next(without_end(&line), out)?;
             if self.is_limit_reached() {
                 break;
             }
@@ -131,7 +121,7 @@ impl Check {
     }
 
     /// Checks the next line, of which the first one may begin with a byte order mark.
-    fn take_next<W: Write>(&mut self, text: &[u8], out: &mut W) -> Result<(), Failure> {
+    fn take_next(&mut self, text: &[u8], out: &mut impl Write) -> Result<(), Failure> {
         if self.tally.lines() == 0 {
             return self.take_line(text.strip_prefix(BYTE_ORDER_MARK).unwrap_or(text), out);
         }
@@ -140,16 +130,13 @@ impl Check {
 
     /// Whether as many rows differ as end the check.
     fn is_limit_reached(&self) -> bool {
-        match self.task.first {
-            Some(first) => self.tally.differing >= first,
-            None => false,
-        }
+        self.task.first.is_some_and(|first| self.tally.differing >= first)
     }
 
     /// Says how far a long check has come, if it is time to say so. A failure of this write is harmless.
-    fn report_progress<V: Write>(&self, progress: &mut Progress, err: &mut V) {
+    fn report_progress(&self, progress: &mut Progress, err: &mut impl Write) {
         let lines = self.tally.lines();
-        if lines % LINES != 0 {
+        if !lines.is_multiple_of(LINES) {
             return;
         }
         if let Some(seconds) = progress.due() {
@@ -158,24 +145,27 @@ impl Check {
     }
 
     /// Checks one line.
-    fn take_line<W: Write>(&mut self, line: &[u8], out: &mut W) -> Result<(), Failure> {
+    fn take_line(&mut self, line: &[u8], out: &mut impl Write) -> Result<(), Failure> {
         let Ok(text) = str::from_utf8(line) else {
             return self.take_error(RowError::Encoding, out);
         };
         if text.starts_with('#') || text.trim_start().is_empty() {
-            increment(&mut self.tally.skipped);
+            self.tally.skipped += 1;
             return Ok(());
         }
         match self.task.lines {
             Lines::Rows => self.take_row(text, out),
             Lines::TestFloat(function) => self.take_testfloat(function, text, out),
             Lines::Fpgen(fpgen) => self.take_fpgen(fpgen, text, out),
-            Lines::Unknown => Ok(increment(&mut self.tally.skipped)),
+            Lines::Unknown => {
+                self.tally.skipped += 1;
+                Ok(())
+            }
         }
     }
 
     /// Checks a line of TestFloat.
-    fn take_testfloat<W: Write>(&mut self, function: TestFloat, text: &str, out: &mut W) -> Result<(), Failure> {
+    fn take_testfloat(&mut self, function: TestFloat, text: &str, out: &mut impl Write) -> Result<(), Failure> {
         match function.agrees_with(text) {
             Ok(agrees) => {
                 if self.takes_difference(text, agrees, out)? {
@@ -188,7 +178,7 @@ impl Check {
     }
 
     /// Checks a line of FPgen.
-    fn take_fpgen<W: Write>(&mut self, fpgen: Fpgen, text: &str, out: &mut W) -> Result<(), Failure> {
+    fn take_fpgen(&mut self, fpgen: Fpgen, text: &str, out: &mut impl Write) -> Result<(), Failure> {
         match fpgen.agrees_with(text) {
             Ok(Some(agrees)) => {
                 if self.takes_difference(text, agrees, out)? {
@@ -196,13 +186,16 @@ impl Check {
                 }
                 Ok(())
             }
-            Ok(None) => Ok(increment(&mut self.tally.skipped)),
+            Ok(None) => {
+                self.tally.skipped += 1;
+                Ok(())
+            }
             Err(error) => self.take_error(error, out),
         }
     }
 
     /// Checks a row.
-    fn take_row<W: Write>(&mut self, text: &str, out: &mut W) -> Result<(), Failure> {
+    fn take_row(&mut self, text: &str, out: &mut impl Write) -> Result<(), Failure> {
         match text.split_once('\t') {
             Some((command, reply)) if !reply.contains('\t') => {
                 self.take_command(CommandRow { command, reply }, text, out)
@@ -215,7 +208,7 @@ impl Check {
     }
 
     /// Checks a call.
-    fn take_call<W: Write>(&mut self, row: CallRow<'_>, text: &str, out: &mut W) -> Result<(), Failure> {
+    fn take_call(&mut self, row: CallRow<'_>, text: &str, out: &mut impl Write) -> Result<(), Failure> {
         match agrees(row) {
             Ok(agrees) => {
                 if self.takes_difference(text, agrees, out)? {
@@ -228,7 +221,7 @@ impl Check {
     }
 
     /// Checks a command with its reply.
-    fn take_command<W: Write>(&mut self, row: CommandRow<'_>, text: &str, out: &mut W) -> Result<(), Failure> {
+    fn take_command(&mut self, row: CommandRow<'_>, text: &str, out: &mut impl Write) -> Result<(), Failure> {
         if row.agrees() {
             self.takes_difference(text, true, out)?;
             return Ok(());
@@ -240,7 +233,7 @@ impl Check {
     }
 
     /// Checks a command whose reply is not the expected one as it is written, but may be the same result.
-    fn take_reply<W: Write>(&mut self, row: CommandRow<'_>, text: &str, out: &mut W) -> Result<(), Failure> {
+    fn take_reply(&mut self, row: CommandRow<'_>, text: &str, out: &mut impl Write) -> Result<(), Failure> {
         let wrong = row.wrong_reply()?;
         if wrong.is_some()
             && let Some(error) = row.width_fault()
@@ -251,20 +244,20 @@ impl Check {
             && let Some(given) = wrong
         {
             write!(out, "  expected: {}\n  given: ", row.reply)?;
-            out.write_all(given.as_slice())?;
+            out.write_all(&given)?;
         }
         Ok(())
     }
 
     /// Counts a row, and writes it if it differs. Returns whether what the library gives has to be written too.
-    fn takes_difference<W: Write>(&mut self, text: &str, agrees: bool, out: &mut W) -> Result<bool, Failure> {
+    fn takes_difference(&mut self, text: &str, agrees: bool, out: &mut impl Write) -> Result<bool, Failure> {
         if agrees {
-            increment(&mut self.tally.agreeing);
+            self.tally.agreeing += 1;
         } else {
-            increment(&mut self.tally.differing);
+            self.tally.differing += 1;
         }
         if self.task.is_summary {
-            self.task.lines.count(text, agrees, &mut self.summary);
+            self.task.lines.count(text, agrees, &mut self.summary)?;
             return Ok(false);
         }
         if !agrees {
@@ -275,8 +268,8 @@ impl Check {
     }
 
     /// Counts a malformed line, and writes what is wrong with it.
-    fn take_error<W: Write>(&mut self, error: RowError<'_>, out: &mut W) -> Result<(), Failure> {
-        increment(&mut self.tally.malformed);
+    fn take_error(&mut self, error: RowError<'_>, out: &mut impl Write) -> Result<(), Failure> {
+        self.tally.malformed += 1;
         if self.task.is_summary {
             return Ok(());
         }
@@ -285,33 +278,30 @@ impl Check {
     }
 
     /// Writes the counts by call and format, if asked for, and the number of lines of each kind.
-    pub fn write_counts<W: Write>(&self, out: &mut W) -> io::Result<()> {
+    pub fn write_counts(&self, out: &mut impl Write) -> io::Result<()> {
         self.summary.write(out)?;
         writeln!(out, "{}", self.tally)
     }
 }
 
-/// Reads a line with its newline. Returns its length in bytes, which is 0 at the end of the input.
-fn read_line<R: BufRead>(input: &mut R, line: &mut Vec<u8>) -> io::Result<usize> {
-    let available = match input.fill_buf() {
-        Ok(available) => available,
-        Err(error) => match error.kind() {
-            ErrorKind::Interrupted => return input.read_until(b'\n', line),
-            _ => return Err(error),
-        },
-    };
-    // Most lines are in the buffer completely.
-    let Some(end) = available.iter().position(|byte| *byte == b'\n') else {
-        return input.read_until(b'\n', line);
-    };
-    line.extend_from_slice(&available[..=end]);
-    input.consume(end + 1);
-    Ok(end + 1)
-}
-
-/// Adds one to a count.
-fn increment(count: &mut u64) {
-    *count = count.saturating_add(1);
+/// Reads the next line, with its newline, in place of the last one. Returns its length in bytes, which is 0 at the end
+/// of the input. The line may be as long as the input, so memory may be refused.
+fn read_line(input: &mut impl BufRead, line: &mut Vec<u8>) -> Result<usize, Failure> {
+    line.clear();
+    loop {
+        let available = match input.fill_buf() {
+            Err(error) if error.kind() == ErrorKind::Interrupted => continue,
+            read => read.map_err(|error| Failure::of_input("read", error))?,
+        };
+        let end = available.iter().position(|byte| *byte == b'\n');
+        let count = end.map_or(available.len(), |end| end + 1);
+        line.try_reserve(count)?;
+        line.extend_from_slice(&available[..count]);
+        input.consume(count);
+        if end.is_some() || count == 0 {
+            return Ok(line.len());
+        }
+    }
 }
 
 /// A line without its newline or CR LF.
@@ -336,9 +326,7 @@ pub struct Tally {
 impl Tally {
     /// The number of all lines.
     pub fn lines(self) -> u64 {
-        let well_formed = self.agreeing.saturating_add(self.differing);
-        let others = self.malformed.saturating_add(self.skipped);
-        well_formed.saturating_add(others)
+        self.agreeing + self.differing + self.malformed + self.skipped
     }
 
     /// Whether there was no row to check.
@@ -349,13 +337,7 @@ impl Tally {
     /// The exit status for an input that was read to its end. A malformed line takes precedence over a row that
     /// differs, since what it should have checked is not known.
     pub fn status(self) -> u8 {
-        if self.is_empty() || self.malformed > 0 {
-            2
-        } else if self.differing > 0 {
-            1
-        } else {
-            0
-        }
+        if self.is_empty() || self.malformed > 0 { 2 } else { u8::from(self.differing > 0) }
     }
 }
 

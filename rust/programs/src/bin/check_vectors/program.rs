@@ -1,13 +1,12 @@
 //! The arguments of the program, and how it ends.
 
-use crate::lines::check::{Check, Lines, Tally, Task};
-use crate::lines::failure::Failure;
-use crate::lines::fpgen::Fpgen;
-use crate::lines::testfloat::TestFloat;
+use crate::check::{Check, Lines, Tally, Task};
 use crate::erased::commands::{About, WrongWord, write_fault};
-use std::io::{BufRead, BufReader, BufWriter, Read, Write};
+use crate::failure::Failure;
+use crate::lines::{Fpgen, TestFloat};
 use std::ffi::OsString;
-use std::{fs, io};
+use std::fs::File;
+use std::io::{self, BufRead, BufReader, BufWriter, Write};
 
 const PROGRAM: &str = "check_vectors";
 
@@ -93,21 +92,16 @@ static OPTIONS_OF_TESTFLOAT: &[&str] = &[
 /// The same before one of FPgen's lines.
 static OPTIONS_OF_FPGEN: &[&str] = &["--summary", "--first", "--skip-unknown", "-tininessafter", "-tininessbefore"];
 
-/// Runs the program with the arguments from the system, without its own name. If `err` is a terminal, it is told how
-/// far a long check has come. Returns the exit status.
-pub fn run<W: Write, V: Write>(
-    given: Result<Vec<String>, OsString>,
-    is_terminal: bool,
-    out: &mut W,
-    err: &mut V,
-) -> u8 {
-    let Ok(words) = given else {
+/// Runs the program with the words of the command line. If `err` is a terminal, it is told how far a long check has
+/// come. Returns the exit status.
+pub fn run(words: Result<Vec<String>, OsString>, is_terminal: bool, out: &mut impl Write, err: &mut impl Write) -> u8 {
+    let Ok(words) = words else {
         return status_after(write_fault(PROGRAM, "the words are not valid text", err), 2);
     };
-    match job_of(words.as_slice()) {
+    match Job::of(&words) {
         Ok(Job::Check(task, file)) => check_input(file, task.showing_progress(is_terminal), out, err),
         Ok(Job::About(about)) => answer(about, out, err),
-        Err(wrong) => refuse_word(wrong, err),
+        Err(wrong) => status_after(wrong.write(PROGRAM, err), 2),
     }
 }
 
@@ -119,119 +113,74 @@ enum Job<'a> {
     Check(Task, Option<&'a str>),
 }
 
-/// What the arguments ask for, or the first word that is wrong.
-fn job_of(words: &[String]) -> Result<Job<'_>, WrongWord<'_>> {
-    if let Some(about) = About::among(words) {
-        return Ok(Job::About(about));
-    }
-    match task_of(words) {
-        Ok((task, left)) => check_of(task, file_of(left, options_before(task.lines))),
-        Err(wrong) => Err(wrong),
-    }
-}
-
-/// A check of a file, or of standard input.
-fn check_of<'a>(task: Task, file: Result<Option<&'a str>, WrongWord<'a>>) -> Result<Job<'a>, WrongWord<'a>> {
-    match file {
-        Ok(file) => Ok(Job::Check(task, file)),
-        Err(wrong) => Err(wrong),
+impl Job<'_> {
+    /// What the arguments ask for, or the first word that is wrong.
+    fn of(words: &[String]) -> Result<Job<'_>, WrongWord<'_>> {
+        if let Some(about) = About::among(words) {
+            return Ok(Job::About(about));
+        }
+        let (task, left) = task_of(words)?;
+        Ok(Job::Check(task, file_of(left, options_before(task.lines))?))
     }
 }
 
 /// What the options before a file ask for, and the words after them.
 fn task_of(words: &[String]) -> Result<(Task, &[String]), WrongWord<'_>> {
-    let mut task = Task::rows();
-    let mut left = words;
-    for _ in 0..words.len() {
-        match next_option(task, left) {
-            NextOption::Known(changed, others) => {
-                task = changed;
-                left = others;
-            }
-            NextOption::Wrong(wrong) => return Err(wrong),
-            NextOption::End => break,
-        }
+    let (mut task, mut left) = (Task::rows(), words);
+    while let Some((changed, others)) = next_option(task, left)? {
+        (task, left) = (changed, others);
     }
     Ok((task, left))
 }
 
-/// The next of the words.
-enum NextOption<'a> {
-    /// An option: the task with this option, and the words after it.
-    Known(Task, &'a [String]),
-    /// An option whose number or function is wrong.
-    Wrong(WrongWord<'a>),
-    /// No option.
-    End,
-}
-
-/// The task with the next option.
-fn next_option(task: Task, words: &[String]) -> NextOption<'_> {
-    let [option, others @ ..] = words else {
-        return NextOption::End;
+/// The task with the next option and the words after it, if an option is next.
+fn next_option(task: Task, words: &[String]) -> Result<Option<(Task, &[String])>, WrongWord<'_>> {
+    let Some((option, others)) = words.split_first() else {
+        return Ok(None);
     };
-    match option.as_str() {
-        "--summary" => {
-            let is_summary = true;
-            NextOption::Known(Task { is_summary, ..task }, others)
-        }
-        "--skip-unknown" => {
-            let skips_unknown = true;
-            NextOption::Known(Task { skips_unknown, ..task }, others)
-        }
-        "--first" => limited(task, option, others),
-        "--testfloat" => on_testfloat(task, option, others),
-        "--fpgen" => with_lines(task, Lines::Fpgen(Fpgen::new().skipping(task.skips_unknown)), others),
+    let (task, others) = match option.as_str() {
+        "--summary" => (Task { is_summary: true, ..task }, others),
+        "--skip-unknown" => (Task { skips_unknown: true, ..task }, others),
+        "--first" => limited(task, option, others)?,
+        "--testfloat" => on_testfloat(task, option, others)?,
+        "--fpgen" => (Task { lines: Lines::Fpgen(Fpgen::new().skipping(task.skips_unknown)), ..task }, others),
         word => match task.lines.with(word) {
-            Some(lines) => with_lines(task, lines, others),
-            None => NextOption::End,
+            Some(lines) => (Task { lines, ..task }, others),
+            None => return Ok(None),
         },
-    }
+    };
+    Ok(Some((task, others)))
 }
 
 /// The task that ends after as many rows that differ as the word after the option says.
-fn limited<'a>(task: Task, option: &'a String, words: &'a [String]) -> NextOption<'a> {
-    let [count, others @ ..] = words else {
-        return wrong("a word is missing after", option);
-    };
-    match count.as_str().parse::<u64>() {
-        Ok(count) => {
-            let first = Some(count);
-            NextOption::Known(Task { first, ..task }, others)
-        }
-        Err(_) => wrong("no count of rows", count),
-    }
+fn limited<'a>(task: Task, option: &'a str, words: &'a [String]) -> Result<(Task, &'a [String]), WrongWord<'a>> {
+    let (count, others) = words.split_first().ok_or(wrong("a word is missing after", option))?;
+    let first = count.parse().map_err(|_| wrong("no count of rows", count))?;
+    Ok((Task { first: Some(first), ..task }, others))
 }
 
 /// The task on lines of the function of TestFloat that the word after the option names.
-fn on_testfloat<'a>(task: Task, option: &'a String, words: &'a [String]) -> NextOption<'a> {
-    let [name, others @ ..] = words else {
-        return wrong("a word is missing after", option);
+fn on_testfloat<'a>(task: Task, option: &'a str, words: &'a [String]) -> Result<(Task, &'a [String]), WrongWord<'a>> {
+    let (name, others) = words.split_first().ok_or(wrong("a word is missing after", option))?;
+    let lines = match TestFloat::named(name) {
+        Some(function) => Lines::TestFloat(function),
+        None if task.skips_unknown => Lines::Unknown,
+        None => return Err(wrong("no such function of TestFloat", name)),
     };
-    match TestFloat::named(name.as_str()) {
-        Some(function) => with_lines(task, Lines::TestFloat(function), others),
-        None if task.skips_unknown => with_lines(task, Lines::Unknown, others),
-        None => wrong("no such function of TestFloat", name),
-    }
+    Ok((Task { lines, ..task }, others))
 }
 
-/// A word after an option that is wrong.
-fn wrong<'a>(fault: &'static str, word: &'a String) -> NextOption<'a> {
-    NextOption::Wrong(WrongWord { fault, word: word.as_str(), known: &[] })
-}
-
-/// The task on other lines.
-fn with_lines(task: Task, lines: Lines, others: &[String]) -> NextOption<'_> {
-    NextOption::Known(Task { lines, ..task }, others)
+/// A word that is wrong, and which no list of words corrects.
+fn wrong<'a>(fault: &'static str, word: &'a str) -> WrongWord<'a> {
+    WrongWord { fault, word, known: &[] }
 }
 
 /// The options that may stand before the name of a file with these lines.
 fn options_before(lines: Lines) -> &'static [&'static str] {
     match lines {
         Lines::Rows => OPTIONS,
-        Lines::TestFloat(_) => OPTIONS_OF_TESTFLOAT,
+        Lines::TestFloat(_) | Lines::Unknown => OPTIONS_OF_TESTFLOAT,
         Lines::Fpgen(_) => OPTIONS_OF_FPGEN,
-        Lines::Unknown => OPTIONS_OF_TESTFLOAT,
     }
 }
 
@@ -240,23 +189,16 @@ fn options_before(lines: Lines) -> &'static [&'static str] {
 fn file_of<'a>(words: &'a [String], known: &'static [&'static str]) -> Result<Option<&'a str>, WrongWord<'a>> {
     match words {
         [] => Ok(None),
-        [word] if word.as_str() == "-" => Ok(None),
-        [mark, name] if mark.as_str() == "--" => Ok(Some(name.as_str())),
-        [word, ..] if word.as_str().starts_with('-') => {
-            Err(WrongWord { fault: "no such option", word: word.as_str(), known })
-        }
-        [word] => Ok(Some(word.as_str())),
-        [_, word, ..] => Err(WrongWord { fault: "a word too many", word: word.as_str(), known: &[] }),
+        [word] if word == "-" => Ok(None),
+        [mark, name] if mark == "--" => Ok(Some(name)),
+        [word, ..] if word.starts_with('-') => Err(WrongWord { fault: "no such option", word, known }),
+        [word] => Ok(Some(word)),
+        [_, word, ..] => Err(wrong("a word too many", word)),
     }
 }
 
-/// Names the word that is wrong. Returns the exit status for unknown arguments.
-fn refuse_word<V: Write>(wrong: WrongWord<'_>, err: &mut V) -> u8 {
-    status_after(wrong.write(PROGRAM, err), 2)
-}
-
 /// Answers a question about the program. Returns the exit status.
-fn answer<W: Write, V: Write>(about: About, out: &mut W, err: &mut V) -> u8 {
+fn answer(about: About, out: &mut impl Write, err: &mut impl Write) -> u8 {
     match about.answer(PROGRAM, HELP, out) {
         Ok(()) => 0,
         Err(error) => report("help", &Failure::from(error), err),
@@ -264,35 +206,18 @@ fn answer<W: Write, V: Write>(about: About, out: &mut W, err: &mut V) -> u8 {
 }
 
 /// Checks the lines of a file, or of standard input. Returns the exit status.
-fn check_input<W: Write, V: Write>(file: Option<&str>, task: Task, out: &mut W, err: &mut V) -> u8 {
+fn check_input(file: Option<&str>, task: Task, out: &mut impl Write, err: &mut impl Write) -> u8 {
     let Some(name) = file else {
-        return check_reader("standard input", io::stdin(), task, out, err);
+        return check_lines("standard input", &mut io::stdin().lock(), task, out, err);
     };
-    match fs::File::open(name) {
-        Ok(file) => check_reader(name, file, task, out, err),
+    match File::open(name) {
+        Ok(file) => check_lines(name, &mut BufReader::new(file), task, out, err),
         Err(error) => report(name, &Failure::of_input("open", error), err),
     }
 }
 
-/// Checks the lines from a reader; messages call it `name`. Returns the exit status.
-fn check_reader<I: Read, W: Write, V: Write>(
-    name: &str,
-    reader: I,
-    task: Task,
-    out: &mut W,
-    err: &mut V,
-) -> u8 {
-    check_lines(name, &mut BufReader::new(reader), task, out, err)
-}
-
 /// Checks the lines of an input; messages call it `name`. Returns the exit status.
-pub fn check_lines<B: BufRead, W: Write, V: Write>(
-    name: &str,
-    input: &mut B,
-    task: Task,
-    out: &mut W,
-    err: &mut V,
-) -> u8 {
+fn check_lines(name: &str, input: &mut impl BufRead, task: Task, out: &mut impl Write, err: &mut impl Write) -> u8 {
     let mut out = BufWriter::new(out);
     let mut check = Check::new(task);
     let ended = check.take(input, &mut out, err);
@@ -300,17 +225,17 @@ pub fn check_lines<B: BufRead, W: Write, V: Write>(
         return report(name, &Failure::Output(error), err);
     }
     // The counts include what was checked before a failure.
-    let written = write_counts(&check, &mut out);
+    let written = check.write_counts(&mut out).and_then(|()| out.flush());
     status_of_check(name, ended, written, check.tally(), err)
 }
 
 /// Reports how a check ended whose counts were written, unless there is nothing to report. Returns the exit status.
-fn status_of_check<V: Write>(
+fn status_of_check(
     name: &str,
     ended: Result<(), Failure>,
     written: io::Result<()>,
     tally: Tally,
-    err: &mut V,
+    err: &mut impl Write,
 ) -> u8 {
     if let Err(error) = written {
         return report(name, &Failure::from(error), err);
@@ -322,14 +247,8 @@ fn status_of_check<V: Write>(
     }
 }
 
-/// Writes the counts of a check.
-fn write_counts<W: Write>(check: &Check, out: &mut W) -> io::Result<()> {
-    check.write_counts(out)?;
-    out.flush()
-}
-
 /// Reports the failure that ended the program. Returns the exit status.
-fn report<V: Write>(name: &str, failure: &Failure, err: &mut V) -> u8 {
+fn report(name: &str, failure: &Failure, err: &mut impl Write) -> u8 {
     let reported = writeln!(err, "check_vectors: {name}: {failure}");
     status_after(reported, failure.status())
 }
