@@ -21,7 +21,7 @@ const ABOVE: [&str; 7] = [
 fn main() {
     // Cargo runs this in the folder of the package.
     let crates = Path::new("../../crates");
-    let names: Vec<&str> = [erase::LIBRARY, &ABOVE, erase::PROGRAMS].concat();
+    let names: Vec<&str> = [erase::LIBRARY, &ABOVE, &["commands", "custom_formats"]].concat();
     println!("cargo::rerun-if-changed=../erase");
     println!("cargo::rerun-if-changed=build.rs");
     for name in &names {

@@ -1,9 +1,8 @@
 //! The words of the command line.
 
-use std::io::{self, ErrorKind};
+use std::ffi::OsString;
 
-/// The words of the command line without the program's own name.
-pub fn words() -> io::Result<Vec<String>> {
-    let words = std::env::args_os().skip(1).map(|word| word.into_string());
-    words.collect::<Result<_, _>>().map_err(|_| io::Error::from(ErrorKind::InvalidInput))
+/// The words of the command line without the program's own name, or one that is not valid text.
+pub fn words() -> Result<Vec<String>, OsString> {
+    std::env::args_os().skip(1).map(OsString::into_string).collect()
 }

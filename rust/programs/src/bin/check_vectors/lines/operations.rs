@@ -1,0 +1,329 @@
+//! The operations of IEEE 754-2019 that `Float` lacks, as rows name them.
+//!
+//! The crate `call_rows` makes the call of such a row.
+
+use crate::erased::apfloat_comparisons::{Extremum, OnNan, Predicate};
+use crate::erased::apfloat_machines::MinimumRule;
+use crate::lines::form::Form;
+use crate::lines::table::found;
+
+/// An operation of IEEE 754-2019.
+#[derive(Clone, Copy)]
+pub enum OperationCall {
+    /// The result in another format (5.4.1, formatOf).
+    InAnother(FormatOfCall),
+    /// The result rounded to odd.
+    Odd(OddCall),
+    /// A comparison predicate (5.6.1, 5.11).
+    Comparison(Predicate, OnNan),
+    /// A call on two values without a status.
+    Order(OrderCall),
+    /// A minimum or a maximum (9.6); if true, of a NaN and a number the number.
+    Extremum(Extremum, bool),
+    /// A call on one value.
+    OfOne(GeneralCall),
+    /// The value times a power of two (5.3.3, scaleB).
+    ScaleB,
+    /// A value as an integer (5.8).
+    ToInteger(ToIntegerCall),
+    /// The decimal digits of a value (5.12.2).
+    WriteDigits,
+    /// How many decimal digits a value has.
+    DigitCount,
+    /// The hexadecimal digits of a value (5.12.3).
+    WriteHex,
+    /// A value rounded to a number of hexadecimal digits after the dot (5.12.3).
+    WriteHexRounded,
+    /// An augmented operation (9.5).
+    Augmented(AugmentedCall),
+    /// An operation on the payload of a NaN (9.7).
+    OfPayload(PayloadCall),
+    /// A conversion that saturates.
+    Saturate(SaturateCall),
+    /// A conversion rounded with random digits.
+    ConvertStochastic,
+    /// An operation on flags (5.7.4).
+    OfFlags(FlagsCall),
+    /// On a machine, a minimum, if true, or a maximum by a rule.
+    OnMachine(MinimumRule, bool),
+}
+
+/// An operation whose result is of another format.
+#[derive(Clone, Copy)]
+pub enum FormatOfCall {
+    Add,
+    Sub,
+    Mul,
+    Div,
+    Sqrt,
+    MulAdd,
+}
+
+/// An operation whose result is rounded to odd.
+#[derive(Clone, Copy)]
+pub enum OddCall {
+    /// Arithmetic in a format, or with the result in another.
+    Arithmetic(FormatOfCall),
+    /// A value of another format.
+    Convert,
+    /// The value as an integral value.
+    RoundToIntegral,
+    FromU128,
+    FromI128,
+    ToU128,
+    ToI128,
+}
+
+/// A call on two values in the total order (5.10).
+#[derive(Clone, Copy)]
+pub enum OrderCall {
+    TotalOrder,
+    TotalOrderMag,
+    TotalCmp,
+}
+
+/// A call on one value.
+#[derive(Clone, Copy)]
+pub enum GeneralCall {
+    LogB,
+    IntegerLogB,
+    RoundToIntegralIn,
+    Class,
+    Radix,
+    IsCanonical,
+    IsCanonicalEncoding,
+}
+
+/// A conversion to an integer, with INEXACT or without it.
+#[derive(Clone, Copy)]
+pub enum ToIntegerCall {
+    Signed,
+    SignedExact,
+    Unsigned,
+    UnsignedExact,
+}
+
+/// An operation with two results, which are together the exact one.
+#[derive(Clone, Copy)]
+pub enum AugmentedCall {
+    Add,
+    Subtract,
+    Multiply,
+}
+
+/// An operation on the payload of a NaN.
+#[derive(Clone, Copy)]
+pub enum PayloadCall {
+    Get,
+    Set,
+    SetSignaling,
+}
+
+/// What a conversion that saturates makes the largest number of its sign.
+#[derive(Clone, Copy)]
+pub enum SaturateCall {
+    /// Numbers that overflow.
+    Numbers,
+    /// Infinities too.
+    Infinities,
+    /// NaNs too, with sign plus.
+    All,
+}
+
+/// An operation on flags.
+#[derive(Clone, Copy)]
+pub enum FlagsCall {
+    Lower,
+    Raise,
+    Test,
+    SaveAll,
+    TestSaved,
+    Restore,
+}
+
+// The operations by their names.
+static OPERATIONS: &[(&str, OperationCall)] = &[
+    ("add_to", OperationCall::InAnother(FormatOfCall::Add)),
+    ("sub_to", OperationCall::InAnother(FormatOfCall::Sub)),
+    ("mul_to", OperationCall::InAnother(FormatOfCall::Mul)),
+    ("div_to", OperationCall::InAnother(FormatOfCall::Div)),
+    ("sqrt_to", OperationCall::InAnother(FormatOfCall::Sqrt)),
+    ("mul_add_to", OperationCall::InAnother(FormatOfCall::MulAdd)),
+    ("add_odd", OperationCall::Odd(OddCall::Arithmetic(FormatOfCall::Add))),
+    ("sub_odd", OperationCall::Odd(OddCall::Arithmetic(FormatOfCall::Sub))),
+    ("mul_odd", OperationCall::Odd(OddCall::Arithmetic(FormatOfCall::Mul))),
+    ("div_odd", OperationCall::Odd(OddCall::Arithmetic(FormatOfCall::Div))),
+    ("sqrt_odd", OperationCall::Odd(OddCall::Arithmetic(FormatOfCall::Sqrt))),
+    ("mul_add_odd", OperationCall::Odd(OddCall::Arithmetic(FormatOfCall::MulAdd))),
+    ("convert_odd", OperationCall::Odd(OddCall::Convert)),
+    ("round_to_odd_integral", OperationCall::Odd(OddCall::RoundToIntegral)),
+    ("from_u128_odd", OperationCall::Odd(OddCall::FromU128)),
+    ("from_i128_odd", OperationCall::Odd(OddCall::FromI128)),
+    ("to_u128_odd", OperationCall::Odd(OddCall::ToU128)),
+    ("to_i128_odd", OperationCall::Odd(OddCall::ToI128)),
+    ("compare_quiet_equal", OperationCall::Comparison(Predicate::Equal, OnNan::Quiet)),
+    ("compare_quiet_not_equal", OperationCall::Comparison(Predicate::NotEqual, OnNan::Quiet)),
+    ("compare_quiet_greater", OperationCall::Comparison(Predicate::Greater, OnNan::Quiet)),
+    ("compare_quiet_greater_equal", OperationCall::Comparison(Predicate::GreaterEqual, OnNan::Quiet)),
+    ("compare_quiet_less", OperationCall::Comparison(Predicate::Less, OnNan::Quiet)),
+    ("compare_quiet_less_equal", OperationCall::Comparison(Predicate::LessEqual, OnNan::Quiet)),
+    ("compare_quiet_not_greater", OperationCall::Comparison(Predicate::NotGreater, OnNan::Quiet)),
+    ("compare_quiet_less_unordered", OperationCall::Comparison(Predicate::LessUnordered, OnNan::Quiet)),
+    ("compare_quiet_not_less", OperationCall::Comparison(Predicate::NotLess, OnNan::Quiet)),
+    ("compare_quiet_greater_unordered", OperationCall::Comparison(Predicate::GreaterUnordered, OnNan::Quiet)),
+    ("compare_quiet_unordered", OperationCall::Comparison(Predicate::Unordered, OnNan::Quiet)),
+    ("compare_quiet_ordered", OperationCall::Comparison(Predicate::Ordered, OnNan::Quiet)),
+    ("compare_signaling_equal", OperationCall::Comparison(Predicate::Equal, OnNan::Signaling)),
+    ("compare_signaling_not_equal", OperationCall::Comparison(Predicate::NotEqual, OnNan::Signaling)),
+    ("compare_signaling_greater", OperationCall::Comparison(Predicate::Greater, OnNan::Signaling)),
+    ("compare_signaling_greater_equal", OperationCall::Comparison(Predicate::GreaterEqual, OnNan::Signaling)),
+    ("compare_signaling_less", OperationCall::Comparison(Predicate::Less, OnNan::Signaling)),
+    ("compare_signaling_less_equal", OperationCall::Comparison(Predicate::LessEqual, OnNan::Signaling)),
+    ("compare_signaling_not_greater", OperationCall::Comparison(Predicate::NotGreater, OnNan::Signaling)),
+    ("compare_signaling_less_unordered", OperationCall::Comparison(Predicate::LessUnordered, OnNan::Signaling)),
+    ("compare_signaling_not_less", OperationCall::Comparison(Predicate::NotLess, OnNan::Signaling)),
+    ("compare_signaling_greater_unordered", OperationCall::Comparison(Predicate::GreaterUnordered, OnNan::Signaling)),
+    ("compare_signaling_unordered", OperationCall::Comparison(Predicate::Unordered, OnNan::Signaling)),
+    ("total_order", OperationCall::Order(OrderCall::TotalOrder)),
+    ("total_order_mag", OperationCall::Order(OrderCall::TotalOrderMag)),
+    ("total_cmp", OperationCall::Order(OrderCall::TotalCmp)),
+    ("minimum_of", OperationCall::Extremum(Extremum::Minimum, false)),
+    ("maximum_of", OperationCall::Extremum(Extremum::Maximum, false)),
+    ("minimum_magnitude_of", OperationCall::Extremum(Extremum::MinimumMagnitude, false)),
+    ("maximum_magnitude_of", OperationCall::Extremum(Extremum::MaximumMagnitude, false)),
+    ("minimum_number_of", OperationCall::Extremum(Extremum::Minimum, true)),
+    ("maximum_number_of", OperationCall::Extremum(Extremum::Maximum, true)),
+    ("minimum_magnitude_number_of", OperationCall::Extremum(Extremum::MinimumMagnitude, true)),
+    ("maximum_magnitude_number_of", OperationCall::Extremum(Extremum::MaximumMagnitude, true)),
+    ("log_b", OperationCall::OfOne(GeneralCall::LogB)),
+    ("integer_log_b", OperationCall::OfOne(GeneralCall::IntegerLogB)),
+    ("round_to_integral_in", OperationCall::OfOne(GeneralCall::RoundToIntegralIn)),
+    ("class_of", OperationCall::OfOne(GeneralCall::Class)),
+    ("radix", OperationCall::OfOne(GeneralCall::Radix)),
+    ("is_canonical", OperationCall::OfOne(GeneralCall::IsCanonical)),
+    ("is_canonical_encoding", OperationCall::OfOne(GeneralCall::IsCanonicalEncoding)),
+    ("scale_b", OperationCall::ScaleB),
+    ("convert_to_signed", OperationCall::ToInteger(ToIntegerCall::Signed)),
+    ("convert_to_signed_exact", OperationCall::ToInteger(ToIntegerCall::SignedExact)),
+    ("convert_to_unsigned", OperationCall::ToInteger(ToIntegerCall::Unsigned)),
+    ("convert_to_unsigned_exact", OperationCall::ToInteger(ToIntegerCall::UnsignedExact)),
+    ("write_digits", OperationCall::WriteDigits),
+    ("digit_count", OperationCall::DigitCount),
+    ("write_hex", OperationCall::WriteHex),
+    ("write_hex_rounded", OperationCall::WriteHexRounded),
+    ("augmented_add", OperationCall::Augmented(AugmentedCall::Add)),
+    ("augmented_subtract", OperationCall::Augmented(AugmentedCall::Subtract)),
+    ("augmented_multiply", OperationCall::Augmented(AugmentedCall::Multiply)),
+    ("get_payload", OperationCall::OfPayload(PayloadCall::Get)),
+    ("set_payload", OperationCall::OfPayload(PayloadCall::Set)),
+    ("set_payload_signaling", OperationCall::OfPayload(PayloadCall::SetSignaling)),
+    ("convert_saturate", OperationCall::Saturate(SaturateCall::Numbers)),
+    ("convert_saturate_finite", OperationCall::Saturate(SaturateCall::Infinities)),
+    ("convert_saturate_all", OperationCall::Saturate(SaturateCall::All)),
+    ("convert_stochastic", OperationCall::ConvertStochastic),
+    ("lower_flags", OperationCall::OfFlags(FlagsCall::Lower)),
+    ("raise_flags", OperationCall::OfFlags(FlagsCall::Raise)),
+    ("test_flags", OperationCall::OfFlags(FlagsCall::Test)),
+    ("save_all_flags", OperationCall::OfFlags(FlagsCall::SaveAll)),
+    ("test_saved_flags", OperationCall::OfFlags(FlagsCall::TestSaved)),
+    ("restore_flags", OperationCall::OfFlags(FlagsCall::Restore)),
+    ("least_second", OperationCall::OnMachine(MinimumRule::Second, true)),
+    ("least_second_quietly", OperationCall::OnMachine(MinimumRule::SecondQuietly, true)),
+    ("least_first_nan", OperationCall::OnMachine(MinimumRule::FirstNan, true)),
+    ("least_number_2008", OperationCall::OnMachine(MinimumRule::Number2008, true)),
+    ("least_number_2019", OperationCall::OnMachine(MinimumRule::Number2019, true)),
+    ("least_propagated", OperationCall::OnMachine(MinimumRule::Propagated, true)),
+    ("greatest_second", OperationCall::OnMachine(MinimumRule::Second, false)),
+    ("greatest_second_quietly", OperationCall::OnMachine(MinimumRule::SecondQuietly, false)),
+    ("greatest_first_nan", OperationCall::OnMachine(MinimumRule::FirstNan, false)),
+    ("greatest_number_2008", OperationCall::OnMachine(MinimumRule::Number2008, false)),
+    ("greatest_number_2019", OperationCall::OnMachine(MinimumRule::Number2019, false)),
+    ("greatest_propagated", OperationCall::OnMachine(MinimumRule::Propagated, false)),
+];
+
+impl OperationCall {
+    /// The operation of this name.
+    pub fn named(name: &str) -> Option<OperationCall> {
+        found(OPERATIONS, name)
+    }
+
+    /// The form of its operands.
+    pub fn form(self) -> Form {
+        match self {
+            OperationCall::InAnother(call) => call.form(),
+            OperationCall::Odd(call) => call.form(),
+            OperationCall::Comparison(_, _)
+            | OperationCall::Order(_)
+            | OperationCall::Extremum(_, _)
+            | OperationCall::Augmented(_)
+            | OperationCall::OnMachine(_, _) => Form::TwoValues,
+            OperationCall::OfOne(_)
+            | OperationCall::DigitCount
+            | OperationCall::WriteHex
+            | OperationCall::OfPayload(_)
+            | OperationCall::Saturate(_) => Form::OneValue,
+            OperationCall::ConvertStochastic => Form::ValueAndRandom,
+            OperationCall::WriteHexRounded => Form::ValueAndPlaces,
+            OperationCall::ScaleB => Form::ValueAndExponent,
+            OperationCall::ToInteger(_) => Form::ValueAndWidth,
+            OperationCall::WriteDigits => Form::ValueAndDigits,
+            OperationCall::OfFlags(call) => call.form(),
+        }
+    }
+
+    /// Whether it takes a rounding mode.
+    pub fn takes_mode(self) -> bool {
+        match self {
+            OperationCall::InAnother(_)
+            | OperationCall::ScaleB
+            | OperationCall::ToInteger(_)
+            | OperationCall::WriteDigits
+            | OperationCall::WriteHexRounded
+            | OperationCall::Saturate(_) => true,
+            OperationCall::OfOne(call) => {
+                matches!(call, GeneralCall::LogB | GeneralCall::RoundToIntegralIn)
+            }
+            _ => false,
+        }
+    }
+
+    /// Whether it is one on flags, which has no format.
+    pub fn is_of_flags(self) -> bool {
+        matches!(self, OperationCall::OfFlags(_))
+    }
+}
+
+impl FormatOfCall {
+    /// The form of its operands.
+    fn form(self) -> Form {
+        match self {
+            FormatOfCall::Sqrt => Form::OneValue,
+            FormatOfCall::MulAdd => Form::ThreeValues,
+            _ => Form::TwoValues,
+        }
+    }
+}
+
+impl OddCall {
+    /// The form of its operands.
+    fn form(self) -> Form {
+        match self {
+            OddCall::Arithmetic(call) => call.form(),
+            OddCall::Convert | OddCall::RoundToIntegral => Form::OneValue,
+            OddCall::FromU128 => Form::Unsigned,
+            OddCall::FromI128 => Form::Signed,
+            OddCall::ToU128 | OddCall::ToI128 => Form::ValueAndWidth,
+        }
+    }
+}
+
+impl FlagsCall {
+    /// The form of its operands.
+    fn form(self) -> Form {
+        match self {
+            FlagsCall::SaveAll => Form::OneStatus,
+            FlagsCall::Restore => Form::ThreeStatuses,
+            _ => Form::TwoStatuses,
+        }
+    }
+}
