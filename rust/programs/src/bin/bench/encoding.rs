@@ -1,9 +1,9 @@
 //! The encoding of a format, and random numbers of the format.
 
-use crate::generator::Generator;
-use crate::operand_set::OperandSet;
 use crate::erased::apfloat_base::NonfiniteBehavior;
 use crate::erased::rustc_apfloat::ieee::Semantics;
+use crate::generator::Generator;
+use crate::operand_set::OperandSet;
 
 /// How a format with bits encodes numbers.
 #[derive(Clone, Copy)]

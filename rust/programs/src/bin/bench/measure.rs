@@ -1,10 +1,7 @@
 //! Times rounds of calls.
 
 use crate::checksum::{Written, checksum_of};
-use crate::task::room;
-use crate::erased::rustc_apfloat::StatusAnd;
-use std::io;
-use std::rt::Clock;
+use crate::erased::rustc_apfloat::{Status, StatusAnd};
 use std::time::{Duration, Instant};
 
 /// The measurements of a round of calls.
@@ -55,36 +52,26 @@ pub trait Calls<X, T>: Copy {
 }
 
 /// Measures calls: one round that is not timed, then at most `rounds` timed ones, until they are enough.
-pub fn measured_calls<X, T: Written, C: Calls<X, T>>(
-    rt: &(impl Clock + AllocGlobal),
-    rounds: u32,
-    calls: C,
-    operands: &[X],
-    blank: T,
-) -> io::Result<Measured> {
-    let mut room = room(rt.alloc(), operands.len(), blank)?;
-    let answers = room.as_mut_slice();
-    calls.make(operands, answers);
+pub fn measured_calls<X, T: Written, C: Calls<X, T>>(rounds: u32, calls: C, operands: &[X], blank: T) -> Measured {
+    let mut answers = vec![Status::OK.and(blank); operands.len()];
+    calls.make(operands, &mut answers);
     let mut times = Rounds::new();
     for _ in 0..rounds {
-        let start = Instant::now(rt)?;
-        calls.make(operands, answers);
-        times.take(start.elapsed(rt)?);
+        let start = Instant::now();
+        calls.make(operands, &mut answers);
+        times.take(start.elapsed());
         if times.are_enough() {
             break;
         }
     }
-    Ok(times.with_answers(answers))
+    times.with_answers(&answers)
 }
 
 // Makes a call for each operand, from memory to memory.
 macro_rules! for_each {
     ($operands:ident, $answers:ident, $x:ident => $call:expr) => {
-        for i in 0..$operands.len() {
-            if i < $answers.len() {
-                let $x = $operands[i];
-                $answers[i] = $call;
-            }
+        for ($x, answer) in $operands.iter().zip($answers.iter_mut()) {
+            *answer = $call;
         }
     };
 }

@@ -31,7 +31,7 @@ impl Nanoseconds {
 
 impl fmt::Display for Nanoseconds {
     /// Prints two decimals below 10, one below 100, and none from 100 on.
-    fn fmt<W: fmt::Write>(&self, f: &mut fmt::Formatter<W>) -> fmt::Result {
+    fn fmt(&self, f: &mut fmt::Formatter<'_>) -> fmt::Result {
         let whole = self.hundredths / 100;
         let rest = self.hundredths % 100;
         if whole < 10 {

@@ -1,44 +1,41 @@
 //! The operations of formats.
 
 use crate::encoding::Encoding;
+use crate::erased::rustc_apfloat::ieee::{DoubleS, HalfS, IeeeFloat, Semantics, SingleS};
+use crate::erased::rustc_apfloat::{FUSED_LIMIT, Float, FloatConvert, PRODUCT_LIMIT, Round, Status, StatusAnd};
 use crate::measure::{Calls, Measured, for_each, measured_calls};
 use crate::operands::{Source, drawn_bits, drawn_integers, drawn_texts};
 use crate::operation::Operation;
 use crate::task::Task;
 use crate::wide_numbers::wide_arithmetic;
-use crate::erased::rustc_apfloat::ieee::{DoubleS, HalfS, IeeeFloat, Semantics, SingleS};
-use crate::erased::rustc_apfloat::{FUSED_LIMIT, Float, FloatConvert, PRODUCT_LIMIT, Round, Status, StatusAnd};
-use std::alloc::{AllocError, Global};
-use std::io;
 use std::marker::PhantomData;
-use std::rt::Clock;
 
 /// The operands of a call.
 pub type Operands<S> = [IeeeFloat<S>; 3];
 
 /// The measurements of an operation in a format, or `None` if the format does not have it.
-pub fn measured_in<S: Semantics>(rt: &(impl Clock + AllocGlobal), task: Task) -> io::Result<Option<Measured>> {
+pub fn measured_in<S: Semantics>(task: Task) -> Option<Measured> {
     let known = match task.operation {
-        Operation::Product if S::PRECISION > PRODUCT_LIMIT => return Ok(None),
-        Operation::FusedSum if S::PRECISION > FUSED_LIMIT => return Ok(None),
-        Operation::ToHalf => conversions::<S, HalfS>(rt, task)?,
-        Operation::ToSingle => conversions::<S, SingleS>(rt, task)?,
-        Operation::ToDouble => conversions::<S, DoubleS>(rt, task)?,
-        Operation::ToInteger => integers_out::<S>(rt, task)?,
-        Operation::FromInteger => integers_in::<S>(rt, task)?,
-        Operation::Reading => readings::<S>(rt, task)?,
-        Operation::Bits => bits_both_ways::<S>(rt, task)?,
-        Operation::SquareRoot | Operation::WideProduct | Operation::WideFusedSum => wide_arithmetic::<S>(rt, task)?,
-        _ => arithmetic::<S>(rt, task)?,
+        Operation::Product if S::PRECISION > PRODUCT_LIMIT => return None,
+        Operation::FusedSum if S::PRECISION > FUSED_LIMIT => return None,
+        Operation::ToHalf => conversions::<S, HalfS>(task),
+        Operation::ToSingle => conversions::<S, SingleS>(task),
+        Operation::ToDouble => conversions::<S, DoubleS>(task),
+        Operation::ToInteger => integers_out::<S>(task),
+        Operation::FromInteger => integers_in::<S>(task),
+        Operation::Reading => readings::<S>(task),
+        Operation::Bits => bits_both_ways::<S>(task),
+        Operation::SquareRoot | Operation::WideProduct | Operation::WideFusedSum => wide_arithmetic::<S>(task),
+        _ => arithmetic::<S>(task),
     };
-    Ok(Some(known))
+    Some(known)
 }
 
 /// Measures an arithmetic operation.
-fn arithmetic<S: Semantics>(rt: &(impl Clock + AllocGlobal), task: Task) -> io::Result<Measured> {
-    let drawn = values::<S>(rt.alloc(), task)?;
+fn arithmetic<S: Semantics>(task: Task) -> Measured {
+    let drawn = values::<S>(task);
     let blank = IeeeFloat::<S>::zero();
-    measured_calls(rt, task.rounds, Calculates(task), drawn.as_slice(), blank)
+    measured_calls(task.rounds, Calculates(task), &drawn, blank)
 }
 
 /// Computes an operation.
@@ -66,10 +63,10 @@ impl<S: Semantics> Calls<Operands<S>, IeeeFloat<S>> for Calculates {
 }
 
 /// Measures the conversion to the format `T`.
-fn conversions<S: Semantics, T: Semantics>(rt: &(impl Clock + AllocGlobal), task: Task) -> io::Result<Measured> {
-    let drawn = values::<S>(rt.alloc(), task)?;
+fn conversions<S: Semantics, T: Semantics>(task: Task) -> Measured {
+    let drawn = values::<S>(task);
     let blank = IeeeFloat::<T>::zero();
-    measured_calls(rt, task.rounds, Converts(task.mode), drawn.as_slice(), blank)
+    measured_calls(task.rounds, Converts(task.mode), &drawn, blank)
 }
 
 /// Converts to another format.
@@ -85,10 +82,10 @@ impl<S: Semantics, T: Semantics> Calls<Operands<S>, IeeeFloat<T>> for Converts {
 }
 
 /// Measures the conversion to integers.
-fn integers_out<S: Semantics>(rt: &(impl Clock + AllocGlobal), task: Task) -> io::Result<Measured> {
+fn integers_out<S: Semantics>(task: Task) -> Measured {
     let set = task.set.for_integers();
-    let drawn = values::<S>(rt.alloc(), Task { set, ..task })?;
-    measured_calls(rt, task.rounds, ToIntegers, drawn.as_slice(), 0i128)
+    let drawn = values::<S>(Task { set, ..task });
+    measured_calls(task.rounds, ToIntegers, &drawn, 0i128)
 }
 
 /// Converts to 64-bit integers.
@@ -103,10 +100,10 @@ impl<S: Semantics> Calls<Operands<S>, i128> for ToIntegers {
 }
 
 /// Measures the conversion from integers.
-fn integers_in<S: Semantics>(rt: &(impl Clock + AllocGlobal), task: Task) -> io::Result<Measured> {
-    let drawn = drawn_integers(rt.alloc())?;
+fn integers_in<S: Semantics>(task: Task) -> Measured {
+    let drawn = drawn_integers();
     let blank = IeeeFloat::<S>::zero();
-    measured_calls(rt, task.rounds, FromIntegers(task.mode), drawn.as_slice(), blank)
+    measured_calls(task.rounds, FromIntegers(task.mode), &drawn, blank)
 }
 
 /// Converts from integers.
@@ -116,15 +113,15 @@ struct FromIntegers(Round);
 impl<S: Semantics> Calls<u128, IeeeFloat<S>> for FromIntegers {
     fn make(self, operands: &[u128], answers: &mut [StatusAnd<IeeeFloat<S>>]) {
         let mode = self.0;
-        for_each!(operands, answers, x => IeeeFloat::from_u128_r(x, mode));
+        for_each!(operands, answers, x => IeeeFloat::from_u128_r(*x, mode));
     }
 }
 
 /// Measures the reading of texts.
-fn readings<S: Semantics>(rt: &(impl Clock + AllocGlobal), task: Task) -> io::Result<Measured> {
-    let drawn = drawn_texts(rt.alloc(), Encoding::of::<S>(), task.set)?;
+fn readings<S: Semantics>(task: Task) -> Measured {
+    let drawn = drawn_texts(Encoding::of::<S>(), task.set);
     let blank = IeeeFloat::<S>::zero();
-    measured_calls(rt, task.rounds, Reads(task.mode), drawn.as_slice(), blank)
+    measured_calls(task.rounds, Reads(task.mode), &drawn, blank)
 }
 
 /// Reads texts; a refusal counts as 0 with `INVALID_OP`.
@@ -133,23 +130,17 @@ pub struct Reads(pub Round);
 
 impl<S: Semantics> Calls<String, IeeeFloat<S>> for Reads {
     fn make(self, texts: &[String], answers: &mut [StatusAnd<IeeeFloat<S>>]) {
-        for i in 0..texts.len() {
-            if i < answers.len() {
-                answers[i] = match IeeeFloat::from_str_r(texts[i].as_str(), self.0) {
-                    Ok(answer) => answer,
-                    Err(_) => Status::INVALID_OP.and(IeeeFloat::zero()),
-                };
-            }
-        }
+        let refused = Status::INVALID_OP.and(IeeeFloat::zero());
+        for_each!(texts, answers, text => IeeeFloat::from_str_r(text, self.0).unwrap_or(refused));
     }
 }
 
 /// Measures reading and writing bits.
-fn bits_both_ways<S: Semantics>(rt: &(impl Clock + AllocGlobal), task: Task) -> io::Result<Measured> {
+fn bits_both_ways<S: Semantics>(task: Task) -> Measured {
     let source = Source::Number(Encoding::of::<S>());
-    let drawn = drawn_bits(rt.alloc(), source, task.set)?;
+    let drawn = drawn_bits(source, task.set);
     let calls = ReadsAndWrites::<S>(PhantomData);
-    measured_calls(rt, task.rounds, calls, drawn.as_slice(), 0u128)
+    measured_calls(task.rounds, calls, &drawn, 0u128)
 }
 
 /// Reads bits of a format and writes them.
@@ -165,12 +156,7 @@ impl<S: Semantics> Calls<[u128; 3], u128> for ReadsAndWrites<S> {
 }
 
 /// The values of drawn operands.
-pub fn values<S: Semantics>(alloc: Global, task: Task) -> Result<Vec<Operands<S>>, AllocError> {
+pub fn values<S: Semantics>(task: Task) -> Vec<Operands<S>> {
     let source = Source::Number(Encoding::of::<S>());
-    let drawn = drawn_bits(alloc, source, task.set)?;
-    let mut values = Vec::new(alloc);
-    for bits in drawn.iter() {
-        values.push([IeeeFloat::from_bits(bits[0]), IeeeFloat::from_bits(bits[1]), IeeeFloat::from_bits(bits[2])])?;
-    }
-    Ok(values)
+    drawn_bits(source, task.set).into_iter().map(|bits| bits.map(IeeeFloat::from_bits)).collect()
 }

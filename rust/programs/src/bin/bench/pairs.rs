@@ -1,40 +1,37 @@
 //! The operations of pairs of doubles.
 
 use crate::encoding::Encoding;
+use crate::erased::rustc_apfloat::ieee::DoubleS;
+use crate::erased::rustc_apfloat::ppc::DoubleDouble;
+use crate::erased::rustc_apfloat::{Float, Round, Status, StatusAnd};
 use crate::measure::{Calls, Measured, for_each, measured_calls};
 use crate::operands::{Source, drawn_bits, drawn_integers, drawn_texts};
 use crate::operation::Operation;
 use crate::task::Task;
-use crate::erased::rustc_apfloat::ieee::DoubleS;
-use crate::erased::rustc_apfloat::ppc::DoubleDouble;
-use crate::erased::rustc_apfloat::{Float, Round, Status, StatusAnd};
-use std::alloc::{AllocError, Global};
-use std::io;
-use std::rt::Clock;
 
 /// The operands of a call.
 type Operands = [DoubleDouble; 3];
 
 /// The measurements of an operation on pairs, or `None` if they do not have it.
-pub fn measured_pairs(rt: &(impl Clock + AllocGlobal), task: Task) -> io::Result<Option<Measured>> {
+pub fn measured_pairs(task: Task) -> Option<Measured> {
     let known = match task.operation {
-        Operation::FusedSum => return Ok(None),
-        Operation::WideProduct | Operation::WideFusedSum => return Ok(None),
-        Operation::ToHalf | Operation::ToSingle | Operation::ToDouble => return Ok(None),
-        Operation::ToInteger => integers_out(rt, task)?,
-        Operation::FromInteger => integers_in(rt, task)?,
-        Operation::Reading => readings(rt, task)?,
-        Operation::Bits => bits_both_ways(rt, task)?,
-        _ => arithmetic(rt, task)?,
+        Operation::FusedSum => return None,
+        Operation::WideProduct | Operation::WideFusedSum => return None,
+        Operation::ToHalf | Operation::ToSingle | Operation::ToDouble => return None,
+        Operation::ToInteger => integers_out(task),
+        Operation::FromInteger => integers_in(task),
+        Operation::Reading => readings(task),
+        Operation::Bits => bits_both_ways(task),
+        _ => arithmetic(task),
     };
-    Ok(Some(known))
+    Some(known)
 }
 
 /// Measures an arithmetic operation.
-fn arithmetic(rt: &(impl Clock + AllocGlobal), task: Task) -> io::Result<Measured> {
-    let drawn = values(rt.alloc(), task)?;
+fn arithmetic(task: Task) -> Measured {
+    let drawn = values(task);
     let blank = DoubleDouble::zero();
-    measured_calls(rt, task.rounds, Calculates(task), drawn.as_slice(), blank)
+    measured_calls(task.rounds, Calculates(task), &drawn, blank)
 }
 
 /// Computes an operation.
@@ -58,10 +55,10 @@ impl Calls<Operands, DoubleDouble> for Calculates {
 }
 
 /// Measures the conversion to integers.
-fn integers_out(rt: &(impl Clock + AllocGlobal), task: Task) -> io::Result<Measured> {
+fn integers_out(task: Task) -> Measured {
     let set = task.set.for_integers();
-    let drawn = values(rt.alloc(), Task { set, ..task })?;
-    measured_calls(rt, task.rounds, ToIntegers, drawn.as_slice(), 0i128)
+    let drawn = values(Task { set, ..task });
+    measured_calls(task.rounds, ToIntegers, &drawn, 0i128)
 }
 
 /// Converts to 64-bit integers.
@@ -76,10 +73,10 @@ impl Calls<Operands, i128> for ToIntegers {
 }
 
 /// Measures the conversion from integers.
-fn integers_in(rt: &(impl Clock + AllocGlobal), task: Task) -> io::Result<Measured> {
-    let drawn = drawn_integers(rt.alloc())?;
+fn integers_in(task: Task) -> Measured {
+    let drawn = drawn_integers();
     let blank = DoubleDouble::zero();
-    measured_calls(rt, task.rounds, FromIntegers(task.mode), drawn.as_slice(), blank)
+    measured_calls(task.rounds, FromIntegers(task.mode), &drawn, blank)
 }
 
 /// Converts from integers.
@@ -89,15 +86,15 @@ struct FromIntegers(Round);
 impl Calls<u128, DoubleDouble> for FromIntegers {
     fn make(self, operands: &[u128], answers: &mut [StatusAnd<DoubleDouble>]) {
         let mode = self.0;
-        for_each!(operands, answers, x => DoubleDouble::from_u128_r(x, mode));
+        for_each!(operands, answers, x => DoubleDouble::from_u128_r(*x, mode));
     }
 }
 
 /// Measures the reading of texts.
-fn readings(rt: &(impl Clock + AllocGlobal), task: Task) -> io::Result<Measured> {
-    let drawn = drawn_texts(rt.alloc(), Encoding::of::<DoubleS>(), task.set)?;
+fn readings(task: Task) -> Measured {
+    let drawn = drawn_texts(Encoding::of::<DoubleS>(), task.set);
     let blank = DoubleDouble::zero();
-    measured_calls(rt, task.rounds, Reads(task.mode), drawn.as_slice(), blank)
+    measured_calls(task.rounds, Reads(task.mode), &drawn, blank)
 }
 
 /// Reads texts; a refusal counts as 0 with `INVALID_OP`.
@@ -106,22 +103,16 @@ struct Reads(Round);
 
 impl Calls<String, DoubleDouble> for Reads {
     fn make(self, texts: &[String], answers: &mut [StatusAnd<DoubleDouble>]) {
-        for i in 0..texts.len() {
-            if i < answers.len() {
-                answers[i] = match DoubleDouble::from_str_r(texts[i].as_str(), self.0) {
-                    Ok(answer) => answer,
-                    Err(_) => Status::INVALID_OP.and(DoubleDouble::zero()),
-                };
-            }
-        }
+        let refused = Status::INVALID_OP.and(DoubleDouble::zero());
+        for_each!(texts, answers, text => DoubleDouble::from_str_r(text, self.0).unwrap_or(refused));
     }
 }
 
 /// Measures reading and writing bits.
-fn bits_both_ways(rt: &(impl Clock + AllocGlobal), task: Task) -> io::Result<Measured> {
+fn bits_both_ways(task: Task) -> Measured {
     let source = Source::Pair(Encoding::of::<DoubleS>());
-    let drawn = drawn_bits(rt.alloc(), source, task.set)?;
-    measured_calls(rt, task.rounds, ReadsAndWrites, drawn.as_slice(), 0u128)
+    let drawn = drawn_bits(source, task.set);
+    measured_calls(task.rounds, ReadsAndWrites, &drawn, 0u128)
 }
 
 /// Reads bits and writes them.
@@ -135,15 +126,7 @@ impl Calls<[u128; 3], u128> for ReadsAndWrites {
 }
 
 /// The pairs of drawn operands.
-fn values(alloc: Global, task: Task) -> Result<Vec<Operands>, AllocError> {
-    let drawn = drawn_bits(alloc, Source::Pair(Encoding::of::<DoubleS>()), task.set)?;
-    let mut values = Vec::new(alloc);
-    for bits in drawn.iter() {
-        values.push([
-            DoubleDouble::from_bits(bits[0]),
-            DoubleDouble::from_bits(bits[1]),
-            DoubleDouble::from_bits(bits[2]),
-        ])?;
-    }
-    Ok(values)
+fn values(task: Task) -> Vec<Operands> {
+    let source = Source::Pair(Encoding::of::<DoubleS>());
+    drawn_bits(source, task.set).into_iter().map(|bits| bits.map(DoubleDouble::from_bits)).collect()
 }

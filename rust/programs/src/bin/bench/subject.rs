@@ -42,7 +42,7 @@ impl Subject {
     pub fn named(words: &[String]) -> Option<Subject> {
         match words {
             [] => Some(Subject::Checksums),
-            [word] => Subject::of_word(word.as_str()),
+            [word] => Subject::of_word(word),
             _ => None,
         }
     }
@@ -60,9 +60,9 @@ impl Subject {
 /// The first wrong word, if one is.
 pub fn wrong_word(words: &[String]) -> Option<WrongWord<'_>> {
     let (first, others) = words.split_first()?;
-    if Subject::of_word(first.as_str()).is_none() {
-        return Some(WrongWord { fault: "no such word", word: first.as_str(), known: WORDS });
+    if Subject::of_word(first).is_none() {
+        return Some(WrongWord { fault: "no such word", word: first, known: WORDS });
     }
     let (word, _) = others.split_first()?;
-    Some(WrongWord { fault: "a word too many", word: word.as_str(), known: &[] })
+    Some(WrongWord { fault: "a word too many", word, known: &[] })
 }

@@ -1,9 +1,8 @@
 //! What is measured, in any type.
 
+use crate::erased::rustc_apfloat::Round;
 use crate::operand_set::OperandSet;
 use crate::operation::Operation;
-use crate::erased::rustc_apfloat::{Round, Status, StatusAnd};
-use std::alloc::{AllocError, Global};
 
 /// An operation on drawn operands.
 #[derive(Clone, Copy)]
@@ -16,13 +15,4 @@ pub struct Task {
     pub mode: Round,
     /// The greatest number of timed rounds.
     pub rounds: u32,
-}
-
-/// A vector with room for `count` results.
-pub fn room<T: Copy>(alloc: Global, count: usize, blank: T) -> Result<Vec<StatusAnd<T>>, AllocError> {
-    let mut answers = Vec::new(alloc);
-    for _ in 0..count {
-        answers.push(Status::OK.and(blank))?;
-    }
-    Ok(answers)
 }

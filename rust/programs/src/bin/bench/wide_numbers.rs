@@ -1,31 +1,28 @@
 //! Square roots, and products and fused sums in formats of any precision.
 
+use crate::erased::rustc_apfloat::ieee::{IeeeFloat, Semantics};
+use crate::erased::rustc_apfloat::{Float, StatusAnd};
 use crate::measure::{Calls, Measured, for_each, measured_calls};
 use crate::numbers::{Operands, values};
 use crate::operation::Operation;
 use crate::task::Task;
-use crate::erased::rustc_apfloat::ieee::{IeeeFloat, Semantics};
-use crate::erased::rustc_apfloat::{Float, StatusAnd};
-use std::alloc::{AllocError, Global};
-use std::io;
-use std::rt::Clock;
 
 /// Measures one of these operations.
-pub fn wide_arithmetic<S: Semantics>(rt: &(impl Clock + AllocGlobal), task: Task) -> io::Result<Measured> {
-    let drawn = operands_of::<S>(rt.alloc(), task)?;
+pub fn wide_arithmetic<S: Semantics>(task: Task) -> Measured {
+    let drawn = operands_of::<S>(task);
     let blank = IeeeFloat::<S>::zero();
-    measured_calls(rt, task.rounds, CalculatesWide(task), drawn.as_slice(), blank)
+    measured_calls(task.rounds, CalculatesWide(task), &drawn, blank)
 }
 
 /// The drawn operands, or for a root their magnitudes.
-fn operands_of<S: Semantics>(alloc: Global, task: Task) -> Result<Vec<Operands<S>>, AllocError> {
-    let mut drawn = values::<S>(alloc, task)?;
-    if task.operation == Operation::SquareRoot {
-        for x in drawn.iter_mut() {
+fn operands_of<S: Semantics>(task: Task) -> Vec<Operands<S>> {
+    let mut drawn = values::<S>(task);
+    if matches!(task.operation, Operation::SquareRoot) {
+        for x in &mut drawn {
             x[0] = x[0].abs();
         }
     }
-    Ok(drawn)
+    drawn
 }
 
 /// Computes an operation.

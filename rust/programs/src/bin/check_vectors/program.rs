@@ -4,9 +4,8 @@ use crate::check::{Check, Lines, Tally, Task};
 use crate::erased::commands::{About, WrongWord, write_fault};
 use crate::failure::Failure;
 use crate::lines::{Fpgen, TestFloat};
-use std::ffi::OsString;
 use std::fs::File;
-use std::io::{self, BufRead, BufReader, BufWriter, Write};
+use std::io::{self, BufRead, BufReader, BufWriter, ErrorKind, Write};
 
 const PROGRAM: &str = "check_vectors";
 
@@ -94,9 +93,10 @@ static OPTIONS_OF_FPGEN: &[&str] = &["--summary", "--first", "--skip-unknown", "
 
 /// Runs the program with the words of the command line. If `err` is a terminal, it is told how far a long check has
 /// come. Returns the exit status.
-pub fn run(words: Result<Vec<String>, OsString>, is_terminal: bool, out: &mut impl Write, err: &mut impl Write) -> u8 {
-    let Ok(words) = words else {
-        return status_after(write_fault(PROGRAM, "the words are not valid text", err), 2);
+pub fn run(words: io::Result<Vec<String>>, is_terminal: bool, out: &mut impl Write, err: &mut impl Write) -> u8 {
+    let words = match words {
+        Ok(words) => words,
+        Err(error) => return refuse(&error, err),
     };
     match Job::of(&words) {
         Ok(Job::Check(task, file)) => check_input(file, task.showing_progress(is_terminal), out, err),
@@ -194,6 +194,14 @@ fn file_of<'a>(words: &'a [String], known: &'static [&'static str]) -> Result<Op
         [word, ..] if word.starts_with('-') => Err(WrongWord { fault: "no such option", word, known }),
         [word] => Ok(Some(word)),
         [_, word, ..] => Err(wrong("a word too many", word)),
+    }
+}
+
+/// Reports that the system could not give the arguments. Returns the exit status.
+fn refuse(error: &io::Error, err: &mut impl Write) -> u8 {
+    match error.kind() {
+        ErrorKind::OutOfMemory => report("arguments", &Failure::Memory, err),
+        _ => status_after(write_fault(PROGRAM, "the words are not valid text", err), 2),
     }
 }
 

@@ -10,9 +10,7 @@ use crate::erased::custom_formats::Vast;
 use crate::erased::formats_at_run_time::InFormat;
 use crate::erased::rustc_apfloat::ieee::{Flagged, IeeeFloat, Semantics};
 use crate::erased::rustc_apfloat::{Category, ExpInt, Flags, Float, FloatConvert, Round, Status, StatusAnd};
-use crate::explanation::{
-    Between, Exact, Explanation, Meaning, NanSource, Operand, Place, Reading, Shown, Side, Widths,
-};
+use crate::explanation::{Between, Exact, Explanation, Meaning, Operand, Place, Reading, Shown, Side, Widths};
 use crate::grid::Grid;
 use crate::on_machine::{nan_source, on_machine};
 use crate::question::{Operation, Question};
@@ -127,7 +125,7 @@ fn explanation<S: Semantics>(question: Question, first: Given<S>, second: Given<
 
 /// The widths of a format's fields.
 fn widths<S: Semantics>() -> Widths {
-    Widths { bits: S::BITS as u32, exponent: S::EXP_BITS as u32, explicit_integer_bit: S::EXPLICIT_INTEGER_BIT }
+    Widths { bits: S::BITS as u32, exponent: S::EXP_BITS as u32 }
 }
 
 /// An operation on values of a format.

@@ -11,8 +11,6 @@ pub struct Widths {
     pub bits: u32,
     /// The bits of the biased exponent.
     pub exponent: u32,
-    /// Whether the integer bit is among the bits.
-    pub explicit_integer_bit: bool,
 }
 
 /// What a value is.

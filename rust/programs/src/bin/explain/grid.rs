@@ -1,7 +1,7 @@
 //! The numbers of a storage format, among which a value becomes one.
 
 use crate::erased::rustc_apfloat::ieee::{IeeeFloat, Semantics};
-use crate::erased::rustc_apfloat::{Flags, Float, Round, Status, StatusAnd};
+use crate::erased::rustc_apfloat::{Flags, Round, Status, StatusAnd};
 use crate::erased::storage_formats::{E2M1FN, E2M3FN, E3M2FN, StorageFormat, StoredFloat};
 
 /// A storage format.

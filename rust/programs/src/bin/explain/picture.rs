@@ -1,6 +1,5 @@
 //! Writes an explanation, in lines of at most 80 columns.
 
-use crate::erased::apfloat_decimals::Decimal;
 use crate::erased::apfloat_machines::{FusedOrder, Machine, NanChoice};
 use crate::erased::formats_at_run_time::Arithmetic;
 use crate::erased::rustc_apfloat::{Flags, Round, Status};

@@ -78,12 +78,7 @@ static MACHINES_BY_WORD: &[(&str, Machine)] = &[
 
 /// The machine of this name.
 fn machine_named(word: &str) -> Option<Machine> {
-    for (known, machine) in MACHINES_BY_WORD {
-        if *known == word {
-            return Some(*machine);
-        }
-    }
-    None
+    MACHINES_BY_WORD.iter().find(|(known, _)| *known == word).map(|(_, machine)| *machine)
 }
 
 /// The computation that is explained.
@@ -173,19 +168,15 @@ impl<'a> Question<'a> {
         let [word, rest @ ..] = words else {
             return Err(Fault::TooFew);
         };
-        if word.as_str() != "--machine" {
-            return if word.as_str().starts_with('-') {
-                Err(Fault::Option(word.as_str()))
-            } else {
-                Question::asked(None, words)
-            };
+        if word != "--machine" {
+            return if word.starts_with('-') { Err(Fault::Option(word)) } else { Question::asked(None, words) };
         }
         let [name, rest @ ..] = rest else {
             return Err(Fault::TooFew);
         };
-        match machine_named(name.as_str()) {
-            Some(machine) => Question::asked(Some((machine, name.as_str())), rest),
-            None => Err(Fault::Machine(name.as_str())),
+        match machine_named(name) {
+            Some(machine) => Question::asked(Some((machine, name)), rest),
+            None => Err(Fault::Machine(name)),
         }
     }
 
@@ -194,7 +185,7 @@ impl<'a> Question<'a> {
         if words.len() < 2 || words.len() == 3 {
             return Err(Fault::TooFew);
         }
-        let format_word = words[0].as_str();
+        let format_word = &words[0];
         let Some(BuiltInKind::OfFormat(format)) = BuiltInKind::named(format_word) else {
             return Err(Fault::Format(format_word));
         };
@@ -208,11 +199,11 @@ impl<'a> Question<'a> {
                 operands: &words[1..],
             });
         }
-        let Some(operation) = Operation::named(words[1].as_str()) else {
-            return Err(Fault::Operation(words[1].as_str()));
+        let Some(operation) = Operation::named(&words[1]) else {
+            return Err(Fault::Operation(&words[1]));
         };
-        let Some(round) = mode_named(words[2].as_str()) else {
-            return Err(Fault::Mode(words[2].as_str()));
+        let Some(round) = mode_named(&words[2]) else {
+            return Err(Fault::Mode(&words[2]));
         };
         if let Some((known, name)) = machine
             && is_lacking(known, format, operation)

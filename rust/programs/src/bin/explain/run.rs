@@ -4,8 +4,7 @@ use crate::compute::Computation;
 use crate::erased::commands::{About, FORMATS, MODES, WrongWord, suggested, write_fault};
 use crate::picture::write_explanation;
 use crate::question::{Fault, HELP, MACHINES, OPERATIONS, OPTIONS, Question};
-use std::io;
-use std::io::{ErrorKind, Write};
+use std::io::{self, ErrorKind, Write};
 
 const PROGRAM: &str = "explain";
 
@@ -33,7 +32,7 @@ const NO_MEMORY: u8 = 3;
 /// Runs the program with the arguments from the system, and returns its exit status.
 pub fn run(given: io::Result<Vec<String>>, in_colour: bool, out: &mut impl Write, err: &mut impl Write) -> u8 {
     match given {
-        Ok(words) => answer(words.as_slice(), in_colour, out, err).unwrap_or(FAILED),
+        Ok(words) => answer(&words, in_colour, out, err).unwrap_or(FAILED),
         Err(error) => refuse_words(error, err).unwrap_or(FAILED),
     }
 }
