@@ -1,7 +1,7 @@
 #!/usr/bin/env python3
 """Prints the checksums that the program `bench` prints, computed by the model.
 
-    python3 evidence/checksums.py | diff - crates/bench/stdout
+    python3 evidence/checksums.py | diff - tests/checksums/expected
 
 A line has a kind of values, an operation, a set of operands, and a checksum of 1024 results in
 each mode, or one checksum if the operation has no mode. Below a heading are the operations that

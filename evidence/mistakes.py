@@ -1,11 +1,11 @@
 #!/usr/bin/env python3
-"""Shows that each mistake with a name gives a wrong result on a row that tells it apart. It needs `rt`.
+"""Shows that each mistake with a name gives a wrong result on a row that tells it apart. It needs `rt` and cargo.
 
     python3 evidence/mistakes.py [--jobs N] [--list] [MISTAKE..]
 
 Each mistake is one or more edits of a crate, `crates/CRATE/must-fail/MISTAKE*.edit`, one for each way that a built-in
-format takes to the result. Each edit is made in a copy of the checkout, where the program `vectors` or `check_vectors`
-then computes a row without a proof (`rt try`). It prints the mistake, the edit, the row, the right result and the wrong
+format takes to the result. Each edit is made in a copy of the checkout, where a program then computes a row without a
+proof: `vectors` by `rt try` a command, `check_vectors` by cargo a call. It prints the mistake, the edit, the row, the right result and the wrong
 one, and how many seconds that took. The right results are also computed by the model (`exact`), first of all. The
 status is 1 if a result with an edit is the right one, or if there is none; --list only prints the rows.
 
@@ -13,6 +13,7 @@ A result "none" means that the program stopped, for example at an overflow.
 """
 
 import argparse
+import os
 import queue
 import re
 import shutil
@@ -254,32 +255,44 @@ def computed(copy, row):
     """What the programs of a copy compute for a row."""
     columns = row.split("\t")
     if len(columns) == 2:
-        folder, words, given = "vectors", ["--", *columns[0].split(" ")], ""
-    else:
-        folder, words, given = "check_vectors", [], row + "\n"
+        return replied(copy, columns[0].split(" "))
+    _, said = run(copy, ["cargo", "build", "--quiet", "--offline", "-p", "programs", "--bin", "check_vectors"])
+    status, said = run(copy, ["target/debug/check_vectors"], row + "\n") if not said else (None, said)
+    found = re.search(r"^  given: (.*)$", said, re.MULTILINE)
+    if found:
+        return " ".join(word for word in found.group(1).split("\t") if word != "-")
+    if "1 rows agree, 0 differ" in said:
+        return split(row)[1]
+    # 101 is the status of a panic, as at an overflow.
+    if status == 101:
+        return "none"
+    raise Fault("check_vectors gave no result:\n" + said[-1500:])
+
+
+def replied(copy, words):
+    """The reply of `vectors` to a command."""
+    _, said = run(copy / "crates" / "vectors", ["rt", "try", "--", *words])
+    if "\nrun=ended " not in "\n" + said:
+        if "\nrun=" in "\n" + said and "run=none" not in said:
+            return "none"
+        raise Fault("rt try gave no result:\n" + said[-1500:])
+    return said.split("\nchecked: ")[0].strip()
+
+
+def run(folder, command, given=""):
+    """The status of a command that is run in a folder, and what it writes."""
     ran = subprocess.run(
-        ["rt", "try", *words],
-        cwd=copy / "crates" / folder,
+        command,
+        cwd=folder,
         input=given,
         stdout=subprocess.PIPE,
         stderr=subprocess.STDOUT,
         text=True,
         errors="replace",
         check=False,
+        env=os.environ | {"CARGO_TARGET_DIR": "target"},
     )
-    said = ran.stdout
-    if "\nrun=ended " not in "\n" + said:
-        if "\nrun=" in "\n" + said and "run=none" not in said:
-            return "none"
-        raise Fault("rt try gave no result:\n" + said[-1500:])
-    if len(columns) == 2:
-        return said.split("\nchecked: ")[0].strip()
-    found = re.search(r"^  given: (.*)$", said, re.MULTILINE)
-    if found:
-        return " ".join(word for word in found.group(1).split("\t") if word != "-")
-    if "1 rows agree, 0 differ" in said:
-        return split(row)[1]
-    raise Fault("check_vectors gave no result:\n" + said[-1500:])
+    return ran.returncode, ran.stdout
 
 
 def tried(copies, mistake, crate, suffix, row):
@@ -341,7 +354,7 @@ def main():
         copies = queue.Queue()
         for number in range(words.jobs):
             copy = Path(room) / str(number)
-            shutil.copytree(TOP, copy, symlinks=True, ignore=shutil.ignore_patterns(".git", "out"))
+            shutil.copytree(TOP, copy, symlinks=True, ignore=shutil.ignore_patterns(".git", "out", "target"))
             copies.put(copy)
         with ThreadPoolExecutor(words.jobs) as pool:
             results = pool.map(lambda one: tried(copies, *one), tries)

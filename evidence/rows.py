@@ -22,7 +22,7 @@ from exact import calls, commands, format_of, operations
 from exact.formats import FORMATS
 from questions.subjects import drawn
 
-STORED = Path(__file__).resolve().parent.parent / "crates" / "check_vectors" / "stdin"
+STORED = Path(__file__).resolve().parent.parent / "tests" / "rows" / "stored"
 
 _COMMAND_SUBJECTS = {
     "add sub": "sums and differences",

@@ -548,7 +548,7 @@ class SignTests(unittest.TestCase):
         # The stored rows of these calls (docs/VECTORS.md), in the formats that have bits.
         methods = {'copy_sign': 'copy_sign', 'min': 'fmin', 'max': 'fmax', 'minimum': 'minimum', 'maximum': 'maximum'}
         compared = collections.Counter()
-        with open(os.path.join(HERE, '..', 'crates', 'check_vectors', 'stdin'), encoding='utf-8') as file:
+        with open(os.path.join(HERE, '..', 'tests', 'rows', 'stored'), encoding='utf-8') as file:
             rows = [line.rstrip('\n').split('\t') for line in file if '\t-\t' in line]
         for call, word, _, operands, wanted, *_ in (row for row in rows if len(row) == 7):
             name, *rules = word.split('+')
@@ -630,7 +630,7 @@ class SignTests(unittest.TestCase):
             which, _, rule = call.partition('_')
             return getattr(machine, which)(rule, *values).bits
 
-        with open(os.path.join(HERE, '..', 'crates', 'check_vectors', 'stdin'), encoding='utf-8') as file:
+        with open(os.path.join(HERE, '..', 'tests', 'rows', 'stored'), encoding='utf-8') as file:
             rows = [line.rstrip('\n').split('\t') for line in file if '@' in line and not line.startswith('#')]
         for call, words, mode, operands, wanted, flags, _ in rows:
             words, _, name = words.partition('@')
@@ -680,7 +680,7 @@ class SignTests(unittest.TestCase):
                 return x.to_format(operation, target, *others).bits, int(wanted, 16)
             return getattr(x, {'round_to_integral_in': 'integral'}.get(call, call))().bits, int(wanted, 16)
 
-        with open(os.path.join(HERE, '..', 'crates', 'check_vectors', 'stdin'), encoding='utf-8') as file:
+        with open(os.path.join(HERE, '..', 'tests', 'rows', 'stored'), encoding='utf-8') as file:
             rows = [line.rstrip('\n').split('\t') for line in file]
         for call, words, mode, operands, wanted, flags, _ in (row for row in rows if len(row) == 7):
             if not (call.startswith('compare_') or call.endswith(('_of', '_to')) and call != 'class_of'

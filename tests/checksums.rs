@@ -269,7 +269,7 @@ fn checksum<F: Benched>(operation: &str, set: Set, round: Round) -> u64 {
 
 /// Compares the lines of a type with what is computed, and gives how many checksums agree.
 fn check<F: Benched>(name: &str) -> usize {
-    let file = concat!(env!("CARGO_MANIFEST_DIR"), "/crates/bench/stdout");
+    let file = concat!(env!("CARGO_MANIFEST_DIR"), "/tests/checksums/expected");
     let text = std::fs::read_to_string(file).unwrap();
     let mut count = 0;
     for line in text.lines() {

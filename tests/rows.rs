@@ -1,4 +1,4 @@
-//! The rows of `crates/check_vectors/stdin`: known answers, from elsewhere, of calls and commands. `docs/VECTORS.md` of
+//! The rows of `tests/rows/stored`: known answers, from elsewhere, of calls and commands. `docs/VECTORS.md` of
 //! the repository says what a row means.
 
 use rustc_apfloat::decimal_digits::{self, Written};
@@ -785,7 +785,7 @@ fn command_row(command: &str, reply: &str) -> Outcome {
 
 #[test]
 fn stored_rows() {
-    let file = concat!(env!("CARGO_MANIFEST_DIR"), "/crates/check_vectors/stdin");
+    let file = concat!(env!("CARGO_MANIFEST_DIR"), "/tests/rows/stored");
     let text = std::fs::read_to_string(file).unwrap();
     let (mut agreed, mut without) = (0, Vec::new());
     let mut differing = Vec::new();

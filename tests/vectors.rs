@@ -54,7 +54,7 @@ fn words_of(command: &str) -> Vec<&str> {
 
 #[test]
 fn stored_commands_have_their_replies() {
-    let rows = fs::read_to_string(concat!(env!("CARGO_MANIFEST_DIR"), "/crates/check_vectors/stdin")).unwrap();
+    let rows = fs::read_to_string(concat!(env!("CARGO_MANIFEST_DIR"), "/tests/rows/stored")).unwrap();
     let commands: Vec<(&str, &str)> = rows
         .lines()
         .filter(|line| !line.starts_with('#'))

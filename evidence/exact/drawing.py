@@ -1,6 +1,6 @@
 """The operands of the checksums: integers that look random, the same in each run.
 
-What is drawn, and in which order, is that of the program `bench` (crates/bench).
+What is drawn, and in which order, is that of the program `bench` (rust/programs/src/bin/bench).
 """
 
 from exact.formats import DOUBLE, FORMATS, NonFinite

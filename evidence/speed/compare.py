@@ -4,7 +4,7 @@
     python3 evidence/speed/compare.py --crate FILE.rlib [--llvm LLVM_CONFIG] [--rounds N]
     python3 evidence/speed/compare.py --roots [--rounds N]
 
-The library is the program `bench`, which `rt run` builds in crates/bench. FILE.rlib is the Rust
+The library is the program `bench`, as cargo builds it for a release. FILE.rlib is the Rust
 crate as rustc or cargo built it, with the libraries that it needs next to it or in `deps`.
 LLVM_CONFIG is the program `llvm-config` of LLVM 14. With --roots, square roots, and products and
 fused sums in formats of any precision, are timed against MPFR and the libraries of GCC. Each cell
@@ -31,7 +31,7 @@ SETS = ("normal", "denormal")
 def main():
     """Builds the other programs, runs all in turn, and prints what was measured."""
     parser = argparse.ArgumentParser(description="Times the library against others.")
-    parser.add_argument("--library", default=ROOT / "crates" / "bench" / "out" / "bench")
+    parser.add_argument("--library", default=ROOT / "target" / "release" / "bench")
     parser.add_argument("--crate", type=Path, help="the Rust crate, as an rlib")
     parser.add_argument("--llvm", help="llvm-config of LLVM 14")
     parser.add_argument("--roots", action="store_true", help="against MPFR and the libraries of GCC")

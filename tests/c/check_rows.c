@@ -1,4 +1,4 @@
-/* Calls the library from C for rows of calls with their results, as crates/check_vectors/stdin has them
+/* Calls the library from C for rows of calls with their results, as tests/rows/stored has them
  * (docs/VECTORS.md), and compares each field of the answer: a field or an argument in the wrong place shows only in a
  * call from C. Rows that the library has no function or no code for are skipped.
  *
@@ -7,7 +7,7 @@
  * By hand, at the top of the repository, after `rt lib` in crates/apfloat_c:
  *
  *   cc -std=c99 -Wall -Wextra -O2 -Iinclude tests/c/check_rows.c crates/apfloat_c/out/libapfloat_c.a -o check_rows
- *   ./check_rows < crates/check_vectors/stdin | diff - tests/c/agreeing */
+ *   ./check_rows < tests/rows/stored | diff - tests/c/agreeing */
 #include "apfloat.h"
 #include "rows.h"
 

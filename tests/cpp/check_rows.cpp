@@ -1,11 +1,11 @@
-// Makes the calls of rows from C++, and compares their results: those of crates/check_vectors/stdin and of
+// Makes the calls of rows from C++, and compares their results: those of tests/rows/stored and of
 // tests/c/decimals, in which long texts are left out. Rows that the header has no call or no format for are skipped.
 //
 // It prints each row that differs, and how many rows of each call agree, which tests/cpp/agreeing has. By hand, at the
 // top of the repository, after `rt lib` in crates/apfloat_c:
 //
 //   c++ -std=c++17 -Iinclude tests/cpp/check_rows.cpp crates/apfloat_c/out/libapfloat_c.a -o check_rows
-//   cat crates/check_vectors/stdin tests/c/decimals | ./check_rows | diff - tests/cpp/agreeing
+//   cat tests/rows/stored tests/c/decimals | ./check_rows | diff - tests/cpp/agreeing
 #include "rows.hpp"
 
 #include <functional>

@@ -1,6 +1,6 @@
 //! Custom formats, declared as a user would declare them: each gives its constants and proves its law in one line.
 //!
-//! Rows of test vectors name them (`vector_lines`), and tests use them at the limits of the law (`conformance_tests`).
+//! Rows of test vectors name them (`check_vectors`), and tests use them at the limits of the law (`conformance_tests`).
 #![tactic(auto)]
 
 mod broad;

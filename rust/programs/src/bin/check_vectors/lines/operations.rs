@@ -1,6 +1,6 @@
 //! The operations of IEEE 754-2019 that `Float` lacks, as rows name them.
 //!
-//! The crate `call_rows` makes the call of such a row.
+//! `calls` makes the call of such a row.
 
 use crate::erased::apfloat_comparisons::{Extremum, OnNan, Predicate};
 use crate::erased::apfloat_machines::MinimumRule;
