@@ -44,7 +44,7 @@ COMPUTE = [
     ("bits: S::BITS as u32,", "bits: S::PRECISION as u32,"),
     ("exponent: S::EXP_BITS as u32", "exponent: S::BITS as u32"),
     # the operations
-    ("Operation::Value | Operation::Into(_) => Status::OK.and(x)", "Operation::Value | Operation::Into(_) => Status::OK.and(y)"),
+    ("Operation::Value | Operation::Into(_) => Status::OK.and(x)", "Operation::Value | Operation::Into(_) => Status::OK.and(y)", "equal: no result is shown"),
     ("arithmetic.answer(x, y, round)", "arithmetic.answer(y, x, round)"),
     ("x.wide_mul_add_r(y, z, round)", "x.wide_mul_r(y, round)"),
     ("x.sqrt_r(round)", "x.sqrt_r(Round::TowardZero)"),
