@@ -41,6 +41,11 @@ moved_fits m n precision up s i =
     let w : 2 ^ precision ≤ 2 ^ 59 = pow-le-pow_right two_pos s in
     mod-eq_of_lt (omega (arith, c.1, f, w))
 
+pub in_word : (n precision : ℕ) → precision ≤ 59 → n < 2 ^ precision → n < 2 ^ 64
+in_word n precision short fits =
+    let w : 2 ^ precision ≤ 2 ^ 59 = pow-le-pow_right two_pos short in
+    omega (arith, w, fits)
+
 -- moving up twice is moving up by the sum of the places
 pub moved_places : (m up places : ℕ) → m * 2 ^ up * 2 ^ places ≡ m * 2 ^ (places + up)
 moved_places m up places =

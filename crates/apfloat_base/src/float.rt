@@ -84,7 +84,7 @@ pub trait Float: Copy
         ensures { result ≡ meaning.the_infinity };
 
     /// The positive quiet NaN without a payload (IEEE 754-2019 6.2).
-    fn nan() -> Self
+    final fn nan() -> Self
         ensures { result ≡ meaning.quiet_nan_of 0 }
     {
         Self::qnan(None)
@@ -176,21 +176,21 @@ pub trait Float: Copy
 
     /// The greatest value that compares less (IEEE 754-2019 5.3.1, nextDown), computed as the negation of `next_up` of
     /// the negated value.
-    fn next_down(self) -> StatusAnd<Self>
+    final fn next_down(self) -> StatusAnd<Self>
         ensures { meaning.steps_down self result }
     {
         (-self).next_up().map(|value| -value)
     }
 
     /// The value without its sign (IEEE 754-2019 5.5.1, abs). A NaN loses its sign too, and no flag is raised.
-    fn abs(self) -> Self
+    final fn abs(self) -> Self
         ensures { result ≡ (if meaning.sign_of self then meaning.negated self else self) }
     {
         if self.is_negative() { -self } else { self }
     }
 
     /// The value with the sign of `rhs` (IEEE 754-2019 5.5.1, copySign). Either may be a NaN; no flag is raised.
-    fn copy_sign(self, rhs: Self) -> Self
+    final fn copy_sign(self, rhs: Self) -> Self
         ensures { result
             ≡ (if not (same_sign (meaning.sign_of self) (meaning.sign_of rhs))
             then meaning.negated self else self) }
@@ -209,7 +209,7 @@ pub trait Float: Copy
         ensures { result ≡ meaning.value_of_bits bits };
 
     /// The value of a signed integer, rounded once (IEEE 754-2019 5.4.1, convertFromInt).
-    fn from_i128_r(input: i128, round: Round) -> StatusAnd<Self>
+    final fn from_i128_r(input: i128, round: Round) -> StatusAnd<Self>
         ensures { meaning.converts_signed input round result }
     {
         if input < 0 {
@@ -220,7 +220,7 @@ pub trait Float: Copy
     }
 
     /// The value of a signed integer, rounded once to the nearest value, ties to even.
-    fn from_i128(input: i128) -> StatusAnd<Self>
+    final fn from_i128(input: i128) -> StatusAnd<Self>
         ensures { meaning.converts_signed input NearestTiesToEven result }
     {
         Self::from_i128_r(input, Round::NearestTiesToEven)
@@ -231,7 +231,7 @@ pub trait Float: Copy
         ensures { meaning.converts_unsigned input round result };
 
     /// The value of an unsigned integer, rounded once to the nearest value, ties to even.
-    fn from_u128(input: u128) -> StatusAnd<Self>
+    final fn from_u128(input: u128) -> StatusAnd<Self>
         ensures { meaning.converts_unsigned input NearestTiesToEven result }
     {
         Self::from_u128_r(input, Round::NearestTiesToEven)
@@ -278,7 +278,7 @@ pub trait Float: Copy
     }
 
     /// The value as a signed integer of `width` bits, 2 to 128, in two's complement, truncated toward zero.
-    fn to_i128(self, width: usize) -> StatusAnd<i128>
+    final fn to_i128(self, width: usize) -> StatusAnd<i128>
         requires low { 2 ≤ width }
         requires high { width ≤ 128 }
         ensures { (exact : Bool) × meaning.converts_to_signed self width TowardZero result exact }
@@ -299,7 +299,7 @@ pub trait Float: Copy
         ensures fits { result.value < 2 ^ width };
 
     /// The value as an unsigned integer of `width` bits, 1 to 128, truncated toward zero.
-    fn to_u128(self, width: usize) -> StatusAnd<u128>
+    final fn to_u128(self, width: usize) -> StatusAnd<u128>
         requires low { 1 ≤ width }
         requires high { width ≤ 128 }
         ensures answer { (exact : Bool)
@@ -323,7 +323,7 @@ pub trait Float: Copy
 
     /// The lesser value (minNum of IEEE 754-2008 5.3.1, but a signaling NaN counts as a quiet one). If one operand is a
     /// NaN, returns the other; if neither is less, returns `self`.
-    fn min(self, other: Self) -> Self
+    final fn min(self, other: Self) -> Self
         ensures { result ≡ min_by meaning.category_of Self.partial_cmp self other }
     {
         if self.is_nan() {
@@ -339,7 +339,7 @@ pub trait Float: Copy
 
     /// The greater value (maxNum of IEEE 754-2008 5.3.1, but a signaling NaN counts as a quiet one). If one operand is
     /// a NaN, returns the other; if neither is greater, returns `self`.
-    fn max(self, other: Self) -> Self
+    final fn max(self, other: Self) -> Self
         ensures { result ≡ max_by meaning.category_of Self.partial_cmp self other }
     {
         if self.is_nan() {
@@ -355,7 +355,7 @@ pub trait Float: Copy
 
     /// The lesser value; -0 is below +0. This is minimum of IEEE 754-2019 9.6, except that the first NaN is returned
     /// unchanged, even a signaling one.
-    fn minimum(self, other: Self) -> Self
+    final fn minimum(self, other: Self) -> Self
         ensures { result
             ≡ minimum_by meaning.category_of meaning.sign_of Self.partial_cmp self other }
     {
@@ -372,7 +372,7 @@ pub trait Float: Copy
 
     /// The greater value; -0 is below +0. This is maximum of IEEE 754-2019 9.6, except that the first NaN is returned
     /// unchanged, even a signaling one.
-    fn maximum(self, other: Self) -> Self
+    final fn maximum(self, other: Self) -> Self
         ensures { result
             ≡ maximum_by meaning.category_of meaning.sign_of Self.partial_cmp self other }
     {
@@ -392,7 +392,7 @@ pub trait Float: Copy
         ensures { result ≡ meaning.sign_of self };
 
     /// Whether the value is finite, nonzero and not denormal (IEEE 754-2019 5.7.2, isNormal).
-    fn is_normal(self) -> bool
+    final fn is_normal(self) -> bool
         ensures { result ≡ (is_finite_non_zero_category (meaning.category_of self)
             && not (meaning.denormal self)) }
     {
@@ -400,7 +400,7 @@ pub trait Float: Copy
     }
 
     /// Whether the value is finite (IEEE 754-2019 5.7.2, isFinite).
-    fn is_finite(self) -> bool
+    final fn is_finite(self) -> bool
         ensures { result ≡ is_finite_category (meaning.category_of self) }
     {
         !self.is_nan() && !self.is_infinite()
@@ -419,14 +419,14 @@ pub trait Float: Copy
         ensures { result ≡ meaning.denormal self };
 
     /// Whether the value is an infinity (IEEE 754-2019 5.7.2, isInfinite).
-    fn is_infinite(self) -> bool
+    final fn is_infinite(self) -> bool
         ensures { result ≡ is_infinite_category (meaning.category_of self) }
     {
         self.category() == Category::Infinity
     }
 
     /// Whether the value is a NaN, quiet or signaling (IEEE 754-2019 5.7.2, isNaN).
-    fn is_nan(self) -> bool
+    final fn is_nan(self) -> bool
         ensures { result ≡ is_nan_category (meaning.category_of self) }
     {
         self.category() == Category::NaN
@@ -442,14 +442,14 @@ pub trait Float: Copy
         ensures { result ≡ meaning.category_of self };
 
     /// Whether the value is neither +0 nor -0; true for a NaN.
-    fn is_non_zero(self) -> bool
+    final fn is_non_zero(self) -> bool
         ensures { result ≡ not (is_zero_category (meaning.category_of self)) }
     {
         !self.is_zero()
     }
 
     /// Whether the value is a nonzero number.
-    fn is_finite_non_zero(self) -> bool
+    final fn is_finite_non_zero(self) -> bool
         ensures { result ≡ is_finite_non_zero_category (meaning.category_of self) }
     {
         match self.category() {
@@ -461,7 +461,7 @@ pub trait Float: Copy
     }
 
     /// Whether the value is +0.
-    fn is_pos_zero(self) -> bool
+    final fn is_pos_zero(self) -> bool
         ensures { result
             ≡ (is_zero_category (meaning.category_of self) && not (meaning.sign_of self)) }
     {
@@ -469,14 +469,14 @@ pub trait Float: Copy
     }
 
     /// Whether the value is -0.
-    fn is_neg_zero(self) -> bool
+    final fn is_neg_zero(self) -> bool
         ensures { result ≡ (is_zero_category (meaning.category_of self) && meaning.sign_of self) }
     {
         self.is_zero() && self.is_negative()
     }
 
     /// Whether the value is positive infinity.
-    fn is_pos_infinity(self) -> bool
+    final fn is_pos_infinity(self) -> bool
         ensures { result
             ≡ (is_infinite_category (meaning.category_of self) && not (meaning.sign_of self)) }
     {
@@ -484,7 +484,7 @@ pub trait Float: Copy
     }
 
     /// Whether the value is negative infinity.
-    fn is_neg_infinity(self) -> bool
+    final fn is_neg_infinity(self) -> bool
         ensures { result
             ≡ (is_infinite_category (meaning.category_of self) && meaning.sign_of self) }
     {
@@ -492,7 +492,7 @@ pub trait Float: Copy
     }
 
     /// Whether the magnitude is one quantum, the smallest nonzero one.
-    fn is_smallest(self) -> bool
+    final fn is_smallest(self) -> bool
         ensures { result ≡ meaning.same self
             (signed_like meaning.sign_of meaning.negated meaning.the_smallest self) }
     {
@@ -500,7 +500,7 @@ pub trait Float: Copy
     }
 
     /// Whether the magnitude is that of the smallest normal value.
-    fn is_smallest_normalized(self) -> bool
+    final fn is_smallest_normalized(self) -> bool
         ensures { result ≡ meaning.same self
             (signed_like meaning.sign_of meaning.negated meaning.the_smallest_normalized self) }
     {
@@ -508,7 +508,7 @@ pub trait Float: Copy
     }
 
     /// Whether the magnitude is that of the largest finite value.
-    fn is_largest(self) -> bool
+    final fn is_largest(self) -> bool
         ensures { result ≡ meaning.same self
             (signed_like meaning.sign_of meaning.negated meaning.the_largest self) }
     {
@@ -535,7 +535,7 @@ pub trait Float: Copy
         ensures { meaning.scales self exp round result };
 
     /// The value times 2 to the power of `exp`, rounded once to the nearest value, ties to even.
-    fn scalbn(self, exp: ExpInt) -> Self
+    final fn scalbn(self, exp: ExpInt) -> Self
         ensures { meaning.scales self exp NearestTiesToEven result }
     {
         self.scalbn_r(exp, Round::NearestTiesToEven)
@@ -548,7 +548,7 @@ pub trait Float: Copy
         ensures { meaning.has_fraction self round result exp.new };
 
     /// The fraction of the value and its exponent, one more than `ilogb`, rounding to nearest, ties to even.
-    fn frexp(self, exp: &mut ExpInt) -> Self
+    final fn frexp(self, exp: &mut ExpInt) -> Self
         ensures { meaning.has_fraction self NearestTiesToEven result exp.new }
     {
         self.frexp_r(exp, Round::NearestTiesToEven)

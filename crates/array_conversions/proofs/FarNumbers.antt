@@ -1,15 +1,16 @@
 -- Numbers far out of the range of a format: their bits, the side that they are on, and their results.
-use Rattle.std.proofs.Common.{◌≡◌, ℕ, ◌+◌, ◌-◌, ◌*◌, ◌^◌, ◌<◌, ◌≤◌, Bool, true, false, not, ◌&&◌, ◌||◌, eqb, List, [], ◌∷◌, Option, Some, None, refl, subst, sym, ap, ◌∙◌, arith, lit<, ℤ, pos, neg_ℤ, ◌+ℤ◌, ◌-ℤ◌, ◌≤ℤ◌}
+use Rattle.std.proofs.Common.{◌≡◌, ℕ, ◌+◌, ◌-◌, ◌*◌, ◌^◌, ◌<◌, ◌≤◌, Bool, true, false, not, ◌&&◌, ◌||◌, eqb, List, [], ◌∷◌, Option, Some, None, refl, subst, sym, ap, ◌∙◌, arith, lit<, ℤ, pos, neg_ℤ, ◌+ℤ◌, ◌-ℤ◌, ◌≤ℤ◌, FitsSigned, w32, to_z, of_z}
 use Rattle.std.specs.Prelude.{IsTrue, IsSomeAnd, slice_get, slice_index_or}
 use Rattle.std.specs.Bool.{MatchBool}
 use Rattle.std.proofs.Math.Nat.{mul-le-mul_right, mul-lt-mul_of_pos_right, mul-pos, pow-le-pow_right}
-use Rattle.std.proofs.lemmas.Int.{ints}
+use Rattle.std.proofs.lemmas.Int.{ints, to_z-of_z, to_z_pos}
 use Rattle.std.proofs.lemmas.Nat.{pow-add, pow_pos}
 use Rattle.std.proofs.lemmas.Option.{get_or_from_slice_get}
 use Rattle.std.proofs.lemmas.Bool.{false≢true, ne_eqb}
 use Rattle.apfloat_model.specs.declared.loss.Loss.TheVariants.{ExactlyZero}
 use Rattle.rustc_apfloat.specs.declared.Round.{Round}
 use Rattle.rustc_apfloat.specs.Format.{Format}
+use Rattle.rustc_apfloat.specs.Bounds.{IsWithin, exponent_bound}
 use Rattle.rustc_apfloat.specs.Datum.{Datum, finite}
 use Rattle.rustc_apfloat.specs.Flags.{bits_of}
 use Rattle.rustc_apfloat.specs.Lawful.{Constants, IsLawful, AreParameters, format_with, layout_with}
@@ -160,6 +161,60 @@ placed c d bits place false true false lawful_c lawful_d implied is_past is_litt
     absurd (false≢true both)
 placed c d bits place false false number lawful_c lawful_d implied is_past is_little is_number both is =
     absurd (false≢true both)
+
+-- ---- an exponent on each side
+
+-- the words that hold a format's constants
+pub exponent_held : (word exponent : ℤ) → FitsSigned w32 word → word ≡ exponent → to_z w32 (of_z w32 word) ≡ exponent
+exponent_held word exponent fits is = to_z-of_z w32 word fits ∙ is
+
+pub precision_fits : (precision : ℕ) (min max : ℤ) → AreParameters precision min max → FitsSigned w32 (pos precision)
+precision_fits precision min max are = omega (arith, ints, are.precision_high)
+
+pub precision_held : (word precision : ℕ) (min max : ℤ) → AreParameters precision min max → word ≡ precision
+    → to_z w32 word ≡ pos precision
+precision_held word precision min max are is =
+    let high = are.precision_high in
+    to_z_pos w32 word (omega (arith, high, is)) ∙ ap (λ (n : ℕ). pos n) is
+
+pub above_fits : (precision : ℕ) (min max : ℤ) → AreParameters precision min max → FitsSigned w32 (max +ℤ pos 1)
+above_fits precision min max are = omega (arith, ints, are.max_exp_low, are.max_exp_high)
+
+pub above_within : (precision : ℕ) (min max : ℤ) → AreParameters precision min max
+    → IsWithin exponent_bound (max +ℤ pos 1)
+above_within precision min max are =
+    let low = are.max_exp_low in
+    let high = are.max_exp_high in
+    record { low = omega (arith, ints, low); high = omega (arith, ints, high) }
+
+pub above_unit : (c : Constants) → AreParameters c.precision c.min_exp c.max_exp
+    → ((c.max_exp +ℤ pos 1) +ℤ pos (format_with c).scale) ≡ pos (c.precision + (format_with c).span)
+above_unit c are =
+    let scale = scale_is c are in
+    let span = span_is c are in
+    omega (arith, ints, scale, span, are.precision_low)
+
+pub beside_fits : (precision : ℕ) (min max : ℤ) → AreParameters precision min max
+    → FitsSigned w32 (min -ℤ pos precision)
+beside_fits precision min max are = omega (arith, ints, are.precision_high, are.min_exp_low, are.min_exp_high)
+
+pub below_fits : (precision : ℕ) (min max : ℤ) → AreParameters precision min max
+    → FitsSigned w32 ((min -ℤ pos precision) -ℤ pos 1)
+below_fits precision min max are = omega (arith, ints, are.precision_high, are.min_exp_low, are.min_exp_high)
+
+pub below_within : (precision : ℕ) (min max : ℤ) → AreParameters precision min max
+    → IsWithin exponent_bound ((min -ℤ pos precision) -ℤ pos 1)
+below_within precision min max are =
+    let precise = are.precision_high in
+    let low = are.min_exp_low in
+    let high = are.min_exp_high in
+    record { low = omega (arith, ints, precise, low); high = omega (arith, ints, high) }
+
+pub below_unit : (c : Constants) → AreParameters c.precision c.min_exp c.max_exp
+    → (((c.min_exp -ℤ pos c.precision) -ℤ pos 1) +ℤ pos (format_with c).scale) ≡ neg_ℤ (pos 2)
+below_unit c are =
+    let scale = scale_is c are in
+    omega (arith, ints, scale, are.precision_low)
 
 -- ---- the results
 

@@ -63,3 +63,41 @@ returns-clause-delivered c =
     (bits_of c.deliver_total.result.status)) r.is
     (d (magnitude exact) 1 (omega arith)
     (to_odd_least (2 ^ 125) (2 ^ (s.precision + 1)) total.significand _ _ least r.rounded))
+
+pub add_u128_terms-total-requires-clause-some : goal.add_u128_terms-total-requires-clause-some
+add_u128_terms-total-requires-clause-some c = let l = c.args.shape.parameters in omega (arith, l)
+
+pub add_u128_terms-total-requires-clause-short : goal.add_u128_terms-total-requires-clause-short
+add_u128_terms-total-requires-clause-short c = let p = c.requires.short in omega (arith, p)
+
+pub add_u128_terms-total-requires-clause-x : goal.add_u128_terms-total-requires-clause-x
+add_u128_terms-total-requires-clause-x c =
+    let l = c.args.shape.parameters in
+    let x = c.term_of.ensures.exponent in
+    let m = c.requires.x_normal.operand in
+    record {
+      low = omega (arith, ints, l, x, m);
+      high = omega (arith, ints, l, x, m);
+    }
+
+pub add_u128_terms-total-requires-clause-y : goal.add_u128_terms-total-requires-clause-y
+add_u128_terms-total-requires-clause-y c =
+    let l = c.args.shape.parameters in
+    let y = c.term_of-2.ensures.exponent in
+    let n = c.requires.y_normal.operand in
+    record {
+      low = omega (arith, ints, l, y, n);
+      high = omega (arith, ints, l, y, n);
+    }
+
+pub add_u128_terms-total-requires-clause-x_fits : goal.add_u128_terms-total-requires-clause-x_fits
+add_u128_terms-total-requires-clause-x_fits c = rw c.term_of.ensures.significand c.requires.x_normal.operand.fits
+
+pub add_u128_terms-total-requires-clause-y_fits : goal.add_u128_terms-total-requires-clause-y_fits
+add_u128_terms-total-requires-clause-y_fits c = rw c.term_of-2.ensures.significand c.requires.y_normal.operand.fits
+
+pub add_u128_terms-total-requires-clause-x_full : goal.add_u128_terms-total-requires-clause-x_full
+add_u128_terms-total-requires-clause-x_full c = rw c.term_of.ensures.significand c.requires.x_normal.operand.full
+
+pub add_u128_terms-total-requires-clause-y_full : goal.add_u128_terms-total-requires-clause-y_full
+add_u128_terms-total-requires-clause-y_full c = rw c.term_of-2.ensures.significand c.requires.y_normal.operand.full

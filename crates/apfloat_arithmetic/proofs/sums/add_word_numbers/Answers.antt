@@ -78,3 +78,44 @@ returns-clause-delivered c =
     (datum_at c.args.shape c.deliver_word.result.value) (bits_of c.deliver_word.result.status)) e
     (d (magnitude exact)
     (to_odd_least (2 ^ 60) (2 ^ (c.args.shape.precision + 1)) total.significand _ _ least r.rounded))
+
+pub add_word_terms-total-requires-clause-some : goal.add_word_terms-total-requires-clause-some
+add_word_terms-total-requires-clause-some c = let l = c.args.shape.parameters in omega (arith, l)
+
+pub add_word_terms-total-requires-clause-short : goal.add_word_terms-total-requires-clause-short
+add_word_terms-total-requires-clause-short c = c.requires.short
+
+pub add_word_terms-total-requires-clause-x : goal.add_word_terms-total-requires-clause-x
+add_word_terms-total-requires-clause-x c =
+    let l = c.args.shape.parameters in
+    let x = c.term_of.ensures.exponent in
+    let m = c.requires.x_normal.operand in
+    record {
+      low = omega (arith, ints, l, x, m);
+      high = omega (arith, ints, l, x, m);
+    }
+
+pub add_word_terms-total-requires-clause-y : goal.add_word_terms-total-requires-clause-y
+add_word_terms-total-requires-clause-y c =
+    let l = c.args.shape.parameters in
+    let y = c.term_of-2.ensures.exponent in
+    let n = c.requires.y_normal.operand in
+    record {
+      low = omega (arith, ints, l, y, n);
+      high = omega (arith, ints, l, y, n);
+    }
+
+pub add_word_terms-total-requires-clause-x_fits : goal.add_word_terms-total-requires-clause-x_fits
+add_word_terms-total-requires-clause-x_fits c = rw c.term_of.ensures.significand c.requires.x_normal.operand.fits
+
+pub add_word_terms-total-requires-clause-y_fits : goal.add_word_terms-total-requires-clause-y_fits
+add_word_terms-total-requires-clause-y_fits c = rw c.term_of-2.ensures.significand c.requires.y_normal.operand.fits
+
+pub add_word_terms-total-requires-clause-x_full : goal.add_word_terms-total-requires-clause-x_full
+add_word_terms-total-requires-clause-x_full c = rw c.term_of.ensures.significand c.requires.x_normal.operand.full
+
+pub add_word_terms-total-requires-clause-y_full : goal.add_word_terms-total-requires-clause-y_full
+add_word_terms-total-requires-clause-y_full c = rw c.term_of-2.ensures.significand c.requires.y_normal.operand.full
+
+pub deliver_word-requires-clause-short : goal.deliver_word-requires-clause-short
+deliver_word-requires-clause-short c = c.requires.short
