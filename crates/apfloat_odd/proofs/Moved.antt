@@ -16,7 +16,7 @@ use Rattle.apfloat_model.proofs.general.Powers.{twice_half}
 use Rattle.apfloat_model.proofs.rounding.Laws.{exact_above}
 use Rattle.apfloat_model.proofs.rounding.NeighboursExist.{above_exists}
 use Rattle.apfloat_odd.specs.Odd.{is_odd_below, IsMadeOdd, IsMadeOddNumber}
-use Rattle.apfloat_odd.specs.Numbers.{IsPositive}
+use Rattle.apfloat_model.specs.order.Positive.{IsPositive}
 use Rattle.apfloat_odd.proofs.MadeOdd.{largest_some}
 use Rattle.apfloat_odd.proofs.OddPoints.{power_on_grid}
 

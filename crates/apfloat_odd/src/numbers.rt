@@ -7,7 +7,8 @@ ghost use Rattle.apfloat_model.specs.order.Classes.{quanta_of, is_integer};
 ghost use Rattle.apfloat_model.specs.rounding.Grid.{IsAbove};
 ghost use Rattle.apfloat_ieee.specs.FlaggedTypes.{format_of};
 ghost use Rattle.apfloat_odd.specs.Odd.{is_odd_below};
-ghost use Rattle.apfloat_odd.specs.Numbers.{IsPositive, IsHalfPlaces};
+ghost use Rattle.apfloat_model.specs.order.Positive.{IsPositive};
+ghost use Rattle.apfloat_odd.specs.Numbers.{IsHalfPlaces};
 
 use apfloat_base::{ExpInt, Float};
 use apfloat_ieee::{Flagged, IeeeFloat};

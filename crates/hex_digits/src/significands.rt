@@ -5,7 +5,7 @@ ghost use Rattle.apfloat_model.specs.arithmetic.Exponents.{IsLogarithm};
 ghost use Rattle.apfloat_model.specs.order.Classes.{quanta_of};
 ghost use Rattle.apfloat_model.specs.rounding.Bounds.{IsWithin};
 ghost use Rattle.apfloat_ieee.specs.Types.{format_of};
-ghost use Rattle.apfloat_decimals.specs.ShortestSearch.{IsPositive};
+ghost use Rattle.apfloat_model.specs.order.Positive.{IsPositive};
 ghost use Rattle.hex_digits.specs.HexTexts.{IsNumberOf};
 
 use apfloat_base::ExpInt;

@@ -1,6 +1,7 @@
 pub mod Points
 pub mod StoredPicks
 mod StoredNumbers
+mod Lengths
 mod ScalePicks
 mod ScaleModes
 pub mod OneAnswer

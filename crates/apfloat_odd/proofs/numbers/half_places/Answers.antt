@@ -2,7 +2,9 @@ use Rattle.std.proofs.Common.{◌≡◌, arith}
 use Rattle.std.proofs.lemmas.Int.{ints}
 use Rattle.apfloat_model.specs.order.Classes.{quanta_of}
 use Rattle.apfloat_ieee.specs.FlaggedTypes.{constants_of, format_of}
-use Rattle.apfloat_odd.proofs.LastDigits.{ranges_of, scale_is, logarithm_of, logarithm_within, low_half_places, high_half_places}
+use Rattle.apfloat_model.proofs.formats.LawfulRanges.{ranges_of}
+use Rattle.apfloat_model.proofs.order.PositiveValues.{logarithm_of, logarithm_within}
+use Rattle.apfloat_odd.proofs.LastDigits.{scale_is, low_half_places, high_half_places}
 use Rattle.apfloat_odd.proofs.numbers.half_places.Goals as goal
 
 pub overflow_sub-result-else-first-MIN_EXP-2 : goal.overflow_sub-result-else-first-MIN_EXP-2

@@ -1,7 +1,8 @@
 use Rattle.std.proofs.Common.{ap, ◌∙◌, not, w32}
 use Rattle.std.proofs.lemmas.Int.{to_z-of_z}
 use Rattle.apfloat_ieee.specs.FlaggedTypes.{constants_of, format_of}
-use Rattle.apfloat_odd.proofs.LastDigits.{ranges_of, odd_is}
+use Rattle.apfloat_model.proofs.formats.LawfulRanges.{ranges_of}
+use Rattle.apfloat_odd.proofs.LastDigits.{odd_is}
 use Rattle.apfloat_odd.proofs.numbers.is_odd.Goals as goal
 
 pub returns : goal.returns

@@ -1,6 +1,6 @@
 use Rattle.apfloat_model.specs.rounding.Flags.{bits_of}
 use Rattle.apfloat_ieee.specs.FlaggedTypes.{constants_of, format_of}
-use Rattle.apfloat_odd.proofs.LastDigits.{ranges_of}
+use Rattle.apfloat_model.proofs.formats.LawfulRanges.{ranges_of}
 use Rattle.apfloat_odd.proofs.Moved.{positive_magnitude, stays_made, moves_made}
 use Rattle.apfloat_odd.proofs.odd.made_odd_number.Goals as goal
 

@@ -1,6 +1,6 @@
 use Rattle.std.proofs.Common.{arith}
-use Rattle.conversion_modes.proofs.Lengths.{length_fits, length_full, length_whole}
-use Rattle.conversion_modes.proofs.directions.lengthened.Goals as goal
+use Rattle.storage_formats.proofs.Lengths.{length_fits, length_full, length_whole}
+use Rattle.storage_formats.proofs.quanta.lengthened.Goals as goal
 
 pub returns-clause-value : goal.returns-clause-value
 returns-clause-value c =
