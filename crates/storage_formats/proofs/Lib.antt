@@ -1,7 +1,6 @@
 pub mod Points
 pub mod StoredPicks
 mod StoredNumbers
-mod Lengths
 mod ScalePicks
 mod ScaleModes
 pub mod OneAnswer

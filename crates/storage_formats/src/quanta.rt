@@ -53,7 +53,7 @@ fn last_exponent(precision: u32, exponent: ExpInt) -> ExpInt
 }
 
 /// The magnitude of a number.
-pub(crate) fn magnitude<S: Semantics>(x: IeeeFloat<S>) -> Magnitude
+pub(crate) fn magnitude_of<S: Semantics>(x: IeeeFloat<S>) -> Magnitude
     requires { category_of x ≡ Normal }
     ensures low { 2 ^ 124 ≤ result.digits }
     ensures high { result.digits < 2 ^ 125 }
@@ -89,7 +89,7 @@ pub fn in_quanta<S: Semantics>(x: IeeeFloat<S>, scale: u32) -> InQuanta
     ensures number { quanta_of x * 2 ^ scale * 2 ^ down result.unit
         ≡ result.digits * (2 ^ (format_of S.Semantics).scale * 2 ^ up result.unit) }
 {
-    let number = magnitude(x);
+    let number = magnitude_of(x);
     InQuanta {
         digits: number.digits,
         unit: unit_of(number.exponent, scale),

@@ -17,7 +17,7 @@ use crate::cuts::cut_number;
 use crate::format::StorageFormat;
 use crate::from_value::{deliver_pick, scale};
 use crate::picks::{Picked, index_of, moved_index};
-use crate::quanta::magnitude;
+use crate::quanta::magnitude_of;
 use crate::stored::StoredFloat;
 use apfloat_base::{Category, ExpInt, Float, Round, Status, StatusAnd};
 use apfloat_ieee::{IeeeFloat, Semantics};
@@ -78,8 +78,8 @@ fn divide_positive<S: Semantics, R: Semantics, F: StorageFormat>(
         → IsRatioOf (format_of S.Semantics) (format_of R.Semantics) (format_with c) x y amount parts
         → Gives (IsSaturated c mode negative amount parts) result }
 {
-    let dividend = magnitude(x);
-    let divisor = magnitude(y);
+    let dividend = magnitude_of(x);
+    let divisor = magnitude_of(y);
     let quotient = divide_u128(dividend.digits, divisor.digits, PLACES);
     let unit = quotient_unit(dividend.exponent, divisor.exponent, scale::<F>());
     deliver_pick(

@@ -1,8 +1,8 @@
 -- A number as its significand times two to the power of the exponent of its last digit.
-use Rattle.std.proofs.Common.{◌≡◌, ℕ, ◌+◌, ◌-◌, ◌*◌, ◌^◌, ◌<◌, ◌≤◌, sym, ap, ◌∙◌, arith, ℤ, pos, negsuc}
-use Rattle.std.proofs.Common.{◌+ℤ◌, ◌-ℤ◌, FitsSigned, w32}
+use Rattle.std.proofs.Common.{◌≡◌, ℕ, ◌+◌, ◌-◌, ◌*◌, ◌%◌, ◌^◌, ◌<◌, ◌≤◌, sym, ap, ◌∙◌, arith, ℤ, pos, negsuc}
+use Rattle.std.proofs.Common.{◌+ℤ◌, FitsSigned, w32}
 use Rattle.std.proofs.Math.Nat.{le_of_mul-le-mul_right, lt_of_mul-lt-mul_right}
-use Rattle.std.proofs.Math.Nat.{mul-le-mul_right, mul-lt-mul_of_pos_right}
+use Rattle.std.proofs.Math.Nat.{mod-eq_of_lt, mul-le-mul_right, mul-lt-mul_of_pos_right, pow-le-pow_right}
 use Rattle.std.proofs.lemmas.Int.{ints}
 use Rattle.std.proofs.lemmas.Nat.{pow-add, pow_pos}
 use Rattle.apfloat_model.specs.arithmetic.Exact.{up, down}
@@ -10,7 +10,8 @@ use Rattle.apfloat_model.specs.arithmetic.Exponents.{IsLogarithm}
 use Rattle.apfloat_model.specs.formats.Format.{Format}
 use Rattle.apfloat_model.specs.rounding.Bounds.{IsWithin}
 use Rattle.apfloat_model.proofs.arithmetic.SingleScalings.{scaled_stands}
-use Rattle.apfloat_model.proofs.general.Powers.{exponent_below}
+use Rattle.apfloat_model.proofs.general.Powers.{exponent_below, two_pos}
+use Rattle.apfloat_model.proofs.rounding.KeptDigits.{fits_shifted, full_shifted}
 
 -- an exponent is the same as a word
 pub exponent_fits : (e : ℤ) → IsWithin (2 ^ 23) e → FitsSigned w32 e
@@ -66,7 +67,23 @@ significand_value f q s exponent number =
     plain : (q s d u scale : ℕ) → q * 2 ^ 0 * d ≡ s * (scale * u) → q * d ≡ s * u * scale
     plain q s d u scale e = omega (arith, e)
 
--- the significand with zeros behind it
+-- ---- with zeros behind it, so that it has `n` digits
+
+pub lengthened_fits : (p s n : ℕ) → p ≤ n → s < 2 ^ p → s * 2 ^ (n - p) < 2 ^ n
+lengthened_fits p s n l h = fits_shifted s p (n - p) n h (omega (arith, l))
+
+pub lengthened_full : (p s n : ℕ) → 0 < p → p ≤ n → 2 ^ (p - 1) ≤ s → 2 ^ (n - 1) ≤ s * 2 ^ (n - p)
+lengthened_full p s n some l h = full_shifted s p (n - p) n some (λ _. h) (omega (arith, l))
+
+-- no digit leaves the word
+pub lengthened_whole : (p s n : ℕ) → n ≤ 128 → p ≤ n → s < 2 ^ p
+    → s * 2 ^ (n - p) % 2 ^ 128 ≡ s * 2 ^ (n - p)
+lengthened_whole p s n k l h =
+    let fits = lengthened_fits p s n l h in
+    let room : 2 ^ n ≤ 2 ^ 128 = pow-le-pow_right two_pos k in
+    mod-eq_of_lt (omega (arith, fits, room))
+
+-- the same number
 pub significand_lengthened : (q s zeros : ℕ) (z last : ℤ) → q * 2 ^ down z ≡ s * 2 ^ up z → z ≡ last +ℤ pos zeros
     → q * 2 ^ down last ≡ s * 2 ^ zeros * 2 ^ up last
 significand_lengthened q s zeros z last number is =

@@ -3,7 +3,7 @@ use Rattle.std.proofs.lemmas.Int.{ints, to_z-of_z}
 use Rattle.apfloat_model.specs.order.Classes.{quanta_of}
 use Rattle.apfloat_model.proofs.arithmetic.Significands.{exponent_fits, significand_lengthened}
 use Rattle.apfloat_ieee.specs.Types.{format_of}
-use Rattle.storage_formats.proofs.quanta.magnitude.Goals as goal
+use Rattle.storage_formats.proofs.quanta.magnitude_of.Goals as goal
 
 pub returns-clause-number : goal.returns-clause-number
 returns-clause-number g c =
