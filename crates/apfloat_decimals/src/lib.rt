@@ -41,7 +41,7 @@ mod texts;
 mod word_scaling;
 
 pub use decimal::{Decimal, built_in_formats, from_decimal};
-pub use exact_decimal::{exact, exact_once, first_exponent, last_place, significand};
+pub use exact_decimal::{exact, exact_once, last_place};
 pub use long_division::loss_of;
 pub use parsing::{DecimalError, decimal_text_once, one_reading, written_text};
 pub use round_trips::shortest_reads_back;

@@ -11,3 +11,4 @@ pub mod SingleScalings
 pub mod SumLaws
 pub mod ExactConversions
 pub mod NextBack
+pub mod Significands

@@ -3,3 +3,4 @@ pub mod OtherFlags
 pub mod Greatest
 pub mod Ranges
 pub mod NanMembers
+pub mod LawfulRanges

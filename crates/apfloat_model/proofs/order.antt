@@ -1,3 +1,4 @@
 pub mod OrderLaws
 pub mod PredicatesAgree
 pub mod Categories
+pub mod PositiveValues

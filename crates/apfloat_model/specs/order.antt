@@ -1,3 +1,4 @@
 pub mod Classes
 pub mod Order
 pub mod Predicates
+pub mod Positive

@@ -5,7 +5,6 @@ use Rattle.apfloat_model.specs.declared.kinds.Category.TheVariants.{Normal, Zero
 use Rattle.apfloat_model.specs.formats.Constants.{largest_datum}
 use Rattle.apfloat_model.specs.formats.Datum.{Datum, finite, infinite, nan}
 use Rattle.apfloat_model.specs.formats.Format.{Format, largest}
-use Rattle.apfloat_model.specs.formats.Members.{IsMember}
 use Rattle.apfloat_model.specs.arithmetic.NextUp.{IsNextUp, IsNextGreater, IsNextOfNumber}
 use Rattle.apfloat_model.specs.order.Classes.{category_of, is_negative, quanta_of, same_datum}
 use Rattle.apfloat_model.specs.order.Predicates.{signed_like}
@@ -16,7 +15,7 @@ use Rattle.apfloat_model.proofs.general.Powers.{twice_half}
 use Rattle.apfloat_model.proofs.rounding.Laws.{exact_above}
 use Rattle.apfloat_model.proofs.rounding.NeighboursExist.{above_exists}
 use Rattle.apfloat_odd.specs.Odd.{is_odd_below, IsMadeOdd, IsMadeOddNumber}
-use Rattle.apfloat_odd.specs.Numbers.{IsPositive}
+use Rattle.apfloat_model.specs.order.Positive.{IsPositive}
 use Rattle.apfloat_odd.proofs.MadeOdd.{largest_some}
 use Rattle.apfloat_odd.proofs.OddPoints.{power_on_grid}
 
@@ -40,28 +39,6 @@ magnitude_is f (finite true n) y e d =
 magnitude_is f (finite false n) y e d = d
 magnitude_is f (infinite b) y e d = cc
 magnitude_is f (nan b s) y e d = cc
-
-nonzero : (x : Datum) → category_of x ≡ Normal → 0 < quanta_of x
-nonzero (finite b n) e = positive n (number_only (eqb n 0) e)
-nonzero (infinite b) e = cc
-nonzero (nan b s) e = cc
-
-member_positive : (f : Format) (x : Datum) → category_of x ≡ Normal → IsMember f x
-    → IsMember f (finite false (quanta_of x))
-member_positive f (finite b n) e m = record {
-  on_grid = m.on_grid;
-  within = m.within;
-  zero_has = λ z. let p = positive n (number_only (eqb n 0) e) in absurd (omega (arith, p, z));
-}
-member_positive f (infinite b) e m = cc
-member_positive f (nan b s) e m = cc
-
-pub positive_magnitude : (f : Format) (x y : Datum) → category_of x ≡ Normal → IsMember f x
-    → y ≡ (if is_negative x then negated f.nonfinite x else x) → IsPositive f y
-positive_magnitude f x y e m d =
-    let is : y ≡ finite false (quanta_of x) = magnitude_is f x y e d in
-    subst (λ (v : Datum). IsPositive f v) (sym is)
-    (record { is = refl; some = nonzero x e; member = member_positive f x e m })
 
 -- whether a positive value is the largest
 pub largest_is : (f : Format) (x : Datum) → IsPositive f x

@@ -24,7 +24,8 @@ use Rattle.apfloat_model.proofs.general.Powers.{twice_power}
 use Rattle.apfloat_model.proofs.rounding.Laws.{delivered_once, exact_delivered}
 use Rattle.apfloat_model.proofs.whole_numbers.SignedTests.{less_so, less_not}
 use Rattle.apfloat_odd.specs.Wholes.{odd_whole, odd_within, to_odd_unsigned, to_odd_signed, IsOddWhole, IsRoundToOddIntegral}
-use Rattle.apfloat_odd.proofs.LastDigits.{HasRanges, half_is_whole}
+use Rattle.apfloat_model.proofs.formats.LawfulRanges.{HasRanges}
+use Rattle.apfloat_odd.proofs.LastDigits.{half_is_whole}
 use Rattle.apfloat_odd.proofs.MadeOdd.{quanta_are}
 use Rattle.apfloat_odd.proofs.Moved.{zero_only}
 

@@ -11,7 +11,7 @@ ghost use Rattle.apfloat_model.specs.rounding.Grid.{IsAbove};
 ghost use Rattle.apfloat_model.specs.rounding.Rounding.{IsDelivered};
 ghost use Rattle.apfloat_ieee.specs.FlaggedTypes.{format_of};
 ghost use Rattle.apfloat_odd.specs.Odd.{IsToOdd, IsMadeOdd, IsAnswerMadeOdd, is_odd_below};
-ghost use Rattle.apfloat_odd.specs.Numbers.{IsPositive};
+ghost use Rattle.apfloat_model.specs.order.Positive.{IsPositive};
 
 use crate::numbers::{is_odd, with_sign};
 use apfloat_base::{Category, Flags, Float, Status, StatusAnd};

@@ -18,7 +18,7 @@ use Rattle.apfloat_model.specs.order.Order.{is_below}
 use Rattle.apfloat_model.specs.rounding.Negation.{negated}
 use Rattle.apfloat_model.specs.rounding.Rounding.{zero_sign}
 use Rattle.apfloat_model.proofs.general.Choices.{not_zero}
-use Rattle.apfloat_decimals.specs.ShortestSearch.{IsPositive}
+use Rattle.apfloat_model.specs.order.Positive.{IsPositive}
 use Rattle.block_formats.specs.Magnitudes.{are_finite, greatest_magnitude}
 use Rattle.block_formats.proofs.Places.{some_same}
 

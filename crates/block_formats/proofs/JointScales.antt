@@ -12,7 +12,7 @@ use Rattle.apfloat_model.specs.formats.Members.{IsFiniteOf}
 use Rattle.apfloat_model.specs.order.Classes.{quanta_of}
 use Rattle.apfloat_model.specs.rounding.Grid.{IsOnGrid}
 use Rattle.apfloat_model.specs.rounding.Rounding.{IsDelivered}
-use Rattle.apfloat_decimals.specs.ShortestSearch.{IsPositive}
+use Rattle.apfloat_model.specs.order.Positive.{IsPositive}
 use Rattle.apfloat_format_of.specs.FormatOf.{IsProductTo}
 use Rattle.block_formats.specs.Nvfp4.{single_format}
 use Rattle.block_formats.proofs.ExactProducts.{HasProducts, IsExactIn, exact_product}

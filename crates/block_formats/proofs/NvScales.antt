@@ -11,7 +11,7 @@ use Rattle.apfloat_model.specs.formats.Format.{Format, largest}
 use Rattle.apfloat_model.specs.formats.Members.{IsFiniteOf, IsMember}
 use Rattle.apfloat_model.specs.order.Classes.{category_of, is_finite, is_negative, quanta_of}
 use Rattle.apfloat_model.proofs.general.Choices.{not_zero}
-use Rattle.apfloat_decimals.specs.ShortestSearch.{IsPositive}
+use Rattle.apfloat_model.specs.order.Positive.{IsPositive}
 use Rattle.storage_formats.specs.Conversions.{saturated_value}
 use Rattle.block_formats.specs.declared.elements.ElementFormat.TheVariants.{E4M3FN}
 use Rattle.block_formats.specs.Elements.{IsSaturatedIn, element_datum}

@@ -10,7 +10,7 @@ ghost use Rattle.apfloat_format_of.specs.Extended.{seen, number};
 ghost use Rattle.apfloat_format_of.specs.FormatOf.{IsProductOf};
 ghost use Rattle.apfloat_ieee.specs.FlaggedTypes.{format_of as flagged_format_of};
 ghost use Rattle.apfloat_ieee.specs.Types.{format_of, layout_of};
-ghost use Rattle.apfloat_decimals.specs.ShortestSearch.{IsPositive};
+ghost use Rattle.apfloat_model.specs.order.Positive.{IsPositive};
 ghost use Rattle.apfloat_model.specs.bits.Layout.{datum_of as bits_datum};
 ghost use Rattle.apfloat_model.specs.formats.Format.{largest};
 ghost use Rattle.storage_formats.specs.Codes.{datum_of};

@@ -9,7 +9,7 @@ ghost use Rattle.apfloat_model.specs.formats.Members.{IsMember};
 ghost use Rattle.apfloat_model.specs.order.Classes.{quanta_of};
 ghost use Rattle.apfloat_model.specs.rounding.Bounds.{IsWithin};
 ghost use Rattle.apfloat_ieee.specs.Types.{format_of};
-ghost use Rattle.apfloat_decimals.specs.ShortestSearch.{IsPositive};
+ghost use Rattle.apfloat_model.specs.order.Positive.{IsPositive};
 ghost use Rattle.storage_formats.specs.Scales.{largest_code, nan_code};
 ghost use Rattle.block_formats.specs.MxScales.{IsBlockScale, clamped_code};
 
@@ -17,7 +17,6 @@ use crate::elements::ElementFormat;
 use apfloat_base::{ExpInt, Float, Round};
 use apfloat_formats::BFloatS;
 use apfloat_ieee::{IeeeFloat, Semantics};
-use hex_digits::digits_of;
 use storage_formats::E8M0FNU;
 
 /// The negated exponent of the least scale.
@@ -50,7 +49,7 @@ pub fn scale_for<S: Semantics>(element: ElementFormat, greatest: IeeeFloat<S>) -
     if greatest.is_zero() {
         return 0;
     }
-    clamped_code(digits_of(greatest).exponent - element.max_exp())
+    clamped_code(greatest.ilogb() - element.max_exp())
 }
 
 /// The scale with that code as a number; `BFloat` has each of them.

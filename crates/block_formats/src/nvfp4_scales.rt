@@ -8,7 +8,7 @@ ghost use Rattle.apfloat_model.specs.formats.Formats.{single_constants};
 ghost use Rattle.apfloat_model.specs.formats.Lawful.{format_with};
 ghost use Rattle.apfloat_model.specs.order.Classes.{quanta_of};
 ghost use Rattle.apfloat_ieee.specs.Types.{format_of};
-ghost use Rattle.apfloat_decimals.specs.ShortestSearch.{IsPositive};
+ghost use Rattle.apfloat_model.specs.order.Positive.{IsPositive};
 ghost use Rattle.block_formats.specs.Nvfp4.{IsScaleOfSome, IsTensorAnswer, IsTensorScale, is_positive, nan_scale};
 ghost use Rattle.block_formats.specs.Nvfp4.{unless_zero};
 ghost use Rattle.block_formats.specs.declared.elements.ElementFormat.TheVariants.{E4M3FN};

@@ -1,6 +1,5 @@
 mod DirectedResults
 mod RestDistances
-mod Lengths
 mod NumbersBy
 mod OneAnswer
 mod ElementsBy

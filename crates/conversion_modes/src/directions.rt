@@ -10,11 +10,11 @@ ghost use Rattle.apfloat_ieee.specs.Types.{format_of};
 ghost use Rattle.apfloat_rounding.specs.Shapes.{format_at};
 ghost use Rattle.conversion_modes.specs.Directions.{IsDirection};
 
-use crate::cuts::{DIGITS, Kept, cut, rest_reaches_whole};
+use crate::cuts::{Kept, cut, rest_reaches_whole};
 use apfloat_base::ExpInt;
 use apfloat_ieee::{IeeeFloat, Semantics};
 use apfloat_rounding::shape::Shape;
-use storage_formats::RandomDigits;
+use storage_formats::{RandomDigits, in_quanta};
 
 /// The constants of a format that rounding reads.
 fn shape_of<T: Semantics>() -> Shape
@@ -28,56 +28,6 @@ fn shape_of<T: Semantics>() -> Shape
         explicit_integer_bit: T::EXPLICIT_INTEGER_BIT,
         tiny_before_rounding: T::TINY_BEFORE_ROUNDING,
         ieee_flags: false,
-    }
-}
-
-/// A number with `DIGITS` digits, and the unit of the last one, counted from a quantum.
-#[derive(Clone, Copy)]
-struct InQuanta {
-    digits: u128,
-    unit: ExpInt,
-}
-
-/// A significand with all digits of the precision, with `DIGITS` digits.
-fn lengthened(precision: u32, significand: u128) -> u128
-    requires some { 0 < precision }
-    requires precise { precision ≤ 125 }
-    requires fits { significand < 2 ^ precision }
-    requires full { 2 ^ (precision - 1) ≤ significand }
-    ensures value { result ≡ significand * 2 ^ (125 - precision) }
-    ensures low { 2 ^ 124 ≤ result }
-    ensures high { result < 2 ^ 125 }
-{
-    significand << (DIGITS - precision)
-}
-
-/// The unit of the last of `DIGITS` digits, counted from the quantum, from the exponent of the last digit of the
-/// precision.
-fn unit_of(precision: u32, exponent: ExpInt, scale: u32) -> ExpInt
-    requires precise { precision ≤ 125 }
-    requires exponent { IsWithin (2 ^ 22) exponent }
-    requires scale { scale ≤ 2 ^ 21 }
-    ensures value { result ≡ (exponent -ℤ pos (125 - precision)) +ℤ pos scale }
-    ensures within { IsWithin (2 ^ 23) result }
-{
-    exponent - (DIGITS - precision) as ExpInt + scale as ExpInt
-}
-
-/// A number without its sign, in quanta of `2^-scale`.
-fn in_quanta<S: Semantics>(x: IeeeFloat<S>, scale: u32) -> InQuanta
-    requires number { category_of x ≡ Normal }
-    requires scale { scale ≤ 2 ^ 21 }
-    ensures low { 2 ^ 124 ≤ result.digits }
-    ensures high { result.digits < 2 ^ 125 }
-    ensures within { IsWithin (2 ^ 23) result.unit }
-    ensures number { quanta_of x * 2 ^ scale * 2 ^ down result.unit
-        ≡ result.digits * (2 ^ (format_of S.Semantics).scale * 2 ^ up result.unit) }
-{
-    let precision = S::PRECISION as u32;
-    let number = x.number();
-    InQuanta {
-        digits: lengthened(precision, number.significand),
-        unit: unit_of(precision, number.exponent, scale),
     }
 }
 

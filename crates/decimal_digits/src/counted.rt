@@ -10,12 +10,11 @@ ghost use Rattle.apfloat_model.specs.rounding.Standing.{up, down};
 ghost use Rattle.apfloat_ieee.specs.Types.{format_of};
 ghost use Rattle.apfloat_decimals.specs.Decimals.{HasQuadExponents};
 ghost use Rattle.apfloat_decimals.specs.RoundedDecimals.{IsRoundedNumber};
-ghost use Rattle.apfloat_decimals.specs.ShortestSearch.{IsPositive};
+ghost use Rattle.apfloat_model.specs.order.Positive.{IsPositive};
 ghost use Rattle.decimal_digits.specs.DigitCounts.{GivesDigitCount, IsDigitCount};
 
 use apfloat_base::{Category, ExpInt, Float};
-use apfloat_decimals::exponents::exponent_below;
-use apfloat_decimals::{first_exponent, first_place, last_place, significand};
+use apfloat_decimals::{first_place, last_place};
 use apfloat_ieee::{IeeeFloat, Semantics};
 
 /// How many digits there are from one place to another.
@@ -34,8 +33,8 @@ fn count_of<S: Semantics>(x: IeeeFloat<S>) -> u32
     requires positive { IsPositive (format_of S.Semantics) x }
     ensures { IsDigitCount (format_of S.Semantics) (quanta_of x) result }
 {
-    let last = exponent_below(first_exponent(x), S::PRECISION as u32 - 1);
-    let place = last_place(significand(x, last), last);
+    let number = x.number();
+    let place = last_place(number.significand, number.exponent);
     count_between(first_place(x), place)
 }
 

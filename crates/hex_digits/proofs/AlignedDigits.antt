@@ -1,14 +1,12 @@
 -- The digits of a value with the first one at a given place.
-use Rattle.std.proofs.Common.{◌≡◌, ◌⊎◌, ℕ, ◌+◌, ◌-◌, ◌*◌, ◌/◌, ◌%◌, ◌^◌, ◌<◌, ◌≤◌, refl, sym, ap, ◌∙◌}
-use Rattle.std.proofs.Common.{arith, ℤ, pos, ◌-ℤ◌}
-use Rattle.std.proofs.Math.Nat.{le_of_mul-le-mul_right, lt_of_mul-lt-mul_right}
-use Rattle.std.proofs.Math.Nat.{mul-le-mul_right, mul-lt-mul_of_pos_right}
+use Rattle.std.proofs.Common.{◌≡◌, ◌⊎◌, ℕ, ◌+◌, ◌-◌, ◌*◌, ◌/◌, ◌%◌, ◌^◌, ◌<◌, ◌≤◌, refl, sym, ap, ◌∙◌, subst}
+use Rattle.std.proofs.Common.{arith, ℤ, pos, ◌+ℤ◌}
+use Rattle.std.proofs.Math.Nat.{lt_of_mul-lt-mul_right}
 use Rattle.std.proofs.lemmas.Int.{ints}
-use Rattle.std.proofs.lemmas.Nat.{pow-add, pow_pos}
+use Rattle.std.proofs.lemmas.Nat.{pow-add}
 use Rattle.apfloat_model.specs.arithmetic.Exact.{up, down}
-use Rattle.apfloat_model.specs.arithmetic.Exponents.{IsLogarithm}
 use Rattle.apfloat_model.specs.formats.Format.{Format}
-use Rattle.apfloat_decimals.specs.ExactDecimals.{IsSignificandOf}
+use Rattle.apfloat_model.proofs.arithmetic.Significands.{lengthened_fits, lengthened_full, significand_lengthened}
 use Rattle.hex_digits.specs.HexTexts.{last_place, IsNumberOf, IsShortestNumber}
 use Rattle.hex_digits.proofs.Numbers.{moved, sixteens}
 
@@ -18,44 +16,21 @@ pub record IsWide (f : Format) (q digits : ℕ) (first : ℤ) : Type 0 where
   pub high : digits < 2 ^ 125
   pub number : IsNumberOf f q digits 31 first
 
-pub widened : (f : Format) (q s digits : ℕ) (first last : ℤ) → 3 ≤ f.precision → f.precision ≤ 125
-    → IsLogarithm f q first → last ≡ first -ℤ pos (f.precision - 1) → IsSignificandOf f q s last
-    → digits ≡ s * 2 ^ (125 - f.precision) → IsWide f q digits first
-widened f q s digits first last some few log at number more =
-    let z = last_place f 31 first in
-    let is = log.is in
-    let split : 2 ^ (up last + f.scale) ≡ 2 ^ up last * 2 ^ f.scale = pow-add 2 (up last) f.scale in
-    let same : q * 2 ^ down last ≡ s * 2 ^ (up last + f.scale) =
-    joined q (2 ^ down last) s (2 ^ up last) (2 ^ f.scale) (2 ^ (up last + f.scale)) number split in
-    let wide : q * 2 ^ down z ≡ digits * 2 ^ up z =
-    moved q s digits (down last) (up last + f.scale) (down z) (up z) (125 - f.precision) 0 same
-    (more' s digits (2 ^ (125 - f.precision)) more) (omega (arith, ints, at, some, few)) in
-    let sum : log.place + down z ≡ 124 + up z = omega (arith, ints, is) in
-    let sum' : log.place + 1 + down z ≡ 125 + up z = omega (arith, sum) in
-    let below : 2 ^ log.place * 2 ^ down z ≡ 2 ^ 124 * 2 ^ up z =
-    sym (pow-add 2 log.place (down z)) ∙ ap (λ (n : ℕ). 2 ^ n) sum ∙ pow-add 2 124 (up z) in
-    let above : 2 ^ (log.place + 1) * 2 ^ down z ≡ 2 ^ 125 * 2 ^ up z =
-    sym (pow-add 2 (log.place + 1) (down z)) ∙ ap (λ (n : ℕ). 2 ^ n) sum' ∙ pow-add 2 125 (up z) in
-    let a : 2 ^ log.place * 2 ^ down z ≤ q * 2 ^ down z = mul-le-mul_right (2 ^ down z) log.low in
-    let b : q * 2 ^ down z < 2 ^ (log.place + 1) * 2 ^ down z =
-    mul-lt-mul_of_pos_right log.high (pow_pos (down z)) in
+pub widened : (f : Format) (q s digits : ℕ) (exponent first : ℤ) → 3 ≤ f.precision → f.precision ≤ 125
+    → s < 2 ^ f.precision → 2 ^ (f.precision - 1) ≤ s
+    → q * 2 ^ down (exponent +ℤ pos f.scale) ≡ s * 2 ^ up (exponent +ℤ pos f.scale)
+    → first ≡ exponent +ℤ pos (f.precision - 1) → digits ≡ s * 2 ^ (125 - f.precision) → IsWide f q digits first
+widened f q s digits exponent first some few fits full number is more =
+    let p = f.precision in
+    let last = last_place f 31 first in
+    let long : q * 2 ^ down last ≡ s * 2 ^ (125 - p) * 2 ^ up last =
+    significand_lengthened q s (125 - p) (exponent +ℤ pos f.scale) last number
+    (omega (arith, ints, is, some, few)) in
     record {
-      low = le_of_mul-le-mul_right (from (2 ^ 124 * 2 ^ up z) _ _ _ below a wide) (pow_pos (up z));
-      high = lt_of_mul-lt-mul_right (2 ^ up z) (to (2 ^ 125 * 2 ^ up z) _ _ _ above b wide);
-      number = wide;
+      low = subst (λ (n : ℕ). 2 ^ 124 ≤ n) (sym more) (lengthened_full p s 125 (omega (arith, some)) few full);
+      high = subst (λ (n : ℕ). n < 2 ^ 125) (sym more) (lengthened_fits p s 125 few fits);
+      number = subst (λ (n : ℕ). q * 2 ^ down last ≡ n * 2 ^ up last) (sym more) long;
     }
-  where
-    joined : (q d s u c p : ℕ) → q * d ≡ s * u * c → p ≡ u * c → q * d ≡ s * p
-    joined q d s u c p e f = rw f (omega (arith, e))
-
-    more' : (s digits p : ℕ) → digits ≡ s * p → s * p ≡ digits * 2 ^ 0
-    more' s digits p e = omega (arith, e)
-
-    from : (x y a b : ℕ) → y ≡ x → y ≤ a → a ≡ b → x ≤ b
-    from x y a b e l g = omega (arith, e, l, g)
-
-    to : (x y a b : ℕ) → y ≡ x → a < y → a ≡ b → b < x
-    to x y a b e l g = omega (arith, e, l, g)
 
 -- ---- digits after the dot
 

@@ -34,7 +34,7 @@ use Rattle.apfloat_model.specs.texts.Specials.{not_a_number, number_of_digits, a
 use Rattle.apfloat_model.specs.texts.Specials.{payload_of as payload_read}
 use Rattle.apfloat_model.specs.texts.Texts.{Means}
 use Rattle.apfloat_model.proofs.general.Powers.{exponent_below, twice_power, two_pos}
-use Rattle.apfloat_decimals.proofs.digits.ExactSignificands.{HasRanges}
+use Rattle.apfloat_model.proofs.formats.LawfulRanges.{HasRanges}
 use Rattle.apfloat_hex_texts.specs.Scans.{number_from}
 use Rattle.hex_digits.specs.HexTexts.{digits_text, nan_text, IsHexText}
 use Rattle.hex_digits.specs.PayloadTexts.{payload_in, payload_of, IsPayloadText, IsFullText}

@@ -11,7 +11,7 @@ use Rattle.apfloat_model.specs.formats.Format.{Format, largest}
 use Rattle.apfloat_model.specs.rounding.Bounds.{IsWithin}
 use Rattle.apfloat_model.proofs.general.Powers.{exponent_below}
 use Rattle.apfloat_model.proofs.rounding.FarMagnitudes.{largest_below}
-use Rattle.apfloat_decimals.proofs.digits.ExactSignificands.{HasRanges}
+use Rattle.apfloat_model.proofs.formats.LawfulRanges.{HasRanges}
 use Rattle.hex_digits.specs.HexTexts.{last_place, IsNumberOf, IsShortestNumber}
 
 -- ---- powers

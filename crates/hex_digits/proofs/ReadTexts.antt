@@ -28,7 +28,7 @@ use Rattle.apfloat_model.proofs.rounding.Deliveries.{signed_some}
 use Rattle.apfloat_model.proofs.rounding.Laws.{delivered_once, exact_delivered, zero_delivered}
 use Rattle.apfloat_model.proofs.texts.OneMeaning.{meaning_no_fault, one_meaning}
 use Rattle.apfloat_decimals.specs.Texts.{sign_text}
-use Rattle.apfloat_decimals.proofs.digits.ExactSignificands.{HasRanges}
+use Rattle.apfloat_model.proofs.formats.LawfulRanges.{HasRanges}
 use Rattle.apfloat_hex_texts.specs.Scans.{number_from}
 use Rattle.hex_digits.specs.HexTexts.{character, digits_text, dotted, magnitude_text, number_text, last_place}
 use Rattle.hex_digits.specs.HexTexts.{IsShortestText, IsHexText}

@@ -101,10 +101,6 @@ one_within places one few is =
     let below : 2 ^ (4 * places) ≤ 2 ^ 124 = pow-le-pow_right two_pos most in
     omega (arith, is, below)
 
-pub exponent_fits : (e : ℤ) → IsWithin (2 ^ 23) e → FitsSigned w32 e
-exponent_fits (pos n) w = let high = w.high in record { sfits = omega (arith, ints, high) }
-exponent_fits (negsuc n) w = let low = w.low in record { sfits = omega (arith, ints, low) }
-
 -- ---- rounded
 
 pub rounded_at : (f : Format) (mode : Round) (negative : Bool) (q places s n fraction : ℕ) (loss : Loss)

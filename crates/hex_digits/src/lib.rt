@@ -19,5 +19,4 @@ pub use payloads::{
 };
 pub use reading_back::text_reads_back;
 pub use rounded::{MOST_DIGITS, rounded_hex_once, write_hex_rounded};
-pub use significands::{Aligned, digits_of};
 pub use written::{HexError, hex_length, hex_once, write_hex};

@@ -7,7 +7,7 @@ ghost use Rattle.apfloat_model.specs.formats.Format.{Format};
 ghost use Rattle.apfloat_model.specs.order.Classes.{quanta_of};
 ghost use Rattle.apfloat_model.specs.rounding.Bounds.{IsWithin};
 ghost use Rattle.apfloat_ieee.specs.Types.{format_of};
-ghost use Rattle.apfloat_decimals.specs.ShortestSearch.{IsPositive};
+ghost use Rattle.apfloat_model.specs.order.Positive.{IsPositive};
 ghost use Rattle.hex_digits.specs.RoundedTexts.{IsCarried, IsRoundedHexText, IsRoundedText};
 ghost use Rattle.hex_digits.specs.WrittenTexts.{IsWrittenRounded};
 

@@ -5,12 +5,11 @@ ghost use Rattle.apfloat_model.specs.arithmetic.Exponents.{IsLogarithm};
 ghost use Rattle.apfloat_model.specs.order.Classes.{quanta_of};
 ghost use Rattle.apfloat_model.specs.rounding.Bounds.{IsWithin};
 ghost use Rattle.apfloat_ieee.specs.Types.{format_of};
-ghost use Rattle.apfloat_decimals.specs.ShortestSearch.{IsPositive};
+ghost use Rattle.apfloat_model.specs.order.Positive.{IsPositive};
 ghost use Rattle.hex_digits.specs.HexTexts.{IsNumberOf};
 
 use apfloat_base::ExpInt;
-use apfloat_decimals::exponents::exponent_below;
-use apfloat_decimals::{first_exponent, significand};
+use apfloat_decimals::exponents::exponent_above;
 use apfloat_ieee::{IeeeFloat, Semantics};
 
 /// How many digits after the dot a significand has here.
@@ -18,15 +17,13 @@ pub(crate) const PLACES: u32 = 31;
 
 /// A positive value: 125 binary digits, the first of which has that exponent.
 #[derive(Clone, Copy)]
-pub struct Aligned {
-    /// The digits, 2^124 at least.
+pub(crate) struct Aligned {
     pub digits: u128,
-    /// The exponent of the first one.
     pub exponent: ExpInt,
 }
 
 /// The digits of a positive value.
-pub fn digits_of<S: Semantics>(x: IeeeFloat<S>) -> Aligned
+pub(crate) fn digits_of<S: Semantics>(x: IeeeFloat<S>) -> Aligned
     requires { IsPositive (format_of S.Semantics) x }
     ensures low { 2 ^ 124 ≤ result.digits }
     ensures high { result.digits < 2 ^ 125 }
@@ -35,12 +32,11 @@ pub fn digits_of<S: Semantics>(x: IeeeFloat<S>) -> Aligned
     ensures number { IsNumberOf (format_of S.Semantics) (quanta_of x) result.digits 31
         result.exponent }
 {
-    let exponent = first_exponent(x);
+    let number = x.number();
     let precision = S::PRECISION as u32;
-    let all = significand(x, exponent_below(exponent, precision - 1));
     Aligned {
-        digits: all << (125 - precision),
-        exponent,
+        digits: number.significand << (125 - precision),
+        exponent: exponent_above(number.exponent, precision - 1),
     }
 }
 

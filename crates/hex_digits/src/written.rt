@@ -5,7 +5,7 @@ ghost use Rattle.apfloat_model.specs.formats.Datum.{Datum};
 ghost use Rattle.apfloat_model.specs.formats.Format.{Format};
 ghost use Rattle.apfloat_model.specs.order.Classes.{quanta_of};
 ghost use Rattle.apfloat_ieee.specs.Types.{format_of};
-ghost use Rattle.apfloat_decimals.specs.ShortestSearch.{IsPositive};
+ghost use Rattle.apfloat_model.specs.order.Positive.{IsPositive};
 ghost use Rattle.hex_digits.specs.HexTexts.{IsHexText, IsShortestText};
 ghost use Rattle.hex_digits.specs.WrittenTexts.{IsPut, IsWritten};
 

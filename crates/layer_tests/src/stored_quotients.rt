@@ -1,7 +1,7 @@
 //! Quotients whose codes and flags were computed with fractions (`evidence/stored_quotients.py`).
 
 ghost use Rattle.apfloat_ieee.specs.Types.{format_of};
-ghost use Rattle.apfloat_decimals.specs.ShortestSearch.{IsPositive};
+ghost use Rattle.apfloat_model.specs.order.Positive.{IsPositive};
 
 use crate::stored_quotient_rows::{QUOTIENTS_E2M1FN, QUOTIENTS_E2M3FN, QUOTIENTS_E3M2FN};
 use crate::stored_values::{Checksums, MODES, extended};

@@ -19,7 +19,7 @@ use Rattle.apfloat_model.specs.rounding.Standing.{StandsFor, up, down}
 use Rattle.apfloat_model.proofs.arithmetic.Fractions.{quotient_carries}
 use Rattle.apfloat_model.proofs.rounding.KeptDigits.{stands_cancel, stands_times}
 use Rattle.apfloat_model.proofs.rounding.Laws.{exact_is_picked, zero_on_grid}
-use Rattle.apfloat_decimals.proofs.shortest_decimals.ShortestFound.{magnitude_is, some_quanta}
+use Rattle.apfloat_model.proofs.order.PositiveValues.{magnitude_is, some_quanta}
 use Rattle.storage_formats.specs.Codes.{point}
 use Rattle.storage_formats.specs.Picks.{IsPickedAt}
 use Rattle.storage_formats.proofs.CodesCompared.{zero_point}
@@ -37,14 +37,14 @@ stands_across q loss a b amount parts d u p p' e h =
 
 -- the quotient of x and y, of formats of the scales s and t, in quanta of the scale `into`
 pub quotient_stands : (q : ℕ) (loss : Loss) (sx sy m n s t into : ℕ) (e f unit : ℤ) (amount parts : ℕ) → 0 < n
-    → 0 < parts → m * 2 ^ down ((e -ℤ pos 124) +ℤ pos s) ≡ sx * 2 ^ up ((e -ℤ pos 124) +ℤ pos s)
-    → n * 2 ^ down ((f -ℤ pos 124) +ℤ pos t) ≡ sy * 2 ^ up ((f -ℤ pos 124) +ℤ pos t)
+    → 0 < parts → m * 2 ^ down (e +ℤ pos s) ≡ sx * 2 ^ up (e +ℤ pos s)
+    → n * 2 ^ down (f +ℤ pos t) ≡ sy * 2 ^ up (f +ℤ pos t)
     → unit ≡ ((e -ℤ f) -ℤ pos 126) +ℤ pos into → StandsFor q loss (sx * 2 ^ 126) sy
     → amount * (n * 2 ^ s) ≡ parts * (m * 2 ^ (t + into))
     → StandsFor q loss (amount * 2 ^ down unit) (parts * 2 ^ up unit)
 quotient_stands q loss sx sy m n s t into e f unit amount parts p p' hx hy is h same =
-    let x : ℤ = (e -ℤ pos 124) +ℤ pos s in
-    let y : ℤ = (f -ℤ pos 124) +ℤ pos t in
+    let x : ℤ = e +ℤ pos s in
+    let y : ℤ = f +ℤ pos t in
     let carried : StandsFor q loss (m * 2 ^ (t + into) * 2 ^ down unit) (n * 2 ^ (s + up unit)) =
     quotient_carries (λ a b. StandsFor q loss a b) sx sy m n 126 (up x) (up y) (down x) (down y) (t + into)
     (s + up unit) (down unit) (λ a b w v. stands_times q loss a b w v) (λ a b w v. stands_cancel q loss a b w v) hx hy

@@ -42,14 +42,6 @@ datum_is c magnitude code negative l e =
 
 -- ---- units
 
--- a number of the format with that many quanta for each unit, in the quanta of the other
-pub in_quanta : (quanta digits from into : ℕ) (exponent z unit : ℤ)
-    → quanta * 2 ^ down z ≡ digits * 2 ^ up z → z ≡ (exponent -ℤ pos 124) +ℤ pos from
-    → unit ≡ (exponent -ℤ pos 124) +ℤ pos into
-    → quanta * 2 ^ into * 2 ^ down unit ≡ digits * (2 ^ from * 2 ^ up unit)
-in_quanta quanta digits from into exponent z unit h e f =
-    scaled_stands digits quanta (down z) (up z) into from (up unit) (down unit) h (omega (arith, ints, e, f))
-
 -- a point of a storage format in the quanta of another
 pub point_in_quanta : (quanta significand place from into : ℕ) (exponent unit : ℤ)
     → significand * 2 ^ place ≡ quanta → exponent ≡ pos place -ℤ pos from → unit ≡ exponent +ℤ pos into

@@ -40,6 +40,7 @@ pub use modes::{ConversionRound, NanResult, RandomDigits, RandomError};
 pub use named::{E2M1FN, E2M3FN, E3M2FN};
 pub use projected::Projected;
 pub use projection::{Binary8P1UF, Binary8P3, Binary8P4, Binary8P5, Projection};
+pub use quanta::{InQuanta, in_quanta};
 pub use scales::E8M0FNU;
 pub use stored::StoredFloat;
 pub use theorems::{

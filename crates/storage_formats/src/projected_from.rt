@@ -7,7 +7,7 @@ ghost use Rattle.apfloat_model.specs.order.Classes.{quanta_of};
 ghost use Rattle.apfloat_model.specs.rounding.Flags.{Gives, bits_of};
 ghost use Rattle.apfloat_model.specs.rounding.Rounding.{leads_out};
 ghost use Rattle.apfloat_ieee.specs.Types.{format_of};
-ghost use Rattle.apfloat_decimals.specs.ShortestSearch.{IsPositive};
+ghost use Rattle.apfloat_model.specs.order.Positive.{IsPositive};
 ghost use Rattle.storage_formats.specs.Codes.{point};
 ghost use Rattle.storage_formats.specs.Picks.{IsProjectedAt};
 ghost use Rattle.storage_formats.specs.ProjectionModes.{IsIntoProjectionBy, IsProjectedBy};

@@ -6,7 +6,7 @@ ghost use Rattle.apfloat_model.specs.rounding.Bounds.{IsWithin, unit_bound};
 ghost use Rattle.apfloat_model.specs.rounding.Flags.{Gives};
 ghost use Rattle.apfloat_model.specs.rounding.Standing.{StandsFor, up, down};
 ghost use Rattle.apfloat_ieee.specs.Types.{format_of};
-ghost use Rattle.apfloat_decimals.specs.ShortestSearch.{IsPositive};
+ghost use Rattle.apfloat_model.specs.order.Positive.{IsPositive};
 ghost use Rattle.storage_formats.specs.Conversions.{IsSaturated};
 ghost use Rattle.storage_formats.specs.Picks.{IsPickedAt};
 ghost use Rattle.storage_formats.specs.Quotients.{IsRatioOf};
@@ -17,21 +17,21 @@ use crate::cuts::cut_number;
 use crate::format::StorageFormat;
 use crate::from_value::{deliver_pick, scale};
 use crate::picks::{Picked, index_of, moved_index};
+use crate::quanta::magnitude_of;
 use crate::stored::StoredFloat;
 use apfloat_base::{Category, ExpInt, Float, Round, Status, StatusAnd};
 use apfloat_ieee::{IeeeFloat, Semantics};
 use apfloat_model::Loss;
 use apfloat_rounding::rounding::moves_up;
 use apfloat_words::{digits, divide_u128, is_exact};
-use hex_digits::digits_of;
 
 /// How many more digits of a quotient of two numbers of 125 digits are computed: it then has 126 or 127.
 const PLACES: u32 = 126;
 
-/// The unit of the last digit of a quotient, counted from a quantum, given the exponents of the first digits.
+/// The unit of the last digit of a quotient, counted from a quantum, given the exponents of the last digits.
 fn quotient_unit(dividend: ExpInt, divisor: ExpInt, scale: u32) -> ExpInt
-    requires dividend { IsWithin (2 ^ 22) dividend }
-    requires divisor { IsWithin (2 ^ 22) divisor }
+    requires dividend { IsWithin (2 ^ 22 + 2 ^ 7) dividend }
+    requires divisor { IsWithin (2 ^ 22 + 2 ^ 7) divisor }
     requires scale { scale ≤ 2 ^ 21 }
     ensures value { result ≡ ((dividend -ℤ divisor) -ℤ pos 126) +ℤ pos scale }
     ensures within { IsWithin (2 ^ 24) result }
@@ -78,8 +78,8 @@ fn divide_positive<S: Semantics, R: Semantics, F: StorageFormat>(
         → IsRatioOf (format_of S.Semantics) (format_of R.Semantics) (format_with c) x y amount parts
         → Gives (IsSaturated c mode negative amount parts) result }
 {
-    let dividend = digits_of(x);
-    let divisor = digits_of(y);
+    let dividend = magnitude_of(x);
+    let divisor = magnitude_of(y);
     let quotient = divide_u128(dividend.digits, divisor.digits, PLACES);
     let unit = quotient_unit(dividend.exponent, divisor.exponent, scale::<F>());
     deliver_pick(

@@ -11,7 +11,7 @@ ghost use Rattle.apfloat_model.specs.rounding.Rounding.{overflow_bit, underflow_
 ghost use Rattle.apfloat_model.specs.rounding.Standing.{up, down};
 ghost use Rattle.apfloat_ieee.specs.FlaggedTypes.{format_of as flagged_format_of};
 ghost use Rattle.apfloat_ieee.specs.Types.{format_of};
-ghost use Rattle.apfloat_decimals.specs.ShortestSearch.{IsPositive};
+ghost use Rattle.apfloat_model.specs.order.Positive.{IsPositive};
 ghost use Rattle.storage_formats.specs.ScaleModes.{IsDeliveredScaleBy, IsScaleBy};
 ghost use Rattle.storage_formats.specs.Scales.{IsScale, largest_code, nan_code, scale_format, scale_of};
 

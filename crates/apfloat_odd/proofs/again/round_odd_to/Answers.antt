@@ -1,7 +1,7 @@
 use Rattle.std.proofs.Common.{ap, ◌∙◌}
 use Rattle.apfloat_model.specs.rounding.Flags.{bits_of}
 use Rattle.apfloat_ieee.specs.FlaggedTypes.{constants_of, format_of}
-use Rattle.apfloat_odd.proofs.LastDigits.{ranges_of}
+use Rattle.apfloat_model.proofs.formats.LawfulRanges.{ranges_of}
 use Rattle.apfloat_odd.proofs.RoundedOnce.{rounded_once}
 use Rattle.apfloat_odd.proofs.again.round_odd_to.Goals as goal
 

@@ -1,12 +1,13 @@
 use Rattle.apfloat_model.specs.rounding.Flags.{bits_of}
 use Rattle.apfloat_ieee.specs.FlaggedTypes.{constants_of, format_of}
-use Rattle.apfloat_odd.proofs.LastDigits.{ranges_of}
-use Rattle.apfloat_odd.proofs.Moved.{positive_magnitude, stays_made, moves_made}
+use Rattle.apfloat_model.proofs.formats.LawfulRanges.{ranges_of}
+use Rattle.apfloat_model.proofs.order.PositiveValues.{magnitude_positive}
+use Rattle.apfloat_odd.proofs.Moved.{stays_made, moves_made}
 use Rattle.apfloat_odd.proofs.odd.made_odd_number.Goals as goal
 
 pub stays-requires : goal.stays-requires
 stays-requires g c =
-    positive_magnitude (format_of g.S.Flagged) c.args.x c.abs-magnitude.result c.requires.number c.requires.member
+    magnitude_positive (format_of g.S.Flagged) c.args.x c.abs-magnitude.result c.requires.number c.requires.member
     c.abs-magnitude.ensures
 
 pub returns-then-stays : goal.returns-then-stays

@@ -1,6 +1,6 @@
 use Rattle.std.proofs.Common.{not, sym, ap, ◌∙◌}
 use Rattle.apfloat_ieee.specs.FlaggedTypes.{constants_of, format_of}
-use Rattle.apfloat_odd.proofs.LastDigits.{ranges_of}
+use Rattle.apfloat_model.proofs.formats.LawfulRanges.{ranges_of}
 use Rattle.apfloat_odd.proofs.Wholes.{zero_even, half_is_integer}
 use Rattle.apfloat_odd.proofs.whole_numbers.is_even.Goals as goal
 

@@ -2,7 +2,7 @@ use Rattle.std.proofs.Common.{ℕ, false, max, ap, ◌∙◌, sym, subst}
 use Rattle.apfloat_model.specs.formats.Datum.{Datum, finite}
 use Rattle.apfloat_model.specs.formats.Members.{IsMember}
 use Rattle.apfloat_model.specs.order.Classes.{quanta_of}
-use Rattle.apfloat_decimals.proofs.shortest_decimals.ShortestFound.{magnitude_positive}
+use Rattle.apfloat_model.proofs.order.PositiveValues.{magnitude_positive}
 use Rattle.apfloat_ieee.specs.Types.{format_of}
 use Rattle.block_formats.proofs.Greatest.{finite_magnitude, no_quanta, normal_quanta}
 use Rattle.block_formats.proofs.magnitudes.greater.Goals as goal

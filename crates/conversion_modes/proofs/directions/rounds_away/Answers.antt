@@ -4,7 +4,7 @@ use Rattle.std.proofs.lemmas.Nat.{pow_pos}
 use Rattle.apfloat_model.specs.formats.Format.{Format}
 use Rattle.apfloat_model.specs.order.Classes.{quanta_of}
 use Rattle.apfloat_ieee.specs.Types.{format_of}
-use Rattle.hex_digits.proofs.Roundings.{exponent_fits}
+use Rattle.apfloat_model.proofs.arithmetic.Significands.{exponent_fits}
 use Rattle.conversion_modes.specs.Directions.{IsDirection}
 use Rattle.conversion_modes.proofs.directions.rounds_away.Goals as goal
 

@@ -1,5 +1,5 @@
 use Rattle.apfloat_ieee.specs.Types.{constants_of, format_of}
-use Rattle.apfloat_decimals.proofs.digits.ExactSignificands.{ranges_of}
+use Rattle.apfloat_model.proofs.formats.LawfulRanges.{ranges_of}
 use Rattle.hex_digits.proofs.NanPayloads.{full_read_back}
 use Rattle.hex_digits.proofs.payloads.full_text_reads_back.Goals as goal
 

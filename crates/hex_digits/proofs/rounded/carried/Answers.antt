@@ -1,7 +1,8 @@
 use Rattle.std.proofs.Common.{arith, w32, to_z, of_z, ◌≡◌, ◌+ℤ◌, pos}
 use Rattle.std.proofs.lemmas.Int.{ints, to_z-of_z}
 use Rattle.hex_digits.proofs.Numbers.{sixteens}
-use Rattle.hex_digits.proofs.Roundings.{carried_not, carried_up, exponent_fits, one_within}
+use Rattle.apfloat_model.proofs.arithmetic.Significands.{exponent_fits}
+use Rattle.hex_digits.proofs.Roundings.{carried_not, carried_up, one_within}
 use Rattle.hex_digits.proofs.rounded.carried.Goals as goal
 
 pub overflow_mul-one : goal.overflow_mul-one

@@ -3,7 +3,8 @@ use Rattle.std.proofs.lemmas.Int.{ints, to_z-of_z}
 use Rattle.apfloat_model.specs.order.Classes.{quanta_of}
 use Rattle.apfloat_ieee.specs.Types.{format_of}
 use Rattle.hex_digits.specs.HexTexts.{number_text}
-use Rattle.hex_digits.proofs.Roundings.{IsCut, cut_of, exponent_fits, rounded_at}
+use Rattle.apfloat_model.proofs.arithmetic.Significands.{exponent_fits}
+use Rattle.hex_digits.proofs.Roundings.{IsCut, cut_of, rounded_at}
 use Rattle.hex_digits.proofs.rounded.rounded_line.Given.{Over}
 use Rattle.hex_digits.proofs.rounded.rounded_line.Goals.{After-shift_right-cut, then-moves, else-moves}
 use Rattle.hex_digits.proofs.rounded.rounded_line.Goals as goal

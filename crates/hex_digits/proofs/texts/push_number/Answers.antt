@@ -1,7 +1,7 @@
 use Rattle.std.proofs.Common.{arith, w32}
 use Rattle.std.proofs.lemmas.Int.{to_z-of_z}
 use Rattle.hex_digits.proofs.Lengths.{front_length, tail_room}
-use Rattle.hex_digits.proofs.Roundings.{exponent_fits}
+use Rattle.apfloat_model.proofs.arithmetic.Significands.{exponent_fits}
 use Rattle.hex_digits.proofs.texts.push_number.Goals as goal
 
 pub push-requires-4 : goal.push-requires-4

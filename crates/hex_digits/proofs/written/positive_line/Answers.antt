@@ -3,7 +3,7 @@ use Rattle.std.proofs.lemmas.Int.{ints, to_z-of_z}
 use Rattle.apfloat_model.specs.order.Classes.{quanta_of}
 use Rattle.apfloat_ieee.specs.Types.{format_of}
 use Rattle.hex_digits.proofs.AlignedDigits.{shortest}
-use Rattle.hex_digits.proofs.Roundings.{exponent_fits}
+use Rattle.apfloat_model.proofs.arithmetic.Significands.{exponent_fits}
 use Rattle.hex_digits.proofs.written.positive_line.Goals as goal
 
 pub returns-clause-text : goal.returns-clause-text

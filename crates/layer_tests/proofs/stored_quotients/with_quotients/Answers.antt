@@ -1,6 +1,6 @@
 use Rattle.std.proofs.Common.{sym, ◌∙◌}
 use Rattle.apfloat_ieee.specs.Types.{format_of}
-use Rattle.apfloat_decimals.proofs.shortest_decimals.ShortestFound.{magnitude_positive}
+use Rattle.apfloat_model.proofs.order.PositiveValues.{magnitude_positive}
 use Rattle.layer_tests.proofs.stored_quotients.with_quotients.Goals as goal
 
 pub with_quotient-sum-requires : goal.with_quotient-sum-requires

@@ -3,7 +3,7 @@ use Rattle.std.proofs.lemmas.Int.{ints, to_z-of_z}
 use Rattle.apfloat_model.specs.order.Classes.{quanta_of}
 use Rattle.apfloat_model.specs.rounding.Flags.{bits_of}
 use Rattle.apfloat_ieee.specs.Types.{format_of}
-use Rattle.hex_digits.proofs.Roundings.{exponent_fits}
+use Rattle.apfloat_model.proofs.arithmetic.Significands.{exponent_fits}
 use Rattle.storage_formats.specs.Storage.{format_with}
 use Rattle.storage_formats.specs.Types.{constants_of}
 use Rattle.storage_formats.proofs.QuotientPicks.{quotient_long, quotient_stands}
@@ -13,11 +13,11 @@ use Rattle.storage_formats.proofs.quotients.divide_positive.Goals as goal
 -- at least 126 digits
 pub pick_with_loss-requires-clause-long : goal.pick_with_loss-requires-clause-long
 pick_with_loss-requires-clause-long g c =
-    let high = c.digits_of-divisor.ensures.high in
-    let low = c.digits_of-divisor.ensures.low in
+    let high = c.magnitude_of-divisor.ensures.high in
+    let low = c.magnitude_of-divisor.ensures.low in
     let long : 2 ^ (126 - 1) ≤ c.divide_u128-quotient.result.whole =
-    quotient_long c.divide_u128-quotient.result.whole c.digits_of-dividend.result.digits
-    c.digits_of-divisor.result.digits (2 ^ 124) 126 (omega (arith, low)) c.digits_of-dividend.ensures.low
+    quotient_long c.divide_u128-quotient.result.whole c.magnitude_of-dividend.result.digits
+    c.magnitude_of-divisor.result.digits (2 ^ 124) 126 (omega (arith, low)) c.magnitude_of-dividend.ensures.low
     (omega (arith, high)) (omega arith) c.divide_u128-quotient.ensures.quotient in
     omega (arith, long)
 
@@ -26,8 +26,8 @@ returns g c = λ amount parts u same.
     let d = constants_of g.F.StorageFormat in
     let f = format_of g.S.Semantics in
     let h = format_of g.R.Semantics in
-    let x = c.digits_of-dividend in
-    let y = c.digits_of-divisor in
+    let x = c.magnitude_of-dividend in
+    let y = c.magnitude_of-divisor in
     let x_low = x.ensures.within.low in
     let x_high = x.ensures.within.high in
     let y_low = y.ensures.within.low in

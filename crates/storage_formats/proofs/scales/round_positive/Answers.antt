@@ -3,7 +3,7 @@ use Rattle.std.proofs.lemmas.Int.{to_z-of_z}
 use Rattle.std.proofs.lemmas.Nat.{pow_pos}
 use Rattle.apfloat_model.specs.order.Classes.{quanta_of}
 use Rattle.apfloat_ieee.specs.Types.{format_of}
-use Rattle.hex_digits.proofs.Roundings.{exponent_fits}
+use Rattle.apfloat_model.proofs.arithmetic.Significands.{exponent_fits}
 use Rattle.storage_formats.proofs.scales.round_positive.Goals as goal
 
 pub returns : goal.returns

@@ -3,7 +3,7 @@ use Rattle.std.proofs.Math.Nat.{mul-pos}
 use Rattle.std.proofs.lemmas.Nat.{pow_pos}
 use Rattle.apfloat_model.specs.order.Classes.{is_negative, quanta_of}
 use Rattle.apfloat_ieee.specs.Types.{format_of}
-use Rattle.apfloat_decimals.proofs.shortest_decimals.ShortestFound.{magnitude_positive}
+use Rattle.apfloat_model.proofs.order.PositiveValues.{magnitude_positive}
 use Rattle.storage_formats.specs.Storage.{format_with}
 use Rattle.storage_formats.specs.Types.{constants_of}
 use Rattle.storage_formats.proofs.QuotientPicks.{magnitude_quanta, no_number, no_quotient, zero_picked}
