@@ -195,7 +195,8 @@ def text():
         digits = f.bits // 4
         for operation, a, b, head, tail, flagging in rows(f):
             operands, result = (" ".join(f"{n:0{digits}x}" for n in pair) for pair in ((a, b), (head, tail)))
-            yield "\t".join((CALLS[operation], f.name, "-", operands, result, FLAGS[flagging], "-"))
+            kind = f"{f.name}+ieee" if f.kind == "ieee" else f.name
+            yield "\t".join((CALLS[operation], kind, "-", operands, result, FLAGS[flagging], "-"))
 
 
 if __name__ == "__main__":
