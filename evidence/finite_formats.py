@@ -12,10 +12,10 @@ from bisect import bisect_right
 from fractions import Fraction
 from itertools import product
 
-from exact import arithmetic, conversions, integers, neighbours, remainders, roots
+from exact import arithmetic, integers, neighbours, remainders, roots
 from exact.bits import decoded
-from exact.data import Finite, Infinite, NaN, is_nan
-from exact.formats import BFLOAT, E4M3FN, E5M2, HALF, Format
+from exact.data import Finite, Infinite, NaN
+from exact.formats import Format
 from exact.rounding import Mode, overflows
 from exact.status import DIV_BY_ZERO, INEXACT, INVALID_OP, OK, OVERFLOW, UNDERFLOW
 from row_files import MODES, every, row
@@ -154,16 +154,6 @@ def next_up_by_rule(a, _mode):
     return min(index + 1, COUNT - 1), OK
 
 
-def convert_by_rule(source, x, mode):
-    """A value of another format: the code, the flags, and whether information is lost."""
-    if is_nan(x):
-        return 0, INVALID_OP, True
-    if isinstance(x, Infinite):
-        return code_of(x.negative, COUNT - 1), INVALID_OP, True
-    code, status = rounded(mode, x.negative, Fraction(x.quanta, 1 << source.scale))
-    return code, status, status != OK
-
-
 # ---- by the settled results of the model
 
 
@@ -224,17 +214,6 @@ def fused_results(mode):
         yield result
 
 
-def conversions_of(source, step, mode):
-    """The results for every code of the source that is a multiple of the step."""
-    for bits in range(0, 1 << source.bits, step):
-        x = decoded(source, bits)
-        result = convert_by_rule(source, x, mode)
-        if isinstance(x, Finite):
-            value, status, loses = conversions.convert(source, NUMBERS, x, mode)
-            assert result == (settled(value), status, loses)
-        yield result
-
-
 def of_integer(integer, mode):
     """The code and the flags of an integer."""
     result = rounded(mode, integer < 0, Fraction(abs(integer)))
@@ -254,10 +233,6 @@ def lines():
             yield every(call, "e3m2fn", shown, steps, results(count, by_rule, operation, mode))
     for mode in MODES:
         yield every("mul_add_r", "e3m2fn", mode, "7 3 1", fused_results(mode))
-    for source, step in ((E4M3FN, 1), (E5M2, 1), (HALF, 7), (BFLOAT, 7)):
-        for mode in MODES:
-            found = conversions_of(source, step, mode)
-            yield every("convert_r", f"{source.name}>e3m2fn", mode, step, found)
     for mode in MODES:
         for integer in range(-70, 71):
             code, status = of_integer(integer, mode)

@@ -16,7 +16,7 @@ from struct import pack, unpack
 from exact.bits import decoded, encoded
 from exact.conversions import convert
 from exact.data import Finite, Infinite, is_nan, is_signaling, qnan
-from exact.formats import E4M3FN, E5M2, HALF, SINGLE
+from exact.formats import BFLOAT, E4M3FN, E5M2, HALF, SINGLE
 from exact.rounding import Mode, delivered, overflows
 from exact.status import INEXACT, INVALID_OP, OK, OVERFLOW, UNDERFLOW
 from row_files import MODES, every, hexes, in_each_mode, loses
@@ -251,7 +251,7 @@ def out_of(form, target, mode):
 def checksums(form):
     """The rows of all values."""
     name = form.name.lower()
-    for source, step in ((E4M3FN, 1), (E5M2, 1), (HALF, 7)):
+    for source, step in ((E4M3FN, 1), (E5M2, 1), (HALF, 7), (BFLOAT, 7)):
         for mode in MODES:
             yield every("convert_r", f"{source.name}>{name}", mode, step, into(source, form, mode, step))
     for target in (HALF, SINGLE, E4M3FN, E5M2):

@@ -26,7 +26,10 @@ fn each_operation(rt: HostRuntime) {
     let y = DoubleS::from_bits(0xc00d_d400_0000_0001);
     let sum = format_of::add::<HalfS, DoubleS, DoubleS>(x, y, EVEN);
     check(&rt, x.add_to::<HalfS>(y, EVEN), sum, 0xc433);
-    let (x, y) = (DoubleS::from_bits(0), DoubleS::from_bits(0xbfba_47eb_b6ce_ebaf));
+    let (x, y) = (
+        DoubleS::from_bits(0),
+        DoubleS::from_bits(0xbfba_47eb_b6ce_ebaf),
+    );
     let difference = format_of::subtract::<HalfS, DoubleS, DoubleS>(x, y, EVEN);
     check(&rt, x.sub_to::<HalfS>(y, EVEN), difference, 0x2e92);
     let x = DoubleS::from_bits(0x3fb2_b859_ff7e_1d34);

@@ -103,7 +103,13 @@ const UNNORMAL: u128 = 0x3fff_4000000000000000;
 
 static IN_X87: [Row; 2] = [
     (X87, Sum, [X87_S3, X87_Q1, 0], 0x7fff_c000000000000001, 0x01),
-    (X87, Sum, [UNNORMAL, X87_ONE, 0], 0xffff_c000000000000000, 0x01),
+    (
+        X87,
+        Sum,
+        [UNNORMAL, X87_ONE, 0],
+        0xffff_c000000000000000,
+        0x01,
+    ),
 ];
 
 #[test]
@@ -168,9 +174,7 @@ static SIGNED_32: [SignedRow; 4] = [
     (S390x, 0xcf000001, LOW, 0x11),
 ];
 
-static SIGNED_64: [SignedRow; 1] = [
-    (X86, 0xff000000, -0x8000_0000_0000_0000, 0x01),
-];
+static SIGNED_64: [SignedRow; 1] = [(X86, 0xff000000, -0x8000_0000_0000_0000, 0x01)];
 
 static SIGNED_128: [SignedRow; 2] = [(RiscV, Q1, i128::MAX, 0x01), (Power, Q1, i128::MIN, 0x01)];
 

@@ -5,9 +5,7 @@ ghost use Rattle.std.specs.Prelude.{◌<◌};
 
 use crate::asserts::same;
 use apfloat_base::{Flags, Float, Round, Status, StatusAnd};
-use apfloat_formats::{
-    BFloatS, Double, DoubleS, Float8E4M3FN, Float8E4M3FNUZ, Half, HalfS,
-};
+use apfloat_formats::{BFloatS, Double, DoubleS, Float8E4M3FN, Float8E4M3FNUZ, Half, HalfS};
 use apfloat_ieee::{Flagged, IeeeFloat};
 use apfloat_odd::*;
 use apfloat_pairs::FallbackS;

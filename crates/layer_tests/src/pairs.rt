@@ -22,7 +22,12 @@ fn conversions(rt: HostRuntime) {
     let wide = QuadS::from_bits(0x3fff_0000_0000_0000_0000_0000_0000_0001);
     let pair = pair_from_format::<QuadS>(wide, Round::TowardPositive);
     let got = (pair.value.to_bits(), pair.status.bits());
-    same(&rt, got, (0x3960_0000_0000_0000_3ff0_0000_0000_0000, 0x10), "from a quad");
+    same(
+        &rt,
+        got,
+        (0x3960_0000_0000_0000_3ff0_0000_0000_0000, 0x10),
+        "from a quad",
+    );
 }
 
 /// 1.5 * 1.5 - 2 is 0.25.

@@ -41,7 +41,11 @@ fn stored<F: Projection>(bits: u32, mode: ConversionRound) -> (u16, u8, u128) {
         _ => Projected::<F>::from_value_by(x, mode, &mut false),
     };
     let back: StatusAnd<Single> = answer.value.convert_r(Round::TowardZero, &mut false);
-    (answer.value.to_bits(), answer.status.bits(), back.value.to_bits())
+    (
+        answer.value.to_bits(),
+        answer.status.bits(),
+        back.value.to_bits(),
+    )
 }
 
 /// 1.0625 is halfway between 1, the code 0x40, and 1.125; -1.25 is no number of a format without a sign.
@@ -50,10 +54,22 @@ fn conversions(rt: HostRuntime) {
     let even = ConversionRound::Ieee(Round::NearestTiesToEven);
     let up = ConversionRound::Ieee(Round::TowardPositive);
     let odd = ConversionRound::ToOdd;
-    assert_eq!(rt; stored::<Binary8P4>(0x3f88_0000, even), (0x40, 0x10, 0x3f80_0000));
-    assert_eq!(rt; stored::<Binary8P4>(0x3f88_0000, odd), (0x41, 0x10, 0x3f90_0000));
-    assert_eq!(rt; stored::<Binary8P4>(0x4370_0000, up), (0x7f, 0x14, 0x7f80_0000));
-    assert_eq!(rt; stored::<Binary6P2UE>(0x3fa0_0000, up), (0x21, 0x10, 0x3fc0_0000));
+    assert_eq!(rt;
+        stored::<Binary8P4>(0x3f88_0000, even),
+        (0x40, 0x10, 0x3f80_0000)
+    );
+    assert_eq!(rt;
+        stored::<Binary8P4>(0x3f88_0000, odd),
+        (0x41, 0x10, 0x3f90_0000)
+    );
+    assert_eq!(rt;
+        stored::<Binary8P4>(0x4370_0000, up),
+        (0x7f, 0x14, 0x7f80_0000)
+    );
+    assert_eq!(rt;
+        stored::<Binary6P2UE>(0x3fa0_0000, up),
+        (0x21, 0x10, 0x3fc0_0000)
+    );
     let (code, flags, _) = stored::<Binary6P2UE>(0xbfa0_0000, up);
     assert_eq!(rt; (code, flags), (0x3f, 0x01));
 }

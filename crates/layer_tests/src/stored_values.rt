@@ -47,15 +47,29 @@ fn element<F: StorageFormat>(bits: u32) -> Told {
     let stored = StoredFloat::<F>::from_value(single(bits), EVEN, &mut loses_info);
     let back: StatusAnd<Single> = stored.value.convert_r(EVEN, &mut false);
     let flags = stored.status.bits();
-    (stored.value.to_bits(), flags, loses_info, back.value.to_bits())
+    (
+        stored.value.to_bits(),
+        flags,
+        loses_info,
+        back.value.to_bits(),
+    )
 }
 
 /// 5 and a little more, 26, and 1.1875 become the elements 6, 24 or 28, and 1.25.
 #[test]
 fn elements(rt: HostRuntime) {
-    assert_eq!(rt; element::<E2M1FN>(0x40a0_0001), (0x07, 0x10, true, 0x40c0_0000));
-    assert_eq!(rt; element::<E3M2FN>(0x41d0_0000), (0x1e, 0x10, true, 0x41c0_0000));
-    assert_eq!(rt; element::<E2M3FN>(0x3f98_0000), (0x0a, 0x10, true, 0x3fa0_0000));
+    assert_eq!(rt;
+        element::<E2M1FN>(0x40a0_0001),
+        (0x07, 0x10, true, 0x40c0_0000)
+    );
+    assert_eq!(rt;
+        element::<E3M2FN>(0x41d0_0000),
+        (0x1e, 0x10, true, 0x41c0_0000)
+    );
+    assert_eq!(rt;
+        element::<E2M3FN>(0x3f98_0000),
+        (0x0a, 0x10, true, 0x3fa0_0000)
+    );
 }
 
 /// 1.5 becomes the scale 2, 464 the largest number, 448, and 15.75 an infinity.
@@ -64,15 +78,27 @@ fn other_formats(rt: HostRuntime) {
     let mut loses_info = false;
     let scale = E8M0FNU::from_value(single(0x3fc0_0000), EVEN, &mut loses_info);
     let back: StatusAnd<Single> = scale.value.convert_r(EVEN, &mut false);
-    let got = (scale.value.to_bits(), scale.status.bits(), back.value.to_bits());
+    let got = (
+        scale.value.to_bits(),
+        scale.status.bits(),
+        back.value.to_bits(),
+    );
     assert_eq!(rt; got, (0x80, 0x10, 0x4000_0000));
     let largest = UE4M3::from_value(single(0x43e8_0000), EVEN, &mut loses_info);
     let back: StatusAnd<Single> = largest.value.convert_r(EVEN, &mut false);
-    let got = (largest.value.to_bits(), largest.status.bits(), back.value.to_bits());
+    let got = (
+        largest.value.to_bits(),
+        largest.status.bits(),
+        back.value.to_bits(),
+    );
     assert_eq!(rt; got, (0x7e, 0x10, 0x43e0_0000));
     let past = Float8E3M4::from_value(single(0x417c_0000), EVEN, &mut loses_info);
     let back: StatusAnd<Single> = past.value.convert_r(EVEN, &mut false);
-    let got = (past.value.to_bits(), past.status.bits(), back.value.to_bits());
+    let got = (
+        past.value.to_bits(),
+        past.status.bits(),
+        back.value.to_bits(),
+    );
     assert_eq!(rt; got, (0x70, 0x14, 0x7f80_0000));
     assert!(rt; loses_info);
 }
