@@ -1,5 +1,7 @@
 #!/usr/bin/env python3
-"""Prints crates/layer_tests/src/augmented_rows.rt: augmented operations (IEEE 754-2019 9.5).
+"""Computes tests/rows/augmented.tsv: augmented operations (IEEE 754-2019 9.5).
+
+    python3 evidence/augmented.py | diff - tests/rows/augmented.tsv
 
 Operands are bits, and the exact result is a fraction. Nothing here is shared with the model in `exact`.
 """
@@ -7,15 +9,10 @@ Operands are bits, and the exact result is a fraction. Nothing here is shared wi
 import random
 from fractions import Fraction
 
-HEAD = """//! Augmented sums, differences and products as bits: the operation, its operands, the head and the tail, and whether
-//! the head is past the largest value or the product has digits below the quantum. `evidence/augmented.py` writes the
-//! rows, from fractions.
+# The flags of a result: none, of a head past the largest value, of a tail with digits below the quantum.
+FLAGS = {"Exact": "OK", "Past": "OVERFLOW|INEXACT", "Tiny": "UNDERFLOW|INEXACT"}
 
-use crate::augmented::Flagging::{self, Exact, Past, Tiny};
-use crate::augmented::Operation::{self, Add, Mul, Sub};
-
-pub type Row = (Operation, u128, u128, u128, u128, Flagging);
-"""
+CALLS = {"add": "augmented_add", "sub": "augmented_subtract", "mul": "augmented_multiply"}
 
 
 class Format:
@@ -193,17 +190,14 @@ def products(f):
 
 
 def text():
-    lines = []
+    yield "# Augmented sums, differences and products: head and tail. Computed by evidence/augmented.py."
     for f in FORMATS:
-        these = list(rows(f))
         digits = f.bits // 4
-        lines += ["", f"pub static {f.name.upper()}: [Row; {len(these)}] = ["]
-        for operation, a, b, head, tail, status in these:
-            numbers = ", ".join(f"0x{n:0{digits}x}" for n in (a, b, head, tail))
-            lines.append(f"    ({operation.title()}, {numbers}, {status}),")
-        lines.append("];")
-    return HEAD + "\n".join(lines)
+        for operation, a, b, head, tail, flagging in rows(f):
+            operands, result = (" ".join(f"{n:0{digits}x}" for n in pair) for pair in ((a, b), (head, tail)))
+            kind = f"{f.name}+ieee" if f.kind == "ieee" else f.name
+            yield "\t".join((CALLS[operation], kind, "-", operands, result, FLAGS[flagging], "-"))
 
 
 if __name__ == "__main__":
-    print(text())
+    print("\n".join(text()))

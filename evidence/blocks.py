@@ -1,14 +1,14 @@
-"""Computes crates/layer_tests/src/block_rows.rt: blocks of small values with a common scale.
+"""Computes tests/rows/blocks.tsv: blocks of small values with a common scale.
 
-    python3 evidence/blocks.py | diff - crates/layer_tests/src/block_rows.rt
+    python3 evidence/blocks.py | diff - tests/rows/blocks.tsv
     python3 evidence/blocks.py --laws
 
 A value is a fraction. The scale of a block is found by comparing the greatest one with powers of two, and
-each element by rounding the quotient on the list of the numbers of its format. The rows show blocks of
-four singles; the checksums are of 1,500 blocks of 32 elements, whose singles a linear congruence draws.
-`--laws` tries the theorems on blocks that formats have exactly and on blocks that are quantized again,
-and that they would be false without their bounds. Of NVFP4 the rows show the same blocks with four
-scales of their tensor, and the checksums are of 500 blocks of 16 elements, ten of them to a tensor.
+each element by rounding the quotient on the list of the numbers of its format. The rows are of blocks of
+four singles, quantized and dequantized, and of 1,500 blocks of 32 elements, whose singles a linear
+congruence draws. `--laws` tries the theorems on blocks that formats have exactly and on blocks that are
+quantized again, and that they would be false without their bounds. Of NVFP4 the rows are of the same
+blocks with four scales of their tensor, and of 500 blocks of 16 elements, ten of them to a tensor.
 """
 
 from dataclasses import dataclass
@@ -21,19 +21,7 @@ from exact.data import Finite, Infinite, is_nan, qnan
 from exact.formats import BFLOAT, DOUBLE, E4M3FN, E5M2, SINGLE
 from exact.rounding import Mode, delivered, overflows, picked
 from exact.status import INEXACT, OK, OVERFLOW, UNDERFLOW
-
-MODES = (Mode.EVEN, Mode.UP, Mode.DOWN, Mode.ZERO, Mode.AWAY)
-
-WORDS = {
-    Mode.EVEN: "NearestTiesToEven",
-    Mode.UP: "TowardPositive",
-    Mode.DOWN: "TowardNegative",
-    Mode.ZERO: "TowardZero",
-    Mode.AWAY: "NearestTiesToAway",
-}
-
-FACTOR = 1000003
-
+from row_files import MODES, hexes, row
 
 @dataclass(frozen=True)
 class Element:
@@ -217,46 +205,13 @@ class Draw:
         return word & 0x807FFFFF | 107 + (word >> 23 & 0xFF) % 40 << 23
 
 
-def extended(checksum, value):
-    """The checksum with one more number."""
-    return (checksum * FACTOR + value) % 2**64
-
-
-def block_sum(checksum, answer):
-    """The checksum with one more block."""
-    codes, scale, flags = answer
-    for value in (*codes, scale, *counts(flags)):
-        checksum = extended(checksum, value)
-    return checksum
-
-
-def mx_sum(element, mode, blocks=60, size=32):
-    """The checksum of blocks of a microscaling format."""
-    draw, checksum = Draw(100), 0
-    for _ in range(blocks):
-        values = [decoded(SINGLE, draw.single()) for _ in range(size)]
-        checksum = block_sum(checksum, mx_quantize(element, SINGLE, mode, values))
-    return checksum
-
-
-def nv_sum(mode, blocks=100, size=16):
-    """The checksum of blocks of NVFP4, ten of them to a tensor."""
-    draw, checksum = Draw(200), 0
-    for _ in range(blocks // 10):
-        values = [decoded(SINGLE, draw.single()) for _ in range(10 * size)]
-        tensor = tensor_scale(SINGLE, values)
-        checksum = extended(checksum, encoded(SINGLE, tensor))
-        for first in range(0, 10 * size, size):
-            checksum = block_sum(checksum, nv_quantize(SINGLE, mode, tensor, values[first : first + size]))
-    return checksum
+def drawn_blocks(seed, count, size):
+    """The bits of blocks of singles."""
+    draw = Draw(seed)
+    return [tuple(draw.single() for _ in range(size)) for _ in range(count)]
 
 
 # ---- rows
-
-
-def hexes(bits):
-    """Numbers in an array."""
-    return "[" + ", ".join(f"0x{x:x}" for x in bits) + "]"
 
 
 SPECIAL = (
@@ -271,39 +226,79 @@ SPECIAL = (
 )
 
 
-DRAWN = Draw(1)
+BLOCKS = (*SPECIAL, *drawn_blocks(1, 8, 4))
 
-BLOCKS = (*SPECIAL, *(tuple(DRAWN.single() for _ in range(4)) for _ in range(8)))
+LONG_BLOCKS = drawn_blocks(100, 60, 32)
 
-
+# The modes of NVFP4's blocks of four, with the bits of the scale of their tensor.
 NV_CASES = (*((mode, 0x3A000001) for mode in MODES), *((Mode.EVEN, x) for x in (0x3F800000, 1, 0x7F7FFFFF)))
 
 
-def row(answer):
-    """One row: the codes as a number, the scale, and the counts."""
-    codes, scale, flags = answer
-    packed = int.from_bytes(bytes(codes), "little")
-    return f"    (0x{packed:x}, 0x{scale:x}, {counts(flags)}),"
+def numbers(bits):
+    """The values of singles."""
+    return [decoded(SINGLE, x) for x in bits]
 
 
-def back_again(values):
-    """The bits of the values that come back."""
-    return f"    {hexes(encoded(SINGLE, value) for value, _ in values)},"
+def block_of(element, answer):
+    """A block as it is written: its scale and its codes, in hexadecimal digits."""
+    codes, scale, _ = answer
+    return f"{scale:02x} {hexes(element, *codes)}"
 
 
-def case_of(element, mode):
-    """An element format, a mode, and the checksum."""
-    parts = (f"ElementFormat::{element.name}", f"Round::{WORDS[mode]}", f"0x{mx_sum(element, mode):x}")
-    if len(", ".join(parts)) <= 60:
-        return f"    ({', '.join(parts)}),"
-    return "\n".join(["    (", *(f"        {part}," for part in parts), "    ),"])
+def quantized(call, element, mode, operands, answer):
+    """The row of a block, with its counts."""
+    overflow, underflow, inexact = counts(answer[2])
+    more = f"overflow={overflow} underflow={underflow} inexact={inexact}"
+    return row(call, f"single>{element.name.lower()}", mode, operands, block_of(element, answer), more=more)
 
 
-def table(name, kind, lines):
-    """A static table."""
-    print(f"\npub(crate) static {name}: [{kind}; {len(lines)}] = [")
-    print("\n".join(lines))
-    print("];")
+def dequantized(call, element, mode, operands, values):
+    """The row of the values of a block."""
+    back = hexes(SINGLE, *(encoded(SINGLE, value) for value, _ in values))
+    return row(call, f"{element.name.lower()}>single", mode, operands, back)
+
+
+def mx_rows(element, mode):
+    """Blocks of four singles there and back, and blocks of 32."""
+    for bits in BLOCKS:
+        answer = mx_quantize(element, SINGLE, mode, numbers(bits))
+        yield quantized("quantize_block", element, mode, hexes(SINGLE, *bits), answer)
+        values = mx_dequantize(element, SINGLE, mode, answer[1], answer[0])
+        yield dequantized("dequantize_block", element, mode, block_of(element, answer), values)
+    for bits in LONG_BLOCKS:
+        answer = mx_quantize(element, SINGLE, mode, numbers(bits))
+        yield quantized("quantize_block", element, mode, hexes(SINGLE, *bits), answer)
+
+
+def nv_rows(mode, tensor):
+    """Blocks of four singles there and back, with a scale of their tensor."""
+    scale = decoded(SINGLE, tensor)
+    for bits in BLOCKS:
+        answer = nv_quantize(SINGLE, mode, scale, numbers(bits))
+        yield quantized("quantize_nvfp4_block", E2M1, mode, hexes(SINGLE, tensor, *bits), answer)
+        values = nv_dequantize(SINGLE, mode, scale, answer[1], answer[0])
+        operands = f"{hexes(SINGLE, tensor)} {block_of(E2M1, answer)}"
+        yield dequantized("dequantize_nvfp4_block", E2M1, mode, operands, values)
+
+
+def scale_row(bits):
+    """The row of the scale of a tensor."""
+    values = numbers(bits)
+    finite = all(isinstance(x, Finite) for x in values)
+    scale = hexes(SINGLE, encoded(SINGLE, tensor_scale(SINGLE, values))) if finite else "None"
+    return row("tensor_scale", "single", None, hexes(SINGLE, *bits), scale)
+
+
+def tensor_rows(tensor, size=16):
+    """A tensor, and its blocks in each mode."""
+    yield scale_row(tensor)
+    scale = tensor_scale(SINGLE, numbers(tensor))
+    for mode in MODES:
+        for first in range(0, len(tensor), size):
+            bits = tensor[first : first + size]
+            answer = nv_quantize(SINGLE, mode, scale, numbers(bits))
+            operands = hexes(SINGLE, encoded(SINGLE, scale), *bits)
+            yield quantized("quantize_nvfp4_block", E2M1, mode, operands, answer)
 
 
 # ---- laws
@@ -370,25 +365,18 @@ def try_again():
     print(f"blocks quantized again: {kept} kept, {same} with their codes; {lost} of e4m3fn lost values")
 
 
-def nv_main():
-    """Prints what there is of NVFP4."""
-    rows, back = [], []
+def lines():
+    """The file."""
+    yield "# Blocks with a common scale, of the microscaling formats and of NVFP4. Computed by evidence/blocks.py."
+    for element in ELEMENTS:
+        for mode in MODES:
+            yield from mx_rows(element, mode)
     for mode, tensor in NV_CASES:
-        scale = decoded(SINGLE, tensor)
-        for bits in BLOCKS:
-            answer = nv_quantize(SINGLE, mode, scale, [decoded(SINGLE, x) for x in bits])
-            rows.append(row(answer))
-            back.append(back_again(nv_dequantize(SINGLE, mode, scale, answer[1], answer[0])))
-    table("NV_CASES", "(Round, u32)", [f"    (Round::{WORDS[mode]}, 0x{x:x})," for mode, x in NV_CASES])
-    table("NV_ROWS", "Row", rows)
-    table("NV_BACK", "[u32; 4]", back)
-    table("NV_SUMS", "(Round, u64)", [f"    (Round::{WORDS[mode]}, 0x{nv_sum(mode):x})," for mode in MODES])
-    scales = []
+        yield from nv_rows(mode, tensor)
     for bits in BLOCKS:
-        values = [decoded(SINGLE, x) for x in bits]
-        whole = all(isinstance(x, Finite) for x in values)
-        scales.append(f"Some(0x{encoded(SINGLE, tensor_scale(SINGLE, values)):x})" if whole else "None")
-    table("NV_SCALES", "Option<u128>", [f"    {scale}," for scale in scales])
+        yield scale_row(bits)
+    for tensor in drawn_blocks(200, 10, 160):
+        yield from tensor_rows(tensor)
 
 
 def main():
@@ -398,23 +386,7 @@ def main():
         try_singles()
         try_again()
         return
-    print("//! Blocks of small values with a common scale, computed by `evidence/blocks.py`.")
-    print("\nuse crate::blocks::{Case, Row};")
-    print("use apfloat_base::Round;")
-    print("use block_formats::ElementFormat;")
-    table("BLOCKS", "[u32; 4]", [f"    {hexes(bits)}," for bits in BLOCKS])
-    cases, rows, back = [], [], []
-    for element in ELEMENTS:
-        for mode in MODES:
-            cases.append(case_of(element, mode))
-            for bits in BLOCKS:
-                answer = mx_quantize(element, SINGLE, mode, [decoded(SINGLE, x) for x in bits])
-                rows.append(row(answer))
-                back.append(back_again(mx_dequantize(element, SINGLE, mode, answer[1], answer[0])))
-    table("CASES", "Case", cases)
-    table("ROWS", "Row", rows)
-    table("BACK", "[u32; 4]", back)
-    nv_main()
+    print("\n".join(lines()))
 
 
 if __name__ == "__main__":

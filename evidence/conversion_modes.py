@@ -1,6 +1,6 @@
-"""Computes crates/layer_tests/src/stored_mode_rows.rt: conversions to odd and with random digits.
+"""Computes tests/rows/conversion_modes.tsv: conversions to odd and with random digits.
 
-    python3 evidence/conversion_modes.py | diff - crates/layer_tests/src/stored_mode_rows.rt
+    python3 evidence/conversion_modes.py | diff - tests/rows/conversion_modes.tsv
 
 As evidence/storage_formats.py and evidence/projections.py, a value is looked up between its neighbours among
 the fractions that the codes mean. With random digits every random number is tried too: how many of them take
@@ -17,12 +17,20 @@ from exact.data import Finite, Infinite, is_nan
 from exact.formats import HALF
 from exact.status import INEXACT, INVALID_OP, OK, OVERFLOW, UNDERFLOW
 from projections import NOT_A_NUMBER, TESTED, family
-from storage_formats import FORMATS, extended
+from row_files import every
+from storage_formats import FORMATS
 
 ELEMENTS = FORMATS[:3]
 
 # to odd, and random digits with a random number
 MODES = (None, (1, 0), (1, 1), (3, 2), (8, 0), (8, 77), (8, 255), (32, 0x9E3779B9))
+
+# The calls of these modes; in each second one, to an element, a NaN becomes the largest number.
+ODD, RANDOM, ALL = "convert_odd", "convert_stochastic", "convert_stochastic_all"
+
+ODD_FIRST = (ODD, *[RANDOM] * 7)
+
+BY_TURNS = (ODD, ALL, *(RANDOM, ALL) * 3)
 
 
 def parts(digits, points, below, exact):
@@ -59,25 +67,17 @@ def store(form, x, mode, largest_for_nan, source=HALF):
     return sign + index, UNDERFLOW | INEXACT if tiny else INEXACT, True
 
 
-def checksum(form, mode, largest_for_nan):
-    """Each third half, stored."""
-    total = 0
-    for bits in range(0, 65536, 3):
-        total = extended(total, *store(form, decoded(HALF, bits), mode, largest_for_nan))
-    return total
-
-
 def project(form, source, x, mode):
     """The same in a format of P3109: random digits lead past the largest number, and to odd does not."""
     return form.store_by(source, x, lambda below, exact: moves(mode, form.points, below, exact), mode is not None)
 
 
-def projections_checksum(form, mode):
-    """Each 61st half, stored in a format of P3109."""
-    total = 0
-    for bits in range(0, 65536, 61):
-        total = extended(total, *project(form, HALF, decoded(HALF, bits), mode))
-    return total
+def rows(name, step, convert, names):
+    """The rows of each half that is a multiple of the step, by the names of the calls in each mode."""
+    for call, mode in zip(names, MODES):
+        operands = " ".join(map(str, (step, *(mode or ()))))
+        found = (convert(decoded(HALF, bits), mode, call) for bits in range(0, 65536, step))
+        yield every(call, f"half>{name}", None, operands, found)
 
 
 def try_counts(points, last, shares, widths):
@@ -139,22 +139,12 @@ def main():
     for form in family(3, 8):
         try_projection(form)
         try_counts(form.points, form.largest_index, (1, 7, 8, 13), (1, 2))
-    print("//! Conversions to odd and with random digits, computed by `evidence/conversion_modes.py`.")
-    print("\nuse crate::stored_values::ModeSums;")
+    print("# Conversions to odd and with random digits. Computed by evidence/conversion_modes.py.")
     for form in ELEMENTS:
         try_counts(form.points, form.count - 1, range(1, 16), (1, 2, 3, 6))
-        print(f"\npub(crate) static BY_MODE_{form.name}: ModeSums = [")
-        for i, mode in enumerate(MODES):
-            print(f"    0x{checksum(form, mode, i % 2 == 1):x},")
-        print("];")
-    print("\n/// The formats of P3109 as in `projection_rows`.")
-    print(f"pub(crate) static PROJECTED_BY_MODE: [ModeSums; {len(TESTED)}] = [")
+        print("\n".join(rows(form.name.lower(), 3, lambda x, mode, call: store(form, x, mode, call == ALL), BY_TURNS)))
     for form in TESTED:
-        print("    [")
-        for mode in MODES:
-            print(f"        0x{projections_checksum(form, mode):x},")
-        print("    ],")
-    print("];")
+        print("\n".join(rows(form.name, 61, lambda x, mode, _: project(form, HALF, x, mode), ODD_FIRST)))
 
 
 if __name__ == "__main__":

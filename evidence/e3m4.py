@@ -1,6 +1,6 @@
-"""Computes crates/layer_tests/src/e3m4_rows.rt: conversions into `e3m4` and out of it.
+"""Computes tests/rows/e3m4.tsv: conversions into `e3m4` and out of it.
 
-    python3 evidence/e3m4.py | diff - crates/layer_tests/src/e3m4_rows.rt
+    python3 evidence/e3m4.py | diff - tests/rows/e3m4.tsv
 
 As evidence/storage_formats.py: each code is decoded to a fraction by its fields, and a value is looked up
 between its neighbours in the list of these fractions. What becomes of a NaN, and what comes out, is
@@ -13,10 +13,10 @@ from fractions import Fraction
 from exact.bits import decoded, encoded
 from exact.conversions import convert
 from exact.data import Infinite, is_nan
-from exact.formats import E4M3FN, E5M2, HALF, SINGLE, Format
+from exact.formats import SINGLE, Format
 from exact.rounding import overflows
 from exact.status import INEXACT, OK, OVERFLOW, UNDERFLOW
-from storage_formats import MODES, Elements, into, laid_out, out_of, pick, single_bits, table
+from storage_formats import Elements, checksums, pick, single_bits, stored
 
 E3M4 = Format("e3m4", 8, 3, 5, -2, 3)
 
@@ -74,32 +74,13 @@ def singles():
     return [sign << 31 | bits for bits in sorted(around) for sign in (0, 1)]
 
 
-def rows():
-    """The rows of these singles."""
-    for bits in singles():
-        x = decoded(SINGLE, bits)
-        answers = [FORM.store(SINGLE, x, mode) for mode in MODES]
-        assert all(a[2] == answers[0][2] for a in answers)
-        codes, flags = (", ".join(str(a[i]) for a in answers) for i in (0, 1))
-        parts = (f"0x{bits:x}", f"[{codes}]", f"[{flags}]", str(answers[0][2]).lower())
-        yield laid_out("(", parts, ")")
-
-
-def sums(checksum):
-    """A line of checksums, one for each mode."""
-    return laid_out("[", [f"0x{checksum(mode):x}" for mode in MODES], "]")
-
-
 def main():
     """Prints the file."""
     check_values()
-    print("//! Conversions into `e3m4` and out of it, computed by `evidence/e3m4.py`.")
-    print("\nuse crate::stored_values::{Checksums, Row};")
-    table("E3M4", "Row", rows())
-    sources = ((E4M3FN, 1), (E5M2, 1), (HALF, 7))
-    table("INTO_E3M4", "Checksums", (sums(lambda mode: into(s, FORM, mode, n)) for s, n in sources))
-    targets = (HALF, SINGLE, E4M3FN, E5M2)
-    table("OUT_OF_E3M4", "Checksums", (sums(lambda mode: out_of(FORM, t, mode)) for t in targets))
+    print("# Conversions into e3m4 and out of it. Computed by evidence/e3m4.py.")
+    for bits in singles():
+        print("\n".join(stored(FORM, SINGLE, bits)))
+    print("\n".join(checksums(FORM)))
 
 
 if __name__ == "__main__":

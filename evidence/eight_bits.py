@@ -1,17 +1,19 @@
-"""Computes the checksums of crates/layer_tests/src/eight_bits.rt: all pairs of values of the formats of eight bits.
+"""Computes tests/rows/eight_bits.tsv: the operations of IEEE 754-2019 on all values of the formats of eight bits, and
+on all pairs of them.
 
-    python3 evidence/eight_bits.py
+    python3 evidence/eight_bits.py | diff - tests/rows/eight_bits.tsv
 
-It takes two minutes. Each line is a checksum, in the order of the test.
+It takes two minutes. A row has the checksum of the results of a call for all operands.
 """
 
 from functools import cache
+from itertools import product
 
 from exact import operations
 from exact.bits import decoded, encoded
 from exact.format_of import computed
 from exact.formats import BFLOAT, E4M3FN, E4M3FNUZ, E5M2
-from exact.rounding import Mode
+from row_files import MODES, every
 
 CLASSES = (
     "SignalingNan",
@@ -26,89 +28,73 @@ CLASSES = (
     "PositiveInfinity",
 )
 
-EXTREMA = ("minimum", "maximum", "minimum_magnitude", "maximum_magnitude")
+CALLS_TO = {"add_to": "Sum", "sub_to": "Difference", "mul_to": "Product", "div_to": "Quotient"}
+
+# The binary digits of integers.
+WIDTH = 6
 
 
-class Checksum:
-    """A checksum of results."""
-
-    def __init__(self):
-        self.sum = 0
-
-    def take(self, value, flags=0):
-        """Takes another result."""
-        mask = (1 << 128) - 1
-        self.sum = (self.sum ^ value ^ flags << 64) * 0x100000001B3 & mask
-
-    def take_value(self, format, answer):
-        """Takes a value with its flags."""
-        self.take(encoded(format, answer[0]), answer[1])
-
-
-def pairs(format):
-    """All pairs of data."""
-    data = [decoded(format, bits) for bits in range(256)]
-    return ((x, y) for x in data for y in data)
+def data_of(format):
+    """All data of a format."""
+    return [decoded(format, bits) for bits in range(256)]
 
 
 def comparisons(format):
-    """All comparisons and extrema, and the total order."""
-    sum = Checksum()
-    for x, y in pairs(format):
-        relation = operations.relation(format, x, y)
-        quiet = operations.invalid_flag(format, x, y)
-        signaling = 1 if relation is None else quiet
-        for relations in operations.PREDICATES.values():
-            sum.take(relation in relations, quiet)
-            sum.take(relation in relations, signaling)
-        for name in EXTREMA:
-            sum.take_value(format, operations.extremum(format, f"{name}_of", x, y))
-            sum.take_value(format, operations.extremum(format, f"{name}_number_of", x, y))
-        sum.take(operations.total_cmp(format, x, y) <= 0)
-    return sum.sum
+    """The comparisons, the extrema, and the total order, of each pair."""
+    pairs = list(product(data_of(format), repeat=2))
+    relations = [operations.relation(format, x, y) for x, y in pairs]
+    quiet = [operations.invalid_flag(format, x, y) for x, y in pairs]
+    known = list(zip(relations, quiet))
+    for call, (holding, signals) in {**operations.COMPARISONS, **operations.UNNAMED}.items():
+        found = ((each in holding, 1 if signals and each is None else flag) for each, flag in known)
+        yield every(call, format.name, None, "1 1", found)
+    for call in operations.EXTREMA:
+        answers = (operations.extremum(format, call, x, y) for x, y in pairs)
+        yield every(call, format.name, None, "1 1", ((encoded(format, x), flags) for x, flags in answers))
+    found = ((operations.total_cmp(format, x, y) <= 0,) for x, y in pairs)
+    yield every("total_order", format.name, None, "1 1", found)
 
 
 def in_another(source, target):
-    """Sums, differences, products and quotients in another format, in each mode."""
-    sum = Checksum()
+    """Sums, differences, products and quotients in another format, of each pair."""
 
     @cache
     def bits_of(value):
         return encoded(target, value)
 
-    for x, y in pairs(source):
-        for mode in Mode:
-            for operation in ("Sum", "Difference", "Product", "Quotient"):
-                value, flags = computed(source, target, operation, mode, (x, y))
-                sum.take(bits_of(value), flags)
-    return sum.sum
+    pairs = list(product(data_of(source), repeat=2))
+    for call, operation in CALLS_TO.items():
+        for mode in MODES:
+            answers = (computed(source, target, operation, mode, pair) for pair in pairs)
+            found = ((bits_of(value), flags) for value, flags in answers)
+            yield every(call, f"{source.name}>{target.name}", mode, "1 1", found)
 
 
 def of_one(format):
-    """Operations on one value, and on a value and a power of two."""
-    sum = Checksum()
-    for bits in range(256):
-        x = decoded(format, bits)
-        exponent, flags = operations.integer_log_b(format, x)
-        sum.take(exponent < 0, flags)
-        sum.take(abs(exponent))
-        sum.take(CLASSES.index(operations.class_of(format, x)))
-        for mode in Mode:
-            sum.take_value(format, operations.log_b(format, x, mode))
-            sum.take_value(format, operations.round_to_integral_in(format, x, mode))
-            number, flags = operations.to_integer(format, "convert_to_signed", x, 6, mode)
-            sum.take(number < 0, flags)
-            sum.take(abs(number))
-            sum.take(*operations.to_integer(format, "convert_to_unsigned_exact", x, 6, mode))
-            for power in range(-20, 21):
-                sum.take_value(format, operations.scale_b(format, x, power, mode))
-    return sum.sum
+    """Operations on each value, and on it and each power of two up to 2^20."""
+    data = data_of(format)
+    found = (operations.integer_log_b(format, x) for x in data)
+    yield every("integer_log_b", format.name, None, 1, found)
+    found = ((CLASSES.index(operations.class_of(format, x)),) for x in data)
+    yield every("class_of", format.name, None, 1, found)
+    for mode in MODES:
+        for call, operation in ("log_b", operations.log_b), ("round_to_integral_in", operations.round_to_integral_in):
+            answers = (operation(format, x, mode) for x in data)
+            yield every(call, format.name, mode, 1, ((encoded(format, x), flags) for x, flags in answers))
+        for call in "convert_to_signed", "convert_to_unsigned_exact":
+            found = (operations.to_integer(format, call, x, WIDTH, mode) for x in data)
+            yield every(call, format.name, mode, f"1 {WIDTH}", found)
+        for power in range(-20, 21):
+            answers = (operations.scale_b(format, x, power, mode) for x in data)
+            found = ((encoded(format, x), flags) for x, flags in answers)
+            yield every("scale_b", format.name, mode, f"1 {power}", found)
 
 
 def main():
-    """Writes the checksums."""
+    """Writes the rows."""
+    print("# All values of the formats of eight bits, and all pairs. Computed by evidence/eight_bits.py.")
     for format in (E5M2, E4M3FN, E4M3FNUZ):
-        print(f"{comparisons(format):#034x}", flush=True)
+        print("\n".join((*comparisons(format), *of_one(format))), flush=True)
     for source, target in (
         (E5M2, E4M3FN),
         (E5M2, BFLOAT),
@@ -116,9 +102,7 @@ def main():
         (E4M3FN, E4M3FNUZ),
         (E4M3FNUZ, E5M2),
     ):
-        print(f"{in_another(source, target):#034x}", flush=True)
-    for format in (E5M2, E4M3FN, E4M3FNUZ):
-        print(f"{of_one(format):#034x}", flush=True)
+        print("\n".join(in_another(source, target)), flush=True)
 
 
 if __name__ == "__main__":

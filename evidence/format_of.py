@@ -1,6 +1,6 @@
-"""Computes crates/layer_tests/src/format_of_rows.rt: operations whose result is of another format.
+"""Computes tests/rows/format_of.tsv: operations whose result is of another format.
 
-    python3 evidence/format_of.py | diff - crates/layer_tests/src/format_of_rows.rt
+    python3 evidence/format_of.py | diff - tests/rows/format_of.tsv
 
 Each exact result is a fraction, which is rounded once to the format of the result. The operands
 are drawn from a seed: most are numbers and midpoints of the format of the result, or next to them
@@ -13,15 +13,7 @@ from exact.bits import decoded, encoded
 from exact.data import Infinite, number
 from exact.format_of import computed
 from exact.formats import FORMATS
-from exact.rounding import Mode
-
-MODES = {
-    Mode.EVEN: "NearestTiesToEven",
-    Mode.UP: "TowardPositive",
-    Mode.DOWN: "TowardNegative",
-    Mode.ZERO: "TowardZero",
-    Mode.AWAY: "NearestTiesToAway",
-}
+from row_files import MODES, hexes, row
 
 PAIRS = (
     ("double", "half"),
@@ -35,7 +27,15 @@ PAIRS = (
     ("bfloat", "half"),
 )
 
-OPERATIONS = {"Sum": 2, "Difference": 2, "Product": 2, "Quotient": 2, "Root": 1, "FusedSum": 3}
+# The operations with the number of their operands and the call.
+OPERATIONS = {
+    "Sum": (2, "add_to"),
+    "Difference": (2, "sub_to"),
+    "Product": (2, "mul_to"),
+    "Quotient": (2, "div_to"),
+    "Root": (1, "sqrt_to"),
+    "FusedSum": (3, "mul_add_to"),
+}
 
 ROWS_OF_EACH = 6
 
@@ -67,47 +67,19 @@ def operand(choices, source, target):
     return encoded(source, x)
 
 
-def line(source, target, operation, mode, bits):
-    """A row."""
-    data = [decoded(source, word) for word in bits]
-    value, status = computed(source, target, operation, mode, data)
-    words = [f"{word:#x}" for word in [*bits, *[0] * (3 - len(bits))]]
-    operands = f"[{', '.join(words)}]"
-    if len(operands) > 60:
-        operands = "\n".join(["[", *(f"            {word}," for word in words), "        ]"])
-    parts = (
-        f"Operation::{operation}",
-        f"Round::{MODES[mode]}",
-        operands,
-        f"{encoded(target, value):#x}",
-        f"{status:#x}",
-    )
-    in_one_line = f"({', '.join(parts)})"
-    if len(in_one_line) <= 60:
-        return f"    {in_one_line},"
-    return "\n".join(["    (", *(f"        {part}," for part in parts), "    ),"])
-
-
 def main():
     choices = Random(2019)
-    print("//! Rows of operations whose result is of another format, computed by", end=" ")
-    print("`evidence/format_of.py`.")
-    print()
-    print("use crate::format_of::{Operation, Row};")
-    print("use apfloat_model::Round;")
+    print("# Operations whose result is of another format. Computed by evidence/format_of.py.")
     for source_name, target_name in PAIRS:
         source, target = FORMATS[source_name], FORMATS[target_name]
-        rows = []
-        for operation, count in OPERATIONS.items():
+        for operation, (count, call) in OPERATIONS.items():
             for place in range(ROWS_OF_EACH):
-                mode = list(MODES)[place % len(MODES)]
+                mode = MODES[place % len(MODES)]
                 bits = [operand(choices, source, target) for _ in range(count)]
-                rows.append(line(source, target, operation, mode, bits))
-        print()
-        name = f"{source_name}_TO_{target_name}".upper()
-        print(f"pub(crate) static {name}: [Row; {len(rows)}] = [")
-        print("\n".join(rows))
-        print("];")
+                data = [decoded(source, word) for word in bits]
+                value, status = computed(source, target, operation, mode, data)
+                kind, result = f"{source_name}>{target_name}", hexes(target, encoded(target, value))
+                print(row(call, kind, mode, hexes(source, *bits), result, status))
 
 
 if __name__ == "__main__":

@@ -1,6 +1,6 @@
-"""Computes crates/layer_tests/src/odd_rows.rt: results rounded to odd, and rounded again.
+"""Computes tests/rows/odd.tsv: results rounded to odd, and rounded again.
 
-    python3 evidence/odd.py | diff - crates/layer_tests/src/odd_rows.rt
+    python3 evidence/odd.py | diff - tests/rows/odd.tsv
 
 Each exact result is a fraction; that of a root is one which compares with all numbers that matter as
 the root does. It is rounded to odd here, and once in each mode to the format of the second rounding by
@@ -17,6 +17,8 @@ from exact.data import Finite, number
 from exact.formats import FORMATS
 from exact.odd import delivered_to_odd
 from exact.rounding import Mode, delivered
+from exact.status import names
+from row_files import hexes, in_each_mode, row
 
 PAIRS = (
     ("half+ieee", "e5m2+ieee"),
@@ -26,6 +28,8 @@ PAIRS = (
 )
 
 OPERATIONS = ("Sum", "Product", "Quotient")
+
+CALLS = {"Sum": "add_odd", "Product": "mul_odd", "Quotient": "div_odd", "Root": "sqrt_odd"}
 
 # Roots are rounded as if they had so many binary places, and a half more if they are inexact.
 ROOT_PLACES = 400
@@ -109,45 +113,33 @@ def radicand(choices, source, target):
             return encoded(source, x)
 
 
-def line(source, target, operation, bits):
-    """A row."""
+def lines(source, target, operation, bits):
+    """The rows of an operation: its result rounded to odd, and that rounded again in each mode."""
     operands = [value_of(source, word) for word in bits]
     exact = root_of(operands[0]) if operation == "Root" else exact_result(operation, *operands)
-    first = to_odd(source, exact)
-    again = [rounded(target, mode, exact) for mode in Mode]
-    answers = [(source, *first), *((target, *answer) for answer in again)]
-    values = ", ".join(f"{encoded(form, value):#x}" for form, value, _ in answers)
-    flags = ", ".join(f"{status:#x}" for _, _, status in answers)
-    return "\n".join([
-        "    (",
-        f"        Operation::{operation},",
-        f"        [{bits[0]:#x}, {bits[1]:#x}],",
-        f"        [{values}],",
-        f"        [{flags}],",
-        "    ),",
-    ])
+    value, status = to_odd(source, exact)
+    first = hexes(source, encoded(source, value))
+    yield row(CALLS[operation], source.name, None, hexes(source, *bits), first, status)
+
+    def again(mode):
+        value, status = rounded(target, mode, exact)
+        return hexes(target, encoded(target, value)), status
+
+    yield from in_each_mode("round_odd_to", f"{source.name}>{target.name}", f"{first} {names(status)}", again)
 
 
 def main():
     choices = Random(754)
     roots = Random(2019)
-    print("//! Results rounded to odd and rounded again, computed by `evidence/odd.py`.")
-    print()
-    print("use crate::odd::{Operation, Row};")
+    print("# Results rounded to odd, and these rounded again to another format. Computed by evidence/odd.py.")
     for source_name, target_name in PAIRS:
         source, target = FORMATS[source_name], FORMATS[target_name]
-        rows = []
         for operation in OPERATIONS:
             for _ in range(ROWS_OF_EACH):
                 bits = operands(choices, source, target, operation)
-                rows.append(line(source, target, operation, bits))
+                print("\n".join(lines(source, target, operation, bits)))
         for _ in range(ROWS_OF_EACH):
-            rows.append(line(source, target, "Root", [radicand(roots, source, target), 0]))
-        name = f"{source_name.split('+')[0]}_TO_{target_name.split('+')[0]}".upper()
-        print()
-        print(f"pub(crate) static {name}: [Row; {len(rows)}] = [")
-        print("\n".join(rows))
-        print("];")
+            print("\n".join(lines(source, target, "Root", [radicand(roots, source, target)])))
 
 
 if __name__ == "__main__":

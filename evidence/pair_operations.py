@@ -1,7 +1,7 @@
-"""Computes crates/layer_tests/src/pair_rows.rt: pairs of doubles to and from other formats, fused
-sums of pairs, and their shortest decimals.
+"""Computes tests/rows/pair_operations.tsv: pairs of doubles to and from other formats, fused sums of
+pairs, and their shortest decimals, which are read back.
 
-    python3 evidence/pair_operations.py | diff - crates/layer_tests/src/pair_rows.rt
+    python3 evidence/pair_operations.py | diff - tests/rows/pair_operations.tsv
 
 The parts of a pair are added as fractions, and the sum is rounded once. A wide result is split into
 the nearest double and the rest. Some operands are chosen, and the others are drawn from a seed.
@@ -12,11 +12,12 @@ from random import Random
 from exact.bits import decoded, encoded
 from exact.conversions import convert
 from exact.data import Infinite, is_nan, is_nonzero_number
-from exact.decimals import shortest
+from exact.decimals import shortest, spelled
 from exact.formats import DOUBLE, FALLBACK, FORMATS
 from exact.pairs import Pair, split
 from exact.rounding import Mode
-from format_of import MODES, computed
+from format_of import computed
+from row_files import MODES, hexes, row
 
 HALF_OF_PAIR = (1 << 64) - 1
 
@@ -157,20 +158,9 @@ def drawn(choices):
     return pair(high | (signs & 1) << 63, low | (signs >> 1) << 63)
 
 
-def shown(*columns):
-    """A row in the form that the formatter gives it."""
-    in_one_line = f"({', '.join(column for column in columns)})"
-    if len(in_one_line) <= 60 and "\n" not in in_one_line:
-        return f"    {in_one_line},"
-    return "\n".join(["    (", *(f"        {column}," for column in columns), "    ),"])
-
-
-def table(name, kind, rows):
-    """A static table."""
-    print()
-    print(f"pub(crate) static {name}: [{kind}; {len(rows)}] = [")
-    print("\n".join(rows))
-    print("];")
+def written(patterns):
+    """The bits of pairs as words."""
+    return " ".join(f"{bits:032x}" for bits in patterns)
 
 
 def modes():
@@ -179,36 +169,27 @@ def modes():
         yield from MODES
 
 
-def main():
-    choices = Random(106)
-    print("//! Rows of pairs of doubles, computed by `evidence/pair_operations.py`.")
-    print()
-    print("use crate::pairs::{Conversion, Fused, Written};")
-    print("use apfloat_decimals::Decimal;")
-    print("use apfloat_model::Round;")
-
-    turn = modes()
+def conversions(choices, turn):
+    """Pairs in other formats, and values of these as pairs."""
     for name, midpoints in MIDPOINTS.items():
-        rows = []
+        target = FORMATS[name]
         operands = [*SPECIAL, *(bits for bits in midpoints for _ in MODES)]
         operands += [drawn(choices) for _ in range(6)]
         for bits in operands:
             mode = next(turn)
-            value, status = to_format(FORMATS[name], mode, parts(bits))
-            value = encoded(FORMATS[name], value)
-            rows.append(shown(f"Round::{MODES[mode]}", f"{bits:#x}", f"{value:#x}", f"{status:#x}"))
-        table(f"TO_{name.upper()}", "Conversion", rows)
-
+            value, status = to_format(target, mode, parts(bits))
+            yield row("convert_r", f"dd>{name}", mode, written([bits]), hexes(target, encoded(target, value)), status)
     for name, patterns in SOURCES.items():
-        rows = []
+        source = FORMATS[name]
         for bits in patterns:
             for mode in MODES if name == "quad" else [next(turn)]:
-                value, status = convert(FORMATS[name], FALLBACK, decoded(FORMATS[name], bits), mode)[:2]
-                answer = bits_of(split(value))
-                rows.append(shown(f"Round::{MODES[mode]}", f"{bits:#x}", f"{answer:#x}", f"{status:#x}"))
-        table(f"FROM_{name.upper()}", "Conversion", rows)
+                value, status = convert(source, FALLBACK, decoded(source, bits), mode)[:2]
+                answer = written([bits_of(split(value))])
+                yield row("convert_r", f"{name}>dd", mode, hexes(source, bits), answer, status)
 
-    rows = []
+
+def fused_sums(choices, turn):
+    """Fused sums: of special pairs, of others, and some that cancel."""
     triples = [[choices.choice(SPECIAL) for _ in range(3)] for _ in range(20)]
     triples += [[drawn(choices) for _ in range(3)] for _ in range(20)]
     for _ in range(10):
@@ -218,24 +199,27 @@ def main():
     for triple in triples:
         mode = next(turn)
         value, status = fused(mode, [parts(bits) for bits in triple])
-        words = [f"{bits:#x}" for bits in triple]
-        operands = f"[{', '.join(words)}]"
-        if len(operands) > 62:
-            operands = "\n".join(["[", *(f"            {word}," for word in words), "        ]"])
-        rows.append(shown(f"Round::{MODES[mode]}", operands, f"{bits_of(value):#x}", f"{status:#x}"))
-    table("FUSED", "Fused", rows)
+        yield row("mul_add_r", "dd", mode, written(triple), written([bits_of(value)]), status)
 
-    rows = []
+
+def text_of(negative, digits, exponent):
+    """A decimal as it is written."""
+    return "-" * negative + spelled(digits, exponent)
+
+
+def decimals():
+    """Shortest decimals."""
     for bits in WRITTEN:
         decimal = decimal_of(parts(bits))
-        if decimal is None:
-            rows.append(shown(f"{bits:#x}", "None"))
-            continue
-        negative, digits, exponent = decimal
-        fields = (f"negative: {str(negative).lower()}", f"digits: {digits}", f"exponent: {exponent}")
-        lines = ["Some(Decimal {", *(f"            {field}," for field in fields), "        })"]
-        rows.append(shown(f"{bits:#x}", "\n".join(lines)))
-    table("WRITTEN", "Written", rows)
+        yield row("shortest", "dd", None, written([bits]), "None" if decimal is None else text_of(*decimal))
+        if decimal is not None:
+            yield row("read_decimal", "dd", Mode.EVEN, text_of(*decimal), written([bits]))
+
+
+def main():
+    choices, turn = Random(106), modes()
+    print("# Pairs of doubles to and from formats, fused, and as decimals. Computed by evidence/pair_operations.py.")
+    print("\n".join((*conversions(choices, turn), *fused_sums(choices, turn), *decimals())))
 
 
 if __name__ == "__main__":

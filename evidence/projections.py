@@ -1,6 +1,7 @@
-"""Formats of IEEE P3109: their values, their order, their neighbours and conversions into them.
+"""Computes tests/rows/projections.tsv: formats of IEEE P3109, their values, order and neighbours, and conversions into
+them.
 
-    python3 evidence/projections.py | diff - crates/layer_tests/src/projection_rows.rt
+    python3 evidence/projections.py | diff - tests/rows/projections.tsv
 
 A code without a sign is decoded by its fields, with the bias 2^(E-1) of an exponent of E bits. So 1 is in
 the middle of these codes, for a width of 8 at 0x40 with a sign and at 0x80 without one. That is checked for
@@ -19,10 +20,7 @@ from exact.data import Finite, Infinite, NaN, is_nan, is_signaling
 from exact.formats import HALF, Format, NonFinite
 from exact.rounding import Mode, overflows
 from exact.status import INEXACT, INVALID_OP, OK, OVERFLOW, UNDERFLOW
-
-MODES = (Mode.EVEN, Mode.UP, Mode.DOWN, Mode.ZERO, Mode.AWAY)
-
-FACTOR = 1000003
+from row_files import MODES, every
 
 # What codes without a number mean.
 INFINITY, NEGATIVE_INFINITY, NOT_A_NUMBER = "inf", "-inf", "nan"
@@ -223,42 +221,20 @@ def check_published():
 # ---- rows
 
 
-def extended_by(checksum, word):
-    """The checksum with one more number."""
-    return (checksum * FACTOR + word) % 2**64
-
-
-def word_of(value):
-    """The first 24 bits of the double that a value is; the others are zeros."""
+def single_of(value):
+    """The bits of the single that a value is."""
     if value == NOT_A_NUMBER:
-        return 0x7FF800
+        return 0x7FC00000
     if value in (INFINITY, NEGATIVE_INFINITY):
-        return 0x7FF000 if value == INFINITY else 0xFFF000
+        return 0x7F800000 if value == INFINITY else 0xFF800000
     exact = float(value)
     assert Fraction(*exact.as_integer_ratio()) == value
-    (bits,) = unpack("<Q", pack("<d", exact))
-    assert bits % (1 << 40) == 0
-    return bits >> 40
+    (bits,) = unpack("<I", pack("<f", exact))
+    assert unpack("<f", pack("<I", bits))[0] == exact
+    return bits
 
 
-def values_checksum(form):
-    """All codes of a format."""
-    checksum = 0
-    for code in range(1 << form.bits):
-        checksum = extended_by(checksum, word_of(form.value(code)))
-    return checksum
-
-
-def conversions_checksum(form, source, step, mode):
-    """Every code of the source that is a multiple of the step, stored."""
-    checksum = 0
-    for bits in range(0, 1 << source.bits, step):
-        code, status, loses = form.store(source, decoded(source, bits), mode)
-        checksum = extended_by(checksum, code * 64 + status * 2 + loses)
-    return checksum
-
-
-# what `compare` gives, in the order of these numbers
+# what `partial_cmp` gives, in the order of these numbers
 UNORDERED, LESS, EQUAL, GREATER = range(4)
 
 
@@ -284,8 +260,8 @@ def class_number(value):
     return 2 if value == 0 else 3
 
 
-def order_checksum(form):
-    """Of each code the next code up and down, the category, and the order of its value and that of another code.
+def neighbours(form, step):
+    """The code of the next value up or down for each code.
 
     The neighbours are those in the sorted list of all values. Past its ends is the NaN, but for an infinity, which
     stays.
@@ -293,22 +269,18 @@ def order_checksum(form):
     codes = [code for code in range(1 << form.bits) if code != form.nan_code]
     codes.sort(key=lambda code: sort_key(form.value(code)))
     place = {code: i for i, code in enumerate(codes)}
-
-    def neighbour(code, step):
-        if code == form.nan_code:
-            return code
-        i = place[code] + step
-        if 0 <= i < len(codes):
-            return codes[i]
-        return code if form.value(code) in (INFINITY, NEGATIVE_INFINITY) else form.nan_code
-
-    checksum = 0
     for code in range(1 << form.bits):
-        value, other = form.value(code), form.value((7 * code + 3) % (1 << form.bits))
-        facts = class_number(value) * 4 + ordering(value, other)
-        word = (neighbour(code, 1) << 32) + (neighbour(code, -1) << 16) + facts
-        checksum = extended_by(checksum, word)
-    return checksum
+        i = place[code] + step if code in place else -1
+        if 0 <= i < len(codes):
+            yield (codes[i],)
+        else:
+            yield (code if form.value(code) in (INFINITY, NEGATIVE_INFINITY) else form.nan_code,)
+
+
+def orders(form, step):
+    """The order of each two values whose codes are multiples of the step."""
+    values = [form.value(code) for code in range(0, 1 << form.bits, step)]
+    return ((ordering(x, y),) for x in values for y in values)
 
 
 # The formats that have a name in the crate, and those that its tests declare.
@@ -324,26 +296,18 @@ TESTED = (
 )
 
 
-def lines():
-    """The file."""
-    names = [f"`{form.name}`" for form in TESTED]
-    yield "//! Checksums of formats of IEEE P3109, computed by `evidence/projections.py`:"
-    yield f"//! {', '.join(names[:4])},"
-    yield f"//! {', '.join(names[4:])}."
-    yield (
-        "//! Of each: all values, by the first 24 bits of the doubles that they are; "
-        "the neighbours, the category and the"
-    )
-    yield "//! order of each value; every 61st half in the five modes."
-    yield ""
-    yield f"pub(crate) static CHECKSUMS: [[u64; 7]; {len(TESTED)}] = ["
-    for form in TESTED:
-        yield "    ["
-        sums = [values_checksum(form), order_checksum(form)]
-        sums += [conversions_checksum(form, HALF, 61, mode) for mode in MODES]
-        yield from (f"        0x{checksum:x}," for checksum in sums)
-        yield "    ],"
-    yield "];"
+def rows(form):
+    """The rows of a format: its values, order and neighbours, and every 61st half in each mode."""
+    values = [form.value(code) for code in range(1 << form.bits)]
+    step = 1 if form.bits <= 8 else 61
+    yield every("convert_r", f"{form.name}>single", MODES[0], 1, ((single_of(value),) for value in values))
+    yield every("category", form.name, None, 1, ((class_number(value),) for value in values))
+    yield every("next_up", form.name, None, 1, neighbours(form, 1))
+    yield every("next_down", form.name, None, 1, neighbours(form, -1))
+    yield every("partial_cmp", form.name, None, f"{step} {step}", orders(form, step))
+    for mode in MODES:
+        found = (form.store(HALF, decoded(HALF, bits), mode) for bits in range(0, 65536, 61))
+        yield every("convert_r", f"half>{form.name}", mode, 61, found)
 
 
 if __name__ == "__main__":
@@ -351,4 +315,6 @@ if __name__ == "__main__":
     for known in family(3, 8):
         check_values(known)
         check_model(known)
-    print("\n".join(lines()))
+    print("# Formats of IEEE P3109. Computed by evidence/projections.py.")
+    for known in TESTED:
+        print("\n".join(rows(known)))

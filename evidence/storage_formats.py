@@ -1,6 +1,6 @@
-"""Computes crates/layer_tests/src/stored_rows.rt: conversions into storage formats and out of them.
+"""Computes tests/rows/storage_formats.tsv: conversions into storage formats and out of them.
 
-    python3 evidence/storage_formats.py | diff - crates/layer_tests/src/stored_rows.rt
+    python3 evidence/storage_formats.py | diff - tests/rows/storage_formats.tsv
 
 Each code is decoded to a fraction by its fields. A value is looked up between its neighbours in the list
 of these fractions, which goes on past the largest number, since a pick there decides the overflow. What comes
@@ -16,13 +16,10 @@ from struct import pack, unpack
 from exact.bits import decoded, encoded
 from exact.conversions import convert
 from exact.data import Finite, Infinite, is_nan, is_signaling, qnan
-from exact.formats import E4M3FN, E5M2, HALF, SINGLE
+from exact.formats import BFLOAT, E4M3FN, E5M2, HALF, SINGLE
 from exact.rounding import Mode, delivered, overflows
 from exact.status import INEXACT, INVALID_OP, OK, OVERFLOW, UNDERFLOW
-
-MODES = (Mode.EVEN, Mode.UP, Mode.DOWN, Mode.ZERO, Mode.AWAY)
-
-FACTOR = 1000003
+from row_files import MODES, every, hexes, in_each_mode, loses
 
 
 @dataclass(frozen=True)
@@ -226,76 +223,49 @@ def singles_of(form):
     return found + ([0x80000000, 0xBF800000, 0xFF800000] if signs == (0,) else [])
 
 
-def rows_of(form):
-    """The rows of a format."""
-    for bits in singles_of(form):
-        x = decoded(SINGLE, bits)
-        answers = [form.store(SINGLE, x, mode) for mode in MODES]
-        assert all(a[2] == answers[0][2] for a in answers)
-        codes = ", ".join(str(a[0]) for a in answers)
-        flags = ", ".join(str(a[1]) for a in answers)
-        parts = (f"0x{bits:x}", f"[{codes}]", f"[{flags}]", str(answers[0][2]).lower())
-        yield laid_out("(", parts, ")")
+def stored(form, source, bits):
+    """The rows of a value that is stored in each mode."""
 
+    def answer(mode):
+        code, status, is_lost = form.store(source, decoded(source, bits), mode)
+        return hexes(form, code), status, loses(is_lost)
 
-def laid_out(start, parts, end):
-    """An entry of a table, in a line if that is short."""
-    if len(", ".join(parts)) <= 60:
-        return f"    {start}{', '.join(parts)}{end},"
-    return "\n".join([f"    {start}", *(f"        {part}," for part in parts), f"    {end},"])
+    return in_each_mode("convert_r", f"{source.name}>{form.name.lower()}", hexes(source, bits), answer)
 
 
 # ---- checksums of all values
 
 
-def extended(checksum, bits, status, loses):
-    """The checksum with one more result."""
-    return (checksum * FACTOR + bits * 64 + status * 2 + loses) % 2**64
-
-
 def into(source, form, mode, step):
-    """Each code of the source that is a multiple of the step, stored."""
-    checksum = 0
-    for bits in range(0, 1 << source.bits, step):
-        checksum = extended(checksum, *form.store(source, decoded(source, bits), mode))
-    return checksum
+    """The results for each code of the source that is a multiple of the step, stored."""
+    return (form.store(source, decoded(source, bits), mode) for bits in range(0, 1 << source.bits, step))
 
 
 def out_of(form, target, mode):
-    """Each code of the format, converted."""
-    checksum = 0
+    """The results for each code of the format, converted."""
     for code in range(1 << form.bits):
-        value, status, loses = form.load(target, code, mode)
-        checksum = extended(checksum, encoded(target, value), status, loses)
-    return checksum
+        value, status, is_lost = form.load(target, code, mode)
+        yield encoded(target, value), status, is_lost
 
 
-def table(name, kind, lines):
-    """A static table."""
-    lines = list(lines)
-    print(f"\npub(crate) static {name}: [{kind}; {len(lines)}] = [")
-    print("\n".join(lines))
-    print("];")
+def checksums(form):
+    """The rows of all values."""
+    name = form.name.lower()
+    for source, step in ((E4M3FN, 1), (E5M2, 1), (HALF, 7), (BFLOAT, 7)):
+        for mode in MODES:
+            yield every("convert_r", f"{source.name}>{name}", mode, step, into(source, form, mode, step))
+    for target in (HALF, SINGLE, E4M3FN, E5M2):
+        for mode in MODES:
+            yield every("convert_r", f"{name}>{target.name}", mode, 1, out_of(form, target, mode))
 
 
 def main():
     """Prints the file."""
-    print("//! Conversions into storage formats and out of them, computed by `evidence/storage_formats.py`.")
-    print("\nuse crate::stored_values::{Checksums, Row};")
+    print("# Conversions into storage formats and out of them. Computed by evidence/storage_formats.py.")
     for form in FORMATS:
-        table(form.name, "Row", rows_of(form))
-    for form in FORMATS:
-        lines = []
-        for source, step in ((E4M3FN, 1), (E5M2, 1), (HALF, 7)):
-            sums = [f"0x{into(source, form, mode, step):x}" for mode in MODES]
-            lines.append(laid_out("[", sums, "]"))
-        table(f"INTO_{form.name}", "Checksums", lines)
-    for form in FORMATS:
-        lines = []
-        for target in (HALF, SINGLE, E4M3FN, E5M2):
-            sums = [f"0x{out_of(form, target, mode):x}" for mode in MODES]
-            lines.append(laid_out("[", sums, "]"))
-        table(f"OUT_OF_{form.name}", "Checksums", lines)
+        for bits in singles_of(form):
+            print("\n".join(stored(form, SINGLE, bits)))
+        print("\n".join(checksums(form)))
 
 
 if __name__ == "__main__":

@@ -13,7 +13,8 @@ from struct import pack, unpack
 from exact.formats import DOUBLE, SINGLE
 from exact.bits import decoded
 from exact.data import Finite
-from storage_formats import FORMATS, MODES, extended
+from row_files import MODES, extended
+from storage_formats import FORMATS
 
 ELEMENTS = FORMATS[:3]
 

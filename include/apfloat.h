@@ -125,6 +125,13 @@ typedef struct apfloat_answer {
 #define APFLOAT_WIDE_OPERAND UINT32_C(9)      /* bits at or above the width of its format are set */
 #define APFLOAT_LACKING_OPERATION UINT32_C(10) /* the machine does not have the operation */
 
+/* What these functions say of results holds in all formats but APFLOAT_DOUBLE_PAIR. There sums, differences and
+ * products are chains of operations on doubles, each of which rounds. Signs, orders, classes, exponents, scaling and
+ * fractions are by the parts. Everything else is computed in a wide format of 106 binary digits, to which the sum of the
+ * parts of an operand is first rounded to nearest, and a pair is its result split into two doubles. So for the pair
+ * 1 + 2^-200 the root is 1 in every mode with no flag, the integer is 1 with `number` 1, and the next value up is the
+ * one above 1 in the wide format. */
+
 /* Operations on two values, rounded once: x + y, x - y, x * y, x / y. */
 uint32_t apfloat_add(uint32_t format, uint32_t mode, apfloat_halves x, apfloat_halves y, apfloat_answer *answer);
 uint32_t apfloat_sub(uint32_t format, uint32_t mode, apfloat_halves x, apfloat_halves y, apfloat_answer *answer);
@@ -136,7 +143,7 @@ uint32_t apfloat_fma(uint32_t format, uint32_t mode, apfloat_halves x, apfloat_h
                      apfloat_answer *answer);
 
 /* The square root of x, rounded once (IEEE 754-2019 5.4.1): -0 gives -0, and a value below zero a NaN with
- * APFLOAT_INVALID_OP. That of a pair of doubles is rounded to 106 binary digits, and then split into two doubles. */
+ * APFLOAT_INVALID_OP. */
 uint32_t apfloat_sqrt(uint32_t format, uint32_t mode, apfloat_halves x, apfloat_answer *answer);
 
 /* The remainder of x by y: with the quotient rounded to the nearest integer, like remainder() in C, and with the

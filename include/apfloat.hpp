@@ -357,8 +357,9 @@ struct tf32 : detail::binary<tf32, APFLOAT_TF32, std::uint32_t, 19, 11, -126, 12
                                                                0x3fe00, 0x3fd00, 0x1d400, 0x1f800};
 };
 
-/// Pairs of doubles, IBM's extended double. The library for C has no fused sum, no conversion to or from a format, and
-/// no shortest decimal of them, and what std::numeric_limits says of them is not all that it says of the other formats.
+/// Pairs of doubles, IBM's extended double, whose results are not rounded once (apfloat.h says how they are made). The
+/// library for C has no fused sum, no conversion to or from a format, and no shortest decimal of them, and what
+/// std::numeric_limits says of them is not all that it says of the other formats.
 struct double_pair : detail::binary<double_pair, APFLOAT_DOUBLE_PAIR, bits128, 128, 106, -969, 1023> {
     static constexpr bool is_pair = true, has_ieee_flags = false;
     static constexpr detail::constants<bits_type> constants = {

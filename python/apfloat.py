@@ -528,10 +528,9 @@ class Format:
         >>> e4m3fn.array([float('-inf'), float('nan')], saturate='finite')
         e4m3fn.array(['-448.0', 'nan'])
 
-        The elements of a numpy array are float16, float32, float64, a type of ml_dtypes or integers with a sign. Those
-        that are of the format are taken as they are, without counts. Integers without a sign, uint16 for `bfloat` and
-        uint8 for the formats of 8 bits, are the bits of its values. Of other buffers, the bytes are those of the
-        values:
+        The elements of a numpy array are float16, float32, float64, a type of ml_dtypes or integers. Those that are of
+        the format are taken as they are, without counts. Integers are numbers: `from_bits` takes the bits of values. Of
+        other buffers, the bytes are those of the values:
 
         >>> half.array(bytes([0x00, 0x3c]))
         half.array(['1.0'])
@@ -658,8 +657,8 @@ class StorageFormat:
         >>> xs.counts['inexact'], xs.counts['overflow']
         (2, 1)
 
-        Of bytes, and of a numpy array of uint8, the elements are the bits of values, and those of a type of ml_dtypes
-        with the format's name are taken as they are.
+        Of bytes, the elements are the bits of values, and those of a type of ml_dtypes with the format's name are taken
+        as they are. Integers of numpy are numbers: `from_bits` takes the bits of values.
         """
         if isinstance(of, (bytes, bytearray, memoryview)):
             return StoredArray(self, bytes(of))
@@ -667,8 +666,6 @@ class StorageFormat:
             stored = _stored_of(of.dtype)
             if stored:
                 of = StoredArray(stored, of.tobytes(), shape=of.shape)
-            elif of.dtype == 'uint8':
-                return self.from_bits(of)
             else:
                 of = _of_numpy(of, quad)
         if isinstance(of, StoredArray):
@@ -686,8 +683,15 @@ class StorageFormat:
 
 # ---- numpy
 
-# The numpy elements that values of a format are, by its code: numbers, or their bits.
-_ELEMENTS = {1: 'f2', 2: 'f4', 3: 'f8', 5: 'u2', 6: 'u1', 7: 'u1', 8: 'u1', 16: 'u1', 17: 'u1', 18: 'u1', 19: 'u4'}
+# The elements of the types that numpy and ml_dtypes have for formats, by a format's code: numbers, or their bits.
+_ELEMENTS = {1: 'f2', 2: 'f4', 3: 'f8', 5: 'u2', 6: 'u1', 7: 'u1', 8: 'u1', 16: 'u1', 17: 'u1', 18: 'u1'}
+
+
+def _type_of_numbers(format: Format | StorageFormat) -> str:
+    """The narrowest of float16, float32 and float64 that has every number of the format; float64 if none has."""
+    if format in (double, quad, x87, double_pair):
+        return 'float64'
+    return 'float32' if format in (single, bfloat, tf32, float8_e8m0fnu) else 'float16'
 
 
 def _format_of(dtype: Any) -> Format | None:
@@ -705,21 +709,18 @@ def _stored_of(dtype: Any) -> StorageFormat | None:
 
 
 def _of_numpy(of: Any, format: Format) -> Array:
-    """The values of a numpy array: in the format, if they or their bits are of it, or else in that of its type.
+    """The values of a numpy array, in the format of its type, or the given one if its values are the same.
 
-    Integers with a sign are values of `quad`, which has all of 64 bits.
+    Integers are values of `quad`, which has all of 64 bits.
     """
-    if of.dtype.kind == 'i':
+    if of.dtype.kind in 'iu':
         return Array(quad, quad.array(of.tolist())._data, shape=of.shape)
     source = _format_of(of.dtype)
-    elements = _ELEMENTS.get((source or format).code & _FORMAT_BITS, '')
-    if source is None and (elements[:1] != 'u' or of.dtype.newbyteorder('<').str[1:] != elements):
-        raise TypeError(f'elements of {of.dtype} are no values of {format}')
     if source is None:
-        format._check_width(of)
-    is_number = elements[:1] == 'f' or source is None
-    data = (of.astype('<' + elements, copy=False) if is_number else of).tobytes()
-    return Array(format if source is None or source is format._plain else source, data, shape=of.shape)
+        raise TypeError(f'elements of {of.dtype} are no values of {format}')
+    elements = _ELEMENTS[source.code]
+    data = (of.astype('<' + elements, copy=False) if elements[0] == 'f' else of).tobytes()
+    return Array(format if source is format._plain else source, data, shape=of.shape)
 
 
 def _plain_number(of: Any) -> Any:
@@ -1710,19 +1711,13 @@ class Array(_Elements, _Arithmetic[Any]):
     def __array__(self, dtype: Any = None, copy: bool | None = None) -> Any:
         """The values for numpy, in the shape of the array.
 
-        With a type of numbers, such as numpy.float32, they are the numbers: a ValueError says how many of them the
-        type does not have, if there are such, and `astype` rounds them. The types of ml_dtypes are such types too, and
-        with `object` the elements are values.
-
-        Without a type they are numbers in `half`, `single` and `double`. In all other formats they are `bits`, and in
-        those of more than 64 bits the bytes of each value, since numpy has no such numbers.
+        They are the numbers, in the type asked for: a ValueError says how many of them it does not have, if there are
+        such, and `astype` rounds them. The types of ml_dtypes are such types too, and with `object` the elements are
+        values. Without a type it is the narrowest of float16, float32 and float64 that has all numbers of the format,
+        and float64 for `quad`, `x87` and `double_pair`, which have more. The codes are `bits`.
         """
         import numpy
-        if dtype is None:
-            elements = _ELEMENTS.get(self.format.code & _FORMAT_BITS, f'V{self._width}')
-            held = numpy.frombuffer(self._data, '<' + elements if elements[0] != 'V' else elements)
-            return held.reshape(self.shape).copy() if copy else held.reshape(self.shape)
-        wanted = numpy.dtype(dtype)
+        wanted = numpy.dtype(_type_of_numbers(self.format._plain) if dtype is None else dtype)
         if wanted == object:
             made = numpy.empty(self.size, object)
             made[:] = list(map(self._element, self._items()))
@@ -1969,15 +1964,15 @@ class StoredArray(_Elements):
     def __array__(self, dtype: Any = None, copy: bool | None = None) -> Any:
         """The values for numpy, in the shape of the array.
 
-        With the type of ml_dtypes that has the format's name they are its elements, with any other type of numbers they
-        are the numbers, as those of an `Array`, and without a type they are `bits`.
+        With the type of ml_dtypes that has the format's name they are its elements, and otherwise the numbers, as those
+        of an `Array`. The codes are `bits`.
         """
         import numpy
-        if dtype is None:
-            return self.bits.copy() if copy else self.bits
-        wanted = numpy.dtype(dtype)
+        wanted = numpy.dtype(_type_of_numbers(self.format) if dtype is None else dtype)
         if wanted.name == self.format.name:
             return numpy.frombuffer(bytearray(self._data), 'u1').reshape(self.shape).view(wanted)
+        if copy is False:
+            raise ValueError(f'values of {self.format} become {wanted} by a copy')
         with Context():
             numbers = self.to(single)
         return numpy.asarray(numbers, wanted)
@@ -2132,11 +2127,13 @@ class mx:
         """The values of blocks: each code times the scale of its block, rounded once to the format, `single` if none is
         given, in the mode of the context.
 
-        Scales are an array of `float8_e8m0fnu`, or their bytes, and codes an array of an element format.
+        Scales are an array of `float8_e8m0fnu`, or their codes as bytes or a numpy array of uint8, and codes an array of
+        an element format.
         """
         target = single if format is None else format
         elements = _element_of(codes.format)
-        by = bytes(scales if isinstance(scales, (bytes, bytearray)) else float8_e8m0fnu.array(scales))
+        are_codes = isinstance(scales, (bytes, bytearray)) or getattr(scales, 'dtype', None) == 'uint8'
+        by = bytes(scales if are_codes else float8_e8m0fnu.array(scales))
         count = math.prod(_blocked(codes.shape, block))
         if len(by) != count:
             raise ValueError(f'{len(by)} scales for {count} blocks')

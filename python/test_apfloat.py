@@ -10,6 +10,7 @@ import decimal
 import fractions
 import functools
 import hashlib
+import io
 import itertools
 import math
 import operator
@@ -1013,16 +1014,27 @@ class StoredTests(unittest.TestCase):
     def test_numpy(self):
         tensor = numpy.array([[0.7, -5], [1000, -0.0]], numpy.float32)
         codes = apfloat.float4_e2m1fn.array(tensor, saturate=True)
-        self.assertEqual(numpy.asarray(codes).dtype, numpy.uint8)
-        self.assertEqual(numpy.asarray(codes).tolist(), [[1, 14], [7, 8]])
-        self.assertEqual(numpy.asarray(codes, numpy.float32).tolist(), [[0.5, -4], [6, 0]])
-        self.assertEqual(bytes(apfloat.float4_e2m1fn.array(codes.bits)), bytes(codes))
+        self.assertEqual(codes.bits.dtype, numpy.uint8)
+        self.assertEqual(codes.bits.tolist(), [[1, 14], [7, 8]])
+        self.assertEqual(numpy.asarray(codes).dtype, numpy.float16)
+        for dtype in None, numpy.float32:
+            self.assertEqual(numpy.asarray(codes, dtype).tolist(), [[0.5, -4], [6, 0]])
+        self.assertEqual(numpy.sum(codes), 2.5)
         self.assertEqual(bytes(apfloat.float4_e2m1fn.from_bits(codes.bits)), bytes(codes))
         with self.assertRaises(ValueError):
-            apfloat.float4_e2m1fn.array(numpy.array([16], numpy.uint8))
-        with self.assertRaises(TypeError):
-            apfloat.float4_e2m1fn.array(numpy.array([1], numpy.uint16))
+            apfloat.float4_e2m1fn.from_bits(numpy.array([16], numpy.uint8))
+        for dtype in numpy.uint8, numpy.uint16, numpy.int64:
+            self.assertEqual(bytes(apfloat.float4_e2m1fn.array(numpy.array([1, 6, 16], dtype))), bytes([2, 7, 7]))
         self.assertEqual(bytes(apfloat.float8_e8m0fnu.array(numpy.arange(1, 5))), bytes([127, 128, 128, 129]))
+
+    @unittest.skipUnless(numpy, 'there is no numpy')
+    def test_every_code_in_numpy(self):
+        for format in self.STORED:
+            every = format.from_bits(range(1 << format.width))
+            numbers = numpy.asarray(every)
+            self.assertEqual(numbers.dtype, numpy.float32 if format is apfloat.float8_e8m0fnu else numpy.float16)
+            for number, wanted in zip(numbers.tolist(), every.to(apfloat.single)):
+                self.assertEqual(str(number), str(float(wanted)))
 
     @unittest.skipUnless(numpy and ml_dtypes, 'there is no ml_dtypes')
     def test_ml_dtypes(self):
@@ -1220,9 +1232,36 @@ class NumpyTests(unittest.TestCase):
             self.assertEqual(context.flags, Flags.INEXACT | Flags.UNDERFLOW | Flags.OVERFLOW)
             self.assertEqual(codes.bits.dtype, numpy.uint8)
             self.assertEqual(codes.bits.shape, (2, 4))
-            self.assertEqual(numpy.asarray(codes).tolist(), codes.bits.tolist())
-            self.assertEqual(bytes(apfloat.e4m3fn.array(codes.bits)), bytes(codes))
+            self.assertEqual(numpy.asarray(codes).tolist(), wanted)
             self.assertEqual(bytes(apfloat.e4m3fn.from_bits(codes.bits)), bytes(codes))
+
+    def test_functions_take_numbers(self):
+        xs = apfloat.e4m3fn.array([[0.5, -1, 2], [3, -4, 0.25]])
+        self.assertEqual((numpy.mean(xs), numpy.argmax(xs)), (0.125, 3))
+        self.assertAlmostEqual(float(numpy.linalg.norm(xs)), math.sqrt(30.3125), 1)
+        self.assertEqual(numpy.concatenate([xs, xs]).tolist(), numpy.asarray(xs).tolist() * 2)
+        self.assertEqual(numpy.where(xs > 0, xs, 0).tolist(), [[0.5, 0, 2], [3, 0, 0.25]])
+        saved = io.BytesIO()
+        numpy.save(saved, xs)
+        saved.seek(0)
+        self.assertEqual(numpy.load(saved).tolist(), [[0.5, -1, 2], [3, -4, 0.25]])
+
+    def test_types_of_numbers(self):
+        for format in SMALL:
+            every = format.from_bits(numpy.arange(256, dtype=numpy.uint8))
+            numbers = numpy.asarray(every)
+            self.assertEqual(numbers.dtype, numpy.float16)
+            self.assertEqual([str(number) for number in numbers.tolist()], [str(float(value)) for value in every])
+        types = {apfloat.half: 'f2', apfloat.half.ieee: 'f2', apfloat.single: 'f4', apfloat.bfloat: 'f4',
+                 apfloat.tf32: 'f4', apfloat.double: 'f8', apfloat.double.ieee.before: 'f8', apfloat.x87: 'f8',
+                 apfloat.quad: 'f8', apfloat.double_pair: 'f8'}
+        for format, dtype in types.items():
+            numbers = numpy.asarray(format.array(['-inf', '-0.0', '1.5']))
+            self.assertEqual(numbers.dtype, dtype)
+            self.assertEqual([str(number) for number in numbers.tolist()], ['-inf', '-0.0', '1.5'])
+        for format in apfloat.x87, apfloat.quad, apfloat.double_pair:
+            with self.assertRaisesRegex(ValueError, '1 of 2 values are no values of double'):
+                numpy.asarray(format.array(['0.5', '0.1']))
 
     def test_numbers(self):
         for format, dtype in (apfloat.half, 'f2'), (apfloat.single, 'f4'), (apfloat.double, 'f8'):
@@ -1261,11 +1300,12 @@ class NumpyTests(unittest.TestCase):
         xs = apfloat.half.array(numpy.arange(6).reshape(2, 3))
         self.assertEqual(integers(xs), [[0, 1, 2], [3, 4, 5]])
         self.assertEqual(number_of(apfloat.half.array(numpy.array([2049]))[0]), 2048)
-        for wrong in numpy.array([1], numpy.uint16), numpy.array(['a']), numpy.array([1j]), numpy.array([True]):
+        for dtype in 'u1', 'u2', 'u4', 'u8', 'i8':
+            for format in apfloat.half, apfloat.bfloat, apfloat.e4m3fn:
+                self.assertEqual(integers(format.array(numpy.array([1, 60, 128], dtype))), [1, 60, 128])
+        for wrong in numpy.array(['a']), numpy.array([1j]), numpy.array([True]):
             with self.assertRaises(TypeError):
                 apfloat.half.array(wrong)
-        with self.assertRaises(TypeError):
-            apfloat.e4m3fn.array(numpy.array([1], numpy.uint16))
 
     def test_scalars_and_operands(self):
         self.assertEqual(apfloat.half(numpy.float32(0.1)).bits, apfloat.half(numpy.float16(0.1)).bits)
@@ -1279,6 +1319,8 @@ class NumpyTests(unittest.TestCase):
         for wrong in numpy.array([1, 2, 3], numpy.float32), numpy.array([1, 2, 3]):
             with self.assertRaises(TypeError):
                 xs + wrong
+        with self.assertRaises(TypeError):
+            apfloat.e4m3fn.array([1, 2, 3]) + numpy.array([1, 2, 3], numpy.uint8)
         with self.assertRaises(ValueError):
             xs + numpy.float32(0.1)
 
@@ -1287,7 +1329,8 @@ class NumpyTests(unittest.TestCase):
         numbers = numpy.array([[1, 3], [3, 4.1]], numpy.float32)
         self.assertEqual(numpy.asarray(xs == numbers).tolist(), [[True, False], [True, False]])
         self.assertEqual((numbers > xs).tolist(), [[False, True], [False, True]])
-        self.assertEqual((xs == numpy.array([1, 4])).tolist(), [[True, False], [False, True]])
+        for dtype in int, numpy.uint8:
+            self.assertEqual((xs == numpy.array([1, 4], dtype)).tolist(), [[True, False], [False, True]])
         self.assertEqual(numpy.asarray(xs > 2).dtype, bool)
         self.assertEqual(integers(xs[numpy.asarray(xs > 2)]), [3, 4])
         self.assertEqual(numbers[xs > 3].tolist(), [numbers[1, 1]])

@@ -40,8 +40,6 @@ pub const LIBRARY: &[&str] = &[
     "hex_digits",
     "storage_formats",
     "conversion_modes",
-    "finite_theory",
-    "finite_formats",
 ];
 
 /// The crates that the library for C has above those.

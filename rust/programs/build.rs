@@ -8,7 +8,7 @@ use std::path::Path;
 use std::process::exit;
 
 /// What the programs use of the crates that the library for C has above the library.
-const ABOVE: [&str; 7] = [
+const ABOVE: [&str; 9] = [
     "apfloat_encoded",
     "rustc_apfloat",
     "formats_at_run_time",
@@ -16,6 +16,8 @@ const ABOVE: [&str; 7] = [
     "saturating_conversions",
     "array_conversions",
     "storage_arrays",
+    "packed_codes",
+    "block_formats",
 ];
 
 fn main() {

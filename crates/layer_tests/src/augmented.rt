@@ -1,9 +1,8 @@
-//! Rows of augmented sums, differences and products in five formats, special operands, and payloads.
+//! Augmented sums, differences and products of special operands, and payloads. `tests/rows/augmented.tsv` has more.
 
 ghost use Rattle.std.specs.Prelude.{◌<◌};
 
 use crate::asserts::same;
-use crate::augmented_rows::{E4M3FN, E4M3FNUZ, E5M2, HALF, Row, SINGLE};
 use apfloat_augmented::*;
 use apfloat_base::{Flags, Float, Status, StatusAnd};
 use apfloat_formats::{
@@ -17,22 +16,6 @@ pub enum Operation {
     Add,
     Sub,
     Mul,
-}
-
-/// No flag, OVERFLOW and INEXACT, or UNDERFLOW and INEXACT.
-#[derive(Clone, Copy, PartialEq, Eq, Debug)]
-pub enum Flagging {
-    Exact,
-    Past,
-    Tiny,
-}
-
-fn status_of(flagging: Flagging) -> Status {
-    match flagging {
-        Flagging::Exact => Status::OK,
-        Flagging::Past => Status::OVERFLOW.union(Status::INEXACT),
-        Flagging::Tiny => Status::UNDERFLOW.union(Status::INEXACT),
-    }
 }
 
 /// The head, the tail and the status of an augmented sum, difference or product.
@@ -53,23 +36,19 @@ fn answer<S: Semantics>(operation: Operation, a: u128, b: u128) -> (u128, u128, 
     )
 }
 
-fn check<S: Semantics>(rt: &impl Abort, rows: &[Row])
-    requires { S.PRECISION < S.BITS }
-{
-    for (operation, a, b, head, tail, flagging) in rows {
-        let got = answer::<S>(*operation, *a, *b);
-        let expected = (*head, *tail, status_of(*flagging));
-        same(rt, got, expected, (*operation, *a, *b));
-    }
-}
-
+/// 1 + 2^-11 is between 1 and the next half, and 1 is the lower one of two as near; 1 less 2^-11 is a half, and so is
+/// the square of 1 + 2^-10 but for its last digit.
 #[test]
 fn sums_and_products(rt: HostRuntime) {
-    check::<HalfS>(&rt, &HALF);
-    check::<Float8E5M2S>(&rt, &E5M2);
-    check::<Float8E4M3FNS>(&rt, &E4M3FN);
-    check::<Float8E4M3FNUZS>(&rt, &E4M3FNUZ);
-    check::<SingleS>(&rt, &SINGLE);
+    let rows = [
+        (Operation::Add, 0x3c00, 0x1000, 0x3c00, 0x1000),
+        (Operation::Sub, 0x3c00, 0x1000, 0x3bff, 0x0000),
+        (Operation::Mul, 0x3c01, 0x3c01, 0x3c02, 0x0010),
+    ];
+    for (operation, a, b, head, tail) in rows {
+        let got = answer::<HalfS>(operation, a, b);
+        same(&rt, got, (head, tail, Status::OK), (operation, a, b));
+    }
 }
 
 const INVALID: Status = Status::INVALID_OP;

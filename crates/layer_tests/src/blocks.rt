@@ -1,10 +1,6 @@
-//! Blocks with a common scale, whose codes, scales and counts were computed with fractions (`evidence/blocks.py`), and
-//! packed codes by hand.
+//! Blocks with a common scale, there and back, and packed codes by hand. `tests/rows/blocks.tsv` has more.
 
 use crate::asserts::same;
-use crate::block_rows::{
-    BACK, BLOCKS, CASES, NV_BACK, NV_CASES, NV_ROWS, NV_SCALES, NV_SUMS, ROWS,
-};
 use apfloat_base::{Float, Round};
 use apfloat_formats::Single;
 use block_formats::{
@@ -12,14 +8,11 @@ use block_formats::{
     quantize_block, quantize_nvfp4_block, tensor_scale,
 };
 use packed_codes::{PackingError, pack_fours, pack_sixes, unpack_fours, unpack_sixes};
-use std::process::Abort;
 
-/// What a block of four singles becomes: the codes, the first one lowest, the scale, and how many elements raised
-/// OVERFLOW, UNDERFLOW and INEXACT.
-pub(crate) type Row = (u32, u8, [usize; 3]);
+/// 7, 6, 5 and 0.25.
+const BLOCK: [u32; 4] = [0x40e0_0000, 0x40c0_0000, 0x40a0_0000, 0x3e80_0000];
 
-/// The checksum of 60 blocks of 32 elements. Each case has a row for each of `BLOCKS`.
-pub(crate) type Case = (ElementFormat, Round, u64);
+const EVEN: Round = Round::NearestTiesToEven;
 
 fn single(bits: u32) -> Single {
     Single::from_bits(u128::from(bits))
@@ -52,7 +45,7 @@ fn wide(bits: [u32; 4]) -> [u128; 4] {
     ]
 }
 
-/// The scale and the counts.
+/// The scale, and how many elements raised OVERFLOW, UNDERFLOW and INEXACT.
 fn answer_of<E: Drop>(answer: Result<Block, E>) -> Option<(u8, [usize; 3])> {
     match answer {
         Ok(block) => {
@@ -66,91 +59,19 @@ fn answer_of<E: Drop>(answer: Result<Block, E>) -> Option<(u8, [usize; 3])> {
     }
 }
 
-fn check_row(
-    rt: &impl Abort,
-    element: ElementFormat,
-    round: Round,
-    bits: [u32; 4],
-    (packed, scale, counts): Row,
-    back: [u32; 4],
-) {
+/// The scale is 1; 7 becomes the largest number, 6, and 5 is halfway between 4 and 6.
+#[test]
+fn there_and_back(rt: HostRuntime) {
+    let element = ElementFormat::E2M1FN;
     let mut codes = [0u8; 4];
-    let answer = quantize_block(element, &singles(bits), round, &mut codes);
-    same(rt, answer_of(answer), Some((scale, counts)), bits);
-    same(rt, u32::from_le_bytes(codes), packed, bits);
+    let answer = quantize_block(element, &singles(BLOCK), EVEN, &mut codes);
+    same(&rt, answer_of(answer), Some((0x7f, [1, 1, 3])), BLOCK);
+    same(&rt, codes, [7, 7, 6, 0], BLOCK);
     let mut values = [single(0); 4];
-    let answer = dequantize_block(element, scale, &codes, round, &mut values);
-    same(rt, answer.is_ok(), true, bits);
-    same(rt, bits_of(values), wide(back), bits);
-}
-
-#[test]
-fn rows(rt: HostRuntime) {
-    for c in 0..25 {
-        let (element, round, _) = CASES[c];
-        for i in 0..16 {
-            let row = 16 * c + i;
-            check_row(&rt, element, round, BLOCKS[i], ROWS[row], BACK[row]);
-        }
-    }
-}
-
-/// A linear congruence, of which the upper 32 bits are taken.
-fn next_state(state: u64) -> u64 {
-    state
-        .wrapping_mul(6_364_136_223_846_793_005)
-        .wrapping_add(1_442_695_040_888_963_407)
-}
-
-/// A single with one of 40 exponents about that of 1.
-fn drawn(state: u64) -> Single {
-    let word = (state >> 32) as u32;
-    let exponent = 107 + (word >> 23 & 0xff) % 40;
-    single(word & 0x807f_ffff | exponent << 23)
-}
-
-fn extended(checksum: u64, value: u64) -> u64 {
-    checksum.wrapping_mul(1_000_003).wrapping_add(value)
-}
-
-/// The checksum with one more block.
-fn with_block<E: Drop>(checksum: u64, codes: &[u8], answer: Result<Block, E>) -> u64 {
-    let mut sum = checksum;
-    for code in codes {
-        sum = extended(sum, u64::from(*code));
-    }
-    match answer {
-        Ok(block) => {
-            sum = extended(sum, u64::from(block.scale));
-            sum = extended(sum, block.counts.overflow as u64);
-            sum = extended(sum, block.counts.underflow as u64);
-            extended(sum, block.counts.inexact as u64)
-        }
-        Err(_) => sum,
-    }
-}
-
-fn checksum_of(element: ElementFormat, round: Round) -> u64 {
-    let (mut state, mut checksum) = (100, 0);
-    for _ in 0..60 {
-        let mut values = [single(0); 32];
-        for index in 0..32 {
-            state = next_state(state);
-            values[index] = drawn(state);
-        }
-        let mut codes = [0u8; 32];
-        let answer = quantize_block(element, &values, round, &mut codes);
-        checksum = with_block(checksum, &codes, answer);
-    }
-    checksum
-}
-
-#[test]
-fn checksums(rt: HostRuntime) {
-    for case in &CASES {
-        let (element, round, sum) = *case;
-        same(&rt, checksum_of(element, round), sum, element);
-    }
+    let answer = dequantize_block(element, 0x7f, &codes, EVEN, &mut values);
+    same(&rt, answer.is_ok(), true, BLOCK);
+    let back = wide([0x40c00000, 0x40c00000, 0x40800000, 0]);
+    same(&rt, bits_of(values), back, BLOCK);
 }
 
 /// What is refused by name, with nothing written.
@@ -170,80 +91,24 @@ fn refused(rt: HostRuntime) {
     same(&rt, answer.err(), Some(BlockError::CodeTooWide), codes);
 }
 
-fn check_nvfp4_row(
-    rt: &impl Abort,
-    (round, tensor): (Round, u32),
-    bits: [u32; 4],
-    (packed, scale, counts): Row,
-    back: [u32; 4],
-) {
+/// With the scale 1 of the tensor, that of the block is 1.125, so 7 becomes 6.75.
+#[test]
+fn nvfp4_there_and_back(rt: HostRuntime) {
+    let one = single(0x3f80_0000);
     let mut codes = [0u8; 4];
-    let answer = quantize_nvfp4_block(&singles(bits), single(tensor), round, &mut codes);
-    same(rt, answer_of(answer), Some((scale, counts)), bits);
-    same(rt, u32::from_le_bytes(codes), packed, bits);
+    let answer = quantize_nvfp4_block(&singles(BLOCK), one, EVEN, &mut codes);
+    same(&rt, answer.is_ok(), true, BLOCK);
+    same(&rt, codes, [7, 7, 6, 0], BLOCK);
     let mut values = [single(0); 4];
-    let answer = dequantize_nvfp4_block(scale, &codes, single(tensor), round, &mut values);
-    same(rt, answer.is_ok(), true, bits);
-    same(rt, bits_of(values), wide(back), bits);
-}
-
-#[test]
-fn nvfp4_rows(rt: HostRuntime) {
-    for c in 0..8 {
-        for i in 0..16 {
-            let row = 16 * c + i;
-            check_nvfp4_row(&rt, NV_CASES[c], BLOCKS[i], NV_ROWS[row], NV_BACK[row]);
-        }
-    }
-    for i in 0..16 {
-        let scale = match tensor_scale(&singles(BLOCKS[i])) {
-            Ok(scale) => Some(scale.to_bits()),
-            Err(_) => None,
-        };
-        same(&rt, scale, NV_SCALES[i], BLOCKS[i]);
-    }
-}
-
-/// The scale of the tensor of the next 160 values.
-fn drawn_scale(first: u64) -> Single {
-    let mut state = first;
-    let mut values = [single(0); 160];
-    for index in 0..160 {
-        state = next_state(state);
-        values[index] = drawn(state);
-    }
-    match tensor_scale(&values) {
-        Ok(scale) => scale,
-        Err(_) => single(0),
-    }
-}
-
-/// The checksum of ten tensors of ten blocks of 16 elements.
-fn nvfp4_checksum(round: Round) -> u64 {
-    let (mut state, mut checksum) = (200, 0);
-    for _ in 0..10 {
-        let tensor = drawn_scale(state);
-        checksum = extended(checksum, (tensor.to_bits() % 0x1_0000_0000) as u64);
-        for _ in 0..10 {
-            let mut values = [single(0); 16];
-            for index in 0..16 {
-                state = next_state(state);
-                values[index] = drawn(state);
-            }
-            let mut codes = [0u8; 16];
-            let answer = quantize_nvfp4_block(&values, tensor, round, &mut codes);
-            checksum = with_block(checksum, &codes, answer);
-        }
-    }
-    checksum
-}
-
-#[test]
-fn nvfp4_checksums(rt: HostRuntime) {
-    for case in &NV_SUMS {
-        let (round, sum) = *case;
-        same(&rt, nvfp4_checksum(round), sum, round);
-    }
+    let answer = dequantize_nvfp4_block(0x39, &codes, one, EVEN, &mut values);
+    same(&rt, answer.is_ok(), true, BLOCK);
+    let back = wide([0x40d80000, 0x40d80000, 0x40900000, 0]);
+    same(&rt, bits_of(values), back, BLOCK);
+    let scale = match tensor_scale(&singles(BLOCK)) {
+        Ok(scale) => Some(scale.to_bits()),
+        Err(_) => None,
+    };
+    same(&rt, scale, Some(0x3b2aaaab), BLOCK);
 }
 
 /// What is refused by name, with nothing written.

@@ -1,5 +1,5 @@
-//! Comparisons, classes, flags, minima, integers and exponents of `apfloat_comparisons`: rows by hand in `Half` and
-//! 8-bit formats, and sweeps of all pairs of 8-bit codes, whose expected results are computed from the codes.
+//! Comparisons, classes, flags, minima, integers and exponents of `apfloat_comparisons`, by hand in `Half` and 8-bit
+//! formats. `tests/rows/comparisons.tsv` and `eight_bits.tsv` have more.
 
 ghost use Rattle.std.specs.Prelude.{◌<◌};
 
@@ -202,142 +202,6 @@ fn two_formats(rt: HostRuntime) {
     same(&rt, result(answer), TInvalid, "signaling");
 }
 
-// ---- all pairs of 8-bit codes
-
-/// The predicates with the relations that satisfy each: less 1, equal 2, greater 4, unordered 8.
-const PREDICATES: [(Predicate, u8); 12] = [
-    (Predicate::Equal, 2),
-    (Predicate::NotEqual, 1 + 4 + 8),
-    (Predicate::Greater, 4),
-    (Predicate::GreaterEqual, 2 + 4),
-    (Predicate::Less, 1),
-    (Predicate::LessEqual, 1 + 2),
-    (Predicate::NotGreater, 1 + 2 + 8),
-    (Predicate::LessUnordered, 1 + 8),
-    (Predicate::NotLess, 2 + 4 + 8),
-    (Predicate::GreaterUnordered, 4 + 8),
-    (Predicate::Unordered, 8),
-    (Predicate::Ordered, 1 + 2 + 4),
-];
-
-/// A small format, by its codes: without the sign, those from `nan` up are NaNs, and those from `quiet` up quiet ones.
-#[derive(Clone, Copy)]
-struct Codes {
-    nan: u8,
-    quiet: u8,
-}
-
-const E5M2: Codes = Codes {
-    nan: 0x7d,
-    quiet: 0x7e,
-};
-
-const E4M3FN: Codes = Codes {
-    nan: 0x7f,
-    quiet: 0x7f,
-};
-
-fn magnitude(code: u8) -> u8 {
-    code % 128
-}
-
-/// The code as a number in the order of the values; both zeros are 0.
-fn place(code: u8) -> i16 {
-    if code < 128 {
-        code as i16
-    } else {
-        128 - code as i16
-    }
-}
-
-/// The relation of two codes: 1, 2, 4 or 8, as above.
-fn relation(codes: Codes, x: u8, y: u8) -> u8 {
-    if magnitude(x) >= codes.nan || magnitude(y) >= codes.nan {
-        8
-    } else {
-        match place(x).cmp(&place(y)) {
-            Ordering::Less => 1,
-            Ordering::Equal => 2,
-            Ordering::Greater => 4,
-        }
-    }
-}
-
-fn is_signaling(codes: Codes, code: u8) -> bool {
-    magnitude(code) >= codes.nan && magnitude(code) < codes.quiet
-}
-
-/// The expected result of a comparison.
-fn expected(codes: Codes, relations: u8, on_nan: OnNan, x: u8, y: u8) -> Is {
-    let relation = relation(codes, x, y);
-    let holds = relations & relation != 0;
-    let invalid = match on_nan {
-        OnNan::Quiet => is_signaling(codes, x) || is_signaling(codes, y),
-        OnNan::Signaling => relation == 8,
-    };
-    if invalid {
-        if holds { TInvalid } else { FInvalid }
-    } else if holds {
-        T
-    } else {
-        F
-    }
-}
-
-/// The code as a number in the total order: the magnitudes, and below them the negative codes in reverse.
-fn total_place(code: u8) -> i16 {
-    if code < 128 {
-        code as i16
-    } else {
-        127 - code as i16
-    }
-}
-
-fn check_pair<S: Semantics>(rt: &impl Abort, codes: Codes, a: u8, b: u8)
-    requires { S.PRECISION < S.BITS }
-{
-    let x = IeeeFloat::<S>::from_bits(a as u128);
-    let y = IeeeFloat::<S>::from_bits(b as u128);
-    for (predicate, relations) in PREDICATES {
-        for on_nan in [OnNan::Quiet, OnNan::Signaling] {
-            let answer = compare(predicate, on_nan, x, y);
-            same(
-                rt,
-                result(answer),
-                expected(codes, relations, on_nan, a, b),
-                (a, b),
-            );
-        }
-    }
-    let order = total_place(a).cmp(&total_place(b));
-    same(rt, total_cmp(x, y), order, (a, b));
-    same(rt, total_order(x, y), order != Ordering::Greater, (a, b));
-    same(
-        rt,
-        total_order_mag(x, y),
-        magnitude(a) <= magnitude(b),
-        (a, b),
-    );
-}
-
-#[test]
-fn all_pairs_of_e5m2(rt: HostRuntime) {
-    for a in 0..=255u8 {
-        for b in 0..=255u8 {
-            check_pair::<Float8E5M2S>(&rt, E5M2, a, b);
-        }
-    }
-}
-
-#[test]
-fn all_pairs_of_e4m3fn(rt: HostRuntime) {
-    for a in 0..=255u8 {
-        for b in 0..=255u8 {
-            check_pair::<Float8E4M3FNS>(&rt, E4M3FN, a, b);
-        }
-    }
-}
-
 // ---- classes and flags
 
 #[test]
@@ -411,68 +275,12 @@ fn flags(rt: HostRuntime) {
 
 /// Two operands; their minimum, maximum, minimumMagnitude and maximumMagnitude, and these four with `Number`; and the
 /// status, all by 9.6.
-const EXTREMA: [(u128, u128, [u128; 8], Status); 11] = [
+const EXTREMA: [(u128, u128, [u128; 8], Status); 2] = [
     (
         0x3c00,
         0xc000,
         [
             0xc000, 0x3c00, 0x3c00, 0xc000, 0xc000, 0x3c00, 0x3c00, 0xc000,
-        ],
-        Status::OK,
-    ),
-    (
-        0xc000,
-        0x3c00,
-        [
-            0xc000, 0x3c00, 0x3c00, 0xc000, 0xc000, 0x3c00, 0x3c00, 0xc000,
-        ],
-        Status::OK,
-    ),
-    (
-        0x3c00,
-        0xbc00,
-        [
-            0xbc00, 0x3c00, 0xbc00, 0x3c00, 0xbc00, 0x3c00, 0xbc00, 0x3c00,
-        ],
-        Status::OK,
-    ),
-    (
-        0x0000,
-        0x8000,
-        [
-            0x8000, 0x0000, 0x8000, 0x0000, 0x8000, 0x0000, 0x8000, 0x0000,
-        ],
-        Status::OK,
-    ),
-    (
-        0x8000,
-        0x0000,
-        [
-            0x8000, 0x0000, 0x8000, 0x0000, 0x8000, 0x0000, 0x8000, 0x0000,
-        ],
-        Status::OK,
-    ),
-    (
-        0x7c00,
-        0xfc00,
-        [
-            0xfc00, 0x7c00, 0xfc00, 0x7c00, 0xfc00, 0x7c00, 0xfc00, 0x7c00,
-        ],
-        Status::OK,
-    ),
-    (
-        0x3c00,
-        0x7e05,
-        [
-            0x7e05, 0x7e05, 0x7e05, 0x7e05, 0x3c00, 0x3c00, 0x3c00, 0x3c00,
-        ],
-        Status::OK,
-    ),
-    (
-        0x7e05,
-        0x3c00,
-        [
-            0x7e05, 0x7e05, 0x7e05, 0x7e05, 0x3c00, 0x3c00, 0x3c00, 0x3c00,
         ],
         Status::OK,
     ),
@@ -481,22 +289,6 @@ const EXTREMA: [(u128, u128, [u128; 8], Status); 11] = [
         0x3c00,
         [
             0x7e01, 0x7e01, 0x7e01, 0x7e01, 0x3c00, 0x3c00, 0x3c00, 0x3c00,
-        ],
-        INVALID,
-    ),
-    (
-        0x3c00,
-        0xfc01,
-        [
-            0xfe01, 0xfe01, 0xfe01, 0xfe01, 0x3c00, 0x3c00, 0x3c00, 0x3c00,
-        ],
-        INVALID,
-    ),
-    (
-        0x7e05,
-        0xfc01,
-        [
-            0x7e05, 0x7e05, 0x7e05, 0x7e05, 0x7e05, 0x7e05, 0x7e05, 0x7e05,
         ],
         INVALID,
     ),

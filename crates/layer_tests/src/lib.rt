@@ -1,6 +1,5 @@
-//! Tests of the layers below the public calls, of decimals, of what pairs have beyond `Float`, and of the crates above
-//! the library: comparisons, augmented operations, rounding to odd, machines, storage formats, formats that have only
-//! numbers, blocks with a common scale, packed codes.
+//! Tests of the layers below the public calls, and of what rows (`docs/VECTORS.md`) cannot say; and each public function
+//! of decimals, of what pairs have beyond `Float`, and of the crates above the library, once.
 //!
 //! They are in a separate crate, since testing a crate proves the whole crate again.
 #![tactic(auto)]
@@ -9,10 +8,6 @@
 mod asserts;
 #[cfg(test)]
 mod augmented;
-#[cfg(test)]
-mod augmented_rows;
-#[cfg(test)]
-mod block_rows;
 #[cfg(test)]
 mod blocks;
 #[cfg(test)]
@@ -24,19 +19,7 @@ mod decimal_values;
 #[cfg(test)]
 mod decimals;
 #[cfg(test)]
-mod e3m4;
-#[cfg(test)]
-mod e3m4_rows;
-#[cfg(test)]
-mod eight_bits;
-#[cfg(test)]
-mod finite_rows;
-#[cfg(test)]
-mod finite_values;
-#[cfg(test)]
 mod format_of;
-#[cfg(test)]
-mod format_of_rows;
 #[cfg(test)]
 mod longest_line;
 #[cfg(test)]
@@ -46,13 +29,7 @@ mod modes;
 #[cfg(test)]
 mod odd;
 #[cfg(test)]
-mod odd_rows;
-#[cfg(test)]
-mod pair_rows;
-#[cfg(test)]
 mod pairs;
-#[cfg(test)]
-mod projection_rows;
 #[cfg(test)]
 mod projections;
 #[cfg(test)]
@@ -64,13 +41,9 @@ mod shortest_decimals;
 #[cfg(test)]
 mod statuses;
 #[cfg(test)]
-mod stored_mode_rows;
-#[cfg(test)]
 mod stored_quotient_rows;
 #[cfg(test)]
 mod stored_quotients;
-#[cfg(test)]
-mod stored_rows;
 #[cfg(test)]
 mod stored_values;
 #[cfg(test)]

@@ -1,5 +1,4 @@
-//! What machines give, in `single` and in the format of the x87 unit. The rows of `X86` and `X87` are results of a
-//! processor (`evidence/processor/machines.c`); the others follow from the tables of `docs/MACHINES.md` by hand.
+//! What machines give, in `single` and in the format of the x87 unit, each call once. `tests/rows/machines.tsv` has more.
 
 ghost use Rattle.std.specs.Prelude.{◌<◌, ◌≤◌};
 
@@ -78,192 +77,36 @@ const S3: u128 = 0x7f800003;
 
 const NEG_S4: u128 = 0xff800004;
 
-static IN_SINGLE: [Row; 65] = [
-    (X86, Sum, [ONE, ONE, 0], 0x40000000, 0x00),
+static IN_SINGLE: [Row; 13] = [
     (X86, Sum, [Q1, S3, 0], 0x7fc00001, 0x01),
-    (X86, Sum, [S3, Q1, 0], 0x7fc00003, 0x01),
-    (X86, Sum, [Q1, NEG_Q2, 0], 0x7fc00001, 0x00),
-    (X86, Sum, [ONE, NEG_Q2, 0], 0xffc00002, 0x00),
-    (X86, Sum, [INF, NEG_INF, 0], 0xffc00000, 0x01),
-    (X86, Difference, [NEG_S4, Q1, 0], 0xffc00004, 0x01),
     (X86, Difference, [INF, INF, 0], 0xffc00000, 0x01),
-    (X86, Product, [0, INF, 0], 0xffc00000, 0x01),
     (X86, Product, [0, Q1, 0], 0x7fc00001, 0x00),
-    (X86, Quotient, [0, 0, 0], 0xffc00000, 0x01),
     (X86, Quotient, [ONE, 0, 0], 0x7f800000, 0x02),
-    (X86, Root, [0xbf800000, 0, 0], 0xffc00000, 0x01),
     (X86, Root, [NEG_S4, 0, 0], 0xffc00004, 0x01),
-    (X86, Fused, [INF, 0, Q1], 0x7fc00001, 0x00),
     (X86, Fused, [INF, 0, S3], 0x7fc00003, 0x01),
-    (X86, Fused, [0, INF, NEG_Q2], 0xffc00002, 0x00),
-    (X86, Fused, [INF, 0, ONE], 0xffc00000, 0x01),
-    (X86, Fused, [INF, ONE, NEG_INF], 0xffc00000, 0x01),
-    (X86, Fused, [Q1, ONE, S3], 0x7fc00001, 0x01),
-    (X86, Fused, [ONE, NEG_Q2, S3], 0xffc00002, 0x01),
-    (X86, Fused, [ONE, ONE, NEG_S4], 0xffc00004, 0x01),
-    (X86, Fused, [S3, NEG_Q2, Q1], 0x7fc00003, 0x01),
     (X87, Fused, [ONE, ONE, ONE], 0, 0xff),
     (Arm, Sum, [Q1, S3, 0], 0x7fc00003, 0x01),
-    (Arm, Sum, [Q1, NEG_Q2, 0], 0x7fc00001, 0x00),
-    (Arm, Sum, [S3, NEG_S4, 0], 0x7fc00003, 0x01),
-    (Arm, Sum, [INF, NEG_INF, 0], 0x7fc00000, 0x01),
-    (Arm, Root, [0xbf800000, 0, 0], 0x7fc00000, 0x01),
-    (Arm, Fused, [Q1, ONE, NEG_Q2], 0xffc00002, 0x00),
-    (Arm, Fused, [NEG_S4, ONE, Q1], 0xffc00004, 0x01),
-    (Arm, Fused, [S3, ONE, NEG_S4], 0xffc00004, 0x01),
-    (Arm, Fused, [Q1, NEG_Q2, ONE], 0x7fc00001, 0x00),
-    (Arm, Fused, [INF, 0, Q1], 0x7fc00000, 0x01),
-    (Arm, Fused, [INF, 0, S3], 0x7fc00003, 0x01),
     (ArmDefaultNan, Sum, [NEG_Q2, ONE, 0], 0x7fc00000, 0x00),
-    (ArmDefaultNan, Sum, [ONE, NEG_S4, 0], 0x7fc00000, 0x01),
-    (ArmDefaultNan, Fused, [INF, 0, NEG_Q2], 0x7fc00000, 0x01),
-    (ArmDefaultNan, Fused, [INF, ONE, NEG_Q2], 0x7fc00000, 0x00),
-    (ArmAlternate, Sum, [Q1, S3, 0], 0x7fc00001, 0x01),
     (ArmAlternate, Sum, [INF, NEG_INF, 0], 0xffc00000, 0x01),
-    (ArmAlternate, Fused, [ONE, NEG_Q2, Q1], 0xffc00002, 0x00),
-    (ArmAlternate, Fused, [INF, 0, Q1], 0x7fc00001, 0x00),
-    (ArmAlternate, Fused, [INF, 0, S3], 0x7fc00003, 0x01),
-    (RiscV, Sum, [NEG_Q2, ONE, 0], 0x7fc00000, 0x00),
-    (RiscV, Sum, [ONE, S3, 0], 0x7fc00000, 0x01),
     (RiscV, Quotient, [INF, NEG_INF, 0], 0x7fc00000, 0x01),
-    (RiscV, Fused, [INF, 0, NEG_Q2], 0x7fc00000, 0x01),
-    (RiscV, Fused, [INF, 0, NEG_S4], 0x7fc00000, 0x01),
-    (RiscV, Fused, [ONE, ONE, NEG_Q2], 0x7fc00000, 0x00),
-    (Power, Sum, [NEG_Q2, S3, 0], 0xffc00002, 0x01),
-    (Power, Sum, [INF, NEG_INF, 0], 0x7fc00000, 0x01),
     (Power, Fused, [ONE, NEG_Q2, Q1], 0x7fc00001, 0x00),
-    (Power, Fused, [NEG_Q2, ONE, Q1], 0xffc00002, 0x00),
-    (Power, Fused, [INF, 0, NEG_Q2], 0xffc00002, 0x01),
-    (Power, Fused, [INF, 0, NEG_S4], 0xffc00004, 0x01),
-    (Power, Fused, [INF, 0, ONE], 0x7fc00000, 0x01),
-    (S390x, Sum, [Q1, NEG_S4, 0], 0xffc00004, 0x01),
-    (S390x, Sum, [Q1, NEG_Q2, 0], 0x7fc00001, 0x00),
     (S390x, Remainder, [ONE, 0, 0], 0x7fc00000, 0x01),
-    (S390x, Remainder, [NEG_Q2, S3, 0], 0x7fc00003, 0x01),
-    (S390x, Fused, [ONE, NEG_Q2, Q1], 0xffc00002, 0x00),
-    (S390x, Fused, [Q1, ONE, NEG_S4], 0xffc00004, 0x01),
-    (S390x, Fused, [INF, 0, NEG_Q2], 0x7fc00000, 0x01),
-    (S390x, Fused, [INF, 0, NEG_S4], 0x7fc00000, 0x01),
 ];
 
 const X87_ONE: u128 = 0x3fff_8000000000000000;
 
-const X87_INF: u128 = 0x7fff_8000000000000000;
-
-const X87_NEG_INF: u128 = 0xffff_8000000000000000;
-
 const X87_Q1: u128 = 0x7fff_c000000000000001;
-
-const X87_NEG_Q1: u128 = 0xffff_c000000000000001;
-
-const X87_NEG_Q2: u128 = 0xffff_c000000000000002;
 
 const X87_S3: u128 = 0x7fff_8000000000000003;
 
-const X87_NEG_S4: u128 = 0xffff_8000000000000004;
-
 const UNNORMAL: u128 = 0x3fff_4000000000000000;
 
-const PSEUDO_NAN: u128 = 0x7fff_4000000000000001;
-
-static IN_X87: [Row; 16] = [
-    (
-        X87,
-        Sum,
-        [X87_Q1, X87_NEG_Q2, 0],
-        0xffff_c000000000000002,
-        0x00,
-    ),
-    (
-        X87,
-        Sum,
-        [X87_NEG_Q2, X87_Q1, 0],
-        0xffff_c000000000000002,
-        0x00,
-    ),
-    (
-        X87,
-        Sum,
-        [X87_Q1, X87_NEG_Q1, 0],
-        0x7fff_c000000000000001,
-        0x00,
-    ),
-    (
-        X87,
-        Sum,
-        [X87_NEG_Q1, X87_Q1, 0],
-        0x7fff_c000000000000001,
-        0x00,
-    ),
+static IN_X87: [Row; 2] = [
     (X87, Sum, [X87_S3, X87_Q1, 0], 0x7fff_c000000000000001, 0x01),
-    (X87, Sum, [X87_Q1, X87_S3, 0], 0x7fff_c000000000000001, 0x01),
-    (
-        X87,
-        Sum,
-        [X87_S3, X87_NEG_S4, 0],
-        0xffff_c000000000000004,
-        0x01,
-    ),
-    (
-        X87,
-        Sum,
-        [X87_ONE, X87_S3, 0],
-        0x7fff_c000000000000003,
-        0x01,
-    ),
-    (
-        X87,
-        Sum,
-        [X87_NEG_Q2, X87_ONE, 0],
-        0xffff_c000000000000002,
-        0x00,
-    ),
-    (
-        X87,
-        Sum,
-        [X87_INF, X87_NEG_INF, 0],
-        0xffff_c000000000000000,
-        0x01,
-    ),
     (
         X87,
         Sum,
         [UNNORMAL, X87_ONE, 0],
-        0xffff_c000000000000000,
-        0x01,
-    ),
-    (
-        X87,
-        Sum,
-        [X87_ONE, UNNORMAL, 0],
-        0xffff_c000000000000000,
-        0x01,
-    ),
-    (
-        X87,
-        Sum,
-        [X87_Q1, UNNORMAL, 0],
-        0xffff_c000000000000000,
-        0x01,
-    ),
-    (
-        X87,
-        Sum,
-        [PSEUDO_NAN, X87_Q1, 0],
-        0xffff_c000000000000000,
-        0x01,
-    ),
-    (
-        X87,
-        Sum,
-        [PSEUDO_NAN, X87_S3, 0],
-        0xffff_c000000000000000,
-        0x01,
-    ),
-    (
-        X87,
-        Sum,
-        [UNNORMAL, PSEUDO_NAN, 0],
         0xffff_c000000000000000,
         0x01,
     ),
@@ -298,24 +141,14 @@ fn check_conversion<S: Semantics, T: Semantics>(
 #[test]
 fn conversions(rt: HostRuntime) {
     let rows = [
-        (X86, 0xfff8000020000000, 0xffc00001, 0x00),
         (X86, 0x7ff4000000000000, 0x7fe00000, 0x01),
-        (Arm, 0xfff8000020000000, 0xffc00001, 0x00),
-        (ArmDefaultNan, 0xfff8000020000000, 0x7fc00000, 0x00),
-        (ArmAlternate, 0xfff8000020000000, 0xffc00001, 0x00),
         (RiscV, 0x7ff4000000000000, 0x7fc00000, 0x01),
-        (RiscV, 0x7ff0000000000000, 0x7f800000, 0x00),
-        (Power, 0xfff8000020000000, 0xffc00001, 0x00),
-        (S390x, 0xfff8000020000000, 0xffc00001, 0x00),
     ];
     for (machine, bits, value, flags) in rows {
         check_conversion::<DoubleS, SingleS>(&rt, machine, bits, value, flags);
     }
     let rows = [
-        (X87_NEG_Q2, 0xfff8000000000000, 0x00),
-        (X87_S3, 0x7ff8000000000000, 0x01),
         (UNNORMAL, 0xfff8000000000000, 0x01),
-        (PSEUDO_NAN, 0xfff8000000000000, 0x01),
         (X87_ONE, 0x3ff0000000000000, 0x00),
     ];
     for (bits, value, flags) in rows {
@@ -334,31 +167,14 @@ const FULL: u128 = 0xffff_ffff;
 /// A machine, the bits of a value, its integer, and the bits of the flags.
 type SignedRow = (Machine, u128, i128, u8);
 
-static SIGNED_32: [SignedRow; 16] = [
+static SIGNED_32: [SignedRow; 4] = [
     (X86, Q1, LOW, 0x01),
-    (X86, INF, LOW, 0x01),
-    (X86, NEG_INF, LOW, 0x01),
-    (X86, 0x4f000000, LOW, 0x01),
-    (X86, 0xcf000001, LOW, 0x01),
-    (X86, 0xcf000000, LOW, 0x00),
     (X86, 0x3fc00000, 2, 0x10),
-    (X87, S3, LOW, 0x01),
-    (Arm, NEG_Q2, 0, 0x01),
     (Arm, INF, HIGH, 0x01),
-    (RiscV, NEG_Q2, HIGH, 0x01),
-    (RiscV, NEG_INF, LOW, 0x01),
-    (Power, INF, HIGH, 0x01),
-    (S390x, Q1, LOW, 0x01),
-    (S390x, INF, HIGH, 0x11),
     (S390x, 0xcf000001, LOW, 0x11),
 ];
 
-static SIGNED_64: [SignedRow; 4] = [
-    (X86, 0xff000000, -0x8000_0000_0000_0000, 0x01),
-    (ArmDefaultNan, S3, 0, 0x01),
-    (ArmAlternate, S3, 0, 0x01),
-    (Power, Q1, -0x8000_0000_0000_0000, 0x01),
-];
+static SIGNED_64: [SignedRow; 1] = [(X86, 0xff000000, -0x8000_0000_0000_0000, 0x01)];
 
 static SIGNED_128: [SignedRow; 2] = [(RiscV, Q1, i128::MAX, 0x01), (Power, Q1, i128::MIN, 0x01)];
 
@@ -386,19 +202,9 @@ fn signed_integers(rt: HostRuntime) {
 /// The same; 0 with the flags 0xff if the machine has no such conversion.
 type UnsignedRow = (Machine, u128, u128, u8);
 
-static UNSIGNED_32: [UnsignedRow; 13] = [
-    (X86, Q1, FULL, 0x01),
+static UNSIGNED_32: [UnsignedRow; 3] = [
     (X86, 0xbf800000, FULL, 0x01),
-    (X86, INF, FULL, 0x01),
     (X87, Q1, 0, 0xff),
-    (Arm, Q1, 0, 0x01),
-    (Arm, INF, FULL, 0x01),
-    (Arm, 0xbf800000, 0, 0x01),
-    (RiscV, NEG_Q2, FULL, 0x01),
-    (RiscV, 0xbf800000, 0, 0x01),
-    (Power, Q1, 0, 0x01),
-    (S390x, Q1, 0, 0x01),
-    (S390x, 0xbf800000, 0, 0x11),
     (S390x, 0x3f000000, 0, 0x10),
 ];
 
@@ -433,72 +239,17 @@ fn unsigned_integers(rt: HostRuntime) {
 
 use MinimumRule::{FirstNan, Number2008, Number2019, Propagated, Second, SecondQuietly};
 
-const TWO: u128 = 0x40000000;
-
 const NEG_ZERO: u128 = 0x80000000;
 
 /// A rule, a machine, two operands, the least and the greatest of them, and the flags of both.
 type ExtremaRow = (MinimumRule, Machine, [u128; 2], u128, u128, u8);
 
-static EXTREMA: [ExtremaRow; 31] = [
-    (Second, X86, [ONE, TWO], ONE, TWO, 0x00),
-    (Second, X86, [0, NEG_ZERO], NEG_ZERO, NEG_ZERO, 0x00),
-    (Second, X86, [NEG_ZERO, 0], 0, 0, 0x00),
-    (Second, X86, [Q1, ONE], ONE, ONE, 0x01),
-    (Second, X86, [ONE, Q1], Q1, Q1, 0x01),
-    (Second, X86, [ONE, S3], S3, S3, 0x01),
+static EXTREMA: [ExtremaRow; 6] = [
     (Second, X86, [S3, Q1], Q1, Q1, 0x01),
-    (
-        SecondQuietly,
-        Power,
-        [0, NEG_ZERO],
-        NEG_ZERO,
-        NEG_ZERO,
-        0x00,
-    ),
     (SecondQuietly, Power, [ONE, Q1], Q1, Q1, 0x00),
-    (SecondQuietly, Power, [S3, ONE], ONE, ONE, 0x01),
-    (FirstNan, Power, [NEG_ZERO, 0], NEG_ZERO, 0, 0x00),
     (FirstNan, Power, [ONE, S3], S3, S3, 0x01),
-    (FirstNan, Power, [Q1, NEG_Q2], Q1, Q1, 0x00),
-    (Number2008, Arm, [0, NEG_ZERO], NEG_ZERO, 0, 0x00),
     (Number2008, Arm, [Q1, ONE], ONE, ONE, 0x00),
-    (Number2008, Arm, [ONE, S3], 0x7fc00003, 0x7fc00003, 0x01),
-    (Number2008, Arm, [Q1, S3], 0x7fc00003, 0x7fc00003, 0x01),
-    (Number2008, Power, [Q1, S3], Q1, Q1, 0x01),
-    (Number2008, ArmDefaultNan, [Q1, ONE], ONE, ONE, 0x00),
-    (
-        Number2008,
-        ArmDefaultNan,
-        [Q1, NEG_Q2],
-        0x7fc00000,
-        0x7fc00000,
-        0x00,
-    ),
-    (Number2019, RiscV, [NEG_ZERO, 0], NEG_ZERO, 0, 0x00),
     (Number2019, RiscV, [S3, ONE], ONE, ONE, 0x01),
-    (Number2019, RiscV, [ONE, NEG_Q2], ONE, ONE, 0x00),
-    (
-        Number2019,
-        RiscV,
-        [NEG_Q2, NEG_S4],
-        0x7fc00000,
-        0x7fc00000,
-        0x01,
-    ),
-    (Propagated, Arm, [TWO, ONE], ONE, TWO, 0x00),
-    (Propagated, Arm, [0, NEG_ZERO], NEG_ZERO, 0, 0x00),
-    (Propagated, Arm, [ONE, NEG_Q2], NEG_Q2, NEG_Q2, 0x00),
-    (Propagated, Arm, [Q1, NEG_S4], 0xffc00004, 0xffc00004, 0x01),
-    (
-        Propagated,
-        RiscV,
-        [ONE, NEG_Q2],
-        0x7fc00000,
-        0x7fc00000,
-        0x00,
-    ),
-    (Propagated, S390x, [NEG_Q2, Q1], NEG_Q2, NEG_Q2, 0x00),
     (Propagated, S390x, [INF, NEG_INF], NEG_INF, INF, 0x00),
 ];
 

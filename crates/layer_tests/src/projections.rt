@@ -1,42 +1,13 @@
-//! Checksums of formats of IEEE P3109, whose expected values were computed with fractions (`evidence/projections.py`,
-//! `evidence/conversion_modes.py`).
+//! Formats of IEEE P3109: each call once, in a format that the crate names and in one that is declared here.
+//! `tests/rows/projections.tsv` and `conversion_modes.tsv` have more.
 
 ghost use Rattle.std.specs.Prelude.{refl, true, false};
 ghost use Rattle.storage_formats.specs.ProjectionLawTest.{projection_from_test};
 
-use crate::projection_rows::CHECKSUMS;
-use crate::stored_mode_rows::PROJECTED_BY_MODE;
-use crate::stored_values::{MODES, ModeSums, mode_of};
 use apfloat_base::{Category, Flags, Float, Round, StatusAnd};
-use apfloat_formats::{DoubleS, Half};
+use apfloat_formats::Single;
 use std::cmp::Ordering;
-use storage_formats::{
-    Binary8P1UF, Binary8P3, Binary8P4, Binary8P5, ConversionRound, Projected, Projection,
-};
-
-/// `binary3p1sf`.
-#[derive(Clone, Copy)]
-struct Binary3P1SF;
-
-impl Projection for Binary3P1SF {
-    const BITS: usize = 3;
-
-    const PRECISION: usize = 1;
-
-    const SIGNED: bool = true;
-
-    const EXTENDED: bool = false;
-
-    ghost BITS = { 3 };
-
-    ghost PRECISION = { 1 };
-
-    ghost SIGNED = { true };
-
-    ghost EXTENDED = { false };
-
-    ghost lawful = { projection_from_test _ refl };
-}
+use storage_formats::{Binary8P4, ConversionRound, Projected, Projection};
 
 /// `binary6p2ue`.
 #[derive(Clone, Copy)]
@@ -62,180 +33,61 @@ impl Projection for Binary6P2UE {
     ghost lawful = { projection_from_test _ refl };
 }
 
-/// `binary8p4sf`.
-#[derive(Clone, Copy)]
-struct Binary8P4SF;
-
-impl Projection for Binary8P4SF {
-    const BITS: usize = 8;
-
-    const PRECISION: usize = 4;
-
-    const SIGNED: bool = true;
-
-    const EXTENDED: bool = false;
-
-    ghost BITS = { 8 };
-
-    ghost PRECISION = { 4 };
-
-    ghost SIGNED = { true };
-
-    ghost EXTENDED = { false };
-
-    ghost lawful = { projection_from_test _ refl };
-}
-
-/// `binary15p8se`.
-#[derive(Clone, Copy)]
-struct Binary15P8SE;
-
-impl Projection for Binary15P8SE {
-    const BITS: usize = 15;
-
-    const PRECISION: usize = 8;
-
-    const SIGNED: bool = true;
-
-    const EXTENDED: bool = true;
-
-    ghost BITS = { 15 };
-
-    ghost PRECISION = { 8 };
-
-    ghost SIGNED = { true };
-
-    ghost EXTENDED = { true };
-
-    ghost lawful = { projection_from_test _ refl };
-}
-
-/// The checksum with one more number.
-fn extended(checksum: u64, word: u64) -> u64 {
-    checksum.wrapping_mul(1_000_003).wrapping_add(word)
-}
-
-/// All values, by the first 24 bits of the doubles that they are.
-fn values<F: Projection>(last: u16) -> u64 {
-    let mut checksum = 0;
-    for code in 0..=last {
-        let mut loses_info = false;
-        let value = Projected::<F>::from_bits(code)
-            .convert_r::<DoubleS>(Round::NearestTiesToEven, &mut loses_info)
-            .value;
-        checksum = extended(checksum, (value.to_bits() >> 40) as u64);
-    }
-    checksum
-}
-
-/// The category of a value, and its order with another one.
-fn facts<F: Projection>(x: Projected<F>, y: Projected<F>) -> u64 {
-    let class: u64 = match x.category() {
-        Category::NaN => 0,
-        Category::Infinity => 4,
-        Category::Zero => 8,
-        Category::Normal => 12,
+/// The code of a single, its flags, and the bits of the single that it is.
+fn stored<F: Projection>(bits: u32, mode: ConversionRound) -> (u16, u8, u128) {
+    let x = Single::from_bits(u128::from(bits));
+    let answer = match mode {
+        ConversionRound::Ieee(round) => Projected::<F>::from_value(x, round, &mut false),
+        _ => Projected::<F>::from_value_by(x, mode, &mut false),
     };
-    let order = match x.compare(y) {
-        None => 0,
-        Some(Ordering::Less) => 1,
-        Some(Ordering::Equal) => 2,
-        Some(Ordering::Greater) => 3,
-    };
-    class.wrapping_add(order)
+    let back: StatusAnd<Single> = answer.value.convert_r(Round::TowardZero, &mut false);
+    (
+        answer.value.to_bits(),
+        answer.status.bits(),
+        back.value.to_bits(),
+    )
 }
 
-/// Of each code the next ones up and down, the category, and the order with another code.
-fn order<F: Projection>(last: u16) -> u64 {
-    let mut checksum = 0;
-    for code in 0..=last {
-        let x = Projected::<F>::from_bits(code);
-        let y = Projected::<F>::from_bits(((7 * u32::from(code) + 3) % 65536) as u16);
-        let up = u64::from(x.next_up().to_bits()) * 0x1_0000_0000;
-        let down = u64::from(x.next_down().to_bits()) * 0x1_0000;
-        checksum = extended(checksum, facts(x, y).wrapping_add(up + down));
-    }
-    checksum
-}
-
-/// A half, stored.
-fn stored<F: Projection>(
-    x: Half,
-    mode: ConversionRound,
-    loses_info: &mut bool,
-) -> StatusAnd<Projected<F>> {
-    match mode {
-        ConversionRound::Ieee(round) => Projected::from_value(x, round, loses_info),
-        _ => Projected::from_value_by(x, mode, loses_info),
-    }
-}
-
-/// Every 61st half, stored.
-fn from_halves<F: Projection>(mode: ConversionRound) -> u64 {
-    let mut checksum = 0;
-    for count in 0..1075u32 {
-        let mut loses_info = false;
-        let x = Half::from_bits(u128::from(61 * count));
-        let got = stored::<F>(x, mode, &mut loses_info);
-        let word = u64::from(got.value.to_bits()) * 64
-            + u64::from(got.status.bits()) * 2
-            + u64::from(loses_info);
-        checksum = extended(checksum, word);
-    }
-    checksum
-}
-
-/// The same in the modes of conversions.
-fn mode_sums<F: Projection>() -> ModeSums {
-    let mut sums = [0; 8];
-    for index in 0..8 {
-        sums[index] = from_halves::<F>(mode_of(index));
-    }
-    sums
-}
-
-fn sums<F: Projection>(last: u16) -> [u64; 7] {
-    [
-        values::<F>(last),
-        order::<F>(last),
-        from_halves::<F>(ConversionRound::Ieee(MODES[0])),
-        from_halves::<F>(ConversionRound::Ieee(MODES[1])),
-        from_halves::<F>(ConversionRound::Ieee(MODES[2])),
-        from_halves::<F>(ConversionRound::Ieee(MODES[3])),
-        from_halves::<F>(ConversionRound::Ieee(MODES[4])),
-    ]
-}
-
+/// 1.0625 is halfway between 1, the code 0x40, and 1.125; -1.25 is no number of a format without a sign.
 #[test]
-fn formats_of_p3109(rt: HostRuntime) {
-    let got = [
-        sums::<Binary8P3>(0xff),
-        sums::<Binary8P4>(0xff),
-        sums::<Binary8P5>(0xff),
-        sums::<Binary8P1UF>(0xff),
-        sums::<Binary3P1SF>(7),
-        sums::<Binary6P2UE>(0x3f),
-        sums::<Binary8P4SF>(0xff),
-        sums::<Binary15P8SE>(0x7fff),
-    ];
-    for i in 0..8 {
-        assert_eq!(rt; got[i], CHECKSUMS[i], "{i}");
-    }
+fn conversions(rt: HostRuntime) {
+    let even = ConversionRound::Ieee(Round::NearestTiesToEven);
+    let up = ConversionRound::Ieee(Round::TowardPositive);
+    let odd = ConversionRound::ToOdd;
+    assert_eq!(rt;
+        stored::<Binary8P4>(0x3f88_0000, even),
+        (0x40, 0x10, 0x3f80_0000)
+    );
+    assert_eq!(rt;
+        stored::<Binary8P4>(0x3f88_0000, odd),
+        (0x41, 0x10, 0x3f90_0000)
+    );
+    assert_eq!(rt;
+        stored::<Binary8P4>(0x4370_0000, up),
+        (0x7f, 0x14, 0x7f80_0000)
+    );
+    assert_eq!(rt;
+        stored::<Binary6P2UE>(0x3fa0_0000, up),
+        (0x21, 0x10, 0x3fc0_0000)
+    );
+    let (code, flags, _) = stored::<Binary6P2UE>(0xbfa0_0000, up);
+    assert_eq!(rt; (code, flags), (0x3f, 0x01));
 }
 
+/// Of `binary8p4se`: 1 and the values beside it, the largest number, the infinities, the NaN.
 #[test]
-fn modes_of_p3109(rt: HostRuntime) {
-    let got = [
-        mode_sums::<Binary8P3>(),
-        mode_sums::<Binary8P4>(),
-        mode_sums::<Binary8P5>(),
-        mode_sums::<Binary8P1UF>(),
-        mode_sums::<Binary3P1SF>(),
-        mode_sums::<Binary6P2UE>(),
-        mode_sums::<Binary8P4SF>(),
-        mode_sums::<Binary15P8SE>(),
-    ];
-    for i in 0..8 {
-        assert_eq!(rt; got[i], PROJECTED_BY_MODE[i], "{i}");
-    }
+fn order(rt: HostRuntime) {
+    let one = Projected::<Binary8P4>::from_bits(0x40);
+    let infinity = Projected::<Binary8P4>::from_bits(0x7f);
+    let nan = Projected::<Binary8P4>::nan();
+    let beside = (one.next_up().to_bits(), one.next_down().to_bits());
+    assert_eq!(rt; beside, (0x41, 0x3f));
+    let ends = (infinity.next_up().to_bits(), infinity.next_down().to_bits());
+    assert_eq!(rt; ends, (0x7f, 0x7e));
+    assert_eq!(rt; one.compare(infinity), Some(Ordering::Less));
+    assert_eq!(rt; one.compare(nan), None);
+    let got = (one.category(), infinity.category(), nan.category());
+    assert_eq!(rt; got, (Category::Normal, Category::Infinity, Category::NaN));
+    let negative = Projected::<Binary8P4>::from_bits(0xc0).is_negative();
+    assert_eq!(rt; (nan.to_bits(), nan.is_nan(), negative), (0x80, true, true));
 }

@@ -1,4 +1,5 @@
-//! Digits of values, rounded to any number of them. The digits were computed with fractions in Python.
+//! Digits of values, rounded to any number of them. The digits were computed with fractions in Python, and
+//! `tests/rows/written.tsv` has more.
 
 use crate::asserts::same;
 use apfloat_formats::{DoubleS, QuadS, Semantics};
@@ -6,117 +7,12 @@ use apfloat_model::{Category, ExpInt, Round, Status};
 use decimal_digits::{Written, write_digits};
 
 /// The bits of a double, a rounding mode, the digits, the exponent of the first one and the status.
-static DOUBLES: [(u128, Round, &str, ExpInt, Status); 17] = [
+static DOUBLES: [(u128, Round, &str, ExpInt, Status); 2] = [
     (
         0x3fb9_9999_9999_999a,
         Round::NearestTiesToEven,
         "10000000000000001",
         -1,
-        Status::INEXACT,
-    ),
-    (
-        0x3fb9_9999_9999_999a,
-        Round::TowardPositive,
-        "10000000000000001",
-        -1,
-        Status::INEXACT,
-    ),
-    (
-        0x3fb9_9999_9999_999a,
-        Round::TowardNegative,
-        "10000000000000000",
-        -1,
-        Status::INEXACT,
-    ),
-    (
-        0xbfb9_9999_9999_999a,
-        Round::TowardPositive,
-        "10000000000000000",
-        -1,
-        Status::INEXACT,
-    ),
-    (
-        0xbfb9_9999_9999_999a,
-        Round::TowardNegative,
-        "10000000000000001",
-        -1,
-        Status::INEXACT,
-    ),
-    (
-        0xbfb9_9999_9999_999a,
-        Round::TowardZero,
-        "10000000000000000",
-        -1,
-        Status::INEXACT,
-    ),
-    (
-        0x4004_0000_0000_0000,
-        Round::NearestTiesToEven,
-        "2",
-        0,
-        Status::INEXACT,
-    ),
-    (
-        0x4004_0000_0000_0000,
-        Round::NearestTiesToAway,
-        "3",
-        0,
-        Status::INEXACT,
-    ),
-    (
-        0x400c_0000_0000_0000,
-        Round::NearestTiesToEven,
-        "4",
-        0,
-        Status::INEXACT,
-    ),
-    (
-        0x400c_0000_0000_0000,
-        Round::TowardZero,
-        "3",
-        0,
-        Status::INEXACT,
-    ),
-    (
-        0x3fef_ffff_ffff_ffff,
-        Round::NearestTiesToEven,
-        "10000",
-        0,
-        Status::INEXACT,
-    ),
-    (
-        0x3fef_ffff_ffff_ffff,
-        Round::TowardNegative,
-        "99999",
-        -1,
-        Status::INEXACT,
-    ),
-    (
-        0x3fef_ffff_ffff_ffff,
-        Round::NearestTiesToEven,
-        "99999999999999988897769753748434595763683319091796875",
-        -1,
-        Status::OK,
-    ),
-    (
-        0x3fef_ffff_ffff_ffff,
-        Round::TowardPositive,
-        "999999999999999888977697537484345957636833190917968750000000",
-        -1,
-        Status::OK,
-    ),
-    (
-        0x7fef_ffff_ffff_ffff,
-        Round::TowardPositive,
-        "17976931348623158",
-        308,
-        Status::INEXACT,
-    ),
-    (
-        0x1,
-        Round::NearestTiesToAway,
-        "49406564584124654418",
-        -324,
         Status::INEXACT,
     ),
     (

@@ -1,82 +1,20 @@
-//! Values written in hexadecimal digits. The texts were computed with fractions in Python, and the shortest ones of
-//! doubles and singles were compared with those of `float.hex`, with their first digit made 1.
+//! Values written in hexadecimal digits, and read back. `tests/rows/written.tsv` has more.
 
 ghost use Rattle.std.specs.Prelude.{◌<◌};
 
 use crate::asserts::same;
 use apfloat_base::Float;
-use apfloat_formats::{DoubleS, HalfS, QuadS, Semantics, SingleS};
+use apfloat_formats::{DoubleS, Semantics};
 use apfloat_ieee::IeeeFloat;
 use apfloat_model::{Round, Status};
 use hex_digits::{HexError, hex_length, write_hex, write_hex_rounded, write_hex_with_payload};
 use std::process::Abort;
 
 /// The bits of doubles, and their shortest texts.
-static DOUBLES: [(u128, &str); 18] = [
+static DOUBLES: [(u128, &str); 3] = [
     (0x3fb9_9999_9999_999a, "0x1.999999999999ap-4"),
-    (0x3ff0_0000_0000_0000, "0x1p0"),
-    (0xbfe8_0000_0000_0000, "-0x1.8p-1"),
-    (0x4024_0000_0000_0000, "0x1.4p3"),
-    (0x3fef_ffff_ffff_ffff, "0x1.fffffffffffffp-1"),
-    (0x7fef_ffff_ffff_ffff, "0x1.fffffffffffffp1023"),
-    (0xffef_ffff_ffff_ffff, "-0x1.fffffffffffffp1023"),
-    (0x10_0000_0000_0000, "0x1p-1022"),
     (0xf_ffff_ffff_ffff, "0x1.ffffffffffffep-1023"),
-    (0x1, "0x1p-1074"),
     (0x8000_0000_0000_0001, "-0x1p-1074"),
-    (0x3, "0x1.8p-1073"),
-    (0x10, "0x1p-1070"),
-    (0x4340_0000_0000_0000, "0x1p53"),
-    (0xc09a_522b_98ea_2740, "-0x1.a522b98ea274p10"),
-    (0x0, "0x0p0"),
-    (0x8000_0000_0000_0000, "-0x0p0"),
-    (0x4009_21fb_5444_2d18, "0x1.921fb54442d18p1"),
-];
-
-/// The same for halves.
-static HALVES: [(u128, &str); 8] = [
-    (0x3555, "0x1.554p-2"),
-    (0x1, "0x1p-24"),
-    (0x3ff, "0x1.ff8p-15"),
-    (0x400, "0x1p-14"),
-    (0x7bff, "0x1.ffcp15"),
-    (0xfbff, "-0x1.ffcp15"),
-    (0x8000, "-0x0p0"),
-    (0xc248, "-0x1.92p1"),
-];
-
-/// The same for singles.
-static SINGLES: [(u128, &str); 5] = [
-    (0x3dcc_cccd, "0x1.99999ap-4"),
-    (0x1, "0x1p-149"),
-    (0x7f7f_ffff, "0x1.fffffep127"),
-    (0x8000_0003, "-0x1.8p-148"),
-    (0x4049_0fdb, "0x1.921fb6p1"),
-];
-
-/// The same for quads.
-static QUADS: [(u128, &str); 6] = [
-    (
-        0x3ffb_9999_9999_9999_9999_9999_9999_9999,
-        "0x1.9999999999999999999999999999p-4",
-    ),
-    (0x1, "0x1p-16494"),
-    (
-        0x7ffe_ffff_ffff_ffff_ffff_ffff_ffff_ffff,
-        "0x1.ffffffffffffffffffffffffffffp16383",
-    ),
-    (
-        0x8000_ffff_ffff_ffff_ffff_ffff_ffff_ffff,
-        "-0x1.fffffffffffffffffffffffffffep-16383",
-    ),
-    (
-        0x4000_921f_b544_42d1_8469_898c_c517_01b8,
-        "0x1.921fb54442d18469898cc51701b8p1",
-    ),
-    (
-        0x3fff_0000_0000_0000_0000_0000_0000_0001,
-        "0x1.0000000000000000000000000001p0",
-    ),
 ];
 
 /// Asserts that the texts of the values are those of the rows.
@@ -120,9 +58,6 @@ fn check_both<S: Semantics>(rt: &impl Abort, rows: &[(u128, &str)])
 #[test]
 fn shortest(rt: HostRuntime) {
     check_both::<DoubleS>(&rt, &DOUBLES);
-    check_both::<HalfS>(&rt, &HALVES);
-    check_both::<SingleS>(&rt, &SINGLES);
-    check_both::<QuadS>(&rt, &QUADS);
     check::<DoubleS>(&rt, &SPECIALS);
 }
 
@@ -161,7 +96,7 @@ static SPECIALS: [(u128, &str); 6] = [
 ];
 
 /// The bits of a double, the digits after the dot, a rounding mode, the text and the status.
-static ROUNDED: [(u128, u32, Round, &str, Status); 30] = [
+static ROUNDED: [(u128, u32, Round, &str, Status); 2] = [
     (
         0x3fb9_9999_9999_999a,
         5,
@@ -169,190 +104,12 @@ static ROUNDED: [(u128, u32, Round, &str, Status); 30] = [
         "0x1.9999ap-4",
         Status::INEXACT,
     ),
-    (
-        0x3fb9_9999_9999_999a,
-        5,
-        Round::NearestTiesToAway,
-        "0x1.9999ap-4",
-        Status::INEXACT,
-    ),
-    (
-        0x3fb9_9999_9999_999a,
-        5,
-        Round::TowardPositive,
-        "0x1.9999ap-4",
-        Status::INEXACT,
-    ),
-    (
-        0x3fb9_9999_9999_999a,
-        5,
-        Round::TowardNegative,
-        "0x1.99999p-4",
-        Status::INEXACT,
-    ),
-    (
-        0x3fb9_9999_9999_999a,
-        5,
-        Round::TowardZero,
-        "0x1.99999p-4",
-        Status::INEXACT,
-    ),
-    (
-        0xbfb9_9999_9999_999a,
-        0,
-        Round::NearestTiesToEven,
-        "-0x1p-3",
-        Status::INEXACT,
-    ),
-    (
-        0xbfb9_9999_9999_999a,
-        0,
-        Round::NearestTiesToAway,
-        "-0x1p-3",
-        Status::INEXACT,
-    ),
-    (
-        0xbfb9_9999_9999_999a,
-        0,
-        Round::TowardPositive,
-        "-0x1p-4",
-        Status::INEXACT,
-    ),
-    (
-        0xbfb9_9999_9999_999a,
-        0,
-        Round::TowardNegative,
-        "-0x1p-3",
-        Status::INEXACT,
-    ),
-    (
-        0xbfb9_9999_9999_999a,
-        0,
-        Round::TowardZero,
-        "-0x1p-4",
-        Status::INEXACT,
-    ),
-    (
-        0x3fef_ffff_ffff_ffff,
-        12,
-        Round::NearestTiesToEven,
-        "0x1.000000000000p0",
-        Status::INEXACT,
-    ),
-    (
-        0x3fef_ffff_ffff_ffff,
-        12,
-        Round::TowardPositive,
-        "0x1.000000000000p0",
-        Status::INEXACT,
-    ),
-    (
-        0x3fef_ffff_ffff_ffff,
-        12,
-        Round::TowardZero,
-        "0x1.ffffffffffffp-1",
-        Status::INEXACT,
-    ),
-    (
-        0x3ff8_0000_0000_0000,
-        0,
-        Round::NearestTiesToEven,
-        "0x1p1",
-        Status::INEXACT,
-    ),
-    (
-        0x3ff8_0000_0000_0000,
-        0,
-        Round::NearestTiesToAway,
-        "0x1p1",
-        Status::INEXACT,
-    ),
-    (
-        0x3ff8_0000_0000_0000,
-        0,
-        Round::TowardPositive,
-        "0x1p1",
-        Status::INEXACT,
-    ),
-    (
-        0x3ff0_8000_0000_0000,
-        1,
-        Round::NearestTiesToEven,
-        "0x1.0p0",
-        Status::INEXACT,
-    ),
-    (
-        0x3ff1_8000_0000_0000,
-        1,
-        Round::NearestTiesToEven,
-        "0x1.2p0",
-        Status::INEXACT,
-    ),
-    (
-        0x3ff0_8000_0000_0000,
-        1,
-        Round::NearestTiesToAway,
-        "0x1.1p0",
-        Status::INEXACT,
-    ),
-    (
-        0x3ff0_8000_0000_0001,
-        1,
-        Round::NearestTiesToEven,
-        "0x1.1p0",
-        Status::INEXACT,
-    ),
-    (
-        0x3fb9_9999_9999_999a,
-        13,
-        Round::TowardPositive,
-        "0x1.999999999999ap-4",
-        Status::OK,
-    ),
-    (
-        0x3fb9_9999_9999_999a,
-        31,
-        Round::TowardPositive,
-        "0x1.999999999999a000000000000000000p-4",
-        Status::OK,
-    ),
-    (
-        0x7fef_ffff_ffff_ffff,
-        3,
-        Round::NearestTiesToEven,
-        "0x1.000p1024",
-        Status::INEXACT,
-    ),
-    (
-        0x7fef_ffff_ffff_ffff,
-        3,
-        Round::TowardZero,
-        "0x1.fffp1023",
-        Status::INEXACT,
-    ),
-    (0x1, 2, Round::NearestTiesToEven, "0x1.00p-1074", Status::OK),
-    (0x7, 0, Round::TowardZero, "0x1p-1072", Status::INEXACT),
-    (
-        0xffef_ffff_ffff_ffff,
-        0,
-        Round::TowardNegative,
-        "-0x1p1024",
-        Status::INEXACT,
-    ),
-    (0x0, 3, Round::TowardPositive, "0x0.000p0", Status::OK),
     (
         0x8000_0000_0000_0000,
         0,
         Round::TowardNegative,
         "-0x0p0",
         Status::OK,
-    ),
-    (
-        0x405e_dd2f_1a9f_be77,
-        4,
-        Round::NearestTiesToEven,
-        "0x1.edd3p6",
-        Status::INEXACT,
     ),
 ];
 

@@ -41,7 +41,6 @@ pub mod augmented;
 pub mod comparisons;
 pub mod conversion_modes;
 pub mod decimal_digits;
-pub mod finite_formats;
 pub mod format_of;
 pub mod hex_digits;
 pub mod machines;

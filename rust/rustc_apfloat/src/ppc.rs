@@ -106,8 +106,9 @@ impl<F> DoubleFloat<F> {
 }
 
 impl DoubleDouble {
-    /// The square root of the exact sum of the parts, rounded once to 106 digits, and split. The crate `rustc_apfloat`
-    /// has none.
+    /// The square root in the wide format of 106 digits, split. The sum of the parts is first rounded to nearest there,
+    /// as in every call that is made in the wide format: that of 1 + 2^-200 is 1 in every mode, with OK. The crate
+    /// `rustc_apfloat` has none.
     #[inline]
     pub fn sqrt_r(self, round: Round) -> StatusAnd<Self> {
         AsDouble::ITSELF.answer(AsDouble::ITSELF.inner(self).sqrt_r(round))

@@ -6,22 +6,27 @@ use crate::erased::apfloat_augmented::{
 };
 use crate::erased::formats_at_run_time::{BuiltInFormat, FlaggedFormat, InFormat};
 use crate::erased::rustc_apfloat::Float;
-use crate::erased::rustc_apfloat::ieee::{DoubleS, Flagged, HalfS, IeeeFlags, Semantics, SingleS};
+use crate::erased::rustc_apfloat::ieee::{
+    DoubleS, Flagged, Float8E4M3FNS, Float8E4M3FNUZS, Float8E5M2S, HalfS, IeeeFlags, Semantics, SingleS,
+};
 use crate::lines::{
     Answered, AugmentedCall, CallFault, ExtraField, Operand, Operands, PayloadCall, RowAnswer, RowFormat, StatusField,
     ValueField,
 };
 
 /// What an augmented operation returns in a format. It is made of several others, which are inlined, so rows can name
-/// three formats alone, with the flags of IEEE 754.
+/// few formats, with the flags of IEEE 754 where they have a choice.
 pub(crate) fn augmented_in(format: RowFormat, call: AugmentedCall, operands: Operands) -> Answered {
-    let RowFormat::BuiltIn(format, FlaggedFormat::AfterRounding(_)) = format else {
-        return Err(CallFault::Support);
-    };
     match format {
-        BuiltInFormat::Half => augmented::<IeeeFlags<HalfS>>(call, operands),
-        BuiltInFormat::Single => augmented::<IeeeFlags<SingleS>>(call, operands),
-        BuiltInFormat::Double => augmented::<IeeeFlags<DoubleS>>(call, operands),
+        RowFormat::BuiltIn(format, FlaggedFormat::AfterRounding(_)) => match format {
+            BuiltInFormat::Half => augmented::<IeeeFlags<HalfS>>(call, operands),
+            BuiltInFormat::Single => augmented::<IeeeFlags<SingleS>>(call, operands),
+            BuiltInFormat::Double => augmented::<IeeeFlags<DoubleS>>(call, operands),
+            BuiltInFormat::E5M2 => augmented::<IeeeFlags<Float8E5M2S>>(call, operands),
+            _ => Err(CallFault::Support),
+        },
+        RowFormat::BuiltIn(BuiltInFormat::E4M3FN, _) => augmented::<Float8E4M3FNS>(call, operands),
+        RowFormat::BuiltIn(BuiltInFormat::E4M3FNUZ, _) => augmented::<Float8E4M3FNUZS>(call, operands),
         _ => Err(CallFault::Support),
     }
 }

@@ -78,7 +78,7 @@ fn rounded_columns<S: Semantics>(x: IeeeFloat<S>, count: Operand, round: Round) 
 }
 
 /// The columns for a decimal, if there is one.
-fn columns(decimal: Option<Decimal>) -> RowAnswer {
+pub(crate) fn columns(decimal: Option<Decimal>) -> RowAnswer {
     let mut text = Text::of("");
     match decimal {
         Some(decimal) => {

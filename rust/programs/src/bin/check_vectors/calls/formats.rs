@@ -3,6 +3,7 @@
 use crate::calls::decimals::in_decimals;
 use crate::calls::in_a_format::{rounded_in, two_values_in, value_in};
 use crate::calls::of_type::of_type;
+use crate::calls::pairs;
 use crate::erased::apfloat_ieee::AnyFloat;
 use crate::erased::rustc_apfloat::ieee::{Flagged, IeeeFloat};
 use crate::erased::rustc_apfloat::ppc::{DoubleDouble, FallbackS};
@@ -16,7 +17,9 @@ use std::fmt::Debug;
 /// What a call returns in its formats; `text` is its operand if that is a text.
 pub(crate) fn answer(formats: Formats, request: Request, text: &str) -> Answered {
     match formats {
-        Formats::Pairs => of_type::<DoubleDouble>(request, text),
+        Formats::Pairs => pairs::in_pairs(request, text),
+        Formats::PairsTo(target) => pairs::to_format(target, request),
+        Formats::PairsFrom(source) => pairs::from_format(source, request),
         Formats::One(format) => in_one_format(format, request, text),
         Formats::FromPairs => from::<DoubleDouble, IeeeFloat<FallbackS>>(request),
         Formats::ToPairs => from::<IeeeFloat<FallbackS>, DoubleDouble>(request),
@@ -26,6 +29,7 @@ pub(crate) fn answer(formats: Formats, request: Request, text: &str) -> Answered
         | Formats::ToFewerDigits(_)
         | Formats::ToStorage(_, _)
         | Formats::FromStorage(_, _)
+        | Formats::Storage(_)
         | Formats::OfFlags => Err(CallFault::Support),
     }
 }

@@ -1,19 +1,19 @@
 //! Conversions from a storage format.
 
 use crate::calls::array::in_array;
+use crate::calls::projections;
 use crate::calls::storage::converted;
-use crate::erased::finite_formats::Float6E3M2FN;
 use crate::erased::formats_at_run_time::{FlaggedFormat, InFlaggedFormat};
 use crate::erased::rustc_apfloat::ieee::{Flagged, IeeeFloat};
-use crate::erased::rustc_apfloat::{Float, FloatConvert, Round, StatusAnd};
+use crate::erased::rustc_apfloat::{Float, Round, StatusAnd};
 use crate::erased::storage_arrays::{Ends, StoredFormat};
-use crate::erased::storage_formats::{E2M1FN, E2M3FN, E8M0FNU, Float8E3M4, StoredFloat, UE4M3};
+use crate::erased::storage_formats::{E2M1FN, E2M3FN, E3M2FN, E8M0FNU, Float8E3M4, StoredFloat, UE4M3};
 use crate::lines::{Answered, Call, CallFault, ConversionCall, OperationCall, Request, RowFormat, StorageName};
 
 /// What a conversion from a storage format to a built-in format returns.
 pub(crate) fn from_storage(source: StorageName, target: FlaggedFormat, bits: u128, request: Request) -> Answered {
     let Some(stored) = StoredFormat::named(source.word) else {
-        return Err(CallFault::Support);
+        return projections::loaded(source, target, bits, request);
     };
     let round = match request.call {
         Call::Conversion(ConversionCall::Convert) => Round::NearestTiesToEven,
@@ -60,7 +60,7 @@ fn value_of<T: Flagged>(
     match source {
         StoredFormat::E2M1FN => StoredFloat::<E2M1FN>::from_bits(code).convert_r(round, loses_info),
         StoredFormat::E2M3FN => StoredFloat::<E2M3FN>::from_bits(code).convert_r(round, loses_info),
-        StoredFormat::E3M2FN => Float6E3M2FN::from_bits(u128::from(code)).convert_r(round, loses_info),
+        StoredFormat::E3M2FN => StoredFloat::<E3M2FN>::from_bits(code).convert_r(round, loses_info),
         StoredFormat::E3M4 => Float8E3M4::from_bits(code).convert_r(round, loses_info),
         StoredFormat::E8M0FNU => E8M0FNU::from_bits(code).convert_r(round, loses_info),
         StoredFormat::UE4M3 => UE4M3::from_bits(code).convert_r(round, loses_info),

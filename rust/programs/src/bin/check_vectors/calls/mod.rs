@@ -4,6 +4,7 @@
 
 mod array;
 mod augmented;
+mod blocks;
 mod compared_between;
 mod decimals;
 mod digits;
@@ -20,6 +21,8 @@ mod odd;
 mod of_type;
 mod on_machine;
 mod operations;
+mod pairs;
+mod projections;
 mod saturated;
 mod storage;
 mod to_storage;
@@ -30,10 +33,12 @@ use crate::lines::{Answered, Call, Formats, OperationCall, Request};
 pub fn answer(formats: Formats, request: Request, text: &str) -> Answered {
     match (formats, request.call) {
         (Formats::OnMachine(_) | Formats::BetweenOnMachine(_, _), _) => on_machine::answer(formats, request),
+        (_, Call::Operation(OperationCall::OfBlock(call))) => blocks::answer(formats, call, request, text),
         (Formats::ToStorage(_, _) | Formats::FromStorage(_, _), _) => storage::answer(formats, request),
         (Formats::Between(source, target), Call::Operation(OperationCall::Saturate(call))) => {
             saturated::answer(source, target, call, request)
         }
+        (Formats::Storage(format), _) => projections::on_values(format, request),
         (_, Call::Operation(call)) => operations::answer(formats, call, request),
         _ => formats::answer(formats, request, text),
     }

@@ -5,11 +5,11 @@ use crate::calls::formats;
 use crate::calls::in_a_format::{rounded_in, value_in};
 use crate::calls::in_another::in_another;
 use crate::erased::apfloat_odd::{
-    from_i128_odd, from_u128_odd, round_to_odd_integral, to_i128_odd, to_odd, to_u128_odd,
+    from_i128_odd, from_u128_odd, round_odd_to, round_to_odd_integral, to_i128_odd, to_odd, to_u128_odd,
 };
-use crate::erased::formats_at_run_time::{InFlaggedFormat, InFormat};
-use crate::erased::rustc_apfloat::ieee::{Flagged, IeeeFloat, Semantics};
-use crate::erased::rustc_apfloat::{Float, Round, Status};
+use crate::erased::formats_at_run_time::{BuiltInFormat, InFlaggedFormat, InFormat};
+use crate::erased::rustc_apfloat::ieee::{Flagged, HalfS, IeeeFloat, Semantics, SingleS};
+use crate::erased::rustc_apfloat::{Float, Round, Status, StatusAnd};
 use crate::lines::{
     Answered, Call, CallFault, ConversionCall, FormatOfCall, Formats, OddCall, Operand, Request, RowAnswer, RowFormat,
     StatusField, ValueField,
@@ -24,7 +24,8 @@ pub(crate) fn in_odd(formats: Formats, call: OddCall, request: Request) -> Answe
             in_fewer_digits(target, call, None, request.operands)
         }
         (Formats::Between(source, target), OddCall::Convert) => converted(source, target, request),
-        (_, OddCall::Arithmetic(_) | OddCall::Convert) => Err(CallFault::Support),
+        (Formats::Between(source, target), OddCall::Again) => again(source, target, request),
+        (_, OddCall::Arithmetic(_) | OddCall::Convert | OddCall::Again) => Err(CallFault::Support),
         (Formats::One(RowFormat::BuiltIn(_, format)), _) => format.run(InOdd { call, request }),
         _ => Err(CallFault::Support),
     }
@@ -45,6 +46,41 @@ fn converted(source: RowFormat, target: RowFormat, request: Request) -> Answered
         stated: None,
     };
     formats::answer(Formats::Between(source, target), truncated, "").and_then(|answer| made_odd(target, answer))
+}
+
+/// A result that was rounded to odd, rounded again. It is code of its own for each pair of formats, so rows can name
+/// few first formats, in which flags make no difference.
+fn again(source: RowFormat, target: RowFormat, request: Request) -> Answered {
+    match source {
+        RowFormat::BuiltIn(BuiltInFormat::Half, _) => again_from::<HalfS>(target, request),
+        RowFormat::BuiltIn(BuiltInFormat::Single, _) => again_from::<SingleS>(target, request),
+        _ => Err(CallFault::Support),
+    }
+}
+
+/// The same, from the format `S`.
+fn again_from<S: Semantics>(target: RowFormat, request: Request) -> Answered {
+    let (Some(x), Operand::Status(status)) = (value_in::<S>(request.operands.first), request.operands.second) else {
+        return Err(CallFault::Operand);
+    };
+    match target {
+        RowFormat::BuiltIn(_, format) => format.run(Again { first: status.and(x), round: request.round }),
+        RowFormat::Other(_) => Err(CallFault::Support),
+    }
+}
+
+/// A result that was rounded to odd.
+struct Again<S: Semantics> {
+    first: StatusAnd<IeeeFloat<S>>,
+    round: Round,
+}
+
+impl<S: Semantics> InFlaggedFormat for Again<S> {
+    type Output = Answered;
+
+    fn in_flagged_format<T: Flagged>(self) -> Answered {
+        Ok(rounded_in(round_odd_to::<S, T>(self.first, self.round), None))
+    }
 }
 
 /// An answer toward zero in a built-in format, rounded to odd.

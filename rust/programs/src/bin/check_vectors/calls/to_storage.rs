@@ -1,11 +1,11 @@
 //! Conversions to a storage format.
 
 use crate::calls::array::in_array;
+use crate::calls::projections;
 use crate::calls::storage::converted;
-use crate::erased::finite_formats::Float6E3M2FN;
 use crate::erased::formats_at_run_time::{BuiltInFormat, InFormat};
 use crate::erased::rustc_apfloat::ieee::{IeeeFloat, Semantics};
-use crate::erased::rustc_apfloat::{Float, FloatConvert, Round, StatusAnd};
+use crate::erased::rustc_apfloat::{Float, Round, StatusAnd};
 use crate::erased::storage_arrays::{Ends, StoredFormat};
 use crate::erased::storage_formats::{
     ConversionRound, E2M1FN, E2M3FN, E3M2FN, E8M0FNU, Float8E3M4, NanResult, RandomDigits, RandomError, StorageFormat,
@@ -18,13 +18,17 @@ use crate::lines::{
 /// What a conversion from a built-in format to a storage format returns.
 pub(crate) fn to_storage(source: BuiltInFormat, target: StorageName, bits: u128, request: Request) -> Answered {
     let Some(stored) = StoredFormat::named(target.word) else {
-        return Err(CallFault::Support);
+        return mode_of(request).and_then(|mode| projections::stored(source, target, bits, mode));
     };
     if let Call::Operation(OperationCall::Saturate(call)) = request.call {
         let ends = Ends::Into(source, stored);
         return Ok(in_array(ends, call, request.round, bits, target.width));
     }
-    mode_of(request).and_then(|mode| source.run(ToStorage { bits, target: stored, width: target.width, mode }))
+    let nans = match request.call {
+        Call::Operation(OperationCall::ConvertStochasticAll) => NanResult::Largest,
+        _ => NanResult::Zero,
+    };
+    mode_of(request).and_then(|mode| source.run(ToStorage { bits, target: stored, width: target.width, mode, nans }))
 }
 
 /// How a conversion rounds.
@@ -33,7 +37,9 @@ fn mode_of(request: Request) -> Result<ConversionRound, CallFault> {
         Call::Conversion(ConversionCall::Convert) => Ok(ConversionRound::Ieee(Round::NearestTiesToEven)),
         Call::Conversion(ConversionCall::ConvertR) => Ok(ConversionRound::Ieee(request.round)),
         Call::Operation(OperationCall::Odd(OddCall::Convert)) => Ok(ConversionRound::ToOdd),
-        Call::Operation(OperationCall::ConvertStochastic) => random_mode(request.operands),
+        Call::Operation(OperationCall::ConvertStochastic | OperationCall::ConvertStochasticAll) => {
+            random_mode(request.operands)
+        }
         _ => Err(CallFault::Support),
     }
 }
@@ -68,6 +74,7 @@ struct ToStorage {
     target: StoredFormat,
     width: usize,
     mode: ConversionRound,
+    nans: NanResult,
 }
 
 impl InFormat for ToStorage {
@@ -76,7 +83,7 @@ impl InFormat for ToStorage {
     fn in_format<S: Semantics>(self) -> Answered {
         let mut loses_info = false;
         let x = IeeeFloat::<S>::from_bits(self.bits);
-        match code_of(x, self.target, self.mode, &mut loses_info) {
+        match code_of(x, self.target, self.mode, self.nans, &mut loses_info) {
             Some(code) => Ok(converted(code.value, self.width, code.status, loses_info)),
             None => Err(CallFault::Support),
         }
@@ -88,16 +95,13 @@ fn code_of<S: Semantics>(
     x: IeeeFloat<S>,
     target: StoredFormat,
     mode: ConversionRound,
+    nans: NanResult,
     loses_info: &mut bool,
 ) -> Option<StatusAnd<u128>> {
     match (target, mode) {
-        (StoredFormat::E2M1FN, _) => Some(element_of::<S, E2M1FN>(x, mode, loses_info)),
-        (StoredFormat::E2M3FN, _) => Some(element_of::<S, E2M3FN>(x, mode, loses_info)),
-        (StoredFormat::E3M2FN, ConversionRound::Ieee(round)) => {
-            let answer: StatusAnd<Float6E3M2FN> = x.convert_r(round, loses_info);
-            Some(answer.status.and(answer.value.to_bits()))
-        }
-        (StoredFormat::E3M2FN, _) => Some(element_of::<S, E3M2FN>(x, mode, loses_info)),
+        (StoredFormat::E2M1FN, _) => Some(element_of::<S, E2M1FN>(x, mode, nans, loses_info)),
+        (StoredFormat::E2M3FN, _) => Some(element_of::<S, E2M3FN>(x, mode, nans, loses_info)),
+        (StoredFormat::E3M2FN, _) => Some(element_of::<S, E3M2FN>(x, mode, nans, loses_info)),
         (StoredFormat::E3M4, ConversionRound::Ieee(round)) => {
             let answer = Float8E3M4::from_value(x, round, loses_info);
             Some(answer.status.and(u128::from(answer.value.to_bits())))
@@ -118,8 +122,9 @@ fn code_of<S: Semantics>(
 fn element_of<S: Semantics, F: StorageFormat>(
     x: IeeeFloat<S>,
     mode: ConversionRound,
+    nans: NanResult,
     loses_info: &mut bool,
 ) -> StatusAnd<u128> {
-    let answer = StoredFloat::<F>::from_value_by(x, mode, NanResult::Zero, loses_info);
+    let answer = StoredFloat::<F>::from_value_by(x, mode, nans, loses_info);
     answer.status.and(u128::from(answer.value.to_bits()))
 }

@@ -77,6 +77,8 @@ pub enum ExtraField {
     Exponent(ExpInt),
     /// The steps that a remainder takes, and their bound.
     Steps(u32, ExpInt),
+    /// How many elements of a block raised OVERFLOW, UNDERFLOW and INEXACT.
+    Counts([usize; 3]),
 }
 
 /// What a call returns, as the last three columns of a row.
@@ -342,6 +344,7 @@ impl ExtraField {
             }
             ExtraField::Exponent(exponent) => is_exponent(*exponent, word),
             ExtraField::Steps(taken, bound) => are_steps(*taken, *bound, word),
+            ExtraField::Counts(counts) => are_counts(*counts, word),
         }
     }
 
@@ -354,6 +357,7 @@ impl ExtraField {
             ExtraField::LosesInfo(_) => "loses_info=",
             ExtraField::Exponent(_) => "exponent=",
             ExtraField::Steps(_, _) => "steps=",
+            ExtraField::Counts(_) => "overflow=",
         }
     }
 
@@ -366,6 +370,7 @@ impl ExtraField {
             ExtraField::LosesInfo(_) => "`-`, or loses_info= with true or false",
             ExtraField::Exponent(_) => "`-`, or exponent= with an integer",
             ExtraField::Steps(_, _) => "`-`, or steps=3, or steps=3 bound=5",
+            ExtraField::Counts(_) => "`-`, or counts as in overflow=1 underflow=0 inexact=2",
         }
     }
 
@@ -379,6 +384,9 @@ impl ExtraField {
             }
             ExtraField::Exponent(exponent) => write!(out, "{exponent}"),
             ExtraField::Steps(taken, bound) => write_steps(*taken, *bound, in_row, out),
+            ExtraField::Counts([overflow, underflow, inexact]) => {
+                write!(out, "{overflow} underflow={underflow} inexact={inexact}")
+            }
         }
     }
 }
@@ -413,6 +421,14 @@ fn are_steps(taken: u32, bound: ExpInt, stated: &str) -> Option<bool> {
         (Some(is_bound), Some(is_taken)) => Some(is_taken && is_bound && is_within),
         _ => None,
     }
+}
+
+/// Whether the rest of a word spells these counts, as in `overflow=1 underflow=0 inexact=2`.
+fn are_counts(counts: [usize; 3], stated: &str) -> Option<bool> {
+    let (overflow, others) = stated.split_once(" underflow=")?;
+    let (underflow, inexact) = others.split_once(" inexact=")?;
+    let number = |word: &str| word.parse::<usize>().ok();
+    Some([number(overflow)?, number(underflow)?, number(inexact)?] == counts)
 }
 
 /// Whether a word spells this count.

@@ -5,6 +5,7 @@ use crate::erased::rustc_apfloat::Round;
 use crate::lines::call::Call;
 use crate::lines::call_fault::CallFault;
 use crate::lines::call_row::CallRow;
+use crate::lines::every::{self, EVERY};
 use crate::lines::fault::takes_mode;
 use crate::lines::formats::Formats;
 use crate::lines::operands::Operands;
@@ -25,6 +26,9 @@ static MODES: &[(&str, Round)] = &[
 
 /// Whether a row agrees in each mode that it names.
 pub fn agrees(row: CallRow<'_>) -> Result<bool, CallFault> {
+    if let Some(name) = row.call.strip_prefix(EVERY) {
+        return agree(every::answer(row, name), row.value, row.status, row.extra);
+    }
     Asked::of(row.call, row.format, row.mode, row.operands, row.value)
         .and_then(|asked| asked.agrees(row.value, row.status, row.extra))
 }
@@ -33,6 +37,9 @@ pub fn agrees(row: CallRow<'_>) -> Result<bool, CallFault> {
 pub fn write_answers(row: CallRow<'_>, out: &mut impl Write) -> io::Result<()> {
     let (value, status, extra) = (row.value, row.status, row.extra);
     writeln!(out, "  expected: {value}\t{status}\t{extra}")?;
+    if let Some(name) = row.call.strip_prefix(EVERY) {
+        return write_other(every::answer(row, name), value, status, extra, "", out);
+    }
     match Asked::of(row.call, row.format, row.mode, row.operands, value) {
         Ok(asked) => asked.write_given(value, status, extra, out),
         Err(_) => Ok(()),
@@ -71,6 +78,21 @@ impl<'a> Asked<'a> {
             }
             None => Err(CallFault::Operands),
         }
+    }
+
+    /// The width of an operand in bits, if it has bits.
+    pub fn width(self) -> Option<usize> {
+        self.formats.width()
+    }
+
+    /// The operands that are not texts.
+    pub fn operands(self) -> Operands {
+        self.operands
+    }
+
+    /// The same call with these operands.
+    pub fn with(self, operands: Operands) -> Asked<'a> {
+        Asked { operands, ..self }
     }
 
     /// What the call returns; to nearest, ties to even, if all modes are asked for.

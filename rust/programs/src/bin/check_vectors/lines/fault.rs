@@ -4,6 +4,7 @@ use crate::erased::commands::bits_of;
 use crate::lines::call::Call;
 use crate::lines::call_fault::CallFault;
 use crate::lines::call_row::CallRow;
+use crate::lines::every::EVERY;
 use crate::lines::form::Form;
 use crate::lines::formats::Formats;
 use crate::lines::machine_format::{MACHINE_WORDS, unflushed, unknown_machine};
@@ -33,6 +34,11 @@ impl<'a> CallRow<'a> {
             CallFault::Extra(form) => RowError::Word("nothing that the call returns", self.extra, form),
             CallFault::Value(form) => RowError::Word("no value of the call", self.value, form),
             CallFault::ValueBits(width) => bits_error("no value of the call", self.value, width),
+            CallFault::Operands if self.call.starts_with(EVERY) => RowError::Word(
+                "no operands of the call",
+                self.operands,
+                "a step for each value, and the other operands",
+            ),
             CallFault::Operands => operand_error(self.operands, form_of(self.call)),
             CallFault::Random(form) => RowError::Word("no random digits", self.operands, form),
             CallFault::Operand => value_error(self.operands, form_of(self.call), widths_of(self.call, self.format)),
@@ -81,6 +87,7 @@ fn modes(call: &str) -> &'static str {
 
 /// Whether the call of this name takes a rounding mode.
 pub fn takes_mode(call: &str) -> bool {
+    let call = call.strip_prefix(EVERY).unwrap_or(call);
     match OperationCall::named(call) {
         Some(operation) => operation.takes_mode(),
         None => call.ends_with("_r") || matches!(call, "round_to_integral" | "read_decimal" | "rounded"),

@@ -31,6 +31,8 @@ pub enum Form {
     Signed,
     /// The payload of a NaN.
     Payload,
+    /// A value, and flags.
+    ValueAndStatus,
     /// Flags.
     OneStatus,
     /// Flags, twice.
@@ -49,7 +51,8 @@ impl Form {
             | Form::ValueAndCount
             | Form::ValueAndDigits
             | Form::ValueAndPlaces
-            | Form::ValueAndRandom => 1,
+            | Form::ValueAndRandom
+            | Form::ValueAndStatus => 1,
             Form::TwoValues => 2,
             Form::ThreeValues => 3,
             _ => 0,
@@ -73,6 +76,7 @@ impl Form {
             Form::Unsigned => "an integer of 128 bits without a sign",
             Form::Signed => "an integer of 128 bits",
             Form::Payload => "hexadecimal digits or `None`",
+            Form::ValueAndStatus => "a value, and OK or names joined by bars, as OVERFLOW|INEXACT",
             Form::OneStatus => "OK, or names joined by bars, as OVERFLOW|INEXACT",
             Form::TwoStatuses => "two of OK, or names joined by bars, as OVERFLOW|INEXACT",
             Form::ThreeStatuses => "three of OK, or names joined by bars, as OVERFLOW|INEXACT",

@@ -18,6 +18,10 @@ pub enum Formats {
     FromPairs,
     /// From the wide format to pairs.
     ToPairs,
+    /// From pairs to another format.
+    PairsTo(RowFormat),
+    /// From another format to pairs.
+    PairsFrom(RowFormat),
     /// From one format to another.
     Between(RowFormat, RowFormat),
     /// From `x87` to one of its formats of fewer digits.
@@ -30,6 +34,8 @@ pub enum Formats {
     ToStorage(BuiltInFormat, StorageName),
     /// From a storage format to a built-in format.
     FromStorage(StorageName, FlaggedFormat),
+    /// One storage format.
+    Storage(StorageName),
     /// None, for operations on flags.
     OfFlags,
 }
@@ -56,12 +62,16 @@ impl Formats {
         }
         match word.split_once('>') {
             None if word == "dd" => Some(Formats::Pairs),
-            None => RowFormat::named(word).map(Formats::One),
+            None => RowFormat::named(word)
+                .map(Formats::One)
+                .or_else(|| StorageName::projection(word).map(Formats::Storage)),
             Some(("dd", "fallback")) => Some(Formats::FromPairs),
             Some(("fallback", "dd")) => Some(Formats::ToPairs),
             Some(("x87", target)) if target.starts_with("x87p") => {
                 FewerDigits::named(target).map(Formats::ToFewerDigits)
             }
+            Some(("dd", target)) => RowFormat::named(target).map(Formats::PairsTo),
+            Some((source, "dd")) => RowFormat::named(source).map(Formats::PairsFrom),
             Some((source, target)) => Formats::between(source, target),
         }
     }
@@ -69,10 +79,10 @@ impl Formats {
     /// The width of an operand in bits, if it has bits.
     pub fn width(self) -> Option<usize> {
         match self {
-            Formats::Pairs | Formats::FromPairs => Some(128),
-            Formats::One(format) | Formats::Between(format, _) => format.width(),
+            Formats::Pairs | Formats::FromPairs | Formats::PairsTo(_) => Some(128),
+            Formats::One(format) | Formats::Between(format, _) | Formats::PairsFrom(format) => format.width(),
             Formats::BetweenOnMachine(format, _) | Formats::ToStorage(format, _) => RowFormat::plain(format).width(),
-            Formats::FromStorage(format, _) => Some(format.width),
+            Formats::FromStorage(format, _) | Formats::Storage(format) => Some(format.width),
             Formats::OnMachine(target) => target.with_flags().width(),
             Formats::ToFewerDigits(_) => Some(80),
             Formats::ToPairs | Formats::OfFlags => None,

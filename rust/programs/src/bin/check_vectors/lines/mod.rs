@@ -11,6 +11,7 @@ mod call_fault;
 mod call_row;
 mod columns;
 mod command_row;
+mod every;
 mod fault;
 mod fewer_digits;
 mod form;
@@ -47,7 +48,7 @@ pub use fpgen::Fpgen;
 pub use machine_format::MachineFormat;
 pub use operands::{Operand, Operands, any_value, two_values, value_of};
 pub use operations::{
-    AugmentedCall, FlagsCall, FormatOfCall, GeneralCall, OddCall, OperationCall, OrderCall, PayloadCall, SaturateCall,
+    AugmentedCall, BlockCall, FlagsCall, FormatOfCall, GeneralCall, OddCall, OperationCall, OrderCall, PayloadCall, SaturateCall,
     ToIntegerCall,
 };
 pub use quanta::Quanta;

@@ -110,6 +110,13 @@ impl Operands {
         }
     }
 
+    /// A value and flags, separated by a space.
+    pub fn value_and_status(text: &str) -> Option<Operands> {
+        let (value, status) = text.split_once(' ')?;
+        let (first, second) = (Operand::value(value)?, Operand::Status(status_named(status)?));
+        Some(Operands { first, second, third: Operand::Nothing })
+    }
+
     /// A value, a number of digits and an integer without a sign, separated by spaces.
     pub fn value_and_random(text: &str) -> Option<Operands> {
         let (rest, random) = text.rsplit_once(' ')?;

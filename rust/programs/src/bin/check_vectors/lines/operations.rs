@@ -42,6 +42,10 @@ pub enum OperationCall {
     Saturate(SaturateCall),
     /// A conversion rounded with random digits.
     ConvertStochastic,
+    /// The same, where a NaN becomes the largest number.
+    ConvertStochasticAll,
+    /// A block of values with a common scale.
+    OfBlock(BlockCall),
     /// An operation on flags (5.7.4).
     OfFlags(FlagsCall),
     /// On a machine, a minimum, if true, or a maximum by a rule.
@@ -66,12 +70,24 @@ pub enum OddCall {
     Arithmetic(FormatOfCall),
     /// A value of another format.
     Convert,
+    /// A result that was rounded to odd, rounded again to another format.
+    Again,
     /// The value as an integral value.
     RoundToIntegral,
     FromU128,
     FromI128,
     ToU128,
     ToI128,
+}
+
+/// A call on a block, or on the values of a tensor.
+#[derive(Clone, Copy)]
+pub enum BlockCall {
+    Quantize,
+    Dequantize,
+    QuantizeNvfp4,
+    DequantizeNvfp4,
+    TensorScale,
 }
 
 /// A call on two values in the total order (5.10).
@@ -221,6 +237,13 @@ static OPERATIONS: &[(&str, OperationCall)] = &[
     ("convert_saturate_finite", OperationCall::Saturate(SaturateCall::Infinities)),
     ("convert_saturate_all", OperationCall::Saturate(SaturateCall::All)),
     ("convert_stochastic", OperationCall::ConvertStochastic),
+    ("convert_stochastic_all", OperationCall::ConvertStochasticAll),
+    ("round_odd_to", OperationCall::Odd(OddCall::Again)),
+    ("quantize_block", OperationCall::OfBlock(BlockCall::Quantize)),
+    ("dequantize_block", OperationCall::OfBlock(BlockCall::Dequantize)),
+    ("quantize_nvfp4_block", OperationCall::OfBlock(BlockCall::QuantizeNvfp4)),
+    ("dequantize_nvfp4_block", OperationCall::OfBlock(BlockCall::DequantizeNvfp4)),
+    ("tensor_scale", OperationCall::OfBlock(BlockCall::TensorScale)),
     ("lower_flags", OperationCall::OfFlags(FlagsCall::Lower)),
     ("raise_flags", OperationCall::OfFlags(FlagsCall::Raise)),
     ("test_flags", OperationCall::OfFlags(FlagsCall::Test)),
@@ -262,7 +285,8 @@ impl OperationCall {
             | OperationCall::WriteHex
             | OperationCall::OfPayload(_)
             | OperationCall::Saturate(_) => Form::OneValue,
-            OperationCall::ConvertStochastic => Form::ValueAndRandom,
+            OperationCall::ConvertStochastic | OperationCall::ConvertStochasticAll => Form::ValueAndRandom,
+            OperationCall::OfBlock(_) => Form::Text,
             OperationCall::WriteHexRounded => Form::ValueAndPlaces,
             OperationCall::ScaleB => Form::ValueAndExponent,
             OperationCall::ToInteger(_) => Form::ValueAndWidth,
@@ -279,7 +303,9 @@ impl OperationCall {
             | OperationCall::ToInteger(_)
             | OperationCall::WriteDigits
             | OperationCall::WriteHexRounded
-            | OperationCall::Saturate(_) => true,
+            | OperationCall::Saturate(_)
+            | OperationCall::Odd(OddCall::Again) => true,
+            OperationCall::OfBlock(call) => !matches!(call, BlockCall::TensorScale),
             OperationCall::OfOne(call) => {
                 matches!(call, GeneralCall::LogB | GeneralCall::RoundToIntegralIn)
             }
@@ -310,6 +336,7 @@ impl OddCall {
         match self {
             OddCall::Arithmetic(call) => call.form(),
             OddCall::Convert | OddCall::RoundToIntegral => Form::OneValue,
+            OddCall::Again => Form::ValueAndStatus,
             OddCall::FromU128 => Form::Unsigned,
             OddCall::FromI128 => Form::Signed,
             OddCall::ToU128 | OddCall::ToI128 => Form::ValueAndWidth,

@@ -17,6 +17,7 @@ pub fn operands_of(form: Form, text: &str) -> Option<Operands> {
         | Form::ValueAndDigits
         | Form::ValueAndPlaces => Operands::value_and_integer(text),
         Form::ValueAndRandom => Operands::value_and_random(text),
+        Form::ValueAndStatus => Operands::value_and_status(text),
         Form::OneStatus => Operands::one_status(text),
         Form::TwoStatuses => Operands::two_statuses(text),
         Form::ThreeStatuses => Operands::three_statuses(text),

@@ -1,4 +1,0 @@
-pub mod Formats
-pub mod Settled
-pub mod Types
-pub mod Laws
