@@ -168,7 +168,7 @@ MISTAKES = {
     ],
     "conversion-drops-payload": [
         (
-            "apfloat_conversions",
+            "apfloat_rounding",
             "",
             call("convert_r", "half>single", "even", "7c01", "7fc02000", "INVALID_OP", "loses_info=false"),
         )

@@ -150,11 +150,6 @@ read_odd_sign least of_zero exact unit negative answer significand r f g =
     odd_sign least of_zero negative answer significand (magnitude exact) (2 ^ down unit) (1 * 2 ^ up unit)
     (pow_pos (down unit)) u r.rounded f g ∙ ap (λ (z : ℤ). sign_of of_zero z) r.is
 
--- the magnitude of an amount with a sign is the amount
-pub magnitude_of_signed : (negative : Bool) (amount : ℕ) → magnitude (signed negative amount) ≡ amount
-magnitude_of_signed true amount = omega (arith, ints)
-magnitude_of_signed false amount = omega (arith, ints)
-
 -- the sum of the terms of two numbers, rounded to odd, represents the sum of their numbers of quanta
 pub odd_sum_read : (least digits precision scale : ℕ) (min xe ye tx ty e unit : ℤ)
     (left right negative : Bool) (mx my m n q : ℕ)

@@ -9,10 +9,10 @@ use Rattle.std.specs.Cmp.{nat_cmp_is, int_cmp_is, ranks, int_ranks}
 use Rattle.std.proofs.lemmas.Cmp.{by_ranked}
 use Rattle.std.proofs.lemmas.Int.{ints}
 use Rattle.std.proofs.lemmas.Nat.{pow_pos}
-use Rattle.std.proofs.lemmas.Bool.{and_parts, eqb-true, eq-eqb}
 use Rattle.std.proofs.Math.Nat.{mul-lt-mul_of_pos_right, lt_of_mul-lt-mul_right, pow-le-pow_right, two-pow-succ}
 use Rattle.apfloat_model.proofs.general.Powers.{two_pos}
-use Rattle.apfloat_model.proofs.general.Choices.{same_sign_is, same_sign_self, off_by}
+use Rattle.apfloat_model.proofs.general.Choices.{off_by}
+use Rattle.apfloat_model.proofs.order.Categories.{same_is, same_of}
 use Rattle.apfloat_model.specs.declared.kinds.Category.{Category}
 use Rattle.apfloat_model.specs.declared.kinds.Category.TheVariants.{Infinity, NaN, Normal, Zero}
 use Rattle.apfloat_model.specs.formats.Datum.{Datum, finite, infinite, nan}
@@ -219,28 +219,6 @@ by_sides (finite false (suc m)) (finite true (suc n)) r e f h = ap Some (above_b
 by_sides (finite false (suc m)) (finite false (suc n)) r e f h = ap Some (h refl)
 
 -- ---- equality of data
-
--- if `same_datum` holds of two data, they are equal
-same_is : (x y : Datum) → same_datum x y ≡ true → x ≡ y
-same_is (finite a m) (finite b n) e =
-    let p = and_parts _ _ e in
-    rw (same_sign_is a b p.0, eqb-true m n p.1) refl
-same_is (infinite a) (infinite b) e = ap infinite (same_sign_is a b e)
-same_is (nan a s) (nan b t) e =
-    let p = and_parts _ _ e in
-    rw (same_sign_is a b p.0, eqb-true s t p.1) refl
-same_is (finite a m) (infinite b) e = cc
-same_is (finite a m) (nan b t) e = cc
-same_is (infinite a) (finite b n) e = cc
-same_is (infinite a) (nan b t) e = cc
-same_is (nan a s) (finite b n) e = cc
-same_is (nan a s) (infinite b) e = cc
-
--- `same_datum` holds of a datum and itself
-same_of : (x : Datum) → same_datum x x ≡ true
-same_of (finite a m) = rw (same_sign_self a, eq-eqb m m refl) refl
-same_of (infinite a) = same_sign_self a
-same_of (nan a s) = rw (same_sign_self a, eq-eqb s s refl) refl
 
 -- values with equal fields are equal
 parts_same : (x y : Unpacked) → x.significand ≡ y.significand → x.exponent ≡ y.exponent → x.category ≡ y.category

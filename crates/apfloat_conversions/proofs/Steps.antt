@@ -1,9 +1,8 @@
 -- A stored number and its neighbours.
 use Rattle.std.proofs.Common.{◌≡◌, ℕ, ◌+◌, ◌-◌, ◌*◌, ◌^◌, ◌<◌, ◌≤◌, true, false, eqb, sym, refl, ap, ◌∙◌, subst, ⊎_elim, arith, ℤ, pos, ◌+ℤ◌, ◌-ℤ◌, ◌≤ℤ◌}
-use Rattle.std.proofs.Math.Nat.{eq_of_mul-eq-mul_right}
 use Rattle.std.proofs.lemmas.Nat.{pow-add, pow_pos}
 use Rattle.std.proofs.lemmas.Int.{ints}
-use Rattle.std.proofs.lemmas.Bool.{cases_eq, eq-eqb, ne_eqb}
+use Rattle.std.proofs.lemmas.Bool.{ne_eqb}
 use Rattle.apfloat_model.specs.formats.Format.{largest, greatest_significand}
 use Rattle.apfloat_model.specs.formats.Datum.{finite}
 use Rattle.apfloat_model.specs.rounding.Grid.{IsBelow, IsAbove}
@@ -14,6 +13,7 @@ use Rattle.apfloat_model.proofs.rounding.Deliveries.{signed_some}
 use Rattle.apfloat_model.proofs.arithmetic.Signs.{one_side}
 use Rattle.apfloat_model.proofs.general.Powers.{twice_half}
 use Rattle.apfloat_model.proofs.arithmetic.SingleScalings.{up_le, up_far, quanta_below}
+use Rattle.apfloat_model.proofs.general.Choices.{eqb_times}
 use Rattle.apfloat_rounding.specs.declared.shape.Shape.{Shape}
 use Rattle.apfloat_rounding.specs.Shapes.{format_at}
 use Rattle.apfloat_rounding.specs.Stored.{IsOperandAt, IsQuantaAt, IsNormalAt, quanta_at}
@@ -208,14 +208,6 @@ before_least shape m e n i k =
 
 -- ---- the largest
 
--- two magnitudes are equal if their multiples are
-same_multiple : (m g w : ℕ) → 0 < w → eqb m g ≡ eqb (m * w) (g * w)
-same_multiple m g w p =
-    ⊎_elim
-    (λ (e : m ≡ g). eq-eqb m g e ∙ sym (eq-eqb (m * w) (g * w) (ap (λ (x : ℕ). x * w) e)))
-    (λ (e : m ≡ g → ⊥). ne_eqb m g e ∙ sym (ne_eqb (m * w) (g * w) (λ h. e (eq_of_mul-eq-mul_right w p m g h))))
-    (cases_eq m g)
-
 -- at the greatest exponent, a number is the largest exactly if its significand is the greatest
 pub largest_at_top : (shape : Shape) (m g : ℕ) (e : ℤ) → IsNormalAt shape m e → e ≡ shape.max_exp
     → g ≡ greatest_significand shape.nonfinite shape.precision
@@ -228,7 +220,7 @@ largest_at_top shape m g e n i k =
     let q : IsQuantaAt shape.min_exp m e (m * 2 ^ (format_at shape).span) =
     let x : 2 ^ down (e -ℤ shape.min_exp) ≡ 1 = ap (λ (z : ℕ). 2 ^ z) w.1 in
     ap (λ (z : ℕ). m * 2 ^ (format_at shape).span * z) x ∙ omega arith ∙ ap (λ (z : ℕ). m * 2 ^ z) (sym c) in
-    let d = same_multiple m g (2 ^ (format_at shape).span) (pow_pos (format_at shape).span) in
+    let d = eqb_times m g (2 ^ (format_at shape).span) (pow_pos (format_at shape).span) in
     let f : eqb (m * 2 ^ (format_at shape).span) (g * 2 ^ (format_at shape).span)
     ≡ eqb (m * 2 ^ (format_at shape).span) (largest (format_at shape)) =
     ap (λ (z : ℕ). eqb (m * 2 ^ (format_at shape).span) (z * 2 ^ (format_at shape).span)) k in

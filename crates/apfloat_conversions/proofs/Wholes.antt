@@ -268,6 +268,3 @@ word_cut_stands s places shift half rest amount parts l n f z h r u e =
     cut_whole_stands s (s / 2 ^ shift) places amount parts (loss_at rest half) e
     (word_stands s 63 places shift (s * parts) parts (loss_at rest half) l' n f
     (less_than_half s 63 (s * parts) parts l' u refl) g)
-
-pub fits_longer : (s p k : ℕ) → s < 2 ^ p → p ≤ k → s < 2 ^ k
-fits_longer s p k l h = let a : 2 ^ p ≤ 2 ^ k = pow-le-pow_right two_pos h in omega (arith, l, a)

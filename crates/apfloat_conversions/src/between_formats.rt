@@ -7,14 +7,16 @@ ghost use Rattle.apfloat_model.specs.formats.Datum.{finite};
 ghost use Rattle.apfloat_model.specs.rounding.Rounding.{ok_bits, inexact_bit, zero_sign};
 ghost use Rattle.apfloat_model.specs.formats.Constants.{infinity_of};
 ghost use Rattle.apfloat_model.specs.arithmetic.Conversions.{IsConversion, IsConvertedNumber, IsExactlyConverted, IsKept, loses_zero_sign, has_infinities};
+ghost use Rattle.apfloat_model.specs.arithmetic.Conversions.{IsConverted, converted_nan, nan_loses};
+ghost use Rattle.apfloat_model.specs.formats.Nan.{invalid_if, is_signaling};
 ghost use Rattle.apfloat_rounding.specs.Shapes.{format_at};
-ghost use Rattle.apfloat_rounding.specs.Stored.{IsNormal, IsStored, datum_at, quanta_of};
+ghost use Rattle.apfloat_rounding.specs.Stored.{IsNan, IsNormal, IsStored, datum_at, quanta_of};
 ghost use Rattle.apfloat_conversions.specs.Results.{ConvertsAt};
 
 use crate::held::{has, widened};
-use crate::payloads::converted_nan;
 use apfloat_model::{Category, NonfiniteBehavior, Round, Status, StatusAnd};
 use apfloat_rounding::exponents::last_exponent;
+use apfloat_rounding::payloads::{converted_nan, nan_loses};
 use apfloat_rounding::rounding::deliver_counted_u128;
 use apfloat_rounding::shape::Shape;
 use apfloat_rounding::unpacked::{Unpacked, infinity_of, remade, significand_of, zero_of};
@@ -101,6 +103,22 @@ fn converted_zero(into: Shape, negative: bool) -> Converted
     kept(zero, zero.negative != negative)
 }
 
+/// A NaN, quieted, with the leading bits of its payload that the other format has room for (IEEE 754-2019 6.2.3).
+#[inline(always)]
+fn carried_nan(from: Shape, into: Shape, x: Unpacked) -> Converted
+    requires { IsNan from x }
+    ensures stored { IsStored into result.answer.value }
+    ensures converted { ConvertsAt into (IsConverted
+        (converted_nan (format_at from) (format_at into) x.negative x.significand)
+        (invalid_if (is_signaling (format_at from) x.significand))
+        (nan_loses (format_at from) (format_at into) x.significand)) result }
+{
+    Converted {
+        answer: converted_nan(from, into, x),
+        loses_info: nan_loses(from, into, x.significand),
+    }
+}
+
 /// Converts any value, out of line, so that only the conversion of a nonzero number is inlined.
 #[cold]
 #[inline(never)]
@@ -116,7 +134,7 @@ fn convert_apart(from: Shape, into: Shape, x: Unpacked, round: Round) -> Convert
         Category::Normal => converted_number(from, into, x, round),
         Category::Zero => converted_zero(into, x.negative),
         Category::Infinity => converted_infinity(into, x.negative),
-        Category::NaN => converted_nan(from, into, x),
+        Category::NaN => carried_nan(from, into, x),
     }
 }
 

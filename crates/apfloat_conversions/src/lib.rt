@@ -10,6 +10,5 @@ mod held;
 pub mod integers;
 pub mod integral;
 pub mod neighbours;
-mod payloads;
 pub mod scaling;
 pub mod whole;

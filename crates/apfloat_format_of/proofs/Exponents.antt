@@ -1,5 +1,5 @@
 -- Amounts and significands at exponents, counted from the places of an amount.
-use Rattle.std.proofs.Common.{◌≡◌, ℕ, zero, suc, ◌+◌, ◌-◌, ◌*◌, ◌%◌, ◌^◌, ◌<◌, ◌≤◌, sym, ap, ◌∙◌, arith, ℤ, pos, neg_ℤ, ◌+ℤ◌, ◌-ℤ◌}
+use Rattle.std.proofs.Common.{◌≡◌, ℕ, ◌+◌, ◌-◌, ◌*◌, ◌%◌, ◌^◌, ◌<◌, ◌≤◌, sym, ap, ◌∙◌, arith, ℤ, pos, neg_ℤ, ◌+ℤ◌, ◌-ℤ◌}
 use Rattle.std.proofs.Math.Path.{subst₂}
 use Rattle.std.proofs.Math.Nat.{eq_of_mul-eq-mul_right, mul-pos, mod-eq_of_lt}
 use Rattle.std.proofs.lemmas.Int.{ints}
@@ -8,7 +8,7 @@ use Rattle.apfloat_model.specs.declared.loss.Loss.{Loss}
 use Rattle.apfloat_model.specs.rounding.Standing.{StandsFor, up, down}
 use Rattle.apfloat_model.specs.rounding.RoundingToOdd.{IsRoundedToOdd}
 use Rattle.apfloat_model.proofs.arithmetic.Fractions.{product_stands, quotient_carries}
-use Rattle.apfloat_model.proofs.general.Powers.{pow3}
+use Rattle.apfloat_model.proofs.general.Powers.{pow3, left_factor}
 use Rattle.apfloat_model.proofs.rounding.KeptDigits.{stands_cancel, stands_times, fits_shifted, full_shifted}
 use Rattle.apfloat_model.proofs.rounding.OddRoundings.{to_odd_times, to_odd_cancel}
 use Rattle.apfloat_rounding.specs.Stored.{IsQuantaAt}
@@ -32,15 +32,11 @@ pub no_amount : (low e : ℤ) (n : ℕ) → IsQuantaAt low 0 e n → n ≡ 0
 no_amount low e n h =
     eq_of_mul-eq-mul_right (2 ^ down (e -ℤ low)) (pow_pos (down (e -ℤ low))) n 0 (omega (arith, h))
 
-positive : (n w : ℕ) → 0 < n * w → 0 < n
-positive zero w h = absurd (omega (arith, h))
-positive (suc n) w h = omega arith
-
 -- the amount of another significand is above 0
 pub some_amount : (low e : ℤ) (s n : ℕ) → 0 < s → IsQuantaAt low s e n → 0 < n
 some_amount low e s n p h =
     let u : 0 < s * 2 ^ up (e -ℤ low) = mul-pos p (pow_pos (up (e -ℤ low))) in
-    positive n (2 ^ down (e -ℤ low)) (omega (arith, h, u))
+    left_factor n (2 ^ down (e -ℤ low)) (omega (arith, h, u))
 
 -- ---- 125 digits
 

@@ -5,7 +5,6 @@ use Rattle.std.specs.Bool.{MatchBool}
 use Rattle.apfloat_model.specs.declared.kinds.Round.{Round}
 use Rattle.apfloat_model.specs.formats.Format.{Format, largest}
 use Rattle.apfloat_model.specs.formats.Constants.{infinity_of}
-use Rattle.apfloat_model.specs.formats.Nan.{invalid_if}
 use Rattle.apfloat_model.specs.rounding.Answer.{IsAnswer}
 use Rattle.apfloat_model.specs.rounding.RaisedFlags.{FlagsGoTogether}
 use Rattle.apfloat_model.specs.rounding.Rounding.{ok_bits, overflow_bit, underflow_bit, inexact_bit, raises_overflow, IsDelivered}
@@ -13,7 +12,7 @@ use Rattle.apfloat_model.specs.arithmetic.Exact.{same_sign}
 use Rattle.apfloat_model.specs.arithmetic.Quotients.{div_by_zero_bit}
 use Rattle.apfloat_model.specs.arithmetic.Conversions.{has_infinities}
 use Rattle.apfloat_model.proofs.general.Choices.{match_case, if_case}
-use Rattle.apfloat_model.proofs.rounding.FlagsTogether.{Together, ok_together, invalid_together, delivered_together, answer_together}
+use Rattle.apfloat_model.proofs.rounding.FlagsTogether.{Together, ok_together, invalid_together, delivered_together, answer_together, invalid_if_together, inexact_together}
 use Rattle.apfloat_format_of.specs.Extended.{Extended, number, infinity, not_number, seen, opposite}
 use Rattle.apfloat_format_of.specs.FormatOf.{IsSumOf, IsProductOf, IsQuotientOf, IsFusedSumOf, IsInfinity, IsNumberByInfinity, IsSumWithInfinity}
 use Rattle.apfloat_format_of.specs.RootsOf.{square_of, is_tiny_root, root_status, IsRootOfNumber, IsRootOfInfinity, IsRootOf}
@@ -21,21 +20,14 @@ use Rattle.apfloat_format_of.specs.RaisedFlags.{RaiseTogether}
 
 -- ---- statuses
 
-with_inexact : (status : ℕ) → 0 < bit_and status inexact_bit → FlagsGoTogether status
-with_inexact status i = record { overflow = λ o. i; underflow = λ u. i }
-
 only_inexact : FlagsGoTogether inexact_bit
-only_inexact = with_inexact inexact_bit (lit< tt)
+only_inexact = inexact_together inexact_bit (lit< tt)
 
 divided_by_zero : FlagsGoTogether div_by_zero_bit
 divided_by_zero =
     let o : bit_and 2 4 ≡ 0 = refl in
     let u : bit_and 2 8 ≡ 0 = refl in
     record { overflow = λ h. absurd (omega (arith, h, o)); underflow = λ h. absurd (omega (arith, h, u)) }
-
-invalid_if_together : (test : Bool) → FlagsGoTogether (invalid_if test)
-invalid_if_together true = invalid_together
-invalid_if_together false = ok_together
 
 infinity_flags : (test : Bool) → FlagsGoTogether (if test then ok_bits else inexact_bit)
 infinity_flags true = ok_together
@@ -109,10 +101,10 @@ root_status_together : (g : Format) (mode : Round) (square parts pick : ℕ)
 root_status_together g mode square parts pick =
     if_case FlagsGoTogether (ltb (largest g) pick)
     (λ past. if_case FlagsGoTogether (raises_overflow g mode false)
-    (λ out. with_inexact (overflow_bit + inexact_bit) (lit< tt)) (λ stays. only_inexact))
+    (λ out. inexact_together (overflow_bit + inexact_bit) (lit< tt)) (λ stays. only_inexact))
     (λ within. if_case FlagsGoTogether (eqb (square_of pick parts) square) (λ exact. ok_together)
     (λ lost. if_case FlagsGoTogether (is_tiny_root g mode square parts pick)
-    (λ tiny. with_inexact (underflow_bit + inexact_bit) (lit< tt)) (λ normal. only_inexact)))
+    (λ tiny. inexact_together (underflow_bit + inexact_bit) (lit< tt)) (λ normal. only_inexact)))
 
 root_of_number_together : (g : Format) (mode : Round) (negative : Bool) (amount places : ℕ)
     → Together (IsRootOfNumber g mode negative amount places)

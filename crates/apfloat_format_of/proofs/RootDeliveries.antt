@@ -1,6 +1,6 @@
 -- A fraction that agrees with a square root at quarters of quanta is rounded like the root, where a point of the grid
 -- is `parts` of the units that the root is counted in.
-use Rattle.std.proofs.Common.{◌≡◌, ℕ, ◌+◌, ◌-◌, ◌*◌, ◌/◌, ◌%◌, ◌^◌, ◌<◌, ◌≤◌, Bool, true, false, not, ◌&&◌, ◌||◌, eqb, ltb, leb, cond, if◌then◌else◌, sym, refl, ap, ◌∙◌, subst, ⊎_elim, arith}
+use Rattle.std.proofs.Common.{◌≡◌, ℕ, ◌+◌, ◌-◌, ◌*◌, ◌/◌, ◌%◌, ◌^◌, ◌<◌, ◌≤◌, Bool, true, false, not, ◌&&◌, ◌||◌, eqb, ltb, leb, cond, if◌then◌else◌, sym, ap, ◌∙◌, subst, ⊎_elim, arith}
 use Rattle.std.proofs.Math.Nat.{mul-pos}
 use Rattle.std.proofs.lemmas.Bool.{cases_lt, eq-eqb, ne_eqb, lt-ltb, le-ltb, le-leb, lt-leb, leb-false, ltb-true}
 use Rattle.apfloat_model.specs.declared.kinds.Round.{Round}
@@ -12,14 +12,11 @@ use Rattle.apfloat_model.specs.rounding.Rounding.{takes_above, IsPick, IsDeliver
 use Rattle.apfloat_model.specs.rounding.Standing.{StandsFor}
 use Rattle.apfloat_model.proofs.rounding.Picks.{takes_less, takes_half, takes_more}
 use Rattle.apfloat_model.proofs.arithmetic.RootSides.{AgreesWithRoot, coarser, agreeing}
+use Rattle.apfloat_model.proofs.general.Choices.{where_open, by_order}
+use Rattle.apfloat_model.proofs.arithmetic.RootDeliveries.{doubled}
 use Rattle.apfloat_words.specs.RootStanding.{RootStandsFor}
 use Rattle.apfloat_arithmetic.proofs.RootStandings.{stands}
 use Rattle.apfloat_format_of.specs.RootsOf.{square_of, IsBelowRoot, IsAboveRoot, IsRootPick, root_rounds_below_normal, is_tiny_root, root_status, IsDeliveredRoot}
-
--- what holds in each of the three orders of two numbers holds
-by_order : (P : Type 0) (m n : ℕ) → (m < n → P) → (m ≡ n → P) → (n < m → P) → P
-by_order P m n l e g =
-    ⊎_elim l (λ (h : n ≤ m). ⊎_elim g (λ (k : m ≤ n). e (omega arith)) (cases_lt n m)) (cases_lt m n)
 
 -- a fraction that agrees with the root at halves
 module _ (square parts amount units : ℕ) (halves : AgreesWithRoot square 2 amount units) where
@@ -146,23 +143,6 @@ module _ (square parts amount units : ℕ) (halves : AgreesWithRoot square 2 amo
       (λ q. let k = point_more n q in
       le-leb amount (n * (units * parts)) (omega (arith, k)) ∙
       sym (le-leb square (square_of n parts) (omega (arith, q))))
-
--- two chains of tests agree if they agree wherever the earlier tests leave the choice open
-where_open : (x y t u : Bool) → (x ≡ false → y ≡ true → t ≡ u)
-    → (x || (y && not t)) ≡ (x || (y && not u))
-where_open true y t u h = refl
-where_open false false t u h = refl
-where_open false true t u h = ap (λ (b : Bool). not b) (h refl refl)
-
--- twice the fraction agrees with twice the root at halves
-doubled : (square amount units : ℕ) → AgreesWithRoot square 4 amount units
-    → AgreesWithRoot (4 * square) 2 (2 * amount) units
-doubled square amount units a = record {
-  some = a.some;
-  less = λ n h. let k = a.less n (omega (arith, h)) in omega (arith, k);
-  same = λ n h. let k = a.same n (omega (arith, h)) in omega (arith, k);
-  more = λ n h. let k = a.more n (omega (arith, h)) in omega (arith, k);
-}
 
 -- a fraction that agrees with the root at quarters
 module _ (square parts amount units : ℕ) (agrees : AgreesWithRoot square 4 amount units) where

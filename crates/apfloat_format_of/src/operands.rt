@@ -6,10 +6,10 @@ ghost use Rattle.apfloat_rounding.specs.Stored.{IsNormal, IsStored, datum_at, qu
 ghost use Rattle.apfloat_format_of.specs.Extended.{Extended, seen, signals, opposite};
 ghost use Rattle.apfloat_format_of.specs.Operands.{IsOperand, IsTerm, IsNumber, StandsFor};
 
-use apfloat_conversions::between_formats::convert;
-use apfloat_model::{Category, Round};
+use apfloat_model::Category;
 use apfloat_rounding::exponents::lowered;
 use apfloat_rounding::nans::is_signaling;
+use apfloat_rounding::payloads::converted_nan;
 use apfloat_rounding::shape::Shape;
 use apfloat_rounding::unpacked::Unpacked;
 use apfloat_words::Term;
@@ -87,7 +87,7 @@ fn nan_operand(from: Shape, into: Shape, x: Unpacked) -> NanOperand
         (Operand.Nan result) }
 {
     NanOperand {
-        value: convert(from, into, x, Round::TowardZero).answer.value,
+        value: converted_nan(from, into, x).value,
         signaling: is_signaling(from, x),
     }
 }

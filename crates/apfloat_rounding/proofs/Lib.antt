@@ -7,3 +7,4 @@ pub mod CutRests
 pub mod OddCuts
 pub mod QuantumCuts
 pub mod FineCuts
+mod CarriedPayloads

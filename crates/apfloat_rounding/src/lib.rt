@@ -7,6 +7,7 @@
 pub mod bits;
 pub mod exponents;
 pub mod nans;
+pub mod payloads;
 pub mod rounding;
 pub mod shape;
 pub mod unpacked;

@@ -12,6 +12,7 @@ use Rattle.apfloat_model.proofs.bits.FieldsOf.{MayHaveSign, fields_encode, high_
 use Rattle.apfloat_model.proofs.formats.Greatest.{greatest_fits, greatest_full}
 use Rattle.apfloat_model.proofs.general.Powers.{two_pos, twice_half}
 use Rattle.apfloat_model.proofs.rounding.Neighbours.{carried}
+use Rattle.apfloat_model.proofs.bits.Encodings.{joined_bits}
 use Rattle.lane_conversions.specs.Targets.{largest_code}
 
 -- ---- past the largest value
@@ -126,15 +127,6 @@ low_encoded f layout negative n bits law implied sign low is =
     (omega (arith, sized, width)) is) in
     subst (λ (b : ℕ). IsEncodedBy f layout b (finite negative n)) same
     (fields_encode f layout x (finite negative n) law (low_fields_of f layout negative n law low sign))
-
--- the fields of a number, joined, are its sign, its place and its significand, added
-joined_bits : (negative : Bool) (e t place n bits top : ℕ) → 2 ^ t ≤ n → top ≡ t + e
-    → bits ≡ cond negative (2 ^ top) 0 + place * 2 ^ t + n
-    → (cond negative 1 0 * 2 ^ e + (place + 1)) * 2 ^ t + (n - 2 ^ t) ≡ bits
-joined_bits true e t place n bits top low at is =
-    let both : 2 ^ top ≡ 2 ^ t * 2 ^ e = ap (λ (x : ℕ). 2 ^ x) at ∙ pow-add 2 t e in
-    omega (arith, both, is, low)
-joined_bits false e t place n bits top low at is = omega (arith, is, low)
 
 -- a significand with all its digits, within the largest value
 encoded_full : (f : Format) (layout : Layout) (negative : Bool) (place n bits : ℕ) → IsInterchange f layout

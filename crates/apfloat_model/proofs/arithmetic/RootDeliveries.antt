@@ -1,5 +1,5 @@
 -- A fraction that agrees with a square root at quarters of quanta is rounded like the root.
-use Rattle.std.proofs.Common.{◌≡◌, ℕ, ◌+◌, ◌-◌, ◌*◌, ◌/◌, ◌%◌, ◌^◌, ◌<◌, ◌≤◌, Bool, true, false, not, ◌&&◌, ◌||◌, eqb, ltb, leb, cond, if◌then◌else◌, sym, refl, ap, ◌∙◌, ⊎_elim, arith}
+use Rattle.std.proofs.Common.{◌≡◌, ℕ, ◌+◌, ◌-◌, ◌*◌, ◌/◌, ◌%◌, ◌^◌, ◌<◌, ◌≤◌, Bool, true, false, not, ◌&&◌, ◌||◌, eqb, ltb, leb, cond, if◌then◌else◌, sym, ap, ◌∙◌, ⊎_elim, arith}
 use Rattle.std.proofs.lemmas.Bool.{cases_lt, eq-eqb, ne_eqb, lt-ltb, le-ltb, le-leb, lt-leb, leb-false, ltb-true}
 use Rattle.apfloat_model.specs.declared.kinds.Round.{Round}
 use Rattle.apfloat_model.specs.formats.Format.{Format, smallest_normalized, largest}
@@ -9,11 +9,7 @@ use Rattle.apfloat_model.specs.rounding.Rounding.{takes_above, IsPick, IsDeliver
 use Rattle.apfloat_model.specs.arithmetic.Roots.{IsBelowRoot, IsAboveRoot, IsRootPick, root_rounds_below_normal, is_tiny_root, root_status, IsDeliveredRoot}
 use Rattle.apfloat_model.proofs.rounding.Picks.{takes_less, takes_half, takes_more}
 use Rattle.apfloat_model.proofs.arithmetic.RootSides.{AgreesWithRoot, coarser}
-
--- what holds in each of the three orders of two numbers holds
-by_order : (P : Type 0) (m n : ℕ) → (m < n → P) → (m ≡ n → P) → (n < m → P) → P
-by_order P m n l e g =
-    ⊎_elim l (λ (h : n ≤ m). ⊎_elim g (λ (k : m ≤ n). e (omega arith)) (cases_lt n m)) (cases_lt m n)
+use Rattle.apfloat_model.proofs.general.Choices.{by_order, where_open}
 
 -- a fraction that agrees with the root at halves
 module _ (square amount parts : ℕ) (halves : AgreesWithRoot square 2 amount parts) where
@@ -132,15 +128,8 @@ module _ (square amount parts : ℕ) (halves : AgreesWithRoot square 2 amount pa
       (λ q. let k = point_more n q in
       le-leb amount (n * parts) (omega (arith, k)) ∙ sym (le-leb square (n * n) (omega arith)))
 
--- two chains of tests agree if they agree wherever the earlier tests leave the choice open
-where_open : (x y t u : Bool) → (x ≡ false → y ≡ true → t ≡ u)
-    → (x || (y && not t)) ≡ (x || (y && not u))
-where_open true y t u h = refl
-where_open false false t u h = refl
-where_open false true t u h = ap (λ (b : Bool). not b) (h refl refl)
-
 -- twice the fraction agrees with twice the root at halves
-doubled : (square amount parts : ℕ) → AgreesWithRoot square 4 amount parts
+pub doubled : (square amount parts : ℕ) → AgreesWithRoot square 4 amount parts
     → AgreesWithRoot (4 * square) 2 (2 * amount) parts
 doubled square amount parts a = record {
   some = a.some;

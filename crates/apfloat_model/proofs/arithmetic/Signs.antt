@@ -1,13 +1,15 @@
 -- Numbers by their signs and magnitudes.
-use Rattle.std.proofs.Common.{◌≡◌, ℕ, zero, suc, ℤ, pos, negsuc, ◌+ℤ◌, ◌<◌, ◌⊎◌, Bool, true, false, refl, ◌∙◌, inl, inr, arith}
+use Rattle.std.proofs.Common.{◌≡◌, ℕ, zero, suc, ℤ, pos, negsuc, ◌+ℤ◌, ◌≤ℤ◌, ◌<◌, ◌⊎◌, Bool, true, false, refl, ◌∙◌, inl, inr, arith}
 use Rattle.std.proofs.lemmas.Int.{ints}
 use Rattle.apfloat_model.specs.declared.kinds.Round.{Round}
 use Rattle.apfloat_model.specs.declared.kinds.NonfiniteBehavior.{NonfiniteBehavior}
 use Rattle.apfloat_model.specs.declared.kinds.NonfiniteBehavior.TheVariants.{IEEE754, NanOnly, NanNegativeZero}
 use Rattle.apfloat_model.specs.arithmetic.Exact.{up, down, signed, sign_of, magnitude, IsRounded}
 use Rattle.apfloat_model.specs.formats.Format.{Format}
-use Rattle.apfloat_model.specs.formats.Datum.{Datum}
+use Rattle.apfloat_model.specs.formats.Datum.{Datum, finite}
 use Rattle.apfloat_model.specs.rounding.Rounding.{zero_sign, IsDelivered}
+use Rattle.apfloat_model.specs.rounding.Negation.{negated}
+use Rattle.apfloat_model.proofs.general.Choices.{not_zero}
 
 -- 0 is the same integer with either sign
 pub no_sign : (negative : Bool) → signed negative 0 ≡ pos 0
@@ -54,6 +56,17 @@ pub one_side : (z : ℤ) → (up z ≡ 0) ⊎ (down z ≡ 0)
 one_side (pos n) = inr refl
 one_side (negsuc n) = inl refl
 
+-- an integer with a negative part has no positive part
+pub up_none : (z : ℤ) → 0 < down z → up z ≡ 0
+up_none (pos n) l = absurd (omega (arith, l))
+up_none (negsuc n) l = refl
+
+-- an integer that is not positive has no positive part
+pub no_up : (z : ℤ) → z ≤ℤ pos 0 → up z ≡ 0
+no_up (pos zero) h = refl
+no_up (pos (suc n)) h = absurd (omega (arith, ints, h))
+no_up (negsuc n) h = refl
+
 -- ---- a nonzero number is delivered as its sign and magnitude
 
 -- the rounding of a magnitude is that of the signed number
@@ -62,3 +75,8 @@ pub rounded_signed : (format : Format) (mode : Round) (of_zero negative : Bool) 
     → IsRounded format mode of_zero z parts value status
 rounded_signed format mode of_zero s m parts z value status e p h =
     rw (e, sign_signed of_zero s m p, magnitude_signed s m) h
+
+-- negating a nonzero number changes its sign
+pub negated_some : (kind : NonfiniteBehavior) (quanta : ℕ) → 0 < quanta
+    → negated kind (finite false quanta) ≡ finite true quanta
+negated_some kind quanta some = rw (not_zero quanta some) refl

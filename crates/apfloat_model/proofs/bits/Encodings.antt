@@ -1,5 +1,5 @@
 -- Bits and fields, and what the law of a format says of them.
-use Rattle.std.proofs.Common.{◌≡◌, ℕ, suc, ◌+◌, ◌-◌, ◌*◌, ◌/◌, ◌%◌, ◌^◌, ◌<◌, ◌≤◌, Bool, true, false, cond, eqb, refl, ap, ⊎_elim, arith}
+use Rattle.std.proofs.Common.{◌≡◌, ℕ, suc, ◌+◌, ◌-◌, ◌*◌, ◌/◌, ◌%◌, ◌^◌, ◌<◌, ◌≤◌, Bool, true, false, cond, eqb, refl, ap, ◌∙◌, ⊎_elim, arith}
 use Rattle.std.specs.Prelude.{pos, ◌-ℤ◌, unsigned_abs}
 use Rattle.std.proofs.lemmas.Int.{ints}
 use Rattle.std.proofs.lemmas.Nat.{pow_pos, pow-add, mod_low, shr_high, shr-shr, mul-add-lt, div_below, shr_split, mod_below}
@@ -132,3 +132,12 @@ module _ (format : Format) (layout : Layout) (law : IsInterchange format layout)
       let s : cond (eqb (bits / 2 ^ (layout.bits - 1) % 2) 1) 1 0 ≡ bits / 2 ^ w / 2 ^ layout.exponent_bits =
       rw (top, shr-shr bits w layout.exponent_bits) (odd_digit (bits / 2 ^ (w + layout.exponent_bits)) d) in
       rw s (rw (shr_split (bits / 2 ^ w) layout.exponent_bits) (shr_split bits w))
+
+-- the fields of a number, joined, are its sign, its place and its significand, added
+pub joined_bits : (negative : Bool) (e t place n bits top : ℕ) → 2 ^ t ≤ n → top ≡ t + e
+    → bits ≡ cond negative (2 ^ top) 0 + place * 2 ^ t + n
+    → (cond negative 1 0 * 2 ^ e + (place + 1)) * 2 ^ t + (n - 2 ^ t) ≡ bits
+joined_bits true e t place n bits top low at is =
+    let both : 2 ^ top ≡ 2 ^ t * 2 ^ e = ap (λ (x : ℕ). 2 ^ x) at ∙ pow-add 2 t e in
+    omega (arith, both, is, low)
+joined_bits false e t place n bits top low at is = omega (arith, is, low)

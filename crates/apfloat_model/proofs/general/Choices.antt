@@ -1,10 +1,10 @@
 -- Truth values, and choices that depend on them.
-use Rattle.std.proofs.Common.{◌≡◌, ℕ, zero, suc, ◌+◌, ◌*◌, ◌%◌, ◌<◌, ◌≤◌, Bool, true, false, cond, not, ◌&&◌, eqb, ltb, leb, if◌then◌else◌, Option, Some, None, refl, sym, ◌∙◌, ⊎_elim, arith}
+use Rattle.std.proofs.Common.{◌≡◌, ℕ, zero, suc, ◌+◌, ◌*◌, ◌%◌, ◌<◌, ◌≤◌, Bool, true, false, cond, not, ◌&&◌, ◌||◌, eqb, ltb, leb, if◌then◌else◌, Option, Some, None, refl, sym, ap, ◌∙◌, ⊎_elim, arith}
 use mathlib.Core.Bool.{beq}
 use Rattle.std.specs.Bool.{MatchBool}
-use Rattle.std.proofs.lemmas.Bool.{eq-eqb, ne_eqb, lt-ltb, le-ltb, lt-leb, le-leb, cases_lt, false≢true}
+use Rattle.std.proofs.lemmas.Bool.{eq-eqb, ne_eqb, lt-ltb, le-ltb, lt-leb, le-leb, cases_lt, cases_eq, false≢true}
 use Rattle.std.proofs.lemmas.Option.{none-some}
-use Rattle.std.proofs.Math.Nat.{mul-le-mul_right, mul-lt-mul_of_pos_right}
+use Rattle.std.proofs.Math.Nat.{mul-le-mul_right, mul-lt-mul_of_pos_right, eq_of_mul-eq-mul_right}
 use Rattle.apfloat_model.specs.arithmetic.Exact.{same_sign, product_sign}
 
 -- ---- tests
@@ -29,6 +29,12 @@ no_zero true true = refl
 no_zero true false = refl
 no_zero false true = refl
 no_zero false false = refl
+
+-- two chains of tests agree if they agree wherever the earlier tests leave the choice open
+pub where_open : (x y t u : Bool) → (x ≡ false → y ≡ true → t ≡ u) → (x || (y && not t)) ≡ (x || (y && not u))
+where_open true y t u h = refl
+where_open false false t u h = refl
+where_open false true t u h = ap (λ (b : Bool). not b) (h refl refl)
 
 -- ---- signs that are the same
 
@@ -127,6 +133,11 @@ pub match_false : (test : Bool) (P Q : Type 0) → test ≡ false → Q → Matc
 match_false true P Q e q = cc
 match_false false P Q e q = q
 
+-- a test that holds has chosen the first fact
+pub chosen : (test : Bool) (P Q : Type 0) → test ≡ true → MatchBool test P Q → P
+chosen true P Q e h = h
+chosen false P Q e h = absurd (false≢true e)
+
 -- what holds of two predicates holds of whichever a test chooses
 pub match_one : {A : Type 0} (Holds : (A → Type 0) → Type 0) (test : Bool) (P Q : A → Type 0) → Holds P → Holds Q
     → Holds (λ a. MatchBool test (P a) (Q a))
@@ -201,6 +212,19 @@ left_none false a other h = (refl, h)
 pub not_zero : (n : ℕ) → 0 < n → eqb n 0 ≡ false
 not_zero n h = ne_eqb n 0 (λ e. omega (arith, e, h))
 
+-- a number that does not test as 0 is above 0
+pub above_zero : (n : ℕ) → eqb n 0 ≡ false → 0 < n
+above_zero zero e = cc
+above_zero (suc n) e = omega arith
+
+-- a factor above 0 does not change whether two numbers are equal
+pub eqb_times : (a b factor : ℕ) → 0 < factor → eqb a b ≡ eqb (a * factor) (b * factor)
+eqb_times a b u p =
+    ⊎_elim
+    (λ (e : a ≡ b). eq-eqb a b e ∙ sym (eq-eqb (a * u) (b * u) (ap (λ (x : ℕ). x * u) e)))
+    (λ (e : a ≡ b → ⊥). ne_eqb a b e ∙ sym (ne_eqb (a * u) (b * u) (λ h. e (eq_of_mul-eq-mul_right u p a b h))))
+    (cases_eq a b)
+
 -- a factor above 0 does not change the order of two numbers
 pub ltb_times : (a b factor : ℕ) → 0 < factor → ltb a b ≡ ltb (a * factor) (b * factor)
 ltb_times a b u p =
@@ -216,6 +240,11 @@ at_least n m h =
     (λ (l : n < m). rw (lt-ltb n m l, lt-leb m n l) (not_itself (ltb 0 n)))
     (λ (l : m ≤ n). rw (lt-ltb 0 n (omega (arith, h, l)), le-ltb n m l, le-leb m n l) refl)
     (cases_lt n m)
+
+-- what holds in each of the three orders of two numbers holds
+pub by_order : (P : Type 0) (m n : ℕ) → (m < n → P) → (m ≡ n → P) → (n < m → P) → P
+by_order P m n l e g =
+    ⊎_elim l (λ (h : n ≤ m). ⊎_elim g (λ (k : m ≤ n). e (omega arith)) (cases_lt n m)) (cases_lt m n)
 
 -- ---- the sign of a product
 

@@ -1,7 +1,8 @@
 -- Powers of two: products of them, and their exponents.
-use Rattle.std.proofs.Common.{◌≡◌, ℕ, zero, suc, ◌+◌, ◌-◌, ◌*◌, ◌^◌, ◌<◌, ◌≤◌, refl, sym, ap, ◌∙◌, ⊎_elim, arith, lit<}
-use Rattle.std.proofs.Math.Nat.{pow-le-pow_right, two-pow-succ, mul-pos}
+use Rattle.std.proofs.Common.{◌≡◌, ℕ, zero, suc, ◌+◌, ◌-◌, ◌*◌, ◌%◌, ◌^◌, ◌<◌, ◌≤◌, refl, sym, ap, ◌∙◌, ⊎_elim, arith, lit<}
+use Rattle.std.proofs.Math.Nat.{pow-le-pow_right, two-pow-succ, mul-pos, mul-le-mul_left, mul-le-mul_right}
 use Rattle.std.proofs.lemmas.Nat.{pow-add, pow_pos}
+use lib.Pow.{mod-mod-pow}
 use Rattle.std.proofs.lemmas.Bool.{cases_lt}
 
 -- the base is above 0
@@ -46,6 +47,16 @@ exponent_below a b h =
     (λ (c : b ≤ a). let k : 2 ^ b ≤ 2 ^ a = pow-le-pow_right two_pos c in absurd (omega arith))
     (cases_lt a b)
 
+-- a number of few digits is below each greater power too
+pub fits_longer : (n digits more : ℕ) → n < 2 ^ digits → digits ≤ more → n < 2 ^ more
+fits_longer n digits more fits h =
+    let k : 2 ^ digits ≤ 2 ^ more = pow-le-pow_right two_pos h in omega (arith, fits, k)
+
+-- a number that is not 0 has digits
+pub some_digits : (n digits : ℕ) → 0 < n → n < 2 ^ digits → 0 < digits
+some_digits n zero some fits = absurd (omega (arith, some, fits))
+some_digits n (suc digits) some fits = omega arith
+
 -- n is below 2 ^ n
 pub below_power : (n : ℕ) → n < 2 ^ n
 below_power zero = omega arith
@@ -70,6 +81,23 @@ four precision h =
 pub exponent_between : (n a b : ℕ) → 2 ^ a ≤ n → n < 2 ^ (b + 1) → a ≤ b
 exponent_between n a b l h = let e = exponent_below a (b + 1) (omega arith) in omega arith
 
+-- a product of two significands has at least twice the digits of one, less 1
+pub product_full : (precision m n : ℕ) → 0 < precision → 2 ^ (precision - 1) ≤ m → 2 ^ (precision - 1) ≤ n
+    → 2 ^ (2 * precision - 1) ≤ 2 * (m * n)
+product_full precision m n some left right =
+    let digits : 2 * precision - 1 ≡ 1 + (precision - 1) + (precision - 1) = omega (arith, some) in
+    let power : 2 ^ (2 * precision - 1) ≡ 2 ^ 1 * 2 ^ (precision - 1) * 2 ^ (precision - 1) =
+    ap (λ (x : ℕ). 2 ^ x) digits ∙ pow3 1 (precision - 1) (precision - 1) in
+    let low : 2 ^ (precision - 1) * 2 ^ (precision - 1) ≤ 2 ^ (precision - 1) * n =
+    mul-le-mul_left (2 ^ (precision - 1)) right in
+    let high : 2 ^ (precision - 1) * n ≤ m * n = mul-le-mul_right n left in
+    omega (arith, power, low, high)
+
+-- the left factor of a product above 0 is above 0
+pub left_factor : (n k : ℕ) → 0 < n * k → 0 < n
+left_factor zero k h = absurd (omega (arith, h))
+left_factor (suc n) k h = omega arith
+
 -- if a positive number times a power of two equals n times a power of two, n is positive
 pub both_above_zero : (m n p q : ℕ) → n * 2 ^ p ≡ m * 2 ^ q → 0 < m → 0 < n
 both_above_zero m zero p q e l =
@@ -81,3 +109,9 @@ both_above_zero m (suc n) p q e l = omega arith
 pub both_zero : (n p q : ℕ) → n * 2 ^ p ≡ 0 * 2 ^ q → n ≡ 0
 both_zero zero p q e = refl
 both_zero (suc n) p q e = absurd (omega (arith, both_above_zero (suc n) 0 q p (sym e) (omega arith)))
+
+-- the lowest digits of a number are those of more of its lowest digits
+pub lower_mod : (n more digits : ℕ) → digits ≤ more → n % 2 ^ more % 2 ^ digits ≡ n % 2 ^ digits
+lower_mod n more digits h =
+    let e : more ≡ (more - digits) + digits = omega arith in
+    ap (λ (i : ℕ). n % 2 ^ i % 2 ^ digits) e ∙ mod-mod-pow n (more - digits) digits

@@ -1,5 +1,5 @@
 -- The value and the status that are delivered for a pick.
-use Rattle.std.proofs.Common.{◌≡◌, ℕ, ◌+◌, ◌*◌, ◌%◌, ◌^◌, ◌<◌, ◌≤◌, ◌⊎◌, Bool, true, false, cond, ltb, eqb, sym, refl, ap, ◌∙◌, subst, inl, inr, ⊎_elim, arith}
+use Rattle.std.proofs.Common.{◌≡◌, ℕ, zero, suc, ◌+◌, ◌*◌, ◌%◌, ◌^◌, ◌<◌, ◌≤◌, ◌⊎◌, Bool, true, false, cond, ltb, eqb, if◌then◌else◌, sym, refl, ap, ◌∙◌, subst, inl, inr, ⊎_elim, arith}
 use Rattle.std.proofs.Math.Nat.{mul-le-mul_right, mul-le-mul_left, mul-pos, mul_assoc}
 use Rattle.std.proofs.lemmas.Nat.{pow_pos}
 use Rattle.std.proofs.lemmas.Bool.{cases_lt, lt-ltb, le-ltb, eq-eqb, ne_eqb}
@@ -7,14 +7,17 @@ use Rattle.apfloat_model.specs.declared.kinds.Round.{Round}
 use Rattle.apfloat_model.specs.declared.loss.Loss.{Loss}
 use Rattle.apfloat_model.specs.declared.loss.Loss.TheVariants.{ExactlyZero, LessThanHalf, ExactlyHalf, MoreThanHalf}
 use Rattle.apfloat_model.specs.declared.kinds.NonfiniteBehavior.{NonfiniteBehavior}
+use Rattle.apfloat_model.specs.declared.kinds.NonfiniteBehavior.TheVariants.{IEEE754, NanOnly, NanNegativeZero}
 use Rattle.apfloat_model.specs.formats.Format.{Format, largest, greatest_significand, nan_base}
 use Rattle.apfloat_model.specs.formats.Datum.{Datum, finite}
 use Rattle.apfloat_model.specs.rounding.Standing.{StandsFor}
 use Rattle.apfloat_model.specs.rounding.Enclosure.{IsEnclosed, rounds_up}
-use Rattle.apfloat_model.specs.rounding.Rounding.{IsPick, IsDelivered, past_largest, signed_quanta, leads_out, raises_overflow, is_tiny}
+use Rattle.apfloat_model.specs.rounding.Rounding.{IsPick, IsDelivered, past_largest, signed_quanta, leads_out, raises_overflow, is_tiny, zero_sign}
 use Rattle.apfloat_model.proofs.rounding.Picks.{kept, pick_is, pick_unique}
 use Rattle.apfloat_model.proofs.rounding.Losses.{stands_past, stands_to}
+use Rattle.apfloat_model.specs.order.Classes.{is_finite}
 use Rattle.apfloat_model.proofs.general.Choices.{off_both}
+use Rattle.apfloat_model.proofs.arithmetic.Signs.{plus_zero}
 
 -- whether a pick is past the largest value, from the parts of that value
 pub past_is : (format : Format) (top place p : ℕ) (past answer : Bool)
@@ -27,6 +30,24 @@ past_is format top place p b v e d h k =
 pub signed_some : (kind : NonfiniteBehavior) (negative : Bool) (p : ℕ) → 0 < p
     → signed_quanta kind negative p ≡ finite negative p
 signed_some kind negative p h = let e : eqb p 0 ≡ false = ne_eqb p 0 (λ z. omega arith) in rw e refl
+
+-- signed quanta are a finite datum
+pub quanta_are : (kind : NonfiniteBehavior) (negative : Bool) (p : ℕ)
+    → signed_quanta kind negative p ≡ finite (if eqb p 0 then zero_sign kind negative else negative) p
+quanta_are kind negative zero = refl
+quanta_are kind negative (suc p) = rw (ne_eqb (suc p) 0 (λ z. omega arith)) refl
+
+-- without a sign, they are so in each kind of format
+pub unsigned_quanta : (kind : NonfiniteBehavior) (n : ℕ) → signed_quanta kind false n ≡ finite false n
+unsigned_quanta kind zero = ap (λ (b : Bool). finite b 0) (plus_zero kind)
+unsigned_quanta kind (suc n) = signed_some kind false (suc n) (omega arith)
+
+-- what lies past the largest value is not finite
+pub past_not_finite : (kind : NonfiniteBehavior) (base : ℕ) (negative : Bool)
+    → is_finite (past_largest kind base negative) ≡ false
+past_not_finite IEEE754 base negative = refl
+past_not_finite NanOnly base negative = refl
+past_not_finite NanNegativeZero base negative = refl
 
 -- what is delivered for a pick past the largest value
 pub delivered_past : (format : Format) (mode : Round) (negative : Bool) (amount parts p : ℕ) (value : Datum)

@@ -15,6 +15,7 @@ use Rattle.apfloat_model.proofs.general.Choices.{cond_within}
 use Rattle.apfloat_model.proofs.formats.Greatest.{greatest_fits}
 use Rattle.apfloat_model.proofs.rounding.Picks.{kept, pick_is, pick_unique}
 use Rattle.apfloat_model.proofs.rounding.Laws.{pick_within, delivered_exists}
+use Rattle.apfloat_model.proofs.rounding.Neighbours.{multiple_on_grid}
 
 -- at or above the power of two past every value
 pub record IsFarAbove (format : Format) (amount parts : ℕ) : Type 0 where
@@ -39,11 +40,17 @@ largest_below format =
     subst (λ (x : ℕ). greatest_significand format.nonfinite format.precision * 2 ^ format.span < x) (sym e) a
 
 -- each power of two is on the grid
-power_on_grid : (precision k : ℕ) → 0 < precision → IsOnGrid precision (2 ^ k)
+pub power_on_grid : (precision k : ℕ) → 0 < precision → IsOnGrid precision (2 ^ k)
 power_on_grid precision k h =
     let l : 1 ≤ precision = h in
     let a : 2 ^ 1 ≤ 2 ^ precision = pow-le-pow_right two_pos l in
     record { significand = 1; place = k; fits = omega arith; is = omega arith }
+
+-- so is the largest value
+pub largest_on_grid : (format : Format) → IsOnGrid format.precision (largest format)
+largest_on_grid format =
+    multiple_on_grid format.precision (greatest_significand format.nonfinite format.precision) format.span
+    (greatest_fits format.nonfinite format.precision)
 
 -- whatever is picked is past the largest value
 pub picks_past : (format : Format) (mode : Round) (negative : Bool) (amount parts p : ℕ) → 0 < format.precision

@@ -31,6 +31,7 @@ use Rattle.apfloat_model.specs.whole_numbers.SignedWholes.{IsNegatedWhole}
 use Rattle.apfloat_model.specs.texts.Specials.{Meaning, infinity, not_a_number, hexadecimal}
 use Rattle.apfloat_model.specs.texts.Readings.{IsMeant, IsReading}
 use Rattle.apfloat_model.proofs.general.Choices.{match_case, if_case}
+use Rattle.apfloat_model.proofs.general.Powers.{left_factor}
 
 -- the relation holds only of statuses in which these flags go together
 abbrev pub Together : {A : Type 0} → (A → ℕ → Type 0) → Type 0
@@ -39,7 +40,7 @@ Together {A} R = (value : A) (status : ℕ) → R value status → FlagsGoTogeth
 -- ---- a status
 
 -- a status with INEXACT is such a status
-inexact_together : (status : ℕ) → 0 < bit_and status inexact_bit → FlagsGoTogether status
+pub inexact_together : (status : ℕ) → 0 < bit_and status inexact_bit → FlagsGoTogether status
 inexact_together status i = record { overflow = λ o. i; underflow = λ u. i }
 
 -- a status with neither OVERFLOW nor UNDERFLOW is such a status
@@ -54,7 +55,7 @@ ok_together = neither_together ok_bits refl refl
 pub invalid_together : FlagsGoTogether invalid_bit
 invalid_together = neither_together invalid_bit refl refl
 
-invalid_if_together : (test : Bool) → FlagsGoTogether (invalid_if test)
+pub invalid_if_together : (test : Bool) → FlagsGoTogether (invalid_if test)
 invalid_if_together test = if_case FlagsGoTogether test (λ e. invalid_together) (λ e. ok_together)
 
 div_by_zero_together : FlagsGoTogether div_by_zero_bit
@@ -67,10 +68,6 @@ inexact_unless_together : (exact : Bool) → FlagsGoTogether (inexact_unless exa
 inexact_unless_together exact = if_case FlagsGoTogether exact (λ e. ok_together) (λ e. only_inexact_together)
 
 -- ---- the flags of two statuses
-
-left_factor : (n k : ℕ) → 0 < n * k → 0 < n
-left_factor zero k h = absurd (omega (arith, h))
-left_factor (suc n) k h = omega arith
 
 -- a bit of a maximum is a bit of one of the two
 either_bit : (a b : ℕ) → 0 < max a b → (0 < a) ⊎ (0 < b)

@@ -1,9 +1,9 @@
 -- Where a rounding is exact, each mode has the same result.
-use Rattle.std.proofs.Common.{◌≡◌, ℕ, zero, suc, ◌+◌, ◌-◌, ◌*◌, ◌/◌, ◌%◌, ◌^◌, ◌<◌, Bool, true, false, ltb, eqb, sym, refl, ◌∙◌, subst, arith, ◌⊎◌, inl, inr, ⊎_elim, lit<, ap}
+use Rattle.std.proofs.Common.{◌≡◌, ℕ, zero, suc, ◌+◌, ◌-◌, ◌*◌, ◌/◌, ◌%◌, ◌^◌, ◌<◌, Bool, true, false, cond, ltb, eqb, sym, refl, ◌∙◌, subst, arith, ◌⊎◌, inl, inr, ⊎_elim, lit<, ap}
 use Rattle.std.specs.Prelude.{ℤ, pos, negsuc, ◌+ℤ◌, ◌-ℤ◌, if◌then◌else◌, List}
 use Rattle.std.specs.Bool.{MatchBool}
 use Rattle.std.proofs.lemmas.Nat.{pow_pos}
-use Rattle.std.proofs.lemmas.Bool.{ltb-false, eqb-true, eqb-false, cases_eq, eq-eqb, ne_eqb}
+use Rattle.std.proofs.lemmas.Bool.{ltb-false, eqb-true, cases_eq, eq-eqb, ne_eqb}
 use Rattle.apfloat_model.specs.declared.kinds.Round.{Round}
 use Rattle.apfloat_model.specs.formats.Format.{Format, largest}
 use Rattle.apfloat_model.specs.formats.Datum.{Datum, finite, infinite, nan}
@@ -21,7 +21,7 @@ use Rattle.apfloat_model.specs.texts.Readings.{IsMeant, IsReading}
 use Rattle.apfloat_model.specs.arithmetic.Products.{IsProduct}
 use Rattle.apfloat_model.specs.arithmetic.Quotients.{IsQuotient}
 use Rattle.apfloat_model.specs.arithmetic.FusedSums.{IsSumWithProduct, IsFusedSum}
-use Rattle.apfloat_model.proofs.general.Choices.{if_case, not_zero}
+use Rattle.apfloat_model.proofs.general.Choices.{if_case, not_zero, above_zero}
 use Rattle.apfloat_model.proofs.rounding.Laws.{delivered_once, exact_delivered, zero_delivered}
 use Rattle.apfloat_model.proofs.texts.OneMeaning.{one_meaning}
 
@@ -52,14 +52,18 @@ ok_is_exact format mode negative amount parts pick e =
     (is_tiny format mode negative amount parts pick) e in
     (t.0, eqb-true (pick * parts) amount t.1)
 
-pick_on_grid : (precision : ℕ) (mode : Round) (negative : Bool) (amount parts pick : ℕ)
+-- whichever of two grid numbers a test chooses is a grid number, and so is a pick
+pub either_on_grid : (test : Bool) (precision x y : ℕ) → IsOnGrid precision x → IsOnGrid precision y
+    → IsOnGrid precision (cond test x y)
+either_on_grid true precision x y g h = g
+either_on_grid false precision x y g h = h
+
+pub pick_on_grid : (precision : ℕ) (mode : Round) (negative : Bool) (amount parts pick : ℕ)
     → IsPick precision mode negative amount parts pick → IsOnGrid precision pick
 pick_on_grid precision mode negative amount parts pick x =
     subst (λ (point : ℕ). IsOnGrid precision point) (sym x.is)
-    (if_case (λ (point : ℕ). IsOnGrid precision point)
-    (takes_above mode negative (amount - x.below * parts) (x.above * parts - amount)
-    (eqb (x.below / (x.above - x.below) % 2) 1))
-    (λ above. x.is_above.on_grid) (λ below. x.is_below.on_grid))
+    (either_on_grid (takes_above mode negative (amount - x.below * parts) (x.above * parts - amount)
+    (eqb (x.below / (x.above - x.below) % 2) 1)) precision x.above x.below x.is_above.on_grid x.is_below.on_grid)
 
 -- a rounding with status OK in one mode has the same value, with status OK, in each mode
 pub ok_in_each_mode : (format : Format) (mode other : Round) (negative : Bool) (amount parts : ℕ) (value : Datum)
@@ -113,10 +117,6 @@ product_agrees format (infinite b) (infinite c) = answer_agrees _ _
 product_agrees format (finite b m) (finite c n) =
     delivered_agrees format (product_sign b c) (m * n) (2 ^ format.scale) (pow_pos format.scale)
 
-pub some : (n : ℕ) → eqb n 0 ≡ false → 0 < n
-some zero e = absurd (eqb-false 0 0 e refl)
-some (suc n) e = omega arith
-
 pub quotient_agrees : (format : Format) (x y : Datum) → AgreesWhereOk (λ mode. IsQuotient format mode x y)
 quotient_agrees format (nan b s) y = answer_agrees _ _
 quotient_agrees format (finite b m) (nan c t) = answer_agrees _ _
@@ -129,7 +129,7 @@ quotient_agrees format (finite b m) (finite c n) =
     (λ mode. IsDelivered format mode (product_sign b c) (m * 2 ^ format.scale) n)
     (λ e. match_agrees (eqb m 0) (λ mode. IsAnswer _ _) (λ mode. IsAnswer _ _) (λ e. answer_agrees _ _)
     (λ e. answer_agrees _ _))
-    (λ e. delivered_agrees format (product_sign b c) (m * 2 ^ format.scale) n (some n e))
+    (λ e. delivered_agrees format (product_sign b c) (m * 2 ^ format.scale) n (above_zero n e))
 
 pub from_unsigned_agrees : (format : Format) (number : ℕ)
     → AgreesWhereOk (λ mode. IsFromUnsigned format mode number)

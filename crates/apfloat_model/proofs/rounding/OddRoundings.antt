@@ -44,6 +44,13 @@ beyond_to_odd n digits k l h p =
     let w : 2 ^ digits ≤ 2 ^ k = pow-le-pow_right two_pos l in
     inr (record { long = omega arith; odd = refl; above = omega (arith, p); below = omega (arith, w, h) })
 
+-- a significand that is at least a bound, and is rounded to odd, is rounded to odd with that bound
+pub long_to_odd : (least first s amount u : ℕ) → least ≤ s → IsRoundedToOdd first s amount u
+    → IsRoundedToOdd least s amount u
+long_to_odd least first s amount u l (inl e) = inl e
+long_to_odd least first s amount u l (inr b) =
+    inr (record { long = l; odd = b.odd; above = b.above; below = b.below })
+
 -- a number without its lowest digits, with the last digit that is left set if they are not all 0
 pub set_if_lost : (n places : ℕ) (lost : Bool) → (lost ≡ true → 0 < n % 2 ^ places)
     → (lost ≡ false → n % 2 ^ places ≡ 0)

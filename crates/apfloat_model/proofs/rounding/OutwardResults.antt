@@ -27,9 +27,9 @@ use Rattle.apfloat_model.specs.texts.Readings.{read_nan, IsMeant, IsReading}
 use Rattle.apfloat_model.specs.texts.Specials.{Meaning, infinity, not_a_number, hexadecimal}
 use Rattle.apfloat_model.specs.whole_numbers.WholeNumbers.{IsFromUnsigned, IsFromSigned}
 use Rattle.apfloat_model.proofs.arithmetic.Signs.{no_sign}
-use Rattle.apfloat_model.proofs.general.Choices.{not_zero}
+use Rattle.apfloat_model.proofs.general.Choices.{not_zero, above_zero}
 use Rattle.apfloat_model.proofs.rounding.Laws.{delivered_once, zero_delivered}
-use Rattle.apfloat_model.proofs.rounding.ModesAgree.{some, added, product_agrees}
+use Rattle.apfloat_model.proofs.rounding.ModesAgree.{added, product_agrees}
 use Rattle.apfloat_model.proofs.texts.OneMeaning.{one_meaning}
 use Rattle.apfloat_model.proofs.rounding.OutwardRoundings.{at_most_self, equal_to_self, equal_numbers, number_at_most, Encloses, delivered_encloses}
 
@@ -124,7 +124,7 @@ quotient_encloses format (finite b m) (finite c n) =
     (λ e. invalid_or_encloses (IsOkOrOfZero (finite c n)) format (eqb m 0) (infinity_of format (product_sign b c))
     div_by_zero_bit (λ _ _. inr e))
     (λ e low high s t d g k l. exact_by_ok (finite c n) low high s t e
-    (delivered_encloses format (product_sign b c) (m * 2 ^ format.scale) n (some n e) low high s t d g k l))
+    (delivered_encloses format (product_sign b c) (m * 2 ^ format.scale) n (above_zero n e) low high s t d g k l))
 
 pub from_unsigned_encloses : (format : Format) (number : ℕ)
     → Encloses IsOk (λ mode. IsFromUnsigned format mode number)

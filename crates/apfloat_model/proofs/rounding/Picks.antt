@@ -1,5 +1,5 @@
 -- Which neighbour is picked, decided by the rest of the magnitude.
-use Rattle.std.proofs.Common.{◌≡◌, ℕ, ◌+◌, ◌-◌, ◌*◌, ◌/◌, ◌%◌, ◌^◌, ◌<◌, ◌≤◌, Bool, cond, eqb, sym, refl, ap, ◌∙◌, ⊎_elim, arith}
+use Rattle.std.proofs.Common.{◌≡◌, ℕ, ◌+◌, ◌-◌, ◌*◌, ◌/◌, ◌%◌, ◌^◌, ◌<◌, ◌≤◌, Bool, true, false, cond, eqb, sym, refl, ap, ◌∙◌, ⊎_elim, arith}
 use Rattle.apfloat_model.specs.declared.kinds.Round.{Round}
 use Rattle.apfloat_model.specs.declared.kinds.Round.TheVariants.{NearestTiesToEven, TowardPositive, TowardNegative, TowardZero, NearestTiesToAway}
 use Rattle.apfloat_model.specs.declared.loss.Loss.{Loss}
@@ -40,6 +40,13 @@ takes_more TowardNegative negative odd x y h = refl
 takes_more TowardZero negative odd x y h = refl
 takes_more NearestTiesToAway negative odd x y h = grind arith
 
+-- to nearest, ties to even, the upper neighbour is taken only if it is no farther, and not taken only if it is no nearer
+pub even_nearer : (negative odd : Bool) (x y : ℕ) → takes_above NearestTiesToEven negative x y odd ≡ true → y ≤ x
+even_nearer negative odd x y h = grind arith
+
+pub even_farther : (negative odd : Bool) (x y : ℕ) → takes_above NearestTiesToEven negative x y odd ≡ false → x ≤ y
+even_farther negative odd x y h = grind arith
+
 -- a factor above 0 does not change which neighbour a mode takes
 pub takes_scaled : (mode : Round) (negative odd : Bool) (x y factor : ℕ) → 0 < factor
     → takes_above mode negative x y odd ≡ takes_above mode negative (x * factor) (y * factor) odd
@@ -61,7 +68,7 @@ takes_scaled mode negative odd x y w p =
     (cases_lt x y)
 
 -- the lower neighbour, counted in steps to the upper one, is odd if and only if its significand is
-odd_is : (m c : ℕ) → eqb (m * 2 ^ c / ((m + 1) * 2 ^ c - m * 2 ^ c) % 2) 1 ≡ eqb (m % 2) 1
+pub odd_is : (m c : ℕ) → eqb (m * 2 ^ c / ((m + 1) * 2 ^ c - m * 2 ^ c) % 2) 1 ≡ eqb (m % 2) 1
 odd_is m c =
     let d : (m + 1) * 2 ^ c - m * 2 ^ c ≡ 2 ^ c = omega arith in
     ap (λ (x : ℕ). eqb (m * 2 ^ c / x % 2) 1) d ∙ ap (λ (x : ℕ). eqb (x % 2) 1) (mul-div_cancel m (pow_pos c))

@@ -11,7 +11,7 @@ use Rattle.apfloat_model.specs.declared.kinds.NonfiniteBehavior.TheVariants.{IEE
 use Rattle.apfloat_model.specs.formats.Format.{Format, largest, greatest_significand, nan_base}
 use Rattle.apfloat_model.specs.formats.Datum.{Datum, finite, infinite, nan}
 use Rattle.apfloat_model.specs.rounding.Grid.{IsOnGrid}
-use Rattle.apfloat_model.specs.rounding.Rounding.{takes_above, IsPick, IsDelivered, delivered_value, signed_quanta, past_largest}
+use Rattle.apfloat_model.specs.rounding.Rounding.{IsPick, IsDelivered, delivered_value, signed_quanta, past_largest}
 use Rattle.apfloat_model.specs.rounding.Negation.{negated}
 use Rattle.apfloat_model.specs.order.Classes.{is_finite}
 use Rattle.apfloat_model.specs.arithmetic.Exact.{magnitude, signed, sign_of, IsRounded}
@@ -22,6 +22,8 @@ use Rattle.apfloat_model.proofs.rounding.Laws.{pick_within}
 use Rattle.apfloat_model.proofs.arithmetic.Signs.{magnitude_signed, one_side}
 use Rattle.apfloat_model.proofs.general.Choices.{cond_times}
 use Rattle.apfloat_model.proofs.arithmetic.SumLaws.{signed_quanta_is}
+use Rattle.apfloat_model.proofs.rounding.ModesAgree.{either_on_grid}
+use Rattle.apfloat_model.proofs.rounding.Picks.{even_farther, even_nearer}
 use Rattle.apfloat_pair_theory.proofs.numbers.Signed.{IsGridNumber, on_grid_as}
 use Rattle.apfloat_pair_theory.proofs.numbers.SignedProducts.{difference_times, magnitude-times, times_one, signed_times}
 use Rattle.apfloat_pair_theory.proofs.numbers.Nearest.{IsNearest}
@@ -30,15 +32,8 @@ use Rattle.apfloat_pair_theory.proofs.numbers.Nearest.{IsNearest}
 abbrev pub apart : ℕ → ℕ → ℕ
 apart m n = (m - n) + (n - m)
 
--- the upper neighbour is taken only if it is no farther, and not taken only if it is no nearer
-takes_nearer : (negative odd : Bool) (x y : ℕ) → takes_above NearestTiesToEven negative x y odd ≡ true → y ≤ x
-takes_nearer negative odd x y h = grind arith
-
-leaves_farther : (negative odd : Bool) (x y : ℕ) → takes_above NearestTiesToEven negative x y odd ≡ false → x ≤ y
-leaves_farther negative odd x y h = grind arith
-
 -- the picked neighbour is no farther than any other grid number
-near_at : (above : Bool) (low high other amount p : ℕ) → low ≤ amount → amount ≤ high
+pub near_at : (above : Bool) (low high other amount p : ℕ) → low ≤ amount → amount ≤ high
     → (above ≡ true → high - amount ≤ amount - low) → (above ≡ false → amount - low ≤ high - amount)
     → p ≡ cond above high low → (amount ≤ other → high ≤ other) → (other ≤ amount → other ≤ low)
     → apart p amount ≤ apart other amount
@@ -50,12 +45,6 @@ near_at false low high other amount p l h f g e u v =
     let w = g refl in
     ⊎_elim (λ (q : other < amount). let k : other ≤ low = v (omega arith) in omega (arith, w))
     (λ (q : amount ≤ other). let k : high ≤ other = u q in omega (arith, w)) (cases_lt other amount)
-
--- whichever of two grid numbers is taken is a grid number
-either_on_grid : (first : Bool) (precision x y : ℕ) → IsOnGrid precision x → IsOnGrid precision y
-    → IsOnGrid precision (cond first x y)
-either_on_grid true precision x y g h = g
-either_on_grid false precision x y g h = h
 
 pub pick_on_grid : (precision : ℕ) (negative : Bool) (amount parts p : ℕ)
     → IsPick precision NearestTiesToEven negative amount parts p → IsOnGrid precision p
@@ -69,7 +58,7 @@ pub pick_nearest : (precision : ℕ) (negative : Bool) (amount parts p other : �
 pick_nearest precision negative amount parts p other x o =
     near_at _ (x.below * parts) (x.above * parts) (other * parts) amount
     (p * parts) x.is_below.not_above x.is_above.not_below
-    (takes_nearer negative _ _ _) (leaves_farther negative _ _ _)
+    (even_nearer negative _ _ _) (even_farther negative _ _ _)
     (ap (λ (n : ℕ). n * parts) x.is ∙ cond_times _ x.above x.below parts)
     (λ h. mul-le-mul_right parts (x.is_above.least other o h))
     (λ h. mul-le-mul_right parts (x.is_below.greatest other o h))

@@ -261,7 +261,7 @@ within_finite b m answer p l s =
 -- ---- the low part is a double
 
 -- a grid number within the largest value is a double
-member_of : (datum : Datum) → is_finite datum ≡ true → IsGridNumber double.precision (number datum)
+pub member_of : (datum : Datum) → is_finite datum ≡ true → IsGridNumber double.precision (number datum)
     → magnitude (number datum) ≤ largest double → IsMember double datum
 member_of (finite b n) f g l = record {
   on_grid = on_grid_as (magnitude_signed b n) g;

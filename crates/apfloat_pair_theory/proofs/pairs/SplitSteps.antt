@@ -113,7 +113,7 @@ record IsSmallRest (negative : Bool) (m n : ℕ) : Type 0 where
   within : magnitude (signed negative m -ℤ signed negative n) ≤ largest double
 
 -- an eighth of a wide number is within the largest double
-eighth_within : (e m l w : ℕ) → 8 * e ≤ m → m ≤ w → w ≤ 8 * l → e ≤ l
+pub eighth_within : (e m l w : ℕ) → 8 * e ≤ m → m ≤ w → w ≤ 8 * l → e ≤ l
 eighth_within e m l w h k i = omega arith
 
 -- the rest of a wide number beyond its high part is on the grid of doubles and within their range

@@ -27,7 +27,7 @@ second_negated x y r = record {
 }
 
 -- adding the negated number subtracts it
-minus_is : (a b c : ℤ) → c ≡ neg_ℤ b → (a +ℤ c) ≡ (a -ℤ b)
+pub minus_is : (a b c : ℤ) → c ≡ neg_ℤ b → (a +ℤ c) ≡ (a -ℤ b)
 minus_is a b c e = omega (arith, ints)
 
 -- the difference of two doubles is error-free

@@ -1,7 +1,7 @@
 use Rattle.std.proofs.Common.{◌≡◌, ℕ, ◌*◌, ◌^◌, ◌<◌, ◌≤◌, ◌-◌, sym, subst, arith}
 use Rattle.std.proofs.Math.Nat.{pow-le-pow_right}
-use Rattle.apfloat_model.proofs.general.Powers.{two_pos, twice_half}
-use Rattle.apfloat_arithmetic.proofs.WideTerms.{wide_fits, product_full}
+use Rattle.apfloat_model.proofs.general.Powers.{two_pos, twice_half, product_full}
+use Rattle.apfloat_arithmetic.proofs.WideTerms.{wide_fits}
 use Rattle.apfloat_arithmetic.proofs.products.raised_product.Goals as goal
 
 pub overflow_mul-result : goal.overflow_mul-result

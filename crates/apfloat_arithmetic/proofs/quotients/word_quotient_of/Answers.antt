@@ -1,15 +1,7 @@
 use Rattle.std.proofs.Common.{◌≡◌, ℕ, ◌+◌, ◌*◌, ◌^◌, ◌<◌, ◌≤◌, arith}
-use Rattle.std.proofs.Math.Nat.{pow-le-pow_right}
-use Rattle.apfloat_model.proofs.general.Powers.{two_pos, twice_power}
+use Rattle.apfloat_model.proofs.general.Powers.{twice_power, fits_longer}
 use Rattle.apfloat_model.proofs.rounding.KeptDigits.{fits_shifted}
 use Rattle.apfloat_arithmetic.proofs.quotients.word_quotient_of.Goals as goal
-
--- a significand that fits in a precision fits in each greater one
-fits_within : (significand precision bound : ℕ) → significand < 2 ^ precision → precision ≤ bound
-    → significand < 2 ^ bound
-fits_within significand precision bound fits l =
-    let a : 2 ^ precision ≤ 2 ^ bound = pow-le-pow_right two_pos l in
-    omega (arith, a, fits)
 
 -- a dividend below twice a divisor of at most 31 digits, moved up, fits in a word
 moved_within : (dividend divisor precision : ℕ) → dividend < 2 * divisor → divisor < 2 ^ precision → precision ≤ 31
@@ -21,7 +13,7 @@ moved_within dividend divisor precision close fits l =
 pub divide_by_guess-requires-clause-narrow : goal.divide_by_guess-requires-clause-narrow
 divide_by_guess-requires-clause-narrow c =
     let s = c.requires.short in
-    fits_within c.args.divisor c.args.precision 62 c.requires.divisor_fits (omega (arith, s))
+    fits_longer c.args.divisor c.args.precision 62 c.requires.divisor_fits (omega (arith, s))
 
 pub divide_word-requires-clause-fits : goal.divide_word-requires-clause-fits
 divide_word-requires-clause-fits c =

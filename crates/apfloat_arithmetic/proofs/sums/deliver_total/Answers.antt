@@ -8,9 +8,10 @@ use Rattle.apfloat_model.specs.arithmetic.Sums.{zero_sum_sign}
 use Rattle.apfloat_model.specs.rounding.Flags.{bits_of}
 use Rattle.apfloat_model.specs.rounding.Rounding.{IsDelivered}
 use Rattle.apfloat_model.specs.rounding.Standing.{up, down}
+use Rattle.apfloat_model.proofs.arithmetic.Signs.{magnitude_signed}
 use Rattle.apfloat_rounding.specs.Shapes.{format_at}
 use Rattle.apfloat_rounding.specs.Stored.{datum_at}
-use Rattle.apfloat_arithmetic.proofs.Additions.{odd_sign, magnitude_of_signed}
+use Rattle.apfloat_arithmetic.proofs.Additions.{odd_sign}
 use Rattle.apfloat_arithmetic.proofs.sums.deliver_total.Goals as goal
 
 pub returns-clause-delivered : goal.returns-clause-delivered
@@ -29,4 +30,4 @@ returns-clause-delivered c = λ amount parts p h.
     c.sign_of_odd_total-negative.ensures.other in
     subst₂ (λ (b : Bool) (n : ℕ). IsDelivered (format_at s) c.args.round b n parts
     (datum_at s c.deliver_u128.result.value) (bits_of c.deliver_u128.result.status)) e
-    (sym (magnitude_of_signed total.negative amount)) (d amount parts p h)
+    (sym (magnitude_signed total.negative amount)) (d amount parts p h)

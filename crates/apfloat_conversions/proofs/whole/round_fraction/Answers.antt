@@ -1,9 +1,9 @@
 use Rattle.std.proofs.Common.{◌≡◌, ℕ, ◌*◌, ◌^◌, ◌<◌, ◌≤◌, sym, ◌∙◌, refl, arith}
 use Rattle.std.proofs.Math.Nat.{pow-le-pow_right}
-use Rattle.apfloat_model.proofs.general.Powers.{two_pos}
+use Rattle.apfloat_model.proofs.general.Powers.{two_pos, fits_longer}
 use Rattle.apfloat_model.specs.rounding.Standing.{StandsFor}
 use Rattle.apfloat_model.proofs.rounding.PickedPoints.{kept_moved, kept_stayed}
-use Rattle.apfloat_conversions.proofs.Wholes.{whole_at, exact_at, cut_whole_stands, cut_below, fits_longer}
+use Rattle.apfloat_conversions.proofs.Wholes.{whole_at, exact_at, cut_whole_stands, cut_below}
 use Rattle.apfloat_conversions.proofs.whole.round_fraction.Goals.{After-shift_right-kept}
 use Rattle.apfloat_conversions.proofs.whole.round_fraction.Goals as goal
 

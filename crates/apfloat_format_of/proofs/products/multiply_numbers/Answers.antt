@@ -4,9 +4,9 @@ use Rattle.apfloat_model.specs.arithmetic.Exact.{product_sign, signed, sign_of, 
 use Rattle.apfloat_model.specs.arithmetic.Sums.{zero_sum_sign}
 use Rattle.apfloat_model.specs.rounding.Flags.{bits_of}
 use Rattle.apfloat_model.specs.rounding.Rounding.{IsDelivered}
+use Rattle.apfloat_model.proofs.arithmetic.Signs.{magnitude_signed}
 use Rattle.apfloat_rounding.specs.Shapes.{format_at}
 use Rattle.apfloat_rounding.specs.Stored.{datum_at}
-use Rattle.apfloat_arithmetic.proofs.Additions.{magnitude_of_signed}
 use Rattle.apfloat_format_of.proofs.OddTotals.{sign_of_product}
 use Rattle.apfloat_format_of.proofs.products.multiply_numbers.Goals as goal
 
@@ -21,4 +21,4 @@ returns-clause-product c = λ m s n t hx hy.
     (magnitude exact * 2 ^ g.scale) (2 ^ (s + t)) v i) c.product_of-total.ensures.negative
     (c.deliver_total_in.ensures.delivered exact (s + t) (c.product_of-total.ensures.total m n s t hx hy)) in
     subst₂ (λ (b : Bool) (k : ℕ). IsDelivered g c.args.round b (k * 2 ^ g.scale) (2 ^ (s + t)) v i)
-    (sign_of_product c.args.round sign (m * n)) (magnitude_of_signed sign (m * n)) d
+    (sign_of_product c.args.round sign (m * n)) (magnitude_signed sign (m * n)) d

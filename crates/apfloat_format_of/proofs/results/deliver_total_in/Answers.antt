@@ -10,7 +10,7 @@ use Rattle.apfloat_rounding.specs.Shapes.{format_at}
 use Rattle.apfloat_rounding.specs.Stored.{datum_at}
 use Rattle.apfloat_model.proofs.general.Powers.{two_pos}
 use Rattle.apfloat_model.proofs.rounding.OddRoundings.{to_odd_least}
-use Rattle.apfloat_arithmetic.proofs.Additions.{magnitude_of_signed}
+use Rattle.apfloat_model.proofs.arithmetic.Signs.{magnitude_signed}
 use Rattle.apfloat_format_of.proofs.Exponents.{in_target}
 use Rattle.apfloat_format_of.proofs.results.deliver_total_in.Goals as goal
 
@@ -50,7 +50,7 @@ returns-clause-delivered c = λ exact places t.
     ∙ ap (λ (z : ℤ). sign_of of_zero z) t.is in
     subst₂ (λ (b : Bool) (n : ℕ). IsDelivered (format_at s) c.args.round b n (2 ^ places)
     (datum_at s c.deliver_total.result.value) (bits_of c.deliver_total.result.status)) sign
-    (magnitude_of_signed total.negative amount)
+    (magnitude_signed total.negative amount)
     (c.deliver_total.ensures.delivered amount (2 ^ places) (pow_pos places)
     (to_odd_least (2 ^ 126) (2 ^ (s.precision + 1)) total.significand _ _ least
     (in_target (2 ^ 126) total.significand (magnitude exact) places (format_at s).scale total.exponent t.rounded)))

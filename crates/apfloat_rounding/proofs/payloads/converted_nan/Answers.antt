@@ -1,6 +1,6 @@
-use Rattle.apfloat_conversions.proofs.ConvertedValues.{nan_fits}
 use Rattle.std.proofs.Common.{refl}
-use Rattle.apfloat_conversions.proofs.payloads.converted_nan.Goals as goal
+use Rattle.apfloat_rounding.proofs.CarriedPayloads.{nan_fits}
+use Rattle.apfloat_rounding.proofs.payloads.converted_nan.Goals as goal
 
 pub carried_payload-payload-requires : goal.carried_payload-payload-requires
 carried_payload-payload-requires c =
@@ -18,5 +18,4 @@ returns-clause-converted c =
         c.quieted_significand-quieted.ensures.value,
       ) refl;
       status_is = rw (c.and.ensures.status, c.status_of.ensures, c.signals.ensures) refl;
-      loses_is = c.nan_loses.ensures;
     }

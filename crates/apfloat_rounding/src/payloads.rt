@@ -2,18 +2,16 @@
 //! format has room for (IEEE 754-2019 6.2.3).
 
 ghost use Rattle.std.specs.Prelude.{◌≡◌, ◌-◌, ◌*◌, ◌/◌, ◌^◌, ◌<◌};
-ghost use Rattle.apfloat_model.specs.arithmetic.Conversions.{IsConverted, places_out, nan_loses, converted_nan};
+ghost use Rattle.apfloat_model.specs.arithmetic.Conversions.{places_out, nan_loses, converted_nan};
 ghost use Rattle.apfloat_model.specs.formats.Nan.{invalid_if, is_signaling};
+ghost use Rattle.apfloat_model.specs.rounding.Answer.{IsAnswer};
 ghost use Rattle.apfloat_rounding.specs.Shapes.{format_at};
-ghost use Rattle.apfloat_rounding.specs.Stored.{IsNan, IsNanSignificandAt, IsStored};
-ghost use Rattle.apfloat_conversions.specs.Results.{ConvertsAt};
+ghost use Rattle.apfloat_rounding.specs.Stored.{IsNan, IsNanSignificandAt, IsStored, GivesAt};
 
-use crate::between_formats::Converted;
-use apfloat_rounding::nans::{
-    payload_mask, quiet_significand, quieted_significand, signals, status_of,
-};
-use apfloat_rounding::shape::Shape;
-use apfloat_rounding::unpacked::{Unpacked, nan_of};
+use crate::nans::{payload_mask, quiet_significand, quieted_significand, signals, status_of};
+use crate::shape::Shape;
+use crate::unpacked::{Unpacked, nan_of};
+use apfloat_model::StatusAnd;
 use apfloat_words::low_digits;
 
 /// How many low bits the significand of a NaN loses: the leading bit of a payload stays the leading bit.
@@ -42,7 +40,7 @@ fn carried_payload(from: Shape, into: Shape, significand: u128) -> u128
 
 /// Whether a NaN loses information: a set bit of its payload, the integer bit of a signaling NaN, or the whole payload.
 #[inline(always)]
-fn nan_loses(from: Shape, into: Shape, significand: u128) -> bool
+pub fn nan_loses(from: Shape, into: Shape, significand: u128) -> bool
     requires { IsNanSignificandAt from significand }
     ensures { result ≡ nan_loses (format_at from) (format_at into) significand }
 {
@@ -57,19 +55,15 @@ fn nan_loses(from: Shape, into: Shape, significand: u128) -> bool
 
 /// A NaN, quieted, with the leading bits of its payload that the other format has room for (IEEE 754-2019 6.2.3).
 #[inline(always)]
-pub(crate) fn converted_nan(from: Shape, into: Shape, x: Unpacked) -> Converted
+pub fn converted_nan(from: Shape, into: Shape, x: Unpacked) -> StatusAnd<Unpacked>
     requires { IsNan from x }
-    ensures stored { IsStored into result.answer.value }
-    ensures converted { ConvertsAt into (IsConverted
+    ensures stored { IsStored into result.value }
+    ensures converted { GivesAt into (IsAnswer
         (converted_nan (format_at from) (format_at into) x.negative x.significand)
-        (invalid_if (is_signaling (format_at from) x.significand))
-        (nan_loses (format_at from) (format_at into) x.significand)) result }
+        (invalid_if (is_signaling (format_at from) x.significand))) result }
 {
     let quieted = quieted_significand(from, x.significand);
     let payload = carried_payload(from, into, quieted);
     let value = nan_of(into, x.negative, quiet_significand(into, payload));
-    Converted {
-        answer: status_of(signals(from, x.significand)).and(value),
-        loses_info: nan_loses(from, into, x.significand),
-    }
+    status_of(signals(from, x.significand)).and(value)
 }

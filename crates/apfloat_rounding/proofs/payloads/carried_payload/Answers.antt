@@ -1,6 +1,6 @@
 use Rattle.std.proofs.Common.{refl}
-use Rattle.apfloat_conversions.proofs.ConvertedValues.{moved_in}
-use Rattle.apfloat_conversions.proofs.payloads.carried_payload.Goals as goal
+use Rattle.apfloat_rounding.proofs.CarriedPayloads.{moved_in}
+use Rattle.apfloat_rounding.proofs.payloads.carried_payload.Goals as goal
 
 pub returns : goal.returns
 returns c =
