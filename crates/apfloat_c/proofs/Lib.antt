@@ -19,4 +19,3 @@ pub mod OperationTables
 pub mod NormalElements
 pub mod NumberAnswers
 pub mod DecimalReadings
-pub mod EncodedNumbers

@@ -16,7 +16,6 @@ mod codes;
 mod data;
 mod decimals;
 mod elements;
-mod encoded_decimals;
 mod exported_call;
 mod exports;
 mod flagless;

@@ -6,3 +6,4 @@ pub mod Operands
 pub mod EncodedOnce
 pub mod RootAnswers
 pub mod OrderedNumbers
+pub mod DecimalNumbers
