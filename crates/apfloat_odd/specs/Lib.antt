@@ -1,4 +1,5 @@
 pub mod Odd
+pub mod Numbers
 pub mod Wholes
 pub mod Again
 pub mod Rooms
