@@ -1,5 +1,5 @@
 -- Lines of text: digits one by one, and the lengths of texts.
-use Rattle.std.proofs.Common.{◌≡◌, ℕ, suc, eqb, leb, FitsSigned, w32, ◌+◌, ◌-◌, ◌*◌, ◌/◌, ◌%◌, ◌^◌, ◌<◌, ◌≤◌, List, []}
+use Rattle.std.proofs.Common.{◌≡◌, ℕ, suc, eqb, leb, FitsSigned, w32, w64, ◌+◌, ◌-◌, ◌*◌, ◌/◌, ◌%◌, ◌^◌, ◌<◌, ◌≤◌, List, []}
 use Rattle.std.proofs.Common.{◌∷◌, ◌++◌, length, refl, sym, ap, ◌∙◌, replicate, arith, ⊎_elim, lit<, lit≤, false, true}
 use Rattle.std.proofs.Common.{Bool, if◌then◌else◌, codes, drop, take, slice_index}
 use Rattle.std.specs.Prelude.{ℤ, pos, negsuc, ◌+ℤ◌}
@@ -154,6 +154,35 @@ scientific_length n e few fits =
     let tail = length-append (codes "e") (signed_decimal first) in
     let both = length-append (some_pointed n (length (decimal n) - 1)) (codes "e" ++ signed_decimal first) in
     omega (arith, pointed_is, exponent, tail, both)
+
+-- where all of such a text has room, its parts have
+pub scientific_room : (text : List ℕ) (n count : ℕ) (e : ℤ) → count ≡ length (decimal n)
+    → length text + length (scientific_text n e) ≤ 64
+    → length text + (length (some_pointed n (count - 1)) + (1 + length (signed_decimal (e +ℤ pos (count - 1))))) ≤ 64
+scientific_room text n count e is room =
+    let front : List ℕ = some_pointed n (length (decimal n) - 1) in
+    let back : List ℕ = signed_decimal (e +ℤ pos (length (decimal n) - 1)) in
+    let both = length-append front (codes "e" ++ back) in
+    let tail = length-append (codes "e") back in
+    rw is (omega (arith, both, tail, room))
+
+-- the exponent of the first digit fits in 64 binary digits
+pub first_fits : (e : ℤ) (count : ℕ) → FitsSigned w32 e → count ≤ 39 → FitsSigned w64 (e +ℤ pos (count - 1))
+first_fits e count fits most = omega (arith, ints, fits, most)
+
+-- appending these parts one by one appends the number
+pub scientific_joined : (text first second : List ℕ) (n count : ℕ) (e place : ℤ) → count ≡ length (decimal n)
+    → place ≡ e +ℤ pos (count - 1) → first ≡ text ++ some_pointed n (count - 1) → second ≡ first ++ codes "e"
+    → second ++ signed_decimal place ≡ text ++ scientific_text n e
+scientific_joined text first second n count e place counted is one two =
+    let front : List ℕ = some_pointed n (count - 1) in
+    let back : List ℕ = codes "e" ++ signed_decimal (e +ℤ pos (count - 1)) in
+    ap (λ (z : ℤ). second ++ signed_decimal z) is
+    ∙ ap (λ (xs : List ℕ). xs ++ signed_decimal (e +ℤ pos (count - 1))) two
+    ∙ append_assoc first (codes "e") (signed_decimal (e +ℤ pos (count - 1)))
+    ∙ ap (λ (xs : List ℕ). xs ++ back) one
+    ∙ append_assoc text front back
+    ∙ ap (λ (k : ℕ). text ++ (some_pointed n (k - 1) ++ (codes "e" ++ signed_decimal (e +ℤ pos (k - 1))))) counted
 
 -- the bounds of the exponent of a number that is written without an exponent
 plain_parts : (n : ℕ) (e : ℤ) → is_plain n e ≡ true
