@@ -8,7 +8,7 @@ use rustc_apfloat::conversion_modes::{ConversionRound, RandomDigits, RandomError
 use rustc_apfloat::ieee::*;
 use rustc_apfloat::storage_formats::{E2M1FN, E2M3FN, E3M2FN, E8M0FNU, Float8E3M4, StoredFloat, UE4M3};
 use rustc_apfloat::{
-    Category, Float, FloatConvert, IEK_INF, IEK_NAN, IEK_ZERO, Round, Status, StatusAnd, format_of, odd,
+    Category, Float, IEK_INF, IEK_NAN, IEK_ZERO, Round, Status, StatusAnd, format_of, odd,
 };
 use std::cmp::Ordering;
 

@@ -88,8 +88,16 @@ fn all_modes<F: StorageFormat>() -> Checksums {
 }
 
 #[test]
-fn of_multiples(rt: HostRuntime) {
+fn of_e2m1fn(rt: HostRuntime) {
     assert_eq!(rt; all_modes::<E2M1FN>(), QUOTIENTS_E2M1FN);
+}
+
+#[test]
+fn of_e2m3fn(rt: HostRuntime) {
     assert_eq!(rt; all_modes::<E2M3FN>(), QUOTIENTS_E2M3FN);
+}
+
+#[test]
+fn of_e3m2fn(rt: HostRuntime) {
     assert_eq!(rt; all_modes::<E3M2FN>(), QUOTIENTS_E3M2FN);
 }
