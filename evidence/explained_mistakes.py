@@ -3,11 +3,12 @@
 
     python3 evidence/explained_mistakes.py [WORD]
 
-Each mistake changes one branch of `compute.rt` or `picture.rt`. The program with it, not proved, then explains the
-commands of `tests/explanations/commands`, and has to write something else than `tests/explanations/expected`. It takes
-half a minute for each ten of them; with a WORD only those are tried whose text has it.
+Each mistake changes one branch of `compute.rs` or `picture.rs`. The program with it, which cargo builds in a copy, then
+explains the commands of `tests/explanations/commands`, and has to write something else than
+`tests/explanations/expected`. With a WORD only those are tried whose text has it.
 """
 
+import os
 import shutil
 import subprocess
 import sys
@@ -16,61 +17,34 @@ from pathlib import Path
 
 ROOT = Path(__file__).resolve().parent.parent
 TEXTS = ROOT / "tests/explanations"
-
-# In the program's place: for each copy of it with a mistake, it explains each line of standard input.
-MAIN = """#![tactic(auto)]
-
-{modules}
-
-use std::io;
-use std::io::Write;
-
-fn main(rt: HostRuntime) -> io::Result<()> {{
-    let mut commands: Vec<Vec<String>> = Vec::new(rt.alloc());
-    for line in rt.lines(rt.alloc()) {{
-        let line = line?;
-        let mut words: Vec<String> = Vec::new(rt.alloc());
-        for word in line.as_str().split_whitespace() {{
-            words.push(String::from_str(rt.alloc(), word)?)?;
-        }}
-        commands.push(words)?;
-    }}
-{calls}
-    Ok(())
-}}
-"""
-CALL = """    rt.stdout().write_all(b"{mark}\\n")?;
-    for words in commands.iter() {{
-        crate::m{number}::run::run(Ok(words.clone()?), false, &mut rt.stdout(), &mut rt.stderr());
-    }}"""
-MARK = "---- the next copy"
-FILES = ["compute", "explanation", "on_machine", "picture", "question", "run"]
-BATCH = 10
+EXPLAIN = "rust/programs/src/bin/explain"
+# What the program is built from.
+PARTS = ["Cargo.toml", ".cargo", "crates", "rust", "docs"]
 
 COMPUTE = [
     # how a word is read
     ("bits_of(word, 128).is_some()", "bits_of(word, S::BITS).is_some()"),
-    ("        Reading::Number\n    } else", "        Reading::Only\n    } else"),
+    ("{ Reading::Number } else", "{ Reading::Only } else"),
     ("word.strip_suffix('d')", "word.strip_suffix('q')"),
     ("return Some(number);", "let _ = number;"),
     ("match bits_of(word, S::BITS)", "match bits_of(word, 128)"),
     ("if number.is_some()", "if number.is_none()"),
-    ("Reading::Bits\n            } else", "Reading::Only\n            } else"),
+    ("{ Reading::Bits } else", "{ Reading::Only } else"),
     ("        None => number,", "        None => None,"),
     ("read_decimal::<S>(text, Round::NearestTiesToEven)", "read_decimal::<S>(text, Round::TowardZero)"),
-    ("answer.status.intersects(Status::INEXACT),\n        }),", "answer.status.intersects(Status::UNDERFLOW),\n        }),"),
+    ("answer.status.intersects(Status::INEXACT) })", "answer.status.intersects(Status::UNDERFLOW) })"),
     # the operands
     ("operands[1],", "operands[0],"),
-    ("operands[2])),", "operands[1])),"),
+    ("operands[2]))", "operands[1]))"),
     ("let b = operand(second);", "let b = operand(first);"),
     ("let c = operand(third);", "let c = operand(second);"),
     ("reading: given.reading,", "reading: Reading::Only,"),
-    ("is_rounded: given.is_rounded,", "is_rounded: false,"),
+    ("is_rounded: given.is_rounded }", "is_rounded: false }"),
     # the widths
     ("bits: S::BITS as u32,", "bits: S::PRECISION as u32,"),
-    ("exponent: S::EXP_BITS as u32,", "exponent: S::BITS as u32,"),
+    ("exponent: S::EXP_BITS as u32", "exponent: S::BITS as u32"),
     # the operations
-    ("Operation::Value => Status::OK.and(x)", "Operation::Value => Status::OK.and(y)", "equal: no result is shown"),
+    ("Operation::Value | Operation::Into(_) => Status::OK.and(x)", "Operation::Value | Operation::Into(_) => Status::OK.and(y)", "equal: no result is shown"),
     ("arithmetic.answer(x, y, round)", "arithmetic.answer(y, x, round)"),
     ("x.wide_mul_add_r(y, z, round)", "x.wide_mul_r(y, round)"),
     ("x.sqrt_r(round)", "x.sqrt_r(Round::TowardZero)"),
@@ -91,7 +65,7 @@ COMPUTE = [
     ("let upper = computed(operation, x, y, z, Round::TowardPositive)", "let upper = computed(operation, x, y, z, Round::NearestTiesToAway)"),
     ("if !status.intersects(Status::INEXACT)", "if !status.intersects(Status::UNDERFLOW)"),
     ("return if answer.is_finite()", "return if !answer.is_finite()"),
-    ("            Place::None", "            Place::Exact"),
+    ("else { Place::None };", "else { Place::Exact };"),
     ("!lower.is_finite() || !upper.is_finite()", "!lower.is_finite()"),
     ("!lower.is_finite() || !upper.is_finite()", "!upper.is_finite()"),
     ("answer.bitwise_eq(upper)", "answer.bitwise_eq(lower)"),
@@ -114,7 +88,7 @@ COMPUTE = [
 PICTURE = [
     ("if let Operation::Value = question.operation", "if let Operation::SquareRoot = question.operation"),
     ("if count > 1", "if count > 2"),
-    ("Some((_, name)) => writeln!(out, \", on {name}\\n\")?", "Some((_, _name)) => writeln!(out, \"\\n\")?"),
+    ("Some((_, name)) => writeln!(out, \", on {name}\\n\")", "Some((_, _name)) => writeln!(out, \"\\n\")"),
     ("NanSource::NoNan => writeln!(out, \"No operand", "NanSource::NoNan => writeln!(out, \"An operand"),
     ("\"An infinity times a zero", "\"A product"),
     ("\"The first NaN is taken", "\"A NaN is taken"),
@@ -139,7 +113,7 @@ PICTURE = [
     # a value
     ("widths.bits > 80", "widths.bits > 64"),
     ("widths.bits > 80", "widths.bits > 128"),
-    ("        b\" = \"", "        b\" is \""),
+    ("b\" = \"", "b\" is \""),
     ("Some(decimal) => write!(out, \"{decimal}\"),", "Some(_) => write!(out, \"?\"),"),
     ("\"{}{}\", sign_of(shown), word_of(shown.meaning)", "\"{}\", word_of(shown.meaning)"),
     ("if shown.negative { \"-\" } else { \"\" }", "if shown.negative { \"-\" } else { \"+\" }"),
@@ -199,52 +173,40 @@ PICTURE = [
 def main():
     """Tries the mistakes that have the word, if one is given."""
     wanted = sys.argv[1] if len(sys.argv) > 1 else ""
-    tried = [("compute.rt", *mistake) for mistake in COMPUTE] + [("picture.rt", *mistake) for mistake in PICTURE]
+    tried = [("compute.rs", *mistake) for mistake in COMPUTE] + [("picture.rs", *mistake) for mistake in PICTURE]
     tried = [mistake for mistake in tried if wanted in mistake[1] + mistake[2]]
     hidden = 0
     with tempfile.TemporaryDirectory() as room:
         room = Path(room)
-        shutil.copy(ROOT / "crates.txt", room)
-        if (ROOT / "HANDLES").exists():
-            shutil.copy(ROOT / "HANDLES", room)
-        shutil.copytree(ROOT / "crates", room / "crates", ignore=shutil.ignore_patterns("out"))
-        for start in range(0, len(tried), BATCH):
-            batch = tried[start : start + BATCH]
-            for (file, old, new, *why), result in zip(batch, results(room / "crates/explain", batch)):
-                hidden += result != "seen" and not why
-                print(f"{result:8}{file}: {old!r} -> {new!r}", *why, flush=True)
+        for part in PARTS:
+            if (ROOT / part).is_dir():
+                shutil.copytree(ROOT / part, room / part, ignore=shutil.ignore_patterns("out"))
+            else:
+                shutil.copy(ROOT / part, room)
+        for file, old, new, *why in tried:
+            result = result_with(room, file, old, new)
+            hidden += result != "seen" and not why
+            print(f"{result:8}{file}: {old!r} -> {new!r}", *why, flush=True)
     print(f"{len(tried)} mistakes, {hidden} not seen")
     sys.exit(1 if hidden else 0)
 
 
-def results(crate, batch):
-    """What comes of each mistake: `seen`, `HIDDEN` if the texts are those stored, `BAD` if it does not run."""
-    sources = crate / "src"
-    shutil.rmtree(sources)
-    sources.mkdir()
-    for number, (file, old, new, *_) in enumerate(batch):
-        copy = sources / f"m{number}"
-        copy.mkdir()
-        (sources / f"m{number}.rt").write_text("".join(f"pub mod {name};\n" for name in FILES))
-        for name in FILES:
-            text = (ROOT / f"crates/explain/src/{name}.rt").read_text()
-            if f"{name}.rt" == file:
-                if text.count(old) != 1:
-                    sys.exit(f"{file}: {text.count(old)} times: {old}")
-                text = text.replace(old, new)
-            (copy / f"{name}.rt").write_text(text.replace("use crate::", f"use crate::m{number}::"))
-    modules = "\n".join(f"mod m{number};" for number in range(len(batch)))
-    calls = "\n".join(CALL.format(mark=MARK, number=number) for number in range(len(batch)))
-    (sources / "main.rt").write_text(MAIN.format(modules=modules, calls=calls))
-    with (TEXTS / "commands").open() as commands:
-        run = subprocess.run(["rt", "try"], cwd=crate, stdin=commands, capture_output=True, text=True, check=False)
-    texts = run.stdout.split(MARK + "\n")[1:]
-    if len(texts) != len(batch):
-        if len(batch) == 1:
-            return ["BAD"]
-        return [results(crate, [mistake])[0] for mistake in batch]
-    stored = (TEXTS / "expected").read_text()
-    return ["HIDDEN" if text == stored else "seen" for text in texts]
+def result_with(room, file, old, new):
+    """What comes of a mistake: `seen`, `HIDDEN` if the texts are those stored, `BAD` if it does not compile."""
+    text = (ROOT / EXPLAIN / file).read_text()
+    if text.count(old) != 1:
+        sys.exit(f"{file}: {text.count(old)} times: {old}")
+    (room / EXPLAIN / file).write_text(text.replace(old, new))
+    command = ["cargo", "build", "--quiet", "--offline", "-p", "programs", "--bin", "explain"]
+    built = subprocess.run(command, cwd=room, env=os.environ | {"CARGO_TARGET_DIR": "target"}, check=False)
+    (room / EXPLAIN / file).write_text(text)
+    if built.returncode:
+        return "BAD"
+    written = ""
+    for line in (TEXTS / "commands").read_text().splitlines():
+        run = subprocess.run([room / "target/debug/explain", *line.split()], capture_output=True, text=True, check=False)
+        written += run.stdout
+    return "HIDDEN" if written == (TEXTS / "expected").read_text() else "seen"
 
 
 if __name__ == "__main__":

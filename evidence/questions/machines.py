@@ -88,6 +88,9 @@ def flushed(choices):
     """A result near the smallest normalized number, flushed if it is tiny."""
     name = choices.choice(_FORMATS[:-1])
     machine = choices.choice([known for known, rules in MACHINES.items() if rules.flushed is not None])
+    # x86 does not flush half. Arm does, with FZ16, and with the flags of x86 if AH is set.
+    if (name, machine) == ("half", "x86"):
+        machine = "arm_alternate"
     operands = Operands(choices, FORMATS[name])
     form, kind = operands.form, VALUES[name]
     call = choices.choice(["add_r", "sub_r", "wide_mul_r", "div_r", "wide_mul_add_r"])

@@ -184,7 +184,7 @@ pub enum ConversionCall {
     From,
 }
 
-// The calls by their names. A `match` on this many texts would take minutes to prove.
+// The calls by their names.
 static CALLS: &[(&str, Call)] = &[
     ("BITS", Call::Constant(Constant::Bits)),
     ("PRECISION", Call::Constant(Constant::Precision)),

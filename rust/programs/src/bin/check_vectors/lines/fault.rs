@@ -6,7 +6,7 @@ use crate::lines::call_fault::CallFault;
 use crate::lines::call_row::CallRow;
 use crate::lines::form::Form;
 use crate::lines::formats::Formats;
-use crate::lines::machine_format::{MACHINE_WORDS, unknown_machine};
+use crate::lines::machine_format::{MACHINE_WORDS, unflushed, unknown_machine};
 use crate::lines::operands::Operand;
 use crate::lines::operations::OperationCall;
 use crate::lines::row_error::{RowError, bits_error};
@@ -42,9 +42,10 @@ impl<'a> CallRow<'a> {
 
 /// The error for a word that names no formats.
 fn format_error(formats: &str) -> RowError<'_> {
-    match unknown_machine(formats) {
-        Some(word) => RowError::Word("no machine", word, MACHINE_WORDS),
-        None => RowError::Word("no format", formats, "one that docs/VECTORS.md lists, or SOURCE>TARGET"),
+    match (unknown_machine(formats), unflushed(formats)) {
+        (Some(word), _) => RowError::Word("no machine", word, MACHINE_WORDS),
+        (None, Some(instead)) => RowError::Word("no flushing", formats, instead),
+        (None, None) => RowError::Word("no format", formats, "one that docs/VECTORS.md lists, or SOURCE>TARGET"),
     }
 }
 

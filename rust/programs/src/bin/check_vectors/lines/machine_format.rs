@@ -47,6 +47,21 @@ pub fn unknown_machine(formats: &str) -> Option<&str> {
     }
 }
 
+/// What stands in place of formats whose results the machine does not flush although they end in `+ftz`: x86 has no FTZ
+/// of half, and FZ16 of Arm is of arithmetic in half, not of conversions.
+pub fn unflushed(formats: &str) -> Option<&'static str> {
+    let (formats, word) = formats.split_once('@')?;
+    let machine = found(MACHINES, word.strip_suffix("+ftz")?)?;
+    let (source, target) = formats.split_once('>').unwrap_or(("", formats));
+    match machine {
+        Machine::X86 if target == "half" => Some("no `+ftz`, since x86 does not flush half"),
+        _ if target == "half" && !source.is_empty() => {
+            Some("no `+ftz`, since no machine flushes what it converts to half")
+        }
+        _ => None,
+    }
+}
+
 impl MachineFormat {
     /// The format of this name on the machine of this word, which may end in `+ftz` if the machine flushes results.
     pub fn named(format: &str, word: &str) -> Option<MachineFormat> {
