@@ -62,7 +62,7 @@ pub returns-clause-within : goal.returns-clause-within
 returns-clause-within g c =
     let first = first_is g (goal.at.returns-clause-within g c).After-exponent_above in
     rw first.word (logarithm_within (format_of g.S.Semantics) (quanta_of c.args.x) c.exponent_above.result
-        (ranges_of (constants_of g.S.Semantics) g.S.Semantics.lawful) c.requires.member.within first.log)
+    (ranges_of (constants_of g.S.Semantics) g.S.Semantics.lawful) c.requires.member.within first.log)
 
 pub returns-clause-first : goal.returns-clause-first
 returns-clause-first g c =
