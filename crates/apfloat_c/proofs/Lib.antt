@@ -19,3 +19,4 @@ pub mod OperationTables
 pub mod NormalElements
 pub mod NumberAnswers
 pub mod DecimalReadings
+pub mod EncodedNumbers

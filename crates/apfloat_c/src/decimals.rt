@@ -19,9 +19,9 @@ ghost use Rattle.apfloat_c.specs.Decimals.{IsValueText, decimal_kind, known_read
 use crate::answers::with_bits;
 use crate::codes::{ANSWERED, NO_SUCH_OPERATION, REFUSED_TEXT, UNKNOWN_FORMAT, UNKNOWN_MODE};
 use crate::data::{Answer, Halves};
+use crate::encoded_decimals::read_decimal_bits;
 use apfloat_decimals::formatting::{CAPACITY, Line, put_decimal};
 use apfloat_decimals::{Decimal, shortest};
-use apfloat_encoded::read_decimal_bits;
 use formats_at_run_time::{
     BuiltInKind, FillsInFormat, FlaggedFormat, FlaggedKind, InFormat, mode_coded,
 };

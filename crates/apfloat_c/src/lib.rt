@@ -16,6 +16,7 @@ mod codes;
 mod data;
 mod decimals;
 mod elements;
+mod encoded_decimals;
 mod exported_call;
 mod exports;
 mod flagless;

@@ -6,4 +6,3 @@ pub mod Operands
 pub mod EncodedOnce
 pub mod RootAnswers
 pub mod OrderedNumbers
-pub mod DecimalNumbers

@@ -4,13 +4,11 @@
 //! A value is unpacked to compute with it, and packed to write its bits, and both ways treat zeros, denormal numbers,
 //! infinities and NaNs apart. Where operands and the result are normal numbers of formats of at most 64 bits with an
 //! implied integer bit, none of that is needed: the fields give the significands, and the rounded significand is added
-//! to its place. All other cases are left to `IeeeFloat`. Decimal texts are read into encodings in the same way
-//! (`decimals`).
+//! to its place. All other cases are left to `IeeeFloat`.
 #![tactic(auto)]
 
 mod conversions;
 mod cuts;
-mod decimals;
 mod encoded;
 mod numbers;
 mod products;
@@ -20,10 +18,10 @@ mod theorems;
 mod totals;
 
 pub use conversions::convert_normal;
-pub use decimals::read_decimal_bits;
 pub use encoded::Encoded;
-pub use numbers::{biased_exponent, is_minus, word_of};
+pub use numbers::{biased_exponent, fits_word, is_minus, word_of};
 pub use products::{multiply_bits, multiply_normal};
 pub use roots::root_bits;
 pub use sums::{add_bits, add_normal, subtract_bits, subtract_normal};
 pub use theorems::encoded_answers_are_unique;
+pub use totals::encode_odd;

@@ -21,7 +21,7 @@ pub(crate) struct Number {
 /// Whether the encodings of the format fit in a word, with an implied integer bit, and its significands leave room for
 /// the digits that a result is rounded by.
 #[inline(always)]
-pub(crate) fn fits_word<S: Flagged>() -> bool
+pub fn fits_word<S: Flagged>() -> bool
     ensures { IsTrue result → FitsWord (constants_of S.Flagged) }
 {
     !S::EXPLICIT_INTEGER_BIT & (S::PRECISION <= 59) & (S::BITS <= 64)

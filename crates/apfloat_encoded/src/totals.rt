@@ -39,7 +39,7 @@ fn kept_place(precision: u32, digits: u32, unit: ExpInt) -> ExpInt
 
 /// The encoding of `significand * 2^unit` quanta, which were rounded to odd, rounded, if the result is a normal number.
 #[inline(always)]
-pub(crate) fn encode_odd<S: Flagged>(
+pub fn encode_odd<S: Flagged>(
     significand: u64,
     unit: ExpInt,
     negative: bool,

@@ -1,6 +1,6 @@
-use Rattle.apfloat_ieee.specs.FlaggedTypes.{constants_of}
-use Rattle.apfloat_encoded.proofs.DecimalNumbers.{spelled_if_some}
-use Rattle.apfloat_encoded.proofs.decimals.read_short.Goals as goal
+use Rattle.rustc_apfloat.specs.FlaggedTypes.{constants_of}
+use Rattle.apfloat_c.proofs.EncodedNumbers.{spelled_if_some}
+use Rattle.apfloat_c.proofs.encoded_decimals.read_short.Goals as goal
 
 pub returns-in-Some : goal.returns-in-Some
 returns-in-Some g c =

@@ -1,10 +1,10 @@
 use Rattle.std.proofs.Common.{◌≡◌, ◌*◌, ◌^◌, arith, lit<, of_z, to_z, w32}
 use Rattle.std.proofs.lemmas.Int.{ints, to_z-of_z}
 use Rattle.apfloat_model.specs.rounding.Standing.{up, down}
-use Rattle.apfloat_ieee.specs.FlaggedTypes.{format_of}
+use Rattle.rustc_apfloat.specs.FlaggedTypes.{format_of}
 use Rattle.apfloat_decimals.proofs.numbers.Values.{power_pos}
-use Rattle.apfloat_encoded.proofs.DecimalNumbers.{decimal_odd}
-use Rattle.apfloat_encoded.proofs.decimals.encode_decimal.Goals as goal
+use Rattle.apfloat_c.proofs.EncodedNumbers.{decimal_odd}
+use Rattle.apfloat_c.proofs.encoded_decimals.encode_decimal.Goals as goal
 
 pub returns-in-Some : goal.returns-in-Some
 returns-in-Some g c =

@@ -3,18 +3,16 @@
 ghost use Rattle.std.specs.Prelude.{◌≡◌, ◌*◌, ◌^◌, ◌<◌, pos, ◌+ℤ◌, IfSome, MatchResult};
 ghost use Rattle.apfloat_model.specs.rounding.Bounds.{IsWithin, unit_bound};
 ghost use Rattle.apfloat_model.specs.rounding.Standing.{up, down};
-ghost use Rattle.apfloat_ieee.specs.FlaggedTypes.{constants_of, format_of};
+ghost use Rattle.rustc_apfloat.specs.FlaggedTypes.{constants_of, format_of};
 ghost use Rattle.apfloat_decimals.specs.Decimals.{HasQuadExponents};
 ghost use Rattle.apfloat_decimals.specs.DecimalTexts.{IsDecimalReading, IsDecimalRefusal};
 ghost use Rattle.apfloat_encoded.specs.Encoded.{IsEncodedAnswer, IsEncodedNumber};
 ghost use Rattle.apfloat_encoded.specs.Numbers.{FitsWord};
 
-use crate::encoded::Encoded;
-use crate::numbers::fits_word;
-use crate::totals::encode_odd;
-use apfloat_base::{ExpInt, Float, ParseError, Round};
 use apfloat_decimals::{ShortNumeral, read_decimal_ascii, rounded_to_odd, short_numeral};
-use apfloat_ieee::Flagged;
+use apfloat_encoded::{Encoded, encode_odd, fits_word};
+use rustc_apfloat::ieee::Flagged;
+use rustc_apfloat::{ExpInt, Float, ParseError, Round};
 
 /// The exponent of two of a digit, counted from that of the quantum.
 #[inline(always)]
@@ -80,7 +78,10 @@ fn read_any<S: Flagged>(text: &[u8], round: Round) -> Result<Encoded, ParseError
 /// The value of a text of ASCII characters, as `read_decimal_ascii` reads it: the number that a decimal text spells,
 /// rounded once, or what `from_ascii_r` reads (IEEE 754-2019 5.12.2).
 #[inline(always)]
-pub fn read_decimal_bits<S: Flagged>(text: &[u8], round: Round) -> Result<Encoded, ParseError>
+pub(crate) fn read_decimal_bits<S: Flagged>(
+    text: &[u8],
+    round: Round,
+) -> Result<Encoded, ParseError>
     requires bits { S.PRECISION < S.BITS }
     requires quad { HasQuadExponents (format_of S.Flagged) }
     ensures { MatchResult result (IsEncodedAnswer (constants_of S.Flagged)

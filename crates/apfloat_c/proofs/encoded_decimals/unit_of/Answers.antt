@@ -1,6 +1,6 @@
 use Rattle.std.proofs.Common.{arith}
 use Rattle.std.proofs.lemmas.Int.{ints}
-use Rattle.apfloat_encoded.proofs.decimals.unit_of.Goals as goal
+use Rattle.apfloat_c.proofs.encoded_decimals.unit_of.Goals as goal
 
 pub returns-clause-value : goal.returns-clause-value
 returns-clause-value g c =
