@@ -80,7 +80,7 @@ MISTAKES = {
         ("apfloat_arithmetic", "-wide", QUAD_FUSED),
     ],
     "one-guard-bit-no-sticky": [
-        ("apfloat_hex_texts", "", JUST_ABOVE_TIE),
+        ("apfloat_conversions", "", JUST_ABOVE_TIE),
         ("apfloat_rounding", "-kernel", JUST_ABOVE_TIE),
         ("apfloat_rounding", "-low-word", LONG_INTEGER),
     ],
@@ -113,10 +113,10 @@ MISTAKES = {
             call("convert_r", "single>e4m3fn", "up", "c3f00000", "fe", "INEXACT", "loses_info=true"),
         )
     ],
-    "text-refuses-everything": [("apfloat_hex_texts", "", "half parse even 0x1.ffep+15\t7c00 OVERFLOW|INEXACT")],
-    "text-reads-32-digits": [("apfloat_hex_texts", "", JUST_ABOVE_TIE)],
+    "text-refuses-everything": [("apfloat_conversions", "", "half parse even 0x1.ffep+15\t7c00 OVERFLOW|INEXACT")],
+    "text-reads-32-digits": [("apfloat_conversions", "", JUST_ABOVE_TIE)],
     "text-one-refusal-for-all": [
-        ("apfloat_hex_texts", "", "single parse even 0x1\trefused: Hex strings require an exponent")
+        ("apfloat_conversions", "", "single parse even 0x1\trefused: Hex strings require an exponent")
     ],
     "one-quiet-nan-pattern": [("apfloat_rounding", "", "half add even 7e01 7d00\t7e01 INVALID_OP")],
     "quotient-rest-more-than-half": [
@@ -175,15 +175,15 @@ MISTAKES = {
     ],
     "pair-sum-drops-error": [
         (
-            "apfloat_pairs",
+            "rustc_apfloat",
             "",
             "dd add even 3ff0000000000000 3c90000000000000\t3c900000000000003ff0000000000000 INEXACT",
         ),
-        ("apfloat_pairs", "-anew", PAIRS_PAST_LARGEST),
+        ("rustc_apfloat", "-anew", PAIRS_PAST_LARGEST),
     ],
     "split-low-part-zero": [
         (
-            "apfloat_pairs",
+            "rustc_apfloat",
             "",
             "dd div even 3ff0000000000000 4008000000000000\t3c755555555555563fd5555555555555 INEXACT",
         )
@@ -200,11 +200,11 @@ MISTAKES = {
             call("convert_r", "half>e4m3fnuz", "even", "8000", "00", "INEXACT", "loses_info=true"),
         ),
         ("apfloat_conversions", "-next-up", call("next_up", "e4m3fnuz", "-", "81", "00", "OK", "-")),
-        ("apfloat_hex_texts", "-text", "e4m3fnuz parse even -0x0p0\t00 OK"),
+        ("apfloat_conversions", "-text", "e4m3fnuz parse even -0x0p0\t00 OK"),
     ],
     "pair-product-drops-low-cross-term": [
         (
-            "apfloat_pairs",
+            "rustc_apfloat",
             "",
             "dd mul even 3c755555555555563fd5555555555555 4008000000000000\t"
             "00000000000000003ff0000000000000 INEXACT",
@@ -212,12 +212,12 @@ MISTAKES = {
     ],
     "pair-sum-skips-closing-step": [
         (
-            "apfloat_pairs",
+            "rustc_apfloat",
             "",
             "dd add even 3ca00000000000003ff0000000000000 3c80000000000000bfefffffffffffff\t"
             "00000000000000003cb2000000000000 OK",
         ),
-        ("apfloat_pairs", "-anew", PAIRS_PAST_LARGEST),
+        ("rustc_apfloat", "-anew", PAIRS_PAST_LARGEST),
     ],
 }
 

@@ -1,6 +1,6 @@
-"""Computes crates/layer_tests/src/stored_quotient_rows.rt: quotients of two values in a storage format.
+"""Computes crates/tests/src/stored_quotient_rows.rt: quotients of two values in a storage format.
 
-    python3 evidence/stored_quotients.py | diff - crates/layer_tests/src/stored_quotient_rows.rt
+    python3 evidence/stored_quotients.py | diff - crates/tests/src/stored_quotient_rows.rt
 
 The quotients are those of doubles by singles: multiples of 1/32 of the divisor, which are the points of the
 formats, their midpoints and what is between, each as it is and next to it on both sides, with either sign.

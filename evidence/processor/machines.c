@@ -1,4 +1,4 @@
-// Rows of `crates/layer_tests/src/machines.rt` that an x86-64 processor computes: NaNs, integers of invalid
+// Rows of `crates/tests/src/machines.rt` that an x86-64 processor computes: NaNs, integers of invalid
 // conversions, minima and flushed results of SSE, FMA, AVX-512 (where the processor has it) and x87, with their flags.
 //
 //     gcc -O1 -march=native -o machines machines.c && ./machines

@@ -24,38 +24,18 @@ pub const LIBRARY: &[&str] = &[
     "apfloat_rounding",
     "apfloat_arithmetic",
     "apfloat_conversions",
-    "apfloat_format_of",
-    "apfloat_hex_texts",
     "apfloat_ieee",
-    "apfloat_formats",
-    "apfloat_pairs",
+    "rustc_apfloat",
     "apfloat_decimals",
-    "decimal_digits",
-    "pair_decimals",
-    "apfloat_comparisons",
-    "pair_operations",
-    "apfloat_odd",
-    "apfloat_augmented",
+    "apfloat_digits",
+    "ieee_operations",
+    "round_to_odd",
     "apfloat_machines",
-    "hex_digits",
-    "storage_formats",
-    "conversion_modes",
+    "small_formats",
 ];
 
 /// The crates that the library for C has above those.
-pub const FOR_C: &[&str] = &[
-    "apfloat_encoded",
-    "rustc_apfloat",
-    "formats_at_run_time",
-    "lane_conversions",
-    "saturating_conversions",
-    "array_conversions",
-    "storage_arrays",
-    "packed_codes",
-    "block_formats",
-    "block_arrays",
-    "apfloat_c",
-];
+pub const FOR_C: &[&str] = &["fast_bits", "formats_at_run_time", "apfloat_arrays", "apfloat_c"];
 
 /// The crates that the program `vectors` is made of, lowest first: the last one is the program but for its `main`.
 pub const VECTORS: &[&str] = &[
@@ -66,11 +46,7 @@ pub const VECTORS: &[&str] = &[
     "apfloat_rounding",
     "apfloat_arithmetic",
     "apfloat_conversions",
-    "apfloat_format_of",
-    "apfloat_hex_texts",
     "apfloat_ieee",
-    "apfloat_formats",
-    "apfloat_pairs",
     "rustc_apfloat",
     "formats_at_run_time",
     "commands",
@@ -82,7 +58,7 @@ pub const OF_PROGRAMS: &[&str] = &["commands"];
 /// Modules that are left out, since no call of the erased crates uses them. They work with handles of the runtime: with
 /// buffers that a program has allocated, its clock, its arguments.
 const WITHOUT: [(&str, &[&str]); 2] =
-    [("array_conversions", &["block_call", "conversion"]), ("commands", &["progress", "system_words"])];
+    [("apfloat_arrays", &["block_call", "conversion"]), ("commands", &["progress", "system_words"])];
 
 /// The crates that are not of the repository: whoever builds the erased ones writes a module in place of each.
 const GIVEN: [&str; 1] = ["bitflags"];

@@ -8,22 +8,12 @@ use std::path::Path;
 use std::process::exit;
 
 /// What the programs use of the crates that the library for C has above the library.
-const ABOVE: [&str; 9] = [
-    "apfloat_encoded",
-    "rustc_apfloat",
-    "formats_at_run_time",
-    "lane_conversions",
-    "saturating_conversions",
-    "array_conversions",
-    "storage_arrays",
-    "packed_codes",
-    "block_formats",
-];
+const ABOVE: [&str; 3] = ["fast_bits", "formats_at_run_time", "apfloat_arrays"];
 
 fn main() {
     // Cargo runs this in the folder of the package.
     let crates = Path::new("../../crates");
-    let names: Vec<&str> = [erase::LIBRARY, &ABOVE, &["commands", "custom_formats"]].concat();
+    let names: Vec<&str> = [erase::LIBRARY, &ABOVE, &["commands"]].concat();
     println!("cargo::rerun-if-changed=../erase");
     println!("cargo::rerun-if-changed=build.rs");
     for name in &names {

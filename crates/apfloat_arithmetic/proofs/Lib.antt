@@ -18,3 +18,4 @@ mod SumCases
 mod StepBounds
 pub mod WordQuotients
 pub mod RootStandings
+pub mod other_formats_lemmas

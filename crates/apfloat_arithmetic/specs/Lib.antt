@@ -3,3 +3,4 @@ pub mod Sides
 pub mod ExactInverseParts
 pub mod Magnitudes
 pub mod SpecialOperands
+pub mod other_formats

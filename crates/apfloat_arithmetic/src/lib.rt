@@ -3,6 +3,8 @@
 //!
 //! Nothing here is generic. Each operation returns what the model says for its operands, including NaNs, infinities and
 //! zeros; `apfloat_ieee` supplies the constants of a type.
+//!
+//! `other_formats` has the operations whose result is of another format than their operands.
 #![tactic(auto)]
 
 pub mod classes;
@@ -10,6 +12,7 @@ pub mod exact;
 pub mod fused;
 pub mod inverses;
 pub mod order;
+pub mod other_formats;
 pub mod products;
 pub mod quotients;
 pub mod remainders;

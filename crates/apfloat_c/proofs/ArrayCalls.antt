@@ -9,9 +9,9 @@ use Rattle.std.proofs.lemmas.Nat.{div-add-mod'}
 use Rattle.std.proofs.lemmas.Slice.{drop-append-drop}
 use Rattle.rustc_apfloat.specs.declared.Round.{Round}
 use Rattle.formats_at_run_time.specs.declared.FlaggedKind.{FlaggedKind}
-use Rattle.array_conversions.specs.declared.Counts.{Counts}
-use Rattle.array_conversions.specs.declared.Widths.{Widths}
-use Rattle.array_conversions.specs.Blocks.{IsBlock}
+use Rattle.apfloat_arrays.specs.declared.Counts.{Counts}
+use Rattle.apfloat_arrays.specs.declared.Widths.{Widths}
+use Rattle.apfloat_arrays.specs.Blocks.{IsBlock}
 use Rattle.apfloat_c.specs.declared.array_calls.ArrayFormat.{ArrayFormat}
 use Rattle.apfloat_c.specs.declared.array_calls.ConversionMode.{ConversionMode}
 use Rattle.apfloat_c.specs.declared.array_calls.ElementOperation.{ElementOperation}

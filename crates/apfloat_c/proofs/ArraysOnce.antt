@@ -5,17 +5,17 @@ use Rattle.std.specs.Prelude.{◌/◌, min}
 use Rattle.std.proofs.lemmas.List.{take-take, take-append-drop, length-take}
 use Rattle.formats_at_run_time.specs.BuiltIns.{constants_in}
 use Rattle.formats_at_run_time.specs.FlaggedKinds.{flagged_constants, flagged_kind_of}
-use Rattle.array_conversions.specs.declared.Counts.{Counts}
-use Rattle.array_conversions.specs.declared.Outcome.{Outcome}
-use Rattle.array_conversions.specs.Blocks.{AreInPlaces, IsBlock, value_at}
-use Rattle.array_conversions.specs.Bytes.{AreBytes, number_of}
-use Rattle.array_conversions.specs.Outcomes.{counts_of as counts_of_outcomes}
-use Rattle.array_conversions.proofs.OneBlock.{converted_value_once}
-use Rattle.array_conversions.proofs.PlacesOnce.{FixesPlaces, bytes_take, places_once}
-use Rattle.storage_arrays.specs.declared.Ends.{Ends}
-use Rattle.storage_arrays.specs.declared.Ends.TheVariants.{Into, OutOf}
-use Rattle.storage_arrays.proofs.StoredOnce.{HasLaw, converted_at_once}
-use Rattle.block_arrays.proofs.FormatLaws.{format_law}
+use Rattle.apfloat_arrays.specs.declared.Counts.{Counts}
+use Rattle.apfloat_arrays.specs.declared.Outcome.{Outcome}
+use Rattle.apfloat_arrays.specs.Blocks.{AreInPlaces, IsBlock, value_at}
+use Rattle.apfloat_arrays.specs.Bytes.{AreBytes, number_of}
+use Rattle.apfloat_arrays.specs.Outcomes.{counts_of as counts_of_outcomes}
+use Rattle.apfloat_arrays.proofs.OneBlock.{converted_value_once}
+use Rattle.apfloat_arrays.proofs.PlacesOnce.{FixesPlaces, bytes_take, places_once}
+use Rattle.apfloat_arrays.specs.declared.stored.Ends.{Ends}
+use Rattle.apfloat_arrays.specs.declared.stored.Ends.TheVariants.{Into, OutOf}
+use Rattle.apfloat_arrays.proofs.stored_lemmas.StoredOnce.{HasLaw, converted_at_once}
+use Rattle.apfloat_arrays.proofs.scaled_blocks_lemmas.FormatLaws.{format_law}
 use Rattle.apfloat_c.specs.declared.array_calls.KnownConversion.{KnownConversion}
 use Rattle.apfloat_c.specs.declared.array_calls.KnownConversion.TheVariants.{BuiltIn, Storage}
 use Rattle.apfloat_c.specs.declared.array_calls.MapCall.{MapCall}

@@ -3,20 +3,20 @@ use Rattle.std.proofs.Common.{◌≡◌, ℕ, ◌*◌, ◌%◌, ◌^◌, ◌<◌
 use Rattle.std.proofs.Common.{Some, None, Ok, Err, refl, sym, ap}
 use Rattle.std.proofs.Common.{◌∙◌, subst, arith, lit≤}
 use Rattle.std.specs.Prelude.{⊤, All, Result}
-use Rattle.array_conversions.specs.declared.Counts.{Counts}
-use Rattle.array_conversions.specs.Bytes.{AreBytes}
-use Rattle.packed_codes.specs.declared.PackingError.{PackingError}
-use Rattle.packed_codes.specs.declared.PackingError.TheVariants.{Uneven, Lengths, CodeTooWide}
-use Rattle.packed_codes.specs.Laws.{ArePackedOnce}
-use Rattle.packed_codes.specs.Packed.{IsPackedBy, IsUnpackedBy}
-use Rattle.packed_codes.proofs.All.{all_cons, all_none}
-use Rattle.block_formats.specs.declared.ElementFormat.TheVariants.{E5M2, E4M3FN, E3M2FN, E2M3FN, E2M1FN}
-use Rattle.block_formats.proofs.OneBlock.{not_both}
-use Rattle.block_arrays.specs.declared.ArrayError.{ArrayError}
-use Rattle.block_arrays.specs.declared.Dequantization.{Dequantization}
-use Rattle.block_arrays.specs.declared.Quantization.{Quantization}
-use Rattle.block_arrays.specs.OneArray.{AreLeftIn}
-use Rattle.block_arrays.proofs.OneArray.{dequantized_once, quantized_once}
+use Rattle.apfloat_arrays.specs.declared.Counts.{Counts}
+use Rattle.apfloat_arrays.specs.Bytes.{AreBytes}
+use Rattle.small_formats.specs.declared.packing.PackingError.{PackingError}
+use Rattle.small_formats.specs.declared.packing.PackingError.TheVariants.{Uneven, Lengths, CodeTooWide}
+use Rattle.small_formats.specs.packing.Laws.{ArePackedOnce}
+use Rattle.small_formats.specs.packing.Packed.{IsPackedBy, IsUnpackedBy}
+use Rattle.small_formats.proofs.packing_lemmas.All.{all_cons, all_none}
+use Rattle.small_formats.specs.declared.blocks.ElementFormat.TheVariants.{E5M2, E4M3FN, E3M2FN, E2M3FN, E2M1FN}
+use Rattle.small_formats.proofs.blocks_lemmas.OneBlock.{not_both}
+use Rattle.apfloat_arrays.specs.declared.scaled_blocks.ArrayError.{ArrayError}
+use Rattle.apfloat_arrays.specs.declared.scaled_blocks.Dequantization.{Dequantization}
+use Rattle.apfloat_arrays.specs.declared.scaled_blocks.Quantization.{Quantization}
+use Rattle.apfloat_arrays.specs.scaled_blocks.OneArray.{AreLeftIn}
+use Rattle.apfloat_arrays.proofs.scaled_blocks_lemmas.OneArray.{dequantized_once, quantized_once}
 use Rattle.apfloat_c.specs.declared.array_data.ArrayAnswer.{ArrayAnswer}
 use Rattle.apfloat_c.specs.Blocks.{IsDequantizedReply, IsPackedReply, IsQuantizedReply, IsReply, IsUnpackedReply}
 use Rattle.apfloat_c.specs.Blocks.{packing_code}

@@ -8,10 +8,10 @@ use Rattle.rustc_apfloat.specs.declared.Round.{Round}
 use Rattle.formats_at_run_time.specs.declared.FlaggedKind.{FlaggedKind}
 use Rattle.formats_at_run_time.specs.declared.FlaggedKind.TheVariants.{OfFormat, Pairs}
 use Rattle.formats_at_run_time.specs.FlaggedKinds.{flagged_constants, flagged_kind_of}
-use Rattle.array_conversions.specs.Bytes.{number_of}
-use Rattle.array_conversions.proofs.LittleEndian.{fits}
-use Rattle.array_conversions.proofs.Places.{count_push, places_more}
-use Rattle.array_conversions.proofs.WidthBounds.{flagged_room}
+use Rattle.apfloat_arrays.specs.Bytes.{number_of}
+use Rattle.apfloat_arrays.proofs.LittleEndian.{fits}
+use Rattle.apfloat_arrays.proofs.Places.{count_push, places_more}
+use Rattle.apfloat_arrays.proofs.WidthBounds.{flagged_room}
 use Rattle.apfloat_c.specs.declared.data.Answer.{Answer}
 use Rattle.apfloat_c.specs.declared.array_calls.ElementOperation.{ElementOperation}
 use Rattle.apfloat_c.specs.declared.array_calls.ElementOperation.TheVariants.{OfTwo, FusedSum, SquareRoot}

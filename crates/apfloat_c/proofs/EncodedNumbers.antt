@@ -15,8 +15,8 @@ use Rattle.apfloat_decimals.specs.DecimalTexts.{IsDecimalReading}
 use Rattle.apfloat_decimals.specs.OddDecimals.{IsOddDecimal}
 use Rattle.apfloat_decimals.specs.Parsing.{Spells}
 use Rattle.apfloat_decimals.proofs.cuts.OddProducts.{quanta_odd}
-use Rattle.apfloat_encoded.specs.declared.encoded.Encoded.{Encoded}
-use Rattle.apfloat_encoded.specs.Encoded.{IsEncodedAnswer, IsEncodedNumber}
+use Rattle.fast_bits.specs.declared.encoded.Encoded.{Encoded}
+use Rattle.fast_bits.specs.Encoded.{IsEncodedAnswer, IsEncodedNumber}
 
 -- a decimal rounded to odd is so in quanta, with two digits more than a format of at most 59 digits keeps
 pub decimal_odd : (precision digits s scale : ℕ) (exponent place : ℤ) → precision ≤ 59

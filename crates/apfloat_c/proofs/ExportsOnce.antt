@@ -29,7 +29,7 @@ use Rattle.formats_at_run_time.specs.FlaggedKinds.{flagged_kind_of}
 use Rattle.formats_at_run_time.specs.Relations.{Relations, in_format, in_pairs}
 use Rattle.formats_at_run_time.specs.ValueKinds.{Kind, of_format, of_pairs, value_of}
 use Rattle.formats_at_run_time.proofs.OfTwoOnce.{of_two_once}
-use Rattle.block_arrays.proofs.FormatLaws.{HasLaw, format_law}
+use Rattle.apfloat_arrays.proofs.scaled_blocks_lemmas.FormatLaws.{HasLaw, format_law}
 use Rattle.apfloat_c.specs.declared.exported_call.ExportedCall.{ExportedCall}
 use Rattle.apfloat_c.specs.declared.exported_call.ExportedCall.TheVariants.{OfTwo, FusedSum, SquareRoot, FromUnsigned}
 use Rattle.apfloat_c.specs.declared.exported_call.ExportedCall.TheVariants.{FromSigned, ToUnsigned, ToSigned}

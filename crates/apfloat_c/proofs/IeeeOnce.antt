@@ -7,12 +7,12 @@ use Rattle.rustc_apfloat.specs.Determined.{Determines}
 use Rattle.rustc_apfloat.specs.Flags.{bits_of}
 use Rattle.rustc_apfloat.specs.Lawful.{Constants, format_with}
 use Rattle.apfloat_model.proofs.Determined.{gives_once, same_answer}
-use Rattle.apfloat_comparisons.specs.declared.extrema.Extremum.{Extremum}
-use Rattle.apfloat_comparisons.proofs.OneAnswer.{compared_once}
-use Rattle.apfloat_comparisons.proofs.IntegralOnce.{rounded_to_integral_once}
-use Rattle.apfloat_comparisons.proofs.Logarithms.{log_b_once, scaled_once}
-use Rattle.apfloat_format_of.specs.Theorems.{HasOneSum, HasOneDifference, HasOneProduct, HasOneQuotient}
-use Rattle.apfloat_format_of.specs.Theorems.{HasOneFusedSum, HasOneRoot}
+use Rattle.ieee_operations.specs.declared.extrema.Extremum.{Extremum}
+use Rattle.ieee_operations.proofs.OneAnswer.{compared_once}
+use Rattle.ieee_operations.proofs.IntegralOnce.{rounded_to_integral_once}
+use Rattle.ieee_operations.proofs.Logarithms.{log_b_once, scaled_once}
+use Rattle.apfloat_arithmetic.specs.other_formats.Theorems.{HasOneSum, HasOneDifference, HasOneProduct, HasOneQuotient}
+use Rattle.apfloat_arithmetic.specs.other_formats.Theorems.{HasOneFusedSum, HasOneRoot}
 use Rattle.formats_at_run_time.specs.declared.FlaggedKind.TheVariants.{OfFormat, Pairs}
 use Rattle.formats_at_run_time.specs.BuiltIns.{constants_in}
 use Rattle.formats_at_run_time.specs.FlaggedKinds.{flagged_constants, format_without_rule}
@@ -28,7 +28,7 @@ use Rattle.apfloat_c.specs.Answers.{IsValue, one_if}
 use Rattle.apfloat_c.specs.IeeeCalls.{IsExtremumBy, IsIeeeAnswer, IsInAnotherFormat, IsTruth}
 use Rattle.apfloat_c.specs.OneAnswer.{IsIeeeReplyOnce, IsInAnotherReplyOnce}
 use Rattle.apfloat_c.proofs.ExportsOnce.{OnceAnswer, format_determined, given_once, unchanged}
-use Rattle.block_arrays.proofs.FormatLaws.{HasLaw, format_law}
+use Rattle.apfloat_arrays.proofs.scaled_blocks_lemmas.FormatLaws.{HasLaw, format_law}
 use Rattle.apfloat_c.proofs.ExportsOnce.{value_once}
 
 -- if a relation has one truth value with one status, it leaves one result

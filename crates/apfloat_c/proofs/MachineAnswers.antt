@@ -1,8 +1,8 @@
 -- From the answers of the library to those of a machine.
 use Rattle.std.proofs.Common.{◌≡◌, ℕ, Bool, true, false, not, eqb, Option, Some, None, refl, sym, subst, pos, arith}
 use Rattle.std.proofs.lemmas.Bool.{false≢true, ne_eqb}
-use Rattle.apfloat_encoded.specs.declared.Encoded.{Encoded}
-use Rattle.apfloat_encoded.specs.Encoded.{IsConvertedNumber}
+use Rattle.fast_bits.specs.declared.Encoded.{Encoded}
+use Rattle.fast_bits.specs.Encoded.{IsConvertedNumber}
 use Rattle.rustc_apfloat.specs.declared.Round.{Round}
 use Rattle.rustc_apfloat.specs.declared.StatusAnd.{StatusAnd}
 use Rattle.rustc_apfloat.specs.Classes.{is_finite}

@@ -30,7 +30,7 @@ use Rattle.apfloat_c.specs.declared.machine_call.MachineOperation.TheVariants.{T
 use Rattle.apfloat_c.specs.MachineCalls.{IsInteger, IsMachineAnswer, IsMachineCallAnswer, IsMachineOfTwo, format_on}
 use Rattle.apfloat_c.specs.OneAnswer.{IsMachineReplyOnce}
 use Rattle.apfloat_c.proofs.ExportsOnce.{OnceAnswer, unchanged}
-use Rattle.block_arrays.proofs.FormatLaws.{HasLaw, format_law}
+use Rattle.apfloat_arrays.proofs.scaled_blocks_lemmas.FormatLaws.{HasLaw, format_law}
 use Rattle.apfloat_c.proofs.IeeeOnce.{in_format_once}
 
 -- an operation on two values has one value and one status

@@ -17,10 +17,10 @@ use Rattle.formats_at_run_time.specs.FlaggedKinds.{flagged_kind_of}
 use Rattle.formats_at_run_time.specs.OfTwo.{IsOfTwo}
 use Rattle.formats_at_run_time.specs.Relations.{in_format}
 use Rattle.formats_at_run_time.specs.ValueKinds.{bits_in, of_format, value_of}
-use Rattle.array_conversions.specs.Bytes.{number_of}
-use Rattle.array_conversions.proofs.LittleEndian.{fits}
-use Rattle.apfloat_encoded.specs.declared.encoded.Encoded.{Encoded}
-use Rattle.apfloat_encoded.specs.Encoded.{IsNumberAnswer}
+use Rattle.apfloat_arrays.specs.Bytes.{number_of}
+use Rattle.apfloat_arrays.proofs.LittleEndian.{fits}
+use Rattle.fast_bits.specs.declared.encoded.Encoded.{Encoded}
+use Rattle.fast_bits.specs.Encoded.{IsNumberAnswer}
 use Rattle.apfloat_c.specs.declared.array_calls.ElementOperation.TheVariants.{OfTwo}
 use Rattle.apfloat_c.specs.declared.array_calls.MapCall.{MapCall}
 use Rattle.apfloat_c.specs.declared.array_data.Element.{Element}
@@ -28,7 +28,7 @@ use Rattle.apfloat_c.specs.declared.data.Halves.{Halves}
 use Rattle.apfloat_c.specs.Answers.{IsKindAnswer, whole}
 use Rattle.apfloat_c.specs.ArrayCalls.{bytes_in}
 use Rattle.apfloat_c.specs.Arrays.{IsElement, call_of, relation_of_two}
-use Rattle.array_conversions.proofs.WidthBounds.{flagged_room}
+use Rattle.apfloat_arrays.proofs.WidthBounds.{flagged_room}
 
 -- the bits of a value of a kind fit in the bytes of an element
 kind_fits : (kind : FlaggedKind) → bits_in (flagged_kind_of kind) ≤ 8 * bytes_in kind

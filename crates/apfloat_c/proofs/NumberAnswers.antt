@@ -17,8 +17,8 @@ use Rattle.formats_at_run_time.specs.declared.Arithmetic.{Arithmetic}
 use Rattle.formats_at_run_time.specs.declared.Arithmetic.TheVariants.{Sum, Difference}
 use Rattle.formats_at_run_time.specs.Relations.{in_format}
 use Rattle.formats_at_run_time.specs.ValueKinds.{of_format, value_of}
-use Rattle.apfloat_encoded.specs.declared.encoded.Encoded.{Encoded}
-use Rattle.apfloat_encoded.specs.Encoded.{IsConvertedNumber, IsEncodedAnswer, IsNumberAnswer}
+use Rattle.fast_bits.specs.declared.encoded.Encoded.{Encoded}
+use Rattle.fast_bits.specs.Encoded.{IsConvertedNumber, IsEncodedAnswer, IsNumberAnswer}
 use Rattle.apfloat_c.specs.declared.data.Answer.{Answer}
 use Rattle.apfloat_c.specs.declared.machine_call.MachineOperation.TheVariants.{OfTwo}
 use Rattle.apfloat_c.specs.Answers.{IsConvertedInto, IsLeftBy, IsValue, one_if, whole}

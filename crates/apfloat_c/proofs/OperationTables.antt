@@ -7,13 +7,13 @@ use Rattle.std.proofs.lemmas.Bool.{cases_lt}
 use borrow.Rule.Slice.PartMut.{put_mid}
 use Rattle.std.proofs.lemmas.List.{drop_more}
 use Rattle.std.proofs.lemmas.Option.{IfSome_then}
-use Rattle.array_conversions.specs.declared.Counts.{Counts}
-use Rattle.array_conversions.specs.declared.Tally.{Tally}
-use Rattle.array_conversions.specs.Blocks.{AreInPlaces, value_at}
-use Rattle.array_conversions.specs.Bytes.{number_of}
-use Rattle.array_conversions.specs.Entries.{AreEntries, AreLookedUp}
-use Rattle.array_conversions.specs.Tallies.{counts_with, packed_of}
-use Rattle.array_conversions.proofs.TalliedResults.{are_entries, entries_more, looked_up, tally_most}
+use Rattle.apfloat_arrays.specs.declared.Counts.{Counts}
+use Rattle.apfloat_arrays.specs.declared.Tally.{Tally}
+use Rattle.apfloat_arrays.specs.Blocks.{AreInPlaces, value_at}
+use Rattle.apfloat_arrays.specs.Bytes.{number_of}
+use Rattle.apfloat_arrays.specs.Entries.{AreEntries, AreLookedUp}
+use Rattle.apfloat_arrays.specs.Tallies.{counts_with, packed_of}
+use Rattle.apfloat_arrays.proofs.TalliedResults.{are_entries, entries_more, looked_up, tally_most}
 use Rattle.apfloat_c.specs.declared.array_calls.MapCall.{MapCall}
 use Rattle.apfloat_c.specs.declared.array_data.Element.{Element}
 use Rattle.apfloat_c.specs.declared.array_data.ElementCounts.{ElementCounts}

@@ -10,7 +10,7 @@ use Rattle.apfloat_model.proofs.Determined.{gives_once}
 use Rattle.apfloat_pair_theory.proofs.calls.PairsDetermined.{pairs_determined}
 use Rattle.apfloat_decimals.specs.DecimalTexts.{decimal_fault_of}
 use Rattle.apfloat_decimals.proofs.spelled.OneReading.{decimal_reading_once, reading_no_fault}
-use Rattle.pair_decimals.proofs.OneReading.{pair_decimal_reading_once}
+use Rattle.apfloat_digits.proofs.of_double_doubles_lemmas.OneReading.{pair_decimal_reading_once}
 use Rattle.formats_at_run_time.specs.declared.BuiltInKind.{BuiltInKind}
 use Rattle.formats_at_run_time.specs.declared.BuiltInKind.TheVariants.{OfFormat as OfBuiltIn, Pairs as PairsOfDoubles}
 use Rattle.formats_at_run_time.specs.BuiltIns.{kind_of}
@@ -20,7 +20,7 @@ use Rattle.apfloat_c.specs.declared.data.Answer.{Answer}
 use Rattle.apfloat_c.specs.Decimals.{IsDecimalAnswer, IsDecimalOutcome, IsReadInto}
 use Rattle.apfloat_c.specs.OneAnswer.{IsParsedOnce, SameAnswer}
 use Rattle.apfloat_c.proofs.ExportsOnce.{KindHasLaw, OnceAnswer, format_determined, unchanged, value_once}
-use Rattle.block_arrays.proofs.FormatLaws.{built_in_law}
+use Rattle.apfloat_arrays.proofs.scaled_blocks_lemmas.FormatLaws.{built_in_law}
 
 -- a text has one result
 decimal_answer_once : (kind : Kind) → KindHasLaw kind → (mode : Round) (text : List ℕ)

@@ -12,7 +12,7 @@ use Rattle.rustc_apfloat.specs.Lawful.{Constants, format_with, layout_with}
 use Rattle.rustc_apfloat.specs.Layout.{Layout, all_ones, fields_of, trailing_bits, written_datum}
 use Rattle.rustc_apfloat.specs.Format.{Format, smallest_normalized}
 use Rattle.apfloat_model.proofs.bits.EncodedOnce.{fields_with}
-use Rattle.apfloat_encoded.proofs.Reading.{number_read, quanta_with}
+use Rattle.fast_bits.proofs.Reading.{number_read, quanta_with}
 use Rattle.rustc_apfloat.specs.declared.Round.{Round}
 use Rattle.rustc_apfloat.specs.declared.StatusAnd.{StatusAnd}
 use Rattle.apfloat_model.specs.arithmetic.Roots.{IsRoot}

@@ -8,16 +8,16 @@ use Rattle.formats_at_run_time.specs.declared.FlaggedKind.{FlaggedKind}
 use Rattle.formats_at_run_time.specs.declared.FlaggedKind.TheVariants.{OfFormat, Pairs}
 use Rattle.formats_at_run_time.specs.FlaggedKinds.{flagged_kind_coded, format_without_rule}
 use Rattle.formats_at_run_time.specs.Modes.{mode_coded}
-use Rattle.saturating_conversions.specs.declared.Overflow.TheVariants.{Rounded, Saturated, Finite}
-use Rattle.saturating_conversions.specs.declared.FiniteNan.TheVariants.{Kept, Largest}
-use Rattle.array_conversions.specs.declared.Extended.TheVariants.{Packed}
-use Rattle.array_conversions.specs.declared.Widths.{Widths}
-use Rattle.array_conversions.specs.Widths.{array_widths, width_of}
-use Rattle.storage_arrays.specs.declared.Ends.{Ends}
-use Rattle.storage_arrays.specs.declared.Ends.TheVariants.{Into, OutOf}
-use Rattle.storage_arrays.specs.declared.StoredFormat.{StoredFormat}
-use Rattle.storage_arrays.specs.Arrays.{widths_of}
-use Rattle.storage_arrays.specs.Formats.{stored_format_coded}
+use Rattle.small_formats.specs.declared.saturation.Overflow.TheVariants.{Rounded, Saturated, Finite}
+use Rattle.small_formats.specs.declared.saturation.FiniteNan.TheVariants.{Kept, Largest}
+use Rattle.apfloat_arrays.specs.declared.Extended.TheVariants.{Packed}
+use Rattle.apfloat_arrays.specs.declared.Widths.{Widths}
+use Rattle.apfloat_arrays.specs.Widths.{array_widths, width_of}
+use Rattle.apfloat_arrays.specs.declared.stored.Ends.{Ends}
+use Rattle.apfloat_arrays.specs.declared.stored.Ends.TheVariants.{Into, OutOf}
+use Rattle.apfloat_arrays.specs.declared.stored.StoredFormat.{StoredFormat}
+use Rattle.apfloat_arrays.specs.stored.Arrays.{widths_of}
+use Rattle.apfloat_arrays.specs.stored.Formats.{stored_format_coded}
 use Rattle.apfloat_c.specs.declared.array_calls.ArrayFormat.{ArrayFormat}
 use Rattle.apfloat_c.specs.declared.array_calls.ArrayFormat.TheVariants.{OfKind, OfStorage}
 use Rattle.apfloat_c.specs.declared.array_calls.KnownConversion.{KnownConversion}

@@ -16,13 +16,13 @@ use Rattle.formats_at_run_time.specs.declared.Arithmetic.TheVariants.{NearestRem
 use Rattle.formats_at_run_time.specs.BuiltIns.{constants_in}
 use Rattle.formats_at_run_time.specs.FlaggedKinds.{flagged_constants, flagged_kind_of}
 use Rattle.formats_at_run_time.specs.ValueKinds.{Kind, of_format, of_pairs, value_of}
-use Rattle.array_conversions.specs.declared.Counts.{Counts}
-use Rattle.array_conversions.specs.declared.Outcome.{Outcome}
-use Rattle.array_conversions.specs.Blocks.{AreInPlaces, IsBlock, value_at}
-use Rattle.array_conversions.specs.Bytes.{number_of}
-use Rattle.array_conversions.specs.Outcomes.{HaveRoom, one_if}
-use Rattle.array_conversions.specs.Values.{IsConvertedBy}
-use Rattle.storage_arrays.specs.Arrays.{IsConverted}
+use Rattle.apfloat_arrays.specs.declared.Counts.{Counts}
+use Rattle.apfloat_arrays.specs.declared.Outcome.{Outcome}
+use Rattle.apfloat_arrays.specs.Blocks.{AreInPlaces, IsBlock, value_at}
+use Rattle.apfloat_arrays.specs.Bytes.{number_of}
+use Rattle.apfloat_arrays.specs.Outcomes.{HaveRoom, one_if}
+use Rattle.apfloat_arrays.specs.Values.{IsConvertedBy}
+use Rattle.apfloat_arrays.specs.stored.Arrays.{IsConverted}
 use Rattle.apfloat_c.specs.declared.data.Answer.{Answer}
 use Rattle.apfloat_c.specs.declared.array_data.ArrayAnswer.{ArrayAnswer}
 use Rattle.apfloat_c.specs.declared.array_data.Element.{Element}

@@ -6,20 +6,20 @@ use Rattle.rustc_apfloat.specs.declared.Round.{Round}
 use Rattle.formats_at_run_time.specs.declared.FlaggedKind.{FlaggedKind}
 use Rattle.formats_at_run_time.specs.declared.FlaggedKind.TheVariants.{OfFormat, Pairs}
 use Rattle.formats_at_run_time.specs.FlaggedKinds.{format_without_rule}
-use Rattle.array_conversions.specs.declared.Counts.{Counts}
-use Rattle.packed_codes.specs.declared.PackingError.{PackingError}
-use Rattle.packed_codes.specs.declared.PackingError.TheVariants.{Uneven as UnevenCodes, Lengths as CodeLengths}
-use Rattle.packed_codes.specs.declared.PackingError.TheVariants.{CodeTooWide as WideCode}
-use Rattle.packed_codes.specs.Packed.{IsPackedBy, IsUnpackedBy}
-use Rattle.block_formats.specs.declared.ElementFormat.{ElementFormat}
-use Rattle.block_formats.specs.declared.ElementFormat.TheVariants.{E5M2, E4M3FN, E3M2FN, E2M3FN, E2M1FN}
-use Rattle.block_arrays.specs.declared.ArrayError.{ArrayError}
-use Rattle.block_arrays.specs.declared.ArrayError.TheVariants.{EmptyBlock, Uneven, Lengths, CodeTooWide}
-use Rattle.block_arrays.specs.declared.Quantization.{Quantization}
-use Rattle.block_arrays.specs.declared.Dequantization.{Dequantization}
-use Rattle.block_arrays.specs.Dequantized.{IsDequantizedArray, width_out}
-use Rattle.block_arrays.specs.Lengths.{blocks_of}
-use Rattle.block_arrays.specs.Quantized.{IsQuantizedArray, width_in}
+use Rattle.apfloat_arrays.specs.declared.Counts.{Counts}
+use Rattle.small_formats.specs.declared.packing.PackingError.{PackingError}
+use Rattle.small_formats.specs.declared.packing.PackingError.TheVariants.{Uneven as UnevenCodes, Lengths as CodeLengths}
+use Rattle.small_formats.specs.declared.packing.PackingError.TheVariants.{CodeTooWide as WideCode}
+use Rattle.small_formats.specs.packing.Packed.{IsPackedBy, IsUnpackedBy}
+use Rattle.small_formats.specs.declared.blocks.ElementFormat.{ElementFormat}
+use Rattle.small_formats.specs.declared.blocks.ElementFormat.TheVariants.{E5M2, E4M3FN, E3M2FN, E2M3FN, E2M1FN}
+use Rattle.apfloat_arrays.specs.declared.scaled_blocks.ArrayError.{ArrayError}
+use Rattle.apfloat_arrays.specs.declared.scaled_blocks.ArrayError.TheVariants.{EmptyBlock, Uneven, Lengths, CodeTooWide}
+use Rattle.apfloat_arrays.specs.declared.scaled_blocks.Quantization.{Quantization}
+use Rattle.apfloat_arrays.specs.declared.scaled_blocks.Dequantization.{Dequantization}
+use Rattle.apfloat_arrays.specs.scaled_blocks.Dequantized.{IsDequantizedArray, width_out}
+use Rattle.apfloat_arrays.specs.scaled_blocks.Lengths.{blocks_of}
+use Rattle.apfloat_arrays.specs.scaled_blocks.Quantized.{IsQuantizedArray, width_in}
 use Rattle.apfloat_c.specs.declared.array_data.ArrayAnswer.{ArrayAnswer}
 use Rattle.apfloat_c.specs.ArrayCalls.{wrong_length}
 use Rattle.apfloat_c.specs.Arrays.{answer_with}

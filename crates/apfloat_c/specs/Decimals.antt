@@ -12,7 +12,7 @@ use Rattle.apfloat_decimals.specs.declared.decimal.Decimal.{Decimal}
 use Rattle.apfloat_decimals.specs.DecimalTexts.{IsDecimalReading, decimal_fault_of}
 use Rattle.apfloat_decimals.specs.ShortestSearch.{IsShortestOf}
 use Rattle.apfloat_decimals.specs.Texts.{decimal_text, sign_text}
-use Rattle.pair_decimals.specs.PairReadings.{IsPairDecimalReading}
+use Rattle.apfloat_digits.specs.of_double_doubles.PairReadings.{IsPairDecimalReading}
 use Rattle.formats_at_run_time.specs.declared.BuiltInFormat.{BuiltInFormat}
 use Rattle.formats_at_run_time.specs.declared.BuiltInKind.{BuiltInKind}
 use Rattle.formats_at_run_time.specs.declared.BuiltInKind.TheVariants.{OfFormat as OfBuiltIn, Pairs as PairsOfDoubles}

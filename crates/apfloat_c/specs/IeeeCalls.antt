@@ -6,24 +6,24 @@ use Rattle.rustc_apfloat.specs.Datum.{Datum}
 use Rattle.rustc_apfloat.specs.Flags.{Gives, bits_of}
 use Rattle.rustc_apfloat.specs.Lawful.{Constants, format_with}
 use Rattle.apfloat_conversions.specs.Scalings.{IsScaled}
-use Rattle.apfloat_format_of.specs.FormatOf.{IsSumTo, IsDifferenceTo, IsProductTo, IsQuotientTo, IsFusedSumTo}
-use Rattle.apfloat_format_of.specs.RootsOf.{IsRootTo}
-use Rattle.apfloat_comparisons.specs.declared.extrema.Extremum.{Extremum}
-use Rattle.apfloat_comparisons.specs.declared.extrema.Extremum.TheVariants.{Minimum, Maximum}
-use Rattle.apfloat_comparisons.specs.declared.extrema.Extremum.TheVariants.{MinimumMagnitude, MaximumMagnitude}
-use Rattle.apfloat_comparisons.specs.declared.predicates.OnNan.{OnNan}
-use Rattle.apfloat_comparisons.specs.declared.predicates.OnNan.TheVariants.{Quiet, Signaling}
-use Rattle.apfloat_comparisons.specs.declared.predicates.Predicate.{Predicate}
-use Rattle.apfloat_comparisons.specs.declared.predicates.Predicate.TheVariants.{Equal, NotEqual, Unordered}
-use Rattle.apfloat_comparisons.specs.declared.predicates.Predicate.TheVariants.{Ordered, Greater, GreaterEqual}
-use Rattle.apfloat_comparisons.specs.declared.predicates.Predicate.TheVariants.{NotGreater}
-use Rattle.apfloat_comparisons.specs.declared.predicates.Predicate.TheVariants.{Less, LessEqual, NotLess}
-use Rattle.apfloat_comparisons.specs.declared.predicates.Predicate.TheVariants.{LessUnordered, GreaterUnordered}
-use Rattle.apfloat_comparisons.specs.Comparisons.{IsComparison}
-use Rattle.apfloat_comparisons.specs.Exponents.{IsLogB}
-use Rattle.apfloat_comparisons.specs.Extrema.{IsExtremum, IsExtremumNumber}
-use Rattle.apfloat_comparisons.specs.TotalOrder.{total_cmp}
-use Rattle.apfloat_comparisons.specs.WholeNumbers.{IsRoundedToIntegral}
+use Rattle.apfloat_arithmetic.specs.other_formats.FormatOf.{IsSumTo, IsDifferenceTo, IsProductTo, IsQuotientTo, IsFusedSumTo}
+use Rattle.apfloat_arithmetic.specs.other_formats.RootsOf.{IsRootTo}
+use Rattle.ieee_operations.specs.declared.extrema.Extremum.{Extremum}
+use Rattle.ieee_operations.specs.declared.extrema.Extremum.TheVariants.{Minimum, Maximum}
+use Rattle.ieee_operations.specs.declared.extrema.Extremum.TheVariants.{MinimumMagnitude, MaximumMagnitude}
+use Rattle.ieee_operations.specs.declared.predicates.OnNan.{OnNan}
+use Rattle.ieee_operations.specs.declared.predicates.OnNan.TheVariants.{Quiet, Signaling}
+use Rattle.ieee_operations.specs.declared.predicates.Predicate.{Predicate}
+use Rattle.ieee_operations.specs.declared.predicates.Predicate.TheVariants.{Equal, NotEqual, Unordered}
+use Rattle.ieee_operations.specs.declared.predicates.Predicate.TheVariants.{Ordered, Greater, GreaterEqual}
+use Rattle.ieee_operations.specs.declared.predicates.Predicate.TheVariants.{NotGreater}
+use Rattle.ieee_operations.specs.declared.predicates.Predicate.TheVariants.{Less, LessEqual, NotLess}
+use Rattle.ieee_operations.specs.declared.predicates.Predicate.TheVariants.{LessUnordered, GreaterUnordered}
+use Rattle.ieee_operations.specs.Comparisons.{IsComparison}
+use Rattle.ieee_operations.specs.Exponents.{IsLogB}
+use Rattle.ieee_operations.specs.Extrema.{IsExtremum, IsExtremumNumber}
+use Rattle.ieee_operations.specs.TotalOrder.{total_cmp}
+use Rattle.ieee_operations.specs.WholeNumbers.{IsRoundedToIntegral}
 use Rattle.formats_at_run_time.specs.declared.FlaggedFormat.{FlaggedFormat}
 use Rattle.formats_at_run_time.specs.declared.FlaggedKind.{FlaggedKind}
 use Rattle.formats_at_run_time.specs.declared.FlaggedKind.TheVariants.{OfFormat, Pairs}

@@ -3,10 +3,10 @@ use Rattle.std.specs.Prelude.{◌≡◌, ℕ, List, length, Option, Result}
 use Rattle.rustc_apfloat.specs.declared.Round.{Round}
 use Rattle.formats_at_run_time.specs.declared.BuiltInFormat.{BuiltInFormat}
 use Rattle.formats_at_run_time.specs.declared.FlaggedKind.{FlaggedKind}
-use Rattle.array_conversions.specs.Bytes.{AreBytes}
-use Rattle.block_formats.specs.declared.ElementFormat.{ElementFormat}
-use Rattle.block_arrays.specs.declared.Dequantization.{Dequantization}
-use Rattle.block_arrays.specs.declared.Quantization.{Quantization}
+use Rattle.apfloat_arrays.specs.Bytes.{AreBytes}
+use Rattle.small_formats.specs.declared.blocks.ElementFormat.{ElementFormat}
+use Rattle.apfloat_arrays.specs.declared.scaled_blocks.Dequantization.{Dequantization}
+use Rattle.apfloat_arrays.specs.declared.scaled_blocks.Quantization.{Quantization}
 use Rattle.apfloat_c.specs.declared.array_calls.KnownConversion.{KnownConversion}
 use Rattle.apfloat_c.specs.declared.array_calls.MapCall.{MapCall}
 use Rattle.apfloat_c.specs.declared.array_data.ArrayAnswer.{ArrayAnswer}

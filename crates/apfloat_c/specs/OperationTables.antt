@@ -1,8 +1,8 @@
 -- Tables of the results of an operation on two values of 8 bits.
 use Rattle.std.specs.Prelude.{ℕ, ◌/◌, ◌%◌, List, [], ◌∷◌}
-use Rattle.array_conversions.specs.declared.Tally.{Tally}
-use Rattle.array_conversions.specs.Entries.{HasEntry, IsEntryTable}
-use Rattle.array_conversions.specs.Tallies.{tally_of}
+use Rattle.apfloat_arrays.specs.declared.Tally.{Tally}
+use Rattle.apfloat_arrays.specs.Entries.{HasEntry, IsEntryTable}
+use Rattle.apfloat_arrays.specs.Tallies.{tally_of}
 use Rattle.apfloat_c.specs.declared.array_calls.MapCall.{MapCall}
 use Rattle.apfloat_c.specs.declared.array_data.Element.{Element}
 use Rattle.apfloat_c.specs.Arrays.{IsElement}

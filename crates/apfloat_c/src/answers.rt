@@ -20,7 +20,7 @@ use crate::codes::{
     one_if, order_code,
 };
 use crate::data::Answer;
-use apfloat_encoded::{
+use fast_bits::{
     Encoded, add_normal, convert_normal, multiply_bits, root_bits, subtract_normal, word_of,
 };
 use formats_at_run_time::{FillsInFormat, FlaggedKind, ValueType};

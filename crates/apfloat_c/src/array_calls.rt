@@ -2,8 +2,8 @@
 
 ghost use Rattle.std.specs.Prelude.{◌≡◌, ◌*◌, ◌≤◌, length};
 ghost use Rattle.formats_at_run_time.specs.Modes.{mode_coded};
-ghost use Rattle.array_conversions.specs.Blocks.{IsBlock};
-ghost use Rattle.storage_arrays.specs.Arrays.{IsConverted, widths_of};
+ghost use Rattle.apfloat_arrays.specs.Blocks.{IsBlock};
+ghost use Rattle.apfloat_arrays.specs.stored.Arrays.{IsConverted, widths_of};
 ghost use Rattle.apfloat_c.specs.ArrayCalls.{array_format_coded, bytes_in, conversion_between, conversion_mode_coded};
 ghost use Rattle.apfloat_c.specs.ArrayCalls.{conversion_widths, has_element_operation};
 ghost use Rattle.apfloat_c.specs.ArrayCalls.{known_array_conversion, known_map, lengths_fit, operands_fit, operands_of};
@@ -11,11 +11,11 @@ ghost use Rattle.apfloat_c.specs.ArrayCalls.{operation_coded};
 ghost use Rattle.apfloat_c.specs.Arrays.{IsValueConverted};
 
 use crate::codes::{NO_SUCH_OPERATION, UNKNOWN_FORMAT, UNKNOWN_MODE, WRONG_LENGTH};
-use array_conversions::{ArrayConversion, Counts, Extended, Widths, width};
+use apfloat_arrays::stored::{Ends, StorageArray, StoredFormat};
+use apfloat_arrays::{ArrayConversion, Counts, Extended, Widths, width};
 use formats_at_run_time::{Arithmetic, FlaggedFormat, FlaggedKind, mode_coded};
 use rustc_apfloat::Round;
-use saturating_conversions::{FiniteNan, Overflow};
-use storage_arrays::{Ends, StorageArray, StoredFormat};
+use small_formats::saturation::{FiniteNan, Overflow};
 
 /// A rounding mode, and what an overflow gives.
 #[derive(Clone, Copy)]

@@ -3,7 +3,7 @@
 ghost use Rattle.std.specs.Prelude.{◌≡◌, ◌≤◌};
 ghost use Rattle.apfloat_c.specs.Arrays.{HaveRoomFor, answer_with, flag_if, with_element};
 
-use array_conversions::Counts;
+use apfloat_arrays::Counts;
 
 /// The result of a call on arrays: how many values there were, for how many of them each flag was raised, and how many
 /// of the results are NaNs.

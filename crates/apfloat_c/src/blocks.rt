@@ -12,11 +12,11 @@ use crate::array_data::{ArrayAnswer, ElementCounts};
 use crate::codes::{
     ANSWERED, NO_SUCH_OPERATION, UNKNOWN_FORMAT, UNKNOWN_MODE, WIDE_OPERAND, WRONG_LENGTH,
 };
-use block_arrays::{ArrayError, Dequantization, Quantization};
-use block_formats::ElementFormat;
+use apfloat_arrays::scaled_blocks::{ArrayError, Dequantization, Quantization};
 use formats_at_run_time::{FlaggedKind, mode_coded};
-use packed_codes::{PackingError, pack_fours, pack_sixes, unpack_fours, unpack_sixes};
 use rustc_apfloat::Round;
+use small_formats::blocks::ElementFormat;
+use small_formats::packing::{PackingError, pack_fours, pack_sixes, unpack_fours, unpack_sixes};
 
 /// The element format with this code.
 fn element_coded(code: u32) -> Option<ElementFormat>

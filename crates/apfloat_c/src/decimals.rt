@@ -22,10 +22,10 @@ use crate::data::{Answer, Halves};
 use crate::encoded_decimals::read_decimal_bits;
 use apfloat_decimals::formatting::{CAPACITY, Line, put_decimal};
 use apfloat_decimals::{Decimal, shortest};
+use apfloat_digits::of_double_doubles::read_decimal_pair_ascii;
 use formats_at_run_time::{
     BuiltInKind, FillsInFormat, FlaggedFormat, FlaggedKind, InFormat, mode_coded,
 };
-use pair_decimals::read_decimal_pair_ascii;
 use rustc_apfloat::ieee::{Flagged, IeeeFloat, Semantics};
 use rustc_apfloat::ppc::DoubleDouble;
 use rustc_apfloat::{Float, Round, StatusAnd};

@@ -5,7 +5,7 @@ ghost use Rattle.rustc_apfloat.specs.FlaggedTypes.{constants_of};
 ghost use Rattle.formats_at_run_time.specs.declared.FlaggedKind.TheVariants.{Pairs};
 ghost use Rattle.formats_at_run_time.specs.FlaggedKinds.{flagged_kind_of};
 ghost use Rattle.formats_at_run_time.specs.ValueKinds.{of_format, of_pairs};
-ghost use Rattle.array_conversions.specs.Bytes.{number_of};
+ghost use Rattle.apfloat_arrays.specs.Bytes.{number_of};
 ghost use Rattle.apfloat_c.specs.declared.array_calls.MapCall.{MapCall};
 ghost use Rattle.apfloat_c.specs.Answers.{IsKindAnswer};
 ghost use Rattle.apfloat_c.specs.ArrayCalls.{bytes_in, has_element_operation};
@@ -19,7 +19,7 @@ use crate::operations::{
     DifferenceCall, FusedSumCall, InType, KindOperation, NearestRemainderCall, ProductCall,
     QuotientCall, SquareRootCall, SumCall, TruncatedRemainderCall,
 };
-use array_conversions::{number_of, write_number};
+use apfloat_arrays::{number_of, write_number};
 use formats_at_run_time::{Arithmetic, FlaggedKind, WritesInFormat};
 use rustc_apfloat::Float;
 use rustc_apfloat::ieee::{Flagged, IeeeFloat};

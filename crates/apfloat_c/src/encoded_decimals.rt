@@ -6,11 +6,11 @@ ghost use Rattle.apfloat_model.specs.rounding.Standing.{up, down};
 ghost use Rattle.rustc_apfloat.specs.FlaggedTypes.{constants_of, format_of};
 ghost use Rattle.apfloat_decimals.specs.Decimals.{HasQuadExponents};
 ghost use Rattle.apfloat_decimals.specs.DecimalTexts.{IsDecimalReading, IsDecimalRefusal};
-ghost use Rattle.apfloat_encoded.specs.Encoded.{IsEncodedAnswer, IsEncodedNumber};
-ghost use Rattle.apfloat_encoded.specs.Numbers.{FitsWord};
+ghost use Rattle.fast_bits.specs.Encoded.{IsEncodedAnswer, IsEncodedNumber};
+ghost use Rattle.fast_bits.specs.Numbers.{FitsWord};
 
 use apfloat_decimals::{ShortNumeral, read_decimal_ascii, rounded_to_odd, short_numeral};
-use apfloat_encoded::{Encoded, encode_odd, fits_word};
+use fast_bits::{Encoded, encode_odd, fits_word};
 use rustc_apfloat::ieee::Flagged;
 use rustc_apfloat::{ExpInt, Float, ParseError, Round};
 

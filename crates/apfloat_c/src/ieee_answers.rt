@@ -14,7 +14,7 @@ ghost use Rattle.apfloat_c.specs.IeeeCalls.{IsExtremumBy, IsIeeeAnswer, IsInAnot
 
 use crate::codes::{one_if, order_code};
 use crate::data::Answer;
-use apfloat_comparisons::{
+use ieee_operations::{
     Extremum, OnNan, Predicate, compare, extremum_number_of, extremum_of, log_b,
     round_to_integral_in, total_cmp,
 };

@@ -5,7 +5,7 @@ ghost use Rattle.std.specs.Prelude.{◌≡◌};
 ghost use Rattle.apfloat_c.specs.IeeeCalls.{extremum_coded, on_nan_coded, predicate_coded};
 ghost use Rattle.apfloat_c.specs.IeeeCalls.{comparison_call, extremum_call, operation_coded};
 
-use apfloat_comparisons::{Extremum, OnNan, Predicate};
+use ieee_operations::{Extremum, OnNan, Predicate};
 
 /// An operation on values of a format; they are given by their bits.
 #[derive(Clone, Copy)]

@@ -48,13 +48,13 @@ use crate::usual_operands::{
     are_normal, are_normal_of_three, are_usual, are_usual_of_three, both_fit, fits, is_divisor,
     is_normal, is_normal_beyond_words, is_number, is_root_of, one_word, three_words, two_words,
 };
-use apfloat_comparisons::round_to_integral_in;
-use apfloat_encoded::{add_normal, convert_normal, subtract_normal};
 use apfloat_machines::{
     Machine, MinimumRule, default_nan, greatest, least, settled, settled_conversion, settled_fused,
     settled_signed, settled_unary, settled_unsigned,
 };
+use fast_bits::{add_normal, convert_normal, subtract_normal};
 use formats_at_run_time::{Arithmetic, FillsInFormat, FlaggedFormat, FlaggedKind, mode_coded};
+use ieee_operations::round_to_integral_in;
 use rustc_apfloat::ieee::{
     BFloatS, DoubleS, Flagged, Float8E5M2S, HalfS, IeeeFlags, IeeeFloat, QuadS, SingleS,
     TinyBefore, X87DoubleExtendedS,

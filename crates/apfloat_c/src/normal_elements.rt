@@ -6,15 +6,15 @@ ghost use Rattle.formats_at_run_time.specs.declared.Arithmetic.{Arithmetic};
 ghost use Rattle.formats_at_run_time.specs.declared.Arithmetic.TheVariants.{Sum, Difference, Product};
 ghost use Rattle.formats_at_run_time.specs.FlaggedKinds.{flagged_kind_of};
 ghost use Rattle.formats_at_run_time.specs.ValueKinds.{of_format, value_of};
-ghost use Rattle.apfloat_encoded.specs.Encoded.{IsNumberAnswer};
+ghost use Rattle.fast_bits.specs.Encoded.{IsNumberAnswer};
 ghost use Rattle.apfloat_c.specs.declared.array_calls.ElementOperation.TheVariants.{OfTwo};
 ghost use Rattle.apfloat_c.specs.ArrayCalls.{bytes_in};
 ghost use Rattle.apfloat_c.specs.Arrays.{AreElements, relation_of_two};
 
 use crate::array_data::{Element, ElementCounts};
 use crate::elements::{FormatCalls, element_apart, elements_apart, number_at};
-use apfloat_encoded::{Encoded, add_normal, multiply_normal, subtract_normal};
-use array_conversions::{number_of, write_number};
+use apfloat_arrays::{number_of, write_number};
+use fast_bits::{Encoded, add_normal, multiply_normal, subtract_normal};
 use rustc_apfloat::ieee::Flagged;
 use rustc_apfloat::{Flags, Round};
 

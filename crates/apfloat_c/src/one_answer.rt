@@ -6,8 +6,8 @@ ghost use Rattle.apfloat_c.specs.OneAnswer.{IsIeeeReplyOnce, IsInAnotherReplyOnc
 ghost use Rattle.apfloat_c.specs.OneAnswer.{IsDequantizedCallOnce, IsPackedCallOnce, IsQuantizedCallOnce};
 ghost use Rattle.apfloat_c.specs.OneAnswer.{IsUnpackedCallOnce};
 
-use apfloat_format_of::theorems::operations_have_one_answer;
-use packed_codes::packed_codes_have_one_answer;
+use apfloat_arithmetic::other_formats::theorems::operations_have_one_answer;
+use small_formats::packing::packed_codes_have_one_answer;
 
 /// The contract of each export allows one code and one result, text or array.
 pub fn one_answer()

@@ -12,7 +12,7 @@ ghost use Rattle.apfloat_c.specs.OperationTables.{IsEntry, IsTable};
 use crate::array_calls::{MapCall, bytes_in};
 use crate::array_data::{Element, ElementCounts};
 use crate::elements::{ElementCalls, FormatCalls, element};
-use array_conversions::{BytePairs, ENTRY, look_up, mark_of, number_of, write_entry};
+use apfloat_arrays::{BytePairs, ENTRY, look_up, mark_of, number_of, write_entry};
 use formats_at_run_time::{FlaggedKind, WritesInFormat};
 use rustc_apfloat::ieee::Flagged;
 use std::marker::PhantomData;

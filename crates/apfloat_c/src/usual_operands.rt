@@ -6,7 +6,7 @@ ghost use Rattle.rustc_apfloat.specs.FlaggedTypes.{constants_of};
 ghost use Rattle.apfloat_c.specs.MachineCalls.{are_usual, are_usual_of_three, divides, fits, is_divisor, is_number};
 ghost use Rattle.apfloat_c.specs.MachineCalls.{is_root_of};
 
-use apfloat_encoded::biased_exponent;
+use fast_bits::biased_exponent;
 use formats_at_run_time::Arithmetic;
 use rustc_apfloat::Float;
 use rustc_apfloat::ieee::{Flagged, IeeeFloat};

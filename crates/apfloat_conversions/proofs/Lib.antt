@@ -7,3 +7,4 @@ mod ConvertedValues
 mod HeldNumbers
 mod Steps
 pub mod ToSigned
+pub mod hex_texts_lemmas

@@ -2,3 +2,4 @@ pub mod Wholes
 pub mod Held
 pub mod Results
 pub mod Scalings
+pub mod hex_texts

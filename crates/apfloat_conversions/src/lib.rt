@@ -3,10 +3,13 @@
 //!
 //! Nothing here is generic. Each operation returns what the model says for its operands, including NaNs, infinities and
 //! zeros; `apfloat_ieee` supplies the constants of a type.
+//!
+//! `hex_texts` reads hexadecimal numbers, infinities and NaNs.
 #![tactic(auto)]
 
 pub mod between_formats;
 mod held;
+pub mod hex_texts;
 pub mod integers;
 pub mod integral;
 pub mod neighbours;

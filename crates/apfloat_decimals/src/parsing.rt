@@ -10,7 +10,7 @@ ghost use Rattle.apfloat_model.specs.formats.Format.{Format};
 ghost use Rattle.apfloat_model.specs.rounding.Bounds.{IsWithin};
 ghost use Rattle.apfloat_model.specs.rounding.Flags.{Gives};
 ghost use Rattle.apfloat_model.specs.texts.Digits.{every, is_decimal, number};
-ghost use Rattle.apfloat_hex_texts.specs.Saturation.{IsNear, count_bound, far_bound};
+ghost use Rattle.apfloat_conversions.specs.hex_texts.Saturation.{IsNear, count_bound, far_bound};
 ghost use Rattle.apfloat_decimals.specs.declared.decimal.Decimal.{Decimal};
 ghost use Rattle.apfloat_decimals.specs.Decimals.{IsDecimalDelivery};
 ghost use Rattle.apfloat_decimals.specs.DecimalTexts.{IsDecimalText, IsDecimalRead, body_fault};
@@ -24,7 +24,7 @@ ghost use Rattle.apfloat_decimals.specs.Texts.{decimal_text};
 use crate::decimal::Decimal;
 use crate::texts::parts::{exponent_in, has_some, split_digits, split_fraction};
 use apfloat_base::{ExpInt, ParseError};
-use apfloat_hex_texts::split_mark;
+use apfloat_conversions::hex_texts::split_mark;
 use apfloat_model::parse_error::Fault;
 use std::str::FromStr;
 

@@ -9,19 +9,19 @@ ghost use Rattle.apfloat_model.specs.arithmetic.Conversions.{IsConversion, IsExa
 ghost use Rattle.apfloat_rounding.specs.Shapes.{format_at};
 ghost use Rattle.apfloat_rounding.specs.Stored.{IsStored};
 ghost use Rattle.apfloat_conversions.specs.Results.{ConvertsAt};
-ghost use Rattle.apfloat_format_of.specs.Extended.{seen};
-ghost use Rattle.apfloat_format_of.specs.FormatOf.{IsSumTo, IsDifferenceTo, IsProductTo, IsQuotientTo, IsFusedSumTo};
-ghost use Rattle.apfloat_format_of.specs.Operands.{IsOperand, StandsFor};
-ghost use Rattle.apfloat_format_of.specs.RootsOf.{IsRootTo};
+ghost use Rattle.apfloat_arithmetic.specs.other_formats.Extended.{seen};
+ghost use Rattle.apfloat_arithmetic.specs.other_formats.FormatOf.{IsSumTo, IsDifferenceTo, IsProductTo, IsQuotientTo, IsFusedSumTo};
+ghost use Rattle.apfloat_arithmetic.specs.other_formats.Operands.{IsOperand, StandsFor};
+ghost use Rattle.apfloat_arithmetic.specs.other_formats.RootsOf.{IsRootTo};
 ghost use Rattle.apfloat_ieee.specs.FlaggedTypes.{format_of};
 ghost use Rattle.apfloat_ieee.specs.AnyFloats.{format_in};
 
 use crate::flagged::Flagged;
 use crate::ieee_float::{IeeeFloat, shape_of};
+use apfloat_arithmetic::other_formats::operands::{self, Operand};
+use apfloat_arithmetic::other_formats::{fused, products, quotients, roots, sums};
 use apfloat_base::{Round, StatusAnd};
 use apfloat_conversions::between_formats::{Converted, convert};
-use apfloat_format_of::operands::{self, Operand};
-use apfloat_format_of::{fused, products, quotients, roots, sums};
 use apfloat_rounding::shape::Shape;
 use apfloat_rounding::unpacked::Unpacked;
 use std::marker::Model;

@@ -8,17 +8,17 @@
 //! converted too, so that it raises INEXACT in a target without infinities.
 
 ghost use Rattle.apfloat_model.specs.rounding.Flags.{Gives};
-ghost use Rattle.apfloat_format_of.specs.Extended.{seen};
-ghost use Rattle.apfloat_format_of.specs.FormatOf.{IsSumTo, IsDifferenceTo, IsProductTo, IsQuotientTo, IsFusedSumTo};
-ghost use Rattle.apfloat_format_of.specs.Operands.{IsOperand, StandsFor};
-ghost use Rattle.apfloat_format_of.specs.RootsOf.{IsRootTo};
+ghost use Rattle.apfloat_arithmetic.specs.other_formats.Extended.{seen};
+ghost use Rattle.apfloat_arithmetic.specs.other_formats.FormatOf.{IsSumTo, IsDifferenceTo, IsProductTo, IsQuotientTo, IsFusedSumTo};
+ghost use Rattle.apfloat_arithmetic.specs.other_formats.Operands.{IsOperand, StandsFor};
+ghost use Rattle.apfloat_arithmetic.specs.other_formats.RootsOf.{IsRootTo};
 ghost use Rattle.apfloat_ieee.specs.FlaggedTypes.{format_of, shape_of};
 
 use crate::flagged::Flagged;
 use crate::ieee_float::{IeeeFloat, shape_of};
+use apfloat_arithmetic::other_formats::operands::{self, Operand};
+use apfloat_arithmetic::other_formats::{fused, products, quotients, roots, sums};
 use apfloat_base::{Round, StatusAnd};
-use apfloat_format_of::operands::{self, Operand};
-use apfloat_format_of::{fused, products, quotients, roots, sums};
 
 /// A value, as an operation that delivers in the format `T` sees it.
 #[inline]

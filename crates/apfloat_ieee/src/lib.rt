@@ -3,9 +3,12 @@
 //! A format is a type that implements `Semantics`; `IeeeFloat<S>` is a value of the format `S`. The work is done by the
 //! functions of `apfloat_rounding`, `apfloat_arithmetic` and the crates beside it, which take a `Shape`, the constants
 //! of a format that rounding reads; the generic functions only supply the constants of a type.
+//!
+//! `built_in_formats` has the formats of IEEE 754-2019 and of machine learning.
 #![tactic(auto)]
 
 pub mod any_float;
+pub mod built_in_formats;
 mod convert;
 mod debug;
 pub mod flagged;

@@ -21,7 +21,7 @@ pub(crate) fn read<S: Flagged>(
 ) -> Result<StatusAnd<IeeeFloat<S>>, ParseError>
     ensures { IsRead (format_of S.Flagged) round text.now result }
 {
-    match apfloat_hex_texts::read(shape_of::<S>(), text, round) {
+    match apfloat_conversions::hex_texts::read(shape_of::<S>(), text, round) {
         Ok(answer) => Ok(IeeeFloat::answered(answer)),
         Err(error) => Err(error),
     }

@@ -13,7 +13,7 @@ use Rattle.apfloat_model.specs.order.Classes.{is_nan}
 use Rattle.apfloat_model.proofs.Once.{Once, answer_once}
 use Rattle.apfloat_model.proofs.Determined.{gives_once}
 use Rattle.apfloat_model.proofs.general.Choices.{match_case}
-use Rattle.apfloat_comparisons.specs.Extrema.{quieted_datum}
+use Rattle.ieee_operations.specs.Extrema.{quieted_datum}
 use Rattle.apfloat_machines.specs.declared.machine.Machine.{Machine}
 use Rattle.apfloat_machines.specs.declared.flushing.Flush.{Flush}
 use Rattle.apfloat_machines.specs.Machines.{nan_choice, fused_order}

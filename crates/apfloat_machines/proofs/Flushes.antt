@@ -14,7 +14,7 @@ use Rattle.apfloat_model.specs.order.Classes.{is_denormal, is_finite_non_zero, q
 use Rattle.apfloat_model.proofs.rounding.Laws.{pick_within, zero_on_grid}
 use Rattle.apfloat_model.proofs.rounding.Picks.{pick_unique}
 use Rattle.apfloat_model.proofs.Once.{Once}
-use Rattle.apfloat_comparisons.specs.StatusFlags.{is_raised}
+use Rattle.ieee_operations.specs.StatusFlags.{is_raised}
 use Rattle.apfloat_machines.specs.declared.flushing.Flush.{Flush}
 use Rattle.apfloat_machines.specs.Flushing.{zero_like, is_flushed, flush_flags, IsFlushed, flushes, IsRoundedOrFlushed}
 use Rattle.apfloat_machines.proofs.TinyPicks.{picked_from, picked_to, tiny_below, not_tiny_from}

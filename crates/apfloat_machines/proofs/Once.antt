@@ -17,8 +17,8 @@ use Rattle.apfloat_model.proofs.Once.{Once, answer_once, sum_once, difference_on
 use Rattle.apfloat_model.proofs.Determined.{same_answer, gives_once}
 use Rattle.apfloat_model.proofs.general.Choices.{match_case}
 use Rattle.apfloat_model.specs.whole_numbers.WholeNumbers.{IsRoundToIntegral}
-use Rattle.apfloat_comparisons.specs.WholeNumbers.{IsRoundedToIntegral}
-use Rattle.apfloat_comparisons.proofs.IntegralOnce.{integral_once}
+use Rattle.ieee_operations.specs.WholeNumbers.{IsRoundedToIntegral}
+use Rattle.ieee_operations.proofs.IntegralOnce.{integral_once}
 use Rattle.apfloat_machines.specs.declared.machine.Machine.{Machine}
 use Rattle.apfloat_machines.specs.Invalid.{is_invalid_sum, is_invalid_difference, is_invalid_product, is_invalid_quotient, is_invalid_remainder, is_invalid_root, is_invalid_fused}
 use Rattle.apfloat_machines.specs.Operations.{is_nan_of_three, IsOfTwo}

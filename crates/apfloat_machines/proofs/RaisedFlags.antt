@@ -22,8 +22,8 @@ use Rattle.apfloat_model.specs.whole_numbers.WholeNumbers.{IsRoundToIntegral}
 use Rattle.apfloat_model.specs.whole_numbers.WholeNumbersOut.{to_signed, to_unsigned}
 use Rattle.apfloat_model.proofs.general.Choices.{match_case, if_case}
 use Rattle.apfloat_model.proofs.rounding.FlagsTogether.{ok_together, invalid_together, answer_together, delivered_together, sum_together, difference_together, product_together, quotient_together, root_together, fused_sum_together, remainder_together, conversion_together, round_to_integral_together, to_signed_together, to_unsigned_together}
-use Rattle.apfloat_comparisons.specs.RaisedFlags.{RaisesTogether}
-use Rattle.apfloat_comparisons.specs.WholeNumbers.{IsRoundedToIntegral}
+use Rattle.ieee_operations.specs.RaisedFlags.{RaisesTogether}
+use Rattle.ieee_operations.specs.WholeNumbers.{IsRoundedToIntegral}
 use Rattle.apfloat_machines.specs.declared.machine.Machine.{Machine}
 use Rattle.apfloat_machines.specs.declared.flushing.Flush.TheVariants.{X86}
 use Rattle.apfloat_machines.specs.Machines.{invalid_integer_is_inexact}

@@ -18,8 +18,8 @@ use Rattle.apfloat_model.specs.arithmetic.Conversions.{IsConversion}
 use Rattle.apfloat_model.specs.whole_numbers.WholeNumbers.{IsRoundToIntegral}
 use Rattle.apfloat_model.specs.declared.status.StatusAnd.{StatusAnd}
 use Rattle.apfloat_model.specs.rounding.Flags.{bits_of, Gives}
-use Rattle.apfloat_comparisons.specs.WholeNumbers.{IsRoundedToIntegral}
-use Rattle.apfloat_comparisons.specs.Extrema.{quieted_datum}
+use Rattle.ieee_operations.specs.WholeNumbers.{IsRoundedToIntegral}
+use Rattle.ieee_operations.specs.Extrema.{quieted_datum}
 use Rattle.apfloat_machines.specs.declared.machine.Machine.{Machine}
 use Rattle.apfloat_machines.specs.Machines.{nan_choice, fused_order}
 use Rattle.apfloat_machines.specs.Nans.{default_nan, nan_of, settled, takes_none}

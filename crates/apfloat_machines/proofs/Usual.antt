@@ -20,7 +20,7 @@ use Rattle.apfloat_model.specs.arithmetic.Remainders.{IsRemainder, rest_of}
 use Rattle.apfloat_model.specs.arithmetic.Roots.{IsRoot, IsRootOfNumber, IsRootOfInfinity}
 use Rattle.apfloat_model.specs.arithmetic.FusedSums.{IsFusedSum}
 use Rattle.apfloat_model.specs.whole_numbers.WholeNumbers.{IsRoundToIntegral, whole_quanta}
-use Rattle.apfloat_comparisons.specs.WholeNumbers.{IsRoundedToIntegral}
+use Rattle.ieee_operations.specs.WholeNumbers.{IsRoundedToIntegral}
 use Rattle.apfloat_machines.specs.Invalid.{is_invalid_sum, is_invalid_difference, is_invalid_product, is_invalid_quotient, is_invalid_remainder, is_invalid_root, is_invalid_fused}
 use Rattle.apfloat_machines.specs.Operations.{is_signaling_of_two, is_nan_of_three}
 

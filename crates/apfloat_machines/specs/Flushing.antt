@@ -9,7 +9,7 @@ use Rattle.apfloat_model.specs.rounding.Rounding.{delivered_value, delivered_sta
 use Rattle.apfloat_model.specs.rounding.Answer.{IsAnswer}
 use Rattle.apfloat_model.specs.order.Classes.{is_nan, is_denormal}
 use Rattle.apfloat_model.specs.arithmetic.Signs.{copy_sign}
-use Rattle.apfloat_comparisons.specs.StatusFlags.{is_raised}
+use Rattle.ieee_operations.specs.StatusFlags.{is_raised}
 use Rattle.apfloat_machines.specs.declared.flushing.Flush.{Flush}
 use Rattle.apfloat_machines.specs.declared.flushing.Flush.TheVariants.{X86, Arm}
 

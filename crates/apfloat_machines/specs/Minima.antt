@@ -6,7 +6,7 @@ use Rattle.apfloat_model.specs.formats.Nan.{invalid_if}
 use Rattle.apfloat_model.specs.rounding.Answer.{IsAnswer}
 use Rattle.apfloat_model.specs.order.Classes.{is_nan}
 use Rattle.apfloat_model.specs.order.Order.{is_below}
-use Rattle.apfloat_comparisons.specs.Extrema.{lesser, greater}
+use Rattle.ieee_operations.specs.Extrema.{lesser, greater}
 use Rattle.apfloat_machines.specs.declared.machine.Machine.{Machine}
 use Rattle.apfloat_machines.specs.declared.minima.MinimumRule.{MinimumRule}
 use Rattle.apfloat_machines.specs.declared.minima.MinimumRule.TheVariants.{Second, SecondQuietly, FirstNan}

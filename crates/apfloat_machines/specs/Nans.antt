@@ -5,8 +5,8 @@ use Rattle.apfloat_model.specs.formats.Datum.{Datum, finite, infinite, nan}
 use Rattle.apfloat_model.specs.formats.Nan.{is_signaling, quieted, qnan, is_signaling_nan}
 use Rattle.apfloat_model.specs.rounding.Negation.{negated}
 use Rattle.apfloat_model.specs.order.Classes.{is_nan, is_negative}
-use Rattle.apfloat_comparisons.specs.Extrema.{quieted_datum}
-use Rattle.apfloat_comparisons.specs.TotalOrder.{total_order_mag}
+use Rattle.ieee_operations.specs.Extrema.{quieted_datum}
+use Rattle.ieee_operations.specs.TotalOrder.{total_order_mag}
 use Rattle.apfloat_machines.specs.declared.machine.Machine.{Machine}
 use Rattle.apfloat_machines.specs.declared.machine.NanChoice.{NanChoice}
 use Rattle.apfloat_machines.specs.declared.machine.NanChoice.TheVariants.{First, SignalingFirst, Greater, AlwaysDefault}

@@ -17,8 +17,8 @@ use Rattle.apfloat_model.specs.arithmetic.Remainders.{IsTruncatedRemainder, IsNe
 use Rattle.apfloat_model.specs.arithmetic.Roots.{IsRoot}
 use Rattle.apfloat_model.specs.arithmetic.FusedSums.{IsFusedSum}
 use Rattle.apfloat_model.specs.whole_numbers.WholeNumbers.{IsRoundToIntegral}
-use Rattle.apfloat_comparisons.specs.WholeNumbers.{IsRoundedToIntegral}
-use Rattle.apfloat_comparisons.specs.Extrema.{quieted_datum}
+use Rattle.ieee_operations.specs.WholeNumbers.{IsRoundedToIntegral}
+use Rattle.ieee_operations.specs.Extrema.{quieted_datum}
 use Rattle.apfloat_machines.specs.declared.machine.Machine.{Machine}
 use Rattle.apfloat_machines.specs.declared.machine.FusedOrder.{FusedOrder}
 use Rattle.apfloat_machines.specs.declared.machine.FusedOrder.TheVariants.{FactorsFirst, AddendFirst, AddendSecond}

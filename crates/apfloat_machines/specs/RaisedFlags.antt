@@ -4,7 +4,7 @@ use Rattle.std.specs.Prelude.{ℕ}
 use Rattle.apfloat_model.specs.declared.kinds.Round.{Round}
 use Rattle.apfloat_model.specs.formats.Format.{Format}
 use Rattle.apfloat_model.specs.formats.Datum.{Datum}
-use Rattle.apfloat_comparisons.specs.RaisedFlags.{RaisesTogether}
+use Rattle.ieee_operations.specs.RaisedFlags.{RaisesTogether}
 use Rattle.apfloat_machines.specs.declared.machine.Machine.{Machine}
 use Rattle.apfloat_machines.specs.declared.minima.MinimumRule.{MinimumRule}
 use Rattle.apfloat_machines.specs.declared.flushing.Flush.TheVariants.{X86}

@@ -8,8 +8,8 @@ ghost use Rattle.apfloat_machines.specs.Flushing.{without_denormal, zero_like};
 ghost use Rattle.apfloat_machines.specs.FlushedOperations.{AreFlushed};
 
 use apfloat_base::{Float, Status, StatusAnd};
-use apfloat_comparisons::{raise_flags, test_flags};
 use apfloat_ieee::{Flagged, IeeeFloat};
+use ieee_operations::{raise_flags, test_flags};
 
 /// The flags of a result that is flushed to zero.
 #[derive(Clone, Copy, PartialEq, Eq, Debug)]

@@ -10,8 +10,8 @@ ghost use Rattle.apfloat_machines.specs.Minima.{IsLeast, IsGreatest, extreme, is
 use crate::machine::Machine;
 use crate::nans::{default_nan, machine_nan};
 use apfloat_base::{Float, Status, StatusAnd};
-use apfloat_comparisons::{maximum_of, minimum_of};
 use apfloat_ieee::{Flagged, IeeeFloat};
+use ieee_operations::{maximum_of, minimum_of};
 
 /// What the minimum or the maximum of two operands is if one is a NaN, or both are zeros. By the rules without another
 /// remark, -0 is below +0, and INVALID_OP is raised exactly if an operand is a signaling NaN.

@@ -5,7 +5,7 @@ ghost use Rattle.apfloat_model.specs.declared.kinds.NonfiniteBehavior.TheVariant
 ghost use Rattle.apfloat_model.specs.order.Classes.{is_nan};
 ghost use Rattle.apfloat_model.specs.rounding.Negation.{negated};
 ghost use Rattle.apfloat_ieee.specs.FlaggedTypes.{format_of};
-ghost use Rattle.apfloat_comparisons.specs.Extrema.{quieted_datum};
+ghost use Rattle.ieee_operations.specs.Extrema.{quieted_datum};
 ghost use Rattle.apfloat_machines.specs.declared.flushing.Flush.{Flush};
 ghost use Rattle.apfloat_machines.specs.FlushedMachines.{AreFlushedAndSettled};
 ghost use Rattle.apfloat_machines.specs.Nans.{default_nan, machine_nan, nan_of, settled};
@@ -14,8 +14,8 @@ ghost use Rattle.apfloat_machines.specs.Operations.{AreSettled, AreSettledOfOne}
 
 use crate::machine::{Machine, NanChoice};
 use apfloat_base::{Float, StatusAnd};
-use apfloat_comparisons::total_order_mag;
 use apfloat_ieee::{Flagged, IeeeFloat};
+use ieee_operations::total_order_mag;
 
 /// The answer of an operation on two operands, as the machine gives it: if it is a NaN, the machine's NaN, and
 /// otherwise unchanged. The flags are those of the answer.

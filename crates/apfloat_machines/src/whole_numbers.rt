@@ -14,8 +14,8 @@ ghost use Rattle.apfloat_machines.specs.WholeNumbers.{greatest_signed, least_sig
 
 use crate::machine::{Machine, WholeOfNan};
 use apfloat_base::{Float, Status, StatusAnd};
-use apfloat_comparisons::raise_flags;
 use apfloat_ieee::{Flagged, IeeeFloat};
+use ieee_operations::raise_flags;
 
 /// The answer of the conversion of `x` to a signed integer of `width` bits, 2 to 128, as the machine gives it: if it
 /// raises INVALID_OP, the machine's integer with its flags, and otherwise unchanged.

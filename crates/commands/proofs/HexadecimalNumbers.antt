@@ -7,7 +7,7 @@ use Rattle.apfloat_model.proofs.general.MoreDigits.{digit_more}
 use Rattle.apfloat_model.specs.declared.marks.Radix.TheVariants.{Sixteen}
 use Rattle.rustc_apfloat.specs.Digits.{every, is_empty, is_hexadecimal, digit_value, number}
 use Rattle.apfloat_model.specs.texts.Specials.{number_of_digits}
-use Rattle.apfloat_hex_texts.specs.Payloads.{longer}
+use Rattle.apfloat_conversions.specs.hex_texts.Payloads.{longer}
 use Rattle.commands.specs.Commands.{bits_of_digits}
 
 -- ---- the bound

@@ -12,10 +12,13 @@
 //!
 //! Also what the other programs have in common: the answers to `--help` and `--version`, the word that was meant by a
 //! misspelt one, the line about a word that is wrong, and when a long work tells how far it is.
+//!
+//! `custom_formats` has formats declared as a user would declare them, for rows and tests.
 #![tactic(auto)]
 
 mod about;
 mod calculation;
+pub mod custom_formats;
 mod expected_reply;
 mod operation;
 mod output;

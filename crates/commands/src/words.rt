@@ -5,7 +5,7 @@ ghost use Rattle.std.specs.Result.{MatchResult};
 ghost use Rattle.commands.specs.Commands.{bits_of_digits, bits_of_word, found, named, operations, whole_number_of};
 
 use crate::operation::Operation;
-use apfloat_hex_texts::number_of_digits;
+use apfloat_conversions::hex_texts::number_of_digits;
 use apfloat_model::marks::Radix;
 use formats_at_run_time::{Arithmetic, mode_named};
 use rustc_apfloat::Round;

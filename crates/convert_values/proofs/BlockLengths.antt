@@ -4,15 +4,15 @@ use Rattle.std.proofs.Common.{◌==◌, ◌&&◌, true, false, refl, sym, ap, �
 use Rattle.std.specs.Prelude.{All, Err, IsOk, Ok, Result}
 use Rattle.std.proofs.Math.Nat.{mul-div_cancel, mul-mod_left}
 use Rattle.std.proofs.lemmas.Bool.{and_from, eq-eqb, ne_eqb}
-use Rattle.array_conversions.specs.declared.Counts.{Counts}
-use Rattle.block_formats.specs.Elements.{width}
-use Rattle.block_arrays.specs.declared.ArrayError.{ArrayError}
-use Rattle.block_arrays.specs.declared.ArrayError.TheVariants.{CodeTooWide, EmptyBlock, Lengths, Uneven}
-use Rattle.block_arrays.specs.declared.Dequantization.{Dequantization}
-use Rattle.block_arrays.specs.declared.Quantization.{Quantization}
-use Rattle.block_arrays.specs.Dequantized.{IsDequantizedArray}
-use Rattle.block_arrays.specs.Lengths.{blocks_of}
-use Rattle.block_arrays.specs.Quantized.{AreQuantized, IsQuantizedArray}
+use Rattle.apfloat_arrays.specs.declared.Counts.{Counts}
+use Rattle.small_formats.specs.blocks.Elements.{width}
+use Rattle.apfloat_arrays.specs.declared.scaled_blocks.ArrayError.{ArrayError}
+use Rattle.apfloat_arrays.specs.declared.scaled_blocks.ArrayError.TheVariants.{CodeTooWide, EmptyBlock, Lengths, Uneven}
+use Rattle.apfloat_arrays.specs.declared.scaled_blocks.Dequantization.{Dequantization}
+use Rattle.apfloat_arrays.specs.declared.scaled_blocks.Quantization.{Quantization}
+use Rattle.apfloat_arrays.specs.scaled_blocks.Dequantized.{IsDequantizedArray}
+use Rattle.apfloat_arrays.specs.scaled_blocks.Lengths.{blocks_of}
+use Rattle.apfloat_arrays.specs.scaled_blocks.Quantized.{AreQuantized, IsQuantizedArray}
 use Rattle.convert_values.proofs.NarrowCodes.{not_both}
 
 one_block : (block width : ℕ) → 1 ≤ block → 1 ≤ width

@@ -2,12 +2,12 @@
 use Rattle.std.proofs.Common.{◌≡◌, ℕ, ◌+◌, ◌-◌, ◌*◌, ◌/◌, ◌<◌, refl}
 use Rattle.std.proofs.Common.{sym, ap, ◌∙◌, subst, List, [], ◌∷◌, ◌++◌, length, take}
 use borrow.Rule.Slice.PartMut.{put_mid}
-use Rattle.array_conversions.specs.declared.Counts.{Counts}
-use Rattle.array_conversions.specs.declared.Widths.{Widths}
-use Rattle.array_conversions.specs.Blocks.{value_at}
-use Rattle.array_conversions.specs.Outcomes.{sum_of}
-use Rattle.array_conversions.proofs.Places.{places_more, places_none}
-use Rattle.block_arrays.specs.Quantized.{no_counts}
+use Rattle.apfloat_arrays.specs.declared.Counts.{Counts}
+use Rattle.apfloat_arrays.specs.declared.Widths.{Widths}
+use Rattle.apfloat_arrays.specs.Blocks.{value_at}
+use Rattle.apfloat_arrays.specs.Outcomes.{sum_of}
+use Rattle.apfloat_arrays.proofs.Places.{places_more, places_none}
+use Rattle.apfloat_arrays.specs.scaled_blocks.Quantized.{no_counts}
 use Rattle.convert_values.specs.declared.blocks.BlockConversion.{BlockConversion}
 use Rattle.convert_values.specs.Blocks.{AreConverted, IsConverted, block_widths, total_of}
 

@@ -12,17 +12,17 @@ use Rattle.rustc_apfloat.specs.Datum.{Datum, finite}
 use Rattle.apfloat_model.specs.formats.Format.{Format}
 use Rattle.rustc_apfloat.specs.Lawful.{format_with}
 use Rattle.formats_at_run_time.specs.BuiltIns.{constants_in}
-use Rattle.array_conversions.specs.declared.Counts.{Counts}
-use Rattle.array_conversions.specs.Blocks.{value_at}
-use Rattle.block_formats.specs.declared.Block.{Block}
-use Rattle.block_formats.specs.declared.ElementFormat.{ElementFormat}
-use Rattle.block_formats.specs.Elements.{IsQuotientBy, width}
-use Rattle.block_formats.specs.Magnitudes.{are_finite}
-use Rattle.block_formats.specs.MxBlocks.{IsBlockOfNan, IsBlockOfNumbers}
-use Rattle.block_formats.specs.Places.{AreInPlaces}
-use Rattle.block_arrays.specs.declared.Quantization.{Quantization}
-use Rattle.block_arrays.specs.Quantized.{AreQuantized, IsBlockOf, width_in}
-use Rattle.block_arrays.specs.Values.{values_in}
+use Rattle.apfloat_arrays.specs.declared.Counts.{Counts}
+use Rattle.apfloat_arrays.specs.Blocks.{value_at}
+use Rattle.small_formats.specs.declared.blocks.Block.{Block}
+use Rattle.small_formats.specs.declared.blocks.ElementFormat.{ElementFormat}
+use Rattle.small_formats.specs.blocks.Elements.{IsQuotientBy, width}
+use Rattle.small_formats.specs.blocks.Magnitudes.{are_finite}
+use Rattle.small_formats.specs.blocks.MxBlocks.{IsBlockOfNan, IsBlockOfNumbers}
+use Rattle.small_formats.specs.blocks.Places.{AreInPlaces}
+use Rattle.apfloat_arrays.specs.declared.scaled_blocks.Quantization.{Quantization}
+use Rattle.apfloat_arrays.specs.scaled_blocks.Quantized.{AreQuantized, IsBlockOf, width_in}
+use Rattle.apfloat_arrays.specs.scaled_blocks.Values.{values_in}
 
 quotients : (element : ElementFormat) (f : Format) (mode : Round) (divisor unit : ℕ) (values : List Datum)
     (codes flags : List ℕ)

@@ -2,19 +2,19 @@
 use Rattle.std.specs.Prelude.{◌≡◌, ℕ, ◌+◌, ◌*◌, ◌/◌, List, [], ◌∷◌}
 use Rattle.formats_at_run_time.specs.FlaggedKinds.{flagged_constants}
 use Rattle.formats_at_run_time.specs.declared.FlaggedFormat.TheVariants.{BuiltIn}
-use Rattle.array_conversions.specs.declared.Counts.{Counts}
-use Rattle.array_conversions.specs.declared.Extended.TheVariants.{Packed}
-use Rattle.array_conversions.specs.declared.Widths.{Widths}
-use Rattle.array_conversions.specs.Blocks.{AreInPlaces, value_at}
-use Rattle.array_conversions.specs.Outcomes.{sum_of}
-use Rattle.array_conversions.specs.Widths.{width_of}
-use Rattle.block_arrays.specs.declared.Dequantization.{Dequantization}
-use Rattle.block_arrays.specs.declared.Quantization.{Quantization}
-use Rattle.block_arrays.specs.Dequantized.{AreDequantized, width_out}
-use Rattle.block_arrays.specs.Quantized.{AreQuantized, no_counts}
-use Rattle.block_formats.specs.declared.ElementFormat.{ElementFormat}
-use Rattle.block_formats.specs.Elements.{width}
-use Rattle.packed_codes.specs.Packed.{ArePacked}
+use Rattle.apfloat_arrays.specs.declared.Counts.{Counts}
+use Rattle.apfloat_arrays.specs.declared.Extended.TheVariants.{Packed}
+use Rattle.apfloat_arrays.specs.declared.Widths.{Widths}
+use Rattle.apfloat_arrays.specs.Blocks.{AreInPlaces, value_at}
+use Rattle.apfloat_arrays.specs.Outcomes.{sum_of}
+use Rattle.apfloat_arrays.specs.Widths.{width_of}
+use Rattle.apfloat_arrays.specs.declared.scaled_blocks.Dequantization.{Dequantization}
+use Rattle.apfloat_arrays.specs.declared.scaled_blocks.Quantization.{Quantization}
+use Rattle.apfloat_arrays.specs.scaled_blocks.Dequantized.{AreDequantized, width_out}
+use Rattle.apfloat_arrays.specs.scaled_blocks.Quantized.{AreQuantized, no_counts}
+use Rattle.small_formats.specs.declared.blocks.ElementFormat.{ElementFormat}
+use Rattle.small_formats.specs.blocks.Elements.{width}
+use Rattle.small_formats.specs.packing.Packed.{ArePacked}
 use Rattle.convert_values.specs.declared.block_form.BlockForm.{BlockForm}
 use Rattle.convert_values.specs.declared.blocks.BlockConversion.{BlockConversion}
 use Rattle.convert_values.specs.declared.blocks.BlockWay.{BlockWay}

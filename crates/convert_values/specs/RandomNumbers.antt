@@ -1,7 +1,7 @@
 -- The random numbers of a stream: the upper halves of what SplitMix64 returns, by their position.
 use Rattle.std.specs.Prelude.{◌≡◌, ℕ, ◌+◌, ◌*◌, ◌/◌, ◌%◌, ◌^◌, bit_xor}
-use Rattle.storage_formats.specs.declared.ConversionRound.{ConversionRound}
-use Rattle.storage_formats.specs.declared.ConversionRound.TheVariants.{Ieee, ToOdd, Stochastic}
+use Rattle.small_formats.specs.declared.ConversionRound.{ConversionRound}
+use Rattle.small_formats.specs.declared.ConversionRound.TheVariants.{Ieee, ToOdd, Stochastic}
 
 -- one step of the mixing of a state: its upper digits fold into the lower ones, and a factor spreads them
 abbrev pub folded : ℕ → ℕ → ℕ

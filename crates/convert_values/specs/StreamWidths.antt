@@ -1,7 +1,7 @@
 -- How many bytes a value or a block of a stream takes.
-use Rattle.array_conversions.specs.declared.Widths.{Widths}
-use Rattle.array_conversions.specs.Widths.{source_width, target_width}
-use Rattle.storage_arrays.specs.Arrays.{widths_of}
+use Rattle.apfloat_arrays.specs.declared.Widths.{Widths}
+use Rattle.apfloat_arrays.specs.Widths.{source_width, target_width}
+use Rattle.apfloat_arrays.specs.stored.Arrays.{widths_of}
 use Rattle.convert_values.specs.RandomWidths.{random_widths}
 use Rattle.convert_values.specs.declared.conversions.StreamConversion.{StreamConversion}
 use Rattle.convert_values.specs.declared.conversions.StreamConversion.TheVariants.{BuiltIn, Stored, Blocks, Random}

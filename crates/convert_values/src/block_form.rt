@@ -2,11 +2,11 @@
 
 ghost use Rattle.std.specs.Prelude.{◌≡◌, ◌+◌, ◌*◌, ◌%◌, ◌^◌, ◌<◌, ◌≤◌, ◌↔◌};
 ghost use Rattle.std.specs.Prelude.{All, length, IfSome, IsSome};
-ghost use Rattle.block_formats.specs.Elements.{width};
-ghost use Rattle.packed_codes.specs.Packed.{ArePacked};
+ghost use Rattle.small_formats.specs.blocks.Elements.{width};
+ghost use Rattle.small_formats.specs.packing.Packed.{ArePacked};
 
-use block_formats::{BLOCK, ElementFormat};
-use packed_codes::{pack_fours, pack_sixes, unpack_fours, unpack_sixes};
+use small_formats::blocks::{BLOCK, ElementFormat};
+use small_formats::packing::{pack_fours, pack_sixes, unpack_fours, unpack_sixes};
 
 /// The greatest number of elements of a block.
 pub const LONGEST: usize = 1024;

@@ -2,11 +2,11 @@
 
 use crate::block_form::{BlockForm, LONGEST};
 use crate::blocks::{BlockConversion, BlockWay};
-use block_formats::ElementFormat;
+use apfloat_arrays::stored::StoredFormat;
 use commands::{FORMATS, MODES, WrongWord};
 use formats_at_run_time::{BuiltInFormat, BuiltInKind, mode_named};
 use rustc_apfloat::Round;
-use storage_arrays::StoredFormat;
+use small_formats::blocks::ElementFormat;
 
 /// The forms of blocks.
 static FORMS: &[&str] = &["mxfp4", "mxfp6e2m3", "mxfp6e3m2", "mxfp8e4m3", "mxfp8e5m2"];

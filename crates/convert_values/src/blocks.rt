@@ -3,8 +3,8 @@
 ghost use Rattle.std.specs.Prelude.{◌≡◌, ◌+◌, ◌*◌, ◌/◌, ◌≤◌, length, take};
 
 use crate::block_form::{BlockForm, LONGEST};
-use array_conversions::{ConvertedBlock, Counts, Extended, Widths, width};
-use block_arrays::{Dequantization, Quantization};
+use apfloat_arrays::scaled_blocks::{Dequantization, Quantization};
+use apfloat_arrays::{ConvertedBlock, Counts, Extended, Widths, width};
 use formats_at_run_time::{BuiltInFormat, FlaggedFormat};
 use rustc_apfloat::Round;
 

@@ -2,15 +2,15 @@
 //! them, or with random digits.
 
 ghost use Rattle.std.specs.Prelude.{◌≡◌, ◌*◌, ◌/◌, ◌≤◌, length};
-ghost use Rattle.storage_arrays.specs.Arrays.{widths_of};
+ghost use Rattle.apfloat_arrays.specs.stored.Arrays.{widths_of};
 ghost use Rattle.convert_values.specs.StreamWidths.{stream_widths};
 
 use crate::blocks::BlockConversion;
 use crate::random::{RandomConversion, RandomTarget};
-use array_conversions::{Conversion, ConvertedBlock, Extended, Widths};
+use apfloat_arrays::stored::{Ends, StorageArray, StoredFormat};
+use apfloat_arrays::{Conversion, ConvertedBlock, Extended, Widths};
 use formats_at_run_time::{BuiltInFormat, BuiltInKind, FlaggedFormat, mode_named};
-use saturating_conversions::Overflow;
-use storage_arrays::{Ends, StorageArray, StoredFormat};
+use small_formats::saturation::Overflow;
 
 /// A conversion of a stream.
 #[derive(Clone, Copy)]

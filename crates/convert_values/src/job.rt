@@ -2,9 +2,9 @@
 
 use crate::block_words::{blocks_named, is_block_option};
 use crate::conversions::StreamConversion;
-use array_conversions::Extended;
+use apfloat_arrays::Extended;
 use commands::About;
-use saturating_conversions::{FiniteNan, Overflow};
+use small_formats::saturation::{FiniteNan, Overflow};
 
 /// The help; `packaging/manual` makes the man page and the completions of it.
 pub const HELP: &str = "\

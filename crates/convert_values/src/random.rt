@@ -2,20 +2,20 @@
 
 ghost use Rattle.std.specs.Prelude.{◌≡◌, ◌*◌, ◌/◌, ◌^◌, ◌<◌, ◌≤◌, length};
 ghost use Rattle.formats_at_run_time.specs.FormatKinds.{IfFormat};
-ghost use Rattle.storage_arrays.specs.Formats.{bits_in as stored_bits};
+ghost use Rattle.apfloat_arrays.specs.stored.Formats.{bits_in as stored_bits};
 ghost use Rattle.convert_values.specs.RandomWidths.{bits_in, random_widths};
 
 use crate::random_numbers::mode_at;
-use array_conversions::{
+use apfloat_arrays::stored::StoredFormat;
+use apfloat_arrays::{
     Converted, ConvertedBlock, Counts, Extended, Outcome, Widths, number_of, width, write_number,
 };
-use conversion_modes::{convert_by, e3m4_by, unsigned_by};
 use formats_at_run_time::{BuiltInFormat, BuiltInKind, InFormat};
 use rustc_apfloat::ieee::{IeeeFloat, Semantics};
 use rustc_apfloat::{Float, StatusAnd};
-use saturating_conversions::{Overflow, ValueClass, treat};
-use storage_arrays::StoredFormat;
-use storage_formats::{
+use small_formats::saturation::{Overflow, ValueClass, treat};
+use small_formats::stochastic::{convert_by, e3m4_by, unsigned_by};
+use small_formats::{
     ConversionRound, E2M1FN, E2M3FN, E3M2FN, E8M0FNU, NanResult, StorageFormat, StoredFloat,
 };
 

@@ -4,7 +4,7 @@
 ghost use Rattle.std.specs.Prelude.{◌≡◌};
 ghost use Rattle.convert_values.specs.RandomNumbers.{IsRandomMode, mixed, random_at};
 
-use storage_formats::{ConversionRound, RandomDigits};
+use small_formats::{ConversionRound, RandomDigits};
 
 /// What the state of SplitMix64 grows by.
 const GAMMA: u64 = 0x9E37_79B9_7F4A_7C15;

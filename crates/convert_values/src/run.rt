@@ -6,7 +6,7 @@ ghost use Rattle.convert_values.specs.Statuses.{failure_status, summary_status};
 use crate::job::{HELP, Job};
 use crate::stream::{Failure, Summary, convert_stream};
 use crate::wrong_word::{wrong_form, wrong_word};
-use array_conversions::Counts;
+use apfloat_arrays::Counts;
 use commands::{Progress, write_fault};
 use std::io;
 use std::io::{ErrorKind, Read, Write};

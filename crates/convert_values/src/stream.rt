@@ -4,14 +4,14 @@ ghost use Rattle.std.specs.Prelude.{◌*◌, ◌/◌, ◌≤◌, IfOk, length};
 ghost use Rattle.convert_values.specs.StreamWidths.{stream_widths};
 
 use crate::conversions::StreamConversion;
-use array_conversions::Counts;
+use apfloat_arrays::Counts;
 use commands::Progress;
 use std::alloc::AllocError;
 use std::io;
 use std::io::{ErrorKind, Read, Write};
 use std::rt::Clock;
 
-/// The greatest number of values in a buffer: as many as a table for singles needs to pay (`array_conversions`).
+/// The greatest number of values in a buffer: as many as a table for singles needs to pay (`apfloat_arrays`).
 const BUFFERED: usize = 1 << 16;
 
 /// What a stream contained.

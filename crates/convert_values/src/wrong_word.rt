@@ -2,9 +2,9 @@
 
 use crate::block_words::{blocks_named, is_block_option, is_later_option};
 use crate::job::{is_stochastic, seed_named};
+use apfloat_arrays::stored::StoredFormat;
 use commands::{FORMATS, MODES, WrongWord, suggested};
 use formats_at_run_time::{BuiltInKind, mode_named};
-use storage_arrays::StoredFormat;
 
 /// The storage formats.
 static STORED: &[&str] = &["e2m1fn", "e2m3fn", "e3m2fn", "e3m4", "e8m0fnu", "ue4m3"];

@@ -67,4 +67,6 @@ pub use Rattle.apfloat_pair_theory.specs.PairCalls
 pub use Rattle.apfloat_pair_theory.specs.PairRoots
 pub use Rattle.apfloat_pair_theory.specs.PairAnswers
 pub use Rattle.apfloat_pair_theory.specs.PairAccuracy
-pub use Rattle.apfloat_pairs.specs.PairMeaning
+pub use Rattle.rustc_apfloat.specs.double_doubles.PairMeaning
+pub mod double_doubles
+pub mod double_double_operations

@@ -3,8 +3,13 @@
 //!
 //! The root contains the statuses, the rounding modes and the traits `Float` and `FloatConvert`; `ieee` has the formats
 //! and `IeeeFloat`, `ppc` has pairs of doubles.
+//!
+//! `double_doubles` has the calls of double-doubles, and `double_double_operations` their conversions to and from every
+//! format and their fused sums.
 #![tactic(auto)]
 
+pub mod double_double_operations;
+pub mod double_doubles;
 pub mod ieee;
 pub mod ppc;
 

@@ -1,3 +1,3 @@
 //! Pairs of doubles.
 
-pub use apfloat_pairs::{DoubleDouble, DoubleFloat, FallbackExtendedS, FallbackS};
+pub use crate::double_doubles::{DoubleDouble, DoubleFloat, FallbackExtendedS, FallbackS};

@@ -17,7 +17,7 @@
 
 use crate::StatusAnd;
 use crate::calls::Returned;
-use crate::erased::apfloat_augmented as library;
+use crate::erased::ieee_operations::augmented as library;
 use crate::ieee::{FlaggedS, IeeeFloat, Semantics};
 use core::fmt;
 

@@ -21,7 +21,7 @@
 //! assert_eq!(comparisons::convert_to_signed_exact(almost_two, 8, up), Status::INEXACT.and(2));
 //! ```
 
-use crate::erased::apfloat_comparisons as library;
+use crate::erased::ieee_operations as library;
 use crate::ieee::{IeeeFloat, Semantics};
 use crate::{ExpInt, Round, Status, StatusAnd};
 use core::cmp::Ordering;

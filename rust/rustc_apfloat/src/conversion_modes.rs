@@ -16,16 +16,16 @@
 //! assert_eq!((code(153), code(154)), (0x38, 0x39));
 //! ```
 
-use crate::erased::{conversion_modes as library, storage_formats};
+use crate::erased::{small_formats::stochastic as library, small_formats};
 use crate::ieee::{IeeeFloat, PlainS, Semantics};
 use crate::status::answered;
 use crate::{Round, StatusAnd};
 
-pub use storage_formats::RandomError;
+pub use small_formats::RandomError;
 
 /// Random binary digits for one conversion, handed in by the caller.
 #[derive(Clone, Copy, Debug)]
-pub struct RandomDigits(storage_formats::RandomDigits);
+pub struct RandomDigits(small_formats::RandomDigits);
 
 impl RandomDigits {
     /// `random` as a number of `digits` binary digits.
@@ -34,7 +34,7 @@ impl RandomDigits {
     ///
     /// `DigitCount` unless there are 1 to 32 digits, `TooWide` if `random` has more.
     pub fn new(digits: u32, random: u32) -> Result<Self, RandomError> {
-        storage_formats::RandomDigits::new(digits, random).map(Self)
+        small_formats::RandomDigits::new(digits, random).map(Self)
     }
 }
 
@@ -52,11 +52,11 @@ pub enum ConversionRound {
 }
 
 impl ConversionRound {
-    fn given(self) -> storage_formats::ConversionRound {
+    fn given(self) -> small_formats::ConversionRound {
         match self {
-            Self::Ieee(round) => storage_formats::ConversionRound::Ieee(round),
-            Self::ToOdd => storage_formats::ConversionRound::ToOdd,
-            Self::Stochastic(bits) => storage_formats::ConversionRound::Stochastic(bits.0),
+            Self::Ieee(round) => small_formats::ConversionRound::Ieee(round),
+            Self::ToOdd => small_formats::ConversionRound::ToOdd,
+            Self::Stochastic(bits) => small_formats::ConversionRound::Stochastic(bits.0),
         }
     }
 }

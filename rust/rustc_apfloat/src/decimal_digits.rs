@@ -22,7 +22,7 @@
 //! assert_eq!(write_digits(tenth, Round::TowardZero, &mut []), Written::NoRoom);
 //! ```
 
-use crate::erased::decimal_digits as library;
+use crate::erased::apfloat_digits::decimal as library;
 use crate::ieee::{IeeeFloat, Semantics};
 use crate::status::answered;
 use crate::{Category, ExpInt, Round, StatusAnd};

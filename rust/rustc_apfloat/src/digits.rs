@@ -10,7 +10,7 @@ use crate::erased::apfloat_base::{ExpInt, Float as _, Round, Status};
 use crate::erased::apfloat_decimals::large::Large;
 use crate::erased::apfloat_decimals::{first_place, rounded as rounded_decimal};
 use crate::erased::apfloat_ieee::{IeeeFloat, Semantics};
-use crate::erased::decimal_digits::{Written, digit_count, write_digits};
+use crate::erased::apfloat_digits::decimal::{Written, digit_count, write_digits};
 use alloc::vec::Vec;
 use core::fmt::{self, Write};
 use core::str;

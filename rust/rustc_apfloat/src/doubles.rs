@@ -7,7 +7,7 @@ use crate::status::answered;
 use crate::{Float, StatusAnd};
 
 /// The library's pair.
-pub(crate) type Inner = crate::erased::apfloat_pairs::DoubleDouble;
+pub(crate) type Inner = crate::erased::rustc_apfloat::double_doubles::DoubleDouble;
 
 /// How the values of `F` are doubles.
 pub struct AsDouble<F> {

@@ -14,7 +14,7 @@
 
 use crate::Round;
 use crate::StatusAnd;
-use crate::erased::hex_digits as library;
+use crate::erased::apfloat_digits::hexadecimal as library;
 use crate::ieee::{IeeeFloat, Semantics};
 use crate::status::answered;
 

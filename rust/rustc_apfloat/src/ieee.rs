@@ -4,7 +4,7 @@ use crate::digits::{self, Number};
 use crate::doubles::{self, AsDouble};
 use crate::erased::apfloat_base::{self, Float as _, FloatConvert as _};
 use crate::erased::apfloat_rounding::unpacked::Unpacked;
-use crate::erased::{apfloat_decimals, apfloat_ieee, pair_operations};
+use crate::erased::{apfloat_decimals, apfloat_ieee, rustc_apfloat::double_double_operations};
 use crate::far;
 use crate::law::Constants;
 use crate::status::answered;
@@ -352,13 +352,13 @@ impl<S: Semantics> IeeeFloat<S> {
     /// The sum of the parts of the library's pair, rounded once.
     #[inline]
     pub(crate) fn of_pair(pair: doubles::Inner, round: Round) -> StatusAnd<Self> {
-        Self::answered(pair_operations::pair_to_format(pair, round))
+        Self::answered(double_double_operations::pair_to_format(pair, round))
     }
 
     /// The library's pair of the value.
     #[inline]
     pub(crate) fn to_pair(self, round: Round) -> apfloat_base::StatusAnd<doubles::Inner> {
-        pair_operations::pair_from_format(self.inner(), round)
+        double_double_operations::pair_from_format(self.inner(), round)
     }
 
     /// The significand and the exponent of its integer bit, as the crate `rustc_apfloat` holds them.

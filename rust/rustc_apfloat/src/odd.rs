@@ -16,7 +16,7 @@
 
 use crate::Round;
 use crate::StatusAnd;
-use crate::erased::apfloat_odd as library;
+use crate::erased::round_to_odd as library;
 use crate::ieee::{IeeeFloat, Semantics};
 
 library_calls! {

@@ -3,7 +3,7 @@
 use crate::composed::{self, Composed};
 use crate::doubles::{AsDouble, Inner};
 use crate::erased::apfloat_base::Float as _;
-use crate::erased::{apfloat_ieee, apfloat_pairs, pair_decimals, pair_operations};
+use crate::erased::{apfloat_ieee, rustc_apfloat::double_doubles, apfloat_digits::of_double_doubles, rustc_apfloat::double_double_operations};
 use crate::ieee::{Double, IeeeFloat, Semantics};
 use crate::status::answered;
 use crate::{Category, Decimal, ExpInt, Float, FloatConvert, ParseError, Round, StatusAnd};
@@ -67,7 +67,7 @@ type Fallback<F> = IeeeFloat<FallbackS<F>>;
 type FallbackExtended<F> = IeeeFloat<FallbackExtendedS<F>>;
 
 /// The library's value of the wide format.
-type Wide = apfloat_ieee::IeeeFloat<apfloat_pairs::FallbackS>;
+type Wide = apfloat_ieee::IeeeFloat<double_doubles::FallbackS>;
 
 operators!(DoubleFloat);
 
@@ -136,7 +136,7 @@ impl DoubleDouble {
     /// The shortest decimal that `from_str` reads as the pair. None for an infinity, a NaN, and a pair that no decimal
     /// is read as, since it is not the split of a value of 106 digits. The crate `rustc_apfloat` has no such call.
     pub fn shortest(self) -> Option<Decimal> {
-        pair_decimals::shortest_of_pair(AsDouble::ITSELF.inner(self))
+        of_double_doubles::shortest_of_pair(AsDouble::ITSELF.inner(self))
     }
 }
 
@@ -269,7 +269,7 @@ where
         match F::AS_DOUBLE {
             Some(double) => {
                 let [x, y, z] = [self, multiplicand, addend].map(|pair| double.inner(pair));
-                double.answer(pair_operations::pair_mul_add_r(x, y, z, round))
+                double.answer(double_double_operations::pair_mul_add_r(x, y, z, round))
             }
             None => Fallback::from(self).mul_add_r(multiplicand.into(), addend.into(), round).map(Self::from),
         }
@@ -287,7 +287,7 @@ where
 
     fn from_str_r(s: &str, round: Round) -> Result<StatusAnd<Self>, ParseError> {
         match F::AS_DOUBLE {
-            Some(double) => pair_decimals::read_decimal_pair(s, round).map(|pair| double.answer(pair)),
+            Some(double) => of_double_doubles::read_decimal_pair(s, round).map(|pair| double.answer(pair)),
             None => Composed::from_str_r(s, round).map(answer),
         }
     }

@@ -20,7 +20,7 @@
 //! assert_eq!((six.to_string().as_str(), loses_info), ("6", false));
 //! ```
 
-use crate::erased::storage_formats as library;
+use crate::erased::small_formats as library;
 use crate::ieee::{FlaggedS, IeeeFloat, Semantics};
 use crate::status::answered;
 use crate::{Category, ExpInt, Round, StatusAnd};

@@ -5,7 +5,7 @@ ghost use Rattle.apfloat_model.specs.texts.Digits.{every, is_decimal, number};
 ghost use Rattle.apfloat_decimals.specs.LeadingDigits.{number_from};
 ghost use Rattle.apfloat_decimals.specs.Eights.{IsInBytes};
 
-use apfloat_hex_texts::is_decimal;
+use apfloat_conversions::hex_texts::is_decimal;
 
 /// The bytes of eight digits 0.
 const ZEROS: u64 = 0x3030_3030_3030_3030;

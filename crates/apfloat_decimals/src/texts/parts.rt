@@ -5,12 +5,12 @@ ghost use Rattle.apfloat_model.specs.rounding.Bounds.{IsWithin};
 ghost use Rattle.apfloat_model.specs.texts.Digits.{run, after_run, is_decimal, is_empty};
 ghost use Rattle.apfloat_model.specs.texts.Faults.{begins_literal};
 ghost use Rattle.apfloat_model.specs.texts.Literals.{exponent_number};
-ghost use Rattle.apfloat_hex_texts.specs.Saturation.{IsNear, count_bound, far_bound};
+ghost use Rattle.apfloat_conversions.specs.hex_texts.Saturation.{IsNear, count_bound, far_bound};
 ghost use Rattle.apfloat_decimals.specs.DecimalTexts.{fraction_in, after_fraction, fault_after};
 ghost use Rattle.apfloat_decimals.specs.LeadingDigits.{number_from};
 
 use crate::texts::eights::eights;
-use apfloat_hex_texts::{is_decimal, signed_number};
+use apfloat_conversions::hex_texts::{is_decimal, signed_number};
 use apfloat_model::parse_error::Fault;
 
 /// Whether the text is not empty and does not begin with the prefix of a hexadecimal number.

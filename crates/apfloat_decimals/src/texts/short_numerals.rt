@@ -2,7 +2,7 @@
 
 ghost use Rattle.std.specs.Prelude.{◌≡◌, ℤ, pos, ◌-ℤ◌, MatchOption};
 ghost use Rattle.apfloat_model.specs.rounding.Bounds.{IsWithin};
-ghost use Rattle.apfloat_hex_texts.specs.Saturation.{IsNear, count_bound, far_bound};
+ghost use Rattle.apfloat_conversions.specs.hex_texts.Saturation.{IsNear, count_bound, far_bound};
 ghost use Rattle.apfloat_decimals.specs.DecimalTexts.{IsDecimalText};
 ghost use Rattle.apfloat_decimals.specs.Parsing.{Spells};
 

@@ -1,6 +1,6 @@
 use Rattle.std.proofs.Common.{◌*◌, ◌/◌, length, ap, sym, ◌∙◌, rules, ◌≤◌}
 use Rattle.std.proofs.lemmas.List.{length-take-le}
-use Rattle.array_conversions.specs.declared.Widths.{Widths}
+use Rattle.apfloat_arrays.specs.declared.Widths.{Widths}
 use Rattle.apfloat_c.proofs.ArrayCalls.{conversion_left, conversion_room}
 use Rattle.apfloat_c.proofs.arrays.convert_array.Goals as goal
 

@@ -1,5 +1,5 @@
 use Rattle.std.proofs.Common.{◌≡◌, ℕ, ◌*◌, length, ap, ◌∙◌}
-use Rattle.array_conversions.proofs.Places.{place_size}
+use Rattle.apfloat_arrays.proofs.Places.{place_size}
 use Rattle.apfloat_c.specs.ArrayCalls.{bytes_in}
 use Rattle.apfloat_c.proofs.ElementCalls.{elements_more}
 use Rattle.apfloat_c.proofs.elements.elements.Goals as goal

@@ -1,7 +1,7 @@
 use Rattle.rustc_apfloat.specs.FlaggedTypes.{constants_of}
 use Rattle.rustc_apfloat.specs.Flags.{Gives}
 use Rattle.rustc_apfloat.specs.Lawful.{format_with}
-use Rattle.apfloat_format_of.specs.FormatOf.{IsFusedSumTo}
+use Rattle.apfloat_arithmetic.specs.other_formats.FormatOf.{IsFusedSumTo}
 use Rattle.apfloat_c.proofs.WrittenAnswers.{replaced}
 use Rattle.apfloat_c.proofs.ieee_answers.fused_sum_to.Goals as goal
 

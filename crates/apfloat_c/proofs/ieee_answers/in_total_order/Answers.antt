@@ -5,7 +5,7 @@ use Rattle.std.proofs.lemmas.Int.{to_z-of_z}
 use Rattle.std.specs.declared.cmp.Ordering.{Ordering}
 use Rattle.rustc_apfloat.specs.FlaggedTypes.{constants_of}
 use Rattle.rustc_apfloat.specs.Lawful.{format_with}
-use Rattle.apfloat_comparisons.specs.TotalOrder.{total_cmp}
+use Rattle.ieee_operations.specs.TotalOrder.{total_cmp}
 use Rattle.apfloat_c.specs.Answers.{order_code}
 use Rattle.apfloat_c.proofs.ieee_answers.in_total_order.Goals as goal
 

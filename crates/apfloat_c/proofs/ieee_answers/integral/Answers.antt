@@ -2,7 +2,7 @@ use Rattle.std.proofs.Common.{subst}
 use Rattle.rustc_apfloat.specs.FlaggedTypes.{constants_of}
 use Rattle.rustc_apfloat.specs.Flags.{Gives}
 use Rattle.rustc_apfloat.specs.Lawful.{format_with}
-use Rattle.apfloat_comparisons.specs.WholeNumbers.{IsRoundedToIntegral}
+use Rattle.ieee_operations.specs.WholeNumbers.{IsRoundedToIntegral}
 use Rattle.apfloat_c.proofs.ieee_answers.integral.Goals as goal
 
 pub returns : goal.returns

@@ -2,7 +2,7 @@ use Rattle.std.proofs.Math.Path.{subst₂}
 use Rattle.rustc_apfloat.specs.FlaggedTypes.{constants_of}
 use Rattle.rustc_apfloat.specs.Flags.{Gives}
 use Rattle.rustc_apfloat.specs.Lawful.{format_with}
-use Rattle.apfloat_comparisons.specs.Comparisons.{IsComparison}
+use Rattle.ieee_operations.specs.Comparisons.{IsComparison}
 use Rattle.apfloat_c.proofs.ieee_answers.predicated.Goals as goal
 
 pub returns : goal.returns

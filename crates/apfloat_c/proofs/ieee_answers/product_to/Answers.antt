@@ -2,7 +2,7 @@ use Rattle.std.proofs.Math.Path.{subst₂}
 use Rattle.rustc_apfloat.specs.FlaggedTypes.{constants_of}
 use Rattle.rustc_apfloat.specs.Flags.{Gives}
 use Rattle.rustc_apfloat.specs.Lawful.{format_with}
-use Rattle.apfloat_format_of.specs.FormatOf.{IsProductTo}
+use Rattle.apfloat_arithmetic.specs.other_formats.FormatOf.{IsProductTo}
 use Rattle.apfloat_c.proofs.ieee_answers.product_to.Goals as goal
 
 pub returns : goal.returns

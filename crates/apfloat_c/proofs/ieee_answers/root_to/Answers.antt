@@ -2,7 +2,7 @@ use Rattle.std.proofs.Common.{subst}
 use Rattle.rustc_apfloat.specs.FlaggedTypes.{constants_of}
 use Rattle.rustc_apfloat.specs.Flags.{Gives}
 use Rattle.rustc_apfloat.specs.Lawful.{format_with}
-use Rattle.apfloat_format_of.specs.RootsOf.{IsRootTo}
+use Rattle.apfloat_arithmetic.specs.other_formats.RootsOf.{IsRootTo}
 use Rattle.apfloat_c.proofs.ieee_answers.root_to.Goals as goal
 
 pub returns : goal.returns

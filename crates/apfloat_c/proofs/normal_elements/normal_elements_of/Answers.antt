@@ -1,8 +1,8 @@
 use Rattle.std.proofs.Common.{◌≡◌, ℕ, ◌+◌, ◌*◌, ◌^◌, ◌<◌, false, length, refl, sym, subst, ap, ◌∙◌}
 use Rattle.std.specs.Prelude.{slice_range}
 use Rattle.rustc_apfloat.specs.FlaggedTypes.{constants_of}
-use Rattle.array_conversions.specs.Bytes.{number_of}
-use Rattle.array_conversions.proofs.Places.{place_size}
+use Rattle.apfloat_arrays.specs.Bytes.{number_of}
+use Rattle.apfloat_arrays.proofs.Places.{place_size}
 use Rattle.apfloat_c.specs.ArrayCalls.{bytes_in}
 use Rattle.apfloat_c.proofs.ElementCalls.{elements_more}
 use Rattle.apfloat_c.proofs.NormalElements.{normal_element, normal_fits}

@@ -1,6 +1,6 @@
 use Rattle.std.proofs.Common.{◌≡◌, ◌*◌, length, ◌∙◌}
-use Rattle.array_conversions.proofs.Places.{place_size}
-use Rattle.array_conversions.proofs.TalliedResults.{no_entries}
+use Rattle.apfloat_arrays.proofs.Places.{place_size}
+use Rattle.apfloat_arrays.proofs.TalliedResults.{no_entries}
 use Rattle.apfloat_c.specs.OperationTables.{IsResultAt, element_tally}
 use Rattle.apfloat_c.proofs.OperationTables.{table_more}
 use Rattle.apfloat_c.proofs.operation_tables.fill.Goals as goal

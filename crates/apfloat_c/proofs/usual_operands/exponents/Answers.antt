@@ -1,6 +1,6 @@
 use Rattle.std.proofs.Common.{arith}
 use Rattle.rustc_apfloat.specs.FlaggedTypes.{constants_of}
-use Rattle.apfloat_encoded.proofs.Reading.{few_bits}
+use Rattle.fast_bits.proofs.Reading.{few_bits}
 use Rattle.apfloat_c.proofs.usual_operands.exponents.Goals as goal
 
 pub overflow_shl-result : goal.overflow_shl-result

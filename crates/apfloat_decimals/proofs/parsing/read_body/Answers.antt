@@ -3,8 +3,8 @@ use Rattle.std.proofs.Common.{◌++◌, length, drop, pos, ◌-ℤ◌, refl, ari
 use Rattle.std.proofs.lemmas.Int.{to_z-of_z}
 use Rattle.apfloat_model.specs.texts.Digits.{number}
 use Rattle.apfloat_model.specs.texts.Literals.{exponent_number}
-use Rattle.apfloat_hex_texts.specs.Saturation.{IsNear, far_bound}
-use Rattle.apfloat_hex_texts.proofs.FaultsRead.{exponent_fits}
+use Rattle.apfloat_conversions.specs.hex_texts.Saturation.{IsNear, far_bound}
+use Rattle.apfloat_conversions.proofs.hex_texts_lemmas.FaultsRead.{exponent_fits}
 use Rattle.apfloat_decimals.specs.DecimalTexts.{IsDecimalText}
 use Rattle.apfloat_decimals.proofs.spelled.SpelledTexts.{first_digits, fraction_digits, body_text}
 use Rattle.apfloat_decimals.proofs.parsing.read_body.Goals.{After-digits_of}

@@ -6,7 +6,7 @@
 
 use crate::erased::apfloat_decimals::{read_decimal, shortest};
 use crate::erased::commands::bits_of;
-use crate::erased::custom_formats::Vast;
+use crate::erased::commands::custom_formats::Vast;
 use crate::erased::formats_at_run_time::InFormat;
 use crate::erased::rustc_apfloat::ieee::{Flagged, IeeeFloat, Semantics};
 use crate::erased::rustc_apfloat::{Category, ExpInt, Flags, Float, FloatConvert, Round, Status, StatusAnd};

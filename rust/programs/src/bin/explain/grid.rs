@@ -2,7 +2,7 @@
 
 use crate::erased::rustc_apfloat::ieee::{IeeeFloat, Semantics};
 use crate::erased::rustc_apfloat::{Flags, Round, Status, StatusAnd};
-use crate::erased::storage_formats::{E2M1FN, E2M3FN, E3M2FN, StorageFormat, StoredFloat};
+use crate::erased::small_formats::{E2M1FN, E2M3FN, E3M2FN, StorageFormat, StoredFloat};
 
 /// A storage format.
 #[derive(Clone, Copy)]

@@ -1,7 +1,7 @@
 use Rattle.std.specs.Int.{w32, w128}
 use Rattle.std.proofs.Common.{◌≡◌, ℕ, ◌%◌, ◌^◌, ◌++◌, ◌∙◌, ◌-ℤ◌, ℤ, List, ap, arith, drop, length, of_z, pos, subst, sym, to_z}
 use Rattle.std.proofs.lemmas.Int.{ints, to_z-of_z}
-use Rattle.apfloat_hex_texts.proofs.FaultsRead.{exponent_fits}
+use Rattle.apfloat_conversions.proofs.hex_texts_lemmas.FaultsRead.{exponent_fits}
 use Rattle.apfloat_model.specs.texts.Digits.{number}
 use Rattle.apfloat_model.specs.texts.Literals.{exponent_number}
 use Rattle.apfloat_decimals.specs.DecimalTexts.{IsDecimalText}

@@ -1,5 +1,5 @@
 use Rattle.std.proofs.Common.{◌≡◌, ◌*◌, length, ◌∙◌}
-use Rattle.array_conversions.proofs.Places.{place_size}
+use Rattle.apfloat_arrays.proofs.Places.{place_size}
 use Rattle.convert_values.proofs.Converted.{converted_next}
 use Rattle.convert_values.proofs.blocks.BlockConversion.convert_each.Goals as goal
 

@@ -1,6 +1,6 @@
 use Rattle.std.proofs.Common.{rules, refl}
-use Rattle.array_conversions.specs.declared.Extended.TheVariants.{Packed}
-use Rattle.array_conversions.proofs.WidthBounds.{width_room}
+use Rattle.apfloat_arrays.specs.declared.Extended.TheVariants.{Packed}
+use Rattle.apfloat_arrays.proofs.WidthBounds.{width_room}
 use Rattle.convert_values.proofs.BlockLengths.{dequantized, one_block_of}
 use Rattle.convert_values.proofs.blocks.BlockConversion.dequantize.Goals as goal
 

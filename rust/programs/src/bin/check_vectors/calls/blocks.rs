@@ -1,6 +1,6 @@
 //! Blocks of values with a common scale. Operands and values are lists of bits, of the elements and of singles.
 
-use crate::erased::block_formats::{
+use crate::erased::small_formats::blocks::{
     Block, Counts, ElementFormat, dequantize_block, dequantize_nvfp4_block, quantize_block, quantize_nvfp4_block,
     tensor_scale,
 };

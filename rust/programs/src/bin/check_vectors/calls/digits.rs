@@ -3,7 +3,7 @@
 //! The value of a row is the digits that `write_digits` writes, and `exponent=` the exponent of ten of the first one.
 
 use crate::calls::in_a_format::value_in;
-use crate::erased::decimal_digits::{Written, digit_count, write_digits};
+use crate::erased::apfloat_digits::decimal::{Written, digit_count, write_digits};
 use crate::erased::formats_at_run_time::{FlaggedFormat, InFormat};
 use crate::erased::rustc_apfloat::ieee::{IeeeFloat, Semantics};
 use crate::lines::{

@@ -2,7 +2,7 @@
 
 use crate::calls::in_a_format::rounded_in;
 use crate::calls::in_another::{Operation, delivered, operation_of};
-use crate::erased::apfloat_odd::to_odd;
+use crate::erased::round_to_odd::to_odd;
 use crate::erased::formats_at_run_time::BuiltInFormat;
 use crate::erased::rustc_apfloat::ieee::{Flagged, IeeeFloat, X87DoubleExtendedS};
 use crate::erased::rustc_apfloat::{Float, Round, StatusAnd};

@@ -1,6 +1,6 @@
 //! The operations on flags (5.7.4).
 
-use crate::erased::apfloat_comparisons::{
+use crate::erased::ieee_operations::{
     lower_flags, raise_flags, restore_flags, save_all_flags, test_flags, test_saved_flags,
 };
 use crate::erased::rustc_apfloat::Status;

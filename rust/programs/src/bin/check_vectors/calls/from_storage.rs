@@ -6,8 +6,8 @@ use crate::calls::storage::converted;
 use crate::erased::formats_at_run_time::{FlaggedFormat, InFlaggedFormat};
 use crate::erased::rustc_apfloat::ieee::{Flagged, IeeeFloat};
 use crate::erased::rustc_apfloat::{Float, Round, StatusAnd};
-use crate::erased::storage_arrays::{Ends, StoredFormat};
-use crate::erased::storage_formats::{E2M1FN, E2M3FN, E3M2FN, E8M0FNU, Float8E3M4, StoredFloat, UE4M3};
+use crate::erased::apfloat_arrays::stored::{Ends, StoredFormat};
+use crate::erased::small_formats::{E2M1FN, E2M3FN, E3M2FN, E8M0FNU, Float8E3M4, StoredFloat, UE4M3};
 use crate::lines::{Answered, Call, CallFault, ConversionCall, OperationCall, Request, RowFormat, StorageName};
 
 /// What a conversion from a storage format to a built-in format returns.

@@ -1,7 +1,7 @@
 //! Operations in one format.
 
 use crate::calls::in_a_format::{rounded_in, two_values_in, value_in};
-use crate::erased::apfloat_comparisons::{
+use crate::erased::ieee_operations::{
     Extremum, class_of, compare, convert_to_signed, convert_to_signed_exact, convert_to_unsigned,
     convert_to_unsigned_exact, extremum_number_of, extremum_of, integer_log_b, is_canonical, is_canonical_encoding,
     log_b, radix, round_to_integral_in, total_cmp, total_order, total_order_mag,

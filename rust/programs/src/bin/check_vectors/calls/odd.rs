@@ -4,7 +4,7 @@ use crate::calls::fewer_digits::in_fewer_digits;
 use crate::calls::formats;
 use crate::calls::in_a_format::{rounded_in, value_in};
 use crate::calls::in_another::in_another;
-use crate::erased::apfloat_odd::{
+use crate::erased::round_to_odd::{
     from_i128_odd, from_u128_odd, round_odd_to, round_to_odd_integral, to_i128_odd, to_odd, to_u128_odd,
 };
 use crate::erased::formats_at_run_time::{BuiltInFormat, InFlaggedFormat, InFormat};

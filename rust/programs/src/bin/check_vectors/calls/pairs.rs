@@ -3,8 +3,8 @@
 use crate::calls::decimals::columns;
 use crate::calls::in_a_format::{rounded_in, value_in};
 use crate::calls::of_type::of_type;
-use crate::erased::pair_decimals::{read_decimal_pair, shortest_of_pair};
-use crate::erased::pair_operations::{pair_from_format, pair_mul_add, pair_mul_add_r, pair_to_format};
+use crate::erased::apfloat_digits::of_double_doubles::{read_decimal_pair, shortest_of_pair};
+use crate::erased::rustc_apfloat::double_double_operations::{pair_from_format, pair_mul_add, pair_mul_add_r, pair_to_format};
 use crate::erased::rustc_apfloat::ieee::Flagged;
 use crate::erased::rustc_apfloat::ppc::DoubleDouble;
 use crate::erased::rustc_apfloat::{Round, StatusAnd};

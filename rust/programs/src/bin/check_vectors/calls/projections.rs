@@ -5,7 +5,7 @@ use crate::calls::storage::converted;
 use crate::erased::formats_at_run_time::{BuiltInFormat, FlaggedFormat};
 use crate::erased::rustc_apfloat::ieee::{DoubleS, Flagged, HalfS, IeeeFloat, Semantics, SingleS};
 use crate::erased::rustc_apfloat::{Float, Round};
-use crate::erased::storage_formats::{
+use crate::erased::small_formats::{
     Binary8P1UF, Binary8P3, Binary8P4, Binary8P5, ConversionRound, Projected, Projection,
 };
 use crate::lines::{

@@ -6,7 +6,7 @@ use crate::erased::apfloat_ieee::AnyFloat;
 use crate::erased::formats_at_run_time::InFlaggedFormat;
 use crate::erased::rustc_apfloat::ieee::{Flagged, IeeeFloat, QuadS};
 use crate::erased::rustc_apfloat::{Float, Round, StatusAnd};
-use crate::erased::saturating_conversions::{Overflow, ValueClass, treat};
+use crate::erased::small_formats::saturation::{Overflow, ValueClass, treat};
 use crate::lines::{Answered, CallFault, Request, RowFormat, SaturateCall, any_value};
 
 /// What a conversion between built-in formats that saturates returns.

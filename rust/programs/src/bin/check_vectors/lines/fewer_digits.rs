@@ -1,6 +1,6 @@
 //! The formats to which an x87 rounds with fewer digits than its registers have, as its precision control asks.
 
-use crate::erased::custom_formats::{X87DoubleS, X87SingleS};
+use crate::erased::commands::custom_formats::{X87DoubleS, X87SingleS};
 use crate::erased::rustc_apfloat::ieee::{IeeeFlags, TinyBefore};
 use crate::lines::row_format::CallInFormat;
 use crate::lines::table::found;

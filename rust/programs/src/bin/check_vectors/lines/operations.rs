@@ -2,7 +2,7 @@
 //!
 //! `calls` makes the call of such a row.
 
-use crate::erased::apfloat_comparisons::{Extremum, OnNan, Predicate};
+use crate::erased::ieee_operations::{Extremum, OnNan, Predicate};
 use crate::erased::apfloat_machines::MinimumRule;
 use crate::lines::form::Form;
 use crate::lines::table::found;

@@ -1,6 +1,6 @@
 //! The formats that rows can name, and calls in them.
 
-use crate::erased::custom_formats::{
+use crate::erased::commands::custom_formats::{
     BroadS, DeepS, FusedLimitS, HalfTinyBeforeS, LeastFiniteS, LeastS, PreciseS, SevenS, TenS, VastS, WrittenBitS,
 };
 use crate::erased::formats_at_run_time::{

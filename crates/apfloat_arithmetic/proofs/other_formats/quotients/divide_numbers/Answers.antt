@@ -1,0 +1,55 @@
+use Rattle.std.proofs.Common.{◌≡◌, ◌+◌, ◌*◌, ◌^◌, ◌<◌, Bool, ℕ, pos, neg_ℤ, sym, subst, arith}
+use Rattle.std.proofs.Math.Nat.{mul-pos}
+use Rattle.std.proofs.lemmas.Nat.{pow_pos}
+use Rattle.apfloat_model.specs.formats.Constants.{infinity_of}
+use Rattle.apfloat_model.specs.rounding.Answer.{IsAnswer}
+use Rattle.apfloat_model.specs.rounding.Flags.{bits_of}
+use Rattle.apfloat_model.specs.rounding.Rounding.{IsDelivered}
+use Rattle.apfloat_model.specs.arithmetic.Exact.{product_sign}
+use Rattle.apfloat_model.specs.arithmetic.Quotients.{div_by_zero_bit}
+use Rattle.apfloat_rounding.specs.Shapes.{format_at}
+use Rattle.apfloat_rounding.specs.Stored.{IsQuantaAt, datum_at}
+use Rattle.apfloat_arithmetic.proofs.other_formats_lemmas.Cases.{if_zero, unless_zero}
+use Rattle.apfloat_arithmetic.proofs.other_formats_lemmas.Exponents.{no_amount, some_amount}
+use Rattle.apfloat_arithmetic.proofs.other_formats.quotients.divide_numbers.Goals as goal
+
+pub returns-then-x-eq0-clause-quotient : goal.returns-then-x-eq0-clause-quotient
+returns-then-x-eq0-clause-quotient c = λ m s n t hx hy.
+    let a : m ≡ 0 = no_amount (neg_ℤ (pos s)) c.args.x.exponent m
+    (subst (λ (v : ℕ). IsQuantaAt (neg_ℤ (pos s)) v c.args.x.exponent m) c.if-x-eq0.true hx) in
+    let b : n ≡ 0 = no_amount (neg_ℤ (pos t)) c.args.y.exponent n
+    (subst (λ (v : ℕ). IsQuantaAt (neg_ℤ (pos t)) v c.args.y.exponent n) c.if-y-eq0.true hy) in
+    if_zero n _ _ b (if_zero m _ _ a c.invalid.ensures.delivered)
+
+pub returns-then-y-eq0-clause-quotient : goal.returns-then-y-eq0-clause-quotient
+returns-then-y-eq0-clause-quotient c = λ m s n t hx hy.
+    let g = format_at c.args.into in
+    let some : 0 < m = some_amount (neg_ℤ (pos s)) c.args.x.exponent c.args.x.significand m
+    (omega (arith, c.if-x-eq0.false)) hx in
+    let b : n ≡ 0 = no_amount (neg_ℤ (pos t)) c.args.y.exponent n
+    (subst (λ (v : ℕ). IsQuantaAt (neg_ℤ (pos t)) v c.args.y.exponent n) c.if-y-eq0.true hy) in
+    if_zero n _ _ b (unless_zero m _ _ some
+    (subst (λ (z : Bool). IsAnswer (infinity_of g z) div_by_zero_bit
+    (datum_at c.args.into c.divided_by_zero.result.value) (bits_of c.divided_by_zero.result.status))
+    c.product_sign-negative.ensures c.divided_by_zero.ensures.answer))
+
+pub returns-then-x-eq0-2-clause-quotient : goal.returns-then-x-eq0-2-clause-quotient
+returns-then-x-eq0-2-clause-quotient c = λ m s n t hx hy.
+    let g = format_at c.args.into in
+    let sign = product_sign c.args.x.negative c.args.y.negative in
+    let v = datum_at c.args.into c.exact_zero.result.value in
+    let i = bits_of c.exact_zero.result.status in
+    let some : 0 < n = some_amount (neg_ℤ (pos t)) c.args.y.exponent c.args.y.significand n
+    (omega (arith, c.if-y-eq0.false)) hy in
+    let a : m ≡ 0 = no_amount (neg_ℤ (pos s)) c.args.x.exponent m
+    (subst (λ (v : ℕ). IsQuantaAt (neg_ℤ (pos s)) v c.args.x.exponent m) c.if-x-eq0-2.true hx) in
+    let z : 0 ≡ m * 2 ^ (t + g.scale) = subst (λ (k : ℕ). 0 ≡ k * 2 ^ (t + g.scale)) (sym a) (omega arith) in
+    let d = subst (λ (b : Bool). IsDelivered g c.args.round b 0 (n * 2 ^ s) v i) c.product_sign-negative.ensures
+    (c.exact_zero.ensures.delivered c.args.round (n * 2 ^ s) (mul-pos some (pow_pos s))) in
+    unless_zero n _ _ some (subst (λ (k : ℕ). IsDelivered g c.args.round sign k (n * 2 ^ s) v i) z d)
+
+pub returns-clause-quotient : goal.returns-clause-quotient
+returns-clause-quotient c = λ m s n t hx hy.
+    let some : 0 < n = some_amount (neg_ℤ (pos t)) c.args.y.exponent c.args.y.significand n
+    (omega (arith, c.if-y-eq0.false)) hy in
+    unless_zero n _ _ some (c.divide_nonzero.ensures.quotient m s n t hx hy)

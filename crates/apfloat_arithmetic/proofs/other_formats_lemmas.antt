@@ -1,0 +1,7 @@
+pub mod Exponents
+pub mod OddTotals
+pub mod Cases
+pub mod Once
+pub mod RootDeliveries
+pub mod RootExponents
+pub mod RaisedFlags

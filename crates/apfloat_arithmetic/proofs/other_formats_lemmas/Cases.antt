@@ -1,0 +1,48 @@
+-- Operands by their cases.
+use Rattle.std.proofs.Common.{◌≡◌, ◌⊎◌, ◌<◌, ◌≤◌, ◌^◌, ℕ, Bool, false, eqb, subst, sym, arith, inl, inr}
+use Rattle.std.specs.Bool.{MatchBool}
+use Rattle.std.specs.Prelude.{◌*◌}
+use Rattle.std.proofs.lemmas.Bool.{eq-eqb, ne_eqb}
+use Rattle.apfloat_model.specs.formats.Datum.{Datum}
+use Rattle.apfloat_words.specs.declared.terms.Term.{Term}
+use Rattle.apfloat_rounding.specs.declared.shape.Shape.{Shape}
+use Rattle.apfloat_arithmetic.specs.declared.other_formats.operands.Operand.TheVariants.{Number, Infinity}
+use Rattle.apfloat_arithmetic.specs.other_formats.Extended.{Extended, number, infinity, not_number}
+use Rattle.apfloat_model.specs.declared.kinds.Round.{Round}
+use Rattle.apfloat_model.specs.formats.Format.{Format}
+use Rattle.apfloat_arithmetic.specs.other_formats.Operands.{StandsFor, IsAmount}
+use Rattle.apfloat_arithmetic.specs.other_formats.RootsOf.{IsDeliveredRoot, IsRootOfNumber}
+
+-- what holds of the infinity that an operand is holds of each value that it stands for
+pub of_infinity : (P : Extended → Type 0) (into : Shape) (negative : Bool) (left : Extended)
+    → StandsFor into left (Infinity negative) → P (infinity negative) → P left
+of_infinity P into negative (number b m s) h k = absurd h
+of_infinity P into negative (infinity b) h k = subst (λ (x : Bool). P (infinity x)) h k
+of_infinity P into negative (not_number s d) h k = absurd h
+
+-- what holds of the numbers that a term is holds of each value that it stands for
+pub of_number : (P : Extended → Type 0) (into : Shape) (x : Term) (left : Extended)
+    → StandsFor into left (Number x) → ((m s : ℕ) → IsAmount m s x → P (number x.negative m s)) → P left
+of_number P into x (number b m s) h k = subst (λ (z : Bool). P (number z m s)) h.sign (k m s h.is)
+of_number P into x (infinity b) h k = absurd h
+of_number P into x (not_number s d) h k = absurd h
+
+-- a choice by a test for zero
+pub if_zero : (n : ℕ) (P Q : Type 0) → n ≡ 0 → P → MatchBool (eqb n 0) P Q
+if_zero n P Q e p = subst (λ (b : Bool). MatchBool b P Q) (sym (eq-eqb n 0 e)) p
+
+pub unless_zero : (n : ℕ) (P Q : Type 0) → 0 < n → Q → MatchBool (eqb n 0) P Q
+unless_zero n P Q h q = subst (λ (b : Bool). MatchBool b P Q) (sym (ne_eqb n 0 (λ e. omega (arith, e, h)))) q
+
+-- a significand that is not zero has all its digits
+pub all_digits : (s : ℕ) → (s ≡ 0) ⊎ (2 ^ 124 ≤ s) → 0 < s → 2 ^ 124 ≤ s
+all_digits s (inl e) h = absurd (omega (arith, e, h))
+all_digits s (inr l) h = l
+
+-- the root of a positive number
+pub positive_root : (g : Format) (mode : Round) (negative : Bool) (amount places : ℕ) (value : Datum) (status : ℕ)
+    → negative ≡ false
+    → IsDeliveredRoot g mode (amount * 2 ^ places * (2 ^ g.scale * 2 ^ g.scale)) (2 ^ places) value status
+    → IsRootOfNumber g mode negative amount places value status
+positive_root g mode negative amount places value status e h =
+    subst (λ (b : Bool). IsRootOfNumber g mode b amount places value status) (sym e) h

@@ -1,0 +1,231 @@
+-- A fraction that agrees with a square root at quarters of quanta is rounded like the root, where a point of the grid
+-- is `parts` of the units that the root is counted in.
+use Rattle.std.proofs.Common.{◌≡◌, ℕ, ◌+◌, ◌-◌, ◌*◌, ◌/◌, ◌%◌, ◌^◌, ◌<◌, ◌≤◌, Bool, true, false, not, ◌&&◌, ◌||◌, eqb, ltb, leb, cond, if◌then◌else◌, sym, ap, ◌∙◌, subst, ⊎_elim, arith}
+use Rattle.std.proofs.Math.Nat.{mul-pos}
+use Rattle.std.proofs.lemmas.Bool.{cases_lt, eq-eqb, ne_eqb, lt-ltb, le-ltb, le-leb, lt-leb, leb-false, ltb-true}
+use Rattle.apfloat_model.specs.declared.kinds.Round.{Round}
+use Rattle.apfloat_model.specs.declared.loss.Loss.{Loss}
+use Rattle.apfloat_model.specs.formats.Format.{Format, smallest_normalized, largest}
+use Rattle.apfloat_model.specs.formats.Datum.{Datum}
+use Rattle.apfloat_model.specs.rounding.Grid.{IsBelow, IsAbove}
+use Rattle.apfloat_model.specs.rounding.Rounding.{takes_above, IsPick, IsDelivered, is_tiny, rounds_below_normal, delivered_status, raises_overflow, ok_bits, overflow_bit, underflow_bit, inexact_bit}
+use Rattle.apfloat_model.specs.rounding.Standing.{StandsFor}
+use Rattle.apfloat_model.proofs.rounding.Picks.{takes_less, takes_half, takes_more}
+use Rattle.apfloat_model.proofs.arithmetic.RootSides.{AgreesWithRoot, coarser, agreeing}
+use Rattle.apfloat_model.proofs.general.Choices.{where_open, by_order}
+use Rattle.apfloat_model.proofs.arithmetic.RootDeliveries.{doubled}
+use Rattle.apfloat_words.specs.RootStanding.{RootStandsFor}
+use Rattle.apfloat_arithmetic.proofs.RootStandings.{stands}
+use Rattle.apfloat_arithmetic.specs.other_formats.RootsOf.{square_of, IsBelowRoot, IsAboveRoot, IsRootPick, root_rounds_below_normal, is_tiny_root, root_status, IsDeliveredRoot}
+
+-- a fraction that agrees with the root at halves
+module _ (square parts amount units : ℕ) (halves : AgreesWithRoot square 2 amount units) where
+  whole : AgreesWithRoot square 1 amount units
+  whole = coarser square 1 2 amount units (omega arith) halves
+
+  point_less : (n : ℕ) → square_of n parts < square → n * (units * parts) < amount
+  point_less n h = let k = whole.less (n * parts) (omega (arith, h)) in omega (arith, k)
+
+  point_same : (n : ℕ) → square_of n parts ≡ square → n * (units * parts) ≡ amount
+  point_same n h = let k = whole.same (n * parts) (omega (arith, h)) in omega (arith, k)
+
+  point_more : (n : ℕ) → square < square_of n parts → amount < n * (units * parts)
+  point_more n h = let k = whole.more (n * parts) (omega (arith, h)) in omega (arith, k)
+
+  -- the converse, at points
+  not_above : (n : ℕ) → n * (units * parts) ≤ amount → square_of n parts ≤ square
+  not_above n h =
+      ⊎_elim (λ (q : square < square_of n parts). let k = point_more n q in absurd (omega (arith, k, h))) (λ q. q)
+      (cases_lt square (square_of n parts))
+
+  not_below : (n : ℕ) → amount ≤ n * (units * parts) → square ≤ square_of n parts
+  not_below n h =
+      ⊎_elim (λ (q : square_of n parts < square). let k = point_less n q in absurd (omega (arith, k, h))) (λ q. q)
+      (cases_lt (square_of n parts) square)
+
+  at_most : (n : ℕ) → square_of n parts ≤ square → n * (units * parts) ≤ amount
+  at_most n h =
+      ⊎_elim (λ (q : amount < n * (units * parts)). let k = not_below n (omega (arith, q)) in
+      let e = point_same n (omega (arith, k, h)) in absurd (omega (arith, e, q))) (λ q. q)
+      (cases_lt amount (n * (units * parts)))
+
+  at_least : (n : ℕ) → square ≤ square_of n parts → amount ≤ n * (units * parts)
+  at_least n h =
+      ⊎_elim (λ (q : n * (units * parts) < amount). let k = not_above n (omega (arith, q)) in
+      let e = point_same n (omega (arith, k, h)) in absurd (omega (arith, e, q))) (λ q. q)
+      (cases_lt (n * (units * parts)) amount)
+
+  -- the neighbours of the fraction are those of the root
+  below_root : (precision point : ℕ) → IsBelow precision point amount (units * parts)
+      → IsBelowRoot precision point square parts
+  below_root precision point b = record {
+    on_grid = b.on_grid;
+    not_above = not_above point b.not_above;
+    greatest = λ other g l. b.greatest other g (at_most other l);
+  }
+
+  above_root : (precision point : ℕ) → IsAbove precision point amount (units * parts)
+      → IsAboveRoot precision point square parts
+  above_root precision point b = record {
+    on_grid = b.on_grid;
+    not_below = not_below point b.not_below;
+    least = λ other g l. b.least other g (at_least other l);
+  }
+
+  -- the mode picks the same of two neighbours for the fraction and for the root
+  takes_same : (mode : Round) (below above : ℕ) (odd : Bool) → below * (units * parts) ≤ amount
+      → amount ≤ above * (units * parts)
+      → takes_above mode false (amount - below * (units * parts)) (above * (units * parts) - amount) odd
+      ≡ takes_above mode false (4 * square) (square_of (below + above) parts) odd
+  takes_same mode below above odd l h =
+      by_order (takes_above mode false (amount - below * (units * parts)) (above * (units * parts) - amount) odd
+      ≡ takes_above mode false (4 * square) (square_of (below + above) parts) odd)
+      (square_of (below + above) parts) (4 * square)
+      (λ q.
+      let k : (below + above) * parts * units < amount * 2 =
+      halves.less ((below + above) * parts) (omega (arith, q)) in
+      takes_more mode false odd _ _ (omega (arith, k, l, h)) ∙ sym (takes_more mode false odd _ _ q))
+      (λ q.
+      let k : (below + above) * parts * units ≡ amount * 2 =
+      halves.same ((below + above) * parts) (omega (arith, q)) in
+      takes_half mode false odd _ _ (omega (arith, k, l, h)) ∙ sym (takes_half mode false odd _ _ (omega (arith, q))))
+      (λ q.
+      let k : amount * 2 < (below + above) * parts * units =
+      halves.more ((below + above) * parts) (omega (arith, q)) in
+      takes_less mode false odd _ _ (omega (arith, k, l, h)) ∙ sym (takes_less mode false odd _ _ q))
+
+  -- the pick for the fraction is the pick for the root
+  root_pick : (precision : ℕ) (mode : Round) (pick : ℕ) → IsPick precision mode false amount (units * parts) pick
+      → IsRootPick precision mode square parts pick
+  root_pick precision mode pick p = record {
+    below = p.below;
+    above = p.above;
+    is_below = below_root precision p.below p.is_below;
+    is_above = above_root precision p.above p.is_above;
+    is = p.is ∙
+        ap (λ (b : Bool). cond b p.above p.below)
+        (takes_same mode p.below p.above (eqb (p.below / (p.above - p.below) % 2) 1) p.is_below.not_above
+        p.is_above.not_below);
+  }
+
+  -- a point equals the fraction exactly if its square is that of the root
+  exact_same : (n : ℕ) → eqb (n * (units * parts)) amount ≡ eqb (square_of n parts) square
+  exact_same n =
+      by_order (eqb (n * (units * parts)) amount ≡ eqb (square_of n parts) square) (square_of n parts) square
+      (λ q. let k = point_less n q in
+      ne_eqb (n * (units * parts)) amount (λ e. omega (arith, k, e)) ∙
+      sym (ne_eqb (square_of n parts) square (λ e. omega (arith, q, e))))
+      (λ q. eq-eqb (n * (units * parts)) amount (point_same n q) ∙ sym (eq-eqb (square_of n parts) square q))
+      (λ q. let k = point_more n q in
+      ne_eqb (n * (units * parts)) amount (λ e. omega (arith, k, e)) ∙
+      sym (ne_eqb (square_of n parts) square (λ e. omega (arith, q, e))))
+
+  below_same : (n : ℕ) → ltb amount (n * (units * parts)) ≡ ltb square (square_of n parts)
+  below_same n =
+      by_order (ltb amount (n * (units * parts)) ≡ ltb square (square_of n parts)) (square_of n parts) square
+      (λ q. let k = point_less n q in
+      le-ltb amount (n * (units * parts)) (omega (arith, k)) ∙
+      sym (le-ltb square (square_of n parts) (omega (arith, q))))
+      (λ q. let k = point_same n q in
+      le-ltb amount (n * (units * parts)) (omega (arith, k)) ∙
+      sym (le-ltb square (square_of n parts) (omega (arith, q))))
+      (λ q. lt-ltb amount (n * (units * parts)) (point_more n q) ∙ sym (lt-ltb square (square_of n parts) q))
+
+  not_above_same : (n : ℕ) → leb amount (n * (units * parts)) ≡ leb square (square_of n parts)
+  not_above_same n =
+      by_order (leb amount (n * (units * parts)) ≡ leb square (square_of n parts)) (square_of n parts) square
+      (λ q. let k = point_less n q in
+      lt-leb amount (n * (units * parts)) (omega (arith, k)) ∙
+      sym (lt-leb square (square_of n parts) (omega (arith, q))))
+      (λ q. let k = point_same n q in
+      le-leb amount (n * (units * parts)) (omega (arith, k)) ∙
+      sym (le-leb square (square_of n parts) (omega (arith, q))))
+      (λ q. let k = point_more n q in
+      le-leb amount (n * (units * parts)) (omega (arith, k)) ∙
+      sym (le-leb square (square_of n parts) (omega (arith, q))))
+
+-- a fraction that agrees with the root at quarters
+module _ (square parts amount units : ℕ) (agrees : AgreesWithRoot square 4 amount units) where
+  halves_of : AgreesWithRoot square 2 amount units
+  halves_of = coarser square 2 2 amount units (omega arith) agrees
+
+  twice : AgreesWithRoot (4 * square) 2 (2 * amount) units
+  twice = doubled square amount units agrees
+
+  below_normal_same : (precision : ℕ) (mode : Round)
+      → rounds_below_normal precision mode false amount (units * parts)
+      ≡ root_rounds_below_normal precision mode square parts
+  below_normal_same precision mode =
+      let last : ℕ = 2 ^ precision - 1 in
+      let next : ℕ = 2 ^ precision in
+      let t : Bool = takes_above mode false (2 * amount - last * (units * parts)) (next * (units * parts) - 2 * amount)
+      true in
+      let u : Bool = takes_above mode false (4 * (4 * square)) (square_of (last + next) parts) true in
+      where_open (leb (2 * amount) (last * (units * parts))) (ltb (2 * amount) (next * (units * parts))) t u
+      (λ x y.
+      let a : last * (units * parts) < 2 * amount = leb-false (2 * amount) (last * (units * parts)) x in
+      let b : 2 * amount < next * (units * parts) = ltb-true (2 * amount) (next * (units * parts)) y in
+      takes_same (4 * square) parts (2 * amount) units twice mode last next true (omega (arith, a))
+      (omega (arith, b))) ∙
+      ap (λ (x : Bool). x || (ltb (2 * amount) (next * (units * parts)) && not u))
+      (not_above_same (4 * square) parts (2 * amount) units twice last) ∙
+      ap (λ (y : Bool). leb (4 * square) (square_of last parts) || (y && not u))
+      (below_same (4 * square) parts (2 * amount) units twice next)
+
+  tiny_same : (g : Format) (mode : Round) (pick : ℕ)
+      → is_tiny g mode false amount (units * parts) pick ≡ is_tiny_root g mode square parts pick
+  tiny_same g mode pick =
+      ap (λ (b : Bool). if g.tiny_before_rounding then b
+      else (if g.ieee_flags then rounds_below_normal g.precision mode false amount (units * parts)
+      else ltb pick (smallest_normalized g)))
+      (below_same square parts amount units halves_of (smallest_normalized g)) ∙
+      ap (λ (b : Bool). if g.tiny_before_rounding then ltb square (square_of (smallest_normalized g) parts)
+      else (if g.ieee_flags then b else ltb pick (smallest_normalized g)))
+      (below_normal_same g.precision mode)
+
+  status_same : (g : Format) (mode : Round) (pick : ℕ)
+      → delivered_status g mode false amount (units * parts) pick ≡ root_status g mode square parts pick
+  status_same g mode pick =
+      ap (λ (b : Bool). if ltb (largest g) pick
+      then (if raises_overflow g mode false then overflow_bit + inexact_bit else inexact_bit)
+      else (if b then ok_bits
+      else (if is_tiny g mode false amount (units * parts) pick then underflow_bit + inexact_bit else inexact_bit)))
+      (exact_same square parts amount units halves_of pick) ∙
+      ap (λ (b : Bool). if ltb (largest g) pick
+      then (if raises_overflow g mode false then overflow_bit + inexact_bit else inexact_bit)
+      else (if eqb (square_of pick parts) square then ok_bits
+      else (if b then underflow_bit + inexact_bit else inexact_bit))) (tiny_same g mode pick)
+
+  -- what is delivered for the fraction is delivered for the root
+  pub root_delivered : (g : Format) (mode : Round) (value : Datum) (status : ℕ)
+      → IsDelivered g mode false amount (units * parts) value status
+      → IsDeliveredRoot g mode square parts value status
+  root_delivered g mode value status d = record {
+    pick = d.pick;
+    is_pick = root_pick square parts amount units halves_of g.precision mode d.pick d.is_pick;
+    value_is = d.value_is;
+    status_is = d.status_is ∙ status_same g mode d.pick;
+  }
+
+-- If each fraction that a significand and its loss represent is delivered as a value, the root that they represent is
+-- delivered as that value. The unit is over / under quanta.
+pub delivered_of_standing : (g : Format) (mode : Round) (square parts radicand over under whole : ℕ) (loss : Loss)
+    (value : Datum) (status : ℕ) → 0 < parts → 0 < over → 0 < under
+    → square * (under * under) ≡ radicand * ((over * parts) * (over * parts))
+    → RootStandsFor whole loss radicand
+    → ((amount pieces : ℕ) → 0 < pieces → StandsFor whole loss (amount * under) (pieces * over)
+    → IsDelivered g mode false amount pieces value status)
+    → IsDeliveredRoot g mode square parts value status
+delivered_of_standing g mode square parts radicand over under whole loss value status r p q e s delivered =
+    let f = agreeing square (4 * under) (omega (arith, q)) in
+    let d : 4 * under ≡ 2 * under * 2 = omega arith in
+    let a : AgreesWithRoot square (2 * under) f.amount f.parts =
+    coarser square (2 * under) 2 f.amount f.parts (omega arith)
+    (subst (λ (x : ℕ). AgreesWithRoot square x f.amount f.parts) d f.agrees) in
+    let b : AgreesWithRoot square 4 f.amount f.parts = coarser square 4 under f.amount f.parts q f.agrees in
+    let h : StandsFor whole loss (f.amount * under) (f.parts * (over * parts)) =
+    stands square radicand (over * parts) under f.amount f.parts (mul-pos p r) e a whole loss s in
+    let c : f.parts * (over * parts) ≡ f.parts * parts * over = omega arith in
+    root_delivered square parts f.amount f.parts b g mode value status
+    (delivered f.amount (f.parts * parts) (mul-pos f.agrees.some r)
+    (subst (λ (x : ℕ). StandsFor whole loss (f.amount * under) x) c h))

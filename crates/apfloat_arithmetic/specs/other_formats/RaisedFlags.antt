@@ -1,0 +1,20 @@
+-- OVERFLOW and UNDERFLOW are raised only together with INEXACT, by each operation that delivers in another format.
+use Rattle.std.specs.Prelude.{ℕ}
+use Rattle.apfloat_model.specs.declared.kinds.Round.{Round}
+use Rattle.apfloat_model.specs.formats.Format.{Format}
+use Rattle.apfloat_model.specs.formats.Datum.{Datum}
+use Rattle.apfloat_model.specs.rounding.RaisedFlags.{FlagsGoTogether}
+use Rattle.apfloat_arithmetic.specs.other_formats.FormatOf.{IsSumTo, IsDifferenceTo, IsProductTo, IsQuotientTo, IsFusedSumTo}
+use Rattle.apfloat_arithmetic.specs.other_formats.RootsOf.{IsRootTo}
+
+abbrev pub RaisesTogether : (Datum → ℕ → Type 0) → Type 0
+RaisesTogether Says = (value : Datum) (status : ℕ) → Says value status → FlagsGoTogether status
+
+-- in the format g
+pub record RaiseTogether (g : Format) : Type 0 where
+  pub sum : (f h : Format) (mode : Round) (x y : Datum) → RaisesTogether (IsSumTo f h g mode x y)
+  pub difference : (f h : Format) (mode : Round) (x y : Datum) → RaisesTogether (IsDifferenceTo f h g mode x y)
+  pub product : (f h : Format) (mode : Round) (x y : Datum) → RaisesTogether (IsProductTo f h g mode x y)
+  pub quotient : (f h : Format) (mode : Round) (x y : Datum) → RaisesTogether (IsQuotientTo f h g mode x y)
+  pub fused_sum : (f h k : Format) (mode : Round) (x y z : Datum) → RaisesTogether (IsFusedSumTo f h k g mode x y z)
+  pub root : (f : Format) (mode : Round) (x : Datum) → RaisesTogether (IsRootTo f g mode x)

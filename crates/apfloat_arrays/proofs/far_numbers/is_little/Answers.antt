@@ -1,0 +1,22 @@
+use Rattle.std.proofs.Common.{arith}
+use Rattle.std.proofs.lemmas.Int.{ints}
+use Rattle.apfloat_arrays.proofs.far_numbers.is_little.Goals as goal
+
+pub overflow_cast-result : goal.overflow_cast-result
+overflow_cast-result g c = omega (arith, ints, c.requires)
+
+pub overflow_add-result : goal.overflow_add-result
+overflow_add-result g c = omega (arith, ints, g.S.Flagged.lawful.parameters, c.MIN_EXP.ensures, c.requires)
+
+pub overflow_cast-result-2 : goal.overflow_cast-result-2
+overflow_cast-result-2 g c = omega (arith, ints, g.T.Flagged.lawful.parameters, c.PRECISION.ensures)
+
+pub overflow_sub-result : goal.overflow_sub-result
+overflow_sub-result g c =
+    omega (arith, ints, g.T.Flagged.lawful.parameters, c.MIN_EXP-2.ensures, c.PRECISION.ensures)
+
+pub returns : goal.returns
+returns g c = λ test.
+    let from = g.S.Flagged.lawful.parameters in
+    let to = g.T.Flagged.lawful.parameters in
+    omega (arith, ints, from, to, c.MIN_EXP.ensures, c.MIN_EXP-2.ensures, c.PRECISION.ensures, c.requires, test)

@@ -1,0 +1,57 @@
+use Rattle.std.proofs.Common.{◌≡◌, ℕ, ◌*◌, ◌≤◌, length, ◌∙◌, sym, subst, arith}
+use Rattle.rustc_apfloat.specs.FlaggedTypes.{constants_of}
+use Rattle.apfloat_arrays.specs.Blocks.{AreInPlaces}
+use Rattle.apfloat_arrays.proofs.Places.{place_size}
+use Rattle.apfloat_arrays.specs.scaled_blocks.Dequantized.{IsScaledAt}
+use Rattle.apfloat_arrays.proofs.scaled_blocks_lemmas.Scaled.{room_for, scaled_more, scaled_none}
+use Rattle.apfloat_arrays.proofs.scaled_blocks.dequantizing.ScaledCallWritesInFormat.write_in_format.Goals as goal
+
+pub loop-index-init : goal.loop-index-init
+loop-index-init g c =
+    scaled_none c.args.self.dequantization (constants_of g.T.Flagged) c.args.self.width c.args.self.scales.now
+    c.args.self.codes.now c.args.bytes.now
+
+pub write_scaled-requires-clause-code : goal.write_scaled-requires-clause-code
+write_scaled-requires-clause-code g c =
+    c.requires.can.1 c.loop-index.index 0 (omega (arith, c.loop-index-test.true))
+
+pub write_scaled-requires-clause-bytes : goal.write_scaled-requires-clause-bytes
+write_scaled-requires-clause-bytes g c =
+    let size : length c.loop-index.bytes ≡ length c.args.self.codes.now * c.args.self.width =
+    c.loop-index.auto.bytes ∙ c.requires.can.2 in
+    subst (λ (n : ℕ). g.T.Flagged.BITS ≤ 8 * n)
+    (sym (place_size c.args.self.width c.loop-index.index (length c.args.self.codes.now) c.loop-index.bytes
+    c.loop-index-test.true size)) c.requires.can.3
+
+pub count-requires : goal.count-requires
+count-requires g c =
+    let size = c.loop-index.invariant.places.size in
+    room_for c.loop-index.invariant.outcomes c.loop-index.counts c.loop-index.invariant.counted
+    (omega (arith, size, c.loop-index-test.true))
+
+pub loop-index-preserved : goal.loop-index-preserved
+loop-index-preserved g c =
+    let q = c.args.self.dequantization in
+    let size : length c.loop-index.bytes ≡ length c.args.self.codes.now * c.args.self.width =
+    c.loop-index.auto.bytes ∙ c.requires.can.2 in
+    let long : length c.write_scaled.new.bytes ≡ c.args.self.width =
+    c.write_scaled.auto.bytes
+    ∙ place_size c.args.self.width c.loop-index.index (length c.args.self.codes.now) c.loop-index.bytes
+    c.loop-index-test.true size in
+    rw c.count.ensures
+    (scaled_more q (constants_of g.T.Flagged) c.args.self.width c.args.self.scales.now c.args.self.codes.now
+    c.loop-index.index (length c.args.self.codes.now) c.loop-index.bytes c.write_scaled.new.bytes c.loop-index.counts
+    c.write_scaled.result c.loop-index-test.true size long c.write_scaled.ensures c.loop-index.invariant)
+
+pub returns : goal.returns
+returns g c =
+    let q = c.args.self.dequantization in
+    let made = c.loop-index.invariant in
+    let last : c.loop-index.index ≡ length c.args.self.codes.now =
+    omega (arith, c.loop-index-test.false, c.loop-index.auto.index-end) in
+    record {
+      outcomes = made.outcomes;
+      places = subst (λ (n : ℕ). AreInPlaces (IsScaledAt q (constants_of g.T.Flagged) c.args.self.scales.now
+          c.args.self.codes.now) c.args.self.width n c.loop-index.bytes made.outcomes) last made.places;
+      counted = made.counted;
+    }

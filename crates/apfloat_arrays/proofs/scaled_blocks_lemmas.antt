@@ -1,0 +1,6 @@
+pub mod Fitting
+pub mod Listed
+pub mod Made
+pub mod Scaled
+pub mod FormatLaws
+pub mod OneArray

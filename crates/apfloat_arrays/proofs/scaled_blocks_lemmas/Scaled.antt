@@ -1,0 +1,77 @@
+-- Elements that are multiplied one after another.
+use Rattle.std.proofs.Common.{◌≡◌, ℕ, ◌+◌, ◌-◌, ◌*◌, ◌^◌, ◌<◌, refl, ap, ◌∙◌, List}
+use Rattle.std.proofs.Common.{[], ◌∷◌, ◌++◌, length, arith}
+use Rattle.std.proofs.lemmas.List.Sums.{count_by-le-length}
+use Rattle.std.specs.Prelude.{count_by}
+use borrow.Rule.Slice.PartMut.{put_mid}
+use Rattle.rustc_apfloat.specs.Lawful.{Constants}
+use Rattle.apfloat_arrays.specs.declared.counts.Counts.{Counts}
+use Rattle.apfloat_arrays.specs.declared.counts.Outcome.{Outcome}
+use Rattle.apfloat_arrays.specs.Blocks.{AreInPlaces}
+use Rattle.formats_at_run_time.specs.FlaggedKinds.{flagged_constants, format_without_rule}
+use Rattle.formats_at_run_time.specs.BuiltIns.{constants_in}
+use Rattle.formats_at_run_time.specs.declared.flagged.FlaggedFormat.{FlaggedFormat}
+use Rattle.formats_at_run_time.specs.declared.flagged.FlaggedFormat.TheVariants.{BuiltIn, AfterRounding, BeforeRounding}
+use Rattle.apfloat_arrays.specs.Outcomes.{HaveRoom, became_nan, counts_of, raised, with_outcome}
+use Rattle.apfloat_arrays.proofs.Places.{counts_push, places_more, places_none}
+use Rattle.apfloat_arrays.specs.declared.scaled_blocks.dequantizing.Dequantization.{Dequantization}
+use Rattle.apfloat_arrays.specs.scaled_blocks.Dequantized.{IsScaledAt}
+
+pub record AreScaled (q : Dequantization) (d : Constants) (width : ℕ) (scales codes : List ℕ) (count : ℕ)
+    (values : List ℕ) (counts : Counts) : Type 0 where
+  pub outcomes : List Outcome
+  pub places : AreInPlaces (IsScaledAt q d scales codes) width count values outcomes
+  pub counted : counts ≡ counts_of outcomes
+
+pub scaled_none : (q : Dequantization) (d : Constants) (width : ℕ) (scales codes values : List ℕ)
+    → AreScaled q d width scales codes 0 values (counts_of [])
+scaled_none q d width scales codes values = record {
+  outcomes = [];
+  places = places_none (IsScaledAt q d scales codes) width values;
+  counted = refl;
+}
+
+-- one more value
+pub scaled_more : (q : Dequantization) (d : Constants) (width : ℕ) (scales codes : List ℕ) (index count : ℕ)
+    (values new : List ℕ) (counts : Counts) (outcome : Outcome) → index < count → length values ≡ count * width
+    → length new ≡ width → IsScaledAt q d scales codes index new outcome
+    → AreScaled q d width scales codes index values counts
+    → AreScaled q d width scales codes (index + 1)
+    (put_mid (index * width) (index * width + width - index * width) values new) (with_outcome counts outcome)
+scaled_more q d width scales codes index count values new counts outcome before all size here so_far = record {
+  outcomes = so_far.outcomes ++ outcome ∷ [];
+  places = places_more (IsScaledAt q d scales codes) width index count values new so_far.outcomes outcome before all
+      size here so_far.places;
+  counted = ap (λ (k : Counts). with_outcome k outcome) so_far.counted ∙ counts_push so_far.outcomes outcome;
+}
+
+-- counts of fewer values than a machine word can count
+pub room_for : (outcomes : List Outcome) (counts : Counts) → counts ≡ counts_of outcomes
+    → length outcomes < 2 ^ 64 - 1 → HaveRoom counts
+room_for outcomes counts e l =
+    let values : counts.values ≡ length outcomes = ap (λ (k : Counts). k.values) e in
+    let inexact : counts.inexact ≡ count_by (raised 16) outcomes = ap (λ (k : Counts). k.inexact) e in
+    let underflow : counts.underflow ≡ count_by (raised 8) outcomes = ap (λ (k : Counts). k.underflow) e in
+    let overflow : counts.overflow ≡ count_by (raised 4) outcomes = ap (λ (k : Counts). k.overflow) e in
+    let invalid : counts.invalid ≡ count_by (raised 1) outcomes = ap (λ (k : Counts). k.invalid) e in
+    let nans : counts.nans ≡ count_by became_nan outcomes = ap (λ (k : Counts). k.nans) e in
+    let few_inexact = count_by-le-length (raised 16) outcomes in
+    let few_underflow = count_by-le-length (raised 8) outcomes in
+    let few_overflow = count_by-le-length (raised 4) outcomes in
+    let few_invalid = count_by-le-length (raised 1) outcomes in
+    let few_nans = count_by-le-length became_nan outcomes in
+    record {
+      values = omega (arith, values, l);
+      inexact = omega (arith, inexact, few_inexact, l);
+      underflow = omega (arith, underflow, few_underflow, l);
+      overflow = omega (arith, overflow, few_overflow, l);
+      invalid = omega (arith, invalid, few_invalid, l);
+      nans = omega (arith, nans, few_nans, l);
+    }
+
+-- a rule of flags changes no width
+pub same_bits : (target : FlaggedFormat)
+    → (constants_in (format_without_rule target)).bits ≡ (flagged_constants target).bits
+same_bits (BuiltIn format) = refl
+same_bits (AfterRounding format) = refl
+same_bits (BeforeRounding format) = refl

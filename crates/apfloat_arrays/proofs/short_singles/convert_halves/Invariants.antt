@@ -1,0 +1,24 @@
+use Rattle.std.specs.Prelude.{ℕ, List}
+use Rattle.fast_bits.specs.lanes.Targets.{IsSingle}
+use Rattle.rustc_apfloat.specs.Lawful.{Constants, format_with, layout_with}
+use Rattle.rustc_apfloat.specs.declared.Round.{Round}
+use Rattle.fast_bits.specs.declared.lanes.few_counts.FewCounts.{FewCounts}
+use Rattle.fast_bits.specs.declared.lanes.plans.ShortPlan.{ShortPlan}
+use Rattle.fast_bits.specs.lanes.FewCounts.{AreAtMost}
+use Rattle.small_formats.specs.declared.saturation.saturation.Overflow.{Overflow}
+use Rattle.apfloat_arrays.specs.Rows.{IsRow}
+use Rattle.apfloat_arrays.specs.ShortSingles.{AreHalvesOf, IsShortPlanFor}
+use Rattle.apfloat_arrays.specs.Singles.{counts_with}
+use Rattle.apfloat_arrays.specs.Values.{IsConvertedBy}
+use Rattle.apfloat_arrays.proofs.short_singles.convert_halves.Given as goal
+
+pub record AreConverted (plan : ShortPlan) (width count index : ℕ) (halves output : List ℕ)
+    (few : FewCounts) : Type 0 where
+  pub few_are : AreAtMost index few
+  pub row : (overflow : Overflow) (c d : Constants) (mode : Round) (given : ℕ → List ℕ)
+      → IsSingle (format_with c) (layout_with c) → IsShortPlanFor overflow d mode plan
+      → AreHalvesOf count halves given
+      → IsRow (IsConvertedBy overflow c d mode) given width index output (counts_with few index)
+
+abbrev pub invariant-loop-index : goal.invariant-loop-index
+invariant-loop-index g l = AreConverted l.plan l.width g.row.N l.index l.halves l.output l.few

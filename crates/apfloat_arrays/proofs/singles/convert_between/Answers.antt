@@ -1,0 +1,49 @@
+use Rattle.std.proofs.Common.{◌≡◌, ℕ, ◌*◌, ◌≤◌, List, ◌++◌, length, take, drop, ◌∙◌, ap, arith}
+use Rattle.std.specs.Prelude.{replicate}
+use Rattle.std.proofs.Math.Nat.{mul-le-mul_right}
+use Rattle.std.proofs.lemmas.List.{length-take-le, take-append-le}
+use Rattle.rustc_apfloat.specs.FlaggedTypes.{constants_of}
+use Rattle.apfloat_arrays.specs.Blocks.{value_at}
+use Rattle.apfloat_arrays.specs.Bytes.{number_of}
+use Rattle.apfloat_arrays.specs.Values.{IsConvertedBy}
+use Rattle.apfloat_arrays.specs.Widths.{bytes_of}
+use Rattle.apfloat_arrays.proofs.FirstValues.{block_first, padded_first, padded_zero}
+use Rattle.apfloat_arrays.proofs.Joined.{block_width}
+use Rattle.apfloat_arrays.proofs.Rows.{zeros_quiet}
+use Rattle.apfloat_arrays.proofs.WidthBounds.{narrow}
+use Rattle.apfloat_arrays.proofs.singles.convert_between.Goals as goal
+
+pub returns : goal.returns
+returns g c =
+    let from = constants_of g.S.Flagged in
+    let to = constants_of g.T.Flagged in
+    let Holds = IsConvertedBy c.args.overflow from to c.args.round in
+    let count = c.args.count in
+    let target = c.bytes_of.result in
+    let few = c.requires.few in
+    let width : c.bytes_of.result ≡ bytes_of g.T.Flagged.BITS = c.bytes_of.ensures ∙ ap bytes_of c.BITS.ensures in
+    let short : bytes_of g.T.Flagged.BITS ≤ 2 = narrow g.T.Flagged.BITS c.requires.target.bits in
+    let given = c.copy_from_slice.new.self in
+    let filled : c.copy_from_slice.new.self ≡ c.args.input.now = c.copy_from_slice.ensures.after in
+    let size : length c.copy_from_slice.new.self ≡ c.args.count * 4 = ap length filled ∙ c.requires.input in
+    let zeros : c.args.singles.now ≡ replicate 256 0 = c.requires.zeros in
+    let singles : List ℕ = given ++ drop (count * 4) c.args.singles.now in
+    let old = c.args.room.now in
+    let wide = c.requires.room in
+    let made = c.convert_block-counts.new.output in
+    let long : length c.convert_block-counts.new.output ≡ 64 * c.bytes_of.result =
+    c.convert_block-counts.auto.output ∙ length-take-le (64 * target) old (omega (arith, wide, width, short)) in
+    let least : c.args.count * c.bytes_of.result ≤ 64 * c.bytes_of.result = mul-le-mul_right target few in
+    let output : c.copy_from_slice-2.new.self
+    ≡ take (c.args.count * c.bytes_of.result) c.convert_block-counts.new.output =
+    c.copy_from_slice-2.ensures.after
+    ∙ take-append-le (count * target) made (drop (64 * target) old) (omega (arith, long, least)) in
+    block_width Holds 4 target (bytes_of g.T.Flagged.BITS) count c.args.input.now _ _ width
+    (rw output
+    (block_first Holds 4 target 64 count singles c.args.input.now made c.convert_block-counts.result few
+    (λ k low. padded_first count k c.args.singles.now given size low ∙ ap (value_at 4 k) filled)
+    (λ k after low bytes o it. zeros_quiet c.args.overflow from to c.args.round c.requires.single
+    (value_at 4 k singles) bytes o
+    (ap (λ (xs : List ℕ). number_of (value_at 4 k (given ++ drop (count * 4) xs))) zeros
+    ∙ padded_zero count k given size after low) it)
+    c.convert_block-counts.ensures))

@@ -1,0 +1,69 @@
+use Rattle.std.proofs.Common.{◌≡◌, ℕ, ◌+◌, ◌*◌, ◌/◌, ◌%◌, ◌^◌, length, ◌∙◌, subst, arith}
+use Rattle.apfloat_arrays.specs.Bytes.{number_of}
+use Rattle.apfloat_arrays.specs.Singles.{counts_with, outcome_of}
+use Rattle.apfloat_arrays.specs.Rows.{IsRow}
+use Rattle.apfloat_arrays.specs.Values.{IsConvertedBy}
+use Rattle.apfloat_arrays.proofs.ConvertedLanes.{plan_answers}
+use Rattle.apfloat_arrays.proofs.LittleEndian.{fits}
+use Rattle.apfloat_arrays.proofs.Places.{place_size}
+use Rattle.apfloat_arrays.proofs.Rows.{row_more, row_none}
+use Rattle.apfloat_arrays.proofs.singles.convert_halves.Goals as goal
+
+-- a word by its halves
+word_parts : (word upper lower : ℕ) → upper ≡ word / 2 ^ 16 → lower ≡ word % 2 ^ 16
+    → upper * 2 ^ 16 + lower ≡ word
+word_parts word upper lower upper_is lower_is = omega (arith, upper_is, lower_is)
+
+pub loop-index-init : goal.loop-index-init
+loop-index-init g c = record {
+  few_are = record {
+    inexact = omega arith;
+    underflow = omega arith;
+    overflow = omega arith;
+    invalid = omega arith;
+    nans = omega arith;
+  };
+  row = λ overflow from to mode given is_single is_plan read.
+      row_none (IsConvertedBy overflow from to mode) given c.args.width c.args.output.now;
+}
+
+pub write_number-requires : goal.write_number-requires
+write_number-requires g c =
+    let size : length c.loop-index.output ≡ g.row.N * c.args.width = c.loop-index.auto.output ∙ c.requires.output in
+    let width = place_size c.args.width c.loop-index.index g.row.N c.loop-index.output c.loop-index-test.true size in
+    let room = c.requires.width in
+    rw c.from.ensures
+    (fits c.convert_single-lane.result.bits c.args.plan.target.bits _ c.convert_single-lane.ensures.below
+    (omega (arith, room, width)))
+
+pub loop-index-preserved : goal.loop-index-preserved
+loop-index-preserved g c =
+    let index = c.loop-index.index in
+    let before = c.loop-index-test.true in
+    let size : length c.loop-index.output ≡ g.row.N * c.args.width = c.loop-index.auto.output ∙ c.requires.output in
+    let width : length c.write_number.new.bytes ≡ c.args.width =
+    c.write_number.auto.bytes ∙ place_size c.args.width index g.row.N c.loop-index.output before size in
+    record {
+      few_are = c.counted-few.ensures.most index c.loop-index.invariant.few_are;
+      row = λ overflow from to mode given is_single is_plan read.
+          rw (c.counted-few.ensures.counts index)
+          (row_more (IsConvertedBy overflow from to mode) given c.args.width index g.row.N c.loop-index.output
+          c.write_number.new.bytes (counts_with c.loop-index.few index)
+          (outcome_of c.convert_single-lane.result) before size width
+          (plan_answers overflow from to mode c.args.plan (given index) c.write_number.new.bytes
+          _ c.convert_single-lane.result is_plan
+          (word_parts (number_of (given index)) _ _ (read.upper index before) (read.lower index before))
+          (c.write_number.ensures ∙ c.from.ensures)
+          (c.convert_single-lane.ensures.converted _ _ is_single))
+          (c.loop-index.invariant.row overflow from to mode given is_single is_plan read));
+    }
+
+pub returns : goal.returns
+returns g c = λ overflow from to mode given is_single is_plan read.
+    let low = c.loop-index-test.false in
+    let high = c.loop-index.auto.index-end in
+    let last : c.loop-index.index ≡ g.row.N = omega (arith, low, high) in
+    subst
+    (λ (n : ℕ). IsRow (IsConvertedBy overflow from to mode) given c.args.width n c.loop-index.output
+    (counts_with c.loop-index.few n)) last
+    (c.loop-index.invariant.row overflow from to mode given is_single is_plan read)

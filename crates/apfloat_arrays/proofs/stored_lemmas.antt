@@ -1,0 +1,2 @@
+pub mod ScaleClasses
+pub mod StoredOnce

@@ -1,0 +1,18 @@
+-- The lengths of arrays.
+use Rattle.std.specs.Prelude.{ℕ, ◌/◌, ◌%◌, ◌==◌, ◌&&◌, if◌then◌else◌, Result, Ok, Err}
+use Rattle.apfloat_arrays.specs.declared.scaled_blocks.errors.ArrayError.{ArrayError}
+use Rattle.apfloat_arrays.specs.declared.scaled_blocks.errors.ArrayError.TheVariants.{EmptyBlock, Uneven, Lengths}
+
+-- whether there are as many codes as values, and as many scales as blocks
+abbrev pub if_matching : ℕ → ℕ → ℕ → ℕ → Result ℕ ArrayError
+if_matching block count scales codes =
+    if (codes == count) && (scales == count / block) then Ok scales else Err Lengths
+
+-- How many blocks there are, or the first fault: of blocks of so many elements, of values of so many bytes, and of so
+-- many bytes of values, scales and codes.
+abbrev pub blocks_of : ℕ → ℕ → ℕ → ℕ → ℕ → Result ℕ ArrayError
+blocks_of block width values scales codes =
+    if block == 0 then Err EmptyBlock
+    else if values % width == 0 then
+    (if values / width % block == 0 then if_matching block (values / width) scales codes else Err Uneven)
+    else Err Lengths

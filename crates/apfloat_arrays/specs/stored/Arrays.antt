@@ -1,0 +1,60 @@
+-- Arrays of values of storage formats.
+use Rattle.std.specs.Prelude.{◌≡◌, ℕ, ◌^◌, ◌<◌, Bool, List}
+use Rattle.rustc_apfloat.specs.declared.Round.{Round}
+use Rattle.rustc_apfloat.specs.Classes.{is_nan}
+use Rattle.rustc_apfloat.specs.Datum.{Datum}
+use Rattle.rustc_apfloat.specs.Flags.{bits_of}
+use Rattle.rustc_apfloat.specs.Lawful.{Constants, format_with, layout_with}
+use Rattle.rustc_apfloat.specs.Layout.{datum_of, IsEncodedBy}
+use Rattle.formats_at_run_time.specs.BuiltIns.{constants_in}
+use Rattle.formats_at_run_time.specs.FlaggedKinds.{flagged_constants, format_without_rule}
+use Rattle.apfloat_arrays.specs.declared.Extended.{Extended}
+use Rattle.apfloat_arrays.specs.declared.Outcome.{Outcome}
+use Rattle.small_formats.specs.declared.saturation.Overflow.{Overflow}
+use Rattle.apfloat_arrays.specs.declared.Widths.{Widths}
+use Rattle.apfloat_arrays.specs.Bytes.{number_of}
+use Rattle.small_formats.specs.saturation.Saturation.{IsConversionBy}
+use Rattle.apfloat_arrays.specs.Widths.{width_of}
+use Rattle.apfloat_arrays.specs.declared.stored.formats.StoredFormat.{StoredFormat}
+use Rattle.apfloat_arrays.specs.declared.stored.array.Ends.{Ends}
+use Rattle.apfloat_arrays.specs.declared.stored.array.Ends.TheVariants.{Into, OutOf}
+use Rattle.apfloat_arrays.specs.declared.stored.array.StorageArray.{StorageArray}
+use Rattle.apfloat_arrays.specs.stored.Formats.{bits_in, datum_in, format_in}
+use Rattle.apfloat_arrays.specs.stored.Stored.{IsStoredBy}
+
+-- the value of these bits becomes this code
+pub record IsStoredAs (overflow : Overflow) (c : Constants) (format : StoredFormat) (mode : Round) (bits code : ℕ)
+    (outcome : Outcome) : Type 0 where
+  pub is_stored : IsStoredBy overflow format (format_with c) mode (datum_of (format_with c) (layout_with c) bits) code
+      (bits_of outcome.status)
+  pub fits : code < 2 ^ bits_in format
+  pub nan_is : outcome.is_nan ≡ is_nan (datum_in format code)
+
+-- the value of this code is converted, and these are the bits of the result
+pub record IsLoaded (overflow : Overflow) (format : StoredFormat) (d : Constants) (mode : Round) (code bits : ℕ)
+    (outcome : Outcome) : Type 0 where
+  pub value : Datum
+  pub loses : Bool
+  pub is_conversion : IsConversionBy overflow (format_in format) (format_with d) mode (datum_in format code) value
+      (bits_of outcome.status) loses
+  pub is_encoded : IsEncodedBy (format_with d) (layout_with d) bits value
+  pub nan_is : outcome.is_nan ≡ is_nan value
+
+-- a value of a storage format takes one byte
+abbrev pub widths_with : Extended → Ends → Widths
+widths_with extended (Into source target) = record { source = width_of source extended; target = 1 }
+widths_with extended (OutOf source target) =
+    record { source = 1; target = width_of (format_without_rule target) extended }
+
+abbrev pub widths_of : StorageArray → Widths
+widths_of array = widths_with array.extended array.ends
+
+-- the input bytes are a value of the source format, and the output bytes its conversion
+abbrev pub IsConvertedAt : Overflow → Round → Ends → List ℕ → List ℕ → Outcome → Type 0
+IsConvertedAt overflow mode (Into source target) input output outcome =
+    IsStoredAs overflow (constants_in source) target mode (number_of input) (number_of output) outcome
+IsConvertedAt overflow mode (OutOf source target) input output outcome =
+    IsLoaded overflow source (flagged_constants target) mode (number_of input) (number_of output) outcome
+
+abbrev pub IsConverted : StorageArray → List ℕ → List ℕ → Outcome → Type 0
+IsConverted array input output outcome = IsConvertedAt array.overflow array.round array.ends input output outcome

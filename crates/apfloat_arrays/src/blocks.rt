@@ -1,0 +1,56 @@
+//! Values in consecutive bytes.
+
+ghost use Rattle.std.specs.Prelude.{◌≡◌, ◌*◌, ◌<◌, ◌≤◌, length};
+ghost use Rattle.rustc_apfloat.specs.FlaggedTypes.{constants_of};
+ghost use Rattle.apfloat_arrays.specs.Values.{IsConvertedBy};
+ghost use Rattle.apfloat_arrays.specs.Blocks.{IsBlock};
+ghost use Rattle.apfloat_arrays.specs.OneBlock.{IsBlockOnce};
+
+use crate::byte_sources::{convert_bytes, has_byte_table};
+use crate::counts::Counts;
+use crate::one_by_one::convert_one_by_one;
+use crate::short_sources::{ShortHalfS, ShortSingleS, convert_shortened, has_short_table};
+use crate::single_blocks::convert_all_singles;
+use crate::singles::has_singles;
+use crate::widths::Widths;
+use rustc_apfloat::Round;
+use rustc_apfloat::ieee::Flagged;
+use small_formats::saturation::Overflow;
+
+/// Converts `count` values, each in its place: the bytes of the first value to the bytes of the first value, and so on.
+/// `overflow` says what a number that overflows becomes.
+pub fn convert_block_by<S: Flagged, T: Flagged>(
+    overflow: Overflow,
+    round: Round,
+    widths: Widths,
+    count: usize,
+    input: &[u8],
+    output: &mut [u8],
+) -> Counts
+    requires read { S.PRECISION < S.BITS }
+    requires written { T.PRECISION < T.BITS }
+    requires source { widths.source ≤ 16 }
+    requires target { T.BITS ≤ 8 * widths.target }
+    requires input { length input.now ≡ count * widths.source }
+    requires output { length output.old ≡ count * widths.target }
+    ensures { let c = constants_of S.Flagged in let d = constants_of T.Flagged in
+        IsBlock (IsConvertedBy overflow c d round) widths.source widths.target count
+        input.now output.new result }
+{
+    if has_singles::<S, T>(widths) {
+        convert_all_singles::<S, T>(overflow, round, count, input, output)
+    } else if has_byte_table::<S, T>(widths, count) {
+        convert_bytes::<S, T>(overflow, round, widths, count, input, output)
+    } else if has_short_table::<S, ShortSingleS, T>(widths, count) {
+        convert_shortened::<S, ShortSingleS, T>(overflow, round, widths, count, input, output)
+    } else if has_short_table::<S, ShortHalfS, T>(widths, count) {
+        convert_shortened::<S, ShortHalfS, T>(overflow, round, widths, count, input, output)
+    } else {
+        convert_one_by_one::<S, T>(overflow, round, widths, count, input, output)
+    }
+}
+
+/// The conversion of a block has one result: the same bytes, with the same counts.
+pub fn one_block()
+    ensures { IsBlockOnce }
+{}

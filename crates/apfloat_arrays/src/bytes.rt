@@ -1,0 +1,60 @@
+//! Integers as little-endian bytes.
+
+ghost use Rattle.std.specs.Prelude.{◌≡◌, ◌^◌, ◌<◌, ◌≤◌, length};
+ghost use Rattle.apfloat_arrays.specs.Bytes.{number_of};
+
+/// The integer that the bytes encode in little-endian order.
+#[inline]
+pub fn number_of(bytes: &[u8]) -> u128
+    requires { length bytes.now ≤ 16 }
+    ensures { result ≡ number_of bytes.now }
+{
+    match bytes {
+        [a] => u128::from(*a),
+        [a, b] => u128::from(u16::from_le_bytes([*a, *b])),
+        [a, b, c, d] => u128::from(u32::from_le_bytes([*a, *b, *c, *d])),
+        [a, b, c, d, e, f, g, h] => u128::from(u64::from_le_bytes([
+            *a, *b, *c, *d, *e, *f, *g, *h,
+        ])),
+        _ => number_byte_by_byte(bytes),
+    }
+}
+
+/// The same for any number of bytes, one byte at a time.
+fn number_byte_by_byte(bytes: &[u8]) -> u128
+    requires { length bytes.now ≤ 16 }
+    ensures { result ≡ number_of bytes.now }
+{
+    let mut number = 0;
+    for place in 0..bytes.len() {
+        number = number * 256 + u128::from(bytes[bytes.len() - 1 - place]);
+    }
+    number
+}
+
+/// Writes an integer as little-endian bytes, followed by zeros.
+#[inline]
+pub fn write_number(number: u128, bytes: &mut [u8])
+    requires { number < 256 ^ length bytes.old }
+    ensures { number_of bytes.new ≡ number }
+{
+    match bytes.len() {
+        1 => bytes[0] = number as u8,
+        2 => bytes.copy_from_slice(&(number as u16).to_le_bytes()),
+        4 => bytes.copy_from_slice(&(number as u32).to_le_bytes()),
+        8 => bytes.copy_from_slice(&(number as u64).to_le_bytes()),
+        _ => write_byte_by_byte(number, bytes),
+    }
+}
+
+/// The same for any number of bytes, one byte at a time.
+fn write_byte_by_byte(number: u128, bytes: &mut [u8])
+    requires { number < 256 ^ length bytes.old }
+    ensures { number_of bytes.new ≡ number }
+{
+    let mut rest = number;
+    for place in 0..bytes.len() {
+        bytes[place] = (rest % 256) as u8;
+        rest /= 256;
+    }
+}

@@ -1,0 +1,120 @@
+//! One value.
+
+ghost use Rattle.std.specs.Prelude.{◌≡◌, ◌*◌, ◌<◌, ◌≤◌, length, IfSome, false};
+ghost use Rattle.rustc_apfloat.specs.FlaggedTypes.{constants_of};
+ghost use Rattle.apfloat_arrays.specs.FarNumbers.{AreFarAnswers};
+ghost use Rattle.apfloat_arrays.specs.Values.{IsAnswerFrom, IsConvertedBy};
+
+use crate::bytes::{number_of, write_number};
+use crate::converted::Converted;
+use crate::counts::Outcome;
+use crate::far_numbers::{FarAnswers, far_place};
+use fast_bits::{Encoded, convert_normal};
+use rustc_apfloat::ieee::{Flagged, IeeeFloat};
+use rustc_apfloat::{Float, Round, StatusAnd};
+use small_formats::saturation::{Overflow, convert_by};
+
+/// Converts the value in little-endian bytes to the format `T`, into the bytes of `output`. `far` has the results for
+/// numbers far out of the range of `T`, if they were computed.
+#[inline]
+pub fn convert_value<S: Flagged, T: Flagged>(
+    far: &Option<FarAnswers>,
+    overflow: Overflow,
+    round: Round,
+    input: &[u8],
+    output: &mut [u8],
+) -> Outcome
+    requires read { S.PRECISION < S.BITS }
+    requires written { T.PRECISION < T.BITS }
+    requires far { IfSome far.now (AreFarAnswers overflow (constants_of T.Flagged) round) }
+    requires input { length input.now ≤ 16 }
+    requires output { T.BITS ≤ 8 * length output.old }
+    ensures { IsConvertedBy overflow (constants_of S.Flagged) (constants_of T.Flagged) round
+        input.now output.new result }
+{
+    let answer = convert_bits::<S, T>(far, overflow, round, number_of(input));
+    write_number(answer.bits, output);
+    answer.outcome
+}
+
+/// The same without these results, out of line.
+#[inline(never)]
+pub fn convert_slowly<S: Flagged, T: Flagged>(
+    overflow: Overflow,
+    round: Round,
+    input: &[u8],
+    output: &mut [u8],
+) -> Outcome
+    requires read { S.PRECISION < S.BITS }
+    requires written { T.PRECISION < T.BITS }
+    requires input { length input.now ≤ 16 }
+    requires output { T.BITS ≤ 8 * length output.old }
+    ensures { IsConvertedBy overflow (constants_of S.Flagged) (constants_of T.Flagged) round
+        input.now output.new result }
+{
+    let answer = convert_near::<S, T>(overflow, round, number_of(input));
+    write_number(answer.bits, output);
+    answer.outcome
+}
+
+/// Converts the value that these bits encode.
+#[inline(always)]
+pub fn convert_bits<S: Flagged, T: Flagged>(
+    far: &Option<FarAnswers>,
+    overflow: Overflow,
+    round: Round,
+    bits: u128,
+) -> Converted
+    requires read { S.PRECISION < S.BITS }
+    requires written { T.PRECISION < T.BITS }
+    requires far { IfSome far.now (AreFarAnswers overflow (constants_of T.Flagged) round) }
+    ensures { IsAnswerFrom overflow (constants_of S.Flagged) (constants_of T.Flagged) round bits
+        result }
+{
+    if let Some(number) = convert_normal::<S, T>(bits, round) {
+        return converted_number(number);
+    }
+    if let Some(answers) = far {
+        if let Some(place) = far_place::<S, T>(bits) {
+            return answers[place];
+        }
+    }
+    convert_near::<S, T>(overflow, round, bits)
+}
+
+/// A number as a converted value.
+#[inline(always)]
+fn converted_number(number: Encoded) -> Converted
+    ensures bits { result.bits ≡ number.bits }
+    ensures status { result.outcome.status ≡ number.status }
+    ensures no_nan { result.outcome.is_nan ≡ false }
+{
+    Converted {
+        bits: number.bits,
+        outcome: Outcome {
+            status: number.status,
+            is_nan: false,
+        },
+    }
+}
+
+/// Converts the value that these bits encode by `convert_by`. Kept out of line, so that the loops over normal numbers
+/// are small.
+#[inline(never)]
+fn convert_near<S: Flagged, T: Flagged>(overflow: Overflow, round: Round, bits: u128) -> Converted
+    requires read { S.PRECISION < S.BITS }
+    requires written { T.PRECISION < T.BITS }
+    ensures { IsAnswerFrom overflow (constants_of S.Flagged) (constants_of T.Flagged) round bits
+        result }
+{
+    let mut loses_info = false;
+    let x = IeeeFloat::<S>::from_bits(bits);
+    let answer: StatusAnd<IeeeFloat<T>> = convert_by(overflow, round, x, &mut loses_info);
+    Converted {
+        bits: answer.value.to_bits(),
+        outcome: Outcome {
+            status: answer.status,
+            is_nan: answer.value.is_nan(),
+        },
+    }
+}

@@ -1,0 +1,146 @@
+//! Arrays of values out of blocks.
+
+ghost use Rattle.std.specs.Prelude.{◌≡◌, ◌*◌, ◌^◌, ◌<◌, ◌≤◌, All, Ok, length};
+ghost use Rattle.rustc_apfloat.specs.FlaggedTypes.{constants_of};
+ghost use Rattle.apfloat_arrays.specs.Calls.{at_format};
+ghost use Rattle.small_formats.specs.blocks.Elements.{width};
+ghost use Rattle.apfloat_arrays.specs.scaled_blocks.Dequantized.{AreDequantized, IsDequantizedArray, IsScaledCode, width_out};
+ghost use Rattle.apfloat_arrays.specs.scaled_blocks.Lengths.{blocks_of};
+
+use crate::scaled_blocks::errors::ArrayError;
+use crate::scaled_blocks::lengths::blocks_of;
+use crate::{Counts, Extended, Outcome, width, write_number};
+use formats_at_run_time::{FlaggedFormat, WritesInFormat};
+use rustc_apfloat::ieee::Flagged;
+use rustc_apfloat::{Float, Round};
+use small_formats::blocks::{ElementFormat, scaled};
+use small_formats::packing::are_narrow;
+
+/// How blocks become values.
+#[derive(Clone, Copy)]
+pub struct Dequantization {
+    /// The format of the elements.
+    pub element: ElementFormat,
+    /// How many elements a block has.
+    pub length: usize,
+    /// The format of the values, with its rule of flags.
+    pub target: FlaggedFormat,
+    /// The rounding mode.
+    pub round: Round,
+}
+
+impl Dequantization {
+    /// Writes the product of each element and the scale of its block, rounded once, each in the bytes of its bits,
+    /// lowest first. A block is what `dequantize_block` makes of it.
+    ///
+    /// Returns the number of values, of those whose rounding raised each flag, and of the NaNs.
+    ///
+    /// # Errors
+    ///
+    /// `EmptyBlock` if blocks have no elements, `Uneven` if their length does not divide the number of values,
+    /// `Lengths` if the values end inside one, or there are not as many codes as values and scales as blocks,
+    /// `CodeTooWide` if a code has more bits than the element format. Nothing is written then.
+    pub fn dequantize(
+        self,
+        scales: &[u8],
+        codes: &[u8],
+        values: &mut [u8],
+    ) -> Result<Counts, ArrayError>
+        ensures { let blocks = blocks_of self.length (width_out self) (length values.old)
+            (length scales.now) (length codes.now) in
+            IsDequantizedArray self blocks scales.now codes.now values.old values.new result }
+    {
+        let width = width(self.target.built_in(), Extended::Packed);
+        match blocks_of(self.length, width, values.len(), scales.len(), codes.len()) {
+            Err(error) => Err(error),
+            Ok(_) => self.dequantize_each(width, scales, codes, values),
+        }
+    }
+
+    /// The same with these lengths.
+    fn dequantize_each(
+        self,
+        width: usize,
+        scales: &[u8],
+        codes: &[u8],
+        values: &mut [u8],
+    ) -> Result<Counts, ArrayError>
+        requires width { width ≡ width_out self }
+        requires codes { length codes.now ≡ length scales.now * self.length }
+        requires values { length values.old ≡ length codes.now * width }
+        ensures { IsDequantizedArray self (Ok (length scales.now)) scales.now codes.now values.old
+            values.new result }
+    {
+        if !are_narrow(self.element.bits(), codes) {
+            return Err(ArrayError::CodeTooWide);
+        }
+        let call = ScaledCall {
+            dequantization: self,
+            width,
+            scales,
+            codes,
+        };
+        Ok(self.target.write(call, values))
+    }
+}
+
+/// The call that multiplies elements by their scales, made at the type of the products.
+#[derive(Clone, Copy)]
+struct ScaledCall<'a> {
+    dequantization: Dequantization,
+    width: usize,
+    scales: &'a [u8],
+    codes: &'a [u8],
+}
+
+impl WritesInFormat for ScaledCall<'_> {
+    type Output = Counts;
+
+    ghost can = { λ it kind old.
+        (length it.codes.now ≡ length it.scales.now * it.dequantization.length)
+        × All (λ code. code < 2 ^ width it.dequantization.element) it.codes.now
+        × (length old ≡ length it.codes.now * it.width)
+        × at_format kind (λ d. d.bits ≤ 8 * it.width) };
+
+    ghost gives = { λ it kind old new counts.
+        at_format kind (λ d. AreDequantized it.dequantization d it.width it.scales.now it.codes.now new
+        counts) };
+
+    fn write_in_format<T: Flagged>(self, bytes: &mut [u8]) -> Counts {
+        let Dequantization {
+            element,
+            length,
+            round,
+            ..
+        } = self.dequantization;
+        let mut counts = Counts::NONE;
+        for index in 0..self.codes.len() {
+            let from = index * self.width;
+            let place = &mut bytes[from..from + self.width];
+            let scale = self.scales[index / length];
+            counts.count(write_scaled::<T>(element, scale, self.codes[index], round, place));
+        }
+        counts
+    }
+}
+
+/// Writes the product of an element and a scale.
+fn write_scaled<T: Flagged>(
+    element: ElementFormat,
+    scale: u8,
+    code: u8,
+    round: Round,
+    bytes: &mut [u8],
+) -> Outcome
+    requires code { code < 2 ^ width element }
+    requires written { T.PRECISION < T.BITS }
+    requires bytes { T.BITS ≤ 8 * length bytes.old }
+    ensures { IsScaledCode element (constants_of T.Flagged) round scale code bytes.new result }
+{
+    let answer = scaled::<T>(element, scale, code, round);
+    write_number(answer.value.to_bits(), bytes);
+    Outcome {
+        status: answer.status,
+        is_nan: answer.value.is_nan(),
+    }
+}

@@ -1,0 +1,179 @@
+//! Arrays quantized to blocks.
+
+ghost use Rattle.std.specs.Prelude.{◌≡◌, ◌+◌, ◌*◌, ◌^◌, ◌≤◌, true, length};
+ghost use Rattle.rustc_apfloat.specs.Lawful.{format_with};
+ghost use Rattle.small_formats.specs.Scales.{largest_code, scale_format};
+ghost use Rattle.formats_at_run_time.specs.BuiltIns.{constants_in};
+ghost use Rattle.small_formats.specs.blocks.Elements.{IsQuotientBy};
+ghost use Rattle.small_formats.specs.blocks.Magnitudes.{are_finite};
+ghost use Rattle.small_formats.specs.blocks.MxBlocks.{IsBlock};
+ghost use Rattle.small_formats.specs.blocks.Places.{AreCounted};
+ghost use Rattle.apfloat_arrays.specs.scaled_blocks.Lengths.{blocks_of};
+ghost use Rattle.apfloat_arrays.specs.scaled_blocks.Quantized.{AreQuantized, IsQuantizedArray, counts_with, width_in};
+ghost use Rattle.apfloat_arrays.specs.scaled_blocks.Values.{values_in};
+
+use crate::scaled_blocks::errors::ArrayError;
+use crate::scaled_blocks::lengths::blocks_of;
+use crate::scaled_blocks::scales::{QuotientCall, ScaleCall};
+use crate::scaled_blocks::values::bits_at;
+use crate::{Counts, Extended, width};
+use formats_at_run_time::BuiltInFormat;
+use rustc_apfloat::Round;
+use small_formats::blocks::{Block, Counts as ElementCounts, ElementFormat};
+
+/// The code of the scale that is a NaN.
+const NAN_SCALE: u8 = 255;
+
+/// How values become blocks.
+#[derive(Clone, Copy)]
+pub struct Quantization {
+    /// The format of the values.
+    pub source: BuiltInFormat,
+    /// The format of the elements.
+    pub element: ElementFormat,
+    /// How many elements a block has, 32 in each format of OCP Microscaling Formats 1.0.
+    pub length: usize,
+    /// The rounding mode.
+    pub round: Round,
+}
+
+/// The counts of a block. Each element of a block with an infinity or a NaN counts as a NaN.
+fn counts_of(length: usize, block: Block) -> Counts
+    ensures { result ≡ counts_with length block }
+{
+    Counts {
+        values: length as u64,
+        inexact: block.counts.inexact as u64,
+        underflow: block.counts.underflow as u64,
+        overflow: block.counts.overflow as u64,
+        invalid: block.counts.invalid as u64,
+        nans: if block.is_finite { 0 } else { length as u64 },
+    }
+}
+
+impl Quantization {
+    /// Quantizes the values in `values`, each in the bytes of its bits, lowest first; a value of the x87 format takes
+    /// ten bytes, and one of `TF32` four. Writes the scale of each block, a code of `E8M0FNU`, and the code of each
+    /// value. A block is what `quantize_block` makes of it.
+    ///
+    /// Returns the number of values, of those whose rounding raised each flag, and of those in blocks whose scale is a
+    /// NaN.
+    ///
+    /// # Errors
+    ///
+    /// `EmptyBlock` if blocks have no elements, `Uneven` if their length does not divide the number of values,
+    /// `Lengths` if the values end inside one, or there are not as many codes as values and scales as blocks. Nothing
+    /// is written then.
+    pub fn quantize(
+        self,
+        values: &[u8],
+        scales: &mut [u8],
+        codes: &mut [u8],
+    ) -> Result<Counts, ArrayError>
+        ensures { let blocks = blocks_of self.length (width_in self) (length values.now)
+            (length scales.old) (length codes.old) in
+            IsQuantizedArray self blocks values.now scales.old scales.new codes.old codes.new
+            result }
+    {
+        let width = width(self.source, Extended::Packed);
+        match blocks_of(self.length, width, values.len(), scales.len(), codes.len()) {
+            Err(error) => Err(error),
+            Ok(blocks) => Ok(self.quantize_each(width, blocks, values, scales, codes)),
+        }
+    }
+
+    /// The same with these lengths.
+    fn quantize_each(
+        self,
+        width: usize,
+        blocks: usize,
+        values: &[u8],
+        scales: &mut [u8],
+        codes: &mut [u8],
+    ) -> Counts
+        requires width { width ≡ width_in self }
+        requires least { 1 ≤ width }
+        requires few { width ≤ 16 }
+        requires values { length values.now ≡ blocks * self.length * width }
+        requires scales { length scales.old ≡ blocks }
+        requires codes { length codes.old ≡ blocks * self.length }
+        ensures { AreQuantized self values.now blocks scales.new codes.new result }
+    {
+        let mut counts = Counts::NONE;
+        for index in 0..blocks {
+            let first = index * self.length;
+            let part = &mut codes[first..first + self.length];
+            let block = self.quantize_one(width, first, values, part);
+            scales[index] = block.scale;
+            counts.add(counts_of(self.length, block));
+        }
+        counts
+    }
+
+    /// Quantizes the block whose first value has that index.
+    fn quantize_one(self, width: usize, first: usize, values: &[u8], codes: &mut [u8]) -> Block
+        requires least { 1 ≤ width }
+        requires few { width ≤ 16 }
+        requires within { (first + length codes.old) * width ≤ length values.now }
+        ensures { let c = constants_in self.source in
+            IsBlock self.element (format_with c) self.round
+            (values_in c width values.now first (length codes.old)) codes.new result }
+    {
+        let call = ScaleCall {
+            element: self.element,
+            width,
+            first,
+            count: codes.len(),
+            bytes: values,
+        };
+        match self.source.run(call) {
+            None => {
+                codes.fill(0);
+                Block {
+                    scale: NAN_SCALE,
+                    counts: ElementCounts::NONE,
+                    is_finite: false,
+                }
+            }
+            Some(scale) => Block {
+                scale,
+                counts: self.write_codes(width, first, scale, values, codes),
+                is_finite: true,
+            },
+        }
+    }
+
+    /// Writes the quotients by a scale.
+    fn write_codes(
+        self,
+        width: usize,
+        first: usize,
+        scale: u8,
+        values: &[u8],
+        codes: &mut [u8],
+    ) -> ElementCounts
+        requires least { 1 ≤ width }
+        requires few { width ≤ 16 }
+        requires within { (first + length codes.old) * width ≤ length values.now }
+        requires scale { scale ≤ largest_code }
+        requires finite { are_finite (values_in (constants_in self.source) width values.now first
+            (length codes.old)) ≡ true }
+        ensures { let c = constants_in self.source in
+            AreCounted (IsQuotientBy self.element (format_with c) self.round (2 ^ scale)
+            (2 ^ scale_format.scale)) (values_in c width values.now first (length codes.old))
+            codes.new result }
+    {
+        let mut counts = ElementCounts::NONE;
+        for index in 0..codes.len() {
+            let answer = self.source.run(QuotientCall {
+                element: self.element,
+                round: self.round,
+                scale,
+                bits: bits_at(width, first + index, values),
+            });
+            codes[index] = answer.value;
+            counts = counts.with(answer.status);
+        }
+        counts
+    }
+}

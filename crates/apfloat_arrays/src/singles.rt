@@ -1,0 +1,368 @@
+//! Singles converted a block at a time. The loops below have no jump that depends on a value, and compute all in words
+//! of sixteen bits, so that a compiler can work on several values at once.
+
+ghost use Rattle.std.specs.Prelude.{◌≡◌, ℕ, ◌+◌, ◌*◌, ◌/◌, ◌%◌, ◌^◌, ◌≤◌, ◌<◌, List, length, replicate, false, IsTrue};
+ghost use Rattle.fast_bits.specs.lanes.FewCounts.{AreAtMost};
+ghost use Rattle.fast_bits.specs.lanes.Sides.{LeadsPast};
+ghost use Rattle.fast_bits.specs.lanes.Targets.{IsSingle, IsTarget};
+ghost use Rattle.rustc_apfloat.specs.declared.Round.{Round as Mode};
+ghost use Rattle.rustc_apfloat.specs.Lawful.{Constants, format_with, layout_with};
+ghost use Rattle.rustc_apfloat.specs.FlaggedTypes.{constants_of, format_of, layout_of};
+ghost use Rattle.apfloat_arrays.specs.Blocks.{IsBlock, value_at};
+ghost use Rattle.apfloat_arrays.specs.Outcomes.{with_outcome};
+ghost use Rattle.apfloat_arrays.specs.Rows.{AreFiniteHalves, IsRow, number_from};
+ghost use Rattle.apfloat_arrays.specs.Singles.{AreHalves, IsPlanFor, counts_with, outcome_of};
+ghost use Rattle.apfloat_arrays.specs.Values.{IsConvertedBy};
+ghost use Rattle.apfloat_arrays.specs.Widths.{bytes_of};
+
+use crate::bytes::write_number;
+use crate::counts::Counts;
+use crate::one_by_one::convert_one_by_one;
+use crate::single_targets::{is_single, is_target, saturates, target_of};
+use crate::specials::{BLOCK, are_finite, convert_specials, lower_in, number_in, word_of};
+use crate::widths::{Widths, bytes_of};
+use fast_bits::lanes::{FewCounts, Lane, Plan, convert_single, delivers_past, plan_of, with_lane};
+use rustc_apfloat::Round;
+use rustc_apfloat::ieee::Flagged;
+use small_formats::saturation::Overflow;
+
+/// From how many values on it takes less time to convert a whole block than each of them.
+const FEWEST: usize = 20;
+
+/// Reads the upper and the lower halves of the bits of the singles of a block.
+#[inline(always)]
+fn read_halves<const N: usize>(bytes: &[u8], uppers: &mut [u16; N], lowers: &mut [u16; N])
+    requires { length bytes.now ≡ N * 4 }
+    ensures { AreHalves N uppers.new lowers.new (λ index. value_at 4 index bytes.now) }
+{
+    for index in 0..N {
+        let from = index * 4;
+        let word = word_of(&bytes[from..from + 4]);
+        uppers[index] = (word / 0x1_0000) as u16;
+        lowers[index] = (word % 0x1_0000) as u16;
+    }
+}
+
+/// Zeros in place of infinities and NaNs.
+#[inline(never)]
+fn clear_specials<const N: usize>(uppers: &mut [u16; N], lowers: &mut [u16; N])
+    ensures finite { AreFiniteHalves N uppers.new }
+    ensures kept { (input : List ℕ)
+        → AreHalves N uppers.old lowers.old (λ index. value_at 4 index input)
+        → AreHalves N uppers.new lowers.new (number_from 0 input) }
+{
+    for index in 0..N {
+        lowers[index] = lower_in(uppers[index], lowers[index]);
+        uppers[index] = number_in(uppers[index]);
+    }
+}
+
+/// The same, unless there are none. Returns whether there are none.
+#[inline(always)]
+fn leave_numbers<const N: usize>(uppers: &mut [u16; N], lowers: &mut [u16; N]) -> bool
+    ensures finite { AreFiniteHalves N uppers.new }
+    ensures kept { (input : List ℕ)
+        → AreHalves N uppers.old lowers.old (λ index. value_at 4 index input)
+        → AreHalves N uppers.new lowers.new (number_from 0 input) }
+    ensures all { IsTrue result → AreFiniteHalves N uppers.old }
+{
+    if are_finite(uppers) {
+        true
+    } else {
+        clear_specials(uppers, lowers);
+        false
+    }
+}
+
+/// The counts after one more value.
+#[inline(always)]
+pub(crate) fn counted(few: FewCounts, lane: Lane) -> FewCounts
+    requires { AreAtMost 65534 few }
+    ensures counts { (values : ℕ) → counts_with result (values + 1)
+        ≡ with_outcome (counts_with few values) (outcome_of lane) }
+    ensures most { (most : ℕ) → AreAtMost most few → AreAtMost (most + 1) result }
+{
+    with_lane(few, lane)
+}
+
+/// All counts of a block.
+#[inline(always)]
+pub(crate) fn all_counts(few: FewCounts, values: usize) -> Counts
+    ensures { result ≡ counts_with few values }
+{
+    Counts {
+        values: values as u64,
+        inexact: u64::from(few.inexact),
+        underflow: u64::from(few.underflow),
+        overflow: u64::from(few.overflow),
+        invalid: u64::from(few.invalid),
+        nans: u64::from(few.nans),
+    }
+}
+
+/// Converts the values of a block, each to its place. With `specials`, infinities and NaNs may be among them.
+#[inline(always)]
+fn convert_halves<const N: usize>(
+    plan: Plan,
+    specials: bool,
+    width: usize,
+    uppers: &[u16; N],
+    lowers: &[u16; N],
+    output: &mut [u8],
+) -> FewCounts
+    requires width { plan.target.bits ≤ 8 * width }
+    requires finite { specials ≡ false → AreFiniteHalves N uppers.now }
+    requires leads { IsTrue specials → LeadsPast plan.saturates plan.round }
+    requires few { N < 2 ^ 16 }
+    requires output { length output.old ≡ N * width }
+    ensures { (overflow : Overflow) (c d : Constants) (mode : Mode) (given : ℕ → List ℕ)
+        → IsSingle (format_with c) (layout_with c) → IsPlanFor overflow d mode plan
+        → AreHalves N uppers.now lowers.now given
+        → IsRow (IsConvertedBy overflow c d mode) given width N output.new (counts_with result N) }
+{
+    let mut few = FewCounts {
+        inexact: 0,
+        underflow: 0,
+        overflow: 0,
+        invalid: 0,
+        nans: 0,
+    };
+    for index in 0..N {
+        let from = index * width;
+        let target = &mut output[from..from + width];
+        let lane = convert_single(plan, specials, uppers[index], lowers[index]);
+        write_number(u128::from(lane.bits), target);
+        few = counted(few, lane);
+    }
+    few
+}
+
+/// Converts the values of a block, where infinities and NaNs take the same steps as numbers.
+#[inline(always)]
+fn convert_alike<const N: usize>(
+    plan: Plan,
+    width: usize,
+    uppers: &[u16; N],
+    lowers: &[u16; N],
+    output: &mut [u8],
+) -> Counts
+    requires width { plan.target.bits ≤ 8 * width }
+    requires leads { LeadsPast plan.saturates plan.round }
+    requires few { N < 2 ^ 16 }
+    requires output { length output.old ≡ N * width }
+    ensures { (overflow : Overflow) (c d : Constants) (mode : Mode) (given : ℕ → List ℕ)
+        → IsSingle (format_with c) (layout_with c) → IsPlanFor overflow d mode plan
+        → AreHalves N uppers.now lowers.now given
+        → IsRow (IsConvertedBy overflow c d mode) given width N output.new result }
+{
+    if are_finite(uppers) {
+        let few = convert_halves(plan, false, width, uppers, lowers, output);
+        all_counts(few, N)
+    } else {
+        let few = convert_halves(plan, true, width, uppers, lowers, output);
+        all_counts(few, N)
+    }
+}
+
+/// Converts the values of a block, its infinities and NaNs apart.
+#[inline(always)]
+fn convert_apart<S: Flagged, T: Flagged, const N: usize>(
+    plan: Plan,
+    overflow: Overflow,
+    round: Round,
+    widths: Widths,
+    uppers: &mut [u16; N],
+    lowers: &mut [u16; N],
+    input: &[u8],
+    output: &mut [u8],
+) -> Counts
+    requires read { S.PRECISION < S.BITS }
+    requires written { T.PRECISION < T.BITS }
+    requires single { IsSingle (format_of S.Flagged) (layout_of S.Flagged) }
+    requires plan { IsPlanFor overflow (constants_of T.Flagged) round plan }
+    requires source { widths.source ≡ 4 }
+    requires target { T.BITS ≤ 8 * widths.target }
+    requires halves { AreHalves N uppers.old lowers.old (λ index. value_at 4 index input.now) }
+    requires groups { N % 16 ≡ 0 }
+    requires few { N < 2 ^ 16 }
+    requires input { length input.now ≡ N * widths.source }
+    requires output { length output.old ≡ N * widths.target }
+    ensures { let c = constants_of S.Flagged in let d = constants_of T.Flagged in
+        IsBlock (IsConvertedBy overflow c d round) widths.source widths.target N input.now
+        output.new result }
+{
+    let finite = leave_numbers(uppers, lowers);
+    let few = convert_halves(plan, false, widths.target, uppers, lowers, output);
+    let counts = all_counts(few, N);
+    if finite {
+        counts
+    } else {
+        convert_specials::<S, T, N>(overflow, round, widths.target, counts, input, output)
+    }
+}
+
+/// Converts the values of a block.
+#[inline(always)]
+pub(crate) fn convert_block<S: Flagged, T: Flagged, const N: usize>(
+    plan: Plan,
+    overflow: Overflow,
+    round: Round,
+    widths: Widths,
+    uppers: &mut [u16; N],
+    lowers: &mut [u16; N],
+    input: &[u8],
+    output: &mut [u8],
+) -> Counts
+    requires read { S.PRECISION < S.BITS }
+    requires written { T.PRECISION < T.BITS }
+    requires single { IsSingle (format_of S.Flagged) (layout_of S.Flagged) }
+    requires plan { IsPlanFor overflow (constants_of T.Flagged) round plan }
+    requires source { widths.source ≡ 4 }
+    requires target { T.BITS ≤ 8 * widths.target }
+    requires groups { N % 16 ≡ 0 }
+    requires few { N < 2 ^ 16 }
+    requires input { length input.now ≡ N * widths.source }
+    requires output { length output.old ≡ N * widths.target }
+    ensures { let c = constants_of S.Flagged in let d = constants_of T.Flagged in
+        IsBlock (IsConvertedBy overflow c d round) widths.source widths.target N input.now
+        output.new result }
+{
+    read_halves(input, uppers, lowers);
+    if delivers_past(plan.target, plan.positive, plan.negative) {
+        convert_alike(plan, widths.target, uppers, lowers, output)
+    } else {
+        convert_apart::<S, T, N>(plan, overflow, round, widths, uppers, lowers, input, output)
+    }
+}
+
+/// Converts a few values with zeros after them, which raise no flag and are no NaNs: as many as a block lacks. They
+/// stand in `singles`, and what they become in `room`.
+#[inline(always)]
+fn convert_between<S: Flagged, T: Flagged>(
+    overflow: Overflow,
+    round: Round,
+    count: usize,
+    singles: &mut [u8],
+    room: &mut [u8],
+    input: &[u8],
+    output: &mut [u8],
+) -> Counts
+    requires read { S.PRECISION < S.BITS }
+    requires written { T.PRECISION < T.BITS }
+    requires single { IsSingle (format_of S.Flagged) (layout_of S.Flagged) }
+    requires target { IsTarget (format_of T.Flagged) (layout_of T.Flagged) T.MIN_EXP T.MAX_EXP }
+    requires width { T.BITS ≤ 8 * bytes_of T.BITS }
+    requires few { count ≤ 64 }
+    requires zeros { singles.old ≡ replicate 256 0 }
+    requires room { length room.old ≡ 128 }
+    requires input { length input.now ≡ count * 4 }
+    requires output { length output.old ≡ count * bytes_of T.BITS }
+    ensures { let c = constants_of S.Flagged in let d = constants_of T.Flagged in
+        IsBlock (IsConvertedBy overflow c d round) 4 (bytes_of T.BITS) count input.now output.new
+        result }
+{
+    let plan = plan_of(target_of::<T>(), saturates(overflow), round);
+    let widths = Widths {
+        source: 4,
+        target: bytes_of(T::BITS),
+    };
+    singles[..count * 4].copy_from_slice(input);
+    let made = &mut room[..BLOCK * widths.target];
+    let counts = convert_block::<S, T, BLOCK>(
+        plan,
+        overflow,
+        round,
+        widths,
+        &mut [0; BLOCK],
+        &mut [0; BLOCK],
+        singles,
+        made,
+    );
+    output.copy_from_slice(&room[..count * widths.target]);
+    Counts {
+        values: count as u64,
+        ..counts
+    }
+}
+
+/// Converts a few values as a block.
+#[inline(always)]
+fn convert_padded<S: Flagged, T: Flagged>(
+    overflow: Overflow,
+    round: Round,
+    count: usize,
+    input: &[u8],
+    output: &mut [u8],
+) -> Counts
+    requires read { S.PRECISION < S.BITS }
+    requires written { T.PRECISION < T.BITS }
+    requires single { IsSingle (format_of S.Flagged) (layout_of S.Flagged) }
+    requires target { IsTarget (format_of T.Flagged) (layout_of T.Flagged) T.MIN_EXP T.MAX_EXP }
+    requires width { T.BITS ≤ 8 * bytes_of T.BITS }
+    requires few { count ≤ 64 }
+    requires input { length input.now ≡ count * 4 }
+    requires output { length output.old ≡ count * bytes_of T.BITS }
+    ensures { let c = constants_of S.Flagged in let d = constants_of T.Flagged in
+        IsBlock (IsConvertedBy overflow c d round) 4 (bytes_of T.BITS) count input.now output.new
+        result }
+{
+    let mut singles = [0; BLOCK * 4];
+    let mut room = [0; BLOCK * 2];
+    convert_between::<S, T>(
+        overflow,
+        round,
+        count,
+        &mut singles,
+        &mut room,
+        input,
+        output,
+    )
+}
+
+/// Converts the last values of an array, fewer than a block has.
+#[inline(never)]
+pub(crate) fn convert_last<S: Flagged, T: Flagged>(
+    overflow: Overflow,
+    round: Round,
+    count: usize,
+    input: &[u8],
+    output: &mut [u8],
+) -> Counts
+    requires read { S.PRECISION < S.BITS }
+    requires written { T.PRECISION < T.BITS }
+    requires single { IsSingle (format_of S.Flagged) (layout_of S.Flagged) }
+    requires target { IsTarget (format_of T.Flagged) (layout_of T.Flagged) T.MIN_EXP T.MAX_EXP }
+    requires width { T.BITS ≤ 8 * bytes_of T.BITS }
+    requires few { count < 64 }
+    requires input { length input.now ≡ count * 4 }
+    requires output { length output.old ≡ count * bytes_of T.BITS }
+    ensures { let c = constants_of S.Flagged in let d = constants_of T.Flagged in
+        IsBlock (IsConvertedBy overflow c d round) 4 (bytes_of T.BITS) count input.now output.new
+        result }
+{
+    if count < FEWEST {
+        let widths = Widths {
+            source: 4,
+            target: bytes_of(T::BITS),
+        };
+        convert_one_by_one::<S, T>(overflow, round, widths, count, input, output)
+    } else {
+        convert_padded::<S, T>(overflow, round, count, input, output)
+    }
+}
+
+/// Whether values of these widths are singles, and converted so to `T`, in the usual number of bytes.
+#[inline(always)]
+pub fn has_singles<S: Flagged, T: Flagged>(widths: Widths) -> bool
+    requires written { T.PRECISION < T.BITS }
+    ensures single { IsTrue result → IsSingle (format_of S.Flagged) (layout_of S.Flagged) }
+    ensures target { IsTrue result
+        → IsTarget (format_of T.Flagged) (layout_of T.Flagged) T.MIN_EXP T.MAX_EXP }
+    ensures source_width { IsTrue result → widths.source ≡ 4 }
+    ensures target_width { IsTrue result → widths.target ≡ bytes_of T.BITS }
+{
+    is_single::<S>()
+        & is_target::<T>()
+        & (widths.source == 4)
+        & (widths.target == bytes_of(T::BITS))
+}

@@ -1,0 +1,151 @@
+//! Infinities and NaNs in blocks of singles that are converted all at once: zeros take their places, which
+//! raise no flag and are no NaNs, until they are converted one by one.
+
+ghost use Rattle.std.specs.Prelude.{◌≡◌, ℕ, ◌+◌, ◌*◌, ◌%◌, ◌^◌, ◌<◌, ◌≤◌, length, slice_index, IsTrue};
+ghost use Rattle.fast_bits.specs.lanes.Targets.{IsSingle};
+ghost use Rattle.rustc_apfloat.specs.FlaggedTypes.{constants_of, format_of, layout_of};
+ghost use Rattle.apfloat_arrays.specs.Blocks.{IsBlock, value_at};
+ghost use Rattle.apfloat_arrays.specs.Bytes.{number_of};
+ghost use Rattle.apfloat_arrays.specs.Rows.{AreFiniteHalves, IsRow, lower_in, number_from, number_in};
+ghost use Rattle.apfloat_arrays.specs.Values.{IsConvertedBy};
+
+use crate::bytes::number_of;
+use crate::counts::Counts;
+use crate::one_value::convert_slowly;
+use fast_bits::lanes::{is_finite, is_finite_half};
+use rustc_apfloat::Round;
+use rustc_apfloat::ieee::Flagged;
+use small_formats::saturation::Overflow;
+
+/// How many values are converted at once.
+pub(crate) const BLOCK: usize = 64;
+
+/// How many are in a long array. Its counts are added up less often.
+pub(crate) const LONG: usize = 256;
+
+/// How many values are looked through at once for infinities and NaNs.
+const GROUP: usize = 16;
+
+/// The bits of a single.
+#[inline(always)]
+pub(crate) fn word_of(bytes: &[u8]) -> u32
+    requires { length bytes.now ≡ 4 }
+    ensures { result ≡ number_of bytes.now }
+{
+    number_of(bytes) as u32
+}
+
+/// Whether all of these are upper halves of numbers.
+#[inline(always)]
+pub(crate) fn are_finite<const N: usize>(halves: &[u16; N]) -> bool
+    ensures { IsTrue result → AreFiniteHalves N halves.now }
+{
+    let mut finite = true;
+    for index in 0..N {
+        finite = finite & is_finite_half(halves[index]);
+    }
+    finite
+}
+
+/// Zero in place of an infinity or a NaN.
+#[inline(always)]
+pub(crate) fn number_in(half: u16) -> u16
+    ensures { result ≡ number_in half }
+{
+    if is_finite_half(half) { half } else { 0 }
+}
+
+/// The lower half that goes with it.
+#[inline(always)]
+pub(crate) fn lower_in(upper: u16, lower: u16) -> u16
+    ensures { result ≡ lower_in upper lower }
+{
+    if is_finite_half(upper) { lower } else { 0 }
+}
+
+/// Whether all of sixteen singles are numbers.
+#[inline(always)]
+fn are_numbers(bytes: &[u8]) -> bool
+    requires { length bytes.now ≡ 64 }
+    ensures { IsTrue result → (index : ℕ) → index < 16
+        → number_of (value_at 4 index bytes.now) % 2 ^ 31 < 255 * 2 ^ 23 }
+{
+    let mut numbers = true;
+    for index in 0..GROUP {
+        let from = index * 4;
+        numbers = numbers & is_finite(word_of(&bytes[from..from + 4]));
+    }
+    numbers
+}
+
+/// Converts the infinities and NaNs among the sixteen singles from `first` on, as `convert_specials` does.
+#[inline(always)]
+fn convert_group<S: Flagged, T: Flagged, const N: usize>(
+    overflow: Overflow,
+    round: Round,
+    width: usize,
+    first: usize,
+    counts: Counts,
+    input: &[u8],
+    output: &mut [u8],
+) -> Counts
+    requires read { S.PRECISION < S.BITS }
+    requires written { T.PRECISION < T.BITS }
+    requires single { IsSingle (format_of S.Flagged) (layout_of S.Flagged) }
+    requires target { T.BITS ≤ 8 * width }
+    requires within { first + 16 ≤ N }
+    requires input { length input.now ≡ N * 4 }
+    requires output { length output.old ≡ N * width }
+    requires numbers { let c = constants_of S.Flagged in let d = constants_of T.Flagged in
+        IsRow (IsConvertedBy overflow c d round) (number_from first input.now) width N output.old
+        counts }
+    ensures { let c = constants_of S.Flagged in let d = constants_of T.Flagged in
+        IsRow (IsConvertedBy overflow c d round) (number_from (first + 16) input.now) width N
+        output.new result }
+{
+    let mut counts = counts;
+    for index in first..first + GROUP {
+        let from = index * 4;
+        let source = &input[from..from + 4];
+        if !is_finite(word_of(source)) {
+            let to = index * width;
+            let target = &mut output[to..to + width];
+            counts.raise(convert_slowly::<S, T>(overflow, round, source, target));
+        }
+    }
+    counts
+}
+
+/// Converts the infinities and NaNs among the singles of a block, each to its place, where a converted zero is.
+/// `counts` are those with the zeros.
+#[inline(never)]
+pub(crate) fn convert_specials<S: Flagged, T: Flagged, const N: usize>(
+    overflow: Overflow,
+    round: Round,
+    width: usize,
+    counts: Counts,
+    input: &[u8],
+    output: &mut [u8],
+) -> Counts
+    requires read { S.PRECISION < S.BITS }
+    requires written { T.PRECISION < T.BITS }
+    requires single { IsSingle (format_of S.Flagged) (layout_of S.Flagged) }
+    requires target { T.BITS ≤ 8 * width }
+    requires groups { N % 16 ≡ 0 }
+    requires input { length input.now ≡ N * 4 }
+    requires output { length output.old ≡ N * width }
+    requires numbers { let c = constants_of S.Flagged in let d = constants_of T.Flagged in
+        IsRow (IsConvertedBy overflow c d round) (number_from 0 input.now) width N output.old
+        counts }
+    ensures { let c = constants_of S.Flagged in let d = constants_of T.Flagged in
+        IsBlock (IsConvertedBy overflow c d round) 4 width N input.now output.new result }
+{
+    let mut counts = counts;
+    for group in 0..N / GROUP {
+        let first = group * GROUP;
+        if !are_numbers(&input[first * 4..(first + GROUP) * 4]) {
+            counts = convert_group::<S, T, N>(overflow, round, width, first, counts, input, output);
+        }
+    }
+    counts
+}

@@ -1,0 +1,9 @@
+//! Arrays of values of storage formats, one a byte, converted to and from the values of every built-in format.
+
+mod array;
+mod formats;
+mod loading;
+mod storing;
+
+pub use array::{Ends, StorageArray};
+pub use formats::StoredFormat;

@@ -1,6 +1,0 @@
-use Rattle.apfloat_ieee.specs.FlaggedTypes.{format_of}
-use Rattle.apfloat_comparisons.proofs.QuietNans.{nan_scaled}
-use Rattle.apfloat_comparisons.proofs.extrema.quieted.Goals as goal
-
-pub returns : goal.returns
-returns g c = nan_scaled (format_of g.S.Flagged) _ c.args.x _ _ c.requires c.scalbn.ensures

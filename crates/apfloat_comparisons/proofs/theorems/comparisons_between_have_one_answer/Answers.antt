@@ -1,5 +1,0 @@
-use Rattle.apfloat_comparisons.proofs.OneAnswer.{compared_between_once}
-use Rattle.apfloat_comparisons.proofs.theorems.comparisons_between_have_one_answer.Goals as goal
-
-pub returns : goal.returns
-returns c = compared_between_once

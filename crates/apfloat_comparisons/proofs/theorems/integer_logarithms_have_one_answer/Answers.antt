@@ -1,5 +1,0 @@
-use Rattle.apfloat_comparisons.proofs.Logarithms.{integer_log_b_once}
-use Rattle.apfloat_comparisons.proofs.theorems.integer_logarithms_have_one_answer.Goals as goal
-
-pub returns : goal.returns
-returns c = integer_log_b_once

@@ -1,5 +1,0 @@
-use Rattle.apfloat_comparisons.proofs.IntegralOnce.{rounded_to_integral_once}
-use Rattle.apfloat_comparisons.proofs.theorems.integral_roundings_have_one_answer.Goals as goal
-
-pub returns : goal.returns
-returns c = rounded_to_integral_once

@@ -1,0 +1,77 @@
+use Rattle.std.proofs.Common.{◌≡◌, ℕ, ◌-◌, ◌*◌, ◌%◌, ◌^◌, ◌<◌, ◌≤◌, sym, ap, subst, arith, to_z, of_z, w32}
+use Rattle.std.proofs.Math.Nat.{mod-eq_of_lt}
+use Rattle.std.proofs.lemmas.Int.{ints, to_z-of_z}
+use Rattle.apfloat_model.specs.arithmetic.Exponents.{IsLogarithm}
+use Rattle.apfloat_model.specs.order.Classes.{quanta_of}
+use Rattle.apfloat_model.proofs.arithmetic.Significands.{exponent_fits, significand_logarithm}
+use Rattle.apfloat_model.proofs.formats.LawfulRanges.{ranges_of}
+use Rattle.apfloat_model.proofs.order.PositiveValues.{logarithm_within}
+use Rattle.apfloat_ieee.specs.Types.{constants_of, format_of}
+use Rattle.apfloat_digits.specs.hexadecimal.HexTexts.{IsNumberOf}
+use Rattle.apfloat_digits.proofs.hexadecimal_lemmas.AlignedDigits.{IsWide, widened}
+use Rattle.apfloat_digits.proofs.hexadecimal.significands.digits_of.Given.{Over}
+use Rattle.apfloat_digits.proofs.hexadecimal.significands.digits_of.Goals.{After-exponent_above}
+use Rattle.apfloat_digits.proofs.hexadecimal.significands.digits_of.Goals as goal
+
+-- the exponent of the first digit
+record IsFirst (g : Over) (c : After-exponent_above g) : Type 0 where
+  wide : IsWide (format_of g.S.Semantics) (quanta_of c.args.x)
+      (c.number-number.result.significand * 2 ^ (125 - c.PRECISION-precision.result)) c.exponent_above.result
+  log : IsLogarithm (format_of g.S.Semantics) (quanta_of c.args.x) c.exponent_above.result
+  word : to_z w32 (of_z w32 c.exponent_above.result) ≡ c.exponent_above.result
+
+first_is : (g : Over) → (state : After-exponent_above g) → IsFirst g state
+first_is g c =
+    let f = format_of g.S.Semantics in
+    let law = g.S.Semantics.lawful.parameters in
+    let number = c.number-number in
+    let within = number.ensures.within in
+    let low = within.low in
+    let high = within.high in
+    let exact : to_z w32 (of_z w32 number.result.exponent) ≡ number.result.exponent =
+    to_z-of_z w32 number.result.exponent
+    (exponent_fits number.result.exponent
+    (record { low = omega (arith, ints, low); high = omega (arith, ints, high) })) in
+    let digits = c.PRECISION-precision.ensures in
+    let place = rw (exact, digits) at c.exponent_above.ensures.place in
+    record {
+      wide = widened f (quanta_of c.args.x) number.result.significand _ number.result.exponent
+          c.exponent_above.result law.precision_low law.precision_high number.ensures.fits number.ensures.full
+          number.ensures.number place (ap (λ (p : ℕ). number.result.significand * 2 ^ (125 - p)) digits);
+      log = significand_logarithm f (quanta_of c.args.x) number.result.significand f.precision number.result.exponent
+          c.exponent_above.result (omega (arith, law.precision_low)) c.requires.some number.ensures.fits
+          number.ensures.full number.ensures.number place;
+      word = to_z-of_z w32 c.exponent_above.result (record { sfits = c.exponent_above.type_inv });
+    }
+
+-- no digit is shifted out
+kept : (digits : ℕ) → digits < 2 ^ 125 → digits % 2 ^ 128 ≡ digits
+kept digits high = let l : digits < 2 ^ 128 = omega (arith, high) in mod-eq_of_lt l
+
+pub returns-clause-low : goal.returns-clause-low
+returns-clause-low g c =
+    let wide = (first_is g (goal.at.returns-clause-low g c).After-exponent_above).wide in
+    subst (λ (n : ℕ). 2 ^ 124 ≤ n) (sym (kept _ wide.high)) wide.low
+
+pub returns-clause-high : goal.returns-clause-high
+returns-clause-high g c =
+    let wide = (first_is g (goal.at.returns-clause-high g c).After-exponent_above).wide in
+    subst (λ (n : ℕ). n < 2 ^ 125) (sym (kept _ wide.high)) wide.high
+
+pub returns-clause-within : goal.returns-clause-within
+returns-clause-within g c =
+    let first = first_is g (goal.at.returns-clause-within g c).After-exponent_above in
+    rw first.word (logarithm_within (format_of g.S.Semantics) (quanta_of c.args.x) c.exponent_above.result
+    (ranges_of (constants_of g.S.Semantics) g.S.Semantics.lawful) c.requires.member.within first.log)
+
+pub returns-clause-first : goal.returns-clause-first
+returns-clause-first g c =
+    let first = first_is g (goal.at.returns-clause-first g c).After-exponent_above in
+    rw first.word first.log
+
+pub returns-clause-number : goal.returns-clause-number
+returns-clause-number g c =
+    let first = first_is g (goal.at.returns-clause-number g c).After-exponent_above in
+    rw first.word
+    (subst (λ (n : ℕ). IsNumberOf (format_of g.S.Semantics) (quanta_of c.args.x) n 31 c.exponent_above.result)
+    (sym (kept _ first.wide.high)) first.wide.number)

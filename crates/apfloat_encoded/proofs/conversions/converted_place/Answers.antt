@@ -1,9 +1,0 @@
-use Rattle.std.proofs.Common.{arith}
-use Rattle.std.proofs.lemmas.Int.{ints}
-use Rattle.apfloat_encoded.proofs.conversions.converted_place.Goals as goal
-
-pub returns : goal.returns
-returns g c =
-    let from = g.S.Flagged.lawful.parameters in
-    let to = g.T.Flagged.lawful.parameters in
-    omega (arith, ints, from, to, c.MIN_EXP.ensures, c.MIN_EXP-2.ensures, c.requires)

@@ -1,8 +1,0 @@
-use Rattle.std.proofs.Common.{arith}
-use Rattle.apfloat_encoded.proofs.Operands.{lower_fits}
-use Rattle.apfloat_encoded.proofs.products.lower_digits.Goals as goal
-
-pub overflow_cast-result : goal.overflow_cast-result
-overflow_cast-result c =
-    let room = lower_fits c.args.precision c.args.product c.requires in
-    rw c.power_of_two.ensures (omega (arith, room))

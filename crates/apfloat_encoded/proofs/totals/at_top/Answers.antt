@@ -1,9 +1,0 @@
-use Rattle.std.proofs.Common.{arith}
-use Rattle.std.proofs.Math.Nat.{mod-eq_of_lt}
-use Rattle.apfloat_rounding.proofs.OddCuts.{top_fits}
-use Rattle.apfloat_encoded.proofs.totals.at_top.Goals as goal
-
-pub returns : goal.returns
-returns c =
-    let f = top_fits 64 c.args.significand c.args.digits c.requires.word c.requires.fits in
-    mod-eq_of_lt (omega (arith, f))

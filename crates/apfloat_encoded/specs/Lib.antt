@@ -1,3 +1,0 @@
-pub mod Encoded
-pub mod Numbers
-pub mod Once

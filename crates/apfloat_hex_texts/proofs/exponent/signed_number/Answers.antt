@@ -1,5 +1,0 @@
-use Rattle.std.proofs.Common.{rules}
-use Rattle.apfloat_hex_texts.proofs.exponent.signed_number.Goals as goal
-
-pub returns-then-is_minus : goal.returns-then-is_minus
-returns-then-is_minus c = search rules steps 1000000

@@ -1,9 +1,0 @@
-use Rattle.std.proofs.Common.{length}
-use Rattle.apfloat_hex_texts.specs.Scans.{IsScan}
-use Rattle.apfloat_hex_texts.proofs.significand.scanned.Given as goal
-
-abbrev pub invariant-loop-left : goal.invariant-loop-left
-invariant-loop-left l = IsScan l.rest l.left l.scan
-
-abbrev pub decreases-loop-left : goal.decreases-loop-left
-decreases-loop-left l = length l.left

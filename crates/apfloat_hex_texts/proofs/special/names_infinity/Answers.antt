@@ -1,5 +1,0 @@
-use Rattle.std.proofs.Common.{rules}
-use Rattle.apfloat_hex_texts.proofs.special.names_infinity.Goals as goal
-
-pub returns-in-Plus : goal.returns-in-Plus
-returns-in-Plus c = search rules steps 1000000

@@ -1,5 +1,0 @@
-use Rattle.apfloat_odd.proofs.Rooms.{rooms}
-use Rattle.apfloat_odd.proofs.theorems.formats_have_room.Goals as goal
-
-pub returns : goal.returns
-returns c = rooms

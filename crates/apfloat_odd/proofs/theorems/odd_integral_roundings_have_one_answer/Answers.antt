@@ -1,5 +1,0 @@
-use Rattle.apfloat_odd.proofs.OddOnce.{odd_integral_once}
-use Rattle.apfloat_odd.proofs.theorems.odd_integral_roundings_have_one_answer.Goals as goal
-
-pub returns : goal.returns
-returns c = odd_integral_once

@@ -1,5 +1,0 @@
-use Rattle.apfloat_odd.proofs.OddOnce.{to_odd_once}
-use Rattle.apfloat_odd.proofs.theorems.odd_roundings_have_one_answer.Goals as goal
-
-pub returns : goal.returns
-returns c = to_odd_once

@@ -1,5 +1,0 @@
-use Rattle.apfloat_odd.proofs.OddOnce.{rounded_again_once}
-use Rattle.apfloat_odd.proofs.theorems.second_roundings_have_one_answer.Goals as goal
-
-pub returns : goal.returns
-returns c = rounded_again_once

@@ -1,5 +1,0 @@
-use Rattle.array_conversions.proofs.LittleEndian.{one_written}
-use Rattle.array_conversions.proofs.bytes.write_number.Goals as goal
-
-pub returns-in-1 : goal.returns-in-1
-returns-in-1 c = one_written c.args.bytes.now c.args.number c.in-1.is c.requires

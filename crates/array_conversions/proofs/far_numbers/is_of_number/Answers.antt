@@ -1,9 +1,0 @@
-use Rattle.std.proofs.Common.{arith}
-use Rattle.rustc_apfloat.specs.FlaggedTypes.{constants_of}
-use Rattle.apfloat_encoded.proofs.Reading.{few_bits}
-use Rattle.array_conversions.proofs.far_numbers.is_of_number.Goals as goal
-
-pub overflow_shl-result : goal.overflow_shl-result
-overflow_shl-result g c =
-    let few = few_bits (constants_of g.S.Flagged) g.S.Flagged.lawful c.requires.bits in
-    omega (arith, few, c.EXP_BITS.ensures)

@@ -1,8 +1,0 @@
-use Rattle.std.specs.Prelude.{ℕ, ◌*◌, ◌%◌, ◌^◌, ◌<◌, IsTrue}
-use Rattle.array_conversions.specs.Blocks.{value_at}
-use Rattle.array_conversions.specs.Bytes.{number_of}
-use Rattle.array_conversions.proofs.specials.are_numbers.Given as goal
-
-abbrev pub invariant-loop-index : goal.invariant-loop-index
-invariant-loop-index l =
-    IsTrue l.numbers → (k : ℕ) → k < l.index → number_of (value_at 4 k l.bytes) % 2 ^ 31 < 255 * 2 ^ 23

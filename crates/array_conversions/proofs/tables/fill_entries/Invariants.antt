@@ -1,7 +1,0 @@
-use Rattle.rustc_apfloat.specs.FlaggedTypes.{constants_of}
-use Rattle.array_conversions.specs.Tables.{AreConversions}
-use Rattle.array_conversions.proofs.tables.fill_entries.Given as goal
-
-abbrev pub invariant-loop-place : goal.invariant-loop-place
-invariant-loop-place g l =
-    AreConversions l.overflow (constants_of g.S.Flagged) (constants_of g.T.Flagged) l.round l.place l.table

@@ -1,6 +1,0 @@
-use Rattle.array_conversions.proofs.WidthBounds.{width_room}
-use Rattle.array_conversions.proofs.widths.width.Goals as goal
-
-pub returns : goal.returns
-returns c = let room = width_room c.args.format c.args.extended in
-    record { is = c.run.ensures; least = rw c.run.ensures room.least; greatest = rw c.run.ensures room.greatest }

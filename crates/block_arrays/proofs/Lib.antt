@@ -1,6 +1,0 @@
-mod Fitting
-mod Listed
-mod Made
-mod Scaled
-pub mod FormatLaws
-pub mod OneArray

@@ -1,9 +1,0 @@
-use Rattle.rustc_apfloat.specs.FlaggedTypes.{constants_of}
-use Rattle.block_arrays.proofs.Scaled.{AreScaled}
-use Rattle.block_arrays.proofs.dequantizing.ScaledCallWritesInFormat.write_in_format.Given as goal
-
--- the values before the index
-abbrev pub invariant-loop-index : goal.invariant-loop-index
-invariant-loop-index g l =
-    AreScaled l.self.dequantization (constants_of g.T.Flagged) l.self.width l.self.scales.now l.self.codes.now l.index
-    l.bytes l.counts

@@ -1,7 +1,0 @@
-use Rattle.std.proofs.Common.{length}
-use Rattle.array_conversions.proofs.LittleEndian.{fits}
-use Rattle.block_arrays.proofs.dequantizing.write_scaled.Goals as goal
-
-pub write_number-requires : goal.write_number-requires
-write_number-requires g c = fits c.to_bits.result _ (length c.args.bytes.now) c.to_bits.ensures.written.below
-    c.requires.bytes

@@ -1,8 +1,0 @@
-use Rattle.std.proofs.Common.{◌≡◌, length}
-use Rattle.block_arrays.proofs.Made.{AreMade}
-use Rattle.block_arrays.proofs.quantizing.Quantization.quantize_each.Given as goal
-
--- the blocks before the index
-abbrev pub invariant-loop-index : goal.invariant-loop-index
-invariant-loop-index l =
-    (length l.scales ≡ l.blocks) × AreMade l.self l.values l.index l.scales l.codes l.counts

@@ -1,0 +1,31 @@
+//! Custom formats, declared as a user would declare them: each gives its constants and proves its law in one line.
+//!
+//! Rows of test vectors name them (`check_vectors`), and tests use them at the limits of the law (`tests::conformance`).
+
+mod broad;
+mod deep;
+mod fused_limit;
+mod half_tiny_before;
+mod least;
+mod least_finite;
+mod precise;
+mod seven;
+mod ten;
+mod vast;
+mod written_bit;
+mod x87_double;
+mod x87_single;
+
+pub use broad::{Broad, BroadS};
+pub use deep::{Deep, DeepS};
+pub use fused_limit::{FusedLimit, FusedLimitS};
+pub use half_tiny_before::HalfTinyBeforeS;
+pub use least::{Least, LeastS};
+pub use least_finite::{LeastFinite, LeastFiniteS};
+pub use precise::{Precise, PreciseS};
+pub use seven::{Seven, SevenS};
+pub use ten::{Ten, TenS};
+pub use vast::{Vast, VastS};
+pub use written_bit::{WrittenBit, WrittenBitS};
+pub use x87_double::X87DoubleS;
+pub use x87_single::X87SingleS;

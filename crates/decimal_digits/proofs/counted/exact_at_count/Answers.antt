@@ -1,6 +1,0 @@
-use Rattle.decimal_digits.proofs.DigitPlaces.{exact_at}
-use Rattle.decimal_digits.proofs.counted.exact_at_count.Goals as goal
-
-pub returns : goal.returns
-returns c = λ f mode negative quanta count digits exponent exact x y.
-    exact_at f mode negative quanta count digits exponent exact x y

@@ -1,0 +1,10 @@
+use Rattle.std.proofs.Common.{arith}
+use Rattle.std.proofs.Math.Nat.{mod-eq_of_lt}
+use Rattle.apfloat_words.proofs.OddTotals.{moved_fits}
+use Rattle.fast_bits.proofs.sums.moved_up.Goals as goal
+
+pub returns : goal.returns
+returns c =
+    let short = c.requires.short in
+    let fits = moved_fits c.args.significand c.args.precision 62 (omega (arith, short)) c.requires.fits in
+    mod-eq_of_lt (omega (arith, fits))

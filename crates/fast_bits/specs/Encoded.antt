@@ -1,0 +1,42 @@
+-- Results from encodings to encodings.
+use Rattle.std.specs.Prelude.{◌≡◌, ℕ, ◌*◌, ◌^◌, ◌<◌, Bool, false}
+use Rattle.apfloat_model.specs.bits.Layout.{IsEncodedBy, datum_of}
+use Rattle.apfloat_model.specs.formats.Datum.{Datum, finite}
+use Rattle.apfloat_model.specs.formats.Lawful.{Constants, format_with, layout_with}
+use Rattle.apfloat_model.specs.declared.kinds.Round.{Round}
+use Rattle.apfloat_model.specs.order.Classes.{is_nan}
+use Rattle.apfloat_model.specs.rounding.Flags.{bits_of}
+use Rattle.apfloat_model.specs.rounding.Rounding.{IsDelivered}
+use Rattle.fast_bits.specs.declared.encoded.Encoded.{Encoded}
+
+-- the value that bits encode
+abbrev pub value_in : Constants → ℕ → Datum
+value_in c bits = datum_of (format_with c) (layout_with c) bits
+
+-- the bits are the canonical encoding of a value that, with the flags, satisfies the relation
+pub record IsEncodedAnswer (c : Constants) (Says : Datum → ℕ → Type 0) (answer : Encoded) : Type 0 where
+  pub value : Datum
+  pub says : Says value (bits_of answer.status)
+  pub is_encoded : IsEncodedBy (format_with c) (layout_with c) answer.bits value
+
+-- an encoded answer that is not a NaN
+pub record IsNumberAnswer (c : Constants) (Says : Datum → ℕ → Type 0) (answer : Encoded) : Type 0 where
+  pub is_answer : IsEncodedAnswer c Says answer
+  pub is_number : is_nan (value_in c answer.bits) ≡ false
+
+-- the bits are the encoding of the number that amount / parts quanta with that sign are rounded to
+pub record IsEncodedNumber (c : Constants) (mode : Round) (negative : Bool) (amount parts : ℕ) (answer : Encoded)
+    : Type 0 where
+  pub quanta : ℕ
+  pub is_delivered : IsDelivered (format_with c) mode negative amount parts (finite negative quanta)
+      (bits_of answer.status)
+  pub is_encoded : IsEncodedBy (format_with c) (layout_with c) answer.bits (finite negative quanta)
+
+-- the bits of the format c encode a nonzero number, whose conversion to the format d is encoded
+pub record IsConvertedNumber (c d : Constants) (mode : Round) (bits : ℕ) (answer : Encoded) : Type 0 where
+  pub negative : Bool
+  pub quanta : ℕ
+  pub read : value_in c bits ≡ finite negative quanta
+  pub some : 0 < quanta
+  pub number : IsEncodedNumber d mode negative (quanta * 2 ^ (format_with d).scale) (2 ^ (format_with c).scale)
+      answer

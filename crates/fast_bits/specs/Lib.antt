@@ -1,0 +1,4 @@
+pub mod Encoded
+pub mod Numbers
+pub mod Once
+pub mod lanes

@@ -1,0 +1,131 @@
+//! The constants by which numbers of one sign are rounded and delivered.
+
+ghost use Rattle.std.specs.Prelude.{◌≡◌, ℕ, ◌+◌, ◌-◌, ◌*◌, ◌^◌, ◌<◌, ◌≤◌, ◌↔◌, Bool, true, false, if◌then◌else◌, IsTrue};
+ghost use Rattle.apfloat_model.specs.declared.kinds.Round.{Round as Mode};
+ghost use Rattle.apfloat_model.specs.rounding.Rounding.{leads_out};
+ghost use Rattle.fast_bits.specs.lanes.At.{format_at, layout_at};
+ghost use Rattle.fast_bits.specs.lanes.Sides.{IsAddendOf, IsSideOf, LeadsPast};
+ghost use Rattle.fast_bits.specs.lanes.Targets.{IsShort};
+
+use crate::lanes::constants::{Addend, Side, Target};
+use crate::lanes::plans::{Plan, ShortPlan};
+use crate::lanes::targets::largest_code;
+use apfloat_model::Round;
+
+/// Whether the mode delivers what is past the largest value for numbers of this sign that are.
+#[inline(always)]
+fn leads_past(round: Round, negative: bool) -> bool
+    ensures { result ≡ leads_out round negative }
+{
+    match round {
+        Round::TowardPositive => !negative,
+        Round::TowardNegative => negative,
+        Round::NearestTiesToEven => true,
+        Round::NearestTiesToAway => true,
+        Round::TowardZero => false,
+    }
+}
+
+/// What a directed mode adds, if it rounds away from zero or toward it.
+#[inline(always)]
+fn directed(half: u32, away: bool) -> Addend
+    requires some { 1 ≤ half }
+    requires most { half ≤ 2 ^ 15 }
+    ensures always { result.always ≡ (if away then 2 * half - 1 else 0) }
+    ensures if_odd { result.if_odd ≡ 0 }
+{
+    Addend {
+        always: if away { 2 * half - 1 } else { 0 },
+        if_odd: 0,
+    }
+}
+
+/// What is added to numbers of this sign, with `low` digits below the last kept one.
+#[inline(always)]
+fn addend_of(low: u32, round: Round, negative: bool) -> Addend
+    requires some { 1 ≤ low }
+    requires most { low ≤ 16 }
+    ensures rounds { IsAddendOf low round negative result }
+    ensures below { low ≤ 15 → result.always < 2 ^ 15 }
+{
+    let half = 1 << (low - 1);
+    match round {
+        Round::NearestTiesToEven => Addend {
+            always: half - 1,
+            if_odd: 1,
+        },
+        Round::NearestTiesToAway => Addend {
+            always: half,
+            if_odd: 0,
+        },
+        Round::TowardZero => directed(half, false),
+        Round::TowardPositive => directed(half, !negative),
+        Round::TowardNegative => directed(half, negative),
+    }
+}
+
+/// What the mode does with numbers of this sign, with `low` digits below the last kept one.
+#[inline(always)]
+fn side_of(low: u32, target: Target, saturates: bool, round: Round, negative: bool) -> Side
+    requires some { 1 ≤ low }
+    requires most { low ≤ 16 }
+    ensures side { IsSideOf low saturates (format_at target) round negative result }
+    ensures below { low ≤ 15 → result.addend.always < 2 ^ 15 }
+{
+    let past = leads_past(round, negative);
+    let largest = largest_code(target);
+    Side {
+        addend: addend_of(low, round, negative),
+        greatest: if past & !saturates {
+            largest + 1
+        } else {
+            largest
+        },
+        raises: target.ieee_flags | past,
+    }
+}
+
+/// What is done with each number. If a conversion saturates, the largest value stands for what is past it.
+#[inline(always)]
+pub fn plan_of(target: Target, saturates: bool, round: Round) -> Plan
+    ensures target { result.target ≡ target }
+    ensures saturates { result.saturates ≡ saturates }
+    ensures round { result.round ≡ round }
+{
+    Plan {
+        target,
+        saturates,
+        round,
+        positive: side_of(16, target, saturates, round, false),
+        negative: side_of(16, target, saturates, round, true),
+    }
+}
+
+/// The same for a format of at most eight bits.
+#[inline(always)]
+pub fn short_plan_of(target: Target, saturates: bool, round: Round) -> ShortPlan
+    requires short { IsShort (layout_at target) target.precision target.min_exp }
+    ensures target { result.target ≡ target }
+    ensures saturates { result.saturates ≡ saturates }
+    ensures round { result.round ≡ round }
+{
+    let low = 15 - target.precision;
+    ShortPlan {
+        target,
+        saturates,
+        round,
+        positive: side_of(low, target, saturates, round, false),
+        negative: side_of(low, target, saturates, round, true),
+    }
+}
+
+/// Whether numbers of either sign past the largest value become what is past it.
+#[inline(always)]
+pub fn delivers_past(target: Target, positive: Side, negative: Side) -> bool
+    ensures { (low : ℕ) (saturates : Bool) (mode : Mode)
+        → IsSideOf low saturates (format_at target) mode false positive
+        → IsSideOf low saturates (format_at target) mode true negative
+        → IsTrue result ↔ LeadsPast saturates mode }
+{
+    (positive.greatest > largest_code(target)) & (negative.greatest > largest_code(target))
+}

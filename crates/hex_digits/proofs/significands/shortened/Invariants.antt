@@ -1,8 +1,0 @@
-use Rattle.hex_digits.proofs.AlignedDigits.{IsShortening}
-use Rattle.hex_digits.proofs.significands.shortened.Given as goal
-
-abbrev pub invariant-loop-places : goal.invariant-loop-places
-invariant-loop-places l = IsShortening l.fraction l.places l.digits
-
-abbrev pub decreases-loop-places : goal.decreases-loop-places
-decreases-loop-places l = l.places

@@ -1,0 +1,11 @@
+pub mod OneAnswer
+pub mod TotalOrderLaws
+pub mod Truncated
+pub mod ZerosOrdered
+pub mod OneFormat
+pub mod QuietNans
+pub mod Logarithms
+pub mod IntegralOnce
+pub mod WithoutInexact
+pub mod RaisedFlags
+pub mod augmented_lemmas

@@ -1,0 +1,190 @@
+-- Augmented sums of two numbers, in each of the four cases of `ordered_sum`.
+use Rattle.std.proofs.Common.{◌≡◌, ℕ, ◌+◌, ◌-◌, ◌^◌, ◌<◌, ◌≤◌, true, false, sym, ap, ◌∙◌, subst, ⊎_elim, arith, FitsSigned, to_z, of_z}
+use Rattle.std.specs.Prelude.{ℤ, pos, ◌+ℤ◌, ◌-ℤ◌}
+use Rattle.std.specs.Int.{w32}
+use Rattle.std.proofs.Math.Nat.{mul-pos}
+use Rattle.std.proofs.lemmas.Bool.{cases_lt}
+use Rattle.std.proofs.lemmas.Int.{ints, to_z-of_z}
+use Rattle.std.proofs.lemmas.Nat.{pow_pos}
+use Rattle.apfloat_model.specs.declared.kinds.Round.TheVariants.{NearestTiesToEven, TowardZero}
+use Rattle.apfloat_model.specs.formats.Format.{Format, largest}
+use Rattle.apfloat_model.specs.formats.Datum.{Datum, finite}
+use Rattle.apfloat_model.specs.rounding.Rounding.{signed_quanta, ok_bits, overflow_bit, inexact_bit}
+use Rattle.apfloat_model.specs.rounding.Negation.{negated}
+use Rattle.apfloat_model.specs.arithmetic.Exact.{magnitude, signed, sign_of, IsRounded}
+use Rattle.apfloat_model.specs.arithmetic.Signs.{abs}
+use Rattle.apfloat_model.specs.arithmetic.Sums.{IsSum, zero_sum_sign}
+use Rattle.apfloat_model.specs.order.Classes.{is_finite, is_negative}
+use Rattle.apfloat_model.specs.order.Order.{number, is_equal}
+use Rattle.apfloat_model.proofs.formats.Greatest.{greatest_some}
+use Rattle.apfloat_model.proofs.rounding.Deliveries.{signed_some}
+use Rattle.apfloat_pair_theory.proofs.numbers.Signed.{on_grid_as}
+use Rattle.ieee_operations.specs.augmented.TiesToZero.{IsTiesToZeroPick}
+use Rattle.ieee_operations.specs.augmented.Augmented.{IsAugmentedSum}
+use Rattle.ieee_operations.specs.augmented.Numbers.{HasNumber, IsNumberIn, IsNearestTo, with_sign}
+use Rattle.ieee_operations.proofs.augmented_lemmas.Cases.{sum_of_numbers}
+use Rattle.ieee_operations.proofs.augmented_lemmas.Heads.{half_unit, largest_on_grid, with_tail_is, past_largest_is, picks_of, near_is_nearest, pick_is_nearest, tie_is, no_tie_is, at_half, beyond, past_pick, short_is_largest, half_left, no_half_left}
+use Rattle.ieee_operations.proofs.augmented_lemmas.Numbers.{signed_number, within_is, past_is, short_is, past_without, sum_rounded, quanta_in}
+use Rattle.ieee_operations.proofs.augmented_lemmas.Rests.{as_nearest, rest_in_format}
+
+pub largest_some : (f : Format) → 3 ≤ f.precision → 0 < largest f
+largest_some f h = mul-pos (greatest_some f.nonfinite f.precision h) (pow_pos f.span)
+
+-- the sum toward zero is a number of the format
+pub short_in : (f : Format) → 3 ≤ f.precision → (x y short : Datum) (j : ℕ) → IsNumberIn f x → IsNumberIn f y
+    → IsSum f TowardZero x y short j → IsNumberIn f short
+short_in f h x y short j nx ny sum =
+    let v = number x +ℤ number y in
+    let of_zero = zero_sum_sign NearestTiesToEven (is_negative x) (is_negative y) in
+    let s = sign_of of_zero v in
+    let r : IsRounded f TowardZero of_zero v 1 short j =
+    sum_rounded f TowardZero x y short j nx.is_finite ny.is_finite sum in
+    ⊎_elim
+    (λ (q : largest f < r.pick).
+    quanta_in f s (largest f) short (largest_on_grid f) (omega arith)
+    (r.value_is ∙ short_is f s r.pick q ∙ sym (signed_some f.nonfinite s (largest f) (largest_some f h))))
+    (λ (q : r.pick ≤ largest f).
+    quanta_in f s r.pick short (on_grid_as (sym r.is_pick.is) r.is_pick.is_below.on_grid) q
+    (r.value_is ∙ within_is f TowardZero s r.pick q))
+    (cases_lt (largest f) r.pick)
+
+-- a head within the largest value and what it leaves are the two results
+finish : (f : Format) → 3 ≤ f.precision → (x y : Datum) → IsNumberIn f x → IsNumberIn f y → (p : ℕ)
+    → IsTiesToZeroPick f.precision (magnitude (number x +ℤ number y)) 1 p → p ≤ largest f
+    → (value rest head tail : Datum) (status : ℕ)
+    → value ≡ signed_quanta f.nonfinite
+    (sign_of (zero_sum_sign NearestTiesToEven (is_negative x) (is_negative y)) (number x +ℤ number y)) p
+    → HasNumber ((number x +ℤ number y) -ℤ number value) rest
+    → head ≡ value → tail ≡ with_sign f value rest → status ≡ ok_bits → IsAugmentedSum f x y head tail status
+finish f h x y nx ny p t l value rest head tail status e r hd tl o =
+    let v = number x +ℤ number y in
+    let of_zero = zero_sum_sign NearestTiesToEven (is_negative x) (is_negative y) in
+    let s = sign_of of_zero v in
+    let k = signed_number f.nonfinite s p in
+    let n : number value ≡ signed s p = ap number e ∙ k.number_is in
+    let g = rest_in_format f h (number x) (number y) (signed s p) nx.on_grid ny.on_grid ny.within
+    (as_nearest f.precision v (signed s p) (pick_is_nearest f of_zero v p t)) in
+    let r' : HasNumber (v -ℤ signed s p) rest = subst (λ (z : ℤ). HasNumber (v -ℤ z) rest) n r in
+    sum_of_numbers f x y head tail status nx.is_finite ny.is_finite
+    (with_tail_is f of_zero v p head rest tail status t l (hd ∙ e) g.on_grid r'
+    (tl ∙ ap (λ (d : Datum). with_sign f d rest) (sym hd)) o)
+
+-- the sum toward zero is the head: it leaves exactly the opposite of what the sum to nearest leaves
+pub head_is_short : (f : Format) → 3 ≤ f.precision → (x y near short rest left other : Datum) (i j rest_status : ℕ)
+    → IsNumberIn f x → IsNumberIn f y → IsSum f NearestTiesToEven x y near i → IsSum f TowardZero x y short j
+    → IsNumberIn f near
+    → (rest_status ≡ ok_bits → HasNumber ((number x +ℤ number y) -ℤ number near) rest)
+    → (IsNearestTo f.precision (number x +ℤ number y) (number near) → rest_status ≡ ok_bits)
+    → HasNumber ((number x +ℤ number y) -ℤ number short) left → other ≡ negated f.nonfinite rest
+    → is_equal left other ≡ true → (head tail : Datum) (status : ℕ) → head ≡ short → tail ≡ with_sign f short left
+    → status ≡ ok_bits → IsAugmentedSum f x y head tail status
+head_is_short f h x y near short rest left other i j rest_status nx ny sum shorter nn exact nearest l o e head tail
+    status hd tl ok =
+    let v = number x +ℤ number y in
+    let of_zero = zero_sum_sign NearestTiesToEven (is_negative x) (is_negative y) in
+    let n = sum_rounded f NearestTiesToEven x y near i nx.is_finite ny.is_finite sum in
+    let t = sum_rounded f TowardZero x y short j nx.is_finite ny.is_finite shorter in
+    let a = picks_of f of_zero v near short i j n t nn.is_finite in
+    let r = exact (nearest (near_is_nearest f of_zero v near short a)) in
+    let p = tie_is f of_zero v near short rest left a r l
+    (subst (λ (d : Datum). is_equal left d ≡ true) o e) in
+    finish f h x y nx ny a.lower p a.lower_within short left head tail status a.short_is l hd tl ok
+
+-- the sum to nearest is the head
+pub head_is_near : (f : Format) → 3 ≤ f.precision → (x y near short rest left other : Datum)
+    (i j rest_status left_status : ℕ)
+    → IsNumberIn f x → IsNumberIn f y → IsSum f NearestTiesToEven x y near i → IsSum f TowardZero x y short j
+    → IsNumberIn f near
+    → (rest_status ≡ ok_bits → HasNumber ((number x +ℤ number y) -ℤ number near) rest)
+    → (IsNearestTo f.precision (number x +ℤ number y) (number near) → rest_status ≡ ok_bits)
+    → (left_status ≡ ok_bits → HasNumber ((number x +ℤ number y) -ℤ number short) left)
+    → (IsNearestTo f.precision (number x +ℤ number y) (number short) → left_status ≡ ok_bits)
+    → other ≡ negated f.nonfinite rest → (left_status ≡ ok_bits → is_equal left other ≡ false)
+    → (head tail : Datum) (status : ℕ) → head ≡ near → tail ≡ with_sign f near rest
+    → status ≡ ok_bits → IsAugmentedSum f x y head tail status
+head_is_near f h x y near short rest left other i j rest_status left_status nx ny sum shorter nn exact nearest
+    left_exact left_nearest o differs head tail status hd tl ok =
+    let v = number x +ℤ number y in
+    let of_zero = zero_sum_sign NearestTiesToEven (is_negative x) (is_negative y) in
+    let n = sum_rounded f NearestTiesToEven x y near i nx.is_finite ny.is_finite sum in
+    let t = sum_rounded f TowardZero x y short j nx.is_finite ny.is_finite shorter in
+    let a = picks_of f of_zero v near short i j n t nn.is_finite in
+    let r = exact (nearest (near_is_nearest f of_zero v near short a)) in
+    let p = no_tie_is f of_zero v near short rest left left_status a r left_exact left_nearest
+    (λ k. subst (λ (d : Datum). is_equal left d ≡ false) o (differs k)) in
+    finish f h x y nx ny a.even p a.even_within near rest head tail status a.near_is r hd tl ok
+
+-- the largest value is the head: the sum is halfway past it
+pub head_is_largest : (f : Format) → 3 ≤ f.precision → 1 ≤ f.span → (x y near short left magnitude_of_left unit : Datum)
+    (i j : ℕ)
+    → IsNumberIn f x → IsNumberIn f y → IsSum f NearestTiesToEven x y near i → IsSum f TowardZero x y short j
+    → is_finite near ≡ false
+    → HasNumber ((number x +ℤ number y) -ℤ number short) left → magnitude_of_left ≡ abs f left
+    → unit ≡ finite false (half_unit f) → is_equal magnitude_of_left unit ≡ true
+    → (head tail : Datum) (status : ℕ) → head ≡ short → tail ≡ with_sign f short left
+    → status ≡ ok_bits → IsAugmentedSum f x y head tail status
+head_is_largest f h k x y near short left magnitude_of_left unit i j nx ny sum shorter nn l m u e head tail status hd
+    tl ok =
+    let v = number x +ℤ number y in
+    let of_zero = zero_sum_sign NearestTiesToEven (is_negative x) (is_negative y) in
+    let s = sign_of of_zero v in
+    let n = sum_rounded f NearestTiesToEven x y near i nx.is_finite ny.is_finite sum in
+    let t : IsRounded f TowardZero of_zero v 1 short j =
+    sum_rounded f TowardZero x y short j nx.is_finite ny.is_finite shorter in
+    let past = past_without f s n.pick near nn n.value_is in
+    let is = short_is_largest f h of_zero v n.pick short j past n.is_pick t in
+    let l' : HasNumber (v -ℤ signed s (largest f)) left =
+    subst (λ (d : Datum). HasNumber (v -ℤ number d) left) is l in
+    let w = half_left f of_zero v left unit l' u (beyond f s (magnitude v) n.pick past n.is_pick)
+    (subst (λ (d : Datum). is_equal d unit ≡ true) m e) in
+    finish f h x y nx ny (largest f) (at_half f h k (magnitude v) w) (omega arith) short left head tail status
+    (is ∙ sym (signed_some f.nonfinite s (largest f) (largest_some f h))) l hd tl ok
+
+-- the head is past the largest value
+pub head_is_past : (f : Format) → 3 ≤ f.precision → 1 ≤ f.span → (x y near short left magnitude_of_left unit : Datum)
+    (i j left_status : ℕ)
+    → IsNumberIn f x → IsNumberIn f y → IsSum f NearestTiesToEven x y near i → IsSum f TowardZero x y short j
+    → is_finite near ≡ false
+    → (left_status ≡ ok_bits → HasNumber ((number x +ℤ number y) -ℤ number short) left)
+    → (IsNearestTo f.precision (number x +ℤ number y) (number short) → left_status ≡ ok_bits)
+    → magnitude_of_left ≡ abs f left → unit ≡ finite false (half_unit f)
+    → (left_status ≡ ok_bits → is_equal magnitude_of_left unit ≡ false)
+    → (head tail : Datum) (status : ℕ) → head ≡ near → tail ≡ near
+    → status ≡ overflow_bit + inexact_bit → IsAugmentedSum f x y head tail status
+head_is_past f h k x y near short left magnitude_of_left unit i j left_status nx ny sum shorter nn exact nearest m u
+    differs head tail status hd tl ok =
+    let v = number x +ℤ number y in
+    let of_zero = zero_sum_sign NearestTiesToEven (is_negative x) (is_negative y) in
+    let s = sign_of of_zero v in
+    let n = sum_rounded f NearestTiesToEven x y near i nx.is_finite ny.is_finite sum in
+    let t : IsRounded f TowardZero of_zero v 1 short j =
+    sum_rounded f TowardZero x y short j nx.is_finite ny.is_finite shorter in
+    let past = past_without f s n.pick near nn n.value_is in
+    let is = short_is_largest f h of_zero v n.pick short j past n.is_pick t in
+    let number_is : number short ≡ signed s (largest f) = ap number is in
+    let p = past_pick f h k s (magnitude v) n.pick past n.is_pick
+    (no_half_left f h k of_zero v left unit left_status u
+    (λ o. subst (λ (z : ℤ). HasNumber (v -ℤ z) left) number_is (exact o))
+    (λ q. nearest (subst (λ (z : ℤ). IsNearestTo f.precision v z) (sym number_is) q))
+    (λ o. subst (λ (d : Datum). is_equal d unit ≡ false) m (differs o))) in
+    sum_of_numbers f x y head tail status nx.is_finite ny.is_finite
+    (past_largest_is f of_zero v p.pick head tail status p.is_pick p.past (hd ∙ n.value_is ∙ past_is f s n.pick past)
+    (tl ∙ sym hd) ok)
+
+-- ---- how far the smallest value is moved to half a unit in the last place of the largest one
+
+small_fits : (n : ℕ) → n ≤ 2 ^ 21 → FitsSigned w32 (pos n)
+small_fits n h = record { sfits = omega (arith, h) }
+
+pub places_is : (max min : ℤ) (span : ℕ) → FitsSigned w32 max → FitsSigned w32 min → (max -ℤ min) ≡ pos span → 1 ≤ span
+    → span ≤ 2 ^ 21
+    → to_z w32 (of_z w32 (to_z w32 (of_z w32 (to_z w32 (of_z w32 max) -ℤ to_z w32 (of_z w32 min))) -ℤ pos 1))
+    ≡ pos (span - 1)
+places_is max min span a b e k l =
+    let d : (to_z w32 (of_z w32 max) -ℤ to_z w32 (of_z w32 min)) ≡ pos span =
+    ap (λ (z : ℤ). z -ℤ to_z w32 (of_z w32 min)) (to_z-of_z w32 max a)
+    ∙ ap (λ (z : ℤ). max -ℤ z) (to_z-of_z w32 min b) ∙ e in
+    let first = ap (λ (z : ℤ). to_z w32 (of_z w32 z)) d ∙ to_z-of_z w32 (pos span) (small_fits span l) in
+    let less : (pos span -ℤ pos 1) ≡ pos (span - 1) = omega (arith, ints, k) in
+    ap (λ (z : ℤ). to_z w32 (of_z w32 z)) (ap (λ (z : ℤ). z -ℤ pos 1) first ∙ less)
+    ∙ to_z-of_z w32 (pos (span - 1)) (small_fits (span - 1) (omega (arith, l)))

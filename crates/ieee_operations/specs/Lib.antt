@@ -1,0 +1,12 @@
+pub mod Relations
+pub mod Predicates
+pub mod Comparisons
+pub mod TwoFormats
+pub mod TotalOrder
+pub mod Classes
+pub mod StatusFlags
+pub mod Extrema
+pub mod Exponents
+pub mod WholeNumbers
+pub mod RaisedFlags
+pub mod augmented

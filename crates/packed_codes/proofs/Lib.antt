@@ -1,4 +1,0 @@
-mod Digits
-pub mod All
-mod Groups
-mod Once

@@ -1,9 +1,0 @@
-use Rattle.std.proofs.Common.{ℕ, ◌*◌, ◌^◌, ◌<◌, take}
-use Rattle.std.specs.Prelude.{All}
-use Rattle.packed_codes.proofs.Groups.{ArePackedTo}
-use Rattle.packed_codes.proofs.fours.unpack_fours.Given as goal
-
-abbrev pub invariant-loop-index : goal.invariant-loop-index
-invariant-loop-index l =
-    All (λ (code : ℕ). code < 2 ^ 4) (take (2 * l.index) l.codes)
-    × ArePackedTo 4 l.codes l.bytes (2 * l.index) l.index

@@ -1,9 +1,0 @@
-use Rattle.std.proofs.Common.{◌≡◌, ℕ, ◌*◌, ◌^◌, ◌<◌, length, take}
-use Rattle.std.specs.Prelude.{All}
-use Rattle.packed_codes.proofs.Groups.{ArePackedTo}
-use Rattle.packed_codes.proofs.sixes.unpack_sixes.Given as goal
-
-abbrev pub invariant-loop-index : goal.invariant-loop-index
-invariant-loop-index l =
-    (length l.codes ≡ 4 * l.groups) × All (λ (code : ℕ). code < 2 ^ 6) (take (4 * l.index) l.codes)
-    × ArePackedTo 6 l.codes l.bytes (4 * l.index) (3 * l.index)

@@ -1,0 +1,67 @@
+-- A fraction that agrees with a square root, where both are multiplied by a number, and how it is delivered.
+use Rattle.std.proofs.Common.{◌≡◌, ℕ, ◌*◌, ◌<◌, false, ap, subst, arith}
+use Rattle.std.proofs.Math.Nat.{mul-lt-mul_of_pos_right, mul-pos, lt_of_mul-lt-mul_right}
+use Rattle.apfloat_model.specs.declared.kinds.Round.{Round}
+use Rattle.apfloat_model.specs.formats.Format.{Format}
+use Rattle.apfloat_model.specs.formats.Datum.{Datum}
+use Rattle.apfloat_model.specs.rounding.Rounding.{IsDelivered}
+use Rattle.apfloat_model.proofs.rounding.Laws.{delivered_exists}
+use Rattle.apfloat_model.proofs.arithmetic.RootSides.{AgreesWithRoot}
+use Rattle.apfloat_arithmetic.specs.other_formats.RootsOf.{IsDeliveredRoot}
+use Rattle.apfloat_arithmetic.proofs.other_formats_lemmas.Once.{delivered_root_once}
+use Rattle.apfloat_arithmetic.proofs.other_formats_lemmas.RootDeliveries.{root_delivered}
+
+-- a fraction whose two numbers are multiplied by the same number agrees as before
+pub scaled_agrees : (square fine amount parts times : ℕ) → 0 < times → AgreesWithRoot square fine amount parts
+    → AgreesWithRoot square fine (amount * times) (parts * times)
+scaled_agrees square fine amount parts times p a = record {
+  some = mul-pos a.some p;
+  less = λ n h.
+      let k : n * parts < amount * fine = a.less n h in
+      let l : n * parts * times < amount * fine * times = mul-lt-mul_of_pos_right k p in
+      omega (arith, l);
+  same = λ n h.
+      let k : n * parts ≡ amount * fine = a.same n h in
+      let l : n * parts * times ≡ amount * fine * times = ap (λ (x : ℕ). x * times) k in
+      omega (arith, l);
+  more = λ n h.
+      let k : amount * fine < n * parts = a.more n h in
+      let l : amount * fine * times < n * parts * times = mul-lt-mul_of_pos_right k p in
+      omega (arith, l);
+}
+
+-- a fraction that agrees at finer multiples agrees, multiplied, with the root multiplied
+pub moved_agrees : (square fine times amount parts : ℕ) → AgreesWithRoot square (fine * times) amount parts
+    → AgreesWithRoot (square * (times * times)) fine (amount * times) parts
+moved_agrees square fine times amount parts a = record {
+  some = a.some;
+  less = λ n h.
+      let k : n * parts < amount * (fine * times) = a.less n (omega (arith, h)) in
+      omega (arith, k);
+  same = λ n h.
+      let k : n * parts ≡ amount * (fine * times) = a.same n (omega (arith, h)) in
+      omega (arith, k);
+  more = λ n h.
+      let k : amount * (fine * times) < n * parts = a.more n (omega (arith, h)) in
+      omega (arith, k);
+}
+
+-- a fraction that agrees with the root of a positive number is positive
+pub root_some : (square fine amount parts : ℕ) → 0 < square → 0 < fine → AgreesWithRoot square fine amount parts
+    → 0 < amount
+root_some square fine amount parts p q a =
+    let s : 0 < square * (fine * fine) = mul-pos p (mul-pos q q) in
+    let k : 0 * parts < amount * fine = a.less 0 (omega (arith, s)) in
+    lt_of_mul-lt-mul_right fine (omega (arith, k))
+
+-- as the root is delivered, so is a fraction that agrees with it at quarters
+pub fraction_delivered : (f : Format) (mode : Round) (square parts amount units : ℕ) (value : Datum) (status : ℕ)
+    → 0 < f.precision → 0 < parts → AgreesWithRoot square 4 amount units
+    → IsDeliveredRoot f mode square parts value status
+    → IsDelivered f mode false amount (units * parts) value status
+fraction_delivered f mode square parts amount units value status precise some agrees d =
+    let r = delivered_exists f mode false amount (units * parts) precise (mul-pos agrees.some some) in
+    let e = delivered_root_once f mode square parts r.0 value r.1.0 status
+    (root_delivered square parts amount units agrees f mode r.0 r.1.0 r.1.1) d in
+    subst (λ (v : Datum). IsDelivered f mode false amount (units * parts) v status) e.0
+    (subst (λ (s : ℕ). IsDelivered f mode false amount (units * parts) r.0 s) e.1 r.1.1)

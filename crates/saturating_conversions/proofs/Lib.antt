@@ -1,2 +1,0 @@
-mod FiniteValues
-mod Negations

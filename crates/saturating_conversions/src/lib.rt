@@ -1,6 +1,0 @@
-//! Conversions that saturate, from the result of a conversion that does not.
-#![tactic(auto)]
-
-mod saturation;
-
-pub use saturation::{FiniteNan, Overflow, ValueClass, convert_by, largest_of_sign, treat};

@@ -1,0 +1,82 @@
+-- What a code means, in another format.
+use Rattle.std.proofs.Common.{◌≡◌, ℕ, ◌-◌, ◌*◌, ◌/◌, ◌^◌, ◌<◌, Bool, false, not, eqb, sym, refl, ap, ◌∙◌, subst, arith}
+use Rattle.std.specs.Bool.{MatchBool}
+use Rattle.std.proofs.lemmas.Bool.{eq-eqb, ne_eqb}
+use Rattle.std.proofs.lemmas.Nat.{pow_pos}
+use Rattle.apfloat_model.specs.declared.kinds.NonfiniteBehavior.{NonfiniteBehavior}
+use Rattle.apfloat_model.specs.declared.kinds.NonfiniteBehavior.TheVariants.{IEEE754, NanOnly, NanNegativeZero}
+use Rattle.apfloat_model.specs.declared.kinds.Round.{Round}
+use Rattle.apfloat_model.specs.arithmetic.Conversions.{IsConversion, IsConvertedNumber, IsKept, converted_nan}
+use Rattle.apfloat_model.specs.arithmetic.Conversions.{loses_zero_sign}
+use Rattle.apfloat_model.specs.formats.Datum.{Datum, finite, nan}
+use Rattle.apfloat_model.specs.formats.Format.{Format}
+use Rattle.apfloat_model.specs.formats.Nan.{nan_sign, qnan, quiet_significand}
+use Rattle.apfloat_model.specs.rounding.Rounding.{IsDelivered, ok_bits, zero_sign}
+use Rattle.small_formats.specs.Codes.{datum_of, is_negative_code, magnitude_of, point}
+use Rattle.small_formats.specs.Scales.{scale_format, scale_of}
+use Rattle.small_formats.specs.Storage.{Constants, format_with}
+use Rattle.small_formats.proofs.CodesCompared.{not_below_number, zero_point}
+
+-- ---- elements
+
+pub zero_converted : (c : Constants) (g : Format) (mode : Round) (code : ℕ) (value : Datum) (status : ℕ)
+    (loses : Bool) → magnitude_of c code ≡ 0
+    → IsKept (finite (zero_sign g.nonfinite (is_negative_code c code)) 0)
+    (loses_zero_sign g (is_negative_code c code)) value status loses
+    → IsConversion (format_with c) g mode (datum_of c code) value status loses
+zero_converted c g mode code value status loses z h =
+    let n : ℕ = point c.precision (magnitude_of c code) in
+    let b : Bool = is_negative_code c code in
+    let at : n ≡ 0 = ap (λ (k : ℕ). point c.precision k) z ∙ zero_point c.precision in
+    subst (λ (t : Bool). MatchBool t
+    (IsKept (finite (zero_sign g.nonfinite b) 0) (loses_zero_sign g b) value status loses)
+    (IsConvertedNumber (format_with c) g mode b n value status loses)) (sym (eq-eqb n 0 at)) h
+
+pub number_converted : (c : Constants) (g : Format) (mode : Round) (code : ℕ) (value : Datum) (status : ℕ)
+    (loses : Bool) → 0 < c.precision → 0 < magnitude_of c code
+    → IsDelivered g mode (is_negative_code c code) (point c.precision (magnitude_of c code) * 2 ^ g.scale)
+    (2 ^ (format_with c).scale) value status → loses ≡ not (eqb status ok_bits)
+    → IsConversion (format_with c) g mode (datum_of c code) value status loses
+number_converted c g mode code value status loses some p h l =
+    let n : ℕ = point c.precision (magnitude_of c code) in
+    let b : Bool = is_negative_code c code in
+    let least = not_below_number c.precision (magnitude_of c code) some in
+    let off : eqb n 0 ≡ false = ne_eqb n 0 (λ e. omega (arith, e, least, p)) in
+    subst (λ (t : Bool). MatchBool t
+    (IsKept (finite (zero_sign g.nonfinite b) 0) (loses_zero_sign g b) value status loses)
+    (IsConvertedNumber (format_with c) g mode b n value status loses)) (sym off)
+    (record { is_delivered = h; loses_is = l })
+
+-- ---- scales
+
+no_sign : (kind : NonfiniteBehavior) → nan_sign kind false ≡ false
+no_sign IEEE754 = refl
+no_sign NanOnly = refl
+no_sign NanNegativeZero = refl
+
+nan_is : (g : Format) → qnan g 0 ≡ converted_nan scale_format g false 0
+nan_is g =
+    let none : 0 * 2 ^ (g.precision - 1) / 2 ^ 0 ≡ 0 = omega arith in
+    ap (λ (b : Bool). nan b (quiet_significand g 0)) (sym (no_sign g.nonfinite))
+    ∙ ap (λ (s : ℕ). nan (nan_sign g.nonfinite false) (quiet_significand g s)) (sym none)
+
+pub nan_scale_converted : (g : Format) (mode : Round) (code : ℕ) (value : Datum) (status : ℕ) (loses : Bool)
+    → code ≡ 255 → value ≡ qnan g 0 → status ≡ 0 → loses ≡ false
+    → IsConversion scale_format g mode (scale_of code) value status loses
+nan_scale_converted g mode code value status loses e v s l =
+    subst (λ (k : ℕ). IsConversion scale_format g mode (scale_of k) value status loses) (sym e)
+    (record { value_is = v ∙ nan_is g; status_is = s; loses_is = l })
+
+pub scale_converted : (g : Format) (mode : Round) (code : ℕ) (value : Datum) (status : ℕ) (loses : Bool)
+    → (code ≡ 255 → ⊥) → IsDelivered g mode false (2 ^ code * 2 ^ g.scale) (2 ^ 127) value status
+    → loses ≡ not (eqb status ok_bits) → IsConversion scale_format g mode (scale_of code) value status loses
+scale_converted g mode code value status loses n h l =
+    let number : scale_of code ≡ finite false (2 ^ code) =
+    let off : eqb code 255 ≡ false = ne_eqb code 255 n in rw off refl in
+    let some = pow_pos code in
+    let off : eqb (2 ^ code) 0 ≡ false = ne_eqb (2 ^ code) 0 (λ e. omega (arith, e, some)) in
+    subst (λ (x : Datum). IsConversion scale_format g mode x value status loses) (sym number)
+    (subst (λ (t : Bool). MatchBool t
+    (IsKept (finite (zero_sign g.nonfinite false) 0) (loses_zero_sign g false) value status loses)
+    (IsConvertedNumber scale_format g mode false (2 ^ code) value status loses)) (sym off)
+    (record { is_delivered = h; loses_is = l }))

@@ -1,0 +1,243 @@
+-- Conversions into storage formats have one answer.
+use Rattle.std.proofs.Common.{◌≡◌, ℕ, zero, suc, ◌+◌, ◌-◌, ◌*◌, ◌%◌, ◌^◌, ◌<◌, ◌≤◌, Bool, true, false, cond}
+use Rattle.std.proofs.Common.{not, eqb, leb}
+use Rattle.std.proofs.Common.{sym, refl, ap, ◌∙◌, subst, inl, inr, ⊎_elim, arith, lit≤}
+use Rattle.std.proofs.Math.Nat.{mul-le-mul_right, pow-le-pow_right, mod-eq_of_lt, add-mul-mod_self_right}
+use Rattle.std.proofs.lemmas.Bool.{cases_lt, le-leb, lt-leb, ne_eqb, MatchBool-at_false}
+use Rattle.std.proofs.lemmas.Nat.{pow_pos}
+use Rattle.apfloat_model.specs.declared.kinds.Round.{Round}
+use Rattle.apfloat_model.specs.formats.Datum.{Datum, finite, infinite, nan}
+use Rattle.apfloat_model.specs.formats.Format.{Format}
+use Rattle.apfloat_model.specs.order.Classes.{is_negative, quanta_of}
+use Rattle.apfloat_model.specs.rounding.Rounding.{delivered_status, ok_bits}
+use Rattle.apfloat_model.proofs.general.Powers.{two_pos, twice_half}
+use Rattle.apfloat_model.specs.arithmetic.Conversions.{IsConversion}
+use Rattle.apfloat_model.specs.bits.Interchange.{IsInterchange}
+use Rattle.apfloat_model.specs.bits.Layout.{IsEncodedBy}
+use Rattle.apfloat_model.proofs.Once.{conversion_once}
+use Rattle.apfloat_model.proofs.bits.EncodedOnce.{encoded_once}
+use Rattle.apfloat_model.proofs.rounding.Picks.{pick_unique}
+use Rattle.small_formats.specs.Codes.{datum_of}
+use Rattle.small_formats.specs.Conversions.{IsGiven, IsSaturated, IsStoredNumber, saturated_value}
+use Rattle.small_formats.specs.Laws.{IsIntoOnce, IsScaleOnce, IsUnsignedOnce}
+use Rattle.small_formats.specs.Scales.{IsCode, IsPickedScale, IsScaleOf}
+use Rattle.small_formats.specs.Scales.{delivered_code, picked_code, scale_format, scale_status}
+use Rattle.small_formats.specs.Storage.{Constants, IsLawful, format_with}
+use Rattle.small_formats.specs.Unsigned.{signed_format, signed_layout, unsigned_datum}
+use Rattle.small_formats.proofs.Points.{one_number}
+
+-- the same code, flags and loss
+abbrev pub AreSame : ℕ → ℕ → Bool → ℕ → ℕ → Bool → Type 0
+AreSame code status loses other flags lost = (code ≡ other) × (status ≡ flags) × (loses ≡ lost)
+
+-- ---- codes
+
+-- a code is its sign and its magnitude
+pub code_is : (half code : ℕ) → code < 2 * half → code ≡ cond (leb half code) half 0 + code % half
+code_is half code l =
+    ⊎_elim
+    (λ (k : code < half).
+    let test : leb half code ≡ false = lt-leb half code k in
+    let rest : code % half ≡ code = mod-eq_of_lt k in
+    rw (test, rest) (omega arith))
+    (λ (k : half ≤ code).
+    let test : leb half code ≡ true = le-leb half code k in
+    let t : ℕ = code - half in
+    let whole : code ≡ t + 1 * half = omega (arith, k) in
+    let below : t < half = omega (arith, whole, l) in
+    let rest : code % half ≡ t =
+    ap (λ (n : ℕ). n % half) whole ∙ add-mul-mod_self_right t 1 half ∙ mod-eq_of_lt below in
+    rw (test, rest) (omega (arith, whole)))
+    (cases_lt code half)
+
+-- no two codes mean one number
+pub code_once : (c : Constants) (code other : ℕ) (x : Datum) → IsLawful c → code < 2 ^ c.bits → other < 2 ^ c.bits
+    → datum_of c code ≡ x → datum_of c other ≡ x → code ≡ other
+code_once c code other x law l k e f =
+    let low = law.precision_low in
+    let above = law.exponent in
+    let half : ℕ = 2 ^ (c.bits - 1) in
+    let double : 2 * half ≡ 2 ^ c.bits = twice_half c.bits (omega (arith, above)) in
+    let same : datum_of c code ≡ datum_of c other = e ∙ sym f in
+    let sign : leb half code ≡ leb half other = ap is_negative same in
+    let rest : code % half ≡ other % half =
+    one_number c.precision (code % half) (other % half) (omega (arith, low)) (ap quanta_of same) in
+    code_is half code (omega (arith, l, double))
+    ∙ ap (λ (b : Bool). cond b half 0 + code % half) sign
+    ∙ ap (λ (n : ℕ). cond (leb half other) half 0 + n) rest
+    ∙ sym (code_is half other (omega (arith, k, double)))
+
+-- ---- conversions
+
+pub given_once : (c : Constants) (given : Datum) (bits : ℕ) (lossy : Bool) (code other status flags : ℕ)
+    (loses lost : Bool) → IsLawful c → code < 2 ^ c.bits → other < 2 ^ c.bits
+    → IsGiven c given bits lossy code status loses → IsGiven c given bits lossy other flags lost
+    → AreSame code status loses other flags lost
+given_once c given bits lossy code other status flags loses lost law l k x y = (
+  code_once c code other given law l k x.value_is y.value_is,
+  x.status_is ∙ sym y.status_is,
+  x.loses_is ∙ sym y.loses_is,
+)
+
+-- a number that is rounded once
+pub saturated_once : (c : Constants) (mode : Round) (b : Bool) (amount parts code other status flags : ℕ)
+    → IsLawful c → code < 2 ^ c.bits → other < 2 ^ c.bits → IsSaturated c mode b amount parts code status
+    → IsSaturated c mode b amount parts other flags → (code ≡ other) × (status ≡ flags)
+saturated_once c mode b amount parts code other status flags law l k v w =
+    let same : v.pick ≡ w.pick = pick_unique c.precision mode b amount parts v.pick w.pick v.is_pick w.is_pick in (
+      code_once c code other (saturated_value (format_with c) b w.pick) law l k
+          (v.value_is ∙ ap (λ (p : ℕ). saturated_value (format_with c) b p) same) w.value_is,
+      v.status_is ∙ ap (λ (p : ℕ). delivered_status (format_with c) mode b amount parts p) same ∙ sym w.status_is,
+    )
+
+number_once : (c : Constants) (f : Format) (mode : Round) (b : Bool) (n code other status flags : ℕ)
+    (loses lost : Bool) → IsLawful c → code < 2 ^ c.bits → other < 2 ^ c.bits
+    → IsStoredNumber c f mode b n code status loses → IsStoredNumber c f mode b n other flags lost
+    → AreSame code status loses other flags lost
+number_once c f mode b n code other status flags loses lost law l k x y =
+    let same =
+    saturated_once c mode b (n * 2 ^ (format_with c).scale) (2 ^ f.scale) code other status flags law l k x.is_rounded
+    y.is_rounded in (
+      same.0,
+      same.1,
+      x.loses_is ∙ ap (λ (s : ℕ). not (eqb s ok_bits)) same.1 ∙ sym y.loses_is,
+    )
+
+pub into_once : IsIntoOnce
+into_once c f mode (nan b s) code other status flags loses lost law l k x y =
+    given_once c _ _ _ code other status flags loses lost law l k x y
+into_once c f mode (infinite b) code other status flags loses lost law l k x y =
+    given_once c _ _ _ code other status flags loses lost law l k x y
+into_once c f mode (finite b zero) code other status flags loses lost law l k x y =
+    given_once c _ _ _ code other status flags loses lost law l k x y
+into_once c f mode (finite b (suc n)) code other status flags loses lost law l k x y =
+    let some : eqb (suc n) 0 ≡ false = ne_eqb (suc n) 0 (λ e. omega (arith, e)) in
+    number_once c f mode b (suc n) code other status flags loses lost law l k
+    (MatchBool-at_false _ (IsStoredNumber c f mode b (suc n) code status loses) some x)
+    (MatchBool-at_false _ (IsStoredNumber c f mode b (suc n) other flags lost) some y)
+
+-- ---- scales
+
+pub scale_code_once : (given bits : ℕ) (lossy : Bool) (code other status flags : ℕ) (loses lost : Bool)
+    → IsCode given bits lossy code status loses → IsCode given bits lossy other flags lost
+    → AreSame code status loses other flags lost
+scale_code_once given bits lossy code other status flags loses lost x y =
+    (x.code_is ∙ sym y.code_is, x.status_is ∙ sym y.status_is, x.loses_is ∙ sym y.loses_is)
+
+-- a number is between two scales in one way
+not_below : (amount parts low other : ℕ) → amount < 2 ^ (low + 1) * parts → 2 ^ other * parts ≤ amount → low < other
+    → ⊥
+not_below amount parts low other to from l =
+    let next : low + 1 ≤ other = omega (arith, l) in
+    let more : 2 ^ (low + 1) * parts ≤ 2 ^ other * parts =
+    mul-le-mul_right parts (pow-le-pow_right two_pos next) in
+    omega (arith, to, from, more)
+
+pub low_once : (amount parts low other : ℕ) → 2 ^ low * parts ≤ amount → amount < 2 ^ (low + 1) * parts
+    → 2 ^ other * parts ≤ amount → amount < 2 ^ (other + 1) * parts → low ≡ other
+low_once amount parts low other from to start end =
+    ⊎_elim
+    (λ (l : low < other). absurd (not_below amount parts low other to start l))
+    (λ (l : other ≤ low).
+    ⊎_elim
+    (λ (k : other < low). absurd (not_below amount parts other low end from k))
+    (λ (k : low ≤ other). omega (arith, l, k))
+    (cases_lt other low))
+    (cases_lt low other)
+
+pub least_or_not : (amount parts low : ℕ) → amount < parts → 2 ^ low * parts ≤ amount → ⊥
+least_or_not amount parts low l from =
+    let one : 1 ≤ 2 ^ low = pow_pos low in
+    let least : 1 * parts ≤ 2 ^ low * parts = mul-le-mul_right parts one in
+    omega (arith, l, from, least)
+
+scale_picked_once : (mode : Round) (amount parts code other : ℕ) → IsPickedScale mode amount parts code
+    → IsPickedScale mode amount parts other → code ≡ other
+scale_picked_once mode amount parts code other (inl x) (inl y) = x.1 ∙ sym y.1
+scale_picked_once mode amount parts code other (inl x) (inr y) =
+    absurd (least_or_not amount parts y.low x.0 y.from)
+scale_picked_once mode amount parts code other (inr x) (inl y) =
+    absurd (least_or_not amount parts x.low y.0 x.from)
+scale_picked_once mode amount parts code other (inr x) (inr y) =
+    x.is
+    ∙ ap (λ (n : ℕ). picked_code mode amount parts n) (low_once amount parts x.low y.low x.from x.to y.from y.to)
+    ∙ sym y.is
+
+scale_number_once : (f : Format) (mode : Round) (n code other status flags : ℕ) (loses lost : Bool)
+    → IsScaleOf f mode n code status loses → IsScaleOf f mode n other flags lost
+    → AreSame code status loses other flags lost
+scale_number_once f mode n code other status flags loses lost x y =
+    let amount : ℕ = n * 2 ^ scale_format.scale in
+    let parts : ℕ = 2 ^ f.scale in
+    let v = x.is_rounded in
+    let w = y.is_rounded in
+    let same : v.picked ≡ w.picked =
+    scale_picked_once mode amount parts v.picked w.picked v.is_picked w.is_picked in
+    let told : status ≡ flags =
+    v.status_is ∙ ap (λ (p : ℕ). scale_status mode amount parts p) same ∙ sym w.status_is in (
+      v.code_is ∙ ap (λ (p : ℕ). delivered_code mode p) same ∙ sym w.code_is,
+      told,
+      x.loses_is ∙ ap (λ (s : ℕ). not (eqb s ok_bits)) told ∙ sym y.loses_is,
+    )
+
+pub scale_once : IsScaleOnce
+scale_once f mode (nan b s) code other status flags loses lost x y =
+    scale_code_once _ _ _ code other status flags loses lost x y
+scale_once f mode (infinite b) code other status flags loses lost x y =
+    scale_code_once _ _ _ code other status flags loses lost x y
+scale_once f mode (finite b zero) code other status flags loses lost x y =
+    scale_code_once _ _ _ code other status flags loses lost x y
+scale_once f mode (finite true (suc n)) code other status flags loses lost x y =
+    let some : eqb (suc n) 0 ≡ false = ne_eqb (suc n) 0 (λ e. omega (arith, e)) in
+    scale_code_once _ _ _ code other status flags loses lost
+    (MatchBool-at_false _ _ some x) (MatchBool-at_false _ _ some y)
+scale_once f mode (finite false (suc n)) code other status flags loses lost x y =
+    let some : eqb (suc n) 0 ≡ false = ne_eqb (suc n) 0 (λ e. omega (arith, e)) in
+    scale_number_once f mode (suc n) code other status flags loses lost
+    (MatchBool-at_false _ (IsScaleOf f mode (suc n) code status loses) some x)
+    (MatchBool-at_false _ (IsScaleOf f mode (suc n) other flags lost) some y)
+
+-- ---- without a sign
+
+interchange : IsInterchange signed_format signed_layout
+interchange = record {
+  precise = lit≤ tt;
+  some = lit≤ tt;
+  bits = refl;
+  within = lit≤ tt;
+  span = refl;
+  explicit = refl;
+}
+
+unsigned_encoded : (code : ℕ) → code < 128 → IsEncodedBy signed_format signed_layout code (unsigned_datum code)
+unsigned_encoded code l = record { below = omega (arith, l); canonical = refl; is = refl }
+
+unsigned_code_once : (code other : ℕ) → code < 128 → other < 128 → unsigned_datum code ≡ unsigned_datum other
+    → code ≡ other
+unsigned_code_once code other l k e =
+    encoded_once signed_format signed_layout (unsigned_datum other) code other interchange
+    (subst (λ (x : Datum). IsEncodedBy signed_format signed_layout code x) e (unsigned_encoded code l))
+    (unsigned_encoded other k)
+
+unsigned_number_once : (f : Format) (mode : Round) (x : Datum) (code other status flags : ℕ) (loses lost : Bool)
+    → code < 128 → other < 128 → IsConversion f signed_format mode x (unsigned_datum code) status loses
+    → IsConversion f signed_format mode x (unsigned_datum other) flags lost
+    → AreSame code status loses other flags lost
+unsigned_number_once f mode x code other status flags loses lost l k h j =
+    let same = conversion_once f signed_format mode x (unsigned_datum code) (unsigned_datum other) status flags loses
+    lost h j in
+    (unsigned_code_once code other l k same.0, same.1, same.2)
+
+pub unsigned_once : IsUnsignedOnce
+unsigned_once f mode (nan b s) code other status flags loses lost l k x y =
+    scale_code_once _ _ _ code other status flags loses lost x y
+unsigned_once f mode (infinite b) code other status flags loses lost l k x y =
+    scale_code_once _ _ _ code other status flags loses lost x y
+unsigned_once f mode (finite false n) code other status flags loses lost l k x y =
+    unsigned_number_once f mode (finite false n) code other status flags loses lost l k x y
+unsigned_once f mode (finite true zero) code other status flags loses lost l k x y =
+    scale_code_once _ _ _ code other status flags loses lost x y
+unsigned_once f mode (finite true (suc n)) code other status flags loses lost l k x y =
+    let some : eqb (suc n) 0 ≡ false = ne_eqb (suc n) 0 (λ e. omega (arith, e)) in
+    scale_code_once _ _ _ code other status flags loses lost
+    (MatchBool-at_false _ _ some x) (MatchBool-at_false _ _ some y)

@@ -1,0 +1,96 @@
+-- The order of values of P3109 is that of their codes without a sign, with the sign of the number: an infinity has the
+-- code past that of the largest number.
+use Rattle.std.proofs.Common.{◌≡◌, ℕ, ◌+◌, ◌^◌, ◌<◌, ◌≤◌, Bool, true, false, eqb, ltb, ⊎_elim}
+use Rattle.std.proofs.Common.{sym, refl, ap, ◌∙◌, arith, pos, neg_ℤ, int_cmp, Some, None}
+use Rattle.std.specs.declared.cmp.Ordering.{Ordering}
+use Rattle.std.specs.declared.cmp.Ordering.TheVariants.{Less, Equal, Greater}
+use Rattle.std.specs.Cmp.{int_cmp_is}
+use Rattle.std.proofs.lemmas.Bool.{cases_lt, false≢true, lt-ltb, ltb-true}
+use Rattle.std.proofs.lemmas.Int.{ints}
+use Rattle.apfloat_model.specs.arithmetic.Exact.{signed}
+use Rattle.apfloat_model.specs.formats.Datum.{Datum, finite, infinite, nan}
+use Rattle.apfloat_model.specs.order.Order.{compared}
+use Rattle.small_formats.specs.Codes.{point}
+use Rattle.small_formats.specs.Projections.{IsProjection, Projection, largest_index, magnitude_of, nan_code}
+use Rattle.small_formats.proofs.CodesCompared.{compared_points}
+use Rattle.small_formats.proofs.ProjectedOnce.{datum_by, infinity_index}
+
+-- the indices of two values that are not NaNs: at most `most`, or the next one if the value is an infinity
+pub record IsAt (most index : ℕ) (past : Bool) : Type 0 where
+  pub number : past ≡ false → index ≤ most
+  pub infinity : past ≡ true → index ≡ most + 1
+
+pub at_most_past : (c : Projection) (code : ℕ) → IsProjection c → code < 2 ^ c.bits → eqb code (nan_code c) ≡ false
+    → IsAt (largest_index c) (magnitude_of c code) (ltb (largest_index c) (magnitude_of c code))
+at_most_past c code law l other = record {
+  number = λ e.
+      ⊎_elim
+      (λ (k : largest_index c < magnitude_of c code).
+      absurd (false≢true (sym e ∙ lt-ltb (largest_index c) (magnitude_of c code) k)))
+      (λ (k : magnitude_of c code ≤ largest_index c). k)
+      (cases_lt (largest_index c) (magnitude_of c code));
+  infinity = λ e. infinity_index c code law l other (ltb-true _ _ e);
+}
+
+-- both infinite: only the signs decide, and the indices are equal
+infinities : (b d : Bool) (i : ℕ) → 0 < i
+    → compared (infinite b) (infinite d) ≡ Some (int_cmp (signed b i) (signed d i))
+infinities true true i l = ap (λ (r : Ordering). Some r) (int_cmp_is (neg_ℤ (pos i)) (neg_ℤ (pos i)) Equal refl)
+infinities false false i l = ap (λ (r : Ordering). Some r) (int_cmp_is (pos i) (pos i) Equal refl)
+infinities true false i l =
+    ap (λ (r : Ordering). Some r) (int_cmp_is (neg_ℤ (pos i)) (pos i) Less (omega (arith, ints, l)))
+infinities false true i l =
+    ap (λ (r : Ordering). Some r) (int_cmp_is (pos i) (neg_ℤ (pos i)) Greater (omega (arith, ints, l)))
+
+-- an infinity and a number: the infinity has the greater index
+infinity_number : (b d : Bool) (i j n : ℕ) → j < i
+    → compared (infinite b) (finite d n) ≡ Some (int_cmp (signed b i) (signed d j))
+infinity_number true true i j n l =
+    ap (λ (r : Ordering). Some r) (int_cmp_is (neg_ℤ (pos i)) (neg_ℤ (pos j)) Less (omega (arith, ints, l)))
+infinity_number true false i j n l =
+    ap (λ (r : Ordering). Some r) (int_cmp_is (neg_ℤ (pos i)) (pos j) Less (omega (arith, ints, l)))
+infinity_number false true i j n l =
+    ap (λ (r : Ordering). Some r) (int_cmp_is (pos i) (neg_ℤ (pos j)) Greater (omega (arith, ints, l)))
+infinity_number false false i j n l =
+    ap (λ (r : Ordering). Some r) (int_cmp_is (pos i) (pos j) Greater (omega (arith, ints, l)))
+
+number_infinity : (b d : Bool) (i j n : ℕ) → i < j
+    → compared (finite b n) (infinite d) ≡ Some (int_cmp (signed b i) (signed d j))
+number_infinity true true i j n l =
+    ap (λ (r : Ordering). Some r) (int_cmp_is (neg_ℤ (pos i)) (neg_ℤ (pos j)) Greater (omega (arith, ints, l)))
+number_infinity true false i j n l =
+    ap (λ (r : Ordering). Some r) (int_cmp_is (neg_ℤ (pos i)) (pos j) Less (omega (arith, ints, l)))
+number_infinity false true i j n l =
+    ap (λ (r : Ordering). Some r) (int_cmp_is (pos i) (neg_ℤ (pos j)) Greater (omega (arith, ints, l)))
+number_infinity false false i j n l =
+    ap (λ (r : Ordering). Some r) (int_cmp_is (pos i) (pos j) Less (omega (arith, ints, l)))
+
+pub known_order : (p most i j : ℕ) (past also b d : Bool) → 0 < p → IsAt most i past → IsAt most j also
+    → compared (datum_by false past b (point p i)) (datum_by false also d (point p j))
+    ≡ Some (int_cmp (signed b i) (signed d j))
+known_order p most i j true true b d some x y =
+    let e = x.infinity refl in
+    let k = y.infinity refl in
+    let same : j ≡ i = omega (arith, e, k) in
+    infinities b d i (omega (arith, e)) ∙ ap (λ (n : ℕ). Some (int_cmp (signed b i) (signed d n))) (sym same)
+known_order p most i j true false b d some x y =
+    let e = x.infinity refl in
+    let l = y.number refl in
+    infinity_number b d i j (point p j) (omega (arith, e, l))
+known_order p most i j false true b d some x y =
+    let l = x.number refl in
+    let e = y.infinity refl in
+    number_infinity b d i j (point p i) (omega (arith, e, l))
+known_order p most i j false false b d some x y =
+    ap (λ (r : Ordering). Some r) (sym (compared_points p i j b d some))
+
+-- a NaN is unordered, on either side
+pub left_nan : (y : Datum) → compared (nan false 0) y ≡ None
+left_nan (finite b n) = refl
+left_nan (infinite b) = refl
+left_nan (nan b s) = refl
+
+pub right_nan : (x : Datum) → compared x (nan false 0) ≡ None
+right_nan (finite b n) = refl
+right_nan (infinite b) = refl
+right_nan (nan b s) = refl

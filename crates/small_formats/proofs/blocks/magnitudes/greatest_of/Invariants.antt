@@ -1,0 +1,12 @@
+use Rattle.std.proofs.Common.{◌≡◌, take, false}
+use Rattle.apfloat_model.specs.formats.Datum.{finite}
+use Rattle.apfloat_model.specs.formats.Members.{IsMember}
+use Rattle.apfloat_ieee.specs.Types.{format_of}
+use Rattle.small_formats.specs.blocks.Magnitudes.{greatest_magnitude}
+use Rattle.small_formats.proofs.blocks.magnitudes.greatest_of.Given as goal
+
+-- of the values before the index
+abbrev pub invariant-loop-index : goal.invariant-loop-index
+invariant-loop-index g l =
+    (l.greatest ≡ finite false (greatest_magnitude (take l.index l.values)))
+    × IsMember (format_of g.S.Semantics) l.greatest

@@ -1,0 +1,5 @@
+use Rattle.small_formats.proofs.blocks_lemmas.ExactBlocks.{exact_into_double}
+use Rattle.small_formats.proofs.blocks.theorems.blocks_are_exact_in_double.Goals as goal
+
+pub returns : goal.returns
+returns c = exact_into_double

@@ -1,0 +1,117 @@
+-- A quotient of the library as an element of a format of 8 bits: saturated, in any fraction that equals it.
+use Rattle.std.proofs.Common.{◌≡◌, ℕ, zero, suc, ◌+◌, ◌*◌, ◌^◌, ◌<◌, Bool, true, false, cond, eqb, ltb, refl, ap}
+use Rattle.std.proofs.Common.{◌∙◌, subst, sym, arith}
+use Rattle.std.proofs.Math.Nat.{mul-pos}
+use Rattle.std.proofs.lemmas.Bool.{ne_eqb, MatchBool-at_false}
+use Rattle.std.proofs.lemmas.Nat.{pow_pos}
+use Rattle.apfloat_model.specs.declared.kinds.NonfiniteBehavior.{NonfiniteBehavior}
+use Rattle.apfloat_model.specs.declared.kinds.NonfiniteBehavior.TheVariants.{IEEE754, NanOnly, NanNegativeZero}
+use Rattle.apfloat_model.specs.declared.kinds.Round.{Round}
+use Rattle.apfloat_model.specs.arithmetic.Exact.{product_sign}
+use Rattle.apfloat_model.specs.formats.Datum.{Datum, finite, infinite, nan}
+use Rattle.apfloat_model.specs.formats.Format.{Format, largest, nan_base}
+use Rattle.apfloat_model.specs.order.Classes.{is_finite, is_negative, quanta_of}
+use Rattle.apfloat_model.specs.rounding.Rounding.{IsDelivered, leads_out, past_largest, signed_quanta, zero_sign}
+use Rattle.apfloat_model.specs.rounding.Negation.{negated}
+use Rattle.apfloat_model.proofs.general.Choices.{not_zero}
+use Rattle.apfloat_arithmetic.specs.other_formats.FormatOf.{IsQuotientTo}
+use Rattle.small_formats.specs.Quotients.{IsRatioOf}
+use Rattle.small_formats.specs.declared.blocks.elements.ElementFormat.{ElementFormat}
+use Rattle.small_formats.specs.blocks.Elements.{IsElement, IsSaturatedIn, format_of_element}
+use Rattle.small_formats.proofs.blocks_lemmas.SameFractions.{delivered_across}
+
+-- ---- saturating
+
+-- negating a nonzero number changes its sign
+pub negated_some : (kind : NonfiniteBehavior) (quanta : ℕ) → 0 < quanta
+    → negated kind (finite false quanta) ≡ finite true quanta
+negated_some kind quanta some = rw (not_zero quanta some) refl
+
+past_not_finite : (kind : NonfiniteBehavior) (base : ℕ) (negative : Bool)
+    → is_finite (past_largest kind base negative) ≡ false
+past_not_finite IEEE754 base negative = refl
+past_not_finite NanOnly base negative = refl
+past_not_finite NanNegativeZero base negative = refl
+
+finite_choice : (test one other : Bool) (m n : ℕ) → is_finite (cond test (finite one m) (finite other n)) ≡ true
+finite_choice true one other m n = refl
+finite_choice false one other m n = refl
+
+-- a zero keeps its sign where the format has both
+pub signed_same : (kind : NonfiniteBehavior) (negative : Bool) (pick : ℕ) → zero_sign kind negative ≡ negative
+    → signed_quanta kind negative pick ≡ finite negative pick
+signed_same kind negative zero z = ap (λ (b : Bool). finite b 0) z
+signed_same kind negative (suc n) z =
+    let off : eqb (suc n) 0 ≡ false = ne_eqb (suc n) 0 (λ e. omega (arith, e)) in rw off refl
+
+saturated_is : (g : Format) (negative past leads : Bool) (pick : ℕ) (value result : Datum)
+    → zero_sign g.nonfinite negative ≡ negative
+    → value ≡ cond past (cond leads (past_largest g.nonfinite (nan_base g) negative) (finite negative (largest g)))
+    (signed_quanta g.nonfinite negative pick)
+    → (is_finite value ≡ true → result ≡ value)
+    → (is_finite value ≡ false → result ≡ finite negative (largest g))
+    → result ≡ cond past (finite negative (largest g)) (finite negative pick)
+saturated_is g negative true true pick value result z v kept past =
+    past (ap is_finite v ∙ past_not_finite g.nonfinite (nan_base g) negative)
+saturated_is g negative true false pick value result z v kept past = kept (ap is_finite v) ∙ v
+saturated_is g negative false leads pick value result z v kept past =
+    kept (ap is_finite v ∙ finite_choice (eqb pick 0) (zero_sign g.nonfinite negative) negative 0 pick) ∙ v
+    ∙ signed_same g.nonfinite negative pick z
+
+pub saturated_of : (g : Format) (mode : Round) (negative : Bool) (amount parts status : ℕ) (value result : Datum)
+    → zero_sign g.nonfinite negative ≡ negative → IsDelivered g mode negative amount parts value status
+    → (is_finite value ≡ true → result ≡ value)
+    → (is_finite value ≡ false → result ≡ finite negative (largest g))
+    → IsSaturatedIn g mode negative amount parts result status
+saturated_of g mode negative amount parts status value result z h kept past = record {
+  pick = h.pick;
+  is_pick = h.is_pick;
+  value_is = saturated_is g negative (ltb (largest g) h.pick) (leads_out mode negative) h.pick value result z h.value_is
+      kept past;
+  status_is = h.status_is;
+}
+
+-- ---- the quotient
+
+pub sign_over_positive : (negative : Bool) → product_sign negative false ≡ negative
+sign_over_positive true = refl
+sign_over_positive false = refl
+
+pub quotient_number : (f h g : Format) (mode : Round) (x y value : Datum) (status : ℕ) → is_finite x ≡ true
+    → y ≡ finite false (quanta_of y) → 0 < quanta_of y → IsQuotientTo f h g mode x y value status
+    → IsDelivered g mode (is_negative x) (quanta_of x * 2 ^ (h.scale + g.scale)) (quanta_of y * 2 ^ f.scale) value
+    status
+quotient_number f h g mode (finite b m) y value status number is some q =
+    let n : ℕ = quanta_of y in
+    let q' = subst (λ (d : Datum). IsQuotientTo f h g mode (finite b m) d value status) is q in
+    let off : eqb n 0 ≡ false = ne_eqb n 0 (λ e. omega (arith, e, some)) in
+    subst (λ (s : Bool). IsDelivered g mode s (m * 2 ^ (h.scale + g.scale)) (n * 2 ^ f.scale) value status)
+    (sign_over_positive b)
+    (MatchBool-at_false _ (IsDelivered g mode (product_sign b false) (m * 2 ^ (h.scale + g.scale)) (n * 2 ^ f.scale)
+    value status) off q')
+quotient_number f h g mode (infinite b) y value status number is some q = cc
+quotient_number f h g mode (nan b s) y value status number is some q = cc
+
+pub quotient_across : (f h g : Format) (mode : Round) (x y value : Datum) (status amount parts : ℕ)
+    → 0 < g.precision → is_finite x ≡ true → y ≡ finite false (quanta_of y) → 0 < quanta_of y
+    → IsQuotientTo f h g mode x y value status → 0 < parts
+    → amount * (quanta_of y * 2 ^ f.scale) ≡ parts * (quanta_of x * 2 ^ (h.scale + g.scale))
+    → IsDelivered g mode (is_negative x) amount parts value status
+quotient_across f h g mode x y value status amount parts precise number is some q p e =
+    delivered_across g mode (is_negative x) amount parts (quanta_of x * 2 ^ (h.scale + g.scale))
+    (quanta_of y * 2 ^ f.scale) value status precise p (mul-pos some (pow_pos f.scale)) (e ∙ omega arith)
+    (quotient_number f h g mode x y value status number is some q)
+
+-- ---- the format of the element
+
+-- what holds of the known format holds of the element's
+pub element_case : (known element : ElementFormat) (f h : Format) (mode : Round) (x y : Datum) (code status : ℕ)
+    → element ≡ known
+    → ((amount parts : ℕ) → 0 < parts → IsRatioOf f h (format_of_element known) x y amount parts
+    → IsElement known mode (is_negative x) amount parts code status)
+    → (amount parts : ℕ) → 0 < parts → IsRatioOf f h (format_of_element element) x y amount parts
+    → IsElement element mode (is_negative x) amount parts code status
+element_case known element f h mode x y code status e t =
+    subst (λ (k : ElementFormat). (amount parts : ℕ) → 0 < parts
+    → IsRatioOf f h (format_of_element k) x y amount parts
+    → IsElement k mode (is_negative x) amount parts code status) (sym e) t

@@ -1,0 +1,4 @@
+pub mod Digits
+pub mod All
+pub mod Groups
+pub mod Once

@@ -1,0 +1,2 @@
+pub mod FiniteValues
+pub mod Negations

@@ -1,0 +1,96 @@
+-- Conversions that saturate, by the class of what is converted.
+use Rattle.std.proofs.Common.{◌≡◌, ℕ, Bool, true, false, eqb, cond, refl}
+use Rattle.rustc_apfloat.specs.declared.Category.TheVariants.{NaN, Infinity as InfiniteCategory, Zero, Normal}
+use Rattle.rustc_apfloat.specs.declared.Round.{Round}
+use Rattle.rustc_apfloat.specs.Classes.{category_of, is_finite, is_negative}
+use Rattle.rustc_apfloat.specs.Conversions.{IsConversion}
+use Rattle.rustc_apfloat.specs.Datum.{Datum, finite, infinite, nan}
+use Rattle.rustc_apfloat.specs.Format.{Format, largest}
+use Rattle.small_formats.specs.declared.saturation.saturation.FiniteNan.{FiniteNan}
+use Rattle.small_formats.specs.declared.saturation.saturation.FiniteNan.TheVariants.{Kept, Largest}
+use Rattle.small_formats.specs.declared.saturation.saturation.ValueClass.TheVariants.{Number, Infinity, NotANumber}
+use Rattle.small_formats.specs.saturation.Saturation.{IsFiniteConversion, class_of, saturated}
+
+pub nan_kept : (f g : Format) (mode : Round) (x value : Datum) (status : ℕ) (loses : Bool)
+    → class_of x ≡ NotANumber
+    → IsConversion f g mode x value status loses → IsFiniteConversion Kept f g mode x value status loses
+nan_kept f g mode (nan b s) value status loses e h = h
+nan_kept f g mode (infinite b) value status loses e h = cc
+nan_kept f g mode (finite b n) value status loses e h = cc
+
+pub nan_largest : (f g : Format) (mode : Round) (x value : Datum) (status : ℕ) (loses : Bool)
+    → class_of x ≡ NotANumber → value ≡ finite false (largest g) → status ≡ 1 → loses ≡ true
+    → IsFiniteConversion Largest f g mode x value status loses
+nan_largest f g mode (nan b s) value status loses e v w l = record { value_is = v; status_is = w; loses_is = l }
+nan_largest f g mode (infinite b) value status loses e v w l = cc
+nan_largest f g mode (finite b n) value status loses e v w l = cc
+
+pub infinity_largest : (nans : FiniteNan) (f g : Format) (mode : Round) (x value : Datum) (status : ℕ) (loses : Bool)
+    → class_of x ≡ Infinity → value ≡ finite (is_negative x) (largest g) → status ≡ 16 → loses ≡ true
+    → IsFiniteConversion nans f g mode x value status loses
+infinity_largest nans f g mode (infinite b) value status loses e v w l =
+    record { value_is = v; status_is = w; loses_is = l }
+infinity_largest nans f g mode (nan b s) value status loses e v w l = cc
+infinity_largest nans f g mode (finite b n) value status loses e v w l = cc
+
+pub number_saturated : (nans : FiniteNan) (f g : Format) (mode : Round) (x rounded value : Datum) (status : ℕ)
+    (loses : Bool) → class_of x ≡ Number → IsConversion f g mode x rounded status loses
+    → value ≡ saturated g x rounded → IsFiniteConversion nans f g mode x value status loses
+number_saturated nans f g mode (finite b n) rounded value status loses e h v =
+    record { rounded = rounded; is_conversion = h; value_is = v }
+number_saturated nans f g mode (infinite b) rounded value status loses e h v = cc
+number_saturated nans f g mode (nan b s) rounded value status loses e h v = cc
+
+-- ---- classes
+
+not_nan : (none : Bool) → cond none Zero Normal ≡ NaN → ⊥
+not_nan true e = cc
+not_nan false e = cc
+
+not_infinite : (none : Bool) → cond none Zero Normal ≡ InfiniteCategory → ⊥
+not_infinite true e = cc
+not_infinite false e = cc
+
+pub nan_class : (x : Datum) → category_of x ≡ NaN → class_of x ≡ NotANumber
+nan_class (finite b n) e = absurd (not_nan (eqb n 0) e)
+nan_class (infinite b) e = cc
+nan_class (nan b s) e = refl
+
+pub infinite_class : (x : Datum) → category_of x ≡ InfiniteCategory → class_of x ≡ Infinity
+infinite_class (finite b n) e = absurd (not_infinite (eqb n 0) e)
+infinite_class (infinite b) e = refl
+infinite_class (nan b s) e = cc
+
+pub zero_class : (x : Datum) → category_of x ≡ Zero → class_of x ≡ Number
+zero_class (finite b n) e = refl
+zero_class (infinite b) e = cc
+zero_class (nan b s) e = cc
+
+pub normal_class : (x : Datum) → category_of x ≡ Normal → class_of x ≡ Number
+normal_class (finite b n) e = refl
+normal_class (infinite b) e = cc
+normal_class (nan b s) e = cc
+
+-- ---- the saturated value
+
+pub number_past : (g : Format) (x rounded : Datum) → class_of x ≡ Number → is_finite rounded ≡ false
+    → finite (is_negative x) (largest g) ≡ saturated g x rounded
+number_past g (finite b n) rounded e past = rw past refl
+number_past g (infinite b) rounded e past = cc
+number_past g (nan b s) rounded e past = cc
+
+pub number_within : (g : Format) (x rounded : Datum) → is_finite rounded ≡ true
+    → rounded ≡ saturated g x rounded
+number_within g (finite b n) rounded within = rw within refl
+number_within g (infinite b) rounded within = refl
+number_within g (nan b s) rounded within = refl
+
+pub infinity_stays : (g : Format) (x rounded : Datum) → class_of x ≡ Infinity → rounded ≡ saturated g x rounded
+infinity_stays g (finite b n) rounded e = cc
+infinity_stays g (infinite b) rounded e = refl
+infinity_stays g (nan b s) rounded e = cc
+
+pub nan_stays : (g : Format) (x rounded : Datum) → class_of x ≡ NotANumber → rounded ≡ saturated g x rounded
+nan_stays g (finite b n) rounded e = cc
+nan_stays g (infinite b) rounded e = cc
+nan_stays g (nan b s) rounded e = refl

@@ -1,0 +1,34 @@
+-- Theorems about storage formats.
+use Rattle.std.specs.Prelude.{◌≡◌, ℕ, ◌^◌, ◌<◌, ◌≤◌, Bool}
+use Rattle.apfloat_model.specs.declared.kinds.Round.{Round}
+use Rattle.apfloat_model.specs.formats.Datum.{Datum}
+use Rattle.apfloat_model.specs.formats.Format.{Format}
+use Rattle.small_formats.specs.Codes.{point}
+use Rattle.small_formats.specs.Conversions.{IsInto}
+use Rattle.small_formats.specs.Scales.{IsScale}
+use Rattle.small_formats.specs.Storage.{Constants, IsLawful}
+use Rattle.small_formats.specs.Unsigned.{IsUnsigned}
+
+-- the point with the greater number is the greater one
+abbrev pub AreCodesInOrder : Type 0
+AreCodesInOrder = (precision i j : ℕ) → 1 ≤ precision → i < j → point precision i < point precision j
+
+-- the code, the flags and the loss of information are determined
+abbrev pub IsIntoOnce : Type 0
+IsIntoOnce =
+    (c : Constants) (f : Format) (mode : Round) (x : Datum) (code other status flags : ℕ) (loses lost : Bool)
+    → IsLawful c → code < 2 ^ c.bits → other < 2 ^ c.bits → IsInto c f mode x code status loses
+    → IsInto c f mode x other flags lost → (code ≡ other) × (status ≡ flags) × (loses ≡ lost)
+
+abbrev pub IsScaleOnce : Type 0
+IsScaleOnce =
+    (f : Format) (mode : Round) (x : Datum) (code other status flags : ℕ) (loses lost : Bool)
+    → IsScale f mode x code status loses → IsScale f mode x other flags lost
+    → (code ≡ other) × (status ≡ flags) × (loses ≡ lost)
+
+-- codes are below 2 ^ 7
+abbrev pub IsUnsignedOnce : Type 0
+IsUnsignedOnce =
+    (f : Format) (mode : Round) (x : Datum) (code other status flags : ℕ) (loses lost : Bool)
+    → code < 128 → other < 128 → IsUnsigned f mode x code status loses → IsUnsigned f mode x other flags lost
+    → (code ≡ other) × (status ≡ flags) × (loses ≡ lost)

@@ -1,0 +1,73 @@
+//! The neighbour that random digits choose.
+
+ghost use Rattle.std.specs.Prelude.{◌≡◌, ◌⊎◌, ℕ, ◌+◌, ◌-◌, ◌*◌, ◌^◌, ◌<◌, ◌≤◌, ltb, pos, ◌+ℤ◌, ◌-ℤ◌};
+ghost use Rattle.apfloat_model.specs.declared.kinds.Category.TheVariants.{Normal};
+ghost use Rattle.apfloat_model.specs.formats.Format.{largest};
+ghost use Rattle.apfloat_model.specs.order.Classes.{category_of, quanta_of};
+ghost use Rattle.apfloat_model.specs.rounding.Bounds.{IsWithin};
+ghost use Rattle.apfloat_model.specs.rounding.Standing.{up, down};
+ghost use Rattle.apfloat_ieee.specs.Types.{format_of};
+ghost use Rattle.apfloat_rounding.specs.Shapes.{format_at};
+ghost use Rattle.small_formats.specs.stochastic.Directions.{IsDirection};
+
+use crate::stochastic::cuts::{Kept, cut, rest_reaches_whole};
+use crate::{RandomDigits, in_quanta};
+use apfloat_base::ExpInt;
+use apfloat_ieee::{IeeeFloat, Semantics};
+use apfloat_rounding::shape::Shape;
+
+/// The constants of a format that rounding reads.
+fn shape_of<T: Semantics>() -> Shape
+    ensures { format_at result ≡ format_of T.Semantics }
+{
+    Shape {
+        precision: T::PRECISION as u32,
+        min_exp: T::MIN_EXP,
+        max_exp: T::MAX_EXP,
+        nonfinite: T::NONFINITE_BEHAVIOR,
+        explicit_integer_bit: T::EXPLICIT_INTEGER_BIT,
+        tiny_before_rounding: T::TINY_BEFORE_ROUNDING,
+        ieee_flags: false,
+    }
+}
+
+/// Whether what is kept is past the largest value.
+fn is_past(shape: Shape, kept: Kept) -> bool
+    requires fits { kept.significand < 2 ^ shape.precision }
+    requires full { (kept.place ≡ 0) ⊎ (2 ^ (shape.precision - 1) ≤ kept.significand) }
+    ensures { result ≡ ltb (largest (format_at shape)) (kept.significand * 2 ^ kept.place) }
+{
+    let span = shape.span();
+    let greatest = shape.greatest_significand();
+    if kept.place == span {
+        kept.significand > greatest
+    } else {
+        kept.place > span
+    }
+}
+
+/// Whether random digits round `digits * 2^unit` quanta away from zero.
+fn leads_away(shape: Shape, digits: u128, unit: ExpInt, bits: RandomDigits) -> bool
+    requires low { 2 ^ 124 ≤ digits }
+    requires high { digits < 2 ^ 125 }
+    requires within { IsWithin (2 ^ 23) unit }
+    ensures { (amount parts : ℕ) → 0 < parts
+        → amount * 2 ^ down unit ≡ digits * (parts * 2 ^ up unit)
+        → IsDirection (format_at shape) bits.digits bits.random amount parts result }
+{
+    let kept = cut(shape.precision, digits, unit);
+    let past = is_past(shape, kept);
+    let reaches = rest_reaches_whole(digits, kept.places, bits.digits, bits.random);
+    past || reaches
+}
+
+/// Whether random digits round a number of the format `S` to the format `T` away from zero.
+pub(crate) fn rounds_away<S: Semantics, T: Semantics>(x: IeeeFloat<S>, bits: RandomDigits) -> bool
+    requires { category_of x ≡ Normal }
+    ensures { let f = format_of S.Semantics in let g = format_of T.Semantics in
+        IsDirection g bits.digits bits.random (quanta_of x * 2 ^ g.scale) (2 ^ f.scale) result }
+{
+    let shape = shape_of::<T>();
+    let number = in_quanta(x, shape.scale());
+    leads_away(shape, number.digits, number.unit, bits)
+}

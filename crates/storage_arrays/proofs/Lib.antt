@@ -1,2 +1,0 @@
-mod ScaleClasses
-pub mod StoredOnce

@@ -1,5 +1,0 @@
-use Rattle.storage_formats.proofs.RandomCounts.{stays_exact}
-use Rattle.storage_formats.proofs.theorems.exact_values_never_move.Goals as goal
-
-pub returns : goal.returns
-returns c = stays_exact

@@ -1,5 +1,0 @@
-use Rattle.storage_formats.proofs.ScaleModes.{scale_by_once}
-use Rattle.storage_formats.proofs.theorems.scales_by_mode_have_one_answer.Goals as goal
-
-pub returns : goal.returns
-returns c = scale_by_once

@@ -1,5 +1,0 @@
-use Rattle.storage_formats.proofs.OneAnswer.{unsigned_once}
-use Rattle.storage_formats.proofs.theorems.unsigned_conversions_have_one_answer.Goals as goal
-
-pub returns : goal.returns
-returns c = unsigned_once

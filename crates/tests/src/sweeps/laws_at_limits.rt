@@ -1,0 +1,267 @@
+//! The laws of the calls for user-defined formats, with values at their limits. The functions in `laws` require nothing
+//! of a format but its law.
+
+ghost use Rattle.std.specs.Prelude.{◌<◌, ◌≤◌};
+ghost use Rattle.rustc_apfloat.specs.Products.{product_limit};
+
+use crate::sweeps::asserts::same;
+use crate::sweeps::tables::MODES;
+use commands::custom_formats::{
+    BroadS, DeepS, HalfTinyBeforeS, LeastFiniteS, LeastS, PreciseS, SevenS, TenS, VastS,
+    WrittenBitS,
+};
+use conformance::laws::{
+    near_difference, opposite_products, sums_in_order, there_and_back, through_bits, through_value,
+    up_and_down,
+};
+use conformance::widest::{WidestFusedSumsS, WidestProductsS};
+use rustc_apfloat::ieee::{IeeeFloat, NonfiniteBehavior, Semantics};
+use rustc_apfloat::{Float, Status};
+use std::process::Abort;
+
+/// A value at a limit of a format.
+#[derive(Clone, Copy)]
+enum Limit {
+    Zero,
+    Smallest,
+    SmallestNormalized,
+    One,
+    Largest,
+    Infinity,
+    QuietNan,
+    SignalingNan,
+}
+
+/// Whether a value is a limit, or the next one above or below.
+#[derive(Clone, Copy)]
+enum Side {
+    At,
+    Above,
+    Below,
+}
+
+/// A value at a limit, or next to one.
+type Place = (Limit, Side);
+
+static PLACES: [Place; 12] = [
+    (Limit::Zero, Side::At),
+    (Limit::Smallest, Side::At),
+    (Limit::Smallest, Side::Above),
+    (Limit::SmallestNormalized, Side::Below),
+    (Limit::SmallestNormalized, Side::At),
+    (Limit::SmallestNormalized, Side::Above),
+    (Limit::One, Side::At),
+    (Limit::Largest, Side::Below),
+    (Limit::Largest, Side::At),
+    (Limit::Infinity, Side::At),
+    (Limit::QuietNan, Side::At),
+    (Limit::SignalingNan, Side::At),
+];
+
+static SIGNS: [bool; 2] = [false, true];
+
+/// The positive value of a limit.
+fn limit_of<S: Semantics>(limit: Limit) -> IeeeFloat<S> {
+    match limit {
+        Limit::Zero => IeeeFloat::zero(),
+        Limit::Smallest => IeeeFloat::smallest(),
+        Limit::SmallestNormalized => IeeeFloat::smallest_normalized(),
+        Limit::One => IeeeFloat::from_u128(1).value,
+        Limit::Largest => IeeeFloat::largest(),
+        Limit::Infinity => IeeeFloat::infinity(),
+        Limit::QuietNan => IeeeFloat::nan(),
+        Limit::SignalingNan => IeeeFloat::snan(None),
+    }
+}
+
+/// The value of a place with this sign.
+fn value_at<S: Semantics>((limit, side): Place, negative: bool) -> IeeeFloat<S> {
+    let x = limit_of::<S>(limit);
+    let x = match side {
+        Side::At => x,
+        Side::Above => x.next_up().value,
+        Side::Below => x.next_down().value,
+    };
+    if negative { -x } else { x }
+}
+
+/// Whether both are positive numbers, neither more than twice the other.
+fn are_near<S: Semantics>(x: IeeeFloat<S>, y: IeeeFloat<S>) -> bool {
+    let zero = IeeeFloat::zero();
+    let are_positive = x.is_finite() && y.is_finite() && x > zero && y > zero;
+    are_positive && !(x > y.scalbn(1)) && !(y > x.scalbn(1))
+}
+
+/// The difference of near numbers is exact: added to the right one, it gives the left one.
+fn check_difference<S: Semantics>(rt: &impl Abort, x: IeeeFloat<S>, y: IeeeFloat<S>) {
+    for mode in MODES {
+        let difference = near_difference(x, y, mode);
+        if are_near(x, y) {
+            let sum = difference.value.add_r(y, mode);
+            let got = (difference.status, sum.status, sum.value == x);
+            same(rt, got, (Status::OK, Status::OK, true), (x, y, mode));
+        }
+    }
+}
+
+/// Adding a third number to two numbers keeps their order.
+fn check_sums<S: Semantics>(rt: &impl Abort, x: IeeeFloat<S>, y: IeeeFloat<S>, z: IeeeFloat<S>) {
+    let has_infinities = S::NONFINITE_BEHAVIOR == NonfiniteBehavior::IEEE754;
+    let are_finite = x.is_finite() && y.is_finite() && z.is_finite();
+    for mode in MODES {
+        let (left, right) = sums_in_order(x, y, z, mode);
+        if has_infinities && are_finite && x <= y {
+            same(rt, left <= right, true, (x, y, z, mode));
+        }
+    }
+}
+
+/// The product with the negated left factor in the opposite mode is the negated product.
+fn check_product<S: Semantics>(rt: &impl Abort, x: IeeeFloat<S>, y: IeeeFloat<S>)
+    requires { S.PRECISION ≤ product_limit }
+{
+    for mode in MODES {
+        let (product, opposite) = opposite_products(x, y, mode);
+        if x.is_finite_non_zero() && y.is_finite_non_zero() {
+            let agrees = opposite.value.bitwise_eq(-product.value);
+            same(
+                rt,
+                (agrees, opposite.status),
+                (true, product.status),
+                (x, y, mode),
+            );
+        }
+    }
+}
+
+/// A number is unchanged by conversion to the format with the most digits and the widest exponents and back, and by
+/// conversion to a format of three digits and back, if that format has the number.
+fn check_conversions<S: Semantics>(rt: &impl Abort, x: IeeeFloat<S>) {
+    for mode in MODES {
+        let (from_vast, lost) = there_and_back::<S, VastS>(x, mode);
+        if x.is_finite() {
+            same(
+                rt,
+                (from_vast.bitwise_eq(x), lost),
+                (true, false),
+                (x, mode),
+            );
+        }
+        let (from_least, lost) = there_and_back::<S, LeastS>(x, mode);
+        if x.is_finite() && !lost {
+            same(rt, from_least.bitwise_eq(x), true, (x, mode));
+        }
+    }
+}
+
+/// The next value up, and then the next down.
+fn check_steps<S: Semantics>(rt: &impl Abort, x: IeeeFloat<S>) {
+    let back = up_and_down(x);
+    if S::NONFINITE_BEHAVIOR == NonfiniteBehavior::IEEE754 && x.is_finite_non_zero() {
+        same(rt, back.bitwise_eq(x), true, x);
+    }
+}
+
+/// A value written as bits and read back, and its bits read as a value and written back.
+fn check_bits<S: Semantics>(rt: &impl Abort, x: IeeeFloat<S>)
+    requires { S.PRECISION < S.BITS }
+{
+    let bits = x.to_bits();
+    let got = (through_bits(x).bitwise_eq(x), through_value::<S>(bits));
+    same(rt, got, (true, bits), x);
+}
+
+/// The laws on one, two and three values that hold in every format.
+fn check_laws<S: Semantics>(rt: &impl Abort) {
+    for left in PLACES {
+        for left_sign in SIGNS {
+            let x = value_at::<S>(left, left_sign);
+            check_steps(rt, x);
+            check_conversions(rt, x);
+            check_laws_beside(rt, x);
+        }
+    }
+}
+
+/// The laws on two and three values, with `x` as the first.
+fn check_laws_beside<S: Semantics>(rt: &impl Abort, x: IeeeFloat<S>) {
+    for right in PLACES {
+        for right_sign in SIGNS {
+            let y = value_at::<S>(right, right_sign);
+            check_difference(rt, x, y);
+            for third in PLACES {
+                check_sums(rt, x, y, value_at::<S>(third, false));
+                check_sums(rt, x, y, value_at::<S>(third, true));
+            }
+        }
+    }
+}
+
+/// The law of products, for values at the limits.
+fn check_products<S: Semantics>(rt: &impl Abort)
+    requires { S.PRECISION ≤ product_limit }
+{
+    for left in PLACES {
+        for right in PLACES {
+            for negative in SIGNS {
+                let x = value_at::<S>(left, negative);
+                check_product(rt, x, value_at::<S>(right, false));
+                check_product(rt, x, value_at::<S>(right, true));
+            }
+        }
+    }
+}
+
+/// The laws of bits, for values at the limits.
+fn check_values_and_bits<S: Semantics>(rt: &impl Abort)
+    requires { S.PRECISION < S.BITS }
+{
+    for place in PLACES {
+        for negative in SIGNS {
+            check_bits(rt, value_at::<S>(place, negative));
+        }
+    }
+}
+
+#[test]
+fn formats_without_bits(rt: HostRuntime) {
+    check_laws::<LeastS>(&rt);
+    check_laws::<LeastFiniteS>(&rt);
+    check_laws::<DeepS>(&rt);
+    check_laws::<PreciseS>(&rt);
+    check_laws::<VastS>(&rt);
+    check_laws::<WidestProductsS>(&rt);
+    check_laws::<WidestFusedSumsS>(&rt);
+}
+
+#[test]
+fn formats_with_bits(rt: HostRuntime) {
+    check_laws::<SevenS>(&rt);
+    check_laws::<HalfTinyBeforeS>(&rt);
+    check_laws::<TenS>(&rt);
+    check_laws::<WrittenBitS>(&rt);
+    check_laws::<BroadS>(&rt);
+}
+
+/// Formats of at most 64 digits.
+#[test]
+fn products(rt: HostRuntime) {
+    check_products::<LeastS>(&rt);
+    check_products::<LeastFiniteS>(&rt);
+    check_products::<DeepS>(&rt);
+    check_products::<WidestProductsS>(&rt);
+    check_products::<WidestFusedSumsS>(&rt);
+    check_products::<SevenS>(&rt);
+    check_products::<HalfTinyBeforeS>(&rt);
+    check_products::<TenS>(&rt);
+    check_products::<WrittenBitS>(&rt);
+}
+
+#[test]
+fn values_through_bits(rt: HostRuntime) {
+    check_values_and_bits::<SevenS>(&rt);
+    check_values_and_bits::<HalfTinyBeforeS>(&rt);
+    check_values_and_bits::<TenS>(&rt);
+    check_values_and_bits::<WrittenBitS>(&rt);
+    check_values_and_bits::<BroadS>(&rt);
+}
