@@ -19,6 +19,7 @@ use Rattle.apfloat_model.specs.rounding.Bounds.{IsWithin}
 use Rattle.apfloat_model.specs.rounding.Enclosure.{IsEnclosed}
 use Rattle.apfloat_model.specs.rounding.Grid.{IsOnGrid, IsAbove}
 use Rattle.apfloat_model.specs.rounding.Rounding.{IsDelivered, ok_bits}
+use Rattle.apfloat_model.proofs.formats.LawfulRanges.{HasRanges}
 use Rattle.apfloat_model.proofs.formats.Ranges.{below_top}
 use Rattle.apfloat_model.proofs.general.Powers.{two_pos, twice_power, exponent_below}
 use Rattle.apfloat_model.proofs.rounding.Deliveries.{signed_some}
