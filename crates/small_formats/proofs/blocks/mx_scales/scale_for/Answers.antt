@@ -37,6 +37,19 @@ exponent g c =
           (ranges_of (constants_of g.S.Semantics) g.S.Semantics.lawful) positive.member.within log;
     }
 
+pub overflow_sub-ilogb : goal.overflow_sub-ilogb
+overflow_sub-ilogb g c =
+    let within = (exponent g (goal.at.overflow_sub-ilogb g c).After-ilogb).within in
+    let low = within.low in
+    let high = within.high in
+    let exact = to_z-of_z w32 c.ilogb.result (record { sfits = c.ilogb.type_inv }) in
+    let most = to_z-of_z w32 c.max_exp.result (record { sfits = c.max_exp.type_inv }) in
+    let value = c.max_exp.ensures.value in
+    let few = c.max_exp.ensures.few in
+    rw (exact, most)
+    (exponent_fits (c.ilogb.result -ℤ c.max_exp.result)
+    (record { low = omega (arith, ints, low, few); high = omega (arith, ints, high, few) }))
+
 pub clamped_code-requires : goal.clamped_code-requires
 clamped_code-requires g c =
     let within = (exponent g (goal.at.clamped_code-requires g c).After-ilogb).within in
