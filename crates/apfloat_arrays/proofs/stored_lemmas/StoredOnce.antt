@@ -20,7 +20,7 @@ use Rattle.formats_at_run_time.specs.BuiltIns.{constants_in}
 use Rattle.formats_at_run_time.specs.FlaggedKinds.{flagged_constants}
 use Rattle.small_formats.specs.declared.saturation.FiniteNan.{FiniteNan}
 use Rattle.small_formats.specs.declared.saturation.FiniteNan.TheVariants.{Kept, Largest}
-use Rattle.apfloat_arrays.specs.declared.Outcome.{Outcome}
+use Rattle.apfloat_arrays.specs.declared.counts.Outcome.{Outcome}
 use Rattle.small_formats.specs.declared.saturation.Overflow.{Overflow}
 use Rattle.small_formats.specs.declared.saturation.Overflow.TheVariants.{Rounded, Saturated, Finite}
 use Rattle.apfloat_arrays.specs.Bytes.{number_of}

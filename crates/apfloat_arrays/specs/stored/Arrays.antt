@@ -8,10 +8,10 @@ use Rattle.rustc_apfloat.specs.Lawful.{Constants, format_with, layout_with}
 use Rattle.rustc_apfloat.specs.Layout.{datum_of, IsEncodedBy}
 use Rattle.formats_at_run_time.specs.BuiltIns.{constants_in}
 use Rattle.formats_at_run_time.specs.FlaggedKinds.{flagged_constants, format_without_rule}
-use Rattle.apfloat_arrays.specs.declared.Extended.{Extended}
-use Rattle.apfloat_arrays.specs.declared.Outcome.{Outcome}
+use Rattle.apfloat_arrays.specs.declared.widths.Extended.{Extended}
+use Rattle.apfloat_arrays.specs.declared.counts.Outcome.{Outcome}
 use Rattle.small_formats.specs.declared.saturation.Overflow.{Overflow}
-use Rattle.apfloat_arrays.specs.declared.Widths.{Widths}
+use Rattle.apfloat_arrays.specs.declared.widths.Widths.{Widths}
 use Rattle.apfloat_arrays.specs.Bytes.{number_of}
 use Rattle.small_formats.specs.saturation.Saturation.{IsConversionBy}
 use Rattle.apfloat_arrays.specs.Widths.{width_of}

@@ -1,5 +1,5 @@
 use Rattle.std.proofs.Common.{◌≡◌, ◌*◌, length, ap, ◌∙◌}
-use Rattle.apfloat_arrays.specs.declared.Widths.{Widths}
+use Rattle.apfloat_arrays.specs.declared.widths.Widths.{Widths}
 use Rattle.apfloat_arrays.proofs.Places.{block_none, block_more, place_size}
 use Rattle.apfloat_arrays.specs.stored.Arrays.{IsConverted}
 use Rattle.apfloat_arrays.proofs.stored.array.StorageArray.convert_each.Goals as goal
