@@ -5,9 +5,10 @@
 
 Each mistake is one or more edits of a crate, `crates/CRATE/must-fail/MISTAKE*.edit`, one for each way that a built-in
 format takes to the result. Each edit is made in a copy of the checkout, where a program then computes a row without a
-proof: `vectors` by `rt try` a command, `check_vectors` by cargo a call. It prints the mistake, the edit, the row, the right result and the wrong
-one, and how many seconds that took. The right results are also computed by the model (`exact`), first of all. The
-status is 1 if a result with an edit is the right one, or if there is none; --list only prints the rows.
+proof: `vectors` by `rt try` a command, `check_vectors` by cargo a call. It prints the mistake, the edit, the row, the
+right result and the wrong one, and how many seconds that took. The right results are also computed by the model
+(`exact`), first of all. The status is 1 if a result with an edit is the right one, or if there is none; --list only
+prints the rows.
 
 A result "none" means that the program stopped, for example at an overflow.
 """
