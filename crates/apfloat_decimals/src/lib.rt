@@ -14,8 +14,8 @@
 //! gives the decimal that equals a value (`exact_decimal`). `formatting` produces the text of a `Decimal`, which
 //! `Display` writes. `round_trips` states what holds for values that are read back.
 //!
-//! `apfloat_digits::decimal`, which writes any number of digits, uses the large integers, the exponents, and the places of the
-//! first and the last digit of a value.
+//! `apfloat_digits::decimal`, which writes any number of digits, uses the large integers, the exponents, and the places
+//! of the first and the last digit of a value.
 //!
 //! The exponents of the formats are within those of `Quad`.
 #![tactic(auto)]

@@ -1,4 +1,4 @@
-//! Custom formats, declared as a user would declare them: each gives its constants and proves its law in one line.
+//! Custom formats, as a user would declare them: each gives its constants and proves its law in one line.
 //!
 //! Rows of test vectors name them (`check_vectors`), and tests use them at the limits of the law (`tests::conformance`).
 

@@ -1,5 +1,5 @@
-//! Tests of the layers below the public calls, and of what rows (`docs/VECTORS.md`) cannot say; and each public function
-//! of decimals, of what pairs have beyond `Float`, and of the crates above the library, once.
+//! Tests of the layers below the public calls, and of what rows cannot say; and each public function of decimals, of
+//! what double-doubles have beyond `Float`, and of the crates above the library, once.
 //!
 //! They are in a separate crate, since testing a crate proves the whole crate again.
 #![tactic(auto)]

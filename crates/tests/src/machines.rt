@@ -1,4 +1,5 @@
-//! What machines give, in `single` and in the format of the x87 unit, each call once. `tests/rows/machines.tsv` has more.
+//! What machines give, in `single` and in the format of the x87 unit, each call once; `tests/rows/machines.tsv` has
+//! more.
 
 ghost use Rattle.std.specs.Prelude.{◌<◌, ◌≤◌};
 

@@ -1,5 +1,5 @@
-//! Rounding to odd: integers and ends of ranges by hand, and two pairs of formats without room. `tests/rows/odd.tsv` has
-//! more.
+//! Rounding to odd: integers and ends of ranges by hand, and two pairs of formats without room; `tests/rows/odd.tsv`
+//! has more.
 
 ghost use Rattle.std.specs.Prelude.{◌<◌};
 

@@ -40,7 +40,7 @@ takes_more TowardNegative negative odd x y h = refl
 takes_more TowardZero negative odd x y h = refl
 takes_more NearestTiesToAway negative odd x y h = grind arith
 
--- to nearest, ties to even, the upper neighbour is taken only if it is no farther, and not taken only if it is no nearer
+-- to nearest, ties to even, the upper neighbour is taken only if it is no farther, and left only if it is no nearer
 pub even_nearer : (negative odd : Bool) (x y : ℕ) → takes_above NearestTiesToEven negative x y odd ≡ true → y ≤ x
 even_nearer negative odd x y h = grind arith
 
