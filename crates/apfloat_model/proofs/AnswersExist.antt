@@ -33,7 +33,7 @@ abbrev pub HasAnswer : (Datum → ℕ → Type 0) → Type 0
 HasAnswer Says = (value : Datum) × ((status : ℕ) × Says value status)
 
 -- a result given outright exists: it is the given datum and status
-answer_exists : (datum : Datum) (t : ℕ) → HasAnswer (IsAnswer datum t)
+pub answer_exists : (datum : Datum) (t : ℕ) → HasAnswer (IsAnswer datum t)
 answer_exists d t = (d, (t, record { value_is = refl; status_is = refl }))
 
 -- if the choice between two relations depends on whether n is 0, the second needs a result only for n above 0
@@ -49,7 +49,7 @@ match_zero n P Q p q =
 
 module _ (format : Format) (precise : 0 < format.precision) where
   -- each rounding has a result
-  rounded_exists : (mode : Round) (negative : Bool) (amount parts : ℕ) → 0 < parts
+  pub rounded_exists : (mode : Round) (negative : Bool) (amount parts : ℕ) → 0 < parts
       → HasAnswer (IsDelivered format mode negative amount parts)
   rounded_exists mode negative amount parts p = delivered_exists format mode negative amount parts precise p
 

@@ -10,3 +10,5 @@ pub mod rows
 pub mod Once
 pub mod AnswersExist
 pub mod Determined
+pub mod Outcomes
+pub mod OutcomesAgree

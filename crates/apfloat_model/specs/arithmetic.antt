@@ -10,3 +10,4 @@ pub mod Scaling
 pub mod NextUp
 pub mod Signs
 pub mod Conversions
+pub mod Outcomes

@@ -9,3 +9,4 @@ pub mod RoundingToOdd
 pub mod Enclosure
 pub mod Bounds
 pub mod TwoModes
+pub mod Outcome

@@ -58,13 +58,13 @@ invalid_together = neither_together invalid_bit refl refl
 pub invalid_if_together : (test : Bool) → FlagsGoTogether (invalid_if test)
 invalid_if_together test = if_case FlagsGoTogether test (λ e. invalid_together) (λ e. ok_together)
 
-div_by_zero_together : FlagsGoTogether div_by_zero_bit
+pub div_by_zero_together : FlagsGoTogether div_by_zero_bit
 div_by_zero_together = neither_together div_by_zero_bit refl refl
 
-only_inexact_together : FlagsGoTogether inexact_bit
+pub only_inexact_together : FlagsGoTogether inexact_bit
 only_inexact_together = inexact_together inexact_bit (lit< tt)
 
-inexact_unless_together : (exact : Bool) → FlagsGoTogether (inexact_unless exact)
+pub inexact_unless_together : (exact : Bool) → FlagsGoTogether (inexact_unless exact)
 inexact_unless_together exact = if_case FlagsGoTogether exact (λ e. ok_together) (λ e. only_inexact_together)
 
 -- ---- the flags of two statuses
@@ -136,7 +136,7 @@ pub delivered_together : (format : Format) (mode : Round) (negative : Bool) (amo
 delivered_together format mode negative amount parts value status x =
     subst FlagsGoTogether (sym x.status_is) (status_together format mode negative amount parts x.pick)
 
-root_status_together : (format : Format) (mode : Round) (square pick : ℕ)
+pub root_status_together : (format : Format) (mode : Round) (square pick : ℕ)
     → FlagsGoTogether (root_status format mode square pick)
 root_status_together format mode square pick =
     if_case FlagsGoTogether (ltb (largest format) pick)
