@@ -1,18 +1,20 @@
 -- Products with an infinity or a NaN among their factors, and sums with them.
 use Rattle.std.proofs.Common.{◌≡◌, ◌⊎◌, inl, inr, ℕ, Bool, true, false, eqb, sym, subst, refl}
 use Rattle.std.specs.Bool.{MatchBool}
+use Rattle.std.specs.Prelude.{if◌then◌else◌}
 use Rattle.apfloat_model.specs.declared.kinds.Round.{Round}
 use Rattle.apfloat_model.specs.declared.kinds.Category.{Category}
 use Rattle.apfloat_model.specs.declared.kinds.Category.TheVariants.{Infinity, NaN, Normal}
 use Rattle.apfloat_model.specs.formats.Format.{Format}
 use Rattle.apfloat_model.specs.formats.Datum.{Datum, finite, infinite, nan}
-use Rattle.apfloat_model.specs.formats.Nan.{IsInvalid}
+use Rattle.apfloat_model.specs.rounding.Outcome.{exactly, invalid, Yields}
 use Rattle.apfloat_model.specs.rounding.Answer.{IsAnswer}
 use Rattle.apfloat_model.specs.rounding.Rounding.{ok_bits}
 use Rattle.apfloat_model.specs.arithmetic.Exact.{product_sign}
 use Rattle.apfloat_model.specs.arithmetic.Products.{IsProduct}
 use Rattle.apfloat_model.specs.arithmetic.Sums.{IsSum}
 use Rattle.apfloat_model.specs.arithmetic.FusedSums.{IsSumWithProduct}
+use Rattle.apfloat_model.proofs.SpecialSums.{special_sum}
 use Rattle.apfloat_model.specs.order.Classes.{is_finite}
 use Rattle.apfloat_rounding.specs.declared.shape.Shape.{Shape}
 use Rattle.apfloat_rounding.specs.declared.unpacked.Unpacked.{Unpacked}
@@ -25,23 +27,17 @@ not_finite : (shape : Shape) (x : Unpacked) → (x.category ≡ Infinity) ⊎ (x
 not_finite shape x (inl e) = subst (λ (k : Category). is_finite (datum_by k shape x) ≡ false) (sym e) refl
 not_finite shape x (inr e) = subst (λ (k : Category). is_finite (datum_by k shape x) ≡ false) (sym e) refl
 
--- what follows from both cases of a choice follows from the choice
-of_either : (R : Type 0) (test : Bool) (P Q : Type 0) → (P → R) → (Q → R) → MatchBool test P Q → R
-of_either R true P Q p q h = p h
-of_either R false P Q p q h = q h
-
 -- if a given datum that is not finite is the result, the result is not finite
 is_given : (given value : Datum) (flags status : ℕ) → is_finite given ≡ false → IsAnswer given flags value status
     → is_finite value ≡ false
 is_given given value flags status e h = rw h.value_is e
 
 -- the product of a number and an infinity is a NaN or an infinity
-no_number : (format : Format) (negative : Bool) (test : Bool) (value : Datum) (status : ℕ)
-    → MatchBool test (IsInvalid format value status) (IsAnswer (infinite negative) ok_bits value status)
+no_number : (format : Format) (mode : Round) (negative : Bool) (test : Bool) (value : Datum) (status : ℕ)
+    → Yields format mode (if test then invalid format else exactly (infinite negative)) value status
     → is_finite value ≡ false
-no_number format b t value status h =
-    of_either (is_finite value ≡ false) t (IsInvalid format value status) (IsAnswer (infinite b) ok_bits value status)
-    (λ a. is_given _ value _ status refl a) (λ a. is_given _ value _ status refl a) h
+no_number format mode b true value status h = is_given _ value _ status refl h
+no_number format mode b false value status h = is_given _ value _ status refl h
 
 -- a product with a factor that is not finite is not finite
 product_of_special : (format : Format) (mode : Round) (x y value : Datum) (status : ℕ)
@@ -51,10 +47,10 @@ product_of_special format mode (nan b s) y value status e h = is_given _ value _
 product_of_special format mode (infinite b) (nan c t) value status e h = is_given _ value _ status refl h
 product_of_special format mode (infinite b) (infinite c) value status e h = is_given _ value _ status refl h
 product_of_special format mode (infinite b) (finite c n) value status e h =
-    no_number format (product_sign b c) (eqb n 0) value status h
+    no_number format mode (product_sign b c) (eqb n 0) value status h
 product_of_special format mode (finite b m) (nan c t) value status e h = is_given _ value _ status refl h
 product_of_special format mode (finite b m) (infinite c) value status e h =
-    no_number format (product_sign b c) (eqb m 0) value status h
+    no_number format mode (product_sign b c) (eqb m 0) value status h
 product_of_special format mode (finite b m) (finite c n) value status (inl e) h = cc
 product_of_special format mode (finite b m) (finite c n) value status (inr e) h = cc
 
@@ -77,9 +73,13 @@ is_no_number shape mode x y value status (inr k) h e =
     (inr (not_finite shape y k)) h))
 
 -- a fused sum whose product is known: the sum with it, or the product itself if it raised flags
-pub with_product : (format : Format) (mode : Round) (x y z value product : Datum) (status flags : ℕ)
-    → IsProduct format mode x y product flags
-    → MatchBool (eqb flags ok_bits) (IsSum format mode product z value status) (IsAnswer product flags value status)
-    → IsSumWithProduct format mode x y z value status
-with_product format mode x y z value product status flags p i =
-    record { product = product; flags = flags; is_product = p; is = i }
+pub with_product : (shape : Shape) (mode : Round) (x y : Unpacked) (z value product : Datum) (status flags : ℕ)
+    → ((x.category ≡ Infinity) ⊎ (x.category ≡ NaN)) ⊎ ((y.category ≡ Infinity) ⊎ (y.category ≡ NaN))
+    → IsProduct (format_at shape) mode (datum_at shape x) (datum_at shape y) product flags
+    → MatchBool (eqb flags ok_bits) (IsSum (format_at shape) mode product z value status)
+    (IsAnswer product flags value status)
+    → IsSumWithProduct (format_at shape) mode (datum_at shape x) (datum_at shape y) z value status
+with_product shape mode x y z value product status flags (inl k) p i =
+    special_sum (format_at shape) mode _ _ z value product status flags (inl (not_finite shape x k)) p i
+with_product shape mode x y z value product status flags (inr k) p i =
+    special_sum (format_at shape) mode _ _ z value product status flags (inr (not_finite shape y k)) p i

@@ -11,4 +11,5 @@ pub mod Once
 pub mod AnswersExist
 pub mod Determined
 pub mod Outcomes
-pub mod OutcomesAgree
+pub mod SpecialSums
+pub mod Steps

@@ -1,27 +1,27 @@
 -- What holds of every outcome: it is delivered, as one value with one status, whose flags go together.
-use Rattle.std.proofs.Common.{◌≡◌, ℕ, ◌*◌, ◌^◌, ◌<◌, Bool, true, false, eqb, refl, sym, subst, ⊎_elim, lit<, arith}
+use Rattle.std.proofs.Common.{◌≡◌, ℕ, ◌*◌, ◌^◌, ◌<◌, Bool, true, false, eqb, sym, subst, ⊎_elim, lit<, arith}
 use Rattle.std.proofs.lemmas.Nat.{pow_pos}
 use Rattle.std.proofs.lemmas.Bool.{cases_eq, eq-eqb, ne_eqb}
-use Rattle.std.specs.Prelude.{ℤ, if◌then◌else◌}
-use Rattle.std.specs.Bool.{MatchBool}
+use Rattle.std.specs.Prelude.{ℤ, ⊤, if◌then◌else◌}
 use Rattle.apfloat_model.specs.declared.kinds.Round.{Round}
 use Rattle.apfloat_model.specs.formats.Format.{Format}
 use Rattle.apfloat_model.specs.formats.Datum.{Datum, finite, infinite, nan}
-use Rattle.apfloat_model.specs.formats.Constants.{infinity_of}
-use Rattle.apfloat_model.specs.formats.Nan.{invalid_bit}
 use Rattle.apfloat_model.specs.rounding.Rounding.{ok_bits}
-use Rattle.apfloat_model.specs.rounding.Answer.{IsAnswer}
 use Rattle.apfloat_model.specs.rounding.Negation.{negated}
 use Rattle.apfloat_model.specs.rounding.RaisedFlags.{FlagsGoTogether}
 use Rattle.apfloat_model.specs.rounding.Outcome.{Outcome, settled, rounded, totalled, rooted, Yields, IsSound}
-use Rattle.apfloat_model.specs.arithmetic.Outcomes.{sum, difference, product, quotient, root, on_product, fused_sum, remainder, from_unsigned, from_signed, integral, scaled, conversion, invalid, exactly}
-use Rattle.apfloat_model.specs.arithmetic.Exact.{same_sign, product_sign, sign_of, magnitude, down}
-use Rattle.apfloat_model.specs.arithmetic.Sums.{zero_sum_sign}
-use Rattle.apfloat_model.proofs.general.Choices.{if_case}
+use Rattle.apfloat_model.specs.arithmetic.Sums.{sum, difference}
+use Rattle.apfloat_model.specs.arithmetic.Products.{product}
+use Rattle.apfloat_model.specs.arithmetic.Quotients.{quotient}
+use Rattle.apfloat_model.specs.arithmetic.Roots.{root}
+use Rattle.apfloat_model.specs.arithmetic.FusedSums.{on_product, with_product, fused_sum}
+use Rattle.apfloat_model.specs.arithmetic.Remainders.{remainder}
+use Rattle.apfloat_model.specs.whole_numbers.WholeNumbers.{from_unsigned, from_signed, integral}
+use Rattle.apfloat_model.specs.arithmetic.Exact.{same_sign, product_sign, sign_of, magnitude, zero_sum_sign}
 use Rattle.apfloat_model.proofs.rounding.Laws.{delivered_once}
-use Rattle.apfloat_model.proofs.rounding.FlagsTogether.{Together, answer_together, delivered_together, root_status_together, ok_together, invalid_together, invalid_if_together, div_by_zero_together, inexact_unless_together, only_inexact_together}
-use Rattle.apfloat_model.proofs.Once.{Once, answer_once, delivered_root_once}
-use Rattle.apfloat_model.proofs.AnswersExist.{HasAnswer, answer_exists, rounded_exists, delivered_root_exists}
+use Rattle.apfloat_model.proofs.rounding.StatusesTogether.{Together, answer_together, delivered_together, root_status_together, ok_together, invalid_together, invalid_if_together, div_by_zero_together, inexact_unless_together}
+use Rattle.apfloat_model.proofs.rounding.RootsOnce.{Once, answer_once, delivered_root_once}
+use Rattle.apfloat_model.proofs.rounding.DeliveriesExist.{HasAnswer, answer_exists, rounded_exists, delivered_root_exists}
 
 -- ---- the three theorems
 
@@ -50,7 +50,24 @@ yields_together format mode (totalled left right exact parts) h =
 yields_together format mode (rooted square) h =
     λ value status x. subst FlagsGoTogether (sym x.status_is) (root_status_together format mode square x.pick)
 
+-- an outcome whose sign does not depend on the mode
+abbrev pub IsFixed : Outcome → Type 0
+IsFixed (settled datum flags) = FlagsGoTogether flags
+IsFixed (rounded negative amount parts) = 0 < parts
+IsFixed (totalled left right exact parts) = ⊥
+IsFixed (rooted square) = ⊤
+
+fixed_sound : (outcome : Outcome) → IsFixed outcome → IsSound outcome
+fixed_sound (settled datum flags) h = h
+fixed_sound (rounded negative amount parts) h = h
+fixed_sound (totalled left right exact parts) h = absurd h
+fixed_sound (rooted square) h = tt
+
 -- ---- every outcome in the table is sound
+
+fixed_if : (test : Bool) (one other : Outcome) → IsFixed one → IsFixed other → IsFixed (if test then one else other)
+fixed_if true one other h k = h
+fixed_if false one other h k = k
 
 sound_if : (test : Bool) (one other : Outcome) → IsSound one → IsSound other
     → IsSound (if test then one else other)
@@ -58,9 +75,9 @@ sound_if true one other h k = h
 sound_if false one other h k = k
 
 -- the second is had only of n above 0
-sound_unless_zero : (n : ℕ) (one other : Outcome) → IsSound one → (0 < n → IsSound other)
-    → IsSound (if eqb n 0 then one else other)
-sound_unless_zero n one other h k =
+fixed_unless_zero : (n : ℕ) (one other : Outcome) → IsFixed one → (0 < n → IsFixed other)
+    → IsFixed (if eqb n 0 then one else other)
+fixed_unless_zero n one other h k =
     ⊎_elim (λ (e : n ≡ 0). rw (eq-eqb n 0 e) h)
     (λ (e : n ≡ 0 → ⊥). rw (ne_eqb n 0 e) (k (omega (arith, e)))) (cases_eq n 0)
 
@@ -82,25 +99,31 @@ difference_sound format (finite b m) (infinite c) = sum_sound format (finite b m
 difference_sound format (infinite b) (finite c n) = sum_sound format (infinite b) (negated format.nonfinite (finite c n))
 difference_sound format (infinite b) (infinite c) = sum_sound format (infinite b) (negated format.nonfinite (infinite c))
 
+pub product_fixed : (format : Format) (x y : Datum) → IsFixed (product format x y)
+product_fixed format (nan b s) y = invalid_if_together _
+product_fixed format (finite b m) (nan c t) = invalid_if_together _
+product_fixed format (infinite b) (nan c t) = invalid_if_together _
+product_fixed format (finite b m) (infinite c) = fixed_if (eqb m 0) _ _ invalid_together ok_together
+product_fixed format (infinite b) (finite c n) = fixed_if (eqb n 0) _ _ invalid_together ok_together
+product_fixed format (infinite b) (infinite c) = ok_together
+product_fixed format (finite b m) (finite c n) = pow_pos format.scale
+
+pub quotient_fixed : (format : Format) (x y : Datum) → IsFixed (quotient format x y)
+quotient_fixed format (nan b s) y = invalid_if_together _
+quotient_fixed format (finite b m) (nan c t) = invalid_if_together _
+quotient_fixed format (infinite b) (nan c t) = invalid_if_together _
+quotient_fixed format (finite b m) (infinite c) = ok_together
+quotient_fixed format (infinite b) (finite c n) = ok_together
+quotient_fixed format (infinite b) (infinite c) = invalid_together
+quotient_fixed format (finite b m) (finite c n) =
+    fixed_unless_zero n _ (rounded (product_sign b c) (m * 2 ^ format.scale) n)
+    (fixed_if (eqb m 0) _ _ invalid_together div_by_zero_together) (λ h. h)
+
 pub product_sound : (format : Format) (x y : Datum) → IsSound (product format x y)
-product_sound format (nan b s) y = invalid_if_together _
-product_sound format (finite b m) (nan c t) = invalid_if_together _
-product_sound format (infinite b) (nan c t) = invalid_if_together _
-product_sound format (finite b m) (infinite c) = sound_if (eqb m 0) _ _ invalid_together ok_together
-product_sound format (infinite b) (finite c n) = sound_if (eqb n 0) _ _ invalid_together ok_together
-product_sound format (infinite b) (infinite c) = ok_together
-product_sound format (finite b m) (finite c n) = pow_pos format.scale
+product_sound format x y = fixed_sound (product format x y) (product_fixed format x y)
 
 pub quotient_sound : (format : Format) (x y : Datum) → IsSound (quotient format x y)
-quotient_sound format (nan b s) y = invalid_if_together _
-quotient_sound format (finite b m) (nan c t) = invalid_if_together _
-quotient_sound format (infinite b) (nan c t) = invalid_if_together _
-quotient_sound format (finite b m) (infinite c) = ok_together
-quotient_sound format (infinite b) (finite c n) = ok_together
-quotient_sound format (infinite b) (infinite c) = invalid_together
-quotient_sound format (finite b m) (finite c n) =
-    sound_unless_zero n _ (rounded (product_sign b c) (m * 2 ^ format.scale) n)
-    (sound_if (eqb m 0) _ _ invalid_together div_by_zero_together) (λ h. h)
+quotient_sound format x y = fixed_sound (quotient format x y) (quotient_fixed format x y)
 
 pub root_sound : (format : Format) (x : Datum) → IsSound (root format x)
 root_sound format (nan b s) = invalid_if_together _
@@ -116,7 +139,7 @@ on_product_sound format z (totalled left right exact parts) h = h
 on_product_sound format z (rooted square) h = h
 
 with_product_sound : (format : Format) (x y z : Datum)
-    → IsSound (on_product format z (product format x y))
+    → IsSound (with_product format x y z)
 with_product_sound format x y z =
     on_product_sound format z (product format x y) (product_sound format x y)
 
@@ -148,16 +171,3 @@ pub integral_sound : (format : Format) (mode : Round) (x : Datum) → IsSound (i
 integral_sound format mode (nan b s) = invalid_if_together _
 integral_sound format mode (infinite b) = ok_together
 integral_sound format mode (finite b n) = inexact_unless_together _
-
-pub scaled_sound : (format : Format) (x : Datum) (places : ℤ) → IsSound (scaled format x places)
-scaled_sound format (nan b s) places = invalid_if_together _
-scaled_sound format (infinite b) places = ok_together
-scaled_sound format (finite b n) places = pow_pos (down places)
-
-kept_sound : (test : Bool) → FlagsGoTogether (if test then 16 else ok_bits)
-kept_sound test = if_case FlagsGoTogether test (λ l. only_inexact_together) (λ k. ok_together)
-
-pub conversion_sound : (from into : Format) (x : Datum) → IsSound (conversion from into x)
-conversion_sound from into (nan b s) = invalid_if_together _
-conversion_sound from into (infinite b) = kept_sound _
-conversion_sound from into (finite b n) = sound_if (eqb n 0) _ _ (kept_sound _) (pow_pos from.scale)

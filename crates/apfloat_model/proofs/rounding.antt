@@ -7,7 +7,10 @@ pub mod Picks
 pub mod PickedPoints
 pub mod Deliveries
 pub mod Laws
+pub mod StatusesTogether
 pub mod FlagsTogether
+pub mod RootsOnce
+pub mod DeliveriesExist
 pub mod ModesAgree
 pub mod Tininess
 pub mod FarMagnitudes

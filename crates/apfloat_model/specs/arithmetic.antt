@@ -10,4 +10,3 @@ pub mod Scaling
 pub mod NextUp
 pub mod Signs
 pub mod Conversions
-pub mod Outcomes

@@ -9,4 +9,6 @@ pub mod RoundingToOdd
 pub mod Enclosure
 pub mod Bounds
 pub mod TwoModes
+pub mod DeliveredRoots
 pub mod Outcome
+pub mod Steps

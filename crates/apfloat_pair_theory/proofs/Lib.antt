@@ -5,3 +5,4 @@ pub mod products
 pub mod parts
 pub mod calls
 pub mod RefusedAnswers
+pub mod PairSumSteps

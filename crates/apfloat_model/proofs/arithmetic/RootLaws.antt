@@ -5,13 +5,13 @@ use Rattle.std.proofs.lemmas.Nat.{pow_pos, pow-add}
 use Rattle.std.proofs.lemmas.Bool.{cases_lt}
 use Rattle.apfloat_model.specs.declared.kinds.Round.TheVariants.{NearestTiesToEven, NearestTiesToAway}
 use Rattle.apfloat_model.specs.declared.kinds.Round.{Round}
-use Rattle.std.specs.Bool.{MatchBool}
 use Rattle.apfloat_model.specs.formats.Members.{IsMember}
 use Rattle.apfloat_model.specs.formats.Format.{Format, smallest_normalized, largest}
 use Rattle.apfloat_model.specs.formats.Datum.{Datum, finite, infinite, nan}
 use Rattle.apfloat_model.specs.rounding.Grid.{IsOnGrid}
 use Rattle.apfloat_model.specs.rounding.Rounding.{takes_above, IsDelivered, ok_bits, overflow_bit, underflow_bit, inexact_bit, raises_overflow}
 use Rattle.apfloat_model.specs.rounding.Enclosure.{IsEnclosed}
+use Rattle.apfloat_model.specs.rounding.Outcome.{Outcome, rooted, exactly, invalid, Yields}
 use Rattle.apfloat_model.specs.arithmetic.Roots.{IsBelowRoot, IsAboveRoot, root_between, IsRootPick, root_rounds_below_normal, IsDeliveredRoot, IsRoot}
 use Rattle.apfloat_model.proofs.general.Choices.{either}
 use Rattle.apfloat_model.proofs.general.Powers.{two_pos, twice_power, twice_half}
@@ -235,16 +235,25 @@ nearest_agree format quanta value status p g d =
           (below_normal_agree format.precision (quanta * 2 ^ format.scale) p);
     }
 
--- a fact chosen by a test, with one of the two choices replaced by what it implies
-implied_choice : (test : Bool) (P Q R : Type 0) → (Q → R) → MatchBool test P Q → MatchBool test P R
-implied_choice true P Q R f h = h
-implied_choice false P Q R f h = f h
+-- what holds of each of two outcomes in another mode holds of the one that a test chooses
+either_mode : (format : Format) (mode other : Round) (test : Bool) (one two : Outcome) (value : Datum) (status : ℕ)
+    → (Yields format mode one value status → Yields format other one value status)
+    → (Yields format mode two value status → Yields format other two value status)
+    → Yields format mode (if test then one else two) value status
+    → Yields format other (if test then one else two) value status
+either_mode format mode other true one two v s f g h = f h
+either_mode format mode other false one two v s f g h = g h
 
 -- both modes to nearest give the same root of each value of a format
 pub root_nearest : (format : Format) (x value : Datum) (status : ℕ) → 0 < format.precision → IsMember format x
     → IsRoot format NearestTiesToEven x value status → IsRoot format NearestTiesToAway x value status
 root_nearest format (nan b s) value status p member h = h
-root_nearest format (infinite b) value status p member h = h
-root_nearest format (finite true n) value status p member h = h
+root_nearest format (infinite true) value status p member h = h
+root_nearest format (infinite false) value status p member h = h
+root_nearest format (finite true n) value status p member h =
+    either_mode format NearestTiesToEven NearestTiesToAway (eqb n 0) (exactly (finite true 0)) (invalid format) value
+    status (λ d. d) (λ d. d) h
 root_nearest format (finite false n) value status p member h =
-    implied_choice (eqb n 0) _ _ _ (λ d. nearest_agree format n value status p member.on_grid d) h
+    either_mode format NearestTiesToEven NearestTiesToAway (eqb n 0) (exactly (finite false 0))
+    (rooted (n * 2 ^ format.scale)) value status (λ d. d)
+    (λ d. nearest_agree format n value status p member.on_grid d) h

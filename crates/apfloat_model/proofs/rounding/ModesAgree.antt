@@ -1,28 +1,31 @@
 -- Where a rounding is exact, each mode has the same result.
-use Rattle.std.proofs.Common.{◌≡◌, ℕ, zero, suc, ◌+◌, ◌-◌, ◌*◌, ◌/◌, ◌%◌, ◌^◌, ◌<◌, Bool, true, false, cond, ltb, eqb, sym, refl, ◌∙◌, subst, arith, ◌⊎◌, inl, inr, ⊎_elim, lit<, ap}
+use Rattle.std.proofs.Common.{◌≡◌, ℕ, zero, suc, ◌+◌, ◌-◌, ◌*◌, ◌/◌, ◌%◌, ◌^◌, ◌<◌, Bool, true, false, cond, ltb, eqb, sym, refl, ◌∙◌, subst, arith, ◌⊎◌, inl, inr, lit<, ap}
 use Rattle.std.specs.Prelude.{ℤ, pos, negsuc, ◌+ℤ◌, ◌-ℤ◌, if◌then◌else◌, List}
-use Rattle.std.specs.Bool.{MatchBool}
 use Rattle.std.proofs.lemmas.Nat.{pow_pos}
-use Rattle.std.proofs.lemmas.Bool.{ltb-false, eqb-true, cases_eq, eq-eqb, ne_eqb}
+use Rattle.std.proofs.lemmas.Bool.{ltb-false, eqb-true}
 use Rattle.apfloat_model.specs.declared.kinds.Round.{Round}
 use Rattle.apfloat_model.specs.formats.Format.{Format, largest}
 use Rattle.apfloat_model.specs.formats.Datum.{Datum, finite, infinite, nan}
 use Rattle.apfloat_model.specs.rounding.Grid.{IsOnGrid}
 use Rattle.apfloat_model.specs.rounding.Rounding.{takes_above, IsPick, ok_bits, overflow_bit, underflow_bit, inexact_bit, raises_overflow, is_tiny, zero_sign, signed_quanta, delivered_value, delivered_status, IsDelivered}
 use Rattle.apfloat_model.specs.rounding.Answer.{IsAnswer}
-use Rattle.apfloat_model.specs.rounding.Negation.{negated}
 use Rattle.apfloat_model.specs.order.Classes.{is_zero}
-use Rattle.apfloat_model.specs.arithmetic.Exact.{same_sign, product_sign, signed, magnitude, sign_of, IsRounded, down}
-use Rattle.apfloat_model.specs.arithmetic.Sums.{zero_sum_sign, IsSum, IsDifference}
+use Rattle.apfloat_model.specs.arithmetic.Exact.{magnitude, IsRounded, down}
+use Rattle.apfloat_model.specs.arithmetic.Sums.{zero_sum_sign, sum, difference, IsSum, IsDifference}
 use Rattle.apfloat_model.specs.arithmetic.Conversions.{IsConversion}
-use Rattle.apfloat_model.specs.whole_numbers.WholeNumbers.{IsFromUnsigned, IsFromSigned}
+use Rattle.apfloat_model.specs.whole_numbers.WholeNumbers.{from_unsigned, from_signed, IsFromUnsigned, IsFromSigned}
 use Rattle.apfloat_model.specs.texts.Specials.{Meaning, infinity, not_a_number, hexadecimal}
 use Rattle.apfloat_model.specs.texts.Readings.{IsMeant, IsReading}
-use Rattle.apfloat_model.specs.arithmetic.Products.{IsProduct}
-use Rattle.apfloat_model.specs.arithmetic.Quotients.{IsQuotient}
-use Rattle.apfloat_model.specs.arithmetic.FusedSums.{IsSumWithProduct, IsFusedSum}
-use Rattle.apfloat_model.proofs.general.Choices.{if_case, not_zero, above_zero}
+use Rattle.apfloat_model.specs.arithmetic.Products.{product, IsProduct}
+use Rattle.apfloat_model.specs.arithmetic.Quotients.{quotient, IsQuotient}
+use Rattle.apfloat_model.specs.arithmetic.FusedSums.{fused_sum, IsFusedSum}
+use Rattle.apfloat_model.proofs.general.Choices.{if_case, not_zero, either}
 use Rattle.apfloat_model.proofs.rounding.Laws.{delivered_once, exact_delivered, zero_delivered}
+use Rattle.apfloat_model.specs.rounding.DeliveredRoots.{is_tiny_root, root_status, IsDeliveredRoot}
+use Rattle.apfloat_model.specs.rounding.Outcome.{Outcome, settled, rounded, totalled, rooted, Yields, IsSound}
+use Rattle.apfloat_model.proofs.arithmetic.RootSides.{root_le}
+use Rattle.apfloat_model.proofs.rounding.RootsOnce.{below_root_unique, above_root_unique}
+use Rattle.apfloat_model.proofs.Outcomes.{IsFixed, product_fixed, quotient_fixed, sum_sound, difference_sound, fused_sum_sound}
 use Rattle.apfloat_model.proofs.texts.OneMeaning.{one_meaning}
 
 -- ---- a status that is OK
@@ -97,47 +100,59 @@ delivered_agrees format negative amount parts p mode other v w s x y =
 answer_agrees : (datum : Datum) (flags : ℕ) → AgreesWhereOk (λ mode. IsAnswer datum flags)
 answer_agrees datum flags mode other v w s x y = (y.value_is ∙ sym x.value_is, y.status_is ∙ sym x.status_is)
 
--- if two relations agree where they are OK, so does the one that a test chooses
-match_agrees : (test : Bool) (P Q : Round → Datum → ℕ → Type 0) → (test ≡ true → AgreesWhereOk P)
-    → (test ≡ false → AgreesWhereOk Q) → AgreesWhereOk (λ mode v s. MatchBool test (P mode v s) (Q mode v s))
-match_agrees true P Q p q = p refl
-match_agrees false P Q p q = q refl
+-- a root with status OK in one mode has the same value, with status OK, in each mode
+root_agrees : (format : Format) (square : ℕ) → AgreesWhereOk (λ mode. IsDeliveredRoot format mode square)
+root_agrees format square mode other v w s x y =
+    let t = ok_tests (ltb (largest format) x.pick) (eqb (x.pick * x.pick) square) (raises_overflow format mode false)
+    (is_tiny_root format mode square x.pick) (sym x.status_is) in
+    let e : x.pick * x.pick ≡ square = eqb-true (x.pick * x.pick) square t.1 in
+    let g : IsOnGrid format.precision x.pick =
+    subst (λ (point : ℕ). IsOnGrid format.precision point) (sym x.is_pick.is)
+    (if_case (λ (point : ℕ). IsOnGrid format.precision point)
+    (takes_above mode false (4 * square) ((x.is_pick.below + x.is_pick.above) * (x.is_pick.below + x.is_pick.above))
+    (eqb (x.is_pick.below / (x.is_pick.above - x.is_pick.below) % 2) 1))
+    (λ above. x.is_pick.is_above.on_grid) (λ below. x.is_pick.is_below.on_grid)) in
+    let low : y.is_pick.below ≡ x.pick = below_root_unique format.precision _ _ square y.is_pick.is_below
+    (record {
+      on_grid = g;
+      not_above = omega (arith, e);
+      greatest = λ point _ l. root_le point x.pick (omega (arith, e, l));
+    }) in
+    let high : y.is_pick.above ≡ x.pick = above_root_unique format.precision _ _ square y.is_pick.is_above
+    (record {
+      on_grid = g;
+      not_below = omega (arith, e);
+      least = λ point _ l. root_le x.pick point (omega (arith, e, l));
+    }) in
+    let same : y.pick ≡ x.pick = y.is_pick.is ∙ either _ _ _ (high ∙ sym low) ∙ high in
+    let a : ltb (largest format) x.pick ≡ false = t.0 in
+    let value : delivered_value format other false x.pick ≡ delivered_value format mode false x.pick = rw a refl in
+    let status : root_status format other square x.pick ≡ ok_bits = rw (a, t.1) refl in (
+      y.value_is ∙ ap (λ (p : ℕ). delivered_value format other false p) same ∙ value ∙ sym x.value_is,
+      y.status_is ∙ ap (λ (p : ℕ). root_status format other square p) same ∙ status,
+    )
+
+-- ---- every outcome
+
+pub outcome_agrees : (format : Format) (outcome : Outcome) → IsFixed outcome
+    → AgreesWhereOk (λ mode. Yields format mode outcome)
+outcome_agrees format (settled datum flags) h = answer_agrees datum flags
+outcome_agrees format (rounded negative amount parts) h = delivered_agrees format negative amount parts h
+outcome_agrees format (totalled left right exact parts) h = absurd h
+outcome_agrees format (rooted square) h = root_agrees format square
 
 pub product_agrees : (format : Format) (x y : Datum) → AgreesWhereOk (λ mode. IsProduct format mode x y)
-product_agrees format (nan b s) y = answer_agrees _ _
-product_agrees format (finite b m) (nan c t) = answer_agrees _ _
-product_agrees format (infinite b) (nan c t) = answer_agrees _ _
-product_agrees format (finite b m) (infinite c) =
-    match_agrees (eqb m 0) (λ mode. IsAnswer _ _) (λ mode. IsAnswer _ _) (λ e. answer_agrees _ _)
-    (λ e. answer_agrees _ _)
-product_agrees format (infinite b) (finite c n) =
-    match_agrees (eqb n 0) (λ mode. IsAnswer _ _) (λ mode. IsAnswer _ _) (λ e. answer_agrees _ _)
-    (λ e. answer_agrees _ _)
-product_agrees format (infinite b) (infinite c) = answer_agrees _ _
-product_agrees format (finite b m) (finite c n) =
-    delivered_agrees format (product_sign b c) (m * n) (2 ^ format.scale) (pow_pos format.scale)
+product_agrees format x y = outcome_agrees format (product format x y) (product_fixed format x y)
 
 pub quotient_agrees : (format : Format) (x y : Datum) → AgreesWhereOk (λ mode. IsQuotient format mode x y)
-quotient_agrees format (nan b s) y = answer_agrees _ _
-quotient_agrees format (finite b m) (nan c t) = answer_agrees _ _
-quotient_agrees format (infinite b) (nan c t) = answer_agrees _ _
-quotient_agrees format (finite b m) (infinite c) = answer_agrees _ _
-quotient_agrees format (infinite b) (finite c n) = answer_agrees _ _
-quotient_agrees format (infinite b) (infinite c) = answer_agrees _ _
-quotient_agrees format (finite b m) (finite c n) =
-    match_agrees (eqb n 0) (λ mode v s. MatchBool (eqb m 0) (IsAnswer _ _ v s) (IsAnswer _ _ v s))
-    (λ mode. IsDelivered format mode (product_sign b c) (m * 2 ^ format.scale) n)
-    (λ e. match_agrees (eqb m 0) (λ mode. IsAnswer _ _) (λ mode. IsAnswer _ _) (λ e. answer_agrees _ _)
-    (λ e. answer_agrees _ _))
-    (λ e. delivered_agrees format (product_sign b c) (m * 2 ^ format.scale) n (above_zero n e))
+quotient_agrees format x y = outcome_agrees format (quotient format x y) (quotient_fixed format x y)
 
 pub from_unsigned_agrees : (format : Format) (number : ℕ)
     → AgreesWhereOk (λ mode. IsFromUnsigned format mode number)
-from_unsigned_agrees format number = delivered_agrees format false (number * 2 ^ format.scale) 1 (lit< tt)
+from_unsigned_agrees format number = outcome_agrees format (from_unsigned format number) (lit< tt)
 
 pub from_signed_agrees : (format : Format) (number : ℤ) → AgreesWhereOk (λ mode. IsFromSigned format mode number)
-from_signed_agrees format number =
-    delivered_agrees format (sign_of false number) (magnitude number * 2 ^ format.scale) 1 (lit< tt)
+from_signed_agrees format number = outcome_agrees format (from_signed format number) (lit< tt)
 
 -- a conversion, whether or not it loses information
 pub conversion_agrees : (from into : Format) (x : Datum)
@@ -195,75 +210,19 @@ rounded_agrees format of_zero (pos (suc n)) parts p =
 rounded_agrees format of_zero (negsuc n) parts p =
     agrees_too _ (delivered_agrees format true (magnitude (negsuc n)) parts p)
 
+pub total_agrees : (format : Format) (outcome : Outcome) → IsSound outcome
+    → AgreesButForZeros (λ mode. Yields format mode outcome)
+total_agrees format (settled datum flags) h = agrees_too _ (answer_agrees datum flags)
+total_agrees format (rounded negative amount parts) h = agrees_too _ (delivered_agrees format negative amount parts h)
+total_agrees format (totalled left right exact parts) h =
+    rounded_agrees format (λ mode. zero_sum_sign mode left right) exact parts h
+total_agrees format (rooted square) h = agrees_too _ (root_agrees format square)
+
 pub sum_agrees : (format : Format) (x y : Datum) → AgreesButForZeros (λ mode. IsSum format mode x y)
-sum_agrees format (nan b s) y = agrees_too _ (answer_agrees _ _)
-sum_agrees format (finite b m) (nan c t) = agrees_too _ (answer_agrees _ _)
-sum_agrees format (infinite b) (nan c t) = agrees_too _ (answer_agrees _ _)
-sum_agrees format (infinite b) (infinite c) =
-    agrees_too _
-    (match_agrees (same_sign b c) (λ mode. IsAnswer _ _) (λ mode. IsAnswer _ _) (λ e. answer_agrees _ _)
-    (λ e. answer_agrees _ _))
-sum_agrees format (infinite b) (finite c n) = agrees_too _ (answer_agrees _ _)
-sum_agrees format (finite b m) (infinite c) = agrees_too _ (answer_agrees _ _)
-sum_agrees format (finite b m) (finite c n) =
-    rounded_agrees format (λ mode. zero_sum_sign mode b c) (signed b m +ℤ signed c n) 1 (lit< tt)
+sum_agrees format x y = total_agrees format (sum format x y) (sum_sound format x y)
 
 pub difference_agrees : (format : Format) (x y : Datum) → AgreesButForZeros (λ mode. IsDifference format mode x y)
-difference_agrees format (nan b s) y = agrees_too _ (answer_agrees _ _)
-difference_agrees format (finite b m) (nan c t) = agrees_too _ (answer_agrees _ _)
-difference_agrees format (infinite b) (nan c t) = agrees_too _ (answer_agrees _ _)
-difference_agrees format (finite b m) (finite c n) = sum_agrees format (finite b m)
-    (negated format.nonfinite (finite c n))
-difference_agrees format (finite b m) (infinite c) = sum_agrees format (finite b m)
-    (negated format.nonfinite (infinite c))
-difference_agrees format (infinite b) (finite c n) = sum_agrees format (infinite b)
-    (negated format.nonfinite (finite c n))
-difference_agrees format (infinite b) (infinite c) = sum_agrees format (infinite b)
-    (negated format.nonfinite (infinite c))
-
--- a fused sum with a special factor has status OK only if its product has
-flags_ok : (format : Format) (mode : Round) (product z value : Datum) (flags : ℕ)
-    → MatchBool (eqb flags ok_bits) (IsSum format mode product z value ok_bits)
-    (IsAnswer product flags value ok_bits)
-    → flags ≡ ok_bits
-flags_ok format mode product z value flags h =
-    ⊎_elim (λ (e : flags ≡ ok_bits). e)
-    (λ (n : flags ≡ ok_bits → ⊥).
-    let a : IsAnswer product flags value ok_bits =
-    subst
-    (λ (t : Bool). MatchBool t (IsSum format mode product z value ok_bits) (IsAnswer product flags value ok_bits))
-    (ne_eqb flags ok_bits n) h in
-    sym a.status_is)
-    (cases_eq flags ok_bits)
-
--- a fused sum with a special factor and status OK is the sum of the product and the addend
-pub added : (format : Format) (mode : Round) (product z value : Datum) (flags status : ℕ) → flags ≡ ok_bits
-    → MatchBool (eqb flags ok_bits) (IsSum format mode product z value status) (IsAnswer product flags value status)
-    → IsSum format mode product z value status
-added format mode product z value flags status e h =
-    subst (λ (t : Bool). MatchBool t (IsSum format mode product z value status) (IsAnswer product flags value status))
-    (eq-eqb flags ok_bits e) h
-
--- if a factor is an infinity or a NaN: the product is the same in each mode, and so is what is added to it
-sum_with_product_agrees : (format : Format) (x y z : Datum)
-    → AgreesButForZeros (λ mode. IsSumWithProduct format mode x y z)
-sum_with_product_agrees format x y z mode other v w s h k =
-    let a : h.flags ≡ ok_bits = flags_ok format mode h.product z v h.flags h.is in
-    let product : IsProduct format mode x y h.product ok_bits =
-    subst (λ (t : ℕ). IsProduct format mode x y h.product t) a h.is_product in
-    let same = product_agrees format x y mode other h.product k.product k.flags product k.is_product in
-    let left = added format mode h.product z v h.flags ok_bits a h.is in
-    let right = added format other k.product z w k.flags s same.1 k.is in
-    sum_agrees format h.product z mode other v w s left
-    (subst (λ (d : Datum). IsSum format other d z w s) same.0 right)
+difference_agrees format x y = total_agrees format (difference format x y) (difference_sound format x y)
 
 pub fused_sum_agrees : (format : Format) (x y z : Datum) → AgreesButForZeros (λ mode. IsFusedSum format mode x y z)
-fused_sum_agrees format (finite b l) (finite c m) (finite d n) =
-    rounded_agrees format (λ mode. zero_sum_sign mode (product_sign b c) d)
-    (signed (product_sign b c) (l * m) +ℤ signed d (n * 2 ^ format.scale)) (2 ^ format.scale) (pow_pos format.scale)
-fused_sum_agrees format (finite b l) (finite c m) (infinite d) = sum_agrees format (finite b l) (infinite d)
-fused_sum_agrees format (finite b l) (finite c m) (nan d t) = sum_agrees format (finite b l) (nan d t)
-fused_sum_agrees format (finite b l) (infinite c) z = sum_with_product_agrees format (finite b l) (infinite c) z
-fused_sum_agrees format (finite b l) (nan c t) z = sum_with_product_agrees format (finite b l) (nan c t) z
-fused_sum_agrees format (infinite b) y z = sum_with_product_agrees format (infinite b) y z
-fused_sum_agrees format (nan b u) y z = sum_with_product_agrees format (nan b u) y z
+fused_sum_agrees format x y z = total_agrees format (fused_sum format x y z) (fused_sum_sound format x y z)

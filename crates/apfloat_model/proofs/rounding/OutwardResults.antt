@@ -1,7 +1,6 @@
 -- Results of an operation rounded downward and upward are in order, and equal exactly where they are exact.
-use Rattle.std.proofs.Common.{◌≡◌, ℕ, zero, suc, ◌*◌, ◌^◌, ◌<◌, ◌⊎◌, Bool, true, false, cond, eqb, sym, refl, ap, ◌∙◌, subst, inl, inr, ⊎_elim, lit<, arith}
-use Rattle.std.specs.Prelude.{not, ◌&&◌, ℤ, pos, negsuc, ◌+ℤ◌, ◌-ℤ◌, ◌≤ℤ◌, List}
-use Rattle.std.specs.Bool.{MatchBool}
+use Rattle.std.proofs.Common.{◌≡◌, ℕ, zero, suc, ◌*◌, ◌^◌, ◌<◌, ◌⊎◌, Bool, true, false, cond, eqb, sym, refl, ◌∙◌, subst, inl, inr, ⊎_elim, lit<, arith}
+use Rattle.std.specs.Prelude.{not, if◌then◌else◌, ◌&&◌, ℤ, pos, negsuc, ◌+ℤ◌, ◌-ℤ◌, ◌≤ℤ◌, List}
 use Rattle.std.proofs.lemmas.Bool.{true≢false, false≢true}
 use Rattle.std.proofs.lemmas.Nat.{pow_pos}
 use Rattle.apfloat_model.specs.declared.kinds.NonfiniteBehavior.{NonfiniteBehavior}
@@ -10,16 +9,17 @@ use Rattle.apfloat_model.specs.declared.kinds.Round.{Round}
 use Rattle.apfloat_model.specs.declared.kinds.Round.TheVariants.{TowardPositive, TowardNegative}
 use Rattle.apfloat_model.specs.arithmetic.Conversions.{has_infinities, converted_nan, IsConverted, IsConversion}
 use Rattle.apfloat_model.specs.arithmetic.Exact.{same_sign, product_sign, signed, magnitude, sign_of, IsRounded, down}
-use Rattle.apfloat_model.specs.arithmetic.FusedSums.{IsSumWithProduct, IsFusedSum}
-use Rattle.apfloat_model.specs.arithmetic.Products.{IsProduct}
+use Rattle.apfloat_model.specs.arithmetic.FusedSums.{on_product, with_product, IsFusedSum}
+use Rattle.apfloat_model.specs.arithmetic.Products.{product, IsProduct}
 use Rattle.apfloat_model.specs.arithmetic.Quotients.{div_by_zero_bit, IsQuotient}
-use Rattle.apfloat_model.specs.arithmetic.Sums.{zero_sum_sign, IsSum, IsDifference}
+use Rattle.apfloat_model.specs.arithmetic.Sums.{zero_sum_sign, sum, IsSum, IsDifference}
 use Rattle.apfloat_model.specs.formats.Constants.{infinity_of}
 use Rattle.apfloat_model.specs.formats.Datum.{Datum, finite, infinite, nan}
 use Rattle.apfloat_model.specs.formats.Format.{Format, nan_base}
-use Rattle.apfloat_model.specs.formats.Nan.{invalid_bit, IsInvalid, quieted, quiet_significand}
+use Rattle.apfloat_model.specs.formats.Nan.{invalid_bit, quieted, quiet_significand}
 use Rattle.apfloat_model.specs.order.Classes.{is_finite, is_nan, is_zero}
 use Rattle.apfloat_model.specs.rounding.Answer.{IsAnswer}
+use Rattle.apfloat_model.specs.rounding.Outcome.{Outcome, settled, rounded, totalled, rooted, exactly, invalid, Yields}
 use Rattle.apfloat_model.specs.rounding.Negation.{negated}
 use Rattle.apfloat_model.specs.rounding.Rounding.{ok_bits, inexact_bit, past_largest, zero_sign, signed_quanta, IsDelivered}
 use Rattle.apfloat_model.specs.rounding.TwoModes.{AreBounds, IsOk, IsOkOrOfZero}
@@ -29,7 +29,6 @@ use Rattle.apfloat_model.specs.whole_numbers.WholeNumbers.{IsFromUnsigned, IsFro
 use Rattle.apfloat_model.proofs.arithmetic.Signs.{no_sign}
 use Rattle.apfloat_model.proofs.general.Choices.{not_zero, above_zero}
 use Rattle.apfloat_model.proofs.rounding.Laws.{delivered_once, zero_delivered}
-use Rattle.apfloat_model.proofs.rounding.ModesAgree.{added, product_agrees}
 use Rattle.apfloat_model.proofs.texts.OneMeaning.{one_meaning}
 use Rattle.apfloat_model.proofs.rounding.OutwardRoundings.{at_most_self, equal_to_self, equal_numbers, number_at_most, Encloses, delivered_encloses}
 
@@ -60,19 +59,20 @@ nan_encloses : (IsExact : ℕ → Type 0) (negative : Bool) (significand flags :
 nan_encloses IsExact negative significand flags =
     answer_encloses IsExact (nan negative significand) flags (λ n. absurd (true≢false n))
 
--- if two relations give bounds, so does the one that a test chooses
-match_encloses : (IsExact : ℕ → Type 0) (test : Bool) (P Q : Round → Datum → ℕ → Type 0)
-    → (test ≡ true → Encloses IsExact P) → (test ≡ false → Encloses IsExact Q)
-    → Encloses IsExact (λ mode v s. MatchBool test (P mode v s) (Q mode v s))
-match_encloses IsExact true P Q p q = p refl
-match_encloses IsExact false P Q p q = q refl
+-- if two outcomes give bounds, so does the one that a test chooses
+if_encloses : (IsExact : ℕ → Type 0) (format : Format) (test : Bool) (one other : Outcome)
+    → (test ≡ true → Encloses IsExact (λ mode. Yields format mode one))
+    → (test ≡ false → Encloses IsExact (λ mode. Yields format mode other))
+    → Encloses IsExact (λ mode. Yields format mode (if test then one else other))
+if_encloses IsExact format true one other p q = p refl
+if_encloses IsExact format false one other p q = q refl
 
 -- an invalid operation or a result given outright, as a test chooses, gives bounds
 invalid_or_encloses : (IsExact : ℕ → Type 0) (format : Format) (test : Bool) (datum : Datum) (flags : ℕ)
     → (test ≡ false → is_nan datum ≡ false → IsExact flags)
-    → Encloses IsExact (λ mode v s. MatchBool test (IsInvalid format v s) (IsAnswer datum flags v s))
+    → Encloses IsExact (λ mode. Yields format mode (if test then invalid format else settled datum flags))
 invalid_or_encloses IsExact format test datum flags e =
-    match_encloses IsExact test (λ mode. IsInvalid format) (λ mode. IsAnswer datum flags)
+    if_encloses IsExact format test (invalid format) (settled datum flags)
     (λ _. nan_encloses IsExact false (quiet_significand format 0) invalid_bit)
     (λ t. answer_encloses IsExact datum flags (e t))
 
@@ -117,10 +117,9 @@ quotient_encloses format (infinite b) (finite c n) =
 quotient_encloses format (infinite b) (infinite c) =
     nan_encloses (IsOkOrOfZero (infinite c)) false (quiet_significand format 0) invalid_bit
 quotient_encloses format (finite b m) (finite c n) =
-    match_encloses (IsOkOrOfZero (finite c n)) (eqb n 0)
-    (λ mode v s. MatchBool (eqb m 0) (IsInvalid format v s)
-    (IsAnswer (infinity_of format (product_sign b c)) div_by_zero_bit v s))
-    (λ mode. IsDelivered format mode (product_sign b c) (m * 2 ^ format.scale) n)
+    if_encloses (IsOkOrOfZero (finite c n)) format (eqb n 0)
+    (if eqb m 0 then invalid format else settled (infinity_of format (product_sign b c)) div_by_zero_bit)
+    (rounded (product_sign b c) (m * 2 ^ format.scale) n)
     (λ e. invalid_or_encloses (IsOkOrOfZero (finite c n)) format (eqb m 0) (infinity_of format (product_sign b c))
     div_by_zero_bit (λ _ _. inr e))
     (λ e low high s t d g k l. exact_by_ok (finite c n) low high s t e
@@ -217,9 +216,8 @@ sum_encloses format (nan b s) y = nan_encloses IsOk b (quieted format s) _
 sum_encloses format (finite b m) (nan c t) = nan_encloses IsOk c (quieted format t) _
 sum_encloses format (infinite b) (nan c t) = nan_encloses IsOk c (quieted format t) _
 sum_encloses format (infinite b) (infinite c) =
-    match_encloses IsOk (same_sign b c) (λ mode. IsAnswer (infinite b) ok_bits) (λ mode. IsInvalid format)
-    (λ e. ok_encloses (infinite b))
-    (λ e. nan_encloses IsOk false (quiet_significand format 0) invalid_bit)
+    if_encloses IsOk format (same_sign b c) (exactly (infinite b)) (invalid format)
+    (λ e. ok_encloses (infinite b)) (λ e. nan_encloses IsOk false (quiet_significand format 0) invalid_bit)
 sum_encloses format (infinite b) (finite c n) = ok_encloses (infinite b)
 sum_encloses format (finite b m) (infinite c) = ok_encloses (infinite c)
 sum_encloses format (finite b m) (finite c n) =
@@ -238,60 +236,50 @@ difference_encloses format (infinite b) (finite c n) = sum_encloses format (infi
 difference_encloses format (infinite b) (infinite c) = sum_encloses format (infinite b)
     (negated format.nonfinite (infinite c))
 
--- a product of operands that are not both numbers is a NaN, or has status OK
-invalid_or_ok : (format : Format) (test : Bool) (datum value : Datum) (status : ℕ)
-    → MatchBool test (IsInvalid format value status) (IsAnswer datum ok_bits value status)
-    → (is_nan value ≡ true) ⊎ (status ≡ ok_bits)
-invalid_or_ok format true datum v s h = inl (ap is_nan h.value_is)
-invalid_or_ok format false datum v s h = inr h.status_is
+-- the outcome of a product with an infinity or a NaN
+abbrev pub IsNanOrExact : Outcome → Type 0
+IsNanOrExact (settled datum flags) = (is_nan datum ≡ true) ⊎ (flags ≡ ok_bits)
+IsNanOrExact (rounded negative amount parts) = ⊥
+IsNanOrExact (totalled left right exact parts) = ⊥
+IsNanOrExact (rooted square) = ⊥
 
-special_product : (format : Format) (mode : Round) (x y value : Datum) (status : ℕ)
-    → is_finite x && is_finite y ≡ false → IsProduct format mode x y value status
-    → (is_nan value ≡ true) ⊎ (status ≡ ok_bits)
-special_product format mode (nan b u) y v s n h = inl (ap is_nan h.value_is)
-special_product format mode (finite b m) (nan c u) v s n h = inl (ap is_nan h.value_is)
-special_product format mode (infinite b) (nan c u) v s n h = inl (ap is_nan h.value_is)
-special_product format mode (finite b m) (infinite c) v s n h =
-    invalid_or_ok format (eqb m 0) (infinite (product_sign b c)) v s h
-special_product format mode (infinite b) (finite c k) v s n h =
-    invalid_or_ok format (eqb k 0) (infinite (product_sign b c)) v s h
-special_product format mode (infinite b) (infinite c) v s n h = inr h.status_is
-special_product format mode (finite b m) (finite c k) v s n h = absurd (true≢false n)
+nan_or_exact_if : (format : Format) (test : Bool) (datum : Datum)
+    → IsNanOrExact (if test then invalid format else exactly datum)
+nan_or_exact_if format true datum = inl refl
+nan_or_exact_if format false datum = inr refl
 
--- a sum with a NaN is a NaN
-nan_stays : (format : Format) (mode : Round) (test : Bool) (product z value : Datum) (flags status : ℕ)
-    → is_nan product ≡ true
-    → MatchBool test (IsSum format mode product z value status) (IsAnswer product flags value status)
-    → is_nan value ≡ true
-nan_stays format mode true (nan b u) z v f s e h = ap is_nan h.value_is
-nan_stays format mode false (nan b u) z v f s e h = ap is_nan h.value_is
-nan_stays format mode test (finite b m) z v f s e h = absurd (false≢true e)
-nan_stays format mode test (infinite b) z v f s e h = absurd (false≢true e)
+special_product : (format : Format) (x y : Datum) → is_finite x && is_finite y ≡ false
+    → IsNanOrExact (product format x y)
+special_product format (nan b u) y n = inl refl
+special_product format (finite b m) (nan c u) n = inl refl
+special_product format (infinite b) (nan c u) n = inl refl
+special_product format (finite b m) (infinite c) n = nan_or_exact_if format (eqb m 0) (infinite (product_sign b c))
+special_product format (infinite b) (finite c k) n = nan_or_exact_if format (eqb k 0) (infinite (product_sign b c))
+special_product format (infinite b) (infinite c) n = inr refl
+special_product format (finite b m) (finite c k) n = absurd (true≢false n)
 
--- if a fused sum is not a NaN, its product has status OK
-product_ok : (format : Format) (mode : Round) (x y z value : Datum) (status : ℕ)
-    → is_finite x && is_finite y ≡ false → is_nan value ≡ false
-    → (h : IsSumWithProduct format mode x y z value status) → h.flags ≡ ok_bits
-product_ok format mode x y z v s special n h =
-    ⊎_elim
-    (λ (e : is_nan h.product ≡ true).
-    absurd (true≢false (sym (nan_stays format mode (eqb h.flags ok_bits) h.product z v h.flags s e h.is) ∙ n)))
-    (λ (e : h.flags ≡ ok_bits). e)
-    (special_product format mode x y h.product h.flags special h.is_product)
+on_nan_encloses : (format : Format) (datum z : Datum) (flags : ℕ) → is_nan datum ≡ true
+    → Encloses IsOk (λ mode. Yields format mode (on_product format z (settled datum flags)))
+on_nan_encloses format (nan b u) z flags e =
+    if_encloses IsOk format (eqb flags ok_bits) (sum format (nan b u) z) (settled (nan b u) flags)
+    (λ _. sum_encloses format (nan b u) z) (λ _. nan_encloses IsOk b u flags)
+on_nan_encloses format (finite b m) z flags e = absurd (false≢true e)
+on_nan_encloses format (infinite b) z flags e = absurd (false≢true e)
+
+on_product_encloses : (format : Format) (z : Datum) (outcome : Outcome) → IsNanOrExact outcome
+    → Encloses IsOk (λ mode. Yields format mode (on_product format z outcome))
+on_product_encloses format z (settled datum flags) h =
+    ⊎_elim (λ (e : is_nan datum ≡ true). on_nan_encloses format datum z flags e)
+    (λ (e : flags ≡ ok_bits). subst (λ (t : ℕ). Encloses IsOk
+    (λ mode. Yields format mode (on_product format z (settled datum t)))) (sym e) (sum_encloses format datum z)) h
+on_product_encloses format z (rounded negative amount parts) h = absurd h
+on_product_encloses format z (totalled left right exact parts) h = absurd h
+on_product_encloses format z (rooted square) h = absurd h
 
 sum_with_product_encloses : (format : Format) (x y z : Datum) → is_finite x && is_finite y ≡ false
-    → Encloses IsOk (λ mode. IsSumWithProduct format mode x y z)
-sum_with_product_encloses format x y z special low high s t d g n m =
-    let e : d.flags ≡ ok_bits = product_ok format TowardNegative x y z low s special n d in
-    let f : g.flags ≡ ok_bits = product_ok format TowardPositive x y z high t special m g in
-    let product : IsProduct format TowardNegative x y d.product ok_bits =
-    subst (λ (i : ℕ). IsProduct format TowardNegative x y d.product i) e d.is_product in
-    let same = product_agrees format x y TowardNegative TowardPositive d.product g.product g.flags product
-    g.is_product in
-    let left = added format TowardNegative d.product z low d.flags s e d.is in
-    let right = added format TowardPositive g.product z high g.flags t f g.is in
-    sum_encloses format d.product z low high s t left
-    (subst (λ (v : Datum). IsSum format TowardPositive v z high t) same.0 right) n m
+    → Encloses IsOk (λ mode. Yields format mode (with_product format x y z))
+sum_with_product_encloses format x y z special =
+    on_product_encloses format z (product format x y) (special_product format x y special)
 
 pub fused_sum_encloses : (format : Format) (x y z : Datum) → Encloses IsOk (λ mode. IsFusedSum format mode x y z)
 fused_sum_encloses format (finite b l) (finite c m) (finite d n) =

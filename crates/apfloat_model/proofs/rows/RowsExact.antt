@@ -41,7 +41,7 @@ infinity_times_zero = answer
 -- an infinity times zero is invalid even in a fused sum whose addend is a NaN
 invalid_product : IsFusedSum half NearestTiesToEven (in_half 0x7c00) (in_half 0x0000) (in_half 0x7e01)
     (in_half 0x7e00) invalid_bit
-invalid_product = record { product = in_half 0x7e00; flags = invalid_bit; is_product = answer; is = answer }
+invalid_product = answer
 
 -- the only NaN of a format is not negated
 one_nan_is_not_negated : negated e4m3fnuz.nonfinite (in_e4m3fnuz 0x80) ≡ in_e4m3fnuz 0x80

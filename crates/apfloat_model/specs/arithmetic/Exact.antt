@@ -1,6 +1,7 @@
 -- Exact results: a signed integer divided by an integer.
-use Rattle.std.specs.Prelude.{ℕ, zero, suc, ◌+◌, Bool, true, false, not, ℤ, pos, negsuc, neg_ℤ}
+use Rattle.std.specs.Prelude.{ℕ, zero, suc, ◌+◌, Bool, true, false, not, ℤ, pos, negsuc, neg_ℤ, if◌then◌else◌}
 use Rattle.apfloat_model.specs.declared.kinds.Round.{Round}
+use Rattle.apfloat_model.specs.declared.kinds.Round.TheVariants.{NearestTiesToEven, TowardPositive, TowardNegative, TowardZero, NearestTiesToAway}
 use Rattle.apfloat_model.specs.formats.Format.{Format}
 use Rattle.apfloat_model.specs.formats.Datum.{Datum}
 use Rattle.apfloat_model.specs.rounding.Rounding.{IsDelivered}
@@ -26,6 +27,17 @@ abbrev pub sign_of : Bool → ℤ → Bool
 sign_of of_zero (pos zero) = of_zero
 sign_of of_zero (pos (suc n)) = false
 sign_of of_zero (negsuc n) = true
+
+abbrev pub is_toward_negative : Round → Bool
+is_toward_negative NearestTiesToEven = false
+is_toward_negative TowardPositive = false
+is_toward_negative TowardNegative = true
+is_toward_negative TowardZero = false
+is_toward_negative NearestTiesToAway = false
+
+-- the sign of an exact zero as the sum of numbers with these signs (6.3)
+abbrev pub zero_sum_sign : Round → Bool → Bool → Bool
+zero_sum_sign mode left right = if same_sign left right then left else is_toward_negative mode
 
 -- the exact result, which is exact / parts quanta, rounded once
 abbrev pub IsRounded : Format → Round → Bool → ℤ → ℕ → Datum → ℕ → Type 0

@@ -1,12 +1,9 @@
 -- Products (IEEE 754-2019 5.4.1, 6.1, 6.3, 7.2).
-use Rattle.std.specs.Prelude.{ℕ, ◌*◌, ◌^◌, eqb, IsTrue}
-use Rattle.std.specs.Bool.{MatchBool}
+use Rattle.std.specs.Prelude.{ℕ, ◌*◌, ◌^◌, eqb, if◌then◌else◌, IsTrue}
 use Rattle.apfloat_model.specs.declared.kinds.Round.{Round}
 use Rattle.apfloat_model.specs.formats.Format.{Format}
 use Rattle.apfloat_model.specs.formats.Datum.{Datum, finite, infinite, nan}
-use Rattle.apfloat_model.specs.rounding.Rounding.{ok_bits, IsDelivered}
-use Rattle.apfloat_model.specs.rounding.Answer.{IsAnswer}
-use Rattle.apfloat_model.specs.formats.Nan.{IsOfNan, IsOfNans, IsInvalid}
+use Rattle.apfloat_model.specs.rounding.Outcome.{Outcome, rounded, exactly, invalid, of_nan, of_nans, Yields}
 use Rattle.apfloat_model.specs.arithmetic.Exact.{product_sign}
 use Rattle.apfloat_model.specs.rounding.Negation.{swapped, negated}
 use Rattle.apfloat_model.specs.order.Classes.{is_finite_non_zero}
@@ -15,16 +12,16 @@ use Rattle.apfloat_model.specs.order.Classes.{is_finite_non_zero}
 abbrev pub product_limit : ℕ
 product_limit = 64
 
+abbrev pub product : Format → Datum → Datum → Outcome
+product f (nan b s) y = of_nans f b s y
+product f x (nan c t) = of_nan f c t
+product f (finite b m) (infinite c) = if eqb m 0 then invalid f else exactly (infinite (product_sign b c))
+product f (infinite b) (finite c n) = if eqb n 0 then invalid f else exactly (infinite (product_sign b c))
+product f (infinite b) (infinite c) = exactly (infinite (product_sign b c))
+product f (finite b m) (finite c n) = rounded (product_sign b c) (m * n) (2 ^ f.scale)
+
 abbrev pub IsProduct : Format → Round → Datum → Datum → Datum → ℕ → Type 0
-IsProduct f mode (nan b s) y value status = IsOfNans f b s y value status
-IsProduct f mode x (nan c t) value status = IsOfNan f c t value status
-IsProduct f mode (finite b m) (infinite c) value status =
-    MatchBool (eqb m 0) (IsInvalid f value status) (IsAnswer (infinite (product_sign b c)) ok_bits value status)
-IsProduct f mode (infinite b) (finite c n) value status =
-    MatchBool (eqb n 0) (IsInvalid f value status) (IsAnswer (infinite (product_sign b c)) ok_bits value status)
-IsProduct f mode (infinite b) (infinite c) value status = IsAnswer (infinite (product_sign b c)) ok_bits value status
-IsProduct f mode (finite b m) (finite c n) value status =
-    IsDelivered f mode (product_sign b c) (m * n) (2 ^ f.scale) value status
+IsProduct f mode x y value status = Yields f mode (product f x y) value status
 
 -- The product of nonzero finite factors with one factor negated, rounded in the opposite mode, is the negated value,
 -- with the same flags.

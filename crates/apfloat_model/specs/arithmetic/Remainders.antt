@@ -1,13 +1,11 @@
 -- Remainders, by the quotient truncated toward zero and by the nearest integer (IEEE 754-2019 5.3.1); both are exact.
 use Rattle.std.specs.Prelude.{ℕ, ◌-◌, ◌*◌, ◌/◌, Bool, false, not, ltb, eqb, count_ones, if◌then◌else◌}
-use Rattle.std.specs.Bool.{MatchBool}
 use Rattle.apfloat_model.specs.declared.kinds.NonfiniteBehavior.{NonfiniteBehavior}
 use Rattle.apfloat_model.specs.declared.kinds.Round.TheVariants.{NearestTiesToEven}
 use Rattle.apfloat_model.specs.formats.Format.{Format}
 use Rattle.apfloat_model.specs.formats.Datum.{Datum, finite, infinite, nan}
-use Rattle.apfloat_model.specs.rounding.Rounding.{ok_bits, signed_quanta}
-use Rattle.apfloat_model.specs.rounding.Answer.{IsAnswer}
-use Rattle.apfloat_model.specs.formats.Nan.{IsOfNan, IsOfNans, IsInvalid}
+use Rattle.apfloat_model.specs.rounding.Rounding.{signed_quanta}
+use Rattle.apfloat_model.specs.rounding.Outcome.{Outcome, exactly, invalid, of_nan, of_nans, Yields}
 use Rattle.apfloat_model.specs.whole_numbers.WholeNumbers.{whole_pick}
 
 -- The quotient of two magnitudes, truncated toward zero, and the integer nearest to it.
@@ -22,16 +20,17 @@ abbrev pub rest_of : NonfiniteBehavior → Bool → ℕ → ℕ → Datum
 rest_of kind negative m taken =
     if ltb m taken then signed_quanta kind (not negative) (taken - m) else signed_quanta kind negative (m - taken)
 
--- the remainder by a given integer quotient
+-- by a given integer quotient
+abbrev pub remainder : Format → (ℕ → ℕ → ℕ) → Datum → Datum → Outcome
+remainder f quotient (nan b s) y = of_nans f b s y
+remainder f quotient x (nan c t) = of_nan f c t
+remainder f quotient (infinite b) y = invalid f
+remainder f quotient (finite b m) (infinite c) = exactly (finite b m)
+remainder f quotient (finite b m) (finite c n) =
+    if eqb n 0 then invalid f else exactly (rest_of f.nonfinite b m (n * quotient m n))
+
 abbrev pub IsRemainder : Format → (ℕ → ℕ → ℕ) → Datum → Datum → Datum → ℕ → Type 0
-IsRemainder f quotient (nan b s) y value status = IsOfNans f b s y value status
-IsRemainder f quotient x (nan c t) value status = IsOfNan f c t value status
-IsRemainder f quotient (infinite b) y value status = IsInvalid f value status
-IsRemainder f quotient (finite b m) (infinite c) value status = IsAnswer (finite b m) ok_bits value status
-IsRemainder f quotient (finite b m) (finite c n) value status =
-    MatchBool (eqb n 0)
-    (IsInvalid f value status)
-    (IsAnswer (rest_of f.nonfinite b m (n * quotient m n)) ok_bits value status)
+IsRemainder f quotient x y value status = Yields f NearestTiesToEven (remainder f quotient x y) value status
 
 -- x - y * t, where t is the quotient truncated toward zero
 abbrev pub IsTruncatedRemainder : Format → Datum → Datum → Datum → ℕ → Type 0

@@ -1,45 +1,36 @@
 -- Sums and differences (IEEE 754-2019 5.4.1, 6.1, 6.3).
-use Rattle.std.specs.Prelude.{◌≡◌, ℕ, ◌*◌, ◌<◌, ◌≤◌, Bool, true, false, ℤ, pos, ◌+ℤ◌, ◌-ℤ◌, ◌≤ℤ◌, if◌then◌else◌, IsTrue}
-use Rattle.std.specs.Bool.{MatchBool}
+use Rattle.std.specs.Prelude.{◌≡◌, ℕ, ◌*◌, ◌<◌, ◌≤◌, Bool, false, ℤ, pos, ◌+ℤ◌, ◌-ℤ◌, ◌≤ℤ◌, if◌then◌else◌, IsTrue}
 use Rattle.apfloat_model.specs.declared.kinds.Round.{Round}
-use Rattle.apfloat_model.specs.declared.kinds.Round.TheVariants.{NearestTiesToEven, TowardPositive, TowardNegative, TowardZero, NearestTiesToAway}
 use Rattle.apfloat_model.specs.declared.kinds.NonfiniteBehavior.TheVariants.{IEEE754}
 use Rattle.apfloat_model.specs.formats.Format.{Format}
 use Rattle.apfloat_model.specs.formats.Datum.{Datum, finite, infinite, nan}
 use Rattle.apfloat_model.specs.rounding.Rounding.{ok_bits}
 use Rattle.apfloat_model.specs.rounding.Negation.{negated}
-use Rattle.apfloat_model.specs.rounding.Answer.{IsAnswer}
-use Rattle.apfloat_model.specs.formats.Nan.{IsOfNan, IsOfNans, IsInvalid}
-use Rattle.apfloat_model.specs.arithmetic.Exact.{same_sign, signed, IsRounded}
+use Rattle.apfloat_model.specs.rounding.Outcome.{Outcome, exactly, invalid, of_nan, of_nans, totalled, Yields}
+use Rattle.apfloat_model.specs.arithmetic.Exact.{same_sign, signed}
+pub use Rattle.apfloat_model.specs.arithmetic.Exact.{is_toward_negative, zero_sum_sign}
 use Rattle.apfloat_model.specs.order.Classes.{is_finite}
 use Rattle.apfloat_model.specs.order.Order.{number, AtMost}
 
-abbrev pub is_toward_negative : Round → Bool
-is_toward_negative NearestTiesToEven = false
-is_toward_negative TowardPositive = false
-is_toward_negative TowardNegative = true
-is_toward_negative TowardZero = false
-is_toward_negative NearestTiesToAway = false
-
--- the sign of an exact zero as the sum of numbers with these signs (6.3)
-abbrev pub zero_sum_sign : Round → Bool → Bool → Bool
-zero_sum_sign mode left right = if same_sign left right then left else is_toward_negative mode
+abbrev pub sum : Format → Datum → Datum → Outcome
+sum f (nan b s) y = of_nans f b s y
+sum f x (nan c t) = of_nan f c t
+sum f (infinite b) (infinite c) = if same_sign b c then exactly (infinite b) else invalid f
+sum f (infinite b) (finite c n) = exactly (infinite b)
+sum f (finite b m) (infinite c) = exactly (infinite c)
+sum f (finite b m) (finite c n) = totalled b c (signed b m +ℤ signed c n) 1
 
 abbrev pub IsSum : Format → Round → Datum → Datum → Datum → ℕ → Type 0
-IsSum f mode (nan b s) y value status = IsOfNans f b s y value status
-IsSum f mode x (nan c t) value status = IsOfNan f c t value status
-IsSum f mode (infinite b) (infinite c) value status =
-    MatchBool (same_sign b c) (IsAnswer (infinite b) ok_bits value status) (IsInvalid f value status)
-IsSum f mode (infinite b) (finite c n) value status = IsAnswer (infinite b) ok_bits value status
-IsSum f mode (finite b m) (infinite c) value status = IsAnswer (infinite c) ok_bits value status
-IsSum f mode (finite b m) (finite c n) value status =
-    IsRounded f mode (zero_sum_sign mode b c) (signed b m +ℤ signed c n) 1 value status
+IsSum f mode x y value status = Yields f mode (sum f x y) value status
 
 -- a NaN is not negated
+abbrev pub difference : Format → Datum → Datum → Outcome
+difference f (nan b s) y = of_nans f b s y
+difference f x (nan c t) = of_nan f c t
+difference f x y = sum f x (negated f.nonfinite y)
+
 abbrev pub IsDifference : Format → Round → Datum → Datum → Datum → ℕ → Type 0
-IsDifference f mode (nan b s) y value status = IsOfNans f b s y value status
-IsDifference f mode x (nan c t) value status = IsOfNan f c t value status
-IsDifference f mode x y value status = IsSum f mode x (negated f.nonfinite y) value status
+IsDifference f mode x y value status = Yields f mode (difference f x y) value status
 
 -- ---- two laws
 

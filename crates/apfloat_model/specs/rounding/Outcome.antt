@@ -1,14 +1,14 @@
 -- The exact result of an operation, before it is delivered in a mode.
-use Rattle.std.specs.Prelude.{ℕ, ◌<◌, Bool, ⊤, ℤ}
+use Rattle.std.specs.Prelude.{ℕ, ◌<◌, ◌||◌, Bool, ⊤, ℤ}
 use Rattle.apfloat_model.specs.declared.kinds.Round.{Round}
 use Rattle.apfloat_model.specs.formats.Format.{Format}
-use Rattle.apfloat_model.specs.formats.Datum.{Datum}
+use Rattle.apfloat_model.specs.formats.Datum.{Datum, nan}
+use Rattle.apfloat_model.specs.formats.Nan.{invalid_bit, invalid_if, is_signaling, is_signaling_nan, quieted, qnan}
+use Rattle.apfloat_model.specs.arithmetic.Exact.{zero_sum_sign, IsRounded}
 use Rattle.apfloat_model.specs.rounding.Answer.{IsAnswer}
 use Rattle.apfloat_model.specs.rounding.RaisedFlags.{FlagsGoTogether}
-use Rattle.apfloat_model.specs.rounding.Rounding.{IsDelivered}
-use Rattle.apfloat_model.specs.arithmetic.Exact.{IsRounded}
-use Rattle.apfloat_model.specs.arithmetic.Sums.{zero_sum_sign}
-use Rattle.apfloat_model.specs.arithmetic.Roots.{IsDeliveredRoot}
+use Rattle.apfloat_model.specs.rounding.Rounding.{ok_bits, IsDelivered}
+use Rattle.apfloat_model.specs.rounding.DeliveredRoots.{IsDeliveredRoot}
 
 pub data Outcome : Type 0 where
   -- a datum with its flags, as they are
@@ -35,3 +35,19 @@ IsSound (settled datum flags) = FlagsGoTogether flags
 IsSound (rounded negative amount parts) = 0 < parts
 IsSound (totalled left right exact parts) = 0 < parts
 IsSound (rooted square) = ⊤
+
+-- ---- what the tables are made of
+
+abbrev pub exactly : Datum → Outcome
+exactly datum = settled datum ok_bits
+
+abbrev pub invalid : Format → Outcome
+invalid f = settled (qnan f 0) invalid_bit
+
+abbrev pub of_nan : Format → Bool → ℕ → Outcome
+of_nan f negative significand = settled (nan negative (quieted f significand)) (invalid_if (is_signaling f significand))
+
+abbrev pub of_nans : Format → Bool → ℕ → Datum → Outcome
+of_nans f negative significand right =
+    settled (nan negative (quieted f significand))
+    (invalid_if (is_signaling f significand || is_signaling_nan f right))

@@ -1,6 +1,5 @@
 use Rattle.std.proofs.Common.{rules}
 use Rattle.apfloat_model.specs.rounding.Flags.{bits_of}
-use Rattle.apfloat_rounding.specs.Shapes.{format_at}
 use Rattle.apfloat_rounding.specs.Stored.{datum_at}
 use Rattle.apfloat_arithmetic.proofs.SpecialProducts.{is_no_number, with_product}
 use Rattle.apfloat_arithmetic.proofs.specials.add_to_special_product.Goals as goal
@@ -14,14 +13,14 @@ pub returns-then-eq-clause-delivered : goal.returns-then-eq-clause-delivered
 returns-then-eq-clause-delivered c =
     let s = c.args.shape in
     let p = c.multiply_specials-product.result in
-    with_product (format_at s) c.args.round (datum_at s c.args.x) (datum_at s c.args.y) (datum_at s c.args.z)
+    with_product s c.args.round c.args.x c.args.y (datum_at s c.args.z)
     (datum_at s c.add_specials.result.value) (datum_at s p.value) (bits_of c.add_specials.result.status)
-    (bits_of p.status) (c.multiply_specials-product.ensures.delivered c.args.round) (search rules)
+    (bits_of p.status) c.requires.special (c.multiply_specials-product.ensures.delivered c.args.round) (search rules)
 
 pub returns-else-eq-clause-delivered : goal.returns-else-eq-clause-delivered
 returns-else-eq-clause-delivered c =
     let s = c.args.shape in
     let p = c.multiply_specials-product.result in
-    with_product (format_at s) c.args.round (datum_at s c.args.x) (datum_at s c.args.y) (datum_at s c.args.z)
+    with_product s c.args.round c.args.x c.args.y (datum_at s c.args.z)
     (datum_at s p.value) (datum_at s p.value) (bits_of p.status) (bits_of p.status)
-    (c.multiply_specials-product.ensures.delivered c.args.round) (search rules)
+    c.requires.special (c.multiply_specials-product.ensures.delivered c.args.round) (search rules)

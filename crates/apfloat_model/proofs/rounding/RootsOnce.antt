@@ -1,0 +1,48 @@
+-- A result given outright has one value and one status, and so has a root that is rounded once.
+use Rattle.std.proofs.Common.{◌≡◌, ℕ, ◌≤◌, false, sym, ap, ◌∙◌, arith}
+use Rattle.apfloat_model.specs.declared.kinds.Round.{Round}
+use Rattle.apfloat_model.specs.formats.Format.{Format}
+use Rattle.apfloat_model.specs.formats.Datum.{Datum}
+use Rattle.apfloat_model.specs.rounding.Rounding.{delivered_value}
+use Rattle.apfloat_model.specs.rounding.Answer.{IsAnswer}
+use Rattle.apfloat_model.specs.rounding.DeliveredRoots.{IsBelowRoot, IsAboveRoot, root_between, IsRootPick, root_status, IsDeliveredRoot}
+
+-- the relation holds of at most one value and one status
+abbrev pub Once : {A : Type 0} → (A → ℕ → Type 0) → Type 0
+Once {A} R = (v w : A) (r s : ℕ) → R v r → R w s → (v ≡ w) × (r ≡ s)
+
+-- a result given outright has one value and one status
+pub answer_once : (datum : Datum) (t : ℕ) → Once (IsAnswer datum t)
+answer_once d t v w r s x y = (x.value_is ∙ sym y.value_is, x.status_is ∙ sym y.status_is)
+
+-- a root has one neighbour below and one above, so it is rounded to one value with one status
+pub below_root_unique : (precision a b square : ℕ) → IsBelowRoot precision a square
+    → IsBelowRoot precision b square → a ≡ b
+below_root_unique precision a b square x y =
+    let l : a ≤ b = y.greatest a x.on_grid x.not_above in
+    let k : b ≤ a = x.greatest b y.on_grid y.not_above in
+    omega arith
+
+pub above_root_unique : (precision a b square : ℕ) → IsAboveRoot precision a square
+    → IsAboveRoot precision b square → a ≡ b
+above_root_unique precision a b square x y =
+    let l : b ≤ a = y.least a x.on_grid x.not_below in
+    let k : a ≤ b = x.least b y.on_grid y.not_below in
+    omega arith
+
+root_pick_unique : (precision : ℕ) (mode : Round) (square p q : ℕ) → IsRootPick precision mode square p
+    → IsRootPick precision mode square q → p ≡ q
+root_pick_unique precision mode square p q x y =
+    x.is ∙
+    ap (λ (b : ℕ). root_between mode b x.above square)
+    (below_root_unique precision x.below y.below square x.is_below y.is_below) ∙
+    ap (λ (a : ℕ). root_between mode y.below a square)
+    (above_root_unique precision x.above y.above square x.is_above y.is_above) ∙
+    sym y.is
+
+pub delivered_root_once : (format : Format) (mode : Round) (square : ℕ) → Once (IsDeliveredRoot format mode square)
+delivered_root_once format mode square v w s t x y =
+    let e : x.pick ≡ y.pick = root_pick_unique format.precision mode square x.pick y.pick x.is_pick y.is_pick in (
+      x.value_is ∙ ap (λ (z : ℕ). delivered_value format mode false z) e ∙ sym y.value_is,
+      x.status_is ∙ ap (λ (z : ℕ). root_status format mode square z) e ∙ sym y.status_is,
+    )
