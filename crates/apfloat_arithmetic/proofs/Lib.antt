@@ -3,7 +3,7 @@ mod WholeQuotients
 mod NearestMultiples
 pub mod ProductExponents
 pub mod RootExponents
-mod RootCases
+pub mod RootCases
 pub mod ZeroAnswers
 mod NumberClasses
 mod PowerFactors

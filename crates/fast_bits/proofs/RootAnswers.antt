@@ -3,9 +3,9 @@ use Rattle.std.proofs.Common.{◌≡◌, ℕ, ◌+◌, ◌-◌, ◌*◌, ◌/◌
 use Rattle.std.proofs.Common.{arith}
 use Rattle.std.specs.Prelude.{IfSome}
 use Rattle.std.proofs.Math.Nat.{mod-eq_of_lt, mul-le-mul_left, mul-le-mul_right, mul-lt-mul_of_pos_right, mul-pos, pow-le-pow_right}
-use Rattle.std.proofs.lemmas.Bool.{cases_lt, ne_eqb}
+use Rattle.std.proofs.lemmas.Bool.{cases_lt}
 use Rattle.std.proofs.lemmas.Nat.{div-add-mod', mul-le, pow-add, pow_pos}
-use Rattle.apfloat_model.specs.arithmetic.Roots.{IsDeliveredRoot, IsRoot, IsRootOfNumber}
+use Rattle.apfloat_model.specs.arithmetic.Roots.{IsDeliveredRoot, IsRoot}
 use Rattle.apfloat_model.specs.declared.kinds.Round.{Round}
 use Rattle.apfloat_model.specs.declared.loss.Loss.{Loss}
 use Rattle.apfloat_model.specs.declared.loss.Loss.TheVariants.{ExactlyZero, LessThanHalf, ExactlyHalf, MoreThanHalf}
@@ -20,6 +20,7 @@ use Rattle.apfloat_model.proofs.general.Powers.{two_pos}
 use Rattle.apfloat_model.proofs.rounding.KeptDigits.{enclosed_from}
 use Rattle.apfloat_words.specs.RootStanding.{RootStandsFor}
 use Rattle.apfloat_words.proofs.RootSteps.{radicand_full}
+use Rattle.apfloat_arithmetic.proofs.RootCases.{positive_root}
 use Rattle.apfloat_arithmetic.proofs.RootStandings.{stands}
 use Rattle.fast_bits.specs.declared.encoded.Encoded.{Encoded}
 use Rattle.fast_bits.specs.declared.numbers.Number.{Number}
@@ -160,16 +161,7 @@ root_encoded c mode m from zeros place whole loss answer some full fits balance 
 
 -- ---- answers
 
--- the root of a positive number is rounded
-positive_root : (c : Constants) (mode : Round) (negative : Bool) (quanta : ℕ) (value : Datum) (status : ℕ)
-    → 0 < quanta → negative ≡ false
-    → IsDeliveredRoot (format_with c) mode (quanta * 2 ^ (format_with c).scale) value status
-    → IsRoot (format_with c) mode (finite negative quanta) value status
-positive_root c mode negative quanta value status some positive given =
-    rw (ne_eqb quanta 0 (λ e. omega (arith, e, some)))
-    (subst (λ (b : Bool). IsRootOfNumber (format_with c) mode b quanta value status) (sym positive) given)
-
--- and is the answer
+-- the root of a positive number is the answer
 pub root_if_some : (c : Constants) (mode : Round) (x : Number) (answer : Option Encoded) → IsFull c x
     → x.negative ≡ false
     → IfSome answer (IsEncodedAnswer c
@@ -179,7 +171,7 @@ root_if_some c mode x None full positive given = given
 root_if_some c mode x (Some encoded) full positive given = record {
   value = given.value;
   says =
-      positive_root c mode x.negative (quanta_of x) given.value (bits_of encoded.status)
+      positive_root (format_with c) mode x.negative (quanta_of x) given.value (bits_of encoded.status)
       (quanta_some c x full) positive given.says;
   is_encoded = given.is_encoded;
 }
