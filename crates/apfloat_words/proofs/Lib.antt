@@ -5,6 +5,7 @@ pub mod MovedUp
 pub mod Estimates
 pub mod PowerRests
 pub mod Totals
+pub mod LossTotals
 pub mod WideNumbers
 pub mod WideTotals
 pub mod OddTotals
