@@ -1,4 +1,4 @@
-"""Rows in the seven columns of docs/VECTORS.md, for the scripts that write files of them."""
+"""Rows in the seven columns of docs/PROGRAMS.md, for the scripts that write files of them."""
 
 from exact.rounding import Mode
 from exact.status import names

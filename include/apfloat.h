@@ -1,6 +1,6 @@
 /* Correctly rounded software floating point, C99. Two libraries have these functions, with the same answers: the proved
  * one, which `rt lib` makes as libapfloat_c.a, and the same text by rustc, which cargo makes as libapfloat.a.
- * docs/CALLING_FROM_C.md has their names once installed.
+ * docs/C.md has their names once installed.
  *
  * A function on values takes them as their bits, with a code for the format and, if it rounds, one for the rounding
  * mode, and writes its result through a pointer. It returns APFLOAT_ANSWERED, or the code of the first error, in the
@@ -77,7 +77,7 @@ typedef struct apfloat_answer {
 #define APFLOAT_E4M3B11FNUZ UINT32_C(18) /* 8 bits, 4 of them the exponent, of bias 11, without infinities and -0 */
 #define APFLOAT_TF32 UINT32_C(19)        /* 19 bits: the exponents of binary32 and the digits of binary16 */
 
-/* Storage formats, of apfloat_convert_array and of blocks alone (docs/STORAGE_FORMATS.md): for all other functions
+/* Storage formats, of apfloat_convert_array and of blocks alone (docs/FORMATS.md): for all other functions
  * these codes are unknown. */
 #define APFLOAT_E2M1FN UINT32_C(32)  /* 4 bits: 0, 0.5, 1, 1.5, 2, 3, 4, 6 and their negatives */
 #define APFLOAT_E2M3FN UINT32_C(33)  /* 6 bits, 2 of them the exponent, to 7.5 */
@@ -417,7 +417,7 @@ typedef struct apfloat_array_answer {
  * One of the two formats may be a storage format, with one value a byte: bits above those of the format are ignored,
  * and 0 in a result. From one storage format to another there is no conversion (APFLOAT_NO_SUCH_OPERATION); one to
  * APFLOAT_SINGLE, which is exact, and from there is rounded once. What the format has no value for, such as an
- * infinity, a NaN or a number below zero, becomes what a table in docs/STORAGE_FORMATS.md says. */
+ * infinity, a NaN or a number below zero, becomes what a table in docs/FORMATS.md says. */
 uint32_t apfloat_convert_array(uint32_t format, uint32_t mode, uint32_t to, const uint8_t *values,
                                size_t values_length, uint8_t *results, size_t results_length,
                                apfloat_array_answer *answer);
@@ -459,7 +459,7 @@ uint32_t apfloat_map_array_by_table(uint32_t format, uint32_t mode, uint32_t ope
 
 /* ---- blocks with a common scale
  *
- * The microscaling formats of the OCP (OCP Microscaling Formats 1.0; docs/SMALL_FORMATS.md): each block of `length`
+ * The microscaling formats of the OCP (OCP Microscaling Formats 1.0; docs/FORMATS.md): each block of `length`
  * elements, 32 in those formats, has a scale, a code of APFLOAT_E8M0FNU. The elements are of APFLOAT_E5M2,
  * APFLOAT_E4M3FN, APFLOAT_E3M2FN, APFLOAT_E2M3FN or APFLOAT_E2M1FN; other formats of elements are unknown. A scale and
  * a code of an element take a byte each. APFLOAT_WRONG_LENGTH says that `length` is 0 or does not divide the number of

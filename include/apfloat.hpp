@@ -18,7 +18,7 @@
 // is here only `expected::value()` throws it. A `rounding` that is no enumerator is returned as an `errc` too where an
 // error can be returned, and ends the program with a message elsewhere.
 //
-// Bits, signs, flags and constants are `constexpr`, since they need no call. docs/CALLING_FROM_CPP.md is an
+// Bits, signs, flags and constants are `constexpr`, since they need no call. docs/CPP.md is an
 // introduction.
 #ifndef APFLOAT_HPP
 #define APFLOAT_HPP
@@ -1612,7 +1612,7 @@ struct not_deduced {
 
 namespace detail {
 
-// A storage format: its values are only stored and converted, in arrays (docs/STORAGE_FORMATS.md).
+// A storage format: its values are only stored and converted, in arrays (docs/FORMATS.md).
 template <std::uint32_t Code, int Width>
 struct storage {
     static constexpr std::uint32_t code = Code;

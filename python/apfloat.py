@@ -604,7 +604,7 @@ def _nested(of: Any) -> tuple[tuple[int, ...], list[Any]]:
 class StorageFormat:
     """A format whose values are only stored and converted, in arrays of one value a byte.
 
-    Operations on them are those of another format: `single` has all their numbers. docs/STORAGE_FORMATS.md says what
+    Operations on them are those of another format: `single` has all their numbers. docs/FORMATS.md says what
     becomes of a number that a format does not have.
 
     >>> float6_e3m2fn, float6_e3m2fn.code, float6_e3m2fn.width

@@ -546,7 +546,7 @@ class SignTests(unittest.TestCase):
             apfloat.half.nan(0.5)
 
     def test_rows(self):
-        # The stored rows of these calls (docs/VECTORS.md), in the formats that have bits.
+        # The stored rows of these calls (docs/PROGRAMS.md), in the formats that have bits.
         methods = {'copy_sign': 'copy_sign', 'min': 'fmin', 'max': 'fmax', 'minimum': 'minimum', 'maximum': 'maximum'}
         compared = collections.Counter()
         with open(os.path.join(HERE, '..', 'tests', 'rows', 'stored'), encoding='utf-8') as file:
@@ -612,7 +612,7 @@ class SignTests(unittest.TestCase):
             apfloat.machine('arm').delivers('sqrt', infinity, infinity)
 
     def test_rows_of_machines(self):
-        # The stored rows of what machines give (docs/VECTORS.md) that are not flushed, in the formats that the library
+        # The stored rows of what machines give (docs/PROGRAMS.md) that are not flushed, in the formats that the library
         # for C has there.
         offered = {'half', 'single', 'double', 'quad', 'bfloat', 'e5m2', 'x87'}
         modes = {'even': apfloat.NEAREST_EVEN, 'up': apfloat.UPWARD, 'down': apfloat.DOWNWARD,
@@ -652,7 +652,7 @@ class SignTests(unittest.TestCase):
         self.assertGreater(sum(compared.values()), 500)
 
     def test_rows_of_operations(self):
-        # The stored rows of the operations of IEEE 754-2019 (docs/VECTORS.md), in the formats that have bits.
+        # The stored rows of the operations of IEEE 754-2019 (docs/PROGRAMS.md), in the formats that have bits.
         modes = {'even': apfloat.NEAREST_EVEN, 'up': apfloat.UPWARD, 'down': apfloat.DOWNWARD,
                  'zero': apfloat.TOWARD_ZERO, 'away': apfloat.NEAREST_AWAY, '-': apfloat.NEAREST_EVEN}
         orders = {'Less': -1, 'Equal': 0, 'Greater': 1}

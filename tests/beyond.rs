@@ -486,7 +486,7 @@ fn order_of_e3m4() {
 #[test]
 fn examples_of_the_pages() {
     let here = env!("CARGO_MANIFEST_DIR");
-    for (page, module) in [("STORAGE_FORMATS", "storage_formats")] {
+    for (page, module) in [("FORMATS", "storage_formats")] {
         let page = std::fs::read_to_string(format!("{here}/docs/{page}.md")).unwrap();
         let module = std::fs::read_to_string(format!("{here}/rust/rustc_apfloat/src/{module}.rs")).unwrap();
         let compiled: String =

@@ -1,4 +1,4 @@
-//! The rows of `tests/rows/stored`: known answers, from elsewhere, of calls and commands. `docs/VECTORS.md` of
+//! The rows of `tests/rows/stored`: known answers, from elsewhere, of calls and commands. `docs/PROGRAMS.md` of
 //! the repository says what a row means.
 
 use rustc_apfloat::decimal_digits::{self, Written};

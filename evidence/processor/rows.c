@@ -1,7 +1,7 @@
 // Rows that the processor computes: rows SEED COUNT [--count]
 //
 // Draws operands from a seed, lets an x86-64 processor compute with them in its four modes, and writes each result with
-// the flags that it raised as a row (docs/VECTORS.md). With --count it writes how often each call raised which flags
+// the flags that it raised as a row (docs/PROGRAMS.md). With --count it writes how often each call raised which flags
 // instead. Single and double are computed by SSE and FMA, conversions to half by F16C, and x87 by the instructions of
 // that name. The processor has to have FMA and AVX2.
 //

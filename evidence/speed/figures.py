@@ -5,8 +5,7 @@
     python3 evidence/speed/figures.py --check    says which file has other figures
 
 The times are nanoseconds, in uses.tsv, rust_crate.tsv, in_rust.tsv, fastest_of_others.tsv, machines.tsv and growth.tsv.
-Means are geometric. A file that quotes a figure quotes the phrase that has it, as `phrases` and `phrases_of_speed` write
-it: the README of the repository has to quote the former, and docs/SPEED.md both.
+Means are geometric. docs/SPEED.md has to quote the phrases that `phrases` and `phrases_of_speed` write.
 """
 
 import argparse
@@ -20,7 +19,6 @@ ROOT = HERE.parent.parent
 FIGURES = HERE / "figures.md"
 MEASURED = HERE / "README.md"
 SPEED = ROOT / "docs" / "SPEED.md"
-README = ROOT / "README.md"
 SETS = ("normal", "denormal")
 BEGIN = "<!-- made by evidence/speed/figures.py: {} -->"
 END = "<!-- end -->"
@@ -47,11 +45,10 @@ def main():
         return 0
     faults = [f"{path.relative_to(ROOT)}: run evidence/speed/figures.py" for path, text in wanted.items()
               if not path.exists() or path.read_text() != text]
-    quoted = phrases(crate, others)
-    for path, wanted in ((README, quoted), (SPEED, quoted + phrases_of_speed(rows_of("in_rust.tsv"), machines))):
-        text = " ".join(path.read_text().split())
-        faults += [f"{path.relative_to(ROOT)}: lacks: {phrase}" for phrase in wanted if phrase not in text]
-    print("\n".join(faults) or "figures: README.md and docs/SPEED.md quote those of evidence/speed")
+    text = " ".join(SPEED.read_text().split())
+    quoted = phrases(crate, others) + phrases_of_speed(rows_of("in_rust.tsv"), machines)
+    faults += [f"{SPEED.relative_to(ROOT)}: lacks: {phrase}" for phrase in quoted if phrase not in text]
+    print("\n".join(faults) or "figures: docs/SPEED.md quotes those of evidence/speed")
     return 1 if faults else 0
 
 
@@ -62,7 +59,7 @@ def rows_of(name):
 
 
 def phrases(crate, others):
-    """What a file that quotes the figures has to say."""
+    """What docs/SPEED.md has to say."""
     first, second = [ratio(row, "crate") for row in crate], [ratio(row, "other") for row in others]
     return [
         f"{min(first):.2f} to {max(first):.0f} times as fast as the Rust crate, "

@@ -1,5 +1,5 @@
 /* Calls the library from C for rows of calls with their results, as tests/rows/stored has them
- * (docs/VECTORS.md), and compares each field of the answer: a field or an argument in the wrong place shows only in a
+ * (docs/PROGRAMS.md), and compares each field of the answer: a field or an argument in the wrong place shows only in a
  * call from C. Rows that the library has no function or no code for are skipped.
  *
  * It prints each row that differs, and for each call that has rows how many agree. .ci/run compares this with

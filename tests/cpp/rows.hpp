@@ -1,4 +1,4 @@
-// Rows with tabs between their columns (docs/VECTORS.md), and what their columns say in C++.
+// Rows with tabs between their columns (docs/PROGRAMS.md), and what their columns say in C++.
 #ifndef ROWS_HPP
 #define ROWS_HPP
 

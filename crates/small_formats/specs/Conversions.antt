@@ -1,4 +1,4 @@
--- Conversions into a storage format without infinities and NaNs. docs/STORAGE_FORMATS.md has them as a table.
+-- Conversions into a storage format without infinities and NaNs. docs/FORMATS.md has them as a table.
 use Rattle.std.specs.Prelude.{◌≡◌, ℕ, ◌*◌, ◌^◌, Bool, true, false, not, eqb, ltb, if◌then◌else◌}
 use Rattle.std.specs.Bool.{MatchBool}
 use Rattle.apfloat_model.specs.declared.kinds.Round.{Round}

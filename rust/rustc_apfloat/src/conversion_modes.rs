@@ -1,5 +1,5 @@
 //! Conversions to every format by two more modes than those of IEEE 754: to odd, and with random digits
-//! (stochastic rounding). `docs/STORAGE_FORMATS.md` of the repository says what they do; the crate `rustc_apfloat` has
+//! (stochastic rounding). `docs/FORMATS.md` of the repository says what they do; the crate `rustc_apfloat` has
 //! none of this.
 //!
 //! ```

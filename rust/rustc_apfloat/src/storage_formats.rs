@@ -1,6 +1,6 @@
 //! Values that are only stored and converted: elements of at most 8 bits without infinities and NaNs, as those of the
 //! Open Compute Project's microscaling formats, the scales of their blocks, and a format of 8 bits with infinities and
-//! NaNs. `docs/STORAGE_FORMATS.md` of the repository says what becomes of each value; the crate `rustc_apfloat` has
+//! NaNs. `docs/FORMATS.md` of the repository says what becomes of each value; the crate `rustc_apfloat` has
 //! none of these.
 //!
 //! ```

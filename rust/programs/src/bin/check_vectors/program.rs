@@ -51,7 +51,7 @@ After --testfloat FUNCTION may follow -rnear_even -rmax -rmin -rminMag
 Empty lines and comments, which begin with #, are skipped. The program writes
 each row that differs and each malformed line with its number, and at the end
 how many lines of each kind there were. If standard error is a terminal, a line
-there every two seconds says how many lines were read. docs/VECTORS.md has the
+there every two seconds says how many lines were read. docs/PROGRAMS.md has the
 calls, the formats, and what the words in each column mean.
 
 The exit status is the first of these that holds: 4 if the input could not be

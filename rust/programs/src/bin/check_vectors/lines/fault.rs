@@ -19,16 +19,16 @@ impl<'a> CallRow<'a> {
     /// The error for a fault of the row: the wrong word, and what is expected.
     pub fn error(self, fault: CallFault) -> RowError<'a> {
         match fault {
-            CallFault::Call => RowError::Word("no call", self.call, "one that docs/VECTORS.md lists"),
+            CallFault::Call => RowError::Word("no call", self.call, "one that docs/PROGRAMS.md lists"),
             CallFault::Mode => RowError::Word("no mode of the call", self.mode, modes(self.call)),
             CallFault::Format => format_error(self.format),
             CallFault::Support if self.format.contains('@') => RowError::Word(
                 "no such call on the machine",
                 self.call,
-                "a call that the machine has (docs/VECTORS.md)",
+                "a call that the machine has (docs/PROGRAMS.md)",
             ),
             CallFault::Support => {
-                RowError::Word("no such call here", self.call, "a call that the format has (docs/VECTORS.md)")
+                RowError::Word("no such call here", self.call, "a call that the format has (docs/PROGRAMS.md)")
             }
             CallFault::Flags(form) => RowError::Word("no flags of the call", self.status, form),
             CallFault::Extra(form) => RowError::Word("nothing that the call returns", self.extra, form),
@@ -51,7 +51,7 @@ fn format_error(formats: &str) -> RowError<'_> {
     match (unknown_machine(formats), unflushed(formats)) {
         (Some(word), _) => RowError::Word("no machine", word, MACHINE_WORDS),
         (None, Some(instead)) => RowError::Word("no flushing", formats, instead),
-        (None, None) => RowError::Word("no format", formats, "one that docs/VECTORS.md lists, or SOURCE>TARGET"),
+        (None, None) => RowError::Word("no format", formats, "one that docs/PROGRAMS.md lists, or SOURCE>TARGET"),
     }
 }
 

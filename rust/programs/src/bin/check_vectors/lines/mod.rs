@@ -2,7 +2,7 @@
 //! which are translated into the calls of rows.
 //!
 //! A row is a command of the program `vectors` and its reply, or names a call and a format; operands and results are
-//! values, written as bits, or as counts of quanta in a format without bits. `docs/VECTORS.md` describes it.
+//! values, written as bits, or as counts of quanta in a format without bits. `docs/PROGRAMS.md` describes it.
 
 mod answer;
 mod asked;
