@@ -20,10 +20,11 @@ BEGIN, END = '<!-- made by evidence/contracts.py -->', '<!-- end -->'
 # Public modules for the crates above, which no user calls.
 INSIDE = {'exponents', 'formatting', 'large', 'lanes', 'cuts', 'flagged', 'built_in_formats', 'order', 'products'}
 # What a clause says of what it is about, before it says what the result is.
-ASIDE = {'IsWithin', 'IsTrue', 'IsPositive', 'IsMember', 'IsBetween', 'AreAtMost', 'IsOneLower', 'IsSingle', 'IsOwn'}
-# Functions of the language's library, and words of clauses.
-PLAIN = {'self', 'if', 'up', 'down', 'neg_ℤ', 'ltb', 'eqb', 'bits', 'pos', 'finite', 'length', 'exponent', 'flags', 'true',
-         'false', '2', 'target', 'width', 'found'}
+ASIDE = {'IsWithin', 'IsTrue', 'IsPositive', 'IsMember', 'IsBetween', 'AreAtMost', 'IsOneLower', 'IsSingle', 'IsOwn',
+         'IsExactly', 'AreLookedUp', 'IsStoredBy'}
+# Functions of the language's library, words of clauses, and functions of no use to a caller.
+PLAIN = {'self', 'if', 'up', 'down', 'neg_ℤ', 'ltb', 'eqb', 'bits', 'pos', 'finite', 'length', 'exponent', 'flags',
+         'true', 'false', '2', 'target', 'width', 'found', 'with_status', 'narrowed', 'fields_of'}
 LIBRARIES = ('apfloat_ieee', 'rustc_apfloat', 'apfloat_decimals', 'apfloat_digits', 'ieee_operations', 'round_to_odd',
              'apfloat_machines', 'fast_bits', 'small_formats', 'apfloat_arrays', 'apfloat_c', 'commands')
 HEAD = re.compile(r'^( *)pub (?:const )?(?:extern "C" )?fn (\w+)', re.M)
@@ -52,7 +53,7 @@ def statement(found):
 
 
 def exported(crate):
-    """The names that a crate exports: those of its `pub use`, and of the functions of a file that is a public module."""
+    """The names of a crate's `pub use`, and its public modules, whose functions are public too."""
     names, modules = set(), ['lib']
     for module in modules:
         text = (CRATES / crate / 'src' / f'{module}.rt').read_text()
@@ -107,6 +108,11 @@ def of_float():
     return [f'- {joined(names)}: `{formats[field]}`, `{pairs[field]}`' for field, names in calls.items()]
 
 
+def listed(names):
+    """The names, but of calls that stand for many of their kind the first alone."""
+    return [name for name in names if not re.match(r'compare_(quiet|signaling)_', name)]
+
+
 def joined(names):
     """Names as a page has them."""
     return ' '.join(f'`{name}`' for name in names)
@@ -119,7 +125,7 @@ def made():
         calls, theorems = calls_of(crate)
         same = [names[0] for said, names in calls.items() if names == [said] or names[0].split('::')[-1] == said]
         lines += ['', f'**`{crate}`**', '']
-        lines += [f'- {joined(names)}: `{said}`' for said, names in calls.items() if names[0] not in same]
+        lines += [f'- {joined(listed(names))}: `{said}`' for said, names in calls.items() if names[0] not in same]
         if same:
             lines.append(f'- The functions of the same names: {joined(same)}')
         if theorems:

@@ -7,7 +7,7 @@ LIBRARY.so is the shared library for C, as packaging/install or cargo makes it. 
 it does around the library's; *C* is that call alone, of apfloat_convert_array, from memory to memory. *Others* is
 ml_dtypes, if it is installed, and for half numpy itself: they count nothing and raise no flags. A time is that of one
 value in nanoseconds, the fastest of N rounds, in each of which every side converts the whole tensor once. All results
-have to be the same. numpy is needed. --store puts the table into docs/SPEED.md.
+have to be the same. numpy is needed. --store puts the table into evidence/speed/README.md.
 """
 
 import argparse
@@ -19,7 +19,7 @@ import time
 from pathlib import Path
 
 ROOT = Path(__file__).resolve().parent.parent.parent
-PAGE = ROOT / 'docs' / 'SPEED.md'
+PAGE = ROOT / 'evidence' / 'speed' / 'README.md'
 BEGIN, END = '<!-- made by evidence/speed/fp8.py -->', '<!-- end -->'
 # Each format's type in ml_dtypes or numpy, which is its name there, and the type of its bits.
 FORMATS = {
@@ -35,7 +35,7 @@ def main():
     parser.add_argument('library', type=Path, help='the shared library for C')
     parser.add_argument('--count', type=int, default=1 << 20, help='how many values a tensor has')
     parser.add_argument('--rounds', type=int, default=20)
-    parser.add_argument('--store', action='store_true', help='put the table into docs/SPEED.md')
+    parser.add_argument('--store', action='store_true', help='put the table into evidence/speed/README.md')
     arguments = parser.parse_args()
     os.environ['APFLOAT_LIBRARY'] = str(arguments.library.resolve())
     sys.path.insert(0, str(ROOT / 'python'))
