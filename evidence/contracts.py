@@ -105,7 +105,8 @@ def of_float():
         fields = re.findall(r'meaning\.(\w+)', ' '.join(found))
         if len(set(fields)) == 1 or head[1] == 'to_bits':
             calls.setdefault(fields[0], []).append(head[1])
-    return [f'- {joined(names)}: `{formats[field]}`, `{pairs[field]}`' for field, names in calls.items()]
+    return [f'- {joined(names)}: `{formats[field]}`, `{pairs[field]}`' for field, names in calls.items()
+            if not field.startswith('the_')]
 
 
 def listed(names):

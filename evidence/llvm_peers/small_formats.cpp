@@ -21,8 +21,8 @@
 //
 // Differences are counted in groups, by the call, the format of the result, the operands and both results. For each
 // group it prints how many calls differ in each mode (even, up, down, zero, away) and the first of them. The file ROWS
-// gets a row for each call that differs, with the library's answer (docs/PROGRAMS.md), which the model computes again by
-// `python3 evidence/rows.py ROWS | cmp - ROWS`.
+// gets a row for each call that differs, with the library's answer (docs/PROGRAMS.md), which the model computes again
+// by `python3 evidence/rows.py ROWS | cmp - ROWS`.
 //
 // In a format that has neither, LLVM's infinities and NaNs are values that have no code: their bits are not compared.
 #include "../drawing.h"
