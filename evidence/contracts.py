@@ -6,7 +6,7 @@
 
 A row has the calls with the same statement: the relation that their clauses (`ensures`) begin with, or the function
 that the result equals. A call of `Float` has the statement of the field of `meaning` that its clause names, for formats
-and for pairs. Theorems are functions with an empty body.
+and for pairs. Theorems are functions with an empty body; those that a result is the only one are left out.
 """
 
 import pathlib
@@ -21,7 +21,7 @@ BEGIN, END = '<!-- made by evidence/contracts.py -->', '<!-- end -->'
 INSIDE = {'exponents', 'formatting', 'large', 'lanes', 'cuts', 'flagged', 'built_in_formats', 'order', 'products'}
 # What a clause says of what it is about, before it says what the result is.
 ASIDE = {'IsWithin', 'IsTrue', 'IsPositive', 'IsMember', 'IsBetween', 'AreAtMost', 'IsOneLower', 'IsSingle', 'IsOwn',
-         'IsExactly', 'AreLookedUp', 'IsStoredBy'}
+         'IsExactly', 'AreLookedUp', 'IsStoredBy', 'IsOffered'}
 # Functions of the language's library, words of clauses, and functions of no use to a caller.
 PLAIN = {'self', 'if', 'up', 'down', 'neg_ℤ', 'ltb', 'eqb', 'bits', 'pos', 'finite', 'length', 'exponent', 'flags',
          'true', 'false', '2', 'target', 'width', 'found', 'with_status', 'narrowed', 'fields_of'}
@@ -82,7 +82,7 @@ def calls_of(crate):
                 continue
             said = statement(found)
             if empty and not indent:
-                theorems.append(name)
+                theorems += [] if re.search('_have_one_answer$|(?<!_rounding)_once$', name) else [name]
             elif said and name not in calls.get(said, []):
                 calls.setdefault(said, []).append(name)
     return calls, theorems
