@@ -1,5 +1,5 @@
 -- Products and quotients of stored numbers: their exponents, counted from the quantum's.
-use Rattle.std.proofs.Common.{◌≡◌, ℕ, ◌+◌, ◌-◌, ◌*◌, ◌^◌, ◌<◌, ◌≤◌, sym, ap, ◌∙◌, arith, ℤ, pos, ◌+ℤ◌, ◌-ℤ◌, to_z, of_z, w32, FitsSigned}
+use Rattle.std.proofs.Common.{◌≡◌, ℕ, ◌+◌, ◌-◌, ◌*◌, ◌^◌, ◌<◌, ◌≤◌, sym, ap, ◌∙◌, arith, ℤ, pos, ◌+ℤ◌, ◌-ℤ◌, to_z, of_z, w32}
 use Rattle.std.proofs.lemmas.Int.{ints}
 use Rattle.std.proofs.lemmas.Nat.{pow_pos, pow-add}
 use Rattle.apfloat_model.specs.declared.loss.Loss.{Loss}
@@ -28,14 +28,6 @@ normal_near shape m e n =
       within = record { low = omega (arith, ints, l, o); high = omega (arith, ints, l, o) };
       word = exponent_word shape m e n;
     }
-
--- so the sum of two such exponents fits too
-pub sum_fits : (x y : ℤ) → IsWithin number_bound x → IsWithin number_bound y → FitsSigned w32 (x +ℤ y)
-sum_fits x y left right = omega (arith, ints, left, right)
-
-pub sum_near : (x y : ℤ) → IsWithin number_bound x → IsWithin number_bound y → IsWithin (2 * number_bound) (x +ℤ y)
-sum_near x y left right =
-    record { low = omega (arith, ints, left, right); high = omega (arith, ints, left, right) }
 
 -- the exponents of a product, with those of its factors, balance
 balanced_product : (precision scale : ℕ) (min_exp x y r : ℤ) → 3 ≤ precision

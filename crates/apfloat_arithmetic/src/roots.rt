@@ -8,7 +8,7 @@ ghost use Rattle.apfloat_rounding.specs.Stored.{IsStored, IsNormal, quanta_of, d
 
 use crate::specials::{Operation, special};
 use apfloat_model::{Category, ExpInt, Round, StatusAnd};
-use apfloat_rounding::exponents::root_exponent;
+use apfloat_rounding::exponents::last_exponent;
 use apfloat_rounding::rounding::deliver;
 use apfloat_rounding::shape::Shape;
 use apfloat_rounding::unpacked::Unpacked;
@@ -54,7 +54,7 @@ fn root_of_number(shape: Shape, x: Unpacked, round: Round) -> StatusAnd<Unpacked
     let exponent = halves_of(x.exponent);
     let places = shape.precision - 1 + exponent.odd;
     let root = root_of(shape.precision, x.significand, places);
-    let last = root_exponent(shape.precision, exponent.half);
+    let last = last_exponent(shape, exponent.half);
     deliver(shape, root.whole, last, root.loss, round, false)
 }
 

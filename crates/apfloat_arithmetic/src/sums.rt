@@ -15,30 +15,14 @@ use crate::classes::are_normal;
 use crate::signs::negated;
 use crate::specials::{Operation, special};
 use apfloat_model::{Category, Round, StatusAnd};
-use apfloat_rounding::exponents::last_exponent;
 use apfloat_rounding::rounding::from_u128::deliver_u128;
 use apfloat_rounding::rounding::from_word::deliver_word;
 use apfloat_rounding::shape::Shape;
-use apfloat_rounding::unpacked::{Unpacked, remade};
+use apfloat_rounding::unpacked::{Unpacked, remade, term_of};
 use apfloat_words::{
     Term, U128_LIMIT, U128Total, WORD_LIMIT, Wide, WideTerm, add_u128_terms, add_wide_terms,
     add_word_terms,
 };
-
-/// The number as a term, with the exponent of its last digit.
-#[inline(always)]
-fn term_of(shape: Shape, x: Unpacked) -> Term
-    requires { IsNormal shape x }
-    ensures negative { result.negative ≡ x.negative }
-    ensures significand { result.significand ≡ x.significand }
-    ensures exponent { (result.exponent +ℤ pos shape.precision) ≡ (x.exponent +ℤ pos 1) }
-{
-    Term {
-        negative: x.negative,
-        exponent: last_exponent(shape, x.exponent),
-        significand: x.significand,
-    }
-}
 
 /// The sign of an exact zero as the sum of numbers with these signs (IEEE 754-2019 6.3).
 #[inline(always)]

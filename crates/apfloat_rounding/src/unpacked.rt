@@ -4,17 +4,17 @@ ghost use Rattle.std.specs.Prelude.{◌≡◌, ◌+◌, ◌-◌, ◌*◌, ◌^�
 ghost use Rattle.apfloat_model.specs.arithmetic.Exact.{up, down};
 ghost use Rattle.apfloat_model.specs.formats.Format.{largest};
 ghost use Rattle.apfloat_model.specs.formats.Datum.{finite, infinite, nan};
-ghost use Rattle.apfloat_model.specs.rounding.Bounds.{format_bound, place_bound};
+ghost use Rattle.apfloat_model.specs.rounding.Bounds.{IsWithin, number_bound, format_bound, place_bound};
 ghost use Rattle.apfloat_model.specs.rounding.Rounding.{zero_sign, signed_quanta};
 ghost use Rattle.apfloat_model.specs.formats.Constants.{infinity_of, smallest_datum, smallest_normalized_datum};
 ghost use Rattle.apfloat_model.specs.formats.Nan.{nan_sign};
 ghost use Rattle.apfloat_rounding.specs.Shapes.{format_at};
-ghost use Rattle.apfloat_rounding.specs.Stored.{IsNanSignificandAt, IsStored, datum_at};
+ghost use Rattle.apfloat_rounding.specs.Stored.{IsNanSignificandAt, IsNormal, IsStored, datum_at};
 
-use crate::exponents::exponent_at;
+use crate::exponents::{exponent_at, last_exponent};
 use crate::shape::Shape;
 use apfloat_model::{Category, ExpInt, NonfiniteBehavior, StatusAnd};
-use apfloat_words::digits;
+use apfloat_words::{Term, digits};
 
 /// An unpacked value.
 ///
@@ -79,6 +79,23 @@ pub fn significand_of(shape: Shape, x: Unpacked) -> u128
         u128::from(x.significand as u64)
     } else {
         x.significand
+    }
+}
+
+/// A nonzero number as a term. Operations count exponents from last digits, as terms do, up to the rounding of their
+/// results.
+#[inline(always)]
+pub fn term_of(shape: Shape, x: Unpacked) -> Term
+    requires { IsNormal shape x }
+    ensures negative { result.negative ≡ x.negative }
+    ensures significand { result.significand ≡ x.significand }
+    ensures exponent { (result.exponent +ℤ pos shape.precision) ≡ (x.exponent +ℤ pos 1) }
+    ensures within { IsWithin number_bound result.exponent }
+{
+    Term {
+        negative: x.negative,
+        exponent: last_exponent(shape, x.exponent),
+        significand: x.significand,
     }
 }
 

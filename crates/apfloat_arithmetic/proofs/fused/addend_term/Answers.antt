@@ -1,20 +1,16 @@
-use Rattle.std.proofs.Common.{◌≡◌, w32, to_z, of_z, arith, refl}
+use Rattle.std.proofs.Common.{◌≡◌, ◌-◌, ◌*◌, ◌-ℤ◌, pos, w32, to_z, of_z, arith}
 use Rattle.std.proofs.lemmas.Int.{to_z-of_z, ints}
-use Rattle.apfloat_arithmetic.proofs.ProductExponents.{normal_near}
 use Rattle.apfloat_arithmetic.proofs.WideTerms.{addend_counted}
 use Rattle.apfloat_arithmetic.proofs.fused.addend_term.Goals as goal
 
-pub overflow_mul-shape : goal.overflow_mul-shape
-overflow_mul-shape c = omega (arith, c.args.shape.parameters.precision_high)
-
-pub overflow_sub-shape : goal.overflow_sub-shape
-overflow_sub-shape c = omega (arith, c.args.shape.parameters.precision_low)
+pub term_of-term-requires : goal.term_of-term-requires
+term_of-term-requires c = c.requires.normal
 
 pub lowered-requires-clause-within : goal.lowered-requires-clause-within
 lowered-requires-clause-within c =
     record {
-      low = omega (arith, ints, c.args.shape.parameters, c.requires.normal.operand);
-      high = omega (arith, ints, c.args.shape.parameters, c.requires.normal.operand);
+      low = omega (arith, ints, c.term_of-term.ensures.within);
+      high = omega (arith, ints, c.term_of-term.ensures.within);
     }
 
 pub lowered-requires-clause-short : goal.lowered-requires-clause-short
@@ -27,17 +23,24 @@ pub raised_addend-requires-clause-short : goal.raised_addend-requires-clause-sho
 raised_addend-requires-clause-short c = c.requires.short
 
 pub raised_addend-requires-clause-fits : goal.raised_addend-requires-clause-fits
-raised_addend-requires-clause-fits c = c.requires.normal.operand.fits
+raised_addend-requires-clause-fits c = rw c.term_of-term.ensures.significand c.requires.normal.operand.fits
 
 pub raised_addend-requires-clause-full : goal.raised_addend-requires-clause-full
-raised_addend-requires-clause-full c = c.requires.normal.operand.full
+raised_addend-requires-clause-full c = rw c.term_of-term.ensures.significand c.requires.normal.operand.full
 
 pub returns-clause-negative : goal.returns-clause-negative
-returns-clause-negative c = refl
+returns-clause-negative c = c.term_of-term.ensures.negative
 
 pub returns-clause-exponent : goal.returns-clause-exponent
 returns-clause-exponent c =
-    omega (arith, ints, c.args.shape.parameters, c.requires.normal.operand, c.lowered.ensures.value)
+    omega (
+      arith,
+      ints,
+      c.args.shape.parameters,
+      c.term_of-term.ensures.within,
+      c.term_of-term.ensures.exponent,
+      c.lowered.ensures.value,
+    )
 
 pub returns-clause-within : goal.returns-clause-within
 returns-clause-within c =
@@ -55,10 +58,19 @@ returns-clause-full c = c.raised_addend.ensures.full
 pub returns-clause-counted : goal.returns-clause-counted
 returns-clause-counted c = λ base k b h.
     let s = c.args.shape in
-    let z = normal_near s c.args.z.significand c.args.z.exponent c.requires.normal in
-    let e = rw z.word at c.lowered.ensures.value in
+    let z = c.args.z in
+    let e : c.lowered.result ≡ z.exponent -ℤ pos (2 * s.precision - 1) =
+    omega (
+      arith,
+      ints,
+      s.parameters.precision_low,
+      c.term_of-term.ensures.within,
+      c.term_of-term.ensures.exponent,
+      c.lowered.ensures.value,
+    ) in
     let l : to_z w32 (of_z w32 c.lowered.result) ≡ c.lowered.result =
     to_z-of_z w32 c.lowered.result (record { sfits = c.lowered.type_inv }) in
     let b' = rw l at b in
-    rw l (addend_counted s c.args.z.exponent c.lowered.result base c.args.z.significand c.raised_addend.result k
-    c.requires.normal c.raised_addend.ensures.value e b' h)
+    let v = rw c.term_of-term.ensures.significand at c.raised_addend.ensures.value in
+    rw l (addend_counted s z.exponent c.lowered.result base z.significand c.raised_addend.result k c.requires.normal v e
+    b' h)

@@ -16,13 +16,13 @@ returns-clause-delivered c =
     let s = c.args.shape in
     let x = normal_near s c.args.x.significand c.args.x.exponent c.requires in
     let half : ℤ = c.halves_of-exponent.result.half in
-    let last : ℤ = c.root_exponent-last.result in
+    let last : ℤ = c.last_exponent-last.result in
     let h : c.args.x.exponent ≡ (half +ℤ half) +ℤ pos c.halves_of-exponent.result.odd =
     rw x.word at c.halves_of-exponent.ensures.halves in
-    let w : to_z w32 (of_z w32 last) ≡ last = to_z-of_z w32 last (record { sfits = c.root_exponent-last.type_inv }) in
+    let w : to_z w32 (of_z w32 last) ≡ last = to_z-of_z w32 last (record { sfits = c.last_exponent-last.type_inv }) in
     let u : to_z w32 (of_z w32 half) ≡ half =
     to_z-of_z w32 half (fits_in w32 half (omega (arith, ints, c.halves_of-exponent.ensures.within))) in
-    let v : last ≡ half -ℤ pos (s.precision - 1) = rw u at c.root_exponent-last.ensures.value in
+    let v : last ≡ half -ℤ pos (s.precision - 1) = rw u at c.last_exponent-last.ensures.value in
     let unit : ℤ = last +ℤ pos (format_at s).scale in
     delivered_of_standing (format_at s) c.args.round
     (quanta_at s.min_exp c.args.x.significand c.args.x.exponent * 2 ^ (format_at s).scale)

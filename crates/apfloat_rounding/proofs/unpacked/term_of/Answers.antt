@@ -1,6 +1,6 @@
 use Rattle.std.proofs.Common.{arith}
 use Rattle.std.proofs.lemmas.Int.{ints}
-use Rattle.apfloat_arithmetic.proofs.sums.term_of.Goals as goal
+use Rattle.apfloat_rounding.proofs.unpacked.term_of.Goals as goal
 
 pub last_exponent-requires : goal.last_exponent-requires
 last_exponent-requires c =
@@ -19,3 +19,10 @@ returns-clause-exponent c =
       c.requires.operand.greatest,
       c.last_exponent.ensures.value,
     )
+
+pub returns-clause-within : goal.returns-clause-within
+returns-clause-within c =
+    record {
+      low = omega (arith, ints, c.args.shape.parameters, c.requires.operand, c.last_exponent.ensures.value);
+      high = omega (arith, ints, c.args.shape.parameters, c.requires.operand, c.last_exponent.ensures.value);
+    }
