@@ -11,7 +11,7 @@ use apfloat_rounding::exponents::lowered;
 use apfloat_rounding::nans::is_signaling;
 use apfloat_rounding::payloads::converted_nan;
 use apfloat_rounding::shape::Shape;
-use apfloat_rounding::unpacked::Unpacked;
+use apfloat_rounding::unpacked::{Unpacked, term_of};
 use apfloat_words::Term;
 
 /// The greatest number of digits that a format may have.
@@ -58,10 +58,11 @@ fn number_term(from: Shape, x: Unpacked) -> Term
     ensures term { IsTerm result }
     ensures is { IsNumber x.negative (quanta_of from x) (format_at from).scale result }
 {
+    let term = term_of(from, x);
     Term {
-        negative: x.negative,
-        exponent: lowered(x.exponent, DIGITS - 1),
-        significand: full_significand(from.precision, x.significand),
+        negative: term.negative,
+        exponent: lowered(term.exponent, DIGITS - from.precision),
+        significand: full_significand(from.precision, term.significand),
     }
 }
 
