@@ -1,15 +1,12 @@
-//! The modules beyond the interface of the crate `rustc_apfloat`: rows of results in another format, of augmented sums,
-//! of rounding to odd and of storage formats, which exact fractions gave (`tests/rows`), and comparisons, extrema,
-//! logarithms and integers against the arithmetic of `f64`, into which codes of eight bits are decoded exactly.
+//! The modules beyond the interface of the crate `rustc_apfloat`: comparisons, extrema, logarithms and integers against
+//! the arithmetic of `f64`, into which codes of eight bits are decoded exactly, storage formats, and conversions with
+//! random digits. `rows.rs` has their rows.
 
-use rustc_apfloat::augmented;
 use rustc_apfloat::comparisons::{self, Class, Extremum, OnNan, Predicate};
 use rustc_apfloat::conversion_modes::{ConversionRound, RandomDigits, RandomError, convert_by};
 use rustc_apfloat::ieee::*;
-use rustc_apfloat::storage_formats::{E2M1FN, E2M3FN, E3M2FN, E8M0FNU, Float8E3M4, StoredFloat, UE4M3};
-use rustc_apfloat::{
-    Category, Float, IEK_INF, IEK_NAN, IEK_ZERO, Round, Status, StatusAnd, format_of, odd,
-};
+use rustc_apfloat::storage_formats::{E2M1FN, E3M2FN, E8M0FNU, Float8E3M4, StoredFloat, UE4M3};
+use rustc_apfloat::{Category, Float, IEK_INF, IEK_NAN, IEK_ZERO, Round, Status, StatusAnd};
 use std::cmp::Ordering;
 
 const MODES: [Round; 5] = [
@@ -19,146 +16,6 @@ const MODES: [Round; 5] = [
     Round::TowardZero,
     Round::NearestTiesToAway,
 ];
-
-/// The rows of a file: call, formats, mode, operands, value, flags, and what else.
-fn rows(name: &str) -> Vec<[String; 7]> {
-    let file = format!("{}/tests/rows/{name}.tsv", env!("CARGO_MANIFEST_DIR"));
-    let text = std::fs::read_to_string(file).unwrap();
-    let rows = text.lines().filter(|line| !line.starts_with('#'));
-    rows.map(|line| line.split('\t').map(str::to_owned).collect::<Vec<_>>().try_into().unwrap()).collect()
-}
-
-fn number(word: &str) -> u128 {
-    u128::from_str_radix(word, 16).unwrap()
-}
-
-fn values<S: Semantics>(words: &str) -> Vec<IeeeFloat<S>> {
-    words.split(' ').map(|word| IeeeFloat::from_bits(number(word))).collect()
-}
-
-fn status(word: &str) -> Status {
-    let flags = word.split('|').filter(|name| *name != "OK");
-    flags.fold(Status::OK, |status, name| status | Status::from_name(name).unwrap())
-}
-
-/// The modes of a row.
-fn modes(word: &str) -> Vec<Round> {
-    const WORDS: [&str; 5] = ["even", "up", "down", "zero", "away"];
-    MODES.into_iter().zip(WORDS).filter(|(_, name)| [name, "any"].contains(&word)).map(|(mode, _)| mode).collect()
-}
-
-/// Compares an answer with a row.
-fn check<S: Semantics>(row: &[String; 7], answer: StatusAnd<IeeeFloat<S>>) {
-    assert_eq!((answer.value.to_bits(), answer.status), (number(&row[4]), status(&row[5])), "{row:?}");
-}
-
-fn check_in_another<S: Semantics, T: Semantics>(row: &[String; 7]) {
-    let operands = values::<S>(&row[3]);
-    let x = operands[0];
-    let second = || operands[1];
-    for round in modes(&row[2]) {
-        let (method, function): (StatusAnd<IeeeFloat<T>>, StatusAnd<IeeeFloat<T>>) = match row[0].as_str() {
-            "add_to" => (x.add_to(second(), round), format_of::add(x, second(), round)),
-            "sub_to" => (x.sub_to(second(), round), format_of::subtract(x, second(), round)),
-            "mul_to" => (x.mul_to(second(), round), format_of::multiply(x, second(), round)),
-            "div_to" => (x.div_to(second(), round), format_of::divide(x, second(), round)),
-            "sqrt_to" => (x.sqrt_to(round), format_of::square_root(x, round)),
-            "mul_add_to" => {
-                let (y, z) = (second(), operands[2]);
-                (x.mul_add_to(y, z, round), format_of::multiply_add(x, y, z, round))
-            }
-            _ => panic!("{row:?}"),
-        };
-        check(row, method);
-        check(row, function);
-    }
-}
-
-#[test]
-fn results_in_another_format() {
-    for row in &rows("format_of") {
-        match row[1].as_str() {
-            "double>half" => check_in_another::<DoubleS, HalfS>(row),
-            "double>bfloat" => check_in_another::<DoubleS, BFloatS>(row),
-            "double>single" => check_in_another::<DoubleS, SingleS>(row),
-            "double>quad" => check_in_another::<DoubleS, QuadS>(row),
-            "half>quad" => check_in_another::<HalfS, QuadS>(row),
-            "quad>half" => check_in_another::<QuadS, HalfS>(row),
-            "single>e4m3fn" => check_in_another::<SingleS, Float8E4M3FNS>(row),
-            "e4m3fnuz>double" => check_in_another::<Float8E4M3FNUZS, DoubleS>(row),
-            "bfloat>half" => check_in_another::<BFloatS, HalfS>(row),
-            _ => panic!("{row:?}"),
-        }
-    }
-}
-
-fn check_augmented<S: Semantics>(row: &[String; 7]) {
-    let (operands, results) = (values::<S>(&row[3]), values::<S>(&row[4]));
-    let call = match row[0].as_str() {
-        "augmented_add" => augmented::augmented_add,
-        "augmented_subtract" => augmented::augmented_subtract,
-        "augmented_multiply" => augmented::augmented_multiply,
-        _ => panic!("{row:?}"),
-    };
-    let answer = call(operands[0], operands[1]);
-    let given = (answer.value.head.to_bits(), answer.value.tail.to_bits(), answer.status);
-    assert_eq!(given, (results[0].to_bits(), results[1].to_bits(), status(&row[5])), "{row:?}");
-}
-
-#[test]
-fn augmented_sums_and_products() {
-    for row in &rows("augmented") {
-        match row[1].as_str() {
-            "half+ieee" => check_augmented::<HalfS>(row),
-            "e5m2+ieee" => check_augmented::<Float8E5M2S>(row),
-            "e4m3fn" => check_augmented::<Float8E4M3FNS>(row),
-            "e4m3fnuz" => check_augmented::<Float8E4M3FNUZS>(row),
-            "single+ieee" => check_augmented::<SingleS>(row),
-            _ => panic!("{row:?}"),
-        }
-    }
-}
-
-/// A result rounded to odd.
-fn check_odd<S: Semantics>(row: &[String; 7]) {
-    let operands = values::<S>(&row[3]);
-    let (x, mode) = (operands[0], Round::TowardZero);
-    let truncated = match row[0].as_str() {
-        "add_odd" => x.add_r(operands[1], mode),
-        "mul_odd" => x.mul_r(operands[1], mode),
-        "div_odd" => x.div_r(operands[1], mode),
-        "sqrt_odd" => x.sqrt_r(mode),
-        _ => panic!("{row:?}"),
-    };
-    check(row, odd::to_odd(truncated, truncated.value.is_negative()));
-}
-
-/// The same, rounded again.
-fn check_odd_again<S: Semantics, T: Semantics>(row: &[String; 7]) {
-    let (value, flags) = row[3].split_once(' ').unwrap();
-    let first = status(flags).and(IeeeFloat::<S>::from_bits(number(value)));
-    for mode in modes(&row[2]) {
-        check::<T>(row, odd::round_odd_to(first, mode));
-    }
-}
-
-#[test]
-fn rounding_to_odd() {
-    type Before<S> = IeeeFlags<TinyBefore<S>>;
-    for row in &rows("odd") {
-        match row[1].as_str() {
-            "half+ieee" => check_odd::<IeeeFlags<HalfS>>(row),
-            "half" => check_odd::<HalfS>(row),
-            "single+ieee+before" => check_odd::<Before<SingleS>>(row),
-            "single" => check_odd::<SingleS>(row),
-            "half+ieee>e5m2+ieee" => check_odd_again::<IeeeFlags<HalfS>, IeeeFlags<Float8E5M2S>>(row),
-            "half>e4m3fn" => check_odd_again::<HalfS, Float8E4M3FNS>(row),
-            "single+ieee+before>half+ieee+before" => check_odd_again::<Before<SingleS>, Before<HalfS>>(row),
-            "single>e4m3fnuz" => check_odd_again::<SingleS, Float8E4M3FNUZS>(row),
-            _ => panic!("{row:?}"),
-        }
-    }
-}
 
 type Small = Float8E5M2;
 
@@ -417,33 +274,8 @@ fn operations_on_flags() {
     assert_eq!(comparisons::restore_flags(c, a, b | c), Status::INEXACT);
 }
 
-/// A single that is stored.
-macro_rules! check_stored {
-    ($type:ty, $row:expr) => {{
-        let row = $row;
-        let x = Single::from_bits(number(&row[3]));
-        for mode in modes(&row[2]) {
-            let mut loses_info = false;
-            let answer = <$type>::from_value(x, mode, &mut loses_info);
-            let given = (u128::from(answer.value.to_bits()), answer.status, format!("loses_info={loses_info}"));
-            assert_eq!(given, (number(&row[4]), status(&row[5]), row[6].clone()), "{row:?}");
-        }
-    }};
-}
-
 #[test]
-fn storage_formats() {
-    for row in rows("storage_formats").iter().chain(&rows("e3m4")).filter(|row| row[0] == "convert_r") {
-        match row[1].as_str() {
-            "single>e2m1fn" => check_stored!(StoredFloat::<E2M1FN>, row),
-            "single>e2m3fn" => check_stored!(StoredFloat::<E2M3FN>, row),
-            "single>e3m2fn" => check_stored!(StoredFloat::<E3M2FN>, row),
-            "single>e8m0fnu" => check_stored!(E8M0FNU, row),
-            "single>ue4m3" => check_stored!(UE4M3, row),
-            "single>e3m4" => check_stored!(Float8E3M4, row),
-            _ => panic!("{row:?}"),
-        }
-    }
+fn values_of_storage_formats() {
     // 6, 2, the largest number, and an infinity.
     let (round, loses_info) = (Round::TowardZero, &mut false);
     let back: [Single; 4] = [

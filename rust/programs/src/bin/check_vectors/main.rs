@@ -8,6 +8,7 @@ mod check;
 #[path = "../../erased.rs"]
 mod erased;
 mod failure;
+mod library;
 mod lines;
 mod program;
 #[path = "../../progress.rs"]

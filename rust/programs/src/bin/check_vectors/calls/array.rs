@@ -1,9 +1,9 @@
 //! Conversions with storage formats that saturate: those of an array of one value.
 
+use crate::erased::apfloat_arrays::stored::{Ends, StorageArray};
 use crate::erased::apfloat_arrays::{Counts, Extended, number_of};
 use crate::erased::rustc_apfloat::{Flags, Round, Status};
 use crate::erased::small_formats::saturation::{FiniteNan, Overflow};
-use crate::erased::apfloat_arrays::stored::{Ends, StorageArray};
 use crate::lines::{RowAnswer, SaturateCall, ValueField};
 
 /// What a number that overflows, an infinity and a NaN become.

@@ -1,10 +1,10 @@
 //! Augmented operations (9.5) and payloads of NaNs (9.7).
 
 use crate::calls::in_a_format::{two_values_in, value_in};
+use crate::erased::formats_at_run_time::{BuiltInFormat, FlaggedFormat, InFormat};
 use crate::erased::ieee_operations::augmented::{
     augmented_add, augmented_multiply, augmented_subtract, get_payload, set_payload, set_payload_signaling,
 };
-use crate::erased::formats_at_run_time::{BuiltInFormat, FlaggedFormat, InFormat};
 use crate::erased::rustc_apfloat::Float;
 use crate::erased::rustc_apfloat::ieee::{
     DoubleS, Flagged, Float8E4M3FNS, Float8E4M3FNUZS, Float8E5M2S, HalfS, IeeeFlags, Semantics, SingleS,

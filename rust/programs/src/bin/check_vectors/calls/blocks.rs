@@ -1,13 +1,13 @@
 //! Blocks of values with a common scale. Operands and values are lists of bits, of the elements and of singles.
 
-use crate::erased::small_formats::blocks::{
-    Block, Counts, ElementFormat, dequantize_block, dequantize_nvfp4_block, quantize_block, quantize_nvfp4_block,
-    tensor_scale,
-};
 use crate::erased::commands::bits_of;
 use crate::erased::formats_at_run_time::{BuiltInFormat, FlaggedFormat};
 use crate::erased::rustc_apfloat::Float;
 use crate::erased::rustc_apfloat::ieee::Single;
+use crate::erased::small_formats::blocks::{
+    Block, Counts, ElementFormat, dequantize_block, dequantize_nvfp4_block, quantize_block, quantize_nvfp4_block,
+    tensor_scale,
+};
 use crate::lines::{
     Answered, BlockCall, CallFault, ExtraField, Formats, Request, RowAnswer, RowFormat, Text, ValueField,
 };

@@ -4,8 +4,8 @@
 //! wide formats, with more exponents or more digits on either side, and of those without infinities.
 
 use crate::calls::in_a_format::value_in;
-use crate::erased::ieee_operations::{OnNan, Predicate, compare_between};
 use crate::erased::formats_at_run_time::BuiltInFormat;
+use crate::erased::ieee_operations::{OnNan, Predicate, compare_between};
 use crate::erased::rustc_apfloat::ieee::{
     BFloatS, DoubleS, Flagged, Float8E4M3FNS, Float8E4M3FNUZS, HalfS, QuadS, SingleS, X87DoubleExtendedS,
 };

@@ -2,10 +2,10 @@
 
 use crate::calls::in_a_format::rounded_in;
 use crate::calls::in_another::{Operation, delivered, operation_of};
-use crate::erased::round_to_odd::to_odd;
 use crate::erased::formats_at_run_time::BuiltInFormat;
+use crate::erased::round_to_odd::to_odd;
 use crate::erased::rustc_apfloat::ieee::{Flagged, IeeeFloat, X87DoubleExtendedS};
-use crate::erased::rustc_apfloat::{Float, Round, StatusAnd};
+use crate::erased::rustc_apfloat::{Float, FloatConvert, Round, StatusAnd};
 use crate::lines::{Answered, CallFault, CallInFormat, FewerDigits, FormatOfCall, Operands, RowFormat};
 
 /// What an operation on values of `x87` returns, as a value of `x87`; without a mode it is rounded to odd.
@@ -37,8 +37,9 @@ impl CallInFormat for InFewerDigits {
             delivered::<X87DoubleExtendedS>(self.operation, Round::TowardZero).value
         } else {
             let mut loses_info = false;
-            let narrow = answer.value.with_format();
-            narrow.convert_to::<X87DoubleExtendedS>(Round::TowardZero, &mut loses_info).value
+            let wide: StatusAnd<IeeeFloat<X87DoubleExtendedS>> =
+                answer.value.convert_r(Round::TowardZero, &mut loses_info);
+            wide.value
         };
         Ok(rounded_in(answer.status.and(value), None))
     }

@@ -4,13 +4,13 @@ use crate::calls::decimals::in_decimals;
 use crate::calls::in_a_format::{rounded_in, two_values_in, value_in};
 use crate::calls::of_type::of_type;
 use crate::calls::pairs;
-use crate::erased::apfloat_ieee::AnyFloat;
 use crate::erased::rustc_apfloat::ieee::{Flagged, IeeeFloat};
 use crate::erased::rustc_apfloat::ppc::{DoubleDouble, FallbackS};
 use crate::erased::rustc_apfloat::{FUSED_LIMIT, Float, Round, StatusAnd};
+use crate::library::{AnyFloat, any_value, wide_fused_sum, wide_product};
 use crate::lines::{
     Answered, Call, CallFault, CallInFormat, ConversionCall, ExtraField, FormatCall, Formats, Operands, Quanta,
-    Request, Returned, RowAnswer, RowFormat, any_value, value_of,
+    Request, Returned, RowAnswer, RowFormat, value_of,
 };
 use std::fmt::Debug;
 
@@ -112,8 +112,8 @@ fn of_format_alone<S: Flagged>(call: FormatCall, request: Request) -> Answered {
 fn rounded_once<S: Flagged>(call: FormatCall, request: Request) -> Result<StatusAnd<IeeeFloat<S>>, CallFault> {
     let Request { operands, round, .. } = request;
     match call {
-        FormatCall::WideMulR => wide_product(operands, round),
-        FormatCall::WideMulAddR => wide_fused_sum(operands, round),
+        FormatCall::WideMulR => product(operands, round),
+        FormatCall::WideMulAddR => sum_of_product(operands, round),
         FormatCall::MulAdd => fused_sum(operands, None),
         FormatCall::MulAddR => fused_sum(operands, Some(round)),
         FormatCall::CFmodSteps => Err(CallFault::Support),
@@ -124,17 +124,17 @@ fn rounded_once<S: Flagged>(call: FormatCall, request: Request) -> Result<Status
 type RoundedIn<S> = Result<StatusAnd<IeeeFloat<S>>, CallFault>;
 
 /// A product in a format of any precision.
-fn wide_product<S: Flagged>(operands: Operands, round: Round) -> RoundedIn<S> {
+fn product<S: Flagged>(operands: Operands, round: Round) -> RoundedIn<S> {
     match two_values_in::<S>(operands) {
-        Some((x, y)) => Ok(x.wide_mul_r(y, round)),
+        Some((x, y)) => Ok(wide_product(x, y, round)),
         None => Err(CallFault::Operand),
     }
 }
 
 /// A product plus a third value, rounded once, in a format of any precision.
-fn wide_fused_sum<S: Flagged>(operands: Operands, round: Round) -> RoundedIn<S> {
+fn sum_of_product<S: Flagged>(operands: Operands, round: Round) -> RoundedIn<S> {
     match (two_values_in::<S>(operands), value_in(operands.third)) {
-        (Some((x, y)), Some(z)) => Ok(x.wide_mul_add_r(y, z, round)),
+        (Some((x, y)), Some(z)) => Ok(wide_fused_sum(x, y, z, round)),
         _ => Err(CallFault::Operand),
     }
 }

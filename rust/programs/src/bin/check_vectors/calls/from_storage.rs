@@ -3,10 +3,10 @@
 use crate::calls::array::in_array;
 use crate::calls::projections;
 use crate::calls::storage::converted;
+use crate::erased::apfloat_arrays::stored::{Ends, StoredFormat};
 use crate::erased::formats_at_run_time::{FlaggedFormat, InFlaggedFormat};
 use crate::erased::rustc_apfloat::ieee::{Flagged, IeeeFloat};
 use crate::erased::rustc_apfloat::{Float, Round, StatusAnd};
-use crate::erased::apfloat_arrays::stored::{Ends, StoredFormat};
 use crate::erased::small_formats::{E2M1FN, E2M3FN, E3M2FN, E8M0FNU, Float8E3M4, StoredFloat, UE4M3};
 use crate::lines::{Answered, Call, CallFault, ConversionCall, OperationCall, Request, RowFormat, StorageName};
 

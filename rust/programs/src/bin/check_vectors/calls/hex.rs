@@ -1,8 +1,8 @@
 //! The hexadecimal digits of a value (5.12.3), in the built-in formats.
 
 use crate::calls::in_a_format::value_in;
-use crate::erased::formats_at_run_time::{FlaggedFormat, InFormat};
 use crate::erased::apfloat_digits::hexadecimal::{write_hex, write_hex_rounded};
+use crate::erased::formats_at_run_time::{FlaggedFormat, InFormat};
 use crate::erased::rustc_apfloat::Round;
 use crate::erased::rustc_apfloat::ieee::{IeeeFloat, Semantics};
 use crate::lines::{

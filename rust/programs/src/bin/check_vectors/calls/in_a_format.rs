@@ -1,7 +1,7 @@
 //! Operands of a format, and results in it.
 //!
-//! `value_of` and `RowAnswer::of` serve every type of values. Each use of these at the type of a format is dear to compile,
-//! so there is one here, in functions that are not inlined.
+//! `value_of` and `RowAnswer::of` serve every type of values. Each use of these at the type of a format is dear to
+//! compile, so there is one here, in functions that are not inlined.
 
 use crate::erased::rustc_apfloat::StatusAnd;
 use crate::erased::rustc_apfloat::ieee::{Flagged, IeeeFloat};

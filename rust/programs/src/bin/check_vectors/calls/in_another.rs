@@ -4,10 +4,10 @@
 //! pair of formats.
 
 use crate::calls::in_a_format::rounded_in;
-use crate::erased::apfloat_ieee::AnyFloat;
 use crate::erased::rustc_apfloat::ieee::{Flagged, IeeeFloat};
 use crate::erased::rustc_apfloat::{Round, StatusAnd};
-use crate::lines::{Answered, CallFault, CallInFormat, FormatOfCall, Operands, Quanta, Request, RowFormat, any_value};
+use crate::library::{AnyFloat, any_value};
+use crate::lines::{Answered, CallFault, CallInFormat, FormatOfCall, Operands, Quanta, Request, RowFormat};
 
 /// What an operation on values of a built-in format returns in another.
 pub(crate) fn in_another(source: RowFormat, target: RowFormat, call: FormatOfCall, request: Request) -> Answered {

@@ -4,12 +4,13 @@ use crate::calls::fewer_digits::in_fewer_digits;
 use crate::calls::formats;
 use crate::calls::in_a_format::{rounded_in, value_in};
 use crate::calls::in_another::in_another;
+use crate::erased::formats_at_run_time::{BuiltInFormat, InFlaggedFormat, InFormat};
 use crate::erased::round_to_odd::{
     from_i128_odd, from_u128_odd, round_odd_to, round_to_odd_integral, to_i128_odd, to_odd, to_u128_odd,
 };
-use crate::erased::formats_at_run_time::{BuiltInFormat, InFlaggedFormat, InFormat};
 use crate::erased::rustc_apfloat::ieee::{Flagged, HalfS, IeeeFloat, Semantics, SingleS};
 use crate::erased::rustc_apfloat::{Float, Round, Status, StatusAnd};
+use crate::library::zero;
 use crate::lines::{
     Answered, Call, CallFault, ConversionCall, FormatOfCall, Formats, OddCall, Operand, Request, RowAnswer, RowFormat,
     StatusField, ValueField,
@@ -105,7 +106,7 @@ impl InFormat for MadeOdd {
 
     /// Only in a format with -0: in another, a result that is truncated to zero loses its sign.
     fn in_format<S: Semantics>(self) -> Answered {
-        if !(-IeeeFloat::<S>::zero()).is_negative() {
+        if !(-zero::<IeeeFloat<S>>()).is_negative() {
             return Err(CallFault::Support);
         }
         let truncated = IeeeFloat::<S>::from_bits(self.bits);

@@ -3,6 +3,7 @@
 use crate::calls::magnitudes::Magnitudes;
 use crate::erased::formats_at_run_time::ValueType;
 use crate::erased::rustc_apfloat::{ExpInt, Float, Round, StatusAnd};
+use crate::library;
 use crate::lines::{
     Answered, AssigningOperator, Call, CallFault, Constant, ExtraField, IntegerCall, OneValueCall, Operand, Property,
     Quanta, Request, Returned, RowAnswer, Text, TextCall, TwoValuesCall, ValueField, WordCall, shown, two_values,
@@ -33,13 +34,13 @@ fn constant_of<F: Float + Debug>(constant: Constant, stated: Option<Quanta>) -> 
         Constant::Precision => Returned::Field(ValueField::Unsigned(F::PRECISION as u128)),
         Constant::MaxExp => Returned::Field(ValueField::Signed(i128::from(F::MAX_EXP))),
         Constant::MinExp => Returned::Field(ValueField::Signed(i128::from(F::MIN_EXP))),
-        Constant::Multiplies => Returned::Field(ValueField::Truth(F::MULTIPLIES)),
-        Constant::Zero => Returned::Value(F::zero()),
+        Constant::Multiplies => Returned::Field(ValueField::Truth(library::has_products::<F>())),
+        Constant::Zero => Returned::Value(library::zero()),
         Constant::Default => Returned::Value(F::default()),
-        Constant::Infinity => Returned::Value(F::infinity()),
-        Constant::Nan => Returned::Value(F::nan()),
+        Constant::Infinity => Returned::Value(library::infinity()),
+        Constant::Nan => Returned::Value(library::nan()),
         Constant::Largest => Returned::Value(F::largest()),
-        Constant::Smallest => Returned::Value(F::smallest()),
+        Constant::Smallest => Returned::Value(library::smallest()),
         Constant::SmallestNormalized => Returned::Value(F::smallest_normalized()),
     };
     RowAnswer::of(returned, stated)
@@ -146,7 +147,7 @@ fn returned_of_two<F: Magnitudes>(call: TwoValuesCall, x: F, y: F, round: Round)
 #[inline(never)]
 fn computed<F: Float>(call: TwoValuesCall, x: F, y: F, round: Round) -> Option<StatusAnd<F>> {
     match call {
-        TwoValuesCall::MulR | TwoValuesCall::Mul if !F::MULTIPLIES => None,
+        TwoValuesCall::MulR | TwoValuesCall::Mul if !library::has_products::<F>() => None,
         TwoValuesCall::AddR => Some(x.add_r(y, round)),
         TwoValuesCall::SubR => Some(x.sub_r(y, round)),
         TwoValuesCall::MulR => Some(x.mul_r(y, round)),
@@ -172,7 +173,7 @@ fn assigned<F: Float + Debug>(operator: AssigningOperator, request: Request) -> 
     match operator {
         AssigningOperator::Add => value += y,
         AssigningOperator::Sub => value -= y,
-        AssigningOperator::Mul if !F::MULTIPLIES => return Err(CallFault::Support),
+        AssigningOperator::Mul if !library::has_products::<F>() => return Err(CallFault::Support),
         AssigningOperator::Mul => value *= y,
         AssigningOperator::Div => value /= y,
         AssigningOperator::Rem => value %= y,

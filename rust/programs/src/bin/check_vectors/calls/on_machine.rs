@@ -14,6 +14,7 @@ use crate::erased::apfloat_machines::{
 use crate::erased::formats_at_run_time::{BuiltInFormat, InFormat};
 use crate::erased::rustc_apfloat::ieee::{Flagged, IeeeFloat, Semantics};
 use crate::erased::rustc_apfloat::{Float, Status, StatusAnd};
+use crate::library::zero;
 use crate::lines::{
     Answered, Call, CallFault, CallInFormat, ConversionCall, FormatCall, Formats, GeneralCall, IntegerCall,
     MachineFormat, OneValueCall, Operand, Operands, OperationCall, Request, RowAnswer, RowFormat, StatusField,
@@ -218,7 +219,7 @@ impl InFormat for IsLost {
     fn in_format<S: Semantics>(self) -> bool {
         match value_in::<S>(self.operand) {
             Some(x) => {
-                let zero = Status::OK.and(IeeeFloat::<S>::zero());
+                let zero = Status::OK.and(zero::<IeeeFloat<S>>());
                 settled_conversion(self.machine, x, zero).value.is_nan()
             }
             None => false,

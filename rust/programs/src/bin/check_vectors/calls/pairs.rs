@@ -4,7 +4,9 @@ use crate::calls::decimals::columns;
 use crate::calls::in_a_format::{rounded_in, value_in};
 use crate::calls::of_type::of_type;
 use crate::erased::apfloat_digits::of_double_doubles::{read_decimal_pair, shortest_of_pair};
-use crate::erased::rustc_apfloat::double_double_operations::{pair_from_format, pair_mul_add, pair_mul_add_r, pair_to_format};
+use crate::erased::rustc_apfloat::double_double_operations::{
+    pair_from_format, pair_mul_add, pair_mul_add_r, pair_to_format,
+};
 use crate::erased::rustc_apfloat::ieee::Flagged;
 use crate::erased::rustc_apfloat::ppc::DoubleDouble;
 use crate::erased::rustc_apfloat::{Round, StatusAnd};
@@ -24,9 +26,7 @@ pub(crate) fn in_pairs(request: Request, text: &str) -> Answered {
             pair_of(request.operands.first).map(|pair| columns(shortest_of_pair(pair)))
         }
         Call::OfFormat(FormatCall::MulAdd) => fused_sum(request, pair_mul_add),
-        Call::OfFormat(FormatCall::MulAddR) => {
-            fused_sum(request, |x, y, z| pair_mul_add_r(x, y, z, request.round))
-        }
+        Call::OfFormat(FormatCall::MulAddR) => fused_sum(request, |x, y, z| pair_mul_add_r(x, y, z, request.round)),
         _ => of_type::<DoubleDouble>(request, text),
     }
 }

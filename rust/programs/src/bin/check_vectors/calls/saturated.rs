@@ -2,12 +2,12 @@
 
 use crate::calls::array::overflow_of;
 use crate::calls::storage::converted;
-use crate::erased::apfloat_ieee::AnyFloat;
 use crate::erased::formats_at_run_time::InFlaggedFormat;
 use crate::erased::rustc_apfloat::ieee::{Flagged, IeeeFloat, QuadS};
 use crate::erased::rustc_apfloat::{Float, Round, StatusAnd};
 use crate::erased::small_formats::saturation::{Overflow, ValueClass, treat};
-use crate::lines::{Answered, CallFault, Request, RowFormat, SaturateCall, any_value};
+use crate::library::{AnyFloat, any_value};
+use crate::lines::{Answered, CallFault, Request, RowFormat, SaturateCall};
 
 /// What a conversion between built-in formats that saturates returns.
 pub fn answer(source: RowFormat, target: RowFormat, call: SaturateCall, request: Request) -> Answered {

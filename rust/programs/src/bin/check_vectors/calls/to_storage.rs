@@ -3,10 +3,10 @@
 use crate::calls::array::in_array;
 use crate::calls::projections;
 use crate::calls::storage::converted;
+use crate::erased::apfloat_arrays::stored::{Ends, StoredFormat};
 use crate::erased::formats_at_run_time::{BuiltInFormat, InFormat};
 use crate::erased::rustc_apfloat::ieee::{IeeeFloat, Semantics};
 use crate::erased::rustc_apfloat::{Float, Round, StatusAnd};
-use crate::erased::apfloat_arrays::stored::{Ends, StoredFormat};
 use crate::erased::small_formats::{
     ConversionRound, E2M1FN, E2M3FN, E3M2FN, E8M0FNU, Float8E3M4, NanResult, RandomDigits, RandomError, StorageFormat,
     StoredFloat, UE4M3,

@@ -21,8 +21,16 @@ const MOST: u128 = 1 << 24;
 const WORDS: [&[&str]; 2] = [
     &["NaN", "Infinity", "Zero", "Normal"],
     &[
-        "SignalingNan", "QuietNan", "NegativeInfinity", "NegativeNormal", "NegativeSubnormal", "NegativeZero",
-        "PositiveZero", "PositiveSubnormal", "PositiveNormal", "PositiveInfinity",
+        "SignalingNan",
+        "QuietNan",
+        "NegativeInfinity",
+        "NegativeNormal",
+        "NegativeSubnormal",
+        "NegativeZero",
+        "PositiveZero",
+        "PositiveSubnormal",
+        "PositiveNormal",
+        "PositiveInfinity",
     ],
 ];
 

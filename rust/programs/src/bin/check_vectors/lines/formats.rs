@@ -62,9 +62,9 @@ impl Formats {
         }
         match word.split_once('>') {
             None if word == "dd" => Some(Formats::Pairs),
-            None => RowFormat::named(word)
-                .map(Formats::One)
-                .or_else(|| StorageName::projection(word).map(Formats::Storage)),
+            None => {
+                RowFormat::named(word).map(Formats::One).or_else(|| StorageName::projection(word).map(Formats::Storage))
+            }
             Some(("dd", "fallback")) => Some(Formats::FromPairs),
             Some(("fallback", "dd")) => Some(Formats::ToPairs),
             Some(("x87", target)) if target.starts_with("x87p") => {

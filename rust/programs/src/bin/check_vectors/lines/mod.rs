@@ -46,10 +46,10 @@ pub use fewer_digits::FewerDigits;
 pub use formats::Formats;
 pub use fpgen::Fpgen;
 pub use machine_format::MachineFormat;
-pub use operands::{Operand, Operands, any_value, two_values, value_of};
+pub use operands::{Operand, Operands, two_values, value_of};
 pub use operations::{
-    AugmentedCall, BlockCall, FlagsCall, FormatOfCall, GeneralCall, OddCall, OperationCall, OrderCall, PayloadCall, SaturateCall,
-    ToIntegerCall,
+    AugmentedCall, BlockCall, FlagsCall, FormatOfCall, GeneralCall, OddCall, OperationCall, OrderCall, PayloadCall,
+    SaturateCall, ToIntegerCall,
 };
 pub use quanta::Quanta;
 pub use request::{Answered, Request};

@@ -1,12 +1,9 @@
 //! The operands of a call.
 
-use crate::erased::apfloat_ieee::AnyFloat;
 use crate::erased::commands::{bits_of, number_of};
-use crate::erased::rustc_apfloat::ieee::{Flagged, IeeeFloat};
 use crate::erased::rustc_apfloat::{ExpInt, Float, Status};
 use crate::lines::answer::status_named;
 use crate::lines::quanta::Quanta;
-use crate::lines::row_format::{CallInFormat, RowFormat};
 use crate::lines::widths::mask;
 
 /// An operand, read without its format.
@@ -170,23 +167,5 @@ pub fn two_values<F: Float>(operands: Operands) -> Option<(F, F)> {
     match (value_of(operands.first), value_of(operands.second)) {
         (Some(x), Some(y)) => Some((x, y)),
         _ => None,
-    }
-}
-
-/// The value of an operand in a format, with that format.
-pub fn any_value(format: RowFormat, operand: Operand) -> Option<AnyFloat> {
-    format.run_plain(WithFormat { operand })
-}
-
-/// The call that reads an operand.
-struct WithFormat {
-    operand: Operand,
-}
-
-impl CallInFormat for WithFormat {
-    type Output = Option<AnyFloat>;
-
-    fn made_in<S: Flagged>(self) -> Option<AnyFloat> {
-        value_of::<IeeeFloat<S>>(self.operand).map(|x| x.with_format())
     }
 }

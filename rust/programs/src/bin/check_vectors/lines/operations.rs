@@ -2,8 +2,8 @@
 //!
 //! `calls` makes the call of such a row.
 
-use crate::erased::ieee_operations::{Extremum, OnNan, Predicate};
 use crate::erased::apfloat_machines::MinimumRule;
+use crate::erased::ieee_operations::{Extremum, OnNan, Predicate};
 use crate::lines::form::Form;
 use crate::lines::table::found;
 

@@ -11,6 +11,7 @@
 
 use crate::erased::commands::{bits_of, number_of};
 use crate::erased::rustc_apfloat::{Category, ExpInt, Flags, Float};
+use crate::library;
 use crate::lines::text::Text;
 use std::fmt::Write;
 
@@ -179,10 +180,10 @@ impl Magnitude {
     /// The value of this magnitude with a positive sign, if there is one.
     fn value<F: Float>(self) -> Option<F> {
         match self {
-            Magnitude::Infinity => Some(F::infinity()),
+            Magnitude::Infinity => Some(library::infinity()),
             Magnitude::Quiet(payload) => Some(F::qnan(Some(payload))),
             Magnitude::Signaling(payload) => Some(F::snan(Some(payload))),
-            Magnitude::Zero => Some(F::zero()),
+            Magnitude::Zero => Some(library::zero()),
             Magnitude::Count(number, power) => counted(number, power),
         }
     }
