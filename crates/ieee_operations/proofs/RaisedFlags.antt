@@ -1,25 +1,21 @@
 -- OVERFLOW and UNDERFLOW are raised only together with INEXACT.
-use Rattle.std.proofs.Common.{◌≡◌, ℕ, Bool, true, false, eqb, ◌<◌, refl, sym, subst, arith}
+use Rattle.std.proofs.Common.{◌≡◌, ℕ, eqb, refl, sym, subst, arith}
 use Rattle.std.specs.Prelude.{bit_and, ℤ}
-use Rattle.std.specs.Bool.{MatchBool}
 use Rattle.apfloat_model.specs.declared.kinds.Round.{Round}
 use Rattle.apfloat_model.specs.formats.Format.{Format}
 use Rattle.apfloat_model.specs.formats.Datum.{Datum, finite, infinite, nan}
-use Rattle.apfloat_model.specs.formats.Nan.{invalid_if}
 use Rattle.apfloat_model.specs.rounding.Answer.{IsAnswer}
 use Rattle.apfloat_model.specs.rounding.RaisedFlags.{FlagsGoTogether}
 use Rattle.apfloat_model.specs.arithmetic.Quotients.{div_by_zero_bit}
 use Rattle.apfloat_model.specs.whole_numbers.WholeNumbersOut.{to_signed, to_unsigned}
-use Rattle.apfloat_model.proofs.rounding.FlagsTogether.{ok_together, invalid_together, delivered_together, from_signed_together, to_signed_together, to_unsigned_together}
+use Rattle.apfloat_model.proofs.rounding.FlagsTogether.{ok_together, delivered_together, from_signed_together}
+use Rattle.apfloat_model.proofs.rounding.FlagsTogether.{to_signed_together, to_unsigned_together}
 use Rattle.apfloat_model.proofs.general.Choices.{match_case}
+use Rattle.apfloat_model.proofs.rounding.FlagsTogether.{invalid_if_together, answer_together}
 use Rattle.apfloat_conversions.specs.Scalings.{IsScaled}
-use Rattle.ieee_operations.specs.RaisedFlags.{RaisesTogether, RaiseTogether}
+use Rattle.ieee_operations.specs.RaisedFlags.{RaisesTogether, OperationFlagsGoTogether}
 use Rattle.ieee_operations.specs.Exponents.{IsLogB, IsLogBOfNumber}
 use Rattle.ieee_operations.specs.WholeNumbers.{IsRoundedToIntegral}
-
-invalid_if_together : (test : Bool) → FlagsGoTogether (invalid_if test)
-invalid_if_together true = invalid_together
-invalid_if_together false = ok_together
 
 div_by_zero_together : FlagsGoTogether div_by_zero_bit
 div_by_zero_together =
@@ -30,9 +26,6 @@ div_by_zero_together =
 -- a status that is a given one
 given_together : (flags status : ℕ) → FlagsGoTogether flags → status ≡ flags → FlagsGoTogether status
 given_together flags status h e = subst FlagsGoTogether (sym e) h
-
-answer_together : (given : Datum) (flags : ℕ) → FlagsGoTogether flags → RaisesTogether (IsAnswer given flags)
-answer_together given flags h value status x = given_together flags status h x.status_is
 
 logarithm_of_number : (f : Format) (mode : Round) (n : ℕ) → RaisesTogether (IsLogBOfNumber f mode n)
 logarithm_of_number f mode n value status x = from_signed_together f mode x.exponent value status x.is_converted
@@ -49,12 +42,12 @@ scaled_together f mode (nan b s) places = answer_together _ _ (invalid_if_togeth
 scaled_together f mode (infinite b) places = answer_together _ _ ok_together
 scaled_together f mode (finite b n) places = delivered_together f mode _ _ _
 
-integral_together : (f : Format) (mode : Round) (x : Datum) → RaisesTogether (IsRoundedToIntegral f mode x)
+pub integral_together : (f : Format) (mode : Round) (x : Datum) → RaisesTogether (IsRoundedToIntegral f mode x)
 integral_together f mode (nan b s) = answer_together _ _ (invalid_if_together _)
 integral_together f mode (infinite b) = answer_together _ _ ok_together
 integral_together f mode (finite b n) = answer_together _ _ ok_together
 
-pub raise_together : (f : Format) → RaiseTogether f
+pub raise_together : (f : Format) → OperationFlagsGoTogether f
 raise_together f =
     record {
       comparison = λ predicate on_nan x y value status h.

@@ -18,7 +18,7 @@ use Rattle.apfloat_model.specs.order.Classes.{is_negative}
 use Rattle.apfloat_model.specs.order.Order.{is_below, compared, number}
 use Rattle.apfloat_model.proofs.arithmetic.Signs.{magnitude_signed}
 use Rattle.apfloat_model.proofs.order.OrderLaws.{compared_laws}
-use Rattle.ieee_operations.specs.TotalOrder.{total_order, numbers_in_order, IsTotal}
+use Rattle.ieee_operations.specs.TotalOrder.{total_order, numbers_in_order, HasTotalOrder}
 
 -- ---- the keys
 
@@ -339,7 +339,7 @@ below f (finite b m) (infinite c) h = below_numbers (finite b m) (infinite c) h
 below f (infinite b) (finite c n) h = below_numbers (infinite b) (finite c n) h
 below f (infinite b) (infinite c) h = below_numbers (infinite b) (infinite c) h
 
-pub total_laws : (f : Format) → IsTotal f
+pub total_laws : (f : Format) → HasTotalOrder f
 total_laws f = record {
   reflexive = λ x. by_keys f x x ∙ ap (λ r. not (is_gt r)) (tied_itself (rank_total f) x);
   antisymmetric = λ x y h k.

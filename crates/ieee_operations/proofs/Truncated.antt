@@ -12,7 +12,7 @@ use Rattle.std.proofs.lemmas.Bool.{eqb-true, ne_eqb, ltb-true}
 use Rattle.std.proofs.lemmas.Nat.{pow_pos}
 use Rattle.std.proofs.lemmas.Option.{same_Some}
 use Rattle.std.proofs.Math.Nat.{mul-lt-mul_of_pos_right}
-use Rattle.apfloat_model.specs.declared.kinds.Category.TheVariants.{Normal, Zero}
+use Rattle.apfloat_model.specs.declared.kinds.Category.TheVariants.{Normal}
 use Rattle.apfloat_model.specs.declared.kinds.NonfiniteBehavior.{NonfiniteBehavior}
 use Rattle.apfloat_model.specs.declared.kinds.Round.TheVariants.{TowardZero}
 use Rattle.apfloat_model.specs.formats.Format.{Format, largest}
@@ -24,8 +24,10 @@ use Rattle.apfloat_model.specs.arithmetic.Conversions.{IsConversion, IsConverted
 use Rattle.apfloat_model.specs.arithmetic.Exact.{signed}
 use Rattle.apfloat_model.specs.order.Classes.{category_of, is_negative}
 use Rattle.apfloat_model.specs.order.Order.{compared}
-use Rattle.apfloat_model.proofs.general.Choices.{not_zero, eqb_self}
+use Rattle.apfloat_model.proofs.general.Choices.{not_zero, eqb_self, above_zero}
 use Rattle.apfloat_model.proofs.arithmetic.Signs.{no_sign}
+use Rattle.apfloat_model.proofs.rounding.Deliveries.{quanta_are}
+use Rattle.apfloat_model.proofs.order.Categories.{number_only}
 use Rattle.ieee_operations.specs.TwoFormats.{in_common_unit, compared_between}
 
 -- ---- magnitudes
@@ -178,12 +180,6 @@ ok_if_exact true tiny status e = rw e refl
 ok_if_exact false true status e = rw e refl
 ok_if_exact false false status e = rw e refl
 
--- signed quanta are a finite datum with the same number
-quanta_are : (kind : NonfiniteBehavior) (b : Bool) (p : ℕ)
-    → signed_quanta kind b p ≡ finite (if eqb p 0 then zero_sign kind b else b) p
-quanta_are kind b zero = refl
-quanta_are kind b (suc p) = rw (not_zero (suc p) (omega arith)) refl
-
 same_number : (kind : NonfiniteBehavior) (b : Bool) (p : ℕ)
     → signed (if eqb p 0 then zero_sign kind b else b) p ≡ signed b p
 same_number kind b zero = no_sign (zero_sign kind b) ∙ sym (no_sign b)
@@ -281,15 +277,6 @@ pub record IsTruncation (f g : Format) (x r : Datum) (is_cut : Bool) : Type 0 wh
   pub status : ℕ
   pub is_conversion : IsConversion f g TowardZero x r status is_cut
 
--- a number of the category of nonzero numbers has quanta
-number_only : (test : Bool) → (if test then Zero else Normal) ≡ Normal → test ≡ false
-number_only true e = cc
-number_only false e = refl
-
-positive : (n : ℕ) → eqb n 0 ≡ false → 0 < n
-positive zero e = cc
-positive (suc n) e = omega arith
-
 -- a nonzero number, converted toward zero
 truncated_number : (f g : Format) (b : Bool) (n : ℕ) (r : Datum) (status : ℕ) (is_cut : Bool)
     → IsConvertedNumber f g TowardZero b n r status is_cut
@@ -306,5 +293,5 @@ number_ordered f g (infinite b) y r is_cut e t member order c = cc
 number_ordered f g (nan b s) y r is_cut e t member order c = cc
 number_ordered f g (finite b n) y r is_cut e t member order c =
     let nonzero = number_only (eqb n 0) e in
-    settled_against f g b n y r is_cut (positive n nonzero)
+    settled_against f g b n y r is_cut (above_zero n nonzero)
     (truncated_number f g b n r t.status is_cut (rw nonzero at t.is_conversion)) member order c

@@ -1,6 +1,6 @@
 -- A zero is ordered as +0 of any format.
 use Rattle.std.specs.Prelude.{◌≡◌, ℕ, zero, suc, ◌*◌, ◌^◌, ◌<◌, Bool, true, false, eqb}
-use Rattle.std.specs.Prelude.{pos, neg_ℤ, Some, if◌then◌else◌}
+use Rattle.std.specs.Prelude.{pos, neg_ℤ, Some}
 use Rattle.std.proofs.Common.{refl, sym, ap, ◌∙◌, arith}
 use Rattle.std.specs.declared.cmp.Ordering.TheVariants.{Less, Greater}
 use Rattle.std.specs.Ordering.{int_cmp}
@@ -9,7 +9,7 @@ use Rattle.std.proofs.lemmas.Int.{ints}
 use Rattle.std.proofs.lemmas.Bool.{eqb-true}
 use Rattle.std.proofs.lemmas.Nat.{pow_pos}
 use Rattle.std.proofs.Math.Nat.{mul-lt-mul_of_pos_right}
-use Rattle.apfloat_model.specs.declared.kinds.Category.TheVariants.{Normal, Zero}
+use Rattle.apfloat_model.specs.declared.kinds.Category.TheVariants.{Zero}
 use Rattle.apfloat_model.specs.formats.Format.{Format}
 use Rattle.apfloat_model.specs.formats.Datum.{Datum, finite, infinite, nan}
 use Rattle.apfloat_model.specs.formats.Constants.{zero_datum}
@@ -17,6 +17,7 @@ use Rattle.apfloat_model.specs.arithmetic.Exact.{signed}
 use Rattle.apfloat_model.specs.order.Classes.{category_of}
 use Rattle.apfloat_model.specs.order.Order.{compared}
 use Rattle.apfloat_model.proofs.arithmetic.Signs.{no_sign}
+use Rattle.apfloat_model.proofs.order.Categories.{zero_only}
 use Rattle.ieee_operations.specs.TwoFormats.{compared_between}
 
 -- 0 is above a negative number and below a positive one
@@ -41,11 +42,6 @@ any_unit false (suc m) parts h =
     let k : 0 * parts < suc m * parts = mul-lt-mul_of_pos_right (omega arith) h in
     sym (above_zero (suc m) (omega arith)) ∙ above_zero (suc m * parts) (omega (arith, k))
 
--- a number of the category of zeros has no quanta
-is_zero : (test : Bool) → (if test then Zero else Normal) ≡ Zero → test ≡ true
-is_zero true e = refl
-is_zero false e = cc
-
 -- a zero against a datum of the other format
 pub zero_against : (f g : Format) (b : Bool) (y : Datum) → compared zero_datum y ≡ compared_between f g (finite b 0) y
 zero_against f g b (nan c t) = refl
@@ -58,6 +54,6 @@ zero_against f g b (finite c m) =
 
 pub zero_ordered : (f g : Format) (x y : Datum) → category_of x ≡ Zero
     → compared zero_datum y ≡ compared_between f g x y
-zero_ordered f g (finite b n) y e = rw (eqb-true n 0 (is_zero (eqb n 0) e)) (zero_against f g b y)
+zero_ordered f g (finite b n) y e = rw (eqb-true n 0 (zero_only (eqb n 0) e)) (zero_against f g b y)
 zero_ordered f g (infinite b) y e = cc
 zero_ordered f g (nan b s) y e = cc

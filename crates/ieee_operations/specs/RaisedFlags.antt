@@ -19,7 +19,7 @@ use Rattle.ieee_operations.specs.WholeNumbers.{IsConvertedToIntegerExactly}
 abbrev pub RaisesTogether : {A : Type 0} → (A → ℕ → Type 0) → Type 0
 RaisesTogether {A} Says = (value : A) (status : ℕ) → Says value status → FlagsGoTogether status
 
-pub record RaiseTogether (f : Format) : Type 0 where
+pub record OperationFlagsGoTogether (f : Format) : Type 0 where
   pub comparison : (predicate : Predicate) (on_nan : OnNan) (x y : Datum)
       → RaisesTogether (IsComparison f predicate on_nan x y)
   pub comparison_between : (other : Format) (predicate : Predicate) (on_nan : OnNan) (x y : Datum)

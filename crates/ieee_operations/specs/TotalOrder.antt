@@ -50,7 +50,7 @@ abbrev pub total_cmp : Format → Datum → Datum → Ordering
 total_cmp f x y = if total_order f x y then (if total_order f y x then Equal else Less) else Greater
 
 -- the laws of a total order; it agrees with `<`
-pub record IsTotal (f : Format) : Type 0 where
+pub record HasTotalOrder (f : Format) : Type 0 where
   pub reflexive : (x : Datum) → total_order f x x ≡ true
   pub antisymmetric : (x y : Datum) → total_order f x y ≡ true → total_order f y x ≡ true → x ≡ y
   pub transitive : (x y z : Datum) → total_order f x y ≡ true → total_order f y z ≡ true → total_order f x z ≡ true

@@ -4,9 +4,9 @@ ghost use Rattle.apfloat_model.specs.formats.Format.{Format};
 ghost use Rattle.ieee_operations.specs.Comparisons.{IsComparedOnce};
 ghost use Rattle.ieee_operations.specs.Exponents.{IsLogBOnce, IsIntegerLogBOnce};
 ghost use Rattle.ieee_operations.specs.Exponents.{IsScaledOnce, IsScaledAlike};
-ghost use Rattle.ieee_operations.specs.TotalOrder.{IsTotal};
+ghost use Rattle.ieee_operations.specs.TotalOrder.{HasTotalOrder};
 ghost use Rattle.ieee_operations.specs.TwoFormats.{IsComparedBetweenOnce, IsOrderOfOneFormat};
-ghost use Rattle.ieee_operations.specs.RaisedFlags.{RaiseTogether};
+ghost use Rattle.ieee_operations.specs.RaisedFlags.{OperationFlagsGoTogether};
 ghost use Rattle.ieee_operations.specs.WholeNumbers.{IsRoundedToIntegralOnce, IsConvertedOnce};
 ghost use Rattle.ieee_operations.specs.WholeNumbers.{IsConvertedExactlyOnce};
 
@@ -17,7 +17,7 @@ pub fn comparisons_have_one_answer()
 
 /// The total order is reflexive, antisymmetric up to identical values, transitive and total, and it agrees with `<`.
 pub fn total_order_is_total()
-    ensures { (f : Format) → IsTotal f }
+    ensures { (f : Format) → HasTotalOrder f }
 {}
 
 /// A comparison of values of two formats has one result and one status.
@@ -63,5 +63,5 @@ pub fn integer_conversions_have_one_answer()
 
 /// Each operation of this crate, and scaleB, raises OVERFLOW and UNDERFLOW only together with INEXACT.
 pub fn flags_go_together()
-    ensures { (f : Format) → RaiseTogether f }
+    ensures { (f : Format) → OperationFlagsGoTogether f }
 {}

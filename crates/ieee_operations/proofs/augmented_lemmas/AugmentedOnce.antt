@@ -25,11 +25,11 @@ use Rattle.ieee_operations.proofs.augmented_lemmas.Numbers.{signed_number, numbe
 use Rattle.ieee_operations.proofs.augmented_lemmas.Rests.{rest_in_format, as_nearest, eight}
 use Rattle.ieee_operations.proofs.augmented_lemmas.Heads.{pick_is_nearest}
 use Rattle.ieee_operations.proofs.augmented_lemmas.FractionRoundings.{whole_of}
-use Rattle.ieee_operations.proofs.augmented_lemmas.Multiples.{sign_times, ties_of_times, with_tail_of_times}
+use Rattle.ieee_operations.proofs.augmented_lemmas.Multiples.{ties_of_times, with_tail_of_times}
 use Rattle.apfloat_pair_theory.proofs.numbers.Nearest.{IsNearest}
 use Rattle.apfloat_pair_theory.proofs.numbers.Roundings.{signed_exact}
 use Rattle.apfloat_pair_theory.proofs.numbers.Signed.{magnitude-sub, on_grid_as}
-use Rattle.apfloat_pair_theory.proofs.numbers.SignedProducts.{magnitude-times, signed_product}
+use Rattle.apfloat_pair_theory.proofs.numbers.SignedProducts.{magnitude-times, signed_product, sign_times}
 use Rattle.apfloat_pair_theory.proofs.numbers.WholeProducts.{product_error_on_grid}
 
 -- three results are the same

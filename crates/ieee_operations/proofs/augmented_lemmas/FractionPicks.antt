@@ -14,10 +14,12 @@ use Rattle.apfloat_model.proofs.general.Powers.{two_pos, twice_half}
 use Rattle.apfloat_model.proofs.rounding.Laws.{pick_within}
 use Rattle.apfloat_model.proofs.rounding.Neighbours.{multiple_on_grid, next_on_grid, none_between, below_unique}
 use Rattle.apfloat_model.proofs.rounding.NeighboursExist.{enclosed_at}
+use Rattle.apfloat_model.proofs.rounding.FarMagnitudes.{largest_on_grid}
+use Rattle.apfloat_model.proofs.rounding.Picks.{even_nearer, even_farther}
 use Rattle.apfloat_pair_theory.proofs.numbers.Roundings.{apart}
 use Rattle.apfloat_pair_theory.proofs.numbers.Signed.{coarse_multiple, grid_bound_at, on_grid_as}
 use Rattle.ieee_operations.specs.augmented.TiesToZero.{nearer_between, IsTiesToZeroPick}
-use Rattle.ieee_operations.proofs.augmented_lemmas.Heads.{half_unit, largest_on_grid}
+use Rattle.ieee_operations.proofs.augmented_lemmas.Heads.{half_unit}
 use Rattle.ieee_operations.proofs.augmented_lemmas.Multiples.{takes_low_by, takes_high_by}
 
 -- the magnitude is no integral number of quanta
@@ -155,12 +157,6 @@ tie_of_quanta precision below above amount parts h p n b a e =
     (cases_lt below (2 ^ precision))
 
 -- ---- from the pick to nearest, with ties to even
-
-even_nearer : (negative odd : Bool) (x y : ℕ) → takes_above NearestTiesToEven negative x y odd ≡ true → y ≤ x
-even_nearer negative odd x y h = grind arith
-
-even_farther : (negative odd : Bool) (x y : ℕ) → takes_above NearestTiesToEven negative x y odd ≡ false → x ≤ y
-even_farther negative odd x y h = grind arith
 
 not_half_in : (negative odd above : Bool) (low high amount parts e : ℕ)
     → takes_above NearestTiesToEven negative (amount - low * parts) (high * parts - amount) odd ≡ above

@@ -3,7 +3,6 @@ use Rattle.std.proofs.Common.{◌≡◌, ℕ, ◌+◌, ◌-◌, ◌*◌, ◌^◌
 use Rattle.std.specs.Prelude.{ℤ, pos, neg_ℤ, ◌+ℤ◌, ◌-ℤ◌, ◌*ℤ◌}
 use Rattle.std.proofs.Math.Nat.{mul-le-mul_left, mul-lt-mul_of_pos_right, lt_of_mul-lt-mul_right}
 use Rattle.std.proofs.lemmas.Bool.{cases_lt, false≢true, eqb-true}
-use Rattle.std.proofs.lemmas.Int.{ints}
 use Rattle.std.proofs.lemmas.Nat.{pow-add, pow_pos, mul-lt}
 use Rattle.apfloat_model.specs.declared.kinds.Round.{Round}
 use Rattle.apfloat_model.specs.declared.kinds.Round.TheVariants.{NearestTiesToEven}
@@ -27,9 +26,12 @@ use Rattle.apfloat_pair_theory.proofs.numbers.Signed.{IsGridNumber, magnitude-su
 use Rattle.apfloat_pair_theory.proofs.numbers.SignedProducts.{difference_times, neg_times, magnitude-mul, magnitude-times, signed_product, signed_times}
 use Rattle.apfloat_pair_theory.proofs.numbers.WholeProducts.{IsWholeProduct, whole_product, product_error_on_grid}
 use Rattle.apfloat_pair_theory.proofs.sums.PairRoundings.{error_eighth}
+use Rattle.apfloat_pair_theory.proofs.sums.DifferenceLaws.{minus_is}
+use Rattle.apfloat_pair_theory.proofs.numbers.SignedProducts.{sign_times}
 use Rattle.ieee_operations.specs.augmented.Numbers.{IsNumberIn}
-use Rattle.ieee_operations.proofs.augmented_lemmas.Multiples.{times_cancelled, sign_times}
-use Rattle.ieee_operations.proofs.augmented_lemmas.Numbers.{IsExactly, signed_number, same_number, within_is, finite_within, negated_has, ok_tests, test_within}
+use Rattle.ieee_operations.proofs.augmented_lemmas.Multiples.{times_cancelled}
+use Rattle.ieee_operations.proofs.augmented_lemmas.Numbers.{IsRoundedExactly, signed_number, same_number, within_is}
+use Rattle.ieee_operations.proofs.augmented_lemmas.Numbers.{finite_within, negated_has, ok_tests, test_within}
 use Rattle.ieee_operations.proofs.augmented_lemmas.Rests.{eight}
 
 -- ---- exact roundings
@@ -37,7 +39,7 @@ use Rattle.ieee_operations.proofs.augmented_lemmas.Rests.{eight}
 -- a number of the format is rounded exactly
 pub fraction_exactly : (f : Format) (mode : Round) (of_zero : Bool) (z exact : ℤ) (parts : ℕ) (value : Datum)
     (status : ℕ) → 0 < parts → IsOnGrid f.precision (magnitude z) → magnitude z ≤ largest f → (z *ℤ pos parts) ≡ exact
-    → IsRounded f mode of_zero exact parts value status → IsExactly z value status
+    → IsRounded f mode of_zero exact parts value status → IsRoundedExactly z value status
 fraction_exactly f mode of_zero z exact parts value status p g l e h =
     let m : magnitude exact ≡ magnitude z * parts = ap magnitude (sym e) ∙ magnitude-times z parts in
     let s : sign_of of_zero exact ≡ sign_of of_zero z =
@@ -110,9 +112,6 @@ fused_rounded f mode (finite b l) (infinite c) z value status p q r h = absurd (
 fused_rounded f mode (finite b l) (nan c m) z value status p q r h = absurd (false≢true q)
 fused_rounded f mode (infinite b) y z value status p q r h = absurd (false≢true p)
 fused_rounded f mode (nan b l) y z value status p q r h = absurd (false≢true p)
-
-minus_is : (p q r : ℤ) → r ≡ neg_ℤ q → (p +ℤ r) ≡ (p -ℤ q)
-minus_is p q r h = omega (arith, ints, h)
 
 -- what a finite head leaves of a product, in parts of a quantum
 abbrev pub rest_of_product : Format → Datum → Datum → Datum → ℤ

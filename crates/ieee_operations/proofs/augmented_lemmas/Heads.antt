@@ -29,13 +29,17 @@ use Rattle.apfloat_model.proofs.general.Choices.{not_zero}
 use Rattle.apfloat_model.proofs.general.Powers.{twice_half}
 use Rattle.apfloat_model.proofs.rounding.Deliveries.{signed_some}
 use Rattle.apfloat_model.proofs.rounding.Laws.{delivered_once, exact_delivered, pick_within, below_le_above}
-use Rattle.apfloat_model.proofs.rounding.Neighbours.{multiple_on_grid, next_on_grid, none_between, below_is, above_is_next}
+use Rattle.apfloat_model.proofs.rounding.Neighbours.{next_on_grid, none_between, below_is, above_is_next}
+use Rattle.apfloat_model.proofs.rounding.FarMagnitudes.{largest_on_grid}
+use Rattle.apfloat_model.proofs.rounding.Picks.{even_nearer}
 use Rattle.apfloat_pair_theory.proofs.numbers.Roundings.{apart, pick_nearest, pick_on_grid, signed_exact}
+use Rattle.apfloat_pair_theory.proofs.pairs.Normalised.{is_equal_by}
 use Rattle.ieee_operations.specs.augmented.TiesToZero.{IsTiesToZeroPick}
 use Rattle.ieee_operations.specs.augmented.Augmented.{left_of, IsPastLargest, IsWithTail, IsAugmented}
 use Rattle.ieee_operations.specs.augmented.Numbers.{HasNumber, IsNearestTo, with_sign}
 use Rattle.ieee_operations.proofs.augmented_lemmas.TiesToZero.{takes_low, takes_high, ties_to_zero_exact, ties_to_zero_on_grid, ties_to_zero_nearest, signed_nearest, short_is_below, from_even, from_half}
-use Rattle.ieee_operations.proofs.augmented_lemmas.Numbers.{signed_number, within_is, short_is, finite_within, abs_has, negated_has, equal_numbers, equal_data}
+use Rattle.ieee_operations.proofs.augmented_lemmas.Numbers.{signed_number, within_is, short_is, finite_within, abs_has}
+use Rattle.ieee_operations.proofs.augmented_lemmas.Numbers.{negated_has, equal_numbers}
 
 -- ---- the tail
 
@@ -251,7 +255,7 @@ no_tie_is f of_zero v near short rest left status a r exact nearest differs =
     l.number_is ∙ ap (λ (z : ℤ). v -ℤ z) (short_number f s n near short a) ∙ d ∙
     ap (λ (z : ℤ). neg_ℤ (v -ℤ z)) (sym (near_number f s n near short a)) ∙
     sym (m.number_is ∙ ap neg_ℤ r.number_is) in
-    false≢true (sym (differs o) ∙ equal_data left (negated f.nonfinite rest) l.is_finite m.is_finite q))
+    false≢true (sym (differs o) ∙ is_equal_by left (negated f.nonfinite rest) l.is_finite m.is_finite q))
 
 -- ---- past the largest value
 
@@ -263,11 +267,6 @@ two_halves : (f : Format) → 1 ≤ f.span → 2 ^ f.span ≡ 2 * half_unit f
 two_halves f h =
     let e : f.span ≡ (f.span - 1) + 1 = omega arith in
     ap (λ (k : ℕ). 2 ^ k) e ∙ pow-add 2 (f.span - 1) 1 ∙ omega arith
-
-pub largest_on_grid : (f : Format) → IsOnGrid f.precision (largest f)
-largest_on_grid f =
-    multiple_on_grid f.precision (greatest_significand f.nonfinite f.precision) f.span
-    (greatest_fits f.nonfinite f.precision)
 
 doubled : (f : Format) → 3 ≤ f.precision → 2 ^ f.precision ≡ 2 * 2 ^ (f.precision - 1)
 doubled f h = sym (twice_half f.precision (omega (arith, h)))
@@ -308,9 +307,6 @@ beyond f s amount e l x =
     absurd (omega (arith, a, w, l)))
     (cases_lt (largest f) amount)
 
-even_nearer : (negative odd : Bool) (x y : ℕ) → takes_above NearestTiesToEven negative x y odd ≡ true → y ≤ x
-even_nearer negative odd x y h = grind arith
-
 -- the lower neighbour is not picked if the pick is above it
 taken : (s odd above : Bool) (low high amount e : ℕ)
     → takes_above NearestTiesToEven s (amount - low * 1) (high * 1 - amount) odd ≡ above
@@ -342,13 +338,13 @@ next_is f h s amount e l x b =
     (cases_lt ((m + 1) * 2 ^ c) amount)
 
 -- Unless the magnitude is halfway past the largest value, the pick with ties toward zero is past that value too.
-pub record IsPast (f : Format) (amount : ℕ) : Type 0 where
+pub record IsPickedPast (f : Format) (amount : ℕ) : Type 0 where
   pub pick : ℕ
   pub is_pick : IsTiesToZeroPick f.precision amount 1 pick
   pub past : largest f < pick
 
 pub past_pick : (f : Format) → 3 ≤ f.precision → 1 ≤ f.span → (s : Bool) (amount e : ℕ) → largest f < e
-    → IsPick f.precision NearestTiesToEven s amount 1 e → (amount ≡ largest f + half_unit f → ⊥) → IsPast f amount
+    → IsPick f.precision NearestTiesToEven s amount 1 e → (amount ≡ largest f + half_unit f → ⊥) → IsPickedPast f amount
 past_pick f h k s amount e l x n =
     let g = beyond f s amount e l x in
     let lo : largest f ≤ x.below = x.is_below.greatest (largest f) (largest_on_grid f) (omega (arith, g)) in
@@ -450,7 +446,7 @@ no_half_left f h k of_zero v left unit status u exact nearest differs e =
     (toward s (magnitude v) (largest f) (half_unit f) e) in
     let q : number (abs f left) ≡ number unit =
     a.number_is ∙ ap pos (ap magnitude l.number_is ∙ m) ∙ sym (ap number u) in
-    false≢true (sym (differs o) ∙ equal_data (abs f left) unit a.is_finite (ap is_finite u) q)
+    false≢true (sym (differs o) ∙ is_equal_by (abs f left) unit a.is_finite (ap is_finite u) q)
 
 -- the smallest value, scaled
 pub half_unit_is : (f : Format) → 3 ≤ f.precision → 1 ≤ f.span → (places : ℤ) → places ≡ pos (f.span - 1)

@@ -2,7 +2,7 @@
 use Rattle.std.proofs.Common.{◌≡◌, ℕ, zero, suc, ◌+◌, ◌*◌, ◌<◌, ◌≤◌, Bool, true, false, eqb, ltb, if◌then◌else◌, sym, refl, ap, ◌∙◌, subst, ⊎_elim, arith}
 use Rattle.std.specs.Prelude.{ℤ, pos, negsuc, ◌-ℤ◌, ◌*ℤ◌}
 use Rattle.std.specs.Bool.{MatchBool}
-use Rattle.std.proofs.Math.Nat.{mul-le-mul_right, mul-lt-mul_of_pos_right, le_of_mul-le-mul_right, mul-pos}
+use Rattle.std.proofs.Math.Nat.{mul-le-mul_right, mul-lt-mul_of_pos_right, le_of_mul-le-mul_right}
 use Rattle.std.proofs.lemmas.Bool.{cases_lt, cases_eq, eq-eqb, ne_eqb}
 use Rattle.std.proofs.lemmas.Int.{ints}
 use Rattle.apfloat_model.specs.formats.Format.{Format, largest}
@@ -10,8 +10,9 @@ use Rattle.apfloat_model.specs.formats.Datum.{Datum}
 use Rattle.apfloat_model.specs.rounding.Grid.{IsBelow, IsAbove}
 use Rattle.apfloat_model.specs.rounding.Rounding.{signed_quanta, ok_bits, inexact_bit, underflow_bit}
 use Rattle.apfloat_model.specs.arithmetic.Exact.{magnitude, signed, sign_of}
-use Rattle.apfloat_model.proofs.arithmetic.Signs.{sign_signed, one_side}
+use Rattle.apfloat_model.proofs.arithmetic.Signs.{one_side}
 use Rattle.apfloat_pair_theory.proofs.numbers.SignedProducts.{difference_times, magnitude-times, signed_times}
+use Rattle.apfloat_pair_theory.proofs.numbers.SignedProducts.{sign_times}
 use Rattle.ieee_operations.specs.augmented.TiesToZero.{nearer_between, IsTiesToZeroPick}
 use Rattle.ieee_operations.specs.augmented.Augmented.{left_of, IsPastLargest, IsWithTail, IsAugmented}
 use Rattle.ieee_operations.proofs.augmented_lemmas.TiesToZero.{takes_low, takes_high}
@@ -35,16 +36,6 @@ times_cancelled a b u p e =
 
 none_times : (u : ℕ) → (pos 0 *ℤ pos u) ≡ pos 0
 none_times u = omega (arith, ints)
-
--- a multiple has the same sign
-pub sign_times : (of_zero : Bool) (z : ℤ) (u : ℕ) → 0 < u → sign_of of_zero (z *ℤ pos u) ≡ sign_of of_zero z
-sign_times of_zero (pos zero) u p = ap (λ (i : ℤ). sign_of of_zero i) (none_times u)
-sign_times of_zero (pos (suc n)) u p =
-    ap (λ (i : ℤ). sign_of of_zero i) (sym (signed_times false (suc n) u)) ∙
-    sign_signed of_zero false (suc n * u) (mul-pos (omega arith) p)
-sign_times of_zero (negsuc n) u p =
-    ap (λ (i : ℤ). sign_of of_zero i) (sym (signed_times true (suc n) u)) ∙
-    sign_signed of_zero true (suc n * u) (mul-pos (omega arith) p)
 
 -- an integer other than 0 has its own sign
 pub sign_some : (of_zero other : Bool) (z : ℤ) → 0 < magnitude z → sign_of of_zero z ≡ sign_of other z

@@ -2,7 +2,6 @@
 use Rattle.std.proofs.Common.{◌≡◌, ℕ, zero, suc, ◌+◌, ◌*◌, ◌<◌, ◌≤◌, Bool, true, false, not, cond, ltb, eqb, sym, refl, ap, ◌∙◌, subst, ⊎_elim, arith, lit<}
 use Rattle.std.specs.Prelude.{ℤ, pos, neg_ℤ, ◌+ℤ◌, ◌-ℤ◌, ◌≤ℤ◌}
 use Rattle.std.specs.Ordering.{int_cmp, is_eq, is_lt}
-use Rattle.std.specs.Cmp.{int_cmp_is}
 use Rattle.std.specs.declared.cmp.Ordering.{Ordering}
 use Rattle.std.specs.declared.cmp.Ordering.TheVariants.{Less, Equal, Greater}
 use Rattle.std.proofs.lemmas.Map.Lookups.{exact_signed}
@@ -27,7 +26,7 @@ use Rattle.apfloat_model.specs.order.Classes.{is_finite, is_negative}
 use Rattle.apfloat_model.specs.order.Order.{number, is_equal, is_below}
 use Rattle.apfloat_model.proofs.arithmetic.Signs.{no_sign, magnitude_signed}
 use Rattle.apfloat_model.proofs.general.Choices.{not_zero}
-use Rattle.apfloat_model.proofs.rounding.Deliveries.{signed_some}
+use Rattle.apfloat_model.proofs.rounding.Deliveries.{signed_some, past_not_finite}
 use Rattle.apfloat_model.proofs.rounding.Laws.{delivered_once, exact_delivered}
 use Rattle.apfloat_pair_theory.proofs.numbers.Roundings.{signed_exact, signed_not}
 use Rattle.apfloat_pair_theory.proofs.numbers.Signed.{magnitude-neg}
@@ -59,12 +58,6 @@ pub short_is : (f : Format) (negative : Bool) (p : ℕ) → largest f < p
     → delivered_value f TowardZero negative p ≡ finite negative (largest f)
 short_is f s p h = let b : ltb (largest f) p ≡ true = lt-ltb (largest f) p h in rw b refl
 
-past_not_finite : (kind : NonfiniteBehavior) (base : ℕ) (negative : Bool)
-    → is_finite (past_largest kind base negative) ≡ false
-past_not_finite IEEE754 base s = refl
-past_not_finite NanOnly base s = refl
-past_not_finite NanNegativeZero base s = refl
-
 -- a finite nearest value is within the largest one, and the other way round
 pub finite_within : (f : Format) (negative : Bool) (p : ℕ) (value : Datum) → is_finite value ≡ true
     → value ≡ delivered_value f NearestTiesToEven negative p → p ≤ largest f
@@ -90,14 +83,14 @@ past_without f s p value h e =
 
 -- ---- exact roundings
 
-pub record IsExactly (exact : ℤ) (value : Datum) (status : ℕ) : Type 0 where
+pub record IsRoundedExactly (exact : ℤ) (value : Datum) (status : ℕ) : Type 0 where
   pub has : HasNumber exact value
   pub status_is : status ≡ ok_bits
 
 -- a number of the format is rounded exactly
 pub rounded_exactly : (f : Format) (mode : Round) (of_zero : Bool) (z : ℤ) (value : Datum) (status : ℕ)
     → IsOnGrid f.precision (magnitude z) → magnitude z ≤ largest f → IsRounded f mode of_zero z 1 value status
-    → IsExactly z value status
+    → IsRoundedExactly z value status
 rounded_exactly f mode of_zero z value status g l h =
     let s = sign_of of_zero z in
     let r = delivered_once f mode (sign_of of_zero z) (magnitude z) 1 value
@@ -275,14 +268,6 @@ equal_numbers (finite b m) (infinite c) p q h = absurd (false≢true q)
 equal_numbers (finite b m) (nan c n) p q h = absurd (false≢true q)
 equal_numbers (infinite b) y p q h = absurd (false≢true p)
 equal_numbers (nan b m) y p q h = absurd (false≢true p)
-
-pub equal_data : (x y : Datum) → is_finite x ≡ true → is_finite y ≡ true → number x ≡ number y
-    → is_equal x y ≡ true
-equal_data (finite b m) (finite c n) p q h = ap is_eq (sym (int_cmp_is (signed b m) (signed c n) Equal h))
-equal_data (finite b m) (infinite c) p q h = absurd (false≢true q)
-equal_data (finite b m) (nan c n) p q h = absurd (false≢true q)
-equal_data (infinite b) y p q h = absurd (false≢true p)
-equal_data (nan b m) y p q h = absurd (false≢true p)
 
 below_by : (z w : ℤ) (r : Ordering) → r ≡ int_cmp z w → is_lt r ≡ false → w ≤ℤ z
 below_by z w Less e h = absurd (false≢true (sym h))

@@ -2,10 +2,8 @@
 use Rattle.std.proofs.Common.{◌≡◌, ℕ, ◌+◌, ◌-◌, ◌^◌, ◌<◌, ◌≤◌, true, false, sym, ap, ◌∙◌, subst, ⊎_elim, arith, FitsSigned, to_z, of_z}
 use Rattle.std.specs.Prelude.{ℤ, pos, ◌+ℤ◌, ◌-ℤ◌}
 use Rattle.std.specs.Int.{w32}
-use Rattle.std.proofs.Math.Nat.{mul-pos}
 use Rattle.std.proofs.lemmas.Bool.{cases_lt}
 use Rattle.std.proofs.lemmas.Int.{ints, to_z-of_z}
-use Rattle.std.proofs.lemmas.Nat.{pow_pos}
 use Rattle.apfloat_model.specs.declared.kinds.Round.TheVariants.{NearestTiesToEven, TowardZero}
 use Rattle.apfloat_model.specs.formats.Format.{Format, largest}
 use Rattle.apfloat_model.specs.formats.Datum.{Datum, finite}
@@ -16,19 +14,19 @@ use Rattle.apfloat_model.specs.arithmetic.Signs.{abs}
 use Rattle.apfloat_model.specs.arithmetic.Sums.{IsSum, zero_sum_sign}
 use Rattle.apfloat_model.specs.order.Classes.{is_finite, is_negative}
 use Rattle.apfloat_model.specs.order.Order.{number, is_equal}
-use Rattle.apfloat_model.proofs.formats.Greatest.{greatest_some}
 use Rattle.apfloat_model.proofs.rounding.Deliveries.{signed_some}
+use Rattle.apfloat_model.proofs.rounding.FarMagnitudes.{largest_on_grid}
+use Rattle.apfloat_model.proofs.whole_numbers.SignedNumbers.{largest_some}
 use Rattle.apfloat_pair_theory.proofs.numbers.Signed.{on_grid_as}
 use Rattle.ieee_operations.specs.augmented.TiesToZero.{IsTiesToZeroPick}
 use Rattle.ieee_operations.specs.augmented.Augmented.{IsAugmentedSum}
 use Rattle.ieee_operations.specs.augmented.Numbers.{HasNumber, IsNumberIn, IsNearestTo, with_sign}
 use Rattle.ieee_operations.proofs.augmented_lemmas.Cases.{sum_of_numbers}
-use Rattle.ieee_operations.proofs.augmented_lemmas.Heads.{half_unit, largest_on_grid, with_tail_is, past_largest_is, picks_of, near_is_nearest, pick_is_nearest, tie_is, no_tie_is, at_half, beyond, past_pick, short_is_largest, half_left, no_half_left}
+use Rattle.ieee_operations.proofs.augmented_lemmas.Heads.{half_unit, with_tail_is, past_largest_is, picks_of}
+use Rattle.ieee_operations.proofs.augmented_lemmas.Heads.{near_is_nearest, pick_is_nearest, tie_is, no_tie_is, at_half}
+use Rattle.ieee_operations.proofs.augmented_lemmas.Heads.{beyond, past_pick, short_is_largest, half_left, no_half_left}
 use Rattle.ieee_operations.proofs.augmented_lemmas.Numbers.{signed_number, within_is, past_is, short_is, past_without, sum_rounded, quanta_in}
 use Rattle.ieee_operations.proofs.augmented_lemmas.Rests.{as_nearest, rest_in_format}
-
-pub largest_some : (f : Format) → 3 ≤ f.precision → 0 < largest f
-largest_some f h = mul-pos (greatest_some f.nonfinite f.precision h) (pow_pos f.span)
 
 -- the sum toward zero is a number of the format
 pub short_in : (f : Format) → 3 ≤ f.precision → (x y short : Datum) (j : ℕ) → IsNumberIn f x → IsNumberIn f y

@@ -1,10 +1,10 @@
 -- Payloads of NaNs as values.
-use Rattle.std.proofs.Common.{◌≡◌, ℕ, zero, suc, ◌+◌, ◌-◌, ◌*◌, ◌%◌, ◌^◌, ◌<◌, ◌≤◌, Bool, true, false, eqb, if◌then◌else◌, refl, sym, ap, ◌∙◌, arith, lit<}
+use Rattle.std.proofs.Common.{◌≡◌, ℕ, zero, suc, ◌-◌, ◌*◌, ◌%◌, ◌^◌, ◌<◌, ◌≤◌, Bool, true, false, eqb, if◌then◌else◌}
+use Rattle.std.proofs.Common.{refl, sym, ap, ◌∙◌, arith, lit<}
 use Rattle.std.specs.Prelude.{negsuc}
 use Rattle.std.proofs.Math.Nat.{pow-le-pow_right}
 use Rattle.std.proofs.lemmas.Bool.{false≢true}
 use Rattle.std.proofs.lemmas.Nat.{pow_pos, mod_below}
-use lib.Pow.{mod-mod-pow}
 use Rattle.apfloat_model.specs.declared.kinds.NonfiniteBehavior.{NonfiniteBehavior}
 use Rattle.apfloat_model.specs.declared.kinds.NonfiniteBehavior.TheVariants.{IEEE754, NanOnly, NanNegativeZero}
 use Rattle.apfloat_model.specs.declared.kinds.Round.TheVariants.{NearestTiesToEven}
@@ -15,10 +15,9 @@ use Rattle.apfloat_model.specs.declared.kinds.Category.TheVariants.{Normal, Zero
 use Rattle.apfloat_model.specs.order.Classes.{is_nan, category_of, is_nan_category}
 use Rattle.apfloat_model.specs.rounding.Rounding.{IsDelivered, signed_quanta, ok_bits}
 use Rattle.apfloat_model.specs.whole_numbers.WholeNumbers.{IsFromUnsigned, IsFromSigned}
-use Rattle.apfloat_model.proofs.arithmetic.Signs.{plus_zero}
 use Rattle.apfloat_model.proofs.formats.Ranges.{below_top}
-use Rattle.apfloat_model.proofs.general.Powers.{two_pos}
-use Rattle.apfloat_model.proofs.rounding.Deliveries.{signed_some}
+use Rattle.apfloat_model.proofs.general.Powers.{two_pos, lower_mod}
+use Rattle.apfloat_model.proofs.rounding.Deliveries.{signed_some, unsigned_quanta}
 use Rattle.apfloat_model.proofs.rounding.Laws.{delivered_once, exact_delivered}
 use Rattle.apfloat_model.proofs.rounding.Neighbours.{multiple_on_grid}
 use Rattle.apfloat_model.specs.formats.Nan.{nan_significand}
@@ -34,11 +33,6 @@ trailing_long : (f : Format) (explicit : Bool) → f.explicit_integer_bit ≡ ex
 trailing_long f true e = rw e (omega arith)
 trailing_long f false e = rw e (omega arith)
 
-lower_mod : (n t k : ℕ) → k ≤ t → n % 2 ^ t % 2 ^ k ≡ n % 2 ^ k
-lower_mod n t k h =
-    let e : t ≡ (t - k) + k = omega arith in
-    ap (λ (i : ℕ). n % 2 ^ i % 2 ^ k) e ∙ mod-mod-pow n (t - k) k
-
 -- the last bits of an encoding are the last bits of its trailing field
 pub payload_is : (f : Format) (bits significand : ℕ) → bits % 2 ^ trailing_bits f ≡ significand
     → bits % 2 ^ payload_bits f ≡ payload_of f significand
@@ -47,10 +41,6 @@ payload_is f bits significand e =
     let b = trailing_long f f.explicit_integer_bit refl in
     sym (lower_mod bits (trailing_bits f) (payload_bits f) (omega (arith, a, b))) ∙
     ap (λ (n : ℕ). n % 2 ^ payload_bits f) e
-
-plus_quanta : (kind : NonfiniteBehavior) (n : ℕ) → signed_quanta kind false n ≡ finite false n
-plus_quanta kind zero = ap (λ (b : Bool). finite b 0) (plus_zero kind)
-plus_quanta kind (suc n) = signed_some kind false (suc n) (omega arith)
 
 -- an integer of few digits is a value
 module _ (f : Format) (h : 3 ≤ f.precision) (s : f.scale < f.span) where
@@ -73,7 +63,7 @@ module _ (f : Format) (h : 3 ≤ f.precision) (s : f.scale < f.span) where
   payload_value (nan b n) value status payload i e l r =
       integer_is false payload value status
       (few (payload_bits f) payload (payload_short f.nonfinite f.explicit_integer_bit f.precision) l) r ∙
-      plus_quanta f.nonfinite (payload * 2 ^ f.scale) ∙ ap (λ (m : ℕ). integer_datum f false m) e
+      unsigned_quanta f.nonfinite (payload * 2 ^ f.scale) ∙ ap (λ (m : ℕ). integer_datum f false m) e
   payload_value (infinite b) value status payload i e l r = absurd (false≢true i)
   payload_value (finite b n) value status payload i e l r = absurd (false≢true i)
 

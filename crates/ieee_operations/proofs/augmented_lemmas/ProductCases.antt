@@ -25,6 +25,8 @@ use Rattle.apfloat_model.proofs.formats.Ranges.{at_top}
 use Rattle.apfloat_model.proofs.order.PredicatesAgree.{number_agrees}
 use Rattle.apfloat_model.proofs.rounding.Deliveries.{signed_some}
 use Rattle.apfloat_model.proofs.rounding.Laws.{delivered_once, exact_delivered, zero_on_grid}
+use Rattle.apfloat_model.proofs.rounding.FarMagnitudes.{largest_on_grid}
+use Rattle.apfloat_model.proofs.whole_numbers.SignedNumbers.{largest_some}
 use Rattle.apfloat_pair_theory.proofs.numbers.Roundings.{signed_exact}
 use Rattle.apfloat_pair_theory.proofs.numbers.Signed.{on_grid_as}
 use Rattle.apfloat_pair_theory.proofs.numbers.SignedProducts.{sum_times, magnitude-mul, signed_product, signed_times}
@@ -33,10 +35,9 @@ use Rattle.ieee_operations.specs.augmented.Numbers.{IsNonzeroIn}
 use Rattle.ieee_operations.specs.augmented.TiesToZero.{IsTiesToZeroPick}
 use Rattle.ieee_operations.proofs.augmented_lemmas.FractionPicks.{beyond_in, past_pick_in}
 use Rattle.ieee_operations.proofs.augmented_lemmas.FractionRoundings.{rest_of_product, fraction_exactly, ok_parts, product_rounded, rest_rounded}
-use Rattle.ieee_operations.proofs.augmented_lemmas.Heads.{half_unit, largest_on_grid}
+use Rattle.ieee_operations.proofs.augmented_lemmas.Heads.{half_unit}
 use Rattle.ieee_operations.proofs.augmented_lemmas.Multiples.{augmented_times}
 use Rattle.ieee_operations.proofs.augmented_lemmas.Numbers.{within_is, past_is, short_is, past_without}
-use Rattle.ieee_operations.proofs.augmented_lemmas.OrderedSums.{largest_some}
 use Rattle.ieee_operations.proofs.augmented_lemmas.TiesToZero.{ties_to_zero_exact, short_is_below}
 
 -- ---- finite data, and others

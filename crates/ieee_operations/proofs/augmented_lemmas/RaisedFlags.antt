@@ -1,6 +1,6 @@
 -- OVERFLOW and UNDERFLOW are raised only together with INEXACT, by augmented sums, differences and products.
-use Rattle.std.proofs.Common.{ℕ, ◌+◌, ◌*◌, ◌^◌, ◌<◌, Bool, true, false, eqb, ltb, sym, subst, lit<}
-use Rattle.std.specs.Prelude.{ℤ, ◌+ℤ◌, bit_and}
+use Rattle.std.proofs.Common.{ℕ, ◌+◌, ◌*◌, ◌^◌, Bool, true, false, eqb, ltb, sym, subst, lit<}
+use Rattle.std.specs.Prelude.{ℤ, ◌+ℤ◌}
 use Rattle.std.specs.Bool.{MatchBool}
 use Rattle.apfloat_model.specs.declared.kinds.Round.TheVariants.{NearestTiesToEven}
 use Rattle.apfloat_model.specs.formats.Format.{Format, largest}
@@ -12,11 +12,9 @@ use Rattle.apfloat_model.specs.arithmetic.Exact.{magnitude, signed, sign_of, pro
 use Rattle.apfloat_model.specs.arithmetic.Sums.{zero_sum_sign}
 use Rattle.apfloat_model.proofs.general.Choices.{if_case}
 use Rattle.apfloat_model.proofs.rounding.FlagsTogether.{Together, ok_together, sum_together, difference_together, product_together}
+use Rattle.apfloat_model.proofs.rounding.FlagsTogether.{inexact_together}
 use Rattle.ieee_operations.specs.augmented.Augmented.{left_of, IsPastLargest, IsWithTail, IsAugmented, AreBoth}
 use Rattle.ieee_operations.specs.augmented.Augmented.{IsAugmentedSum, IsAugmentedDifference, IsAugmentedProduct, RaisesTogether}
-
-with_inexact : (status : ℕ) → 0 < bit_and status inexact_bit → FlagsGoTogether status
-with_inexact status i = record { overflow = λ o. i; underflow = λ u. i }
 
 past_or_not : (f : Format) (negative : Bool) (exact : ℤ) (parts pick : ℕ) (head tail : Datum) (status : ℕ)
     (test : Bool)
@@ -24,11 +22,11 @@ past_or_not : (f : Format) (negative : Bool) (exact : ℤ) (parts pick : ℕ) (h
     (IsWithTail f negative exact parts pick head tail status)
     → FlagsGoTogether status
 past_or_not f negative exact parts pick head tail status true x =
-    subst FlagsGoTogether (sym x.status_is) (with_inexact (overflow_bit + inexact_bit) (lit< tt))
+    subst FlagsGoTogether (sym x.status_is) (inexact_together (overflow_bit + inexact_bit) (lit< tt))
 past_or_not f negative exact parts pick head tail status false x =
     subst FlagsGoTogether (sym x.status_is)
     (if_case FlagsGoTogether (eqb (x.quanta * parts) (magnitude (left_of exact parts negative pick)))
-    (λ whole. ok_together) (λ lost. with_inexact (underflow_bit + inexact_bit) (lit< tt)))
+    (λ whole. ok_together) (λ lost. inexact_together (underflow_bit + inexact_bit) (lit< tt)))
 
 augmented_together : (f : Format) (of_zero : Bool) (exact : ℤ) (parts : ℕ) (head tail : Datum) (status : ℕ)
     → IsAugmented f of_zero exact parts head tail status → FlagsGoTogether status

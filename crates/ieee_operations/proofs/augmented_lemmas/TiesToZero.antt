@@ -11,10 +11,13 @@ use Rattle.apfloat_model.proofs.arithmetic.Signs.{magnitude_signed}
 use Rattle.apfloat_model.proofs.general.Choices.{cond_same}
 use Rattle.apfloat_model.proofs.rounding.Laws.{exact_below, exact_above}
 use Rattle.apfloat_model.proofs.rounding.Neighbours.{below_unique, above_unique}
-use Rattle.apfloat_pair_theory.proofs.numbers.Roundings.{apart, signed_apart, signed_far}
+use Rattle.apfloat_model.proofs.rounding.ModesAgree.{either_on_grid}
+use Rattle.apfloat_model.proofs.rounding.Picks.{even_nearer, even_farther}
+use Rattle.apfloat_pair_theory.proofs.numbers.Roundings.{apart, signed_apart, signed_far, near_at}
 use Rattle.apfloat_pair_theory.proofs.numbers.Signed.{on_grid_as}
 use Rattle.ieee_operations.specs.augmented.TiesToZero.{nearer_between, IsTiesToZeroPick}
 use Rattle.ieee_operations.specs.augmented.Numbers.{IsNearestTo}
+use Rattle.ieee_operations.proofs.augmented_lemmas.Numbers.{test_within}
 
 -- ---- which neighbour is taken
 
@@ -51,13 +54,6 @@ ties_to_zero_exact precision g amount parts p o e = record {
 }
 
 -- ---- from two modes
-
--- the upper neighbour is taken only if it is no farther, and not taken only if it is no nearer
-even_nearer : (negative odd : Bool) (x y : ℕ) → takes_above NearestTiesToEven negative x y odd ≡ true → y ≤ x
-even_nearer negative odd x y h = grind arith
-
-even_farther : (negative odd : Bool) (x y : ℕ) → takes_above NearestTiesToEven negative x y odd ≡ false → x ≤ y
-even_farther negative odd x y h = grind arith
 
 -- unless it is halfway, the pick to even is that with ties toward zero
 not_half : (negative odd above : Bool) (low high amount e : ℕ)
@@ -119,29 +115,8 @@ from_half precision negative amount e t x y h =
 
 -- ---- no grid number is nearer
 
-near_at : (above : Bool) (low high other amount p : ℕ) → low ≤ amount → amount ≤ high
-    → (above ≡ true → high - amount ≤ amount - low) → (above ≡ false → amount - low ≤ high - amount)
-    → p ≡ cond above high low → (amount ≤ other → high ≤ other) → (other ≤ amount → other ≤ low)
-    → apart p amount ≤ apart other amount
-near_at true low high other amount p l h f g e u v =
-    let w = f refl in
-    ⊎_elim (λ (q : other < amount). let k : other ≤ low = v (omega arith) in omega (arith, w))
-    (λ (q : amount ≤ other). let k : high ≤ other = u q in omega (arith, w)) (cases_lt other amount)
-near_at false low high other amount p l h f g e u v =
-    let w = g refl in
-    ⊎_elim (λ (q : other < amount). let k : other ≤ low = v (omega arith) in omega (arith, w))
-    (λ (q : amount ≤ other). let k : high ≤ other = u q in omega (arith, w)) (cases_lt other amount)
-
 test_less : (m n : ℕ) → ltb m n ≡ true → m ≤ n
 test_less m n h = grind arith
-
-test_more : (m n : ℕ) → ltb m n ≡ false → n ≤ m
-test_more m n h = grind arith
-
-either_on_grid : (first : Bool) (precision x y : ℕ) → IsOnGrid precision x → IsOnGrid precision y
-    → IsOnGrid precision (cond first x y)
-either_on_grid true precision x y g h = g
-either_on_grid false precision x y g h = h
 
 pub ties_to_zero_on_grid : (precision amount parts p : ℕ) → IsTiesToZeroPick precision amount parts p
     → IsOnGrid precision p
@@ -154,7 +129,7 @@ ties_to_zero_nearest precision amount p other x o =
     let b : x.below * 1 ≤ amount = x.is_below.not_above in
     let a : amount ≤ x.above * 1 = x.is_above.not_below in
     near_at _ x.below x.above other amount p (omega (arith, b)) (omega (arith, a))
-    (λ h. let k = test_less _ _ h in omega (arith, k)) (λ h. let k = test_more _ _ h in omega (arith, k)) x.is
+    (λ h. let k = test_less _ _ h in omega (arith, k)) (λ h. let k = test_within _ _ h in omega (arith, k)) x.is
     (λ h. x.is_above.least other o (omega (arith, h))) (λ h. x.is_below.greatest other o (omega (arith, h)))
 
 -- the same with a sign

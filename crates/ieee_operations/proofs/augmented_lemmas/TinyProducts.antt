@@ -30,13 +30,15 @@ use Rattle.apfloat_pair_theory.proofs.numbers.Roundings.{signed_exact, signed_ap
 use Rattle.apfloat_pair_theory.proofs.numbers.Signed.{on_grid_as}
 use Rattle.apfloat_pair_theory.proofs.numbers.SignedProducts.{sum_times, magnitude-mul, magnitude-times, signed_times}
 use Rattle.apfloat_pair_theory.proofs.numbers.WholeProducts.{whole_product}
+use Rattle.apfloat_pair_theory.proofs.pairs.Normalised.{is_equal_by}
 use Rattle.ieee_operations.specs.augmented.Augmented.{left_of, IsPastLargest, IsWithTail, IsAugmentedProduct}
 use Rattle.ieee_operations.specs.augmented.Numbers.{HasNumber, IsNumberIn, IsNonzeroIn, IsTwiceLeft}
 use Rattle.ieee_operations.specs.augmented.TiesToZero.{IsTiesToZeroPick}
 use Rattle.ieee_operations.proofs.augmented_lemmas.FractionPicks.{IsFraction, IsHalfPast, distance, below_fraction, gap, odd_half, tie_of_quanta, from_even_in, pick_cases, half_pick, half_short, low_pick, distance_fraction, distance_half, distance_half_past, distance_at_most}
 use Rattle.ieee_operations.proofs.augmented_lemmas.FractionRoundings.{rest_of_product, fraction_exactly, ok_parts, product_rounded, rest_rounded, small_product, whole_is_exact}
 use Rattle.ieee_operations.proofs.augmented_lemmas.Multiples.{sign_some}
-use Rattle.ieee_operations.proofs.augmented_lemmas.Numbers.{signed_number, same_number, within_is, finite_within, quanta_in, abs_has, equal_numbers, equal_data}
+use Rattle.ieee_operations.proofs.augmented_lemmas.Numbers.{signed_number, same_number, within_is, finite_within}
+use Rattle.ieee_operations.proofs.augmented_lemmas.Numbers.{quanta_in, abs_has, equal_numbers}
 use Rattle.ieee_operations.proofs.augmented_lemmas.ProductCases.{product_of_numbers, product_some}
 use Rattle.ieee_operations.proofs.augmented_lemmas.TiesToZero.{short_is_below}
 
@@ -533,7 +535,7 @@ left_not_one f left size unit p m u e one =
     let a = abs_has f left p in
     let e' = subst (λ (d : Datum). is_equal d unit ≡ false) m e in
     let q : number (abs f left) ≡ number unit = a.number_is ∙ ap pos one ∙ sym (ap number u) in
-    false≢true (sym e' ∙ equal_data (abs f left) unit a.is_finite (ap is_finite u) q)
+    false≢true (sym e' ∙ is_equal_by (abs f left) unit a.is_finite (ap is_finite u) q)
 
 -- what is left is finite if its status is OK
 pub left_is_finite : (f : Format) → 3 ≤ f.precision → f.precision < f.span → (x y near short left : Datum) (k : ℕ)
