@@ -1,7 +1,8 @@
 -- The encoding of a normal number: its sign, its place and its significand, added.
-use Rattle.std.proofs.Common.{◌≡◌, ℕ, ◌+◌, ◌-◌, ◌*◌, ◌^◌, ◌<◌, ◌≤◌, Bool, true, false, cond, sym, refl, ap, ◌∙◌, subst, ⊎_elim, arith}
+use Rattle.std.proofs.Common.{◌≡◌, ℕ, ◌+◌, ◌-◌, ◌*◌, ◌^◌, ◌<◌, ◌≤◌, Bool, false, cond, sym, refl, ap, ◌∙◌, subst}
+use Rattle.std.proofs.Common.{⊎_elim, arith}
 use Rattle.std.proofs.Math.Nat.{pow-le-pow_right, lt_of_lt_of_le}
-use Rattle.std.proofs.lemmas.Nat.{pow-add, pow_pos}
+use Rattle.std.proofs.lemmas.Nat.{pow_pos}
 use Rattle.std.proofs.lemmas.Bool.{cases_lt, cond-false}
 use Rattle.apfloat_model.specs.bits.Interchange.{IsInterchange, bits_of_fields}
 use Rattle.apfloat_model.specs.bits.Layout.{IsEncodedBy, trailing_bits}
@@ -12,6 +13,7 @@ use Rattle.apfloat_model.proofs.bits.EncodedOnce.{fields_with}
 use Rattle.apfloat_model.proofs.bits.FieldsOf.{fields_encode, high_fields_of}
 use Rattle.apfloat_model.proofs.general.Powers.{twice_half, two_pos}
 use Rattle.apfloat_model.proofs.rounding.Neighbours.{carried}
+use Rattle.apfloat_model.proofs.bits.Encodings.{joined_bits}
 use Rattle.apfloat_rounding.proofs.CutRests.{within_format}
 
 -- ---- within the largest value
@@ -43,15 +45,6 @@ inner_within c n place law inner fits =
     (cases_lt n (2 ^ c.precision))
 
 -- ---- the bits
-
--- the fields of a number, joined, are its sign, its place and its significand, added
-joined_bits : (negative : Bool) (e t place n bits top : ℕ) → 2 ^ t ≤ n → top ≡ t + e
-    → bits ≡ cond negative (2 ^ top) 0 + place * 2 ^ t + n
-    → (cond negative 1 0 * 2 ^ e + (place + 1)) * 2 ^ t + (n - 2 ^ t) ≡ bits
-joined_bits true e t place n bits top low at is =
-    let both : 2 ^ top ≡ 2 ^ t * 2 ^ e = ap (λ (x : ℕ). 2 ^ x) at ∙ pow-add 2 t e in
-    omega (arith, both, is, low)
-joined_bits false e t place n bits top low at is = omega (arith, is, low)
 
 -- a significand with all its digits, within the largest value
 encoded_full : (c : Constants) (negative : Bool) (place n bits : ℕ) → IsInterchange (format_with c) (layout_with c)

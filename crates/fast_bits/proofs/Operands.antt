@@ -1,22 +1,19 @@
 -- Sums and products of numbers that are counted in quanta.
-use Rattle.std.proofs.Common.{◌≡◌, ℕ, zero, suc, ℤ, pos, ◌+ℤ◌, ◌-ℤ◌, ◌≤ℤ◌, ◌+◌, ◌-◌, ◌*◌, ◌/◌, ◌%◌, ◌^◌, ◌<◌, ◌≤◌, Bool, not, Option, Some, None, sym, refl, ap, ◌∙◌, subst, arith}
+use Rattle.std.proofs.Common.{◌≡◌, ℕ, ℤ, pos, ◌+ℤ◌, ◌-ℤ◌, ◌≤ℤ◌, ◌+◌, ◌-◌, ◌*◌, ◌/◌, ◌%◌, ◌^◌, ◌<◌, ◌≤◌, Bool, Option}
+use Rattle.std.proofs.Common.{Some, None, sym, refl, ap, ◌∙◌, subst, arith}
 use Rattle.std.specs.Prelude.{neg_ℤ, IfSome}
 use Rattle.std.proofs.Math.Path.{subst₂}
-use Rattle.std.proofs.Math.Nat.{mul-le-mul_left, mul-le-mul_right, mul-lt-mul_of_pos_right, mul-pos}
+use Rattle.std.proofs.Math.Nat.{mul-le-mul_left, mul-lt-mul_of_pos_right, mul-pos}
 use Rattle.std.proofs.lemmas.Int.{ints}
 use Rattle.std.proofs.lemmas.Nat.{mod_below, pow-add, pow_pos}
-use Rattle.std.proofs.lemmas.Bool.{ne_eqb}
 use Rattle.apfloat_model.specs.arithmetic.Exact.{down, signed, up}
-use Rattle.apfloat_model.specs.declared.kinds.NonfiniteBehavior.{NonfiniteBehavior}
 use Rattle.apfloat_model.specs.declared.kinds.Round.{Round}
 use Rattle.apfloat_model.specs.formats.Datum.{Datum, finite}
 use Rattle.apfloat_model.specs.order.Classes.{is_nan}
 use Rattle.apfloat_model.specs.formats.Lawful.{Constants, format_with}
 use Rattle.apfloat_model.specs.rounding.Flags.{bits_of}
-use Rattle.apfloat_model.specs.rounding.Negation.{negated}
 use Rattle.apfloat_model.specs.rounding.Rounding.{IsDelivered}
 use Rattle.apfloat_model.specs.rounding.RoundingToOdd.{IsRoundedToOdd}
-use Rattle.apfloat_model.proofs.general.Powers.{pow3}
 use Rattle.apfloat_model.proofs.rounding.KeptDigits.{fits_cut, full_cut}
 use Rattle.apfloat_words.specs.Totals.{counted, IsSignedToOdd}
 use Rattle.apfloat_words.proofs.Totals.{no_down}
@@ -55,11 +52,6 @@ total_read least digits m mp n np q exponent left right negative rounded =
     (omega (arith, ints))
     (subst₂ (λ (z : ℕ) (v : ℕ). IsSignedToOdd least base (signed left z +ℤ signed right v) negative exponent q)
     (quanta_from m mp digits base at) (quanta_from n np digits base at) total)
-
--- the negation of a number that is not zero
-pub negated_some : (kind : NonfiniteBehavior) (negative : Bool) (quanta : ℕ) → 0 < quanta
-    → negated kind (finite negative quanta) ≡ finite (not negative) quanta
-negated_some kind negative quanta some = rw (ne_eqb quanta 0 (λ e. omega (arith, e, some))) refl
 
 -- ---- products
 
@@ -131,17 +123,6 @@ product_fits precision m n left right =
     mul-lt-mul_of_pos_right left (pow_pos precision) in
     omega (arith, power, low, high)
 
-pub product_full : (precision m n : ℕ) → 0 < precision → 2 ^ (precision - 1) ≤ m → 2 ^ (precision - 1) ≤ n
-    → 2 ^ (2 * precision - 1) ≤ 2 * (m * n)
-product_full precision m n some left right =
-    let digits : 2 * precision - 1 ≡ 1 + (precision - 1) + (precision - 1) = omega (arith, some) in
-    let power : 2 ^ (2 * precision - 1) ≡ 2 ^ 1 * 2 ^ (precision - 1) * 2 ^ (precision - 1) =
-    ap (λ (x : ℕ). 2 ^ x) digits ∙ pow3 1 (precision - 1) (precision - 1) in
-    let low : 2 ^ (precision - 1) * 2 ^ (precision - 1) ≤ 2 ^ (precision - 1) * n =
-    mul-le-mul_left (2 ^ (precision - 1)) right in
-    let high : 2 ^ (precision - 1) * n ≤ m * n = mul-le-mul_right n left in
-    omega (arith, power, low, high)
-
 -- the highest digits of a product with twice the digits
 pub upper_fits : (precision product : ℕ) → 0 < precision → product < 2 ^ (2 * precision)
     → product / 2 ^ precision < 2 ^ precision
@@ -163,11 +144,6 @@ lower_fits precision product short =
     word_room precision (product % 2 ^ precision) short (mod_below product (2 ^ precision) (pow_pos precision))
 
 -- ---- a total that was rounded to odd
-
--- a number that is not 0 has digits
-pub some_digits : (number digits : ℕ) → 0 < number → number < 2 ^ digits → 0 < digits
-some_digits number zero some fits = absurd (omega (arith, some, fits))
-some_digits number (suc digits) some fits = omega arith
 
 pub total_kept : (precision m digits top place last half up down amount parts : ℕ) → 3 ≤ precision → precision ≤ 59
     → digits ≤ 64 → 0 < digits → m < 2 ^ digits → 2 ^ (digits - 1) ≤ m → top ≡ m * 2 ^ (64 - digits)

@@ -1,6 +1,6 @@
 -- Two numbers in the order of their magnitudes, and the cut of the lesser at the unit of the greater.
 use Rattle.std.proofs.Common.{◌≡◌, ℕ, zero, suc, ℤ, pos, ◌+ℤ◌, ◌+◌, ◌-◌, ◌*◌, ◌/◌, ◌%◌, ◌^◌, ◌<◌, ◌≤◌, ◌⊎◌, Bool, true, false}
-use Rattle.std.proofs.Common.{cond, not, Option, sym, refl, ap, ◌∙◌, subst, inl, inr, ⊎_elim, arith}
+use Rattle.std.proofs.Common.{cond, not, Option, sym, refl, ap, ◌∙◌, inl, inr, ⊎_elim, arith}
 use Rattle.std.specs.Prelude.{IfSome}
 use mathlib.Core.Bool.{beq}
 use Rattle.std.proofs.Math.Path.{subst₂}
@@ -16,7 +16,7 @@ use Rattle.apfloat_model.specs.declared.kinds.Round.{Round}
 use Rattle.apfloat_model.specs.formats.Lawful.{Constants, format_with, layout_with}
 use Rattle.apfloat_model.specs.rounding.RoundingToOdd.{IsRoundedToOdd}
 use Rattle.apfloat_model.proofs.arithmetic.Signs.{swapped_sum}
-use Rattle.apfloat_model.proofs.general.Powers.{two_pos}
+use Rattle.apfloat_model.proofs.general.Powers.{two_pos, lower_mod}
 use Rattle.apfloat_words.specs.Totals.{IsApartToOdd}
 use Rattle.apfloat_words.proofs.OddTotals.{total_to_odd, unlike_false, unlike_true}
 use Rattle.apfloat_arithmetic.proofs.Additions.{IsRepresentedToOdd}
@@ -25,7 +25,7 @@ use Rattle.fast_bits.specs.declared.numbers.Number.{Number}
 use Rattle.fast_bits.specs.Encoded.{IsNumberAnswer}
 use Rattle.fast_bits.specs.Numbers.{AreOrdered, IsNumberOf, quanta_of}
 use Rattle.fast_bits.proofs.Operands.{total_read}
-use Rattle.fast_bits.proofs.Reading.{number_is, trailing_low, word_field, word_mod}
+use Rattle.fast_bits.proofs.Reading.{number_is, trailing_low, word_field}
 
 -- ---- cuts
 
@@ -67,7 +67,7 @@ pub magnitude_trailing : (c : Constants) (bits magnitude : ℕ) → IsInterchang
 magnitude_trailing c bits magnitude law is =
     let t = trailing_bits (format_with c) in
     let sized = law.bits in
-    ap (λ (n : ℕ). n % 2 ^ t) is ∙ word_mod bits (c.bits - 1) t (omega (arith, sized))
+    ap (λ (n : ℕ). n % 2 ^ t) is ∙ lower_mod bits (c.bits - 1) t (omega (arith, sized))
 
 -- the parts of numbers are in the order of the numbers
 parts_in_order : (low high t e : ℕ) → low ≤ high → high < 2 ^ (e + t)

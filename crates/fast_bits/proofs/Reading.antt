@@ -2,8 +2,9 @@
 use Rattle.std.proofs.Common.{◌≡◌, ℕ, ◌+◌, ◌-◌, ◌*◌, ◌/◌, ◌%◌, ◌^◌, ◌<◌, ◌≤◌, Bool, true, false, eqb, refl, ⊎_elim, ap, ◌∙◌, subst, arith, pos, ◌-ℤ◌}
 use Rattle.std.proofs.Math.Nat.{pow-le-pow_right}
 use Rattle.std.proofs.lemmas.Int.{ints}
-use Rattle.std.proofs.lemmas.Nat.{field_of, mod_below, mod_low, mod-pow-add, pow_pos}
+use Rattle.std.proofs.lemmas.Nat.{field_of, mod_below, pow_pos}
 use Rattle.std.proofs.lemmas.Bool.{cases_lt, and_left, cond-false, ne_eqb}
+use Rattle.std.proofs.Math.Pow.{mod-mod-pow}
 use Rattle.apfloat_model.specs.declared.kinds.NonfiniteBehavior.{NonfiniteBehavior}
 use Rattle.apfloat_model.specs.declared.kinds.NonfiniteBehavior.TheVariants.{IEEE754, NanOnly, NanNegativeZero}
 use Rattle.apfloat_model.specs.formats.Datum.{finite}
@@ -13,7 +14,7 @@ use Rattle.apfloat_model.specs.bits.Interchange.{IsInterchange}
 use Rattle.apfloat_model.specs.bits.Layout.{Layout, all_ones, trailing_bits, fields_of, implied_datum, datum_of, datum_of_fields}
 use Rattle.fast_bits.specs.declared.numbers.Number.{Number}
 use Rattle.fast_bits.specs.Numbers.{IsNumberOf}
-use Rattle.apfloat_model.proofs.general.Powers.{two_pos}
+use Rattle.apfloat_model.proofs.general.Powers.{two_pos, lower_mod}
 use Rattle.apfloat_model.proofs.bits.EncodedOnce.{fields_with}
 use Rattle.apfloat_model.proofs.bits.Encodings.{lawful_interchange}
 
@@ -112,24 +113,13 @@ number_is c bits biased x implied biased_is some few near negative_is place_is s
 
 -- ---- the low word
 
--- the lowest digits of a number are those of more of its lowest digits
-mod-mod : (n j k : ℕ) → n % 2 ^ (j + k) % 2 ^ k ≡ n % 2 ^ k
-mod-mod n j k =
-    ap (λ (i : ℕ). i % 2 ^ k) (mod-pow-add n j k) ∙
-    mod_low (n / 2 ^ k % 2 ^ j) k (n % 2 ^ k) (mod_below n (2 ^ k) (pow_pos k))
-
-pub word_mod : (n word k : ℕ) → k ≤ word → n % 2 ^ word % 2 ^ k ≡ n % 2 ^ k
-word_mod n word k room =
-    let at : word ≡ word - k + k = omega (arith, room) in
-    ap (λ (x : ℕ). n % 2 ^ x % 2 ^ k) at ∙ mod-mod n (word - k) k
-
 -- a field within a word
 pub word_field : (n word k j : ℕ) → k + j ≤ word → n % 2 ^ word / 2 ^ k % 2 ^ j ≡ n / 2 ^ k % 2 ^ j
 word_field n word k j room =
     let at : word ≡ word - (j + k) + j + k = omega (arith, room) in
     ap (λ (x : ℕ). n % 2 ^ x / 2 ^ k % 2 ^ j) at
     ∙ ap (λ (m : ℕ). m % 2 ^ j) (field_of n (word - (j + k) + j) k)
-    ∙ mod-mod (n / 2 ^ k) (word - (j + k)) j
+    ∙ mod-mod-pow (n / 2 ^ k) (word - (j + k)) j
 
 -- a word that has all bits of a value encodes it
 pub word_read : (c : Constants) (bits word : ℕ) → IsInterchange (format_with c) (layout_with c) → c.bits ≤ word
@@ -143,7 +133,7 @@ word_read c bits word law room =
     word_field bits word (c.bits - 1) 1 (omega (arith, sized, room)) in
     let biased : bits % 2 ^ word / 2 ^ t % 2 ^ c.exp_bits ≡ bits / 2 ^ t % 2 ^ c.exp_bits =
     word_field bits word t c.exp_bits (omega (arith, sized, room)) in
-    let trailing : bits % 2 ^ word % 2 ^ t ≡ bits % 2 ^ t = word_mod bits word t (omega (arith, sized, room)) in
+    let trailing : bits % 2 ^ word % 2 ^ t ≡ bits % 2 ^ t = lower_mod bits word t (omega (arith, sized, room)) in
     ap (λ (n : ℕ). datum_of_fields f layout (fields_with (eqb n 1) (bits % 2 ^ word / 2 ^ t % 2 ^ c.exp_bits)
     (bits % 2 ^ word % 2 ^ t))) sign
     ∙ ap (λ (n : ℕ). datum_of_fields f layout (fields_with (eqb (bits / 2 ^ (c.bits - 1) % 2) 1) n

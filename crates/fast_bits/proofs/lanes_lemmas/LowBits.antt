@@ -14,14 +14,11 @@ halves q bit low =
     let rest : q % 2 < 2 = mod_below q 2 (lit< tt) in
     (λ i. bit_or (sym parts i) (sym none i)) ∙ or_block 1 (q / 2) 0 (q % 2) bit rest low
 
-or_none : (q : ℕ) → bit_or q 0 ≡ q
-or_none q = or_zero_r q
-
 or_one : (q : ℕ) → bit_or q 1 ≡ q + 1 - q % 2
 or_one q =
     let parts : q / 2 * 2 + q % 2 ≡ q = div-add-mod' q 2 in
     let split = halves q 1 (lit< tt) in
-    let upper : bit_or (q / 2) 0 * 2 ≡ q / 2 * 2 = ap (λ (n : ℕ). n * 2) (or_none (q / 2)) in
+    let upper : bit_or (q / 2) 0 * 2 ≡ q / 2 * 2 = ap (λ (n : ℕ). n * 2) (or_zero_r (q / 2)) in
     let rest : q % 2 < 2 = mod_below q 2 (lit< tt) in
     ⊎_elim {C = bit_or q 1 ≡ q + 1 - q % 2}
     (λ (even : q % 2 < 1).
@@ -35,7 +32,7 @@ or_one q =
     (cases_lt (q % 2) 1)
 
 by_rest : (q : ℕ) (none : Bool) → bit_or q (cond (not none) 1 0) ≡ cond none q (q + 1 - q % 2)
-by_rest q true = or_none q
+by_rest q true = or_zero_r q
 by_rest q false = or_one q
 
 -- a quotient rounded to odd

@@ -410,10 +410,6 @@ module _ (f : Format) (read : Layout) (g : Format) (layout : Layout) (mode : Rou
       (nan_converted other it g.nonfinite refl))
       (cases_eq (x % 2 ^ 23) 0)
 
-pub not_false : (b : Bool) → (b ≡ false → ⊥) → b ≡ true
-not_false true other = refl
-not_false false other = absurd (other refl)
-
 -- ---- what the halves of a word keep of a NaN
 
 -- the same test of two numbers

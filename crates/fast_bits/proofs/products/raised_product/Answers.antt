@@ -1,5 +1,6 @@
 use Rattle.std.proofs.Common.{ℕ, ◌*◌, ◌^◌, ◌<◌, ◌≤◌, ◌-◌, sym, subst}
-use Rattle.fast_bits.proofs.Operands.{product_fits, product_full}
+use Rattle.apfloat_model.proofs.general.Powers.{product_full}
+use Rattle.fast_bits.proofs.Operands.{product_fits}
 use Rattle.fast_bits.proofs.products.raised_product.Goals as goal
 
 pub returns-then-significand-power_of_two-clause-full : goal.returns-then-significand-power_of_two-clause-full

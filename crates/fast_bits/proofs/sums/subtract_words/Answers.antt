@@ -3,10 +3,11 @@ use Rattle.std.specs.Prelude.{IfSome}
 use Rattle.std.proofs.Math.Path.{subst₂}
 use Rattle.apfloat_model.specs.arithmetic.Sums.{IsDifference, IsSum}
 use Rattle.apfloat_model.specs.formats.Datum.{Datum, finite}
+use Rattle.apfloat_model.proofs.rounding.Laws.{number_swapped}
 use Rattle.apfloat_ieee.specs.FlaggedTypes.{constants_of, format_of}
 use Rattle.fast_bits.specs.Encoded.{IsNumberAnswer}
 use Rattle.fast_bits.specs.Numbers.{opposite_if, quanta_of}
-use Rattle.fast_bits.proofs.Operands.{negated_some, quanta_some}
+use Rattle.fast_bits.proofs.Operands.{quanta_some}
 use Rattle.fast_bits.proofs.OrderedNumbers.{ordered_sum}
 use Rattle.fast_bits.proofs.sums.subtract_words.Goals as goal
 
@@ -20,8 +21,8 @@ returns-in-Some g c =
     subst
     (λ (y : Datum). IfSome c.add_ordered.result (IsNumberAnswer (constants_of g.S.Flagged)
     (IsSum (format_of g.S.Flagged) c.args.round (finite left.negative (quanta_of left)) y)))
-    (sym (negated_some g.S.Flagged.NONFINITE_BEHAVIOR right.negative (quanta_of right)
-    (quanta_some (constants_of g.S.Flagged) right are.of_right.is_full)))
+    (number_swapped g.S.Flagged.NONFINITE_BEHAVIOR right.negative (quanta_of right)
+    (quanta_some (constants_of g.S.Flagged) right are.of_right.is_full))
     (ordered_sum (constants_of g.S.Flagged) c.args.round c.add_ordered.result left (opposite_if true right)
     numbers.high numbers.low are.same c.add_ordered.ensures) in
     subst₂

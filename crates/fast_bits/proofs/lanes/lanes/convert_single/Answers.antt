@@ -1,13 +1,13 @@
 use Rattle.std.proofs.Common.{◌≡◌, false, ◌∙◌, ℕ, ◌+◌, ◌*◌, ◌/◌, ◌%◌, ◌^◌, ◌<◌, ◌≤◌, Bool, true, not, ◌&&◌, ◌||◌, eqb, leb, refl, sym, ap, subst, inl, inr, ⊎_elim, arith}
 use Rattle.std.proofs.Math.Bool.{and-false}
-use Rattle.std.proofs.lemmas.Bool.{cases_lt, le-leb, lt-leb}
+use Rattle.std.proofs.lemmas.Bool.{cases_lt, le-leb, lt-leb, true_from_ne_false}
 use Rattle.apfloat_model.specs.bits.Layout.{Layout}
 use Rattle.apfloat_model.specs.formats.Format.{Format}
 use Rattle.fast_bits.specs.declared.lanes.lanes.Lane.{Lane}
 use Rattle.fast_bits.specs.lanes.At.{format_at, layout_at}
 use Rattle.fast_bits.specs.lanes.Lanes.{IsLane, IsPastLane}
 use Rattle.fast_bits.specs.lanes.Targets.{IsSingle}
-use Rattle.fast_bits.proofs.lanes_lemmas.Specials.{a_layout, a_single, a_single_is, not_false, word_nan, word_payload}
+use Rattle.fast_bits.proofs.lanes_lemmas.Specials.{a_layout, a_single, a_single_is, word_nan, word_payload}
 use Rattle.fast_bits.proofs.lanes_lemmas.Words.{word_is}
 use Rattle.fast_bits.proofs.lanes.lanes.convert_single.Goals as goal
 
@@ -42,7 +42,7 @@ converted c single layout is_single =
     (inl (c.convert_number.ensures.converted single layout low is_single)))
     (λ (high : 255 * 2 ^ 7 ≤ c.args.upper % 2 ^ 15).
     let asked : c.args.specials ≡ true =
-    not_false c.args.specials (λ off. let low = c.requires.number off in omega (arith, low, high)) in
+    true_from_ne_false c.args.specials (λ off. let low = c.requires.number off in omega (arith, low, high)) in
     let leads = c.requires.leads asked in
     inr (
       leads.kept,

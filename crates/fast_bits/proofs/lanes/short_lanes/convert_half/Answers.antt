@@ -1,6 +1,6 @@
 use Rattle.std.proofs.Common.{Bool, ap, ◌≡◌, ℕ, ◌*◌, ◌/◌, ◌%◌, ◌^◌, ◌<◌, ◌≤◌, true, ◌&&◌, eqb, ltb, leb, sym, ◌∙◌, subst, inl, inr, ⊎_elim, arith}
 use Rattle.std.proofs.Math.Bool.{and-false}
-use Rattle.std.proofs.lemmas.Bool.{cases_lt, le-leb, le-ltb, lt-leb}
+use Rattle.std.proofs.lemmas.Bool.{cases_lt, le-leb, le-ltb, lt-leb, true_from_ne_false}
 use Rattle.apfloat_model.specs.bits.Layout.{Layout}
 use Rattle.apfloat_model.specs.formats.Format.{Format}
 use Rattle.apfloat_model.specs.rounding.RoundingToOdd.{odd_quotient}
@@ -8,7 +8,7 @@ use Rattle.fast_bits.specs.declared.lanes.lanes.Lane.{Lane}
 use Rattle.fast_bits.specs.lanes.At.{format_at, layout_at}
 use Rattle.fast_bits.specs.lanes.Lanes.{IsLane, IsPastLane}
 use Rattle.fast_bits.specs.lanes.Targets.{IsSingle}
-use Rattle.fast_bits.proofs.lanes_lemmas.Specials.{a_layout, a_single, a_single_is, half_nan, half_payload, not_false}
+use Rattle.fast_bits.proofs.lanes_lemmas.Specials.{a_layout, a_single, a_single_is, half_nan, half_payload}
 use Rattle.fast_bits.proofs.lanes_lemmas.UpperHalves.{half_alone, half_is, word_below}
 use Rattle.fast_bits.proofs.lanes.short_lanes.convert_half.Goals as goal
 
@@ -37,7 +37,7 @@ converted c x single layout is is_single =
     let sign : odd_quotient x (2 ^ 16) / 2 ^ 15 ≡ x / 2 ^ 31 = half.sign in
     let exponent : odd_quotient x (2 ^ 16) % 2 ^ 15 / 2 ^ 7 ≡ x % 2 ^ 31 / 2 ^ 23 = half.exponent in
     let asked : c.args.specials ≡ true =
-    not_false c.args.specials (λ off. let low = c.requires.number off in omega (arith, low, high)) in
+    true_from_ne_false c.args.specials (λ off. let low = c.requires.number off in omega (arith, low, high)) in
     let leads = c.requires.leads asked in
     let signs : h / 2 ^ 15 ≡ x / 2 ^ 31 = (λ i. is i / 2 ^ 15) ∙ sign in
     inr (
