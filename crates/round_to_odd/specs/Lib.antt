@@ -1,5 +1,4 @@
 pub mod Odd
-pub mod Numbers
 pub mod Wholes
 pub mod Again
 pub mod Rooms

@@ -1,38 +1,39 @@
 //! The last digit of a number, and a number with a sign.
 
-ghost use Rattle.std.specs.Prelude.{◌≡◌, ◌+◌, ◌<◌, ℕ, false, true, eqb, not, ◌%◌, ◌*◌, ◌^◌};
-ghost use Rattle.apfloat_model.specs.formats.Datum.{Datum, finite};
-ghost use Rattle.apfloat_model.specs.formats.Members.{IsMember};
-ghost use Rattle.apfloat_model.specs.order.Classes.{quanta_of, is_integer};
+ghost use Rattle.std.specs.Prelude.{◌≡◌, ◌+◌, ◌^◌, ◌<◌, ℕ, false, pos, ◌+ℤ◌};
+ghost use Rattle.apfloat_model.specs.formats.Datum.{finite};
+ghost use Rattle.apfloat_model.specs.order.Classes.{quanta_of};
+ghost use Rattle.apfloat_model.specs.order.Positive.{IsPositive};
+ghost use Rattle.apfloat_model.specs.rounding.Bounds.{IsWithin};
 ghost use Rattle.apfloat_model.specs.rounding.Grid.{IsAbove};
+ghost use Rattle.apfloat_model.specs.rounding.Standing.{down};
 ghost use Rattle.apfloat_ieee.specs.FlaggedTypes.{format_of};
 ghost use Rattle.round_to_odd.specs.Odd.{is_odd_below};
-ghost use Rattle.apfloat_model.specs.order.Positive.{IsPositive};
-ghost use Rattle.round_to_odd.specs.Numbers.{IsHalfPlaces};
 
 use apfloat_base::{ExpInt, Float};
 use apfloat_ieee::{Flagged, IeeeFloat};
 
-/// The exponent of two by which a positive value is half of its significand.
-fn half_places<S: Flagged>(x: IeeeFloat<S>) -> ExpInt
-    requires { IsPositive (format_of S.Flagged) x }
-    ensures { IsHalfPlaces (format_of S.Flagged) (quanta_of x) result }
+/// How many digits of a number are below the quantum, from the exponent of the last one.
+fn digits_below_quantum<S: Flagged>(exponent: ExpInt) -> u32
+    requires { IsWithin (2 ^ 22) exponent }
+    ensures { result ≡ down (exponent +ℤ pos (format_of S.Flagged).scale) }
 {
-    let first = x.ilogb();
-    if first < S::MIN_EXP {
-        S::PRECISION as ExpInt - 2 - S::MIN_EXP
+    let quantum = S::MIN_EXP - (S::PRECISION as ExpInt - 1);
+    if exponent < quantum {
+        (quantum - exponent) as u32
     } else {
-        S::PRECISION as ExpInt - 2 - first
+        0
     }
 }
 
-/// Whether the last digit of a positive value is odd.
+/// Whether the last digit of a positive value is odd: of a denormal one, the digit of the quantum.
 pub(crate) fn is_odd<S: Flagged>(x: IeeeFloat<S>) -> bool
     requires { IsPositive (format_of S.Flagged) x }
     ensures { (above : ℕ) → IsAbove (format_of S.Flagged).precision above (quanta_of x + 1) 1
         → result ≡ is_odd_below (quanta_of x) above }
 {
-    !x.scalbn(half_places(x)).is_integer()
+    let number = x.number();
+    (number.significand >> digits_below_quantum::<S>(number.exponent)) % 2 == 1
 }
 
 /// A positive value with a sign.
