@@ -1,13 +1,12 @@
 -- The same for the root of a number of the format in which it is rounded to odd.
-use Rattle.std.proofs.Common.{ℕ, ◌*◌, ◌^◌, ◌<◌, ◌≤◌, Bool, false, if◌then◌else◌, subst, arith}
+use Rattle.std.proofs.Common.{ℕ, ◌*◌, ◌^◌, ◌<◌, ◌≤◌, false, subst, arith}
 use Rattle.std.proofs.Math.Nat.{mul-pos}
 use Rattle.std.proofs.lemmas.Nat.{pow_pos}
 use Rattle.apfloat_model.specs.declared.kinds.Round.{Round}
 use Rattle.apfloat_model.specs.declared.kinds.Round.TheVariants.{TowardZero}
 use Rattle.apfloat_model.specs.formats.Format.{Format}
-use Rattle.apfloat_model.specs.formats.Datum.{Datum, finite}
+use Rattle.apfloat_model.specs.formats.Datum.{Datum}
 use Rattle.apfloat_model.specs.rounding.Flags.{bits_of}
-use Rattle.apfloat_model.specs.rounding.Outcome.{exactly, invalid, rooted, Yields}
 use Rattle.apfloat_model.specs.rounding.Rounding.{IsDelivered}
 use Rattle.apfloat_model.specs.arithmetic.Roots.{IsDeliveredRoot}
 use Rattle.apfloat_model.proofs.Once.{delivered_root_once}
@@ -44,9 +43,7 @@ own_root_rounded_once f g mode quanta toward first answer precise room some root
     scaled_agrees square 4 r.amount r.parts fine p (coarser square 4 coarse r.amount r.parts q r.agrees) in
     let three : 3 ≤ f.precision = precise_too f g precise room in
     let toward_zero : IsDeliveredRoot f TowardZero square toward.value (bits_of toward.status) =
-    subst (λ (zero : Bool).
-    Yields f TowardZero (if zero then exactly (finite false 0) else (if false then invalid f else rooted square))
-    toward.value (bits_of toward.status)) (not_zero quanta some) root in
+    rw (not_zero quanta some) at root in
     let d : IsDelivered f TowardZero false (r.amount * fine) (r.parts * fine) toward.value (bits_of toward.status) =
     own_fraction_delivered f TowardZero square (r.amount * fine) (r.parts * fine) toward.value (bits_of toward.status)
     (omega (arith, three)) in_f toward_zero in
