@@ -1,31 +1,23 @@
 -- The answer toward zero, made odd, is the exact result rounded to odd.
-use Rattle.std.proofs.Common.{◌≡◌, ℕ, ◌+◌, ◌*◌, ◌<◌, ◌≤◌, Bool, true, false, ◌||◌, eqb, ltb, cond, if◌then◌else◌, sym, refl, ap, ◌∙◌, subst, ⊎_elim, zero, suc, arith}
+use Rattle.std.proofs.Common.{◌≡◌, ℕ, ◌+◌, ◌*◌, ◌<◌, ◌≤◌, Bool, true, false, ◌||◌, eqb, ltb, cond, if◌then◌else◌, sym}
+use Rattle.std.proofs.Common.{refl, ap, ◌∙◌, subst, ⊎_elim, arith}
 use Rattle.std.specs.Bool.{MatchBool}
-use Rattle.std.proofs.Math.Nat.{mul-pos, lt_of_mul-lt-mul_right}
+use Rattle.std.proofs.Math.Nat.{lt_of_mul-lt-mul_right}
 use Rattle.std.proofs.lemmas.Bool.{cases_lt, cases_eq, cases_Bool, lt-ltb, le-ltb, ne_eqb, eq-eqb, or_right, MatchBool-at_true, MatchBool-at_false}
-use Rattle.std.proofs.lemmas.Nat.{pow_pos}
-use Rattle.apfloat_model.specs.declared.kinds.NonfiniteBehavior.{NonfiniteBehavior}
 use Rattle.apfloat_model.specs.declared.kinds.Round.TheVariants.{TowardZero}
 use Rattle.apfloat_model.specs.declared.status.StatusAnd.{StatusAnd}
-use Rattle.apfloat_model.specs.formats.Format.{Format, largest, greatest_significand}
+use Rattle.apfloat_model.specs.formats.Format.{Format, largest}
 use Rattle.apfloat_model.specs.formats.Datum.{Datum, finite}
 use Rattle.apfloat_model.specs.rounding.Flags.{bits_of}
-use Rattle.apfloat_model.specs.rounding.Grid.{IsOnGrid, IsBelow, IsAbove}
+use Rattle.apfloat_model.specs.rounding.Grid.{IsBelow, IsAbove}
 use Rattle.apfloat_model.specs.rounding.Rounding.{is_tiny, delivered_value, delivered_status, raises_overflow, signed_quanta, zero_sign, inexact_bit}
-use Rattle.apfloat_model.proofs.formats.Greatest.{greatest_some, greatest_fits}
-use Rattle.apfloat_model.proofs.general.Choices.{not_zero, eqb_self, cond_same}
-use Rattle.apfloat_model.proofs.rounding.Deliveries.{signed_some}
+use Rattle.apfloat_model.proofs.general.Choices.{eqb_self, cond_same}
+use Rattle.apfloat_model.proofs.rounding.Deliveries.{signed_some, quanta_are}
 use Rattle.apfloat_model.proofs.rounding.Laws.{exact_above, below_le_above}
-use Rattle.apfloat_model.proofs.rounding.Neighbours.{above_unique, multiple_on_grid}
+use Rattle.apfloat_model.proofs.rounding.Neighbours.{above_unique}
+use Rattle.apfloat_model.proofs.rounding.FarMagnitudes.{largest_on_grid}
+use Rattle.apfloat_model.proofs.whole_numbers.SignedNumbers.{largest_some}
 use Rattle.round_to_odd.specs.Odd.{is_odd_below, odd_between, has_flag, IsMadeOdd, IsMadeOddNumber, IsOddOfTruncated}
-
-pub largest_on_grid : (f : Format) → IsOnGrid f.precision (largest f)
-largest_on_grid f =
-    multiple_on_grid f.precision (greatest_significand f.nonfinite f.precision) f.span
-    (greatest_fits f.nonfinite f.precision)
-
-pub largest_some : (f : Format) → 3 ≤ f.precision → 0 < largest f
-largest_some f precise = mul-pos (greatest_some f.nonfinite f.precision precise) (pow_pos f.span)
 
 -- the next point after the lower neighbour of a magnitude that is above it is the upper neighbour
 next_is : (precision below above next amount parts : ℕ) → 0 < parts → below * parts < amount
@@ -44,12 +36,6 @@ next_is precision below above next amount parts p h x y z =
     (cases_lt (next * parts) amount) in
     let n : above ≤ next = y.least next z.on_grid m in
     omega (arith, k, n)
-
--- signed quanta are a finite datum
-pub quanta_are : (kind : NonfiniteBehavior) (negative : Bool) (p : ℕ)
-    → signed_quanta kind negative p ≡ finite (if eqb p 0 then zero_sign kind negative else negative) p
-quanta_are kind negative zero = refl
-quanta_are kind negative (suc p) = rw (not_zero (suc p) (omega arith)) refl
 
 -- ---- values
 

@@ -1,5 +1,6 @@
 -- A nonzero value and its magnitude, the next value after that, and zeros.
-use Rattle.std.proofs.Common.{◌≡◌, ℕ, zero, suc, ◌+◌, ◌-◌, ◌^◌, ◌<◌, ◌≤◌, Bool, true, false, ◌||◌, eqb, if◌then◌else◌, sym, refl, ap, ◌∙◌, subst, arith}
+use Rattle.std.proofs.Common.{◌≡◌, ℕ, ◌+◌, ◌-◌, ◌^◌, ◌<◌, ◌≤◌, Bool, true, false, ◌||◌, eqb, if◌then◌else◌, sym, refl}
+use Rattle.std.proofs.Common.{ap, ◌∙◌, subst, arith}
 use Rattle.std.proofs.lemmas.Bool.{MatchBool-at_false, eqb-true, ne_eqb, or_parts}
 use Rattle.apfloat_model.specs.declared.kinds.Category.TheVariants.{Normal, Zero}
 use Rattle.apfloat_model.specs.formats.Constants.{largest_datum}
@@ -10,26 +11,15 @@ use Rattle.apfloat_model.specs.order.Classes.{category_of, is_negative, quanta_o
 use Rattle.apfloat_model.specs.order.Predicates.{signed_like}
 use Rattle.apfloat_model.specs.rounding.Grid.{IsOnGrid, IsAbove}
 use Rattle.apfloat_model.specs.rounding.Negation.{negated}
-use Rattle.apfloat_model.proofs.general.Choices.{not_zero}
+use Rattle.apfloat_model.proofs.general.Choices.{not_zero, above_zero}
 use Rattle.apfloat_model.proofs.general.Powers.{twice_half}
 use Rattle.apfloat_model.proofs.rounding.Laws.{exact_above}
 use Rattle.apfloat_model.proofs.rounding.NeighboursExist.{above_exists}
+use Rattle.apfloat_model.proofs.rounding.FarMagnitudes.{power_on_grid}
+use Rattle.apfloat_model.proofs.order.Categories.{zero_only, number_only}
+use Rattle.apfloat_model.proofs.whole_numbers.SignedNumbers.{largest_some}
 use Rattle.round_to_odd.specs.Odd.{is_odd_below, IsMadeOdd, IsMadeOddNumber}
 use Rattle.apfloat_model.specs.order.Positive.{IsPositive}
-use Rattle.round_to_odd.proofs.MadeOdd.{largest_some}
-use Rattle.round_to_odd.proofs.OddPoints.{power_on_grid}
-
-number_only : (test : Bool) → (if test then Zero else Normal) ≡ Normal → test ≡ false
-number_only true e = cc
-number_only false e = refl
-
-pub zero_only : (test : Bool) → (if test then Zero else Normal) ≡ Zero → test ≡ true
-zero_only true e = refl
-zero_only false e = cc
-
-positive : (n : ℕ) → eqb n 0 ≡ false → 0 < n
-positive zero e = cc
-positive (suc n) e = omega arith
 
 -- the magnitude of a nonzero number
 magnitude_is : (f : Format) (x y : Datum) → category_of x ≡ Normal
@@ -96,7 +86,7 @@ moves_made f negative (finite b n) y next result test status precise e d stays t
     let stays' : StaysIf f n test = subst (λ (k : ℕ). StaysIf f k test) (ap quanta_of m) stays in
     let a = next_point f n precise in
     let none = or_parts (is_odd_below n a.0) (eqb n (largest f)) (sym (stays' a.0 a.1) ∙ t) in
-    let greater = next_greater f y next n status m (positive n (number_only (eqb n 0) e)) none.1 up in
+    let greater = next_greater f y next n status m (above_zero n (number_only (eqb n 0) e)) none.1 up in
     let no : (is_odd_below n greater.next || eqb n (largest f)) ≡ false =
     sym (stays' greater.next greater.is_above) ∙ t in
     let least = greater.is_above.not_below in

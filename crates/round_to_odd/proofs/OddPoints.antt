@@ -23,12 +23,6 @@ twice_on_grid digits n g =
     let e : n ≡ g.significand * 2 ^ g.place = g.is in
     record { significand = g.significand; place = g.place + 1; fits = g.fits; is = omega (arith, k, e) }
 
--- each power of two is on the grid
-pub power_on_grid : (digits k : ℕ) → 0 < digits → IsOnGrid digits (2 ^ k)
-power_on_grid digits k h =
-    let l : 2 ^ 1 ≤ 2 ^ digits = pow-le-pow_right two_pos h in
-    record { significand = 1; place = k; fits = omega (arith, l); is = omega arith }
-
 -- a grid point is on each grid with more digits
 pub wider_grid : (digits wide n : ℕ) → digits ≤ wide → IsOnGrid digits n → IsOnGrid wide n
 wider_grid digits wide n l g =

@@ -19,14 +19,16 @@ use Rattle.apfloat_model.proofs.general.Choices.{not_zero}
 use Rattle.apfloat_model.proofs.general.Powers.{two_pos, twice_half}
 use Rattle.apfloat_model.proofs.formats.Greatest.{greatest_some}
 use Rattle.apfloat_model.proofs.rounding.Deliveries.{signed_some}
-use Rattle.apfloat_model.proofs.rounding.FarMagnitudes.{IsFarAbove, picks_past}
+use Rattle.apfloat_model.proofs.rounding.FarMagnitudes.{IsFarAbove, picks_past, power_on_grid}
 use Rattle.apfloat_model.proofs.rounding.Laws.{zero_on_grid, delivered_exists, below_le_above}
 use Rattle.apfloat_model.proofs.rounding.Neighbours.{none_between}
+use Rattle.apfloat_model.proofs.rounding.ModesAgree.{pick_on_grid}
 use Rattle.round_to_odd.specs.Odd.{IsToOdd, is_odd_below, odd_between}
 use Rattle.round_to_odd.specs.Again.{joined, IsRoundedAgain, HasRoomFor, IsRoundedOnce}
-use Rattle.round_to_odd.proofs.OddPoints.{AgreesAtEven, power_on_grid, odd_agrees, odd_on_grid, wider_grid, moved_on_grid, twice_on_grid}
+use Rattle.round_to_odd.proofs.OddPoints.{AgreesAtEven, odd_agrees, odd_on_grid, wider_grid, moved_on_grid}
+use Rattle.round_to_odd.proofs.OddPoints.{twice_on_grid}
 use Rattle.round_to_odd.proofs.Sides.{same_sides}
-use Rattle.round_to_odd.proofs.SameDeliveries.{same_delivered, pick_on_grid}
+use Rattle.round_to_odd.proofs.SameDeliveries.{same_delivered}
 use Rattle.round_to_odd.proofs.PastLargest.{IsPickedAtEnd, picked_at_end, end_not_tiny}
 
 -- ---- flags

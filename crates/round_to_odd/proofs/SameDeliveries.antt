@@ -1,6 +1,7 @@
 -- Two magnitudes that compare alike with the points of a format, and with its half and quarter quanta where it judges
 -- tininess by them, are rounded alike.
-use Rattle.std.proofs.Common.{◌≡◌, ℕ, ◌+◌, ◌-◌, ◌*◌, ◌/◌, ◌%◌, ◌^◌, ◌<◌, ◌≤◌, Bool, true, false, not, ◌&&◌, ◌||◌, eqb, ltb, leb, cond, if◌then◌else◌, sym, refl, ap, ◌∙◌, subst, ⊎_elim, arith}
+use Rattle.std.proofs.Common.{◌≡◌, ℕ, ◌+◌, ◌-◌, ◌*◌, ◌/◌, ◌%◌, ◌^◌, ◌<◌, ◌≤◌, Bool, true, false, not, ◌&&◌, ◌||◌, eqb}
+use Rattle.std.proofs.Common.{ltb, leb, cond, if◌then◌else◌, sym, refl, ap, ◌∙◌, ⊎_elim, arith}
 use Rattle.std.proofs.lemmas.Bool.{cases_lt, eq-eqb, ne_eqb, lt-ltb, le-ltb, le-leb, lt-leb, leb-false, ltb-true}
 use Rattle.std.proofs.lemmas.Nat.{pow_pos}
 use Rattle.apfloat_model.specs.declared.kinds.Round.{Round}
@@ -11,13 +12,11 @@ use Rattle.apfloat_model.specs.rounding.Standing.{reads_halves}
 use Rattle.apfloat_model.specs.rounding.Rounding.{takes_above, IsPick, IsDelivered, is_tiny, rounds_below_normal, delivered_status, raises_overflow, ok_bits, overflow_bit, underflow_bit, inexact_bit}
 use Rattle.apfloat_model.proofs.general.Powers.{twice_power}
 use Rattle.apfloat_model.proofs.rounding.Picks.{takes_less, takes_half, takes_more}
-use Rattle.round_to_odd.proofs.OddPoints.{power_on_grid, twice_on_grid, wider_grid, sum_on_grid}
+use Rattle.apfloat_model.proofs.rounding.FarMagnitudes.{power_on_grid}
+use Rattle.apfloat_model.proofs.rounding.ModesAgree.{pick_on_grid}
+use Rattle.apfloat_model.proofs.general.Choices.{where_open, by_order}
+use Rattle.round_to_odd.proofs.OddPoints.{twice_on_grid, wider_grid, sum_on_grid}
 use Rattle.round_to_odd.proofs.Sides.{SameSides}
-
--- what holds in each of the three orders of two numbers holds
-by_order : (P : Type 0) (m n : ℕ) → (m < n → P) → (m ≡ n → P) → (n < m → P) → P
-by_order P m n l e g =
-    ⊎_elim l (λ (h : n ≤ m). ⊎_elim g (λ (k : m ≤ n). e (omega arith)) (cases_lt n m)) (cases_lt m n)
 
 -- two magnitudes on the same side of the midpoint take the same neighbour
 pub takes_alike : (mode : Round) (negative odd : Bool) (low high x b y d : ℕ) → low * b ≤ x → x ≤ high * b
@@ -142,12 +141,6 @@ module _ (precision a b c d : ℕ) (halves : SameSides (precision + 1) 2 a b c d
       (λ q. let k = halves.more n g q in
       le-leb (2 * a) (n * b) (omega (arith, q)) ∙ sym (le-leb (2 * c) (n * d) (omega (arith, k))))
 
--- two chains of tests agree if they agree wherever the earlier tests leave the choice open
-where_open : (x y t u : Bool) → (x ≡ false → y ≡ true → t ≡ u) → (x || (y && not t)) ≡ (x || (y && not u))
-where_open true y t u h = refl
-where_open false false t u h = refl
-where_open false true t u h = ap (λ (b : Bool). not b) (h refl refl)
-
 -- a number below a power of two is on the grid of that many digits
 few_on_grid : (digits n : ℕ) → n < 2 ^ digits → IsOnGrid digits n
 few_on_grid digits n h = record { significand = n; place = 0; fits = h; is = omega arith }
@@ -181,18 +174,6 @@ below_normal_same precision a b c d mode negative halves quarters =
     (λ q. let k = quarters.more (last + next) g₃ (omega (arith, q)) in omega (arith, k))) ∙
     ap (λ (x : Bool). x || (ltb (2 * a) (next * b) && not u)) e₁ ∙
     ap (λ (y : Bool). leb (2 * c) (last * d) || (y && not u)) e₂
-
--- a pick is on the grid
-pub pick_on_grid : (precision : ℕ) (mode : Round) (negative : Bool) (amount parts pick : ℕ)
-    → IsPick precision mode negative amount parts pick → IsOnGrid precision pick
-pick_on_grid precision mode negative amount parts pick x =
-    subst (λ (z : ℕ). IsOnGrid precision z) (sym x.is)
-    (either (takes_above mode negative (amount - x.below * parts) (x.above * parts - amount)
-    (eqb (x.below / (x.above - x.below) % 2) 1)))
-  where
-    either : (test : Bool) → IsOnGrid precision (cond test x.above x.below)
-    either true = x.is_above.on_grid
-    either false = x.is_below.on_grid
 
 -- of three rules of tininess, the one that is chosen agrees
 by_rule : (before ieee x y z w r : Bool) → x ≡ y → ((ieee && not before) ≡ true → z ≡ w)

@@ -25,9 +25,9 @@ use Rattle.apfloat_model.proofs.rounding.Laws.{delivered_once, exact_delivered}
 use Rattle.apfloat_model.proofs.whole_numbers.SignedTests.{less_so, less_not}
 use Rattle.round_to_odd.specs.Wholes.{odd_whole, odd_within, to_odd_unsigned, to_odd_signed, IsOddWhole, IsRoundToOddIntegral}
 use Rattle.apfloat_model.proofs.formats.LawfulRanges.{HasRanges}
+use Rattle.apfloat_model.proofs.rounding.Deliveries.{quanta_are}
+use Rattle.apfloat_model.proofs.order.Categories.{zero_only}
 use Rattle.round_to_odd.proofs.LastDigits.{half_is_whole}
-use Rattle.round_to_odd.proofs.MadeOdd.{quanta_are}
-use Rattle.round_to_odd.proofs.Moved.{zero_only}
 
 -- the mode that rounds away from zero on the side of that sign
 abbrev pub outward_mode : Bool → Round

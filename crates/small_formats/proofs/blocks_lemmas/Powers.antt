@@ -13,7 +13,7 @@ use Rattle.apfloat_model.specs.formats.Formats.{bfloat_constants}
 use Rattle.apfloat_model.specs.formats.Lawful.{format_with}
 use Rattle.apfloat_model.specs.formats.Members.{IsFiniteOf}
 use Rattle.apfloat_model.proofs.general.Powers.{two_pos}
-use Rattle.round_to_odd.proofs.OddPoints.{power_on_grid}
+use Rattle.apfloat_model.proofs.rounding.FarMagnitudes.{power_on_grid}
 
 pub scale_quanta : (code : ℕ) → 2 ^ (code + 6) * 2 ^ 127 ≡ 2 ^ code * 2 ^ 133
 scale_quanta code =
