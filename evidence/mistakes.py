@@ -67,6 +67,8 @@ QUAD_THIRD = f"quad div even {ONE} {quad('40008')}\t3ffd{'5' * 28} INEXACT"
 QUAD_FUSED = wide_fused(
     "down", (quad("1fc8"), quad("1fc88"), quad("8", "1")), quad(""), "UNDERFLOW|INEXACT"
 )
+# more than half a quantum by the last of 106 digits
+LONG_DENORMAL = "double mul even 1e5fe4da4f6d2b35 1e500d9e65f9c0b7\t0000000000000001 UNDERFLOW|INEXACT"
 QUAD_CANCELLED = wide_fused("down", (ONE, ONE, quad("bfff")), quad("8"), "OK")
 QUAD_PRODUCT = call(
     "wide_mul_r", "quad", "even", f"{quad('3fff', '1')} {quad('3fff', '3')}", quad("3fff", "4"), "INEXACT", "-"
@@ -84,6 +86,7 @@ MISTAKES = {
         ("apfloat_conversions", "", JUST_ABOVE_TIE),
         ("apfloat_rounding", "-kernel", JUST_ABOVE_TIE),
         ("apfloat_rounding", "-low-word", LONG_INTEGER),
+        ("apfloat_rounding", "-denormal", LONG_DENORMAL),
     ],
     "overflow-always-infinity": [
         ("apfloat_rounding", "", "e4m3fn int zero 480\t7e INEXACT"),

@@ -31,6 +31,8 @@ mod odd;
 #[cfg(test)]
 mod pairs;
 #[cfg(test)]
+mod program;
+#[cfg(test)]
 mod projections;
 #[cfg(test)]
 mod quotients;
