@@ -37,3 +37,16 @@ returns-clause-picked c =
     c.round_fraction.ensures.picked (quanta_at s.min_exp m x) (2 ^ (format_at s).scale) (pow_pos (format_at s).scale)
     (fraction_places s m c.steps_between.result x c.args.exponent n
     (rw (exponent_word s m x n) c.requires.last) k)
+
+pub steps_between-requires-clause-above : goal.steps_between-requires-clause-above
+steps_between-requires-clause-above c = omega (arith, ints, c.args.shape.parameters, c.requires)
+
+pub steps_between-requires-clause-high : goal.steps_between-requires-clause-high
+steps_between-requires-clause-high c = record { low = omega (arith, ints); high = omega (arith, ints) }
+
+pub steps_between-requires-clause-low : goal.steps_between-requires-clause-low
+steps_between-requires-clause-low c =
+    record {
+      low = omega (arith, ints, c.args.shape.parameters, c.requires.normal.operand, c.requires.last);
+      high = omega (arith, ints, c.args.shape.parameters, c.requires.normal.operand, c.requires.last);
+    }

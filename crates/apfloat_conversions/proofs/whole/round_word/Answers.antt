@@ -1,5 +1,6 @@
 use Rattle.std.proofs.Common.{◌≡◌, ◌-◌, ◌*◌, ◌^◌, ◌∙◌, arith}
 use Rattle.std.proofs.Math.Nat.{mod-eq_of_lt}
+use Rattle.std.proofs.lemmas.Int.{ints}
 use Rattle.std.proofs.lemmas.Nat.{pow_pos}
 use Rattle.apfloat_rounding.specs.Shapes.{format_at}
 use Rattle.apfloat_rounding.specs.Stored.{quanta_at}
@@ -29,3 +30,23 @@ returns c =
     let p = word_places s m c.steps_between-places.result e n c.requires.short k in
     c.round_fraction.ensures.picked (quanta_at s.min_exp m e) (2 ^ (format_at s).scale) (pow_pos (format_at s).scale)
     (rw (top (goal.at.returns c).After-from) p)
+
+pub steps_between-places-requires-clause-above : goal.steps_between-places-requires-clause-above
+steps_between-places-requires-clause-above c =
+    omega (arith, ints, c.args.shape.parameters, c.requires.normal.operand, c.requires.small)
+
+pub steps_between-places-requires-clause-high : goal.steps_between-places-requires-clause-high
+steps_between-places-requires-clause-high c = record { low = omega (arith, ints); high = omega (arith, ints) }
+
+pub steps_between-places-requires-clause-low : goal.steps_between-places-requires-clause-low
+steps_between-places-requires-clause-low c =
+    record {
+      low = omega (arith, ints, c.args.shape.parameters, c.requires.normal.operand);
+      high = omega (arith, ints, c.args.shape.parameters, c.requires.normal.operand);
+    }
+
+pub round_fraction-requires-clause-some : goal.round_fraction-requires-clause-some
+round_fraction-requires-clause-some c =
+    let e = exponent_word c.args.shape c.args.x.significand c.args.x.exponent c.requires.normal in
+    let k = rw e at c.steps_between-places.ensures in
+    omega (arith, ints, c.requires.small, k)
