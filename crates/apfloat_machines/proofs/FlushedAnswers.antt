@@ -1,8 +1,7 @@
 -- What `flushed` makes of the answer of an operation is what its definition says of the operation with flushing.
-use Rattle.std.proofs.Common.{◌≡◌, ℕ, ◌*◌, ◌^◌, ◌<◌, ◌≤◌, Bool, true, false, not, ◌&&◌, eqb, sym, refl, ap, ◌∙◌, subst, ⊎_elim, if◌then◌else◌, arith}
+use Rattle.std.proofs.Common.{◌≡◌, ℕ, ◌*◌, ◌^◌, ◌<◌, ◌≤◌, Bool, true, false, not, eqb, sym, refl, ◌∙◌, subst, if◌then◌else◌, lit<, arith}
 use Rattle.std.specs.Bool.{MatchBool}
 use Rattle.std.proofs.lemmas.Nat.{pow_pos}
-use Rattle.std.proofs.lemmas.Bool.{cases_lt, eq-eqb, false≢true}
 use Rattle.apfloat_model.specs.declared.kinds.Round.{Round}
 use Rattle.apfloat_model.specs.declared.kinds.NonfiniteBehavior.{NonfiniteBehavior}
 use Rattle.apfloat_model.specs.declared.kinds.NonfiniteBehavior.TheVariants.{IEEE754, NanOnly, NanNegativeZero}
@@ -10,26 +9,26 @@ use Rattle.apfloat_model.specs.declared.status.StatusAnd.{StatusAnd}
 use Rattle.apfloat_model.specs.rounding.Flags.{bits_of}
 use Rattle.apfloat_model.specs.formats.Format.{Format, smallest_normalized, largest, nan_base}
 use Rattle.apfloat_model.specs.formats.Datum.{Datum, finite, infinite, nan}
-use Rattle.apfloat_model.specs.formats.Constants.{infinity_of}
-use Rattle.apfloat_model.specs.formats.Nan.{invalid_bit, invalid_if, is_signaling, qnan, IsInvalid}
-use Rattle.apfloat_model.specs.rounding.Rounding.{ok_bits, inexact_bit, past_largest, zero_sign, IsDelivered}
+use Rattle.apfloat_model.specs.formats.Nan.{invalid_if, is_signaling}
+use Rattle.apfloat_model.specs.rounding.Rounding.{ok_bits, inexact_bit, past_largest, zero_sign}
 use Rattle.apfloat_model.specs.rounding.Negation.{negated}
 use Rattle.apfloat_model.specs.rounding.Answer.{IsAnswer}
-use Rattle.apfloat_model.specs.order.Classes.{is_finite}
-use Rattle.apfloat_model.specs.arithmetic.Exact.{same_sign, product_sign}
-use Rattle.apfloat_model.specs.arithmetic.Sums.{IsSum, IsDifference}
-use Rattle.apfloat_model.specs.arithmetic.Products.{IsProduct}
-use Rattle.apfloat_model.specs.arithmetic.Quotients.{IsQuotient, div_by_zero_bit}
-use Rattle.apfloat_model.specs.arithmetic.FusedSums.{IsSumWithProduct, IsFusedSum}
+use Rattle.apfloat_model.specs.rounding.Outcome.{Outcome, settled, rounded, totalled, rooted, Yields}
+use Rattle.apfloat_model.specs.arithmetic.Exact.{same_sign, product_sign, sign_of, magnitude, zero_sum_sign}
+use Rattle.apfloat_model.specs.arithmetic.Sums.{sum, difference}
+use Rattle.apfloat_model.specs.arithmetic.Products.{product}
+use Rattle.apfloat_model.specs.arithmetic.Quotients.{quotient, div_by_zero_bit}
+use Rattle.apfloat_model.specs.arithmetic.FusedSums.{on_product, with_product, fused_sum}
 use Rattle.apfloat_model.specs.arithmetic.Conversions.{has_infinities, loses_zero_sign, IsKept, IsConvertedNumber, IsConversion}
-use Rattle.apfloat_model.proofs.Once.{Once, answer_once, sum_once, difference_once, product_once, quotient_once, fused_sum_once, conversion_once}
+use Rattle.apfloat_model.proofs.Once.{Once, answer_once, delivered_root_once}
 use Rattle.apfloat_model.proofs.Determined.{gives_once}
 use Rattle.apfloat_model.proofs.formats.Ranges.{half_within}
-use Rattle.apfloat_model.proofs.general.Choices.{match_case}
+use Rattle.apfloat_model.proofs.general.Choices.{match_case, if_case, above_zero}
 use Rattle.apfloat_machines.specs.declared.flushing.Flush.{Flush}
 use Rattle.apfloat_machines.specs.Flushing.{zero_like, is_flushed, flush_flags, IsFlushed, IsRoundedOrFlushed}
-use Rattle.apfloat_machines.specs.FlushedOperations.{IsFlushedSum, IsFlushedDifference, IsFlushedProduct, IsFlushedQuotient, IsFlushedFusedSum, IsFlushedConversion, AreFlushed, FlushedHaveOneAnswer}
+use Rattle.apfloat_machines.specs.FlushedOperations.{YieldsFlushed, IsFlushedConversion, AreFlushed, FlushedHaveOneAnswer}
 use Rattle.apfloat_machines.proofs.Flushes.{rounded_or_flushed, rounded_or_flushed_once}
+use Rattle.apfloat_machines.proofs.Once.{converted_once}
 
 -- ---- answers that are not flushed
 
@@ -49,13 +48,6 @@ unchanged f flush Says given value flags status e h says =
 kept : (f : Format) (datum given : Datum) (bits flags : ℕ) → is_flushed f datum bits ≡ false
     → IsAnswer datum bits given flags → is_flushed f given flags ≡ false
 kept f datum given bits flags e h = rw (h.value_is, h.status_is) e
-
-kept_either : (f : Format) (test : Bool) (datum other given : Datum) (bits other_bits flags : ℕ)
-    → is_flushed f datum bits ≡ false → is_flushed f other other_bits ≡ false
-    → MatchBool test (IsAnswer datum bits given flags) (IsAnswer other other_bits given flags)
-    → is_flushed f given flags ≡ false
-kept_either f true datum other given bits other_bits flags e d h = kept f datum given bits flags e h
-kept_either f false datum other given bits other_bits flags e d h = kept f other given other_bits flags d h
 
 nan_kept : (f : Format) (b : Bool) (s : ℕ) (signaling : Bool) → is_flushed f (nan b s) (invalid_if signaling) ≡ false
 nan_kept f b s true = refl
@@ -80,205 +72,90 @@ zero_kept : (f : Format) (b test : Bool) → is_flushed f (finite b 0) (if test 
 zero_kept f b true = refl
 zero_kept f b false = refl
 
--- ---- sums
+-- ---- outcomes
 
-special_sum : (f : Format) (mode : Round) (x y given : Datum) (flags : ℕ) → (is_finite x && is_finite y) ≡ false
-    → IsSum f mode x y given flags → is_flushed f given flags ≡ false
-special_sum f mode (nan b s) y given flags e h = kept f _ given _ flags (nan_kept f b s _) h
-special_sum f mode (finite b m) (nan c t) given flags e h = kept f _ given _ flags (nan_kept f c t _) h
-special_sum f mode (infinite b) (nan c t) given flags e h = kept f _ given _ flags (nan_kept f c t _) h
-special_sum f mode (infinite b) (infinite c) given flags e h =
-    kept_either f (same_sign b c) (infinite b) (qnan f 0) given ok_bits invalid_bit flags refl
-    (nan_kept f false 0 true) h
-special_sum f mode (infinite b) (finite c n) given flags e h = kept f (infinite b) given ok_bits flags refl h
-special_sum f mode (finite b m) (infinite c) given flags e h = kept f (infinite c) given ok_bits flags refl h
-special_sum f mode (finite b m) (finite c n) given flags e h = cc
+-- the outcomes of the operations with flushing: what is settled is not tiny, and none is a root
+abbrev IsUnflushed : Format → Outcome → Type 0
+IsUnflushed f (settled datum flags) = is_flushed f datum flags ≡ false
+IsUnflushed f (rounded negative amount parts) = 0 < parts
+IsUnflushed f (totalled left right exact parts) = 0 < parts
+IsUnflushed f (rooted square) = ⊥
 
-sum_flushed : (f : Format) (flush : Flush) (mode : Round) (x y given value : Datum) (flags status : ℕ)
-    → 0 < f.precision → smallest_normalized f ≤ largest f → IsSum f mode x y given flags
-    → IsFlushed f flush given flags value status → IsFlushedSum f flush mode x y value status
-sum_flushed f flush mode (finite b m) (finite c n) given value flags status p l h k =
-    rounded_or_flushed f flush mode _ _ 1 given value flags status p l (omega arith) h k
-sum_flushed f flush mode (nan b s) y given value flags status p l h k =
-    unchanged f flush (IsSum f mode (nan b s) y) given value flags status
-    (special_sum f mode (nan b s) y given flags refl h) k h
-sum_flushed f flush mode (infinite b) y given value flags status p l h k =
-    unchanged f flush (IsSum f mode (infinite b) y) given value flags status
-    (special_sum f mode (infinite b) y given flags refl h) k h
-sum_flushed f flush mode (finite b m) (nan c t) given value flags status p l h k =
-    unchanged f flush (IsSum f mode (finite b m) (nan c t)) given value flags status
-    (special_sum f mode (finite b m) (nan c t) given flags refl h) k h
-sum_flushed f flush mode (finite b m) (infinite c) given value flags status p l h k =
-    unchanged f flush (IsSum f mode (finite b m) (infinite c)) given value flags status
-    (special_sum f mode (finite b m) (infinite c) given flags refl h) k h
+outcome_flushed : (f : Format) (flush : Flush) (mode : Round) (outcome : Outcome) (given value : Datum)
+    (flags status : ℕ) → 0 < f.precision → smallest_normalized f ≤ largest f → IsUnflushed f outcome
+    → Yields f mode outcome given flags → IsFlushed f flush given flags value status
+    → YieldsFlushed f flush mode outcome value status
+outcome_flushed f flush mode (settled datum bits) given value flags status p l u h k =
+    unchanged f flush (IsAnswer datum bits) given value flags status (kept f datum given bits flags u h) k h
+outcome_flushed f flush mode (rounded negative amount parts) given value flags status p l u h k =
+    rounded_or_flushed f flush mode negative amount parts given value flags status p l u h k
+outcome_flushed f flush mode (totalled left right exact parts) given value flags status p l u h k =
+    rounded_or_flushed f flush mode (sign_of (zero_sum_sign mode left right) exact) (magnitude exact) parts given value
+    flags status p l u h k
+outcome_flushed f flush mode (rooted square) given value flags status p l u h k = absurd u
 
-difference_flushed : (f : Format) (flush : Flush) (mode : Round) (x y given value : Datum) (flags status : ℕ)
-    → 0 < f.precision → smallest_normalized f ≤ largest f → IsDifference f mode x y given flags
-    → IsFlushed f flush given flags value status → IsFlushedDifference f flush mode x y value status
-difference_flushed f flush mode (nan b s) y given value flags status p l h k =
-    unchanged f flush (IsDifference f mode (nan b s) y) given value flags status
-    (kept f _ given _ flags (nan_kept f b s _) h) k h
-difference_flushed f flush mode (finite b m) (nan c t) given value flags status p l h k =
-    unchanged f flush (IsDifference f mode (finite b m) (nan c t)) given value flags status
-    (kept f _ given _ flags (nan_kept f c t _) h) k h
-difference_flushed f flush mode (infinite b) (nan c t) given value flags status p l h k =
-    unchanged f flush (IsDifference f mode (infinite b) (nan c t)) given value flags status
-    (kept f _ given _ flags (nan_kept f c t _) h) k h
-difference_flushed f flush mode (finite b m) (finite c n) given value flags status p l h k =
-    sum_flushed f flush mode (finite b m) (negated f.nonfinite (finite c n)) given value flags status p l h k
-difference_flushed f flush mode (finite b m) (infinite c) given value flags status p l h k =
-    sum_flushed f flush mode (finite b m) (negated f.nonfinite (infinite c)) given value flags status p l h k
-difference_flushed f flush mode (infinite b) (finite c n) given value flags status p l h k =
-    sum_flushed f flush mode (infinite b) (negated f.nonfinite (finite c n)) given value flags status p l h k
-difference_flushed f flush mode (infinite b) (infinite c) given value flags status p l h k =
-    sum_flushed f flush mode (infinite b) (negated f.nonfinite (infinite c)) given value flags status p l h k
+sum_unflushed : (f : Format) (x y : Datum) → IsUnflushed f (sum f x y)
+sum_unflushed f (nan b s) y = nan_kept f b s _
+sum_unflushed f (finite b m) (nan c t) = nan_kept f c t _
+sum_unflushed f (infinite b) (nan c t) = nan_kept f c t _
+sum_unflushed f (infinite b) (infinite c) =
+    if_case (IsUnflushed f) (same_sign b c) (λ e. refl) (λ e. refl)
+sum_unflushed f (infinite b) (finite c n) = refl
+sum_unflushed f (finite b m) (infinite c) = refl
+sum_unflushed f (finite b m) (finite c n) = lit< tt
 
--- ---- products
+difference_unflushed : (f : Format) (x y : Datum) → IsUnflushed f (difference f x y)
+difference_unflushed f (nan b s) y = nan_kept f b s _
+difference_unflushed f (finite b m) (nan c t) = nan_kept f c t _
+difference_unflushed f (infinite b) (nan c t) = nan_kept f c t _
+difference_unflushed f (finite b m) (finite c n) = sum_unflushed f (finite b m) (negated f.nonfinite (finite c n))
+difference_unflushed f (finite b m) (infinite c) = sum_unflushed f (finite b m) (negated f.nonfinite (infinite c))
+difference_unflushed f (infinite b) (finite c n) = sum_unflushed f (infinite b) (negated f.nonfinite (finite c n))
+difference_unflushed f (infinite b) (infinite c) = sum_unflushed f (infinite b) (negated f.nonfinite (infinite c))
 
--- a product with an operand that is not finite is not finite, and is not flushed
-abbrev IsKeptProduct : Format → Datum → ℕ → Type 0
-IsKeptProduct f product flags = (is_finite product ≡ false) × (is_flushed f product flags ≡ false)
+product_unflushed : (f : Format) (x y : Datum) → IsUnflushed f (product f x y)
+product_unflushed f (nan b s) y = nan_kept f b s _
+product_unflushed f (finite b m) (nan c t) = nan_kept f c t _
+product_unflushed f (infinite b) (nan c t) = nan_kept f c t _
+product_unflushed f (finite b m) (infinite c) =
+    if_case (IsUnflushed f) (eqb m 0) (λ e. refl) (λ e. refl)
+product_unflushed f (infinite b) (finite c n) =
+    if_case (IsUnflushed f) (eqb n 0) (λ e. refl) (λ e. refl)
+product_unflushed f (infinite b) (infinite c) = refl
+product_unflushed f (finite b m) (finite c n) = pow_pos f.scale
 
-kept_product : (f : Format) (datum product : Datum) (bits flags : ℕ) → IsKeptProduct f datum bits
-    → IsAnswer datum bits product flags → IsKeptProduct f product flags
-kept_product f datum product bits flags e h = rw (h.value_is, h.status_is) e
+quotient_unflushed : (f : Format) (x y : Datum) → IsUnflushed f (quotient f x y)
+quotient_unflushed f (nan b s) y = nan_kept f b s _
+quotient_unflushed f (finite b m) (nan c t) = nan_kept f c t _
+quotient_unflushed f (infinite b) (nan c t) = nan_kept f c t _
+quotient_unflushed f (infinite b) (infinite c) = refl
+quotient_unflushed f (infinite b) (finite c n) = refl
+quotient_unflushed f (finite b m) (infinite c) = zero_kept f (zero_sign f.nonfinite (product_sign b c)) false
+quotient_unflushed f (finite b m) (finite c n) =
+    if_case (IsUnflushed f) (eqb n 0)
+    (λ e. if_case (IsUnflushed f) (eqb m 0) (λ d. refl)
+    (λ d. divided_kept f f.nonfinite (nan_base f) (product_sign b c)))
+    (above_zero n)
 
-either_product : (f : Format) (test : Bool) (datum other product : Datum) (bits other_bits flags : ℕ)
-    → IsKeptProduct f datum bits → IsKeptProduct f other other_bits
-    → MatchBool test (IsAnswer datum bits product flags) (IsAnswer other other_bits product flags)
-    → IsKeptProduct f product flags
-either_product f true datum other product bits other_bits flags e d h = kept_product f datum product bits flags e h
-either_product f false datum other product bits other_bits flags e d h =
-    kept_product f other product other_bits flags d h
+on_product_unflushed : (f : Format) (z : Datum) (outcome : Outcome) → IsUnflushed f outcome
+    → IsUnflushed f (on_product f z outcome)
+on_product_unflushed f z (settled datum flags) u =
+    if_case (IsUnflushed f) (eqb flags ok_bits) (λ e. sum_unflushed f datum z) (λ e. u)
+on_product_unflushed f z (rounded negative amount parts) u = u
+on_product_unflushed f z (totalled left right exact parts) u = u
+on_product_unflushed f z (rooted square) u = u
 
-special_product : (f : Format) (mode : Round) (x y product : Datum) (flags : ℕ)
-    → (is_finite x && is_finite y) ≡ false → IsProduct f mode x y product flags → IsKeptProduct f product flags
-special_product f mode (nan b s) y product flags e h = kept_product f _ product _ flags (refl, nan_kept f b s _) h
-special_product f mode (finite b m) (nan c t) product flags e h =
-    kept_product f _ product _ flags (refl, nan_kept f c t _) h
-special_product f mode (infinite b) (nan c t) product flags e h =
-    kept_product f _ product _ flags (refl, nan_kept f c t _) h
-special_product f mode (finite b m) (infinite c) product flags e h =
-    either_product f (eqb m 0) (qnan f 0) (infinite (product_sign b c)) product invalid_bit ok_bits flags
-    (refl, nan_kept f false 0 true) (refl, refl) h
-special_product f mode (infinite b) (finite c n) product flags e h =
-    either_product f (eqb n 0) (qnan f 0) (infinite (product_sign b c)) product invalid_bit ok_bits flags
-    (refl, nan_kept f false 0 true) (refl, refl) h
-special_product f mode (infinite b) (infinite c) product flags e h =
-    kept_product f (infinite (product_sign b c)) product ok_bits flags (refl, refl) h
-special_product f mode (finite b m) (finite c n) product flags e h = cc
+with_product_unflushed : (f : Format) (x y z : Datum) → IsUnflushed f (with_product f x y z)
+with_product_unflushed f x y z = on_product_unflushed f z (product f x y) (product_unflushed f x y)
 
-product_flushed : (f : Format) (flush : Flush) (mode : Round) (x y given value : Datum) (flags status : ℕ)
-    → 0 < f.precision → smallest_normalized f ≤ largest f → IsProduct f mode x y given flags
-    → IsFlushed f flush given flags value status → IsFlushedProduct f flush mode x y value status
-product_flushed f flush mode (finite b m) (finite c n) given value flags status p l h k =
-    rounded_or_flushed f flush mode _ _ (2 ^ f.scale) given value flags status p l (pow_pos f.scale) h k
-product_flushed f flush mode (nan b s) y given value flags status p l h k =
-    unchanged f flush (IsProduct f mode (nan b s) y) given value flags status
-    (special_product f mode (nan b s) y given flags refl h).1 k h
-product_flushed f flush mode (infinite b) y given value flags status p l h k =
-    unchanged f flush (IsProduct f mode (infinite b) y) given value flags status
-    (special_product f mode (infinite b) y given flags refl h).1 k h
-product_flushed f flush mode (finite b m) (nan c t) given value flags status p l h k =
-    unchanged f flush (IsProduct f mode (finite b m) (nan c t)) given value flags status
-    (special_product f mode (finite b m) (nan c t) given flags refl h).1 k h
-product_flushed f flush mode (finite b m) (infinite c) given value flags status p l h k =
-    unchanged f flush (IsProduct f mode (finite b m) (infinite c)) given value flags status
-    (special_product f mode (finite b m) (infinite c) given flags refl h).1 k h
-
--- ---- quotients
-
-some_parts : (n : ℕ) → eqb n 0 ≡ false → 0 < n
-some_parts n e =
-    ⊎_elim (λ (h : 0 < n). h)
-    (λ (h : n ≤ 0). absurd (false≢true (sym e ∙ eq-eqb n 0 (omega (arith, h)))))
-    (cases_lt 0 n)
-
--- two numbers, by whether each is a zero
-quotient_of_numbers : (f : Format) (flush : Flush) (mode : Round) (by_zero of_zero negative : Bool) (amount parts : ℕ)
-    (given value : Datum) (flags status : ℕ) → 0 < f.precision → smallest_normalized f ≤ largest f
-    → (by_zero ≡ false → 0 < parts)
-    → MatchBool by_zero (MatchBool of_zero (IsInvalid f given flags)
-    (IsAnswer (infinity_of f negative) div_by_zero_bit given flags))
-    (IsDelivered f mode negative amount parts given flags)
-    → IsFlushed f flush given flags value status
-    → MatchBool by_zero (MatchBool of_zero (IsInvalid f value status)
-    (IsAnswer (infinity_of f negative) div_by_zero_bit value status))
-    (IsRoundedOrFlushed f flush mode negative amount parts value status)
-quotient_of_numbers f flush mode true true negative amount parts given value flags status p l some h k =
-    unchanged f flush (IsInvalid f) given value flags status
-    (kept f (qnan f 0) given invalid_bit flags (nan_kept f false 0 true) h) k h
-quotient_of_numbers f flush mode true false negative amount parts given value flags status p l some h k =
-    unchanged f flush (IsAnswer (infinity_of f negative) div_by_zero_bit) given value flags status
-    (kept f (infinity_of f negative) given div_by_zero_bit flags
-    (divided_kept f f.nonfinite (nan_base f) negative) h) k h
-quotient_of_numbers f flush mode false of_zero negative amount parts given value flags status p l some h k =
-    rounded_or_flushed f flush mode negative amount parts given value flags status p l (some refl) h k
-
-quotient_flushed : (f : Format) (flush : Flush) (mode : Round) (x y given value : Datum) (flags status : ℕ)
-    → 0 < f.precision → smallest_normalized f ≤ largest f → IsQuotient f mode x y given flags
-    → IsFlushed f flush given flags value status → IsFlushedQuotient f flush mode x y value status
-quotient_flushed f flush mode (nan b s) y given value flags status p l h k =
-    unchanged f flush (IsQuotient f mode (nan b s) y) given value flags status
-    (kept f _ given _ flags (nan_kept f b s _) h) k h
-quotient_flushed f flush mode (finite b m) (nan c t) given value flags status p l h k =
-    unchanged f flush (IsQuotient f mode (finite b m) (nan c t)) given value flags status
-    (kept f _ given _ flags (nan_kept f c t _) h) k h
-quotient_flushed f flush mode (infinite b) (nan c t) given value flags status p l h k =
-    unchanged f flush (IsQuotient f mode (infinite b) (nan c t)) given value flags status
-    (kept f _ given _ flags (nan_kept f c t _) h) k h
-quotient_flushed f flush mode (infinite b) (infinite c) given value flags status p l h k =
-    unchanged f flush (IsQuotient f mode (infinite b) (infinite c)) given value flags status
-    (kept f (qnan f 0) given invalid_bit flags (nan_kept f false 0 true) h) k h
-quotient_flushed f flush mode (infinite b) (finite c n) given value flags status p l h k =
-    unchanged f flush (IsQuotient f mode (infinite b) (finite c n)) given value flags status
-    (kept f (infinite (product_sign b c)) given ok_bits flags refl h) k h
-quotient_flushed f flush mode (finite b m) (infinite c) given value flags status p l h k =
-    unchanged f flush (IsQuotient f mode (finite b m) (infinite c)) given value flags status
-    (kept f (finite (zero_sign f.nonfinite (product_sign b c)) 0) given ok_bits flags refl h) k h
-quotient_flushed f flush mode (finite b m) (finite c n) given value flags status p l h k =
-    quotient_of_numbers f flush mode (eqb n 0) (eqb m 0) (product_sign b c) (m * 2 ^ f.scale) n given value flags
-    status p l (some_parts n) h k
-
--- ---- fused sums
-
-with_product : (f : Format) (mode : Round) (test : Bool) (product z given : Datum) (product_flags flags : ℕ)
-    → IsKeptProduct f product product_flags
-    → MatchBool test (IsSum f mode product z given flags) (IsAnswer product product_flags given flags)
-    → is_flushed f given flags ≡ false
-with_product f mode true product z given product_flags flags e h =
-    special_sum f mode product z given flags (rw e.0 refl) h
-with_product f mode false product z given product_flags flags e h = kept f product given product_flags flags e.1 h
-
-special_factors : (f : Format) (mode : Round) (x y z given : Datum) (flags : ℕ) → (is_finite x && is_finite y) ≡ false
-    → IsSumWithProduct f mode x y z given flags → is_flushed f given flags ≡ false
-special_factors f mode x y z given flags e h =
-    with_product f mode (eqb h.flags ok_bits) h.product z given h.flags flags
-    (special_product f mode x y h.product h.flags e h.is_product) h.is
-
-fused_sum_flushed : (f : Format) (flush : Flush) (mode : Round) (x y z given value : Datum) (flags status : ℕ)
-    → 0 < f.precision → smallest_normalized f ≤ largest f → IsFusedSum f mode x y z given flags
-    → IsFlushed f flush given flags value status → IsFlushedFusedSum f flush mode x y z value status
-fused_sum_flushed f flush mode (finite b a) (finite c m) (finite d n) given value flags status p l h k =
-    rounded_or_flushed f flush mode _ _ (2 ^ f.scale) given value flags status p l (pow_pos f.scale) h k
-fused_sum_flushed f flush mode (finite b a) (finite c m) (infinite d) given value flags status p l h k =
-    unchanged f flush (IsSum f mode (finite b a) (infinite d)) given value flags status
-    (special_sum f mode (finite b a) (infinite d) given flags refl h) k h
-fused_sum_flushed f flush mode (finite b a) (finite c m) (nan d t) given value flags status p l h k =
-    unchanged f flush (IsSum f mode (finite b a) (nan d t)) given value flags status
-    (special_sum f mode (finite b a) (nan d t) given flags refl h) k h
-fused_sum_flushed f flush mode (finite b a) (infinite c) z given value flags status p l h k =
-    unchanged f flush (IsSumWithProduct f mode (finite b a) (infinite c) z) given value flags status
-    (special_factors f mode (finite b a) (infinite c) z given flags refl h) k h
-fused_sum_flushed f flush mode (finite b a) (nan c t) z given value flags status p l h k =
-    unchanged f flush (IsSumWithProduct f mode (finite b a) (nan c t) z) given value flags status
-    (special_factors f mode (finite b a) (nan c t) z given flags refl h) k h
-fused_sum_flushed f flush mode (infinite b) y z given value flags status p l h k =
-    unchanged f flush (IsSumWithProduct f mode (infinite b) y z) given value flags status
-    (special_factors f mode (infinite b) y z given flags refl h) k h
-fused_sum_flushed f flush mode (nan b s) y z given value flags status p l h k =
-    unchanged f flush (IsSumWithProduct f mode (nan b s) y z) given value flags status
-    (special_factors f mode (nan b s) y z given flags refl h) k h
+fused_sum_unflushed : (f : Format) (x y z : Datum) → IsUnflushed f (fused_sum f x y z)
+fused_sum_unflushed f (finite b l) (finite c m) (finite d n) = pow_pos f.scale
+fused_sum_unflushed f (finite b l) (finite c m) (infinite d) = sum_unflushed f (finite b l) (infinite d)
+fused_sum_unflushed f (finite b l) (finite c m) (nan d t) = sum_unflushed f (finite b l) (nan d t)
+fused_sum_unflushed f (finite b l) (infinite c) z = with_product_unflushed f (finite b l) (infinite c) z
+fused_sum_unflushed f (finite b l) (nan c t) z = with_product_unflushed f (finite b l) (nan c t) z
+fused_sum_unflushed f (infinite b) y z = with_product_unflushed f (infinite b) y z
+fused_sum_unflushed f (nan b s) y z = with_product_unflushed f (nan b s) y z
 
 -- ---- conversions
 
@@ -330,91 +207,43 @@ are_flushed f flush answer result precise k =
     let r = bits_of answer.status in
     let s = bits_of result.status in
     record {
-      sum = λ mode x y h. sum_flushed f flush mode x y a v r s p l h k;
-      difference = λ mode x y h. difference_flushed f flush mode x y a v r s p l h k;
-      product = λ mode x y h. product_flushed f flush mode x y a v r s p l h k;
-      quotient = λ mode x y h. quotient_flushed f flush mode x y a v r s p l h k;
-      fused_sum = λ mode x y z h. fused_sum_flushed f flush mode x y z a v r s p l h k;
+      sum = λ mode x y h. outcome_flushed f flush mode (sum f x y) a v r s p l (sum_unflushed f x y) h k;
+      difference = λ mode x y h.
+          outcome_flushed f flush mode (difference f x y) a v r s p l (difference_unflushed f x y) h k;
+      product = λ mode x y h. outcome_flushed f flush mode (product f x y) a v r s p l (product_unflushed f x y) h k;
+      quotient = λ mode x y h.
+          outcome_flushed f flush mode (quotient f x y) a v r s p l (quotient_unflushed f x y) h k;
+      fused_sum = λ mode x y z h.
+          outcome_flushed f flush mode (fused_sum f x y z) a v r s p l (fused_sum_unflushed f x y z) h k;
       conversion = λ source mode x loses h. conversion_flushed source f flush mode x loses a v r s p l h k;
     }
 
 -- ---- one answer
 
-pub sum_with_flush : (f : Format) (flush : Flush) (mode : Round) (x y : Datum) → Once (IsFlushedSum f flush mode x y)
-sum_with_flush f flush mode (finite b m) (finite c n) = rounded_or_flushed_once f flush mode _ _ _
-sum_with_flush f flush mode (nan b s) y = sum_once f mode (nan b s) y
-sum_with_flush f flush mode (infinite b) y = sum_once f mode (infinite b) y
-sum_with_flush f flush mode (finite b m) (nan c t) = sum_once f mode (finite b m) (nan c t)
-sum_with_flush f flush mode (finite b m) (infinite c) = sum_once f mode (finite b m) (infinite c)
-
-pub difference_with_flush : (f : Format) (flush : Flush) (mode : Round) (x y : Datum)
-    → Once (IsFlushedDifference f flush mode x y)
-difference_with_flush f flush mode (nan b s) y = difference_once f mode (nan b s) y
-difference_with_flush f flush mode (finite b m) (nan c t) = difference_once f mode (finite b m) (nan c t)
-difference_with_flush f flush mode (infinite b) (nan c t) = difference_once f mode (infinite b) (nan c t)
-difference_with_flush f flush mode (finite b m) (finite c n) =
-    sum_with_flush f flush mode (finite b m) (negated f.nonfinite (finite c n))
-difference_with_flush f flush mode (finite b m) (infinite c) =
-    sum_with_flush f flush mode (finite b m) (negated f.nonfinite (infinite c))
-difference_with_flush f flush mode (infinite b) (finite c n) =
-    sum_with_flush f flush mode (infinite b) (negated f.nonfinite (finite c n))
-difference_with_flush f flush mode (infinite b) (infinite c) =
-    sum_with_flush f flush mode (infinite b) (negated f.nonfinite (infinite c))
-
-pub product_with_flush : (f : Format) (flush : Flush) (mode : Round) (x y : Datum)
-    → Once (IsFlushedProduct f flush mode x y)
-product_with_flush f flush mode (finite b m) (finite c n) = rounded_or_flushed_once f flush mode _ _ _
-product_with_flush f flush mode (nan b s) y = product_once f mode (nan b s) y
-product_with_flush f flush mode (infinite b) y = product_once f mode (infinite b) y
-product_with_flush f flush mode (finite b m) (nan c t) = product_once f mode (finite b m) (nan c t)
-product_with_flush f flush mode (finite b m) (infinite c) = product_once f mode (finite b m) (infinite c)
-
-pub quotient_with_flush : (f : Format) (flush : Flush) (mode : Round) (x y : Datum)
-    → Once (IsFlushedQuotient f flush mode x y)
-quotient_with_flush f flush mode (finite b m) (finite c n) =
-    match_case Once (eqb n 0) (λ v s. MatchBool (eqb m 0) (IsAnswer _ _ v s) (IsAnswer _ _ v s))
-    (IsRoundedOrFlushed f flush mode _ _ _)
-    (match_case Once (eqb m 0) (IsAnswer _ _) (IsAnswer _ _) (answer_once _ _) (answer_once _ _))
-    (rounded_or_flushed_once f flush mode _ _ _)
-quotient_with_flush f flush mode (nan b s) y = quotient_once f mode (nan b s) y
-quotient_with_flush f flush mode (infinite b) y = quotient_once f mode (infinite b) y
-quotient_with_flush f flush mode (finite b m) (nan c t) = quotient_once f mode (finite b m) (nan c t)
-quotient_with_flush f flush mode (finite b m) (infinite c) = quotient_once f mode (finite b m) (infinite c)
-
-pub fused_sum_with_flush : (f : Format) (flush : Flush) (mode : Round) (x y z : Datum)
-    → Once (IsFlushedFusedSum f flush mode x y z)
-fused_sum_with_flush f flush mode (finite b l) (finite c m) (finite d n) =
-    rounded_or_flushed_once f flush mode _ _ _
-fused_sum_with_flush f flush mode (finite b l) (finite c m) (infinite d) =
-    fused_sum_once f mode (finite b l) (finite c m) (infinite d)
-fused_sum_with_flush f flush mode (finite b l) (finite c m) (nan d t) =
-    fused_sum_once f mode (finite b l) (finite c m) (nan d t)
-fused_sum_with_flush f flush mode (finite b l) (infinite c) z =
-    fused_sum_once f mode (finite b l) (infinite c) z
-fused_sum_with_flush f flush mode (finite b l) (nan c t) z = fused_sum_once f mode (finite b l) (nan c t) z
-fused_sum_with_flush f flush mode (infinite b) y z = fused_sum_once f mode (infinite b) y z
-fused_sum_with_flush f flush mode (nan b s) y z = fused_sum_once f mode (nan b s) y z
-
-any_loss_once : (f g : Format) (mode : Round) (x : Datum)
-    → Once (λ v s. (loses : Bool) × IsConversion f g mode x v s loses)
-any_loss_once f g mode x v w r s h k =
-    let e = conversion_once f g mode x v w r s h.0 k.0 h.1 k.1 in (e.0, e.1)
+pub yields_flushed_once : (f : Format) (flush : Flush) (mode : Round) (outcome : Outcome)
+    → Once (YieldsFlushed f flush mode outcome)
+yields_flushed_once f flush mode (settled datum flags) = answer_once datum flags
+yields_flushed_once f flush mode (rounded negative amount parts) =
+    rounded_or_flushed_once f flush mode negative amount parts
+yields_flushed_once f flush mode (totalled left right exact parts) =
+    rounded_or_flushed_once f flush mode (sign_of (zero_sum_sign mode left right) exact) (magnitude exact) parts
+yields_flushed_once f flush mode (rooted square) = delivered_root_once f mode square
 
 pub conversion_with_flush : (f g : Format) (flush : Flush) (mode : Round) (x : Datum)
     → Once (IsFlushedConversion f g flush mode x)
 conversion_with_flush f g flush mode (finite b n) =
     match_case Once (eqb n 0) (IsAnswer _ _) (IsRoundedOrFlushed g flush mode _ _ _) (answer_once _ _)
     (rounded_or_flushed_once g flush mode _ _ _)
-conversion_with_flush f g flush mode (infinite b) = any_loss_once f g mode (infinite b)
-conversion_with_flush f g flush mode (nan b t) = any_loss_once f g mode (nan b t)
+conversion_with_flush f g flush mode (infinite b) = converted_once f g mode (infinite b)
+conversion_with_flush f g flush mode (nan b t) = converted_once f g mode (nan b t)
 
 pub flushed_once : (f : Format) (flush : Flush) → FlushedHaveOneAnswer f flush
 flushed_once f flush =
     record {
-      sum = λ mode x y. gives_once _ (sum_with_flush f flush mode x y);
-      difference = λ mode x y. gives_once _ (difference_with_flush f flush mode x y);
-      product = λ mode x y. gives_once _ (product_with_flush f flush mode x y);
-      quotient = λ mode x y. gives_once _ (quotient_with_flush f flush mode x y);
-      fused_sum = λ mode x y z. gives_once _ (fused_sum_with_flush f flush mode x y z);
+      sum = λ mode x y. gives_once _ (yields_flushed_once f flush mode (sum f x y));
+      difference = λ mode x y. gives_once _ (yields_flushed_once f flush mode (difference f x y));
+      product = λ mode x y. gives_once _ (yields_flushed_once f flush mode (product f x y));
+      quotient = λ mode x y. gives_once _ (yields_flushed_once f flush mode (quotient f x y));
+      fused_sum = λ mode x y z. gives_once _ (yields_flushed_once f flush mode (fused_sum f x y z));
       conversion = λ source mode x. gives_once _ (conversion_with_flush source f flush mode x);
     }

@@ -1,12 +1,12 @@
 -- What `flushed` makes of the answer of one rounding is the exact result, rounded or flushed.
-use Rattle.std.proofs.Common.{◌≡◌, ℕ, ◌+◌, ◌-◌, ◌*◌, ◌^◌, ◌<◌, ◌≤◌, Bool, true, false, not, ◌&&◌, ◌||◌, ltb, eqb, sym, refl, ap, ◌∙◌, ⊎_elim, if◌then◌else◌, arith}
+use Rattle.std.proofs.Common.{◌≡◌, ℕ, ◌+◌, ◌*◌, ◌<◌, ◌≤◌, Bool, true, false, not, ◌&&◌, ◌||◌, ltb, eqb, sym, refl, ap, ◌∙◌, ⊎_elim, if◌then◌else◌, arith}
 use Rattle.std.proofs.Math.Nat.{mul-le-mul_right, mul-pos}
 use Rattle.std.proofs.lemmas.Bool.{cases_lt, cases_eq, lt-ltb, le-ltb, eq-eqb, ne_eqb, false≢true}
 use Rattle.apfloat_model.specs.declared.kinds.Round.{Round}
 use Rattle.apfloat_model.specs.declared.kinds.NonfiniteBehavior.{NonfiniteBehavior}
 use Rattle.apfloat_model.specs.declared.kinds.NonfiniteBehavior.TheVariants.{IEEE754, NanOnly, NanNegativeZero}
 use Rattle.apfloat_model.specs.formats.Format.{Format, smallest_normalized, largest, nan_base}
-use Rattle.apfloat_model.specs.formats.Datum.{Datum, finite, infinite, nan}
+use Rattle.apfloat_model.specs.formats.Datum.{Datum, finite}
 use Rattle.apfloat_model.specs.rounding.Rounding.{IsPick, IsDelivered, is_tiny, delivered_value, delivered_status, signed_quanta, zero_sign, past_largest, leads_out, raises_overflow, overflow_bit, underflow_bit, inexact_bit}
 use Rattle.apfloat_model.specs.rounding.Negation.{negated}
 use Rattle.apfloat_model.specs.arithmetic.Exact.{same_sign}
@@ -17,7 +17,7 @@ use Rattle.apfloat_model.proofs.Once.{Once}
 use Rattle.ieee_operations.specs.StatusFlags.{is_raised}
 use Rattle.apfloat_machines.specs.declared.flushing.Flush.{Flush}
 use Rattle.apfloat_machines.specs.Flushing.{zero_like, is_flushed, flush_flags, IsFlushed, flushes, IsRoundedOrFlushed}
-use Rattle.apfloat_machines.proofs.TinyPicks.{picked_from, picked_to, tiny_below, not_tiny_from}
+use Rattle.apfloat_machines.proofs.TinyPicks.{picked_to, tiny_below, not_tiny_from}
 
 -- ---- which results are denormal
 

@@ -4,7 +4,6 @@ pub mod Once
 pub mod ProductTest
 pub mod TinyPicks
 pub mod Flushes
-pub mod FlushedSame
 pub mod FlushedAnswers
 pub mod FlushedUsual
 pub mod FlushedSettling

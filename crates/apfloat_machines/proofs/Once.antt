@@ -61,7 +61,8 @@ fused_sums_once f machine mode x y z =
     (answer_once _ _) (match_case Once (is_invalid_fused x y z) (IsAnswer _ _) (IsFusedSum f mode x y z)
     (answer_once _ _) (fused_sum_once f mode x y z)))
 
-converted_once : (f g : Format) (mode : Round) (x : Datum)
+-- whatever it says of the loss of information
+pub converted_once : (f g : Format) (mode : Round) (x : Datum)
     → Once (λ v s. (loses : Bool) × IsConversion f g mode x v s loses)
 converted_once f g mode x v w r s h k =
     let e = conversion_once f g mode x v w r s h.0 k.0 h.1 k.1 in (e.0, e.1)

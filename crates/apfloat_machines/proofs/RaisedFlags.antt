@@ -1,27 +1,29 @@
 -- OVERFLOW and UNDERFLOW are raised only together with INEXACT, by the operations of a machine.
-use Rattle.std.proofs.Common.{◌≡◌, ℕ, ◌+◌, ◌<◌, Bool, true, false, not, ◌&&◌, ◌||◌, eqb, refl, sym, ◌∙◌, subst, lit<, arith, if◌then◌else◌}
-use Rattle.std.specs.Prelude.{ℤ, bit_and}
+use Rattle.std.proofs.Common.{◌≡◌, ℕ, ◌+◌, Bool, true, false, not, ◌&&◌, ◌||◌, eqb, refl, sym, ◌∙◌, subst, lit<, if◌then◌else◌}
+use Rattle.std.specs.Prelude.{ℤ}
 use Rattle.std.specs.Bool.{MatchBool}
 use Rattle.apfloat_model.specs.declared.kinds.Round.{Round}
 use Rattle.apfloat_model.specs.formats.Format.{Format}
 use Rattle.apfloat_model.specs.formats.Datum.{Datum, finite, infinite, nan}
-use Rattle.apfloat_model.specs.formats.Nan.{invalid_bit, invalid_if}
+use Rattle.apfloat_model.specs.formats.Nan.{invalid_bit}
 use Rattle.apfloat_model.specs.rounding.Answer.{IsAnswer}
-use Rattle.apfloat_model.specs.rounding.Negation.{negated}
+use Rattle.apfloat_model.specs.rounding.Outcome.{Outcome, settled, rounded, totalled, rooted, IsSound}
 use Rattle.apfloat_model.specs.rounding.RaisedFlags.{FlagsGoTogether}
 use Rattle.apfloat_model.specs.rounding.Rounding.{ok_bits, underflow_bit, inexact_bit, delivered_value, delivered_status}
 use Rattle.apfloat_model.specs.order.Classes.{is_nan}
-use Rattle.apfloat_model.specs.arithmetic.Sums.{IsSum, IsDifference}
-use Rattle.apfloat_model.specs.arithmetic.Products.{IsProduct}
-use Rattle.apfloat_model.specs.arithmetic.Quotients.{IsQuotient, div_by_zero_bit}
+use Rattle.apfloat_model.specs.arithmetic.Exact.{sign_of, magnitude, zero_sum_sign}
+use Rattle.apfloat_model.specs.arithmetic.Sums.{sum, difference, IsSum, IsDifference}
+use Rattle.apfloat_model.specs.arithmetic.Products.{product, IsProduct}
+use Rattle.apfloat_model.specs.arithmetic.Quotients.{quotient, IsQuotient}
 use Rattle.apfloat_model.specs.arithmetic.Remainders.{IsTruncatedRemainder, IsNearestRemainder, truncated_quotient, nearest_quotient}
 use Rattle.apfloat_model.specs.arithmetic.Roots.{IsRoot}
-use Rattle.apfloat_model.specs.arithmetic.FusedSums.{IsFusedSum}
+use Rattle.apfloat_model.specs.arithmetic.FusedSums.{fused_sum, IsFusedSum}
 use Rattle.apfloat_model.specs.arithmetic.Conversions.{IsConversion, loses_zero_sign}
 use Rattle.apfloat_model.specs.whole_numbers.WholeNumbers.{IsRoundToIntegral}
 use Rattle.apfloat_model.specs.whole_numbers.WholeNumbersOut.{to_signed, to_unsigned}
 use Rattle.apfloat_model.proofs.general.Choices.{match_case, if_case}
-use Rattle.apfloat_model.proofs.rounding.FlagsTogether.{ok_together, invalid_together, answer_together, delivered_together, sum_together, difference_together, product_together, quotient_together, root_together, fused_sum_together, remainder_together, conversion_together, round_to_integral_together, to_signed_together, to_unsigned_together}
+use Rattle.apfloat_model.proofs.Outcomes.{yields_together, sum_sound, difference_sound, product_sound, quotient_sound, fused_sum_sound}
+use Rattle.apfloat_model.proofs.rounding.FlagsTogether.{inexact_together, only_inexact_together, ok_together, invalid_together, invalid_if_together, answer_together, delivered_together, sum_together, difference_together, product_together, quotient_together, root_together, fused_sum_together, remainder_together, conversion_together, round_to_integral_together, to_signed_together, to_unsigned_together}
 use Rattle.ieee_operations.specs.RaisedFlags.{RaisesTogether}
 use Rattle.ieee_operations.specs.WholeNumbers.{IsRoundedToIntegral}
 use Rattle.apfloat_machines.specs.declared.machine.Machine.{Machine}
@@ -32,23 +34,8 @@ use Rattle.apfloat_machines.specs.Operations.{is_nan_of_three, IsOfTwo}
 use Rattle.apfloat_machines.specs.Conversions.{is_lost_nan}
 use Rattle.apfloat_machines.specs.WholeNumbers.{invalid_flags, settled_flags, IsMachineSigned, IsMachineUnsigned}
 use Rattle.apfloat_machines.specs.Flushing.{flushes, IsRoundedOrFlushed}
-use Rattle.apfloat_machines.specs.FlushedOperations.{IsFlushedSum, IsFlushedDifference, IsFlushedProduct, IsFlushedQuotient, IsFlushedFusedSum, IsFlushedConversion}
+use Rattle.apfloat_machines.specs.FlushedOperations.{YieldsFlushed, IsFlushedSum, IsFlushedDifference, IsFlushedProduct, IsFlushedQuotient, IsFlushedFusedSum, IsFlushedConversion}
 use Rattle.apfloat_machines.specs.RaisedFlags.{RaiseTogether, RaiseTogetherFlushed}
-
--- ---- statuses
-
-with_inexact : (status : ℕ) → 0 < bit_and status inexact_bit → FlagsGoTogether status
-with_inexact status i = record { overflow = λ o. i; underflow = λ u. i }
-
-invalid_if_together : (test : Bool) → FlagsGoTogether (invalid_if test)
-invalid_if_together true = invalid_together
-invalid_if_together false = ok_together
-
-divided_by_zero : FlagsGoTogether div_by_zero_bit
-divided_by_zero =
-    let o : bit_and 2 4 ≡ 0 = refl in
-    let u : bit_and 2 8 ≡ 0 = refl in
-    record { overflow = λ h. absurd (omega (arith, h, o)); underflow = λ h. absurd (omega (arith, h, u)) }
 
 -- ---- operations on one, two and three operands
 
@@ -74,7 +61,7 @@ any_loss_together f g mode x value status h = conversion_together f g mode x h.0
 invalid_flags_together : (machine : Machine) (x : Datum) → FlagsGoTogether (invalid_flags machine x)
 invalid_flags_together machine x =
     if_case FlagsGoTogether (invalid_integer_is_inexact machine && not (is_nan x))
-    (λ e. with_inexact (invalid_bit + inexact_bit) (lit< tt)) (λ e. invalid_together)
+    (λ e. inexact_together (invalid_bit + inexact_bit) (lit< tt)) (λ e. invalid_together)
 
 settled_together : (machine : Machine) (x : Datum) (status : ℕ)
     → (eqb status invalid_bit ≡ false → FlagsGoTogether status) → FlagsGoTogether (settled_flags machine x status)
@@ -149,67 +136,22 @@ rounded_or_flushed_together : (f : Format) (mode : Round) (negative : Bool) (amo
 rounded_or_flushed_together f mode negative amount parts value status h =
     subst FlagsGoTogether (sym h.status_is)
     (if_case FlagsGoTogether (flushes f mode negative amount parts h.pick)
-    (λ e. with_inexact (underflow_bit + inexact_bit) (lit< tt))
+    (λ e. inexact_together (underflow_bit + inexact_bit) (lit< tt))
     (λ e. delivered_together f mode negative amount parts (delivered_value f mode negative h.pick)
     (delivered_status f mode negative amount parts h.pick)
     (record { pick = h.pick; is_pick = h.is_pick; value_is = refl; status_is = refl })))
 
-flushed_sum_together : (f : Format) (mode : Round) (x y : Datum) → RaisesTogether (IsFlushedSum f X86 mode x y)
-flushed_sum_together f mode (finite b m) (finite c n) = rounded_or_flushed_together f mode _ _ _
-flushed_sum_together f mode (nan b s) y = sum_together f mode (nan b s) y
-flushed_sum_together f mode (infinite b) y = sum_together f mode (infinite b) y
-flushed_sum_together f mode (finite b m) (nan c t) = sum_together f mode (finite b m) (nan c t)
-flushed_sum_together f mode (finite b m) (infinite c) = sum_together f mode (finite b m) (infinite c)
-
-flushed_difference_together : (f : Format) (mode : Round) (x y : Datum)
-    → RaisesTogether (IsFlushedDifference f X86 mode x y)
-flushed_difference_together f mode (nan b s) y = difference_together f mode (nan b s) y
-flushed_difference_together f mode (finite b m) (nan c t) = difference_together f mode (finite b m) (nan c t)
-flushed_difference_together f mode (infinite b) (nan c t) = difference_together f mode (infinite b) (nan c t)
-flushed_difference_together f mode (finite b m) (finite c n) =
-    flushed_sum_together f mode (finite b m) (negated f.nonfinite (finite c n))
-flushed_difference_together f mode (finite b m) (infinite c) =
-    flushed_sum_together f mode (finite b m) (negated f.nonfinite (infinite c))
-flushed_difference_together f mode (infinite b) (finite c n) =
-    flushed_sum_together f mode (infinite b) (negated f.nonfinite (finite c n))
-flushed_difference_together f mode (infinite b) (infinite c) =
-    flushed_sum_together f mode (infinite b) (negated f.nonfinite (infinite c))
-
-flushed_product_together : (f : Format) (mode : Round) (x y : Datum)
-    → RaisesTogether (IsFlushedProduct f X86 mode x y)
-flushed_product_together f mode (finite b m) (finite c n) = rounded_or_flushed_together f mode _ _ _
-flushed_product_together f mode (nan b s) y = product_together f mode (nan b s) y
-flushed_product_together f mode (infinite b) y = product_together f mode (infinite b) y
-flushed_product_together f mode (finite b m) (nan c t) = product_together f mode (finite b m) (nan c t)
-flushed_product_together f mode (finite b m) (infinite c) = product_together f mode (finite b m) (infinite c)
-
-flushed_quotient_together : (f : Format) (mode : Round) (x y : Datum)
-    → RaisesTogether (IsFlushedQuotient f X86 mode x y)
-flushed_quotient_together f mode (finite b m) (finite c n) =
-    match_case RaisesTogether (eqb n 0) (λ v s. MatchBool (eqb m 0) (IsAnswer _ _ v s) (IsAnswer _ _ v s))
-    (IsRoundedOrFlushed f X86 mode _ _ _)
-    (match_case RaisesTogether (eqb m 0) (IsAnswer _ _) (IsAnswer _ _) (answer_together _ _ invalid_together)
-    (answer_together _ _ divided_by_zero))
-    (rounded_or_flushed_together f mode _ _ _)
-flushed_quotient_together f mode (nan b s) y = quotient_together f mode (nan b s) y
-flushed_quotient_together f mode (infinite b) y = quotient_together f mode (infinite b) y
-flushed_quotient_together f mode (finite b m) (nan c t) = quotient_together f mode (finite b m) (nan c t)
-flushed_quotient_together f mode (finite b m) (infinite c) = quotient_together f mode (finite b m) (infinite c)
-
-flushed_fused_sum_together : (f : Format) (mode : Round) (x y z : Datum)
-    → RaisesTogether (IsFlushedFusedSum f X86 mode x y z)
-flushed_fused_sum_together f mode (finite b l) (finite c m) (finite d n) = rounded_or_flushed_together f mode _ _ _
-flushed_fused_sum_together f mode (finite b l) (finite c m) (infinite d) =
-    fused_sum_together f mode (finite b l) (finite c m) (infinite d)
-flushed_fused_sum_together f mode (finite b l) (finite c m) (nan d t) =
-    fused_sum_together f mode (finite b l) (finite c m) (nan d t)
-flushed_fused_sum_together f mode (finite b l) (infinite c) z = fused_sum_together f mode (finite b l) (infinite c) z
-flushed_fused_sum_together f mode (finite b l) (nan c t) z = fused_sum_together f mode (finite b l) (nan c t) z
-flushed_fused_sum_together f mode (infinite b) y z = fused_sum_together f mode (infinite b) y z
-flushed_fused_sum_together f mode (nan b s) y z = fused_sum_together f mode (nan b s) y z
+yields_flushed_together : (f : Format) (mode : Round) (outcome : Outcome) → IsSound outcome
+    → RaisesTogether (YieldsFlushed f X86 mode outcome)
+yields_flushed_together f mode (settled datum flags) h = answer_together datum flags h
+yields_flushed_together f mode (rounded negative amount parts) h =
+    rounded_or_flushed_together f mode negative amount parts
+yields_flushed_together f mode (totalled left right exact parts) h =
+    rounded_or_flushed_together f mode (sign_of (zero_sum_sign mode left right) exact) (magnitude exact) parts
+yields_flushed_together f mode (rooted square) h = yields_together f mode (rooted square) h
 
 zero_flags : (test : Bool) → FlagsGoTogether (if test then inexact_bit else ok_bits)
-zero_flags true = with_inexact inexact_bit (lit< tt)
+zero_flags true = only_inexact_together
 zero_flags false = ok_together
 
 flushed_conversion_together : (f g : Format) (mode : Round) (x : Datum)
@@ -224,18 +166,20 @@ pub raise_together_flushed : (f : Format) (machine : Machine) → RaiseTogetherF
 raise_together_flushed f machine =
     record {
       sum = λ mode x y. of_two_together f machine x y (is_invalid_sum x y) (IsFlushedSum f X86 mode x y)
-          (flushed_sum_together f mode x y);
+          (yields_flushed_together f mode (sum f x y) (sum_sound f x y));
       difference = λ mode x y. of_two_together f machine x y (is_invalid_difference x y)
-          (IsFlushedDifference f X86 mode x y) (flushed_difference_together f mode x y);
+          (IsFlushedDifference f X86 mode x y)
+          (yields_flushed_together f mode (difference f x y) (difference_sound f x y));
       product = λ mode x y. of_two_together f machine x y (is_invalid_product x y) (IsFlushedProduct f X86 mode x y)
-          (flushed_product_together f mode x y);
+          (yields_flushed_together f mode (product f x y) (product_sound f x y));
       quotient = λ mode x y. of_two_together f machine x y (is_invalid_quotient x y)
-          (IsFlushedQuotient f X86 mode x y) (flushed_quotient_together f mode x y);
+          (IsFlushedQuotient f X86 mode x y) (yields_flushed_together f mode (quotient f x y) (quotient_sound f x y));
       fused_sum = λ mode x y z. match_case RaisesTogether (is_nan_of_three x y z) (IsAnswer _ _)
           (λ v s. MatchBool (is_invalid_fused x y z) (IsAnswer _ _ v s) (IsFlushedFusedSum f X86 mode x y z v s))
           (answer_together _ _ (invalid_if_together _))
           (match_case RaisesTogether (is_invalid_fused x y z) (IsAnswer _ _) (IsFlushedFusedSum f X86 mode x y z)
-          (answer_together _ _ invalid_together) (flushed_fused_sum_together f mode x y z));
+          (answer_together _ _ invalid_together)
+          (yields_flushed_together f mode (fused_sum f x y z) (fused_sum_sound f x y z)));
       conversion = λ source mode x. match_case RaisesTogether (is_lost_nan source machine x) (IsAnswer _ _)
           (IsFlushedConversion source f X86 mode x) (answer_together _ _ (invalid_if_together _))
           (flushed_conversion_together source f mode x);

@@ -2,18 +2,19 @@
 use Rattle.std.proofs.Common.{◌≡◌, ℕ, Bool, true, false, not, ◌&&◌, ◌||◌, refl, if◌then◌else◌}
 use Rattle.std.specs.Bool.{MatchBool}
 use Rattle.apfloat_model.specs.declared.kinds.Round.{Round}
+use Rattle.apfloat_model.specs.declared.kinds.Round.TheVariants.{NearestTiesToEven}
 use Rattle.apfloat_model.specs.declared.kinds.NonfiniteBehavior.TheVariants.{IEEE754}
 use Rattle.apfloat_model.specs.formats.Format.{Format}
 use Rattle.apfloat_model.specs.formats.Datum.{Datum, finite, infinite, nan}
 use Rattle.apfloat_model.specs.formats.Nan.{invalid_bit, invalid_if, is_signaling_nan}
 use Rattle.apfloat_model.specs.rounding.Answer.{IsAnswer}
 use Rattle.apfloat_model.specs.order.Classes.{is_nan}
-use Rattle.apfloat_model.specs.arithmetic.Sums.{IsSum, IsDifference}
-use Rattle.apfloat_model.specs.arithmetic.Products.{IsProduct}
-use Rattle.apfloat_model.specs.arithmetic.Quotients.{IsQuotient}
-use Rattle.apfloat_model.specs.arithmetic.Remainders.{IsTruncatedRemainder, IsNearestRemainder, truncated_quotient, nearest_quotient}
-use Rattle.apfloat_model.specs.arithmetic.Roots.{IsRoot}
-use Rattle.apfloat_model.specs.arithmetic.FusedSums.{IsFusedSum}
+use Rattle.apfloat_model.specs.arithmetic.Sums.{sum, difference, IsSum, IsDifference}
+use Rattle.apfloat_model.specs.arithmetic.Products.{product, IsProduct}
+use Rattle.apfloat_model.specs.arithmetic.Quotients.{quotient, IsQuotient}
+use Rattle.apfloat_model.specs.arithmetic.Remainders.{remainder, IsTruncatedRemainder, IsNearestRemainder, truncated_quotient, nearest_quotient}
+use Rattle.apfloat_model.specs.arithmetic.Roots.{root, IsRoot}
+use Rattle.apfloat_model.specs.arithmetic.FusedSums.{fused_sum, IsFusedSum}
 use Rattle.apfloat_model.specs.arithmetic.Conversions.{IsConversion}
 use Rattle.apfloat_model.specs.whole_numbers.WholeNumbers.{IsRoundToIntegral}
 use Rattle.apfloat_model.specs.declared.status.StatusAnd.{StatusAnd}
@@ -24,9 +25,9 @@ use Rattle.apfloat_machines.specs.declared.machine.Machine.{Machine}
 use Rattle.apfloat_machines.specs.Machines.{nan_choice, fused_order}
 use Rattle.apfloat_machines.specs.Nans.{default_nan, nan_of, settled, takes_none}
 use Rattle.apfloat_machines.specs.Invalid.{is_invalid_sum, is_invalid_difference, is_invalid_product, is_invalid_quotient, is_invalid_remainder, is_invalid_root, is_invalid_fused}
-use Rattle.apfloat_machines.specs.Operations.{is_signaling_of_two, is_nan_of_three, IsOfTwo, IsMachineSum, IsMachineDifference, IsMachineProduct, IsMachineQuotient, IsMachineTruncatedRemainder, IsMachineNearestRemainder, IsMachineRoot, IsMachineIntegralExact, IsMachineIntegral, AreSettled, AreSettledOfOne, IsMachineFusedSum, taken_in_order, fused_takes_none, is_invalid_of_nans, settled_fused, settled_fused_flags}
+use Rattle.apfloat_machines.specs.Operations.{is_signaling_of_two, is_nan_of_three, IsOfTwo, AreSettled, AreSettledOfOne, IsMachineFusedSum, taken_in_order, fused_takes_none, fused_nan, is_invalid_of_nans, settled_fused, settled_fused_flags}
 use Rattle.apfloat_machines.specs.Conversions.{is_lost_nan, settled_conversion, IsMachineConversion}
-use Rattle.apfloat_machines.proofs.Usual.{IsUsual, IsUsualNumber, sum_usual, difference_usual, product_usual, quotient_usual, remainder_usual, root_usual, exact_usual, integral_usual, fused_usual}
+use Rattle.apfloat_machines.proofs.Usual.{IsUsual, IsUsualNumber, IsUsualFused, settled_or_number, sum_usual, difference_usual, product_usual, quotient_usual, remainder_usual, root_usual, exact_usual, integral_usual, fused_usual}
 
 -- ---- two operands
 
@@ -53,90 +54,50 @@ of_two f machine x y invalid Says value status u h =
     two_cases (is_nan x || is_nan y) invalid (nan_of f machine x y) (default_nan f machine) value
     (invalid_if (is_signaling_of_two f x y)) status Says u h
 
-pub sum_settled : (f : Format) (machine : Machine) (mode : Round) (x y value : Datum) (status : ℕ)
-    → f.nonfinite ≡ IEEE754 → IsSum f mode x y value status
-    → IsMachineSum f machine mode x y (settled f machine x y value) status
-sum_settled f machine mode x y value status e h =
-    of_two f machine x y (is_invalid_sum x y) (IsSum f mode x y) value status
-    (sum_usual f mode x y value status e h) h
-
-pub difference_settled : (f : Format) (machine : Machine) (mode : Round) (x y value : Datum) (status : ℕ)
-    → f.nonfinite ≡ IEEE754 → IsDifference f mode x y value status
-    → IsMachineDifference f machine mode x y (settled f machine x y value) status
-difference_settled f machine mode x y value status e h =
-    of_two f machine x y (is_invalid_difference x y) (IsDifference f mode x y) value status
-    (difference_usual f mode x y value status e h) h
-
-pub product_settled : (f : Format) (machine : Machine) (mode : Round) (x y value : Datum) (status : ℕ)
-    → f.nonfinite ≡ IEEE754 → IsProduct f mode x y value status
-    → IsMachineProduct f machine mode x y (settled f machine x y value) status
-product_settled f machine mode x y value status e h =
-    of_two f machine x y (is_invalid_product x y) (IsProduct f mode x y) value status
-    (product_usual f mode x y value status e h) h
-
-pub quotient_settled : (f : Format) (machine : Machine) (mode : Round) (x y value : Datum) (status : ℕ)
-    → f.nonfinite ≡ IEEE754 → IsQuotient f mode x y value status
-    → IsMachineQuotient f machine mode x y (settled f machine x y value) status
-quotient_settled f machine mode x y value status e h =
-    of_two f machine x y (is_invalid_quotient x y) (IsQuotient f mode x y) value status
-    (quotient_usual f mode x y value status e h) h
-
-pub truncated_settled : (f : Format) (machine : Machine) (x y value : Datum) (status : ℕ)
-    → IsTruncatedRemainder f x y value status
-    → IsMachineTruncatedRemainder f machine x y (settled f machine x y value) status
-truncated_settled f machine x y value status h =
-    of_two f machine x y (is_invalid_remainder x y) (IsTruncatedRemainder f x y) value status
-    (remainder_usual f truncated_quotient x y value status h) h
-
-pub nearest_settled : (f : Format) (machine : Machine) (x y value : Datum) (status : ℕ)
-    → IsNearestRemainder f x y value status
-    → IsMachineNearestRemainder f machine x y (settled f machine x y value) status
-nearest_settled f machine x y value status h =
-    of_two f machine x y (is_invalid_remainder x y) (IsNearestRemainder f x y) value status
-    (remainder_usual f nearest_quotient x y value status h) h
-
-pub root_settled : (f : Format) (machine : Machine) (mode : Round) (x value : Datum) (status : ℕ)
-    → f.nonfinite ≡ IEEE754 → IsRoot f mode x value status
-    → IsMachineRoot f machine mode x (settled f machine x x value) status
-root_settled f machine mode x value status e h =
-    of_two f machine x x (is_invalid_root x) (IsRoot f mode x) value status
-    (root_usual f mode x value status e h) h
-
-pub exact_settled : (f : Format) (machine : Machine) (mode : Round) (x value : Datum) (status : ℕ)
-    → IsRoundToIntegral f mode x value status
-    → IsMachineIntegralExact f machine mode x (settled f machine x x value) status
-exact_settled f machine mode x value status h =
-    of_two f machine x x false (IsRoundToIntegral f mode x) value status (exact_usual f mode x value status h) h
-
-pub integral_settled : (f : Format) (machine : Machine) (mode : Round) (x value : Datum) (status : ℕ)
-    → IsRoundedToIntegral f mode x value status
-    → IsMachineIntegral f machine mode x (settled f machine x x value) status
-integral_settled f machine mode x value status h =
-    of_two f machine x x false (IsRoundedToIntegral f mode x) value status (integral_usual f mode x value status h) h
-
 -- ---- the calls
 
 pub are_settled : (f : Format) (machine : Machine) (x y : Datum) (answer result : StatusAnd Datum)
     → result.value ≡ settled f machine x y answer.value → result.status ≡ answer.status
     → f.nonfinite ≡ IEEE754 → AreSettled f machine x y answer result
 are_settled f machine x y answer result v s e =
+    let a = answer.value in
+    let r = bits_of answer.status in
     rw (v, s) (record {
-      sum = λ mode. sum_settled f machine mode x y answer.value (bits_of answer.status) e;
-      difference = λ mode. difference_settled f machine mode x y answer.value (bits_of answer.status) e;
-      product = λ mode. product_settled f machine mode x y answer.value (bits_of answer.status) e;
-      quotient = λ mode. quotient_settled f machine mode x y answer.value (bits_of answer.status) e;
-      truncated = truncated_settled f machine x y answer.value (bits_of answer.status);
-      nearest = nearest_settled f machine x y answer.value (bits_of answer.status);
+      sum = λ mode h.
+          of_two f machine x y (is_invalid_sum x y) (IsSum f mode x y) a r
+          (sum_usual f x y a r (settled_or_number f mode (sum f x y) a r e h)) h;
+      difference = λ mode h.
+          of_two f machine x y (is_invalid_difference x y) (IsDifference f mode x y) a r
+          (difference_usual f x y a r (settled_or_number f mode (difference f x y) a r e h)) h;
+      product = λ mode h.
+          of_two f machine x y (is_invalid_product x y) (IsProduct f mode x y) a r
+          (product_usual f x y a r (settled_or_number f mode (product f x y) a r e h)) h;
+      quotient = λ mode h.
+          of_two f machine x y (is_invalid_quotient x y) (IsQuotient f mode x y) a r
+          (quotient_usual f x y a r e (settled_or_number f mode (quotient f x y) a r e h)) h;
+      truncated = λ h.
+          of_two f machine x y (is_invalid_remainder x y) (IsTruncatedRemainder f x y) a r
+          (remainder_usual f truncated_quotient x y a r
+          (settled_or_number f NearestTiesToEven (remainder f truncated_quotient x y) a r e h)) h;
+      nearest = λ h.
+          of_two f machine x y (is_invalid_remainder x y) (IsNearestRemainder f x y) a r
+          (remainder_usual f nearest_quotient x y a r
+          (settled_or_number f NearestTiesToEven (remainder f nearest_quotient x y) a r e h)) h;
     })
 
 pub are_settled_of_one : (f : Format) (machine : Machine) (x : Datum) (answer result : StatusAnd Datum)
     → result.value ≡ settled f machine x x answer.value → result.status ≡ answer.status
     → f.nonfinite ≡ IEEE754 → AreSettledOfOne f machine x answer result
 are_settled_of_one f machine x answer result v s e =
+    let a = answer.value in
+    let r = bits_of answer.status in
     rw (v, s) (record {
-      root = λ mode. root_settled f machine mode x answer.value (bits_of answer.status) e;
-      exact = λ mode. exact_settled f machine mode x answer.value (bits_of answer.status);
-      integral = λ mode. integral_settled f machine mode x answer.value (bits_of answer.status);
+      root = λ mode h.
+          of_two f machine x x (is_invalid_root x) (IsRoot f mode x) a r
+          (root_usual f x a r (settled_or_number f mode (root f x) a r e h)) h;
+      exact = λ mode h. of_two f machine x x false (IsRoundToIntegral f mode x) a r (exact_usual f mode x a r h) h;
+      integral = λ mode h.
+          of_two f machine x x false (IsRoundedToIntegral f mode x) a r (integral_usual f mode x a r h) h;
     })
 
 -- ---- fused sums
@@ -160,15 +121,19 @@ fused_cases false keeps true chosen default value flags status Says u h =
     record { value_is = rw u.0 refl; status_is = rw u.0 u.1 }
 fused_cases false keeps false chosen default value flags status Says u h = rw u h
 
-pub fused_settled : (f : Format) (machine : Machine) (mode : Round) (x y z value : Datum) (status : ℕ)
-    → f.nonfinite ≡ IEEE754 → IsFusedSum f mode x y z value status
-    → IsMachineFusedSum f machine mode x y z (settled_fused f machine x y z value)
-    (settled_fused_flags f machine x y z value status)
-fused_settled f machine mode x y z value status e h =
+pub of_three : (f : Format) (machine : Machine) (x y z : Datum) (Says : Datum → ℕ → Type 0) (value : Datum) (status : ℕ)
+    → IsUsualFused x y z value status → Says value status
+    → MatchBool (is_nan_of_three x y z)
+    (IsAnswer (fused_nan f machine x y z) (invalid_if (is_invalid_of_nans f machine x y z))
+    (settled_fused f machine x y z value) (settled_fused_flags f machine x y z value status))
+    (MatchBool (is_invalid_fused x y z)
+    (IsAnswer (default_nan f machine) invalid_bit (settled_fused f machine x y z value)
+    (settled_fused_flags f machine x y z value status))
+    (Says (settled_fused f machine x y z value) (settled_fused_flags f machine x y z value status)))
+of_three f machine x y z Says value status u h =
     fused_cases (is_nan_of_three x y z) (not (fused_takes_none f machine x y z)) (is_invalid_fused x y z)
     (quieted_datum f (taken_in_order (fused_order machine) (nan_choice machine) f x y z)) (default_nan f machine) value
-    (invalid_if (is_invalid_of_nans f machine x y z)) status (IsFusedSum f mode x y z)
-    (fused_usual f mode x y z value status e h) h
+    (invalid_if (is_invalid_of_nans f machine x y z)) status Says u h
 
 pub fused_is_settled : (f : Format) (machine : Machine) (x y z : Datum) (answer result : StatusAnd Datum)
     → result.value ≡ settled_fused f machine x y z answer.value
@@ -176,7 +141,9 @@ pub fused_is_settled : (f : Format) (machine : Machine) (x y z : Datum) (answer 
     → f.nonfinite ≡ IEEE754 → (mode : Round) → Gives (IsFusedSum f mode x y z) answer
     → Gives (IsMachineFusedSum f machine mode x y z) result
 fused_is_settled f machine x y z answer result v s e mode h =
-    rw (v, s) (fused_settled f machine mode x y z answer.value (bits_of answer.status) e h)
+    rw (v, s) (of_three f machine x y z (IsFusedSum f mode x y z) answer.value (bits_of answer.status)
+    (fused_usual f x y z answer.value (bits_of answer.status)
+    (settled_or_number f mode (fused_sum f x y z) answer.value (bits_of answer.status) e h)) h)
 
 -- ---- conversions
 

@@ -1,5 +1,5 @@
 -- When the value of an operation is a NaN, in a format with infinities: if an operand is one, or it is invalid.
-use Rattle.std.proofs.Common.{◌≡◌, ℕ, ◌-◌, ◌*◌, ◌^◌, Bool, true, false, not, ◌&&◌, ◌||◌, eqb, ltb, refl, ap, ◌∙◌, subst, if◌then◌else◌}
+use Rattle.std.proofs.Common.{◌≡◌, ℕ, ◌-◌, ◌*◌, ◌^◌, Bool, true, false, not, ◌&&◌, ◌||◌, eqb, ltb, refl, ap, ◌∙◌, if◌then◌else◌}
 use Rattle.std.specs.Bool.{MatchBool}
 use Rattle.apfloat_model.specs.declared.kinds.Round.{Round}
 use Rattle.apfloat_model.specs.declared.kinds.NonfiniteBehavior.{NonfiniteBehavior}
@@ -7,18 +7,20 @@ use Rattle.apfloat_model.specs.declared.kinds.NonfiniteBehavior.TheVariants.{IEE
 use Rattle.apfloat_model.specs.formats.Constants.{infinity_of}
 use Rattle.apfloat_model.specs.formats.Format.{Format, largest, nan_base}
 use Rattle.apfloat_model.specs.formats.Datum.{Datum, finite, infinite, nan}
-use Rattle.apfloat_model.specs.formats.Nan.{invalid_bit, invalid_if, is_signaling, IsInvalid, qnan}
+use Rattle.apfloat_model.specs.formats.Nan.{invalid_bit, invalid_if, is_signaling}
 use Rattle.apfloat_model.specs.rounding.Answer.{IsAnswer}
+use Rattle.apfloat_model.specs.rounding.DeliveredRoots.{IsDeliveredRoot}
 use Rattle.apfloat_model.specs.rounding.Negation.{negated, negated_zero}
+use Rattle.apfloat_model.specs.rounding.Outcome.{Outcome, settled, rounded, totalled, rooted, invalid, exactly, Yields}
 use Rattle.apfloat_model.specs.rounding.Rounding.{ok_bits, past_largest, signed_quanta, zero_sign, leads_out, delivered_value, IsDelivered}
 use Rattle.apfloat_model.specs.order.Classes.{is_nan, is_infinite, is_negative, is_finite}
 use Rattle.apfloat_model.specs.arithmetic.Exact.{same_sign, product_sign}
-use Rattle.apfloat_model.specs.arithmetic.Sums.{IsSum, IsDifference}
-use Rattle.apfloat_model.specs.arithmetic.Products.{IsProduct}
-use Rattle.apfloat_model.specs.arithmetic.Quotients.{IsQuotient, div_by_zero_bit}
-use Rattle.apfloat_model.specs.arithmetic.Remainders.{IsRemainder, rest_of}
-use Rattle.apfloat_model.specs.arithmetic.Roots.{IsRoot, IsRootOfNumber, IsRootOfInfinity}
-use Rattle.apfloat_model.specs.arithmetic.FusedSums.{IsFusedSum}
+use Rattle.apfloat_model.specs.arithmetic.Sums.{sum, difference}
+use Rattle.apfloat_model.specs.arithmetic.Products.{product}
+use Rattle.apfloat_model.specs.arithmetic.Quotients.{quotient, div_by_zero_bit}
+use Rattle.apfloat_model.specs.arithmetic.Remainders.{remainder, rest_of}
+use Rattle.apfloat_model.specs.arithmetic.Roots.{root}
+use Rattle.apfloat_model.specs.arithmetic.FusedSums.{on_product, fused_sum}
 use Rattle.apfloat_model.specs.whole_numbers.WholeNumbers.{IsRoundToIntegral, whole_quanta}
 use Rattle.ieee_operations.specs.WholeNumbers.{IsRoundedToIntegral}
 use Rattle.apfloat_machines.specs.Invalid.{is_invalid_sum, is_invalid_difference, is_invalid_product, is_invalid_quotient, is_invalid_remainder, is_invalid_root, is_invalid_fused}
@@ -79,6 +81,11 @@ delivered_number : (f : Format) (mode : Round) (negative : Bool) (amount parts :
 delivered_number f mode negative amount parts value status e h =
     is_of value (delivered_value f mode negative h.pick) false h.value_is (value_number f mode negative h.pick e)
 
+pub root_number : (f : Format) (mode : Round) (square : ℕ) (value : Datum) (status : ℕ)
+    → f.nonfinite ≡ IEEE754 → IsDeliveredRoot f mode square value status → is_nan value ≡ false
+root_number f mode square value status e h =
+    is_of value (delivered_value f mode false h.pick) false h.value_is (value_number f mode false h.pick e)
+
 rest_number : (kind : NonfiniteBehavior) (negative : Bool) (m taken : ℕ)
     → is_nan (rest_of kind negative m taken) ≡ false
 rest_number kind negative m taken =
@@ -96,29 +103,48 @@ pub of_number : (given : Datum) (flags : ℕ) (value : Datum) (status : ℕ) →
     → IsAnswer given flags value status → is_nan value ≡ false
 of_number given flags value status e h = is_of value given false h.value_is e
 
+-- ---- outcomes
+
+-- what each delivery of an outcome has, rounded or flushed: the datum that is settled, or no NaN
+abbrev pub IsSettledOrNumber : Outcome → Datum → ℕ → Type 0
+IsSettledOrNumber (settled datum flags) value status = IsAnswer datum flags value status
+IsSettledOrNumber (rounded negative amount parts) value status = is_nan value ≡ false
+IsSettledOrNumber (totalled left right exact parts) value status = is_nan value ≡ false
+IsSettledOrNumber (rooted square) value status = is_nan value ≡ false
+
+pub settled_or_number : (f : Format) (mode : Round) (outcome : Outcome) (value : Datum) (status : ℕ)
+    → f.nonfinite ≡ IEEE754 → Yields f mode outcome value status → IsSettledOrNumber outcome value status
+settled_or_number f mode (settled datum flags) value status e h = h
+settled_or_number f mode (rounded negative amount parts) value status e h =
+    delivered_number f mode negative amount parts value status e h
+settled_or_number f mode (totalled left right exact parts) value status e h =
+    delivered_number f mode _ _ parts value status e h
+settled_or_number f mode (rooted square) value status e h = root_number f mode square value status e h
+
 invalid_or : (f : Format) (test : Bool) (given : Datum) (flags : ℕ) (value : Datum) (status : ℕ) → is_nan given ≡ false
-    → MatchBool test (IsInvalid f value status) (IsAnswer given flags value status) → IsUsualNumber test value status
+    → IsSettledOrNumber (if test then invalid f else settled given flags) value status
+    → IsUsualNumber test value status
 invalid_or f true given flags value status e h = of_nan _ _ _ value status h
 invalid_or f false given flags value status e h = of_number given flags value status e h
 
 or_invalid : (f : Format) (test : Bool) (given : Datum) (flags : ℕ) (value : Datum) (status : ℕ) → is_nan given ≡ false
-    → MatchBool test (IsAnswer given flags value status) (IsInvalid f value status)
+    → IsSettledOrNumber (if test then settled given flags else invalid f) value status
     → IsUsualNumber (not test) value status
 or_invalid f true given flags value status e h = of_number given flags value status e h
 or_invalid f false given flags value status e h = of_nan _ _ _ value status h
 
 -- ---- sums and differences
 
-pub sum_usual : (f : Format) (mode : Round) (x y value : Datum) (status : ℕ) → f.nonfinite ≡ IEEE754
-    → IsSum f mode x y value status → IsUsual f x y (is_invalid_sum x y) value status
-sum_usual f mode (nan b s) y value status e h = of_nan _ _ _ value status h
-sum_usual f mode (finite b m) (nan c t) value status e h = of_nan _ _ _ value status h
-sum_usual f mode (infinite b) (nan c t) value status e h = of_nan _ _ _ value status h
-sum_usual f mode (infinite b) (infinite c) value status e h =
+pub sum_usual : (f : Format) (x y value : Datum) (status : ℕ) → IsSettledOrNumber (sum f x y) value status
+    → IsUsual f x y (is_invalid_sum x y) value status
+sum_usual f (nan b s) y value status h = of_nan _ _ _ value status h
+sum_usual f (finite b m) (nan c t) value status h = of_nan _ _ _ value status h
+sum_usual f (infinite b) (nan c t) value status h = of_nan _ _ _ value status h
+sum_usual f (infinite b) (infinite c) value status h =
     or_invalid f (same_sign b c) (infinite b) ok_bits value status refl h
-sum_usual f mode (infinite b) (finite c n) value status e h = of_number (infinite b) ok_bits value status refl h
-sum_usual f mode (finite b m) (infinite c) value status e h = of_number (infinite c) ok_bits value status refl h
-sum_usual f mode (finite b m) (finite c n) value status e h = delivered_number f mode _ _ _ value status e h
+sum_usual f (infinite b) (finite c n) value status h = of_number (infinite b) ok_bits value status refl h
+sum_usual f (finite b m) (infinite c) value status h = of_number (infinite c) ok_bits value status refl h
+sum_usual f (finite b m) (finite c n) value status h = h
 
 -- a finite datum negated
 finite_if : (test : Bool) (x y : Datum) → is_finite x ≡ true → is_finite y ≡ true
@@ -138,77 +164,74 @@ negated_finite kind negative quanta =
     refl
 
 -- a number or an infinity plus a number
-plus_number : (f : Format) (mode : Round) (x y value : Datum) (status : ℕ) → f.nonfinite ≡ IEEE754
-    → is_nan x ≡ false → is_finite y ≡ true → IsSum f mode x y value status → is_nan value ≡ false
-plus_number f mode (nan b s) y value status e p q h = cc
-plus_number f mode (finite b m) (nan c t) value status e p q h = cc
-plus_number f mode (infinite b) (nan c t) value status e p q h = cc
-plus_number f mode (infinite b) (infinite c) value status e p q h = cc
-plus_number f mode (finite b m) (infinite c) value status e p q h = cc
-plus_number f mode (infinite b) (finite c n) value status e p q h = of_number (infinite b) ok_bits value status refl h
-plus_number f mode (finite b m) (finite c n) value status e p q h = delivered_number f mode _ _ _ value status e h
+plus_number : (f : Format) (x y value : Datum) (status : ℕ) → is_nan x ≡ false → is_finite y ≡ true
+    → IsSettledOrNumber (sum f x y) value status → is_nan value ≡ false
+plus_number f (nan b s) y value status p q h = cc
+plus_number f (finite b m) (nan c t) value status p q h = cc
+plus_number f (infinite b) (nan c t) value status p q h = cc
+plus_number f (infinite b) (infinite c) value status p q h = cc
+plus_number f (finite b m) (infinite c) value status p q h = cc
+plus_number f (infinite b) (finite c n) value status p q h = of_number (infinite b) ok_bits value status refl h
+plus_number f (finite b m) (finite c n) value status p q h = h
 
-pub difference_usual : (f : Format) (mode : Round) (x y value : Datum) (status : ℕ) → f.nonfinite ≡ IEEE754
-    → IsDifference f mode x y value status → IsUsual f x y (is_invalid_difference x y) value status
-difference_usual f mode (nan b s) y value status e h = of_nan _ _ _ value status h
-difference_usual f mode (finite b m) (nan c t) value status e h = of_nan _ _ _ value status h
-difference_usual f mode (infinite b) (nan c t) value status e h = of_nan _ _ _ value status h
-difference_usual f mode (infinite b) (infinite c) value status e h =
+pub difference_usual : (f : Format) (x y value : Datum) (status : ℕ)
+    → IsSettledOrNumber (difference f x y) value status → IsUsual f x y (is_invalid_difference x y) value status
+difference_usual f (nan b s) y value status h = of_nan _ _ _ value status h
+difference_usual f (finite b m) (nan c t) value status h = of_nan _ _ _ value status h
+difference_usual f (infinite b) (nan c t) value status h = of_nan _ _ _ value status h
+difference_usual f (infinite b) (infinite c) value status h =
     or_invalid f (same_sign b (not c)) (infinite b) ok_bits value status refl h
-difference_usual f mode (infinite b) (finite c n) value status e h =
-    plus_number f mode (infinite b) (negated f.nonfinite (finite c n)) value status e refl
-    (negated_finite f.nonfinite c n) h
-difference_usual f mode (finite b m) (infinite c) value status e h =
+difference_usual f (infinite b) (finite c n) value status h =
+    plus_number f (infinite b) (negated f.nonfinite (finite c n)) value status refl (negated_finite f.nonfinite c n) h
+difference_usual f (finite b m) (infinite c) value status h =
     of_number (infinite (not c)) ok_bits value status refl h
-difference_usual f mode (finite b m) (finite c n) value status e h =
-    plus_number f mode (finite b m) (negated f.nonfinite (finite c n)) value status e refl
-    (negated_finite f.nonfinite c n) h
+difference_usual f (finite b m) (finite c n) value status h =
+    plus_number f (finite b m) (negated f.nonfinite (finite c n)) value status refl (negated_finite f.nonfinite c n) h
 
 -- ---- products, quotients, remainders and roots
 
-pub product_usual : (f : Format) (mode : Round) (x y value : Datum) (status : ℕ) → f.nonfinite ≡ IEEE754
-    → IsProduct f mode x y value status → IsUsual f x y (is_invalid_product x y) value status
-product_usual f mode (nan b s) y value status e h = of_nan _ _ _ value status h
-product_usual f mode (finite b m) (nan c t) value status e h = of_nan _ _ _ value status h
-product_usual f mode (infinite b) (nan c t) value status e h = of_nan _ _ _ value status h
-product_usual f mode (finite b m) (infinite c) value status e h =
+pub product_usual : (f : Format) (x y value : Datum) (status : ℕ) → IsSettledOrNumber (product f x y) value status
+    → IsUsual f x y (is_invalid_product x y) value status
+product_usual f (nan b s) y value status h = of_nan _ _ _ value status h
+product_usual f (finite b m) (nan c t) value status h = of_nan _ _ _ value status h
+product_usual f (infinite b) (nan c t) value status h = of_nan _ _ _ value status h
+product_usual f (finite b m) (infinite c) value status h =
     invalid_or f (eqb m 0) (infinite (product_sign b c)) ok_bits value status refl h
-product_usual f mode (infinite b) (finite c n) value status e h =
+product_usual f (infinite b) (finite c n) value status h =
     invalid_or f (eqb n 0) (infinite (product_sign b c)) ok_bits value status refl h
-product_usual f mode (infinite b) (infinite c) value status e h =
+product_usual f (infinite b) (infinite c) value status h =
     of_number (infinite (product_sign b c)) ok_bits value status refl h
-product_usual f mode (finite b m) (finite c n) value status e h = delivered_number f mode _ _ _ value status e h
+product_usual f (finite b m) (finite c n) value status h = h
 
 -- two numbers, by whether each is a zero
-quotient_of_numbers : (f : Format) (mode : Round) (p q negative : Bool) (amount parts : ℕ) (value : Datum) (status : ℕ)
+quotient_of_numbers : (f : Format) (p q negative : Bool) (amount parts : ℕ) (value : Datum) (status : ℕ)
     → f.nonfinite ≡ IEEE754
-    → MatchBool p (MatchBool q (IsInvalid f value status)
-    (IsAnswer (infinity_of f negative) div_by_zero_bit value status))
-    (IsDelivered f mode negative amount parts value status)
+    → IsSettledOrNumber (if p then (if q then invalid f else settled (infinity_of f negative) div_by_zero_bit)
+    else rounded negative amount parts) value status
     → IsUsualNumber (p && q) value status
-quotient_of_numbers f mode true true negative amount parts value status e h = of_nan _ _ _ value status h
-quotient_of_numbers f mode true false negative amount parts value status e h =
+quotient_of_numbers f true true negative amount parts value status e h = of_nan _ _ _ value status h
+quotient_of_numbers f true false negative amount parts value status e h =
     of_number (infinity_of f negative) div_by_zero_bit value status
     (past_number f.nonfinite (nan_base f) negative e) h
-quotient_of_numbers f mode false q negative amount parts value status e h =
-    delivered_number f mode negative amount parts value status e h
+quotient_of_numbers f false q negative amount parts value status e h = h
 
-pub quotient_usual : (f : Format) (mode : Round) (x y value : Datum) (status : ℕ) → f.nonfinite ≡ IEEE754
-    → IsQuotient f mode x y value status → IsUsual f x y (is_invalid_quotient x y) value status
-quotient_usual f mode (nan b s) y value status e h = of_nan _ _ _ value status h
-quotient_usual f mode (finite b m) (nan c t) value status e h = of_nan _ _ _ value status h
-quotient_usual f mode (infinite b) (nan c t) value status e h = of_nan _ _ _ value status h
-quotient_usual f mode (infinite b) (infinite c) value status e h = of_nan _ _ _ value status h
-quotient_usual f mode (infinite b) (finite c n) value status e h =
+pub quotient_usual : (f : Format) (x y value : Datum) (status : ℕ) → f.nonfinite ≡ IEEE754
+    → IsSettledOrNumber (quotient f x y) value status → IsUsual f x y (is_invalid_quotient x y) value status
+quotient_usual f (nan b s) y value status e h = of_nan _ _ _ value status h
+quotient_usual f (finite b m) (nan c t) value status e h = of_nan _ _ _ value status h
+quotient_usual f (infinite b) (nan c t) value status e h = of_nan _ _ _ value status h
+quotient_usual f (infinite b) (infinite c) value status e h = of_nan _ _ _ value status h
+quotient_usual f (infinite b) (finite c n) value status e h =
     of_number (infinite (product_sign b c)) ok_bits value status refl h
-quotient_usual f mode (finite b m) (infinite c) value status e h =
+quotient_usual f (finite b m) (infinite c) value status e h =
     of_number (signed_quanta f.nonfinite (product_sign b c) 0) ok_bits value status
     (quanta_number f.nonfinite (product_sign b c) 0) h
-quotient_usual f mode (finite b m) (finite c n) value status e h =
-    quotient_of_numbers f mode (eqb n 0) (eqb m 0) (product_sign b c) (m * 2 ^ f.scale) n value status e h
+quotient_usual f (finite b m) (finite c n) value status e h =
+    quotient_of_numbers f (eqb n 0) (eqb m 0) (product_sign b c) (m * 2 ^ f.scale) n value status e h
 
 pub remainder_usual : (f : Format) (quotient : ℕ → ℕ → ℕ) (x y value : Datum) (status : ℕ)
-    → IsRemainder f quotient x y value status → IsUsual f x y (is_invalid_remainder x y) value status
+    → IsSettledOrNumber (remainder f quotient x y) value status
+    → IsUsual f x y (is_invalid_remainder x y) value status
 remainder_usual f quotient (nan b s) y value status h = of_nan _ _ _ value status h
 remainder_usual f quotient (finite b m) (nan c t) value status h = of_nan _ _ _ value status h
 remainder_usual f quotient (infinite b) (nan c t) value status h = of_nan _ _ _ value status h
@@ -221,31 +244,24 @@ remainder_usual f quotient (finite b m) (finite c n) value status h =
     (rest_number f.nonfinite b m (n * quotient m n)) h
 
 -- a number, by whether it is a zero, and its sign
-root_of_number : (f : Format) (mode : Round) (test b : Bool) (n : ℕ) (value : Datum) (status : ℕ)
-    → f.nonfinite ≡ IEEE754
-    → MatchBool test (IsAnswer (finite b 0) ok_bits value status) (IsRootOfNumber f mode b n value status)
+root_of_number : (f : Format) (test b : Bool) (square : ℕ) (value : Datum) (status : ℕ)
+    → IsSettledOrNumber (if test then exactly (finite b 0) else (if b then invalid f else rooted square)) value status
     → IsUsualNumber (not test && b) value status
-root_of_number f mode true b n value status e h = of_number (finite b 0) ok_bits value status refl h
-root_of_number f mode false true n value status e h = of_nan _ _ _ value status h
-root_of_number f mode false false n value status e h =
-    is_of value (delivered_value f mode false h.pick) false h.value_is (value_number f mode false h.pick e)
-
-root_of_infinity : (f : Format) (b : Bool) (value : Datum) (status : ℕ)
-    → IsRootOfInfinity f b value status → IsUsualNumber b value status
-root_of_infinity f true value status h = of_nan _ _ _ value status h
-root_of_infinity f false value status h = of_number (infinite false) ok_bits value status refl h
+root_of_number f true b square value status h = of_number (finite b 0) ok_bits value status refl h
+root_of_number f false true square value status h = of_nan _ _ _ value status h
+root_of_number f false false square value status h = h
 
 same_or : (test : Bool) → test ≡ (test || test)
 same_or true = refl
 same_or false = refl
 
-pub root_usual : (f : Format) (mode : Round) (x value : Datum) (status : ℕ) → f.nonfinite ≡ IEEE754
-    → IsRoot f mode x value status → IsUsual f x x (is_invalid_root x) value status
-root_usual f mode (nan b s) value status e h =
+pub root_usual : (f : Format) (x value : Datum) (status : ℕ) → IsSettledOrNumber (root f x) value status
+    → IsUsual f x x (is_invalid_root x) value status
+root_usual f (nan b s) value status h =
     let k = of_nan _ _ _ value status h in
     (k.0, k.1 ∙ ap (λ (test : Bool). invalid_if test) (same_or (is_signaling f s)))
-root_usual f mode (infinite b) value status e h = root_of_infinity f b value status h
-root_usual f mode (finite b n) value status e h = root_of_number f mode (eqb n 0) b n value status e h
+root_usual f (infinite b) value status h = invalid_or f b (infinite false) ok_bits value status refl h
+root_usual f (finite b n) value status h = root_of_number f (eqb n 0) b (n * 2 ^ f.scale) value status h
 
 pub exact_usual : (f : Format) (mode : Round) (x value : Datum) (status : ℕ)
     → IsRoundToIntegral f mode x value status → IsUsual f x x false value status
@@ -270,54 +286,25 @@ integral_usual f mode (finite b n) value status h =
 -- ---- fused sums
 
 -- a product that is a NaN, whatever is added
-nan_product : (f : Format) (mode : Round) (test b : Bool) (s : ℕ) (z value : Datum) (flags status : ℕ)
-    → MatchBool test (IsSum f mode (nan b s) z value status) (IsAnswer (nan b s) flags value status)
+nan_product : (f : Format) (test b : Bool) (s flags : ℕ) (z value : Datum) (status : ℕ)
+    → IsSettledOrNumber (if test then sum f (nan b s) z else settled (nan b s) flags) value status
     → is_nan value ≡ true
-nan_product f mode true b s z value flags status h = (of_nan _ _ _ value status h).0
-nan_product f mode false b s z value flags status h = (of_nan _ _ _ value status h).0
+nan_product f true b s flags z value status h = (of_nan _ _ _ value status h).0
+nan_product f false b s flags z value status h = (of_nan _ _ _ value status h).0
 
-nan_is : (f : Format) (mode : Round) (b : Bool) (s given : ℕ) (z value product : Datum) (flags status : ℕ)
-    → IsAnswer (nan b s) given product flags
-    → MatchBool (eqb flags ok_bits) (IsSum f mode product z value status) (IsAnswer product flags value status)
-    → is_nan value ≡ true
-nan_is f mode b s given z value product flags status p h =
-    nan_product f mode (eqb flags ok_bits) b s z value flags status
-    (subst (λ (d : Datum). MatchBool (eqb flags ok_bits) (IsSum f mode d z value status)
-    (IsAnswer d flags value status)) p.value_is h)
-
--- an invalid product: whatever is added, the result is its NaN
-invalid_product : (f : Format) (mode : Round) (z value product : Datum) (flags status : ℕ)
-    → IsInvalid f product flags
-    → MatchBool (eqb flags ok_bits) (IsSum f mode product z value status) (IsAnswer product flags value status)
-    → (is_nan value ≡ true) × (status ≡ invalid_bit)
-invalid_product f mode z value product flags status p h =
-    let k : IsAnswer product invalid_bit value status =
-    subst (λ (t : ℕ). MatchBool (eqb t ok_bits) (IsSum f mode product z value status)
-    (IsAnswer product t value status)) p.status_is h in
-    (is_of value product true k.value_is (is_of product (qnan f 0) true p.value_is refl), k.status_is)
+nan_is : (f : Format) (b : Bool) (s flags : ℕ) (z value : Datum) (status : ℕ)
+    → IsSettledOrNumber (on_product f z (settled (nan b s) flags)) value status → is_nan value ≡ true
+nan_is f b s flags z value status h = nan_product f (eqb flags ok_bits) b s flags z value status h
 
 -- an infinite product
-infinite_plus : (f : Format) (mode : Round) (b : Bool) (z value : Datum) (status : ℕ)
-    → IsSum f mode (infinite b) z value status
+infinite_plus : (f : Format) (b : Bool) (z value : Datum) (status : ℕ)
+    → IsSettledOrNumber (sum f (infinite b) z) value status
     → MatchBool (is_nan z) (is_nan value ≡ true)
     (IsUsualNumber (is_infinite z && not (same_sign b (is_negative z))) value status)
-infinite_plus f mode b (nan d t) value status h = (of_nan _ _ _ value status h).0
-infinite_plus f mode b (finite d n) value status h = of_number (infinite b) ok_bits value status refl h
-infinite_plus f mode b (infinite d) value status h =
+infinite_plus f b (nan d t) value status h = (of_nan _ _ _ value status h).0
+infinite_plus f b (finite d n) value status h = of_number (infinite b) ok_bits value status refl h
+infinite_plus f b (infinite d) value status h =
     or_invalid f (same_sign b d) (infinite b) ok_bits value status refl h
-
-plus_infinite : (f : Format) (mode : Round) (b : Bool) (z value product : Datum) (flags status : ℕ)
-    → IsAnswer (infinite b) ok_bits product flags
-    → MatchBool (eqb flags ok_bits) (IsSum f mode product z value status) (IsAnswer product flags value status)
-    → MatchBool (is_nan z) (is_nan value ≡ true)
-    (IsUsualNumber (is_infinite z && not (same_sign b (is_negative z))) value status)
-plus_infinite f mode b z value product flags status p h =
-    let k : MatchBool (eqb ok_bits ok_bits) (IsSum f mode product z value status)
-    (IsAnswer product ok_bits value status) =
-    subst (λ (t : ℕ). MatchBool (eqb t ok_bits) (IsSum f mode product z value status)
-    (IsAnswer product t value status)) p.status_is h in
-    infinite_plus f mode b z value status
-    (subst (λ (d : Datum). IsSum f mode d z value status) p.value_is k)
 
 both : (z value : Datum) (status : ℕ) (test : Bool) → (is_nan value ≡ true) × (status ≡ invalid_bit)
     → MatchBool (is_nan z) (is_nan value ≡ true) (IsUsualNumber (true || test) value status)
@@ -326,33 +313,25 @@ both (finite d n) value status test h = h
 both (infinite d) value status test h = h
 
 -- a product with an infinite factor, which is invalid as a test says
-special_plus : (f : Format) (mode : Round) (test b : Bool) (z value product : Datum) (flags status : ℕ)
-    → MatchBool test (IsInvalid f product flags) (IsAnswer (infinite b) ok_bits product flags)
-    → MatchBool (eqb flags ok_bits) (IsSum f mode product z value status) (IsAnswer product flags value status)
+special_plus : (f : Format) (test b : Bool) (z value : Datum) (status : ℕ)
+    → IsSettledOrNumber (on_product f z (if test then invalid f else exactly (infinite b))) value status
     → MatchBool (is_nan z) (is_nan value ≡ true)
     (IsUsualNumber (test || (is_infinite z && not (same_sign b (is_negative z)))) value status)
-special_plus f mode true b z value product flags status p h =
-    both z value status (is_infinite z && not (same_sign b (is_negative z)))
-    (invalid_product f mode z value product flags status p h)
-special_plus f mode false b z value product flags status p h =
-    plus_infinite f mode b z value product flags status p h
+special_plus f true b z value status h =
+    both z value status (is_infinite z && not (same_sign b (is_negative z))) (of_nan _ _ _ value status h)
+special_plus f false b z value status h = infinite_plus f b z value status h
 
-pub fused_usual : (f : Format) (mode : Round) (x y z value : Datum) (status : ℕ) → f.nonfinite ≡ IEEE754
-    → IsFusedSum f mode x y z value status → IsUsualFused x y z value status
-fused_usual f mode (finite b l) (finite c m) (finite d n) value status e h =
-    delivered_number f mode _ _ _ value status e h
-fused_usual f mode (finite b l) (finite c m) (infinite d) value status e h =
+pub fused_usual : (f : Format) (x y z value : Datum) (status : ℕ)
+    → IsSettledOrNumber (fused_sum f x y z) value status → IsUsualFused x y z value status
+fused_usual f (finite b l) (finite c m) (finite d n) value status h = h
+fused_usual f (finite b l) (finite c m) (infinite d) value status h =
     of_number (infinite d) ok_bits value status refl h
-fused_usual f mode (finite b l) (finite c m) (nan d t) value status e h = (of_nan _ _ _ value status h).0
-fused_usual f mode (finite b l) (infinite c) z value status e h =
-    special_plus f mode (eqb l 0) (product_sign b c) z value h.product h.flags status h.is_product h.is
-fused_usual f mode (infinite b) (finite c m) z value status e h =
-    special_plus f mode (eqb m 0) (product_sign b c) z value h.product h.flags status h.is_product h.is
-fused_usual f mode (infinite b) (infinite c) z value status e h =
-    plus_infinite f mode (product_sign b c) z value h.product h.flags status h.is_product h.is
-fused_usual f mode (finite b l) (nan c t) z value status e h =
-    nan_is f mode c _ _ z value h.product h.flags status h.is_product h.is
-fused_usual f mode (infinite b) (nan c t) z value status e h =
-    nan_is f mode c _ _ z value h.product h.flags status h.is_product h.is
-fused_usual f mode (nan b s) y z value status e h =
-    nan_is f mode b _ _ z value h.product h.flags status h.is_product h.is
+fused_usual f (finite b l) (finite c m) (nan d t) value status h = (of_nan _ _ _ value status h).0
+fused_usual f (finite b l) (infinite c) z value status h =
+    special_plus f (eqb l 0) (product_sign b c) z value status h
+fused_usual f (infinite b) (finite c m) z value status h =
+    special_plus f (eqb m 0) (product_sign b c) z value status h
+fused_usual f (infinite b) (infinite c) z value status h = infinite_plus f (product_sign b c) z value status h
+fused_usual f (finite b l) (nan c t) z value status h = nan_is f c _ _ z value status h
+fused_usual f (infinite b) (nan c t) z value status h = nan_is f c _ _ z value status h
+fused_usual f (nan b s) y z value status h = nan_is f b _ _ z value status h

@@ -1,59 +1,49 @@
--- The operations of a machine that flushes tiny results to zero. The exact result of numbers is rounded once or is
--- flushed; the result of other operands is that of the operation without flushing, since it is never tiny.
-use Rattle.std.specs.Prelude.{ℕ, ◌*◌, ◌^◌, Bool, eqb, ◌+ℤ◌, if◌then◌else◌}
+-- The operations of a machine that flushes tiny results to zero: where an operation rounds once, its exact result is
+-- rounded once or is flushed. What is given outright is never tiny, and is as it is without flushing.
+use Rattle.std.specs.Prelude.{ℕ, ◌*◌, ◌^◌, Bool, eqb, if◌then◌else◌}
 use Rattle.std.specs.Bool.{MatchBool}
 use Rattle.apfloat_model.specs.declared.kinds.Round.{Round}
 use Rattle.apfloat_model.specs.declared.status.StatusAnd.{StatusAnd}
 use Rattle.apfloat_model.specs.rounding.Flags.{Gives, bits_of}
 use Rattle.apfloat_model.specs.formats.Format.{Format}
-use Rattle.apfloat_model.specs.formats.Datum.{Datum, finite, infinite, nan}
-use Rattle.apfloat_model.specs.formats.Constants.{infinity_of}
-use Rattle.apfloat_model.specs.formats.Nan.{IsInvalid}
+use Rattle.apfloat_model.specs.formats.Datum.{Datum, finite}
 use Rattle.apfloat_model.specs.rounding.Rounding.{ok_bits, inexact_bit, zero_sign}
-use Rattle.apfloat_model.specs.rounding.Negation.{negated}
 use Rattle.apfloat_model.specs.rounding.Answer.{IsAnswer}
-use Rattle.apfloat_model.specs.arithmetic.Exact.{signed, sign_of, magnitude, product_sign}
-use Rattle.apfloat_model.specs.arithmetic.Sums.{zero_sum_sign, IsSum, IsDifference}
-use Rattle.apfloat_model.specs.arithmetic.Products.{IsProduct}
-use Rattle.apfloat_model.specs.arithmetic.Quotients.{div_by_zero_bit, IsQuotient}
-use Rattle.apfloat_model.specs.arithmetic.FusedSums.{IsFusedSum}
+use Rattle.apfloat_model.specs.rounding.DeliveredRoots.{IsDeliveredRoot}
+use Rattle.apfloat_model.specs.rounding.Outcome.{Outcome, settled, rounded, totalled, rooted}
+use Rattle.apfloat_model.specs.arithmetic.Exact.{sign_of, magnitude, zero_sum_sign}
+use Rattle.apfloat_model.specs.arithmetic.Sums.{sum, difference, IsSum, IsDifference}
+use Rattle.apfloat_model.specs.arithmetic.Products.{product, IsProduct}
+use Rattle.apfloat_model.specs.arithmetic.Quotients.{quotient, IsQuotient}
+use Rattle.apfloat_model.specs.arithmetic.FusedSums.{fused_sum, IsFusedSum}
 use Rattle.apfloat_model.specs.arithmetic.Conversions.{loses_zero_sign, IsConversion}
 use Rattle.apfloat_machines.specs.declared.flushing.Flush.{Flush}
 use Rattle.apfloat_machines.specs.Flushing.{IsRoundedOrFlushed}
 use Rattle.apfloat_machines.specs.Theorems.{IsOnce}
 
-abbrev pub IsFlushedSum : Format → Flush → Round → Datum → Datum → Datum → ℕ → Type 0
-IsFlushedSum f flush mode (finite b m) (finite c n) value status =
-    IsRoundedOrFlushed f flush mode (sign_of (zero_sum_sign mode b c) (signed b m +ℤ signed c n))
-    (magnitude (signed b m +ℤ signed c n)) 1 value status
-IsFlushedSum f flush mode x y value status = IsSum f mode x y value status
+-- what becomes of an outcome (`Yields`); no operation here has a root for its outcome
+abbrev pub YieldsFlushed : Format → Flush → Round → Outcome → Datum → ℕ → Type 0
+YieldsFlushed f flush mode (settled datum flags) value status = IsAnswer datum flags value status
+YieldsFlushed f flush mode (rounded negative amount parts) value status =
+    IsRoundedOrFlushed f flush mode negative amount parts value status
+YieldsFlushed f flush mode (totalled left right exact parts) value status =
+    IsRoundedOrFlushed f flush mode (sign_of (zero_sum_sign mode left right) exact) (magnitude exact) parts value status
+YieldsFlushed f flush mode (rooted square) value status = IsDeliveredRoot f mode square value status
 
--- a NaN is not negated
+abbrev pub IsFlushedSum : Format → Flush → Round → Datum → Datum → Datum → ℕ → Type 0
+IsFlushedSum f flush mode x y value status = YieldsFlushed f flush mode (sum f x y) value status
+
 abbrev pub IsFlushedDifference : Format → Flush → Round → Datum → Datum → Datum → ℕ → Type 0
-IsFlushedDifference f flush mode (nan b s) y value status = IsDifference f mode (nan b s) y value status
-IsFlushedDifference f flush mode x (nan c t) value status = IsDifference f mode x (nan c t) value status
-IsFlushedDifference f flush mode x y value status = IsFlushedSum f flush mode x (negated f.nonfinite y) value status
+IsFlushedDifference f flush mode x y value status = YieldsFlushed f flush mode (difference f x y) value status
 
 abbrev pub IsFlushedProduct : Format → Flush → Round → Datum → Datum → Datum → ℕ → Type 0
-IsFlushedProduct f flush mode (finite b m) (finite c n) value status =
-    IsRoundedOrFlushed f flush mode (product_sign b c) (m * n) (2 ^ f.scale) value status
-IsFlushedProduct f flush mode x y value status = IsProduct f mode x y value status
+IsFlushedProduct f flush mode x y value status = YieldsFlushed f flush mode (product f x y) value status
 
 abbrev pub IsFlushedQuotient : Format → Flush → Round → Datum → Datum → Datum → ℕ → Type 0
-IsFlushedQuotient f flush mode (finite b m) (finite c n) value status =
-    MatchBool (eqb n 0)
-    (MatchBool (eqb m 0) (IsInvalid f value status)
-    (IsAnswer (infinity_of f (product_sign b c)) div_by_zero_bit value status))
-    (IsRoundedOrFlushed f flush mode (product_sign b c) (m * 2 ^ f.scale) n value status)
-IsFlushedQuotient f flush mode x y value status = IsQuotient f mode x y value status
+IsFlushedQuotient f flush mode x y value status = YieldsFlushed f flush mode (quotient f x y) value status
 
 abbrev pub IsFlushedFusedSum : Format → Flush → Round → Datum → Datum → Datum → Datum → ℕ → Type 0
-IsFlushedFusedSum f flush mode (finite b l) (finite c m) (finite d n) value status =
-    IsRoundedOrFlushed f flush mode
-    (sign_of (zero_sum_sign mode (product_sign b c) d)
-    (signed (product_sign b c) (l * m) +ℤ signed d (n * 2 ^ f.scale)))
-    (magnitude (signed (product_sign b c) (l * m) +ℤ signed d (n * 2 ^ f.scale))) (2 ^ f.scale) value status
-IsFlushedFusedSum f flush mode x y z value status = IsFusedSum f mode x y z value status
+IsFlushedFusedSum f flush mode x y z value status = YieldsFlushed f flush mode (fused_sum f x y z) value status
 
 -- of a datum of f into g
 abbrev pub IsFlushedConversion : Format → Format → Flush → Round → Datum → Datum → ℕ → Type 0
