@@ -1,3 +1,4 @@
+pub mod ProductsSound
 pub mod ProductSteps
 pub mod ProductBounds
 pub mod ProductRanges

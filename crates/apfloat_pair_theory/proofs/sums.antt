@@ -1,3 +1,4 @@
+pub mod SumsSound
 pub mod PairRoundings
 pub mod SumBounds
 pub mod SumSteps
