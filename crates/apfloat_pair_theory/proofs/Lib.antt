@@ -5,4 +5,3 @@ pub mod products
 pub mod parts
 pub mod calls
 pub mod RefusedAnswers
-pub mod PairSumSteps

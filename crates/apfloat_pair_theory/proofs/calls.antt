@@ -1,5 +1,4 @@
 pub mod PairsOnce
-pub mod PairsExist
 pub mod CallsOnce
 pub mod PairFlagsTogether
 pub mod CallsExist

@@ -1,68 +1,52 @@
--- The product of two pairs of doubles. Each step is an operation on doubles in the mode, and the flags of the steps are
--- joined.
-use Rattle.std.specs.Prelude.{◌≡◌, ℕ}
-use Rattle.std.specs.Bool.{MatchBool}
+-- The product of two pairs of doubles, as a chain of roundings in the mode; the flags of the steps are joined.
+use Rattle.std.specs.Prelude.{ℕ, if◌then◌else◌}
 use Rattle.apfloat_model.specs.declared.kinds.Round.{Round}
 use Rattle.apfloat_model.specs.declared.kinds.NonfiniteBehavior.TheVariants.{IEEE754}
+use Rattle.apfloat_model.specs.declared.kinds.Category.{Category}
+use Rattle.apfloat_model.specs.declared.kinds.Category.TheVariants.{Zero, Normal, Infinity, NaN}
 use Rattle.apfloat_model.specs.formats.Datum.{Datum}
 use Rattle.apfloat_model.specs.rounding.Rounding.{ok_bits}
 use Rattle.apfloat_model.specs.rounding.Negation.{negated}
+use Rattle.apfloat_model.specs.rounding.Steps.{Steps, ends, after, Leads}
 use Rattle.apfloat_model.specs.order.Classes.{is_finite_non_zero}
-use Rattle.apfloat_model.specs.arithmetic.Sums.{IsSum}
-use Rattle.apfloat_model.specs.arithmetic.Products.{IsProduct}
-use Rattle.apfloat_model.specs.arithmetic.FusedSums.{IsFusedSum}
+use Rattle.apfloat_model.specs.arithmetic.Sums.{sum}
+use Rattle.apfloat_model.specs.arithmetic.Products.{product}
+use Rattle.apfloat_model.specs.arithmetic.FusedSums.{fused_sum}
 use Rattle.apfloat_pair_theory.specs.PairFormats.{double}
-use Rattle.apfloat_pair_theory.specs.Pairs.{Pair, IsPairAnswer, alone, pair_category, pair_nan}
-use Rattle.apfloat_model.specs.declared.kinds.Category.{Category}
-use Rattle.apfloat_model.specs.declared.kinds.Category.TheVariants.{Zero, Normal, Infinity, NaN}
-use Rattle.apfloat_pair_theory.specs.PairSums.{◌∪◌, IsClosed}
+use Rattle.apfloat_pair_theory.specs.Pairs.{Pair, alone, pair_category, pair_nan}
+use Rattle.apfloat_pair_theory.specs.PairSums.{◌∪◌, continued, closing}
 
--- tau is the error of t = a * c, plus the products of a high part and a low part
-pub record IsLostOfProduct (mode : Round) (a b c d t tau : Datum) (flags : ℕ) : Type 0 where
-  pub lost : Datum
-  pub v : Datum
-  pub w : Datum
-  pub cross : Datum
-  pub lost_flags : ℕ
-  pub v_flags : ℕ
-  pub w_flags : ℕ
-  pub cross_flags : ℕ
-  pub tau_flags : ℕ
-  -- a * c - t, rounded once; a * d, b * c, and their sum
-  pub is_lost : IsFusedSum double mode a c (negated IEEE754 t) lost lost_flags
-  pub is_v : IsProduct double mode a d v v_flags
-  pub is_w : IsProduct double mode b c w w_flags
-  pub is_cross : IsSum double mode v w cross cross_flags
-  pub is_tau : IsSum double mode lost cross tau tau_flags
-  pub flags_are : flags ≡ lost_flags ∪ v_flags ∪ w_flags ∪ cross_flags ∪ tau_flags
+-- the error of t = a * c, rounded once, plus the products of a high part and a low part
+abbrev pub lost_of_product : Datum → Datum → Datum → Datum → Datum → Steps Datum
+lost_of_product a b c d t =
+    after (fused_sum double a c (negated IEEE754 t)) (λ lost lost_flags.
+    after (product double a d) (λ v v_flags. after (product double b c) (λ w w_flags.
+    after (sum double v w) (λ cross cross_flags. after (sum double lost cross) (λ tau tau_flags.
+    ends tau (lost_flags ∪ v_flags ∪ w_flags ∪ cross_flags ∪ tau_flags))))))
 
-pub record IsNumberProduct (mode : Round) (x y : Pair) (t : Datum) (t_flags : ℕ) (answer : Pair)
-    (status : ℕ) : Type 0 where
-  pub tau : Datum
-  pub tau_flags : ℕ
-  pub is_tau : IsLostOfProduct mode x.high x.low y.high y.low t tau tau_flags
-  pub is_answer : IsClosed mode t tau (t_flags ∪ tau_flags) answer status
+abbrev pub number_product : Pair → Pair → Datum → ℕ → Steps Pair
+number_product x y t flags =
+    continued (lost_of_product x.high x.low y.high y.low t) (λ tau s. closing t tau (flags ∪ s))
 
-pub record IsProductOfNumbers (mode : Round) (x y : Pair) (answer : Pair) (status : ℕ) : Type 0 where
-  pub t : Datum
-  pub t_flags : ℕ
-  pub is_t : IsProduct double mode x.high y.high t t_flags
-  pub is_answer : MatchBool (is_finite_non_zero t)
-      (IsNumberProduct mode x y t t_flags answer status)
-      (IsPairAnswer (alone t) t_flags answer status)
+abbrev pub product_of_numbers : Pair → Pair → Steps Pair
+product_of_numbers x y =
+    after (product double x.high y.high) (λ t s.
+    if is_finite_non_zero t then number_product x y t s else ends (alone t) s)
 
 -- The first row that matches. A zero or an infinity is returned unchanged, with its own sign.
-abbrev pub IsProductOfCategories : Category → Category → Round → Pair → Pair → Pair → ℕ → Type 0
-IsProductOfCategories NaN k mode x y answer status = IsPairAnswer x ok_bits answer status
-IsProductOfCategories k NaN mode x y answer status = IsPairAnswer y ok_bits answer status
-IsProductOfCategories Zero Infinity mode x y answer status = IsPairAnswer pair_nan ok_bits answer status
-IsProductOfCategories Infinity Zero mode x y answer status = IsPairAnswer pair_nan ok_bits answer status
-IsProductOfCategories Zero k mode x y answer status = IsPairAnswer x ok_bits answer status
-IsProductOfCategories Infinity k mode x y answer status = IsPairAnswer x ok_bits answer status
-IsProductOfCategories k Zero mode x y answer status = IsPairAnswer y ok_bits answer status
-IsProductOfCategories k Infinity mode x y answer status = IsPairAnswer y ok_bits answer status
-IsProductOfCategories Normal Normal mode x y answer status = IsProductOfNumbers mode x y answer status
+abbrev pub product_of_categories : Category → Category → Pair → Pair → Steps Pair
+product_of_categories NaN k x y = ends x ok_bits
+product_of_categories k NaN x y = ends y ok_bits
+product_of_categories Zero Infinity x y = ends pair_nan ok_bits
+product_of_categories Infinity Zero x y = ends pair_nan ok_bits
+product_of_categories Zero k x y = ends x ok_bits
+product_of_categories Infinity k x y = ends x ok_bits
+product_of_categories k Zero x y = ends y ok_bits
+product_of_categories k Infinity x y = ends y ok_bits
+product_of_categories Normal Normal x y = product_of_numbers x y
+
+abbrev pub pair_product : Pair → Pair → Steps Pair
+pair_product x y = product_of_categories (pair_category x) (pair_category y) x y
 
 abbrev pub IsPairProduct : Round → Pair → Pair → Pair → ℕ → Type 0
-IsPairProduct mode x y answer status =
-    IsProductOfCategories (pair_category x) (pair_category y) mode x y answer status
+IsPairProduct mode x y answer status = Leads double mode (pair_product x y) answer status

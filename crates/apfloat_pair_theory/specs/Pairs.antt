@@ -42,11 +42,6 @@ pair_nan = alone (qnan double 0)
 abbrev pub pair_nan_signed_as : Pair → Pair
 pair_nan_signed_as x = alone (nan (is_negative x.high) (quiet_significand double 0))
 
--- a given result, with these flags
-pub record IsPairAnswer (given : Pair) (flags : ℕ) (answer : Pair) (status : ℕ) : Type 0 where
-  pub answer_is : answer ≡ given
-  pub status_is : status ≡ flags
-
 -- ---- bits: the high part is the lower half
 
 abbrev pub pair_of : ℕ → Pair

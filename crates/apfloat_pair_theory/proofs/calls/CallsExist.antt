@@ -23,9 +23,11 @@ use Rattle.apfloat_pair_theory.specs.Pairs.{Pair, negated_pair, IsWidened, IsSum
 use Rattle.apfloat_pair_theory.specs.PairParts.{IsDenormalByParts, IsDenormalPair, IsPairScaling}
 use Rattle.apfloat_pair_theory.specs.PairCalls.{IsPairQuotient, IsPairTruncatedRemainder, IsPairNearestRemainder, IsPairRoundToIntegral, IsPairNextUp, IsPairNextDown, IsPairFromUnsigned, IsPairFromNegative, IsPairFromSigned}
 use Rattle.apfloat_pair_theory.specs.PairAnswers.{HasPairAnswer}
-use Rattle.apfloat_pair_theory.proofs.calls.PairsExist.{some_double}
 
--- the wide format has digits
+-- both formats have digits
+some_double : 0 < double.precision
+some_double = lit< tt
+
 some_wide : 0 < wide.precision
 some_wide = lit< tt
 

@@ -6,14 +6,14 @@ use Rattle.apfloat_model.specs.declared.status.StatusAnd.{StatusAnd}
 use Rattle.apfloat_model.specs.rounding.Flags.{Gives, bits_of}
 use Rattle.apfloat_model.specs.Determined.{Determines, DeterminesBoth, AreOneReading, IsDetermined}
 use Rattle.apfloat_model.proofs.Determined.{same_answer, refusal_once, reading_or_refusal}
-use Rattle.apfloat_pair_theory.specs.PairFormats.{wide}
-use Rattle.apfloat_pair_theory.specs.Pairs.{Pair, IsPairEncodedBy}
+use Rattle.apfloat_model.proofs.Steps.{leads_once}
+use Rattle.apfloat_pair_theory.specs.PairFormats.{double, wide}
+use Rattle.apfloat_pair_theory.specs.Pairs.{Pair, negated_pair, IsPairEncodedBy}
 use Rattle.apfloat_pair_theory.specs.PairAnswers.{OncePair}
-use Rattle.apfloat_pair_theory.specs.PairSums.{IsPairSum, IsPairDifference}
-use Rattle.apfloat_pair_theory.specs.PairProducts.{IsPairProduct}
+use Rattle.apfloat_pair_theory.specs.PairSums.{pair_sum, IsPairSum, IsPairDifference}
+use Rattle.apfloat_pair_theory.specs.PairProducts.{pair_product, IsPairProduct}
 use Rattle.apfloat_pair_theory.specs.PairParts.{IsPairIlogb, IsPairScaling, IsPairFraction}
 use Rattle.apfloat_pair_theory.specs.PairCalls.{IsPairQuotient, IsPairTruncatedRemainder, IsPairNearestRemainder, IsPairRoundToIntegral, IsPairNextUp, IsPairNextDown, IsPairExactInverse, IsPairReading, IsPairRead, IsPairFromUnsigned, IsPairFromSigned, IsPairToUnsigned, IsPairToSigned}
-use Rattle.apfloat_pair_theory.proofs.calls.PairsOnce.{pair_sum_once, pair_difference_once, pair_product_once}
 use Rattle.apfloat_pair_theory.proofs.pairs.PairBits.{pair_encoded_once}
 use Rattle.apfloat_pair_theory.proofs.calls.CallsOnce.{OnceWhole, pair_quotient_once, pair_truncated_remainder_once, pair_nearest_remainder_once, pair_round_to_integral_once, pair_next_up_once, pair_next_down_once, pair_reading_once, pair_exact_inverse_once, pair_from_unsigned_once, pair_from_signed_once, pair_to_unsigned_once, pair_to_signed_once, pair_ilogb_once, pair_scaling_once, pair_fraction_once}
 
@@ -63,9 +63,10 @@ pub pairs_determined : (mode : Round)
     (λ x round answer exponent. IsPairFraction round x answer exponent)
     (λ text round answer. IsPairRead round text answer)
 pairs_determined mode = record {
-  sum = λ x y. pair_gives_once (IsPairSum mode x y) (pair_sum_once mode x y);
-  difference = λ x y. pair_gives_once (IsPairDifference mode x y) (pair_difference_once mode x y);
-  product = λ x y. pair_gives_once (IsPairProduct mode x y) (pair_product_once mode x y);
+  sum = λ x y. pair_gives_once (IsPairSum mode x y) (leads_once double mode (pair_sum x y));
+  difference = λ x y.
+      pair_gives_once (IsPairDifference mode x y) (leads_once double mode (pair_sum x (negated_pair y)));
+  product = λ x y. pair_gives_once (IsPairProduct mode x y) (leads_once double mode (pair_product x y));
   quotient = λ x y. pair_gives_once (IsPairQuotient mode x y) (pair_quotient_once mode x y);
   inverse = λ x. pair_exact_inverse_once x;
   remainder = λ x y. pair_gives_once (IsPairTruncatedRemainder x y) (pair_truncated_remainder_once x y);

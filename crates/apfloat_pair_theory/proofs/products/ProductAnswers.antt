@@ -1,11 +1,13 @@
 -- The written product of two pairs of doubles whose high parts are not zero: its steps are roundings, and they leave a
 -- normalized pair.
 use Rattle.std.proofs.Common.{◌≡◌, ℕ, ◌+◌, ◌*◌, ◌^◌, ◌<◌, ◌≤◌, true, false, eqb, refl, subst, arith, lit≤}
+use Rattle.std.proofs.Math.Path.{subst₂}
 use Rattle.std.specs.Prelude.{ℤ, ◌+ℤ◌, ◌-ℤ◌, ◌*ℤ◌}
-use Rattle.std.proofs.lemmas.Bool.{ne_eqb, lt-ltb, ltb-true, false≢true, MatchBool-at_true}
+use Rattle.std.proofs.lemmas.Bool.{ne_eqb, lt-ltb, ltb-true, false≢true}
 use Rattle.apfloat_model.specs.declared.kinds.Round.TheVariants.{NearestTiesToEven}
 use Rattle.apfloat_model.specs.formats.Format.{largest}
 use Rattle.apfloat_model.specs.formats.Datum.{Datum, finite, infinite, nan}
+use Rattle.apfloat_model.specs.rounding.Steps.{Leads}
 use Rattle.apfloat_model.specs.order.Classes.{is_finite, is_finite_non_zero, category_of}
 use Rattle.apfloat_model.specs.arithmetic.Exact.{magnitude}
 use Rattle.apfloat_model.specs.order.Order.{number}
@@ -14,8 +16,7 @@ use Rattle.apfloat_pair_theory.specs.PairFormats.{double}
 use Rattle.apfloat_pair_theory.specs.Pairs.{Pair, pair_number, IsNormalised, pair_category}
 use Rattle.apfloat_model.specs.declared.kinds.Category.{Category}
 use Rattle.apfloat_model.specs.declared.kinds.Category.TheVariants.{Normal}
-use Rattle.apfloat_pair_theory.specs.PairSums.{◌∪◌}
-use Rattle.apfloat_pair_theory.specs.PairProducts.{IsProductOfNumbers, IsProductOfCategories, IsPairProduct}
+use Rattle.apfloat_pair_theory.specs.PairProducts.{number_product, product_of_numbers, product_of_categories, IsPairProduct}
 use Rattle.apfloat_pair_theory.specs.PairAccuracy.{sum_reach}
 use Rattle.apfloat_pair_theory.proofs.numbers.Signed.{grown, magnitude-sub}
 use Rattle.apfloat_pair_theory.proofs.numbers.Nearest.{IsNearest}
@@ -24,7 +25,7 @@ use Rattle.apfloat_pair_theory.proofs.sums.SumSteps.{size, within_largest}
 use Rattle.apfloat_pair_theory.proofs.numbers.WholeProducts.{high_rounded}
 use Rattle.apfloat_pair_theory.proofs.products.ProductSteps.{IsLostNumber, AreFactors, nearest_close, lost_numbers}
 use Rattle.apfloat_pair_theory.proofs.products.ProductRanges.{IsInRange}
-use Rattle.apfloat_pair_theory.proofs.sums.ClosingSums.{is_ieee, room, IsClosable, closed_pair}
+use Rattle.apfloat_pair_theory.proofs.sums.ClosingSums.{is_ieee, room, IsClosable, at_true, closed_pair}
 
 -- ---- categories
 
@@ -48,11 +49,13 @@ non_zero (infinite b) h p = absurd (false≢true h)
 non_zero (nan b s) h p = absurd (false≢true h)
 
 -- for two nonzero numbers, the case of numbers applies
-product_of_numbers : (x y answer : Pair) (status : ℕ) → pair_category x ≡ Normal → pair_category y ≡ Normal
-    → IsPairProduct NearestTiesToEven x y answer status → IsProductOfNumbers NearestTiesToEven x y answer status
-product_of_numbers x y answer status e g s =
-    subst (λ (i : Category). IsProductOfCategories Normal i NearestTiesToEven x y answer status) g
-    (subst (λ (i : Category). IsProductOfCategories i (pair_category y) NearestTiesToEven x y answer status) e s)
+of_numbers : (x y answer : Pair) (status : ℕ) → pair_category x ≡ Normal → pair_category y ≡ Normal
+    → IsPairProduct NearestTiesToEven x y answer status
+    → Leads double NearestTiesToEven (product_of_numbers x y) answer status
+of_numbers x y answer status e g s =
+    subst₂
+    (λ (i : Category) (j : Category). Leads double NearestTiesToEven (product_of_categories i j x y) answer status)
+    e g s
 
 -- ---- the result, from the roundings
 
@@ -82,67 +85,83 @@ some_left : (x e t : ℕ) → 64 * e ≤ x → 64 ≤ x → x ≤ t + e → 0 < 
 some_left x e t h l k = omega arith
 
 -- t and tau within the bounds of the closing sum
-closing_low : (x e t q top : ℕ) → 64 * e ≤ x → t ≤ x + e → x ≤ t + e → 8 * q ≤ x → x ≤ 2 * top
+close_low : (x e t q top : ℕ) → 64 * e ≤ x → t ≤ x + e → x ≤ t + e → 8 * q ≤ x → x ≤ 2 * top
     → (q ≤ t) × (4 * t ≤ 9 * top) × (4 * q ≤ 3 * top)
-closing_low x e t q top h₁ h₂ h₃ h₄ h₅ = (omega arith, omega arith, omega arith)
+close_low x e t q top h₁ h₂ h₃ h₄ h₅ = (omega arith, omega arith, omega arith)
+
+-- a number is within its rounded value and the error
+reached : (x t : ℤ) → magnitude x ≤ magnitude t + magnitude (t -ℤ x)
+reached x t = omega (arith, grown t x, magnitude-sub x t)
+
+-- the steps after the product of the high parts
+from_steps : (x y : Pair) (t : Datum) (flags : ℕ) (answer : Pair) (status : ℕ) (whole : ℤ) → IsFactor x → IsFactor y
+    → IsInRange (number x.high) (number y.high) whole → is_finite t ≡ true
+    → IsNearest double.precision whole (number t)
+    → Leads double NearestTiesToEven (number_product x y t flags) answer status → IsProductNumber x y whole answer
+from_steps x y t flags answer status whole a c r is_number nearest lost =
+    let v = lost.3 in
+    let w = v.3 in
+    let cross = w.3 in
+    let tau = cross.3 in
+    let e = nearest_close double.precision whole (number t) sixty_four nearest in
+    let g : AreFactors double whole x.high x.low y.high y.low =
+    record {
+      finite_a = finite_number x.high a.is_number;
+      finite_b = a.finite_low;
+      finite_c = finite_number y.high c.is_number;
+      finite_d = c.finite_low;
+      whole = r.whole;
+      within = within_largest sum_reach (largest double) (magnitude whole) room r.within;
+      some = r.some;
+      low_first = a.small;
+      low_second = c.small;
+    } in
+    let n = lost_numbers double is_ieee sixty_four whole x.high x.low y.high y.low t lost.0 v.0 w.0 cross.0 tau.0 g
+    is_number nearest
+    record {
+      lost_flags = lost.1;
+      v_flags = v.1;
+      w_flags = w.1;
+      cross_flags = cross.1;
+      tau_flags = tau.1;
+      is_lost = lost.2;
+      is_v = v.2;
+      is_w = w.2;
+      is_cross = cross.2;
+      is_tau = tau.2;
+    } in
+    let b = close_low _ _ _ _ sum_reach e (grown whole (number t)) (reached whole (number t)) n.small r.within in
+    let m : IsClosable t tau.0 =
+    record {
+      addend = record { finite_sum = is_number; finite_rest = n.is_finite; sum_low = b.1; rest_low = b.2 };
+      sum_on_grid = nearest.on_grid;
+      rest_on_grid = n.number_is.tau_is.on_grid;
+      shared = shared double.precision (number t) (number tau.0) nearest.on_grid n.number_is.tau_is.on_grid b.0;
+    } in
+    let q = closed_pair t tau.0 _ answer status m tau.3 in
+    record {
+      t = number t;
+      tau = number tau.0;
+      t_is = nearest;
+      lost = n.number_is;
+      normalised = q.normalised;
+      number_is = q.number_is;
+    }
 
 -- within range, no step overflows, and the closing sum loses nothing
 pub product_numbers : (x y answer : Pair) (status : ℕ) (whole : ℤ) → IsFactor x → IsFactor y
     → IsInRange (number x.high) (number y.high) whole
     → IsPairProduct NearestTiesToEven x y answer status → IsProductNumber x y whole answer
 product_numbers x y answer status whole a c r s =
-    let fx = finite_number x.high a.is_number in
-    let fy = finite_number y.high c.is_number in
-    let p = product_of_numbers x y answer status (number_category x.high a.is_number)
-    (number_category y.high c.is_number) s in
-    let l = within_largest sum_reach (largest double) (magnitude whole) room r.within in
-    let nt = high_rounded double x.high y.high p.t p.t_flags whole is_ieee fx fy r.whole l p.is_t in
-    let e = nearest_close double.precision whole (number p.t) sixty_four nt.nearest in
-    let back : magnitude whole ≤ size p.t + magnitude (number p.t -ℤ whole) =
-    omega (arith, grown (number p.t) whole, magnitude-sub whole (number p.t)) in
-    let y₁ = MatchBool-at_true _ _ (non_zero p.t nt.is_finite (some_left _ _ _ e r.some back))
-    p.is_answer in
-    let z = y₁.is_tau in
-    let g : AreFactors double whole x.high x.low y.high y.low =
-    record {
-      finite_a = fx;
-      finite_b = a.finite_low;
-      finite_c = fy;
-      finite_d = c.finite_low;
-      whole = r.whole;
-      within = l;
-      some = r.some;
-      low_first = a.small;
-      low_second = c.small;
-    } in
-    let n = lost_numbers double is_ieee sixty_four whole x.high x.low y.high y.low p.t z.lost z.v z.w z.cross y₁.tau g
-    nt.is_finite nt.nearest
-    record {
-      lost_flags = z.lost_flags;
-      v_flags = z.v_flags;
-      w_flags = z.w_flags;
-      cross_flags = z.cross_flags;
-      tau_flags = z.tau_flags;
-      is_lost = z.is_lost;
-      is_v = z.is_v;
-      is_w = z.is_w;
-      is_cross = z.is_cross;
-      is_tau = z.is_tau;
-    } in
-    let b = closing_low _ _ _ _ sum_reach e (grown whole (number p.t)) back n.small r.within in
-    let m : IsClosable p.t y₁.tau =
-    record {
-      addend = record { finite_sum = nt.is_finite; finite_rest = n.is_finite; sum_low = b.1; rest_low = b.2 };
-      sum_on_grid = nt.nearest.on_grid;
-      rest_on_grid = n.number_is.tau_is.on_grid;
-      shared = shared double.precision (number p.t) (number y₁.tau) nt.nearest.on_grid n.number_is.tau_is.on_grid b.0;
-    } in
-    let q = closed_pair p.t y₁.tau (p.t_flags ∪ y₁.tau_flags) answer status m y₁.is_answer in
-    record {
-      t = number p.t;
-      tau = number y₁.tau;
-      t_is = nt.nearest;
-      lost = n.number_is;
-      normalised = q.normalised;
-      number_is = q.number_is;
-    }
+    multiplied (of_numbers x y answer status (number_category x.high a.is_number)
+    (number_category y.high c.is_number) s) where
+      multiplied : Leads double NearestTiesToEven (product_of_numbers x y) answer status
+          → IsProductNumber x y whole answer
+      multiplied (t, t_flags, is_t, is_answer) =
+          let l = within_largest sum_reach (largest double) (magnitude whole) room r.within in
+          let n = high_rounded double x.high y.high t t_flags whole is_ieee (finite_number x.high a.is_number)
+          (finite_number y.high c.is_number) r.whole l is_t in
+          let e = nearest_close double.precision whole (number t) sixty_four n.nearest in
+          from_steps x y t t_flags answer status whole a c r n.is_finite n.nearest
+          (at_true _ _ _ answer status
+          (non_zero t n.is_finite (some_left _ _ _ e r.some (reached whole (number t)))) is_answer)

@@ -6,14 +6,16 @@ use Rattle.apfloat_model.specs.declared.kinds.Round.TheVariants.{NearestTiesToEv
 use Rattle.apfloat_model.specs.formats.Datum.{finite}
 use Rattle.apfloat_model.specs.rounding.Rounding.{ok_bits, inexact_bit}
 use Rattle.apfloat_model.proofs.rows.RowsIn.{rounded}
+use Rattle.apfloat_pair_theory.proofs.sums.SumsSound.{step}
 use Rattle.apfloat_model.specs.formats.Members.{IsFiniteOf}
 use Rattle.apfloat_pair_theory.specs.PairFormats.{double}
 use Rattle.apfloat_pair_theory.specs.Pairs.{Pair, alone, IsNormalised, pair_number}
-use Rattle.apfloat_pair_theory.specs.PairProducts.{IsPairProduct}
+use Rattle.apfloat_pair_theory.specs.PairProducts.{pair_product, IsPairProduct}
 use Rattle.apfloat_pair_theory.specs.PairAccuracy.{HaveExponents, IsSingle}
-use Rattle.apfloat_pair_theory.proofs.calls.PairsExist.{pair_product_exists}
+use Rattle.apfloat_model.proofs.Steps.{leads_somewhere}
 use Rattle.apfloat_pair_theory.proofs.pairs.LawOperands.{double_alone}
 use Rattle.apfloat_pair_theory.proofs.sums.PairSumLaws.{single_normalised}
+use Rattle.apfloat_pair_theory.proofs.products.ProductsSound.{pair_product_sound}
 use Rattle.apfloat_pair_theory.proofs.products.PairProductLaws.{error_free_product, accurate_product}
 
 -- ---- products with 1 + 2 ^ -1074, which is one quantum above 1
@@ -24,91 +26,33 @@ one_and_quantum = record { high = finite false (2 ^ 1074); low = finite false 1 
 -- 1 times that: the result keeps the quantum, and the closing sum is inexact
 one_times : IsPairProduct NearestTiesToEven (alone (finite false (2 ^ 1074))) one_and_quantum one_and_quantum
     inexact_bit
-one_times = record {
-  t = finite false (2 ^ 1074);
-  t_flags = 0;
-  is_t = rounded (2 ^ 52) 1022 refl refl refl;
-  is_answer = record {
-    tau = finite false 1;
-    tau_flags = 0;
-    is_tau = record {
-      lost = finite false 0;
-      v = finite false 1;
-      w = finite false 0;
-      cross = finite false 1;
-      lost_flags = 0;
-      v_flags = 0;
-      w_flags = 0;
-      cross_flags = 0;
-      tau_flags = 0;
-      is_lost = rounded 0 0 refl refl refl;
-      is_v = rounded 1 0 refl refl refl;
-      is_w = rounded 0 0 refl refl refl;
-      is_cross = rounded 1 0 refl refl refl;
-      is_tau = rounded 1 0 refl refl refl;
-      flags_are = refl;
-    };
-    is_answer = record {
-      h = finite false (2 ^ 1074);
-      h_flags = 16;
-      is_h = rounded (2 ^ 52) 1022 refl refl refl;
-      is_answer = record {
-        left = finite false 0;
-        low = finite false 1;
-        left_flags = 0;
-        low_flags = 0;
-        is_left = rounded 0 0 refl refl refl;
-        is_low = rounded 1 0 refl refl refl;
-        is_answer = record { answer_is = refl; status_is = refl };
-      };
-    };
-  };
-}
+one_times =
+    step (finite false (2 ^ 1074)) 0 (rounded (2 ^ 52) 1022 refl refl refl)
+    (step (finite false 0) 0 (rounded 0 0 refl refl refl)
+    (step (finite false 1) 0 (rounded 1 0 refl refl refl)
+    (step (finite false 0) 0 (rounded 0 0 refl refl refl)
+    (step (finite false 1) 0 (rounded 1 0 refl refl refl)
+    (step (finite false 1) 0 (rounded 1 0 refl refl refl)
+    (step (finite false (2 ^ 1074)) 16 (rounded (2 ^ 52) 1022 refl refl refl)
+    (step (finite false 0) 0 (rounded 0 0 refl refl refl)
+    (step (finite false 1) 0 (rounded 1 0 refl refl refl)
+    (refl, refl)))))))))
 
 -- one quantum above -1 times that: the cross products cancel, and the result is -1
 minus_one_times : IsPairProduct NearestTiesToEven (record { high = finite true (2 ^ 1074); low = finite false 1 })
     one_and_quantum
     (alone (finite true (2 ^ 1074))) ok_bits
-minus_one_times = record {
-  t = finite true (2 ^ 1074);
-  t_flags = 0;
-  is_t = rounded (2 ^ 52) 1022 refl refl refl;
-  is_answer = record {
-    tau = finite false 0;
-    tau_flags = 0;
-    is_tau = record {
-      lost = finite false 0;
-      v = finite true 1;
-      w = finite false 1;
-      cross = finite false 0;
-      lost_flags = 0;
-      v_flags = 0;
-      w_flags = 0;
-      cross_flags = 0;
-      tau_flags = 0;
-      is_lost = rounded 0 0 refl refl refl;
-      is_v = rounded 1 0 refl refl refl;
-      is_w = rounded 1 0 refl refl refl;
-      is_cross = rounded 0 0 refl refl refl;
-      is_tau = rounded 0 0 refl refl refl;
-      flags_are = refl;
-    };
-    is_answer = record {
-      h = finite true (2 ^ 1074);
-      h_flags = 0;
-      is_h = rounded (2 ^ 52) 1022 refl refl refl;
-      is_answer = record {
-        left = finite false 0;
-        low = finite false 0;
-        left_flags = 0;
-        low_flags = 0;
-        is_left = rounded 0 0 refl refl refl;
-        is_low = rounded 0 0 refl refl refl;
-        is_answer = record { answer_is = refl; status_is = refl };
-      };
-    };
-  };
-}
+minus_one_times =
+    step (finite true (2 ^ 1074)) 0 (rounded (2 ^ 52) 1022 refl refl refl)
+    (step (finite false 0) 0 (rounded 0 0 refl refl refl)
+    (step (finite true 1) 0 (rounded 1 0 refl refl refl)
+    (step (finite false 1) 0 (rounded 1 0 refl refl refl)
+    (step (finite false 0) 0 (rounded 0 0 refl refl refl)
+    (step (finite false 0) 0 (rounded 0 0 refl refl refl)
+    (step (finite true (2 ^ 1074)) 0 (rounded (2 ^ 52) 1022 refl refl refl)
+    (step (finite false 0) 0 (rounded 0 0 refl refl refl)
+    (step (finite false 0) 0 (rounded 0 0 refl refl refl)
+    (refl, refl)))))))))
 
 -- ---- the laws
 
@@ -165,7 +109,8 @@ pub fifteen : (answer : Pair)
     × ((status : ℕ) × (IsPairProduct NearestTiesToEven three five answer status × IsNormalised answer
     × ((pair_number answer *ℤ pos (2 ^ 1074)) ≡ (pair_number three *ℤ pair_number five))))
 fifteen =
-    let r = pair_product_exists NearestTiesToEven three five in
+    let r = leads_somewhere double NearestTiesToEven (pair_product three five) (lit< tt)
+    (pair_product_sound three five) in
     let e = error_free_product three five r.0 r.1.0 three_is five_is r.1.1 three_single five_single
     (exponents 970 1021 (lit≤ tt)) in
     let a = accurate_product three five r.0 r.1.0 r.1.1 three_normalised five_normalised

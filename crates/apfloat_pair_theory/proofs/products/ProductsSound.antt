@@ -6,49 +6,34 @@ use Rattle.apfloat_model.specs.declared.kinds.Category.TheVariants.{Zero, Normal
 use Rattle.apfloat_model.specs.formats.Datum.{Datum}
 use Rattle.apfloat_model.specs.rounding.Negation.{negated}
 use Rattle.apfloat_model.specs.rounding.RaisedFlags.{FlagsGoTogether}
-use Rattle.apfloat_model.specs.rounding.Steps.{Steps, ends, AreSound}
+use Rattle.apfloat_model.specs.rounding.Steps.{ends, AreSound}
 use Rattle.apfloat_model.specs.order.Classes.{is_finite_non_zero}
 use Rattle.apfloat_model.proofs.Outcomes.{sum_sound, product_sound, fused_sum_sound}
 use Rattle.apfloat_model.proofs.rounding.StatusesTogether.{ok_together, union_together}
 use Rattle.apfloat_pair_theory.specs.PairFormats.{double}
 use Rattle.apfloat_pair_theory.specs.Pairs.{Pair, alone, pair_category}
-use Rattle.apfloat_pair_theory.specs.PairSums.{◌∪◌}
-use Rattle.apfloat_pair_theory.specs.PairSumSteps.{closed}
-use Rattle.apfloat_pair_theory.specs.PairProductSteps.{lost_of_product, number_product, product_of_numbers, product_of_categories, pair_product}
-use Rattle.apfloat_pair_theory.proofs.sums.SumsSound.{sound_if, continued_sound, closed_sound}
+use Rattle.apfloat_pair_theory.specs.PairSums.{◌∪◌, closing}
+use Rattle.apfloat_pair_theory.specs.PairProducts.{lost_of_product, number_product, product_of_numbers, product_of_categories, pair_product}
+use Rattle.apfloat_pair_theory.proofs.sums.SumsSound.{sound_after, sound_if, continued_sound, closing_sound}
 
 lost_of_product_sound : (a b c d t : Datum) → AreSound (lost_of_product a b c d t)
-lost_of_product_sound a b c d t = (
-  fused_sum_sound double a c (negated IEEE754 t),
-  λ l s f. (
-    product_sound double a d,
-    λ v u g. (
-      product_sound double b c,
-      λ w x h. (
-        sum_sound double v w,
-        λ cross y k. (
-          sum_sound double l cross,
-          λ tau z m.
-              union_together _ z (union_together _ y (union_together _ x (union_together s u f g) h) k) m,
-        ),
-      ),
-    ),
-  ),
-)
+lost_of_product_sound a b c d t =
+    sound_after (fused_sum_sound double a c (negated IEEE754 t)) (λ l s f.
+    sound_after (product_sound double a d) (λ v u g. sound_after (product_sound double b c) (λ w x h.
+    sound_after (sum_sound double v w) (λ cross y k. sound_after (sum_sound double l cross) (λ tau z m.
+    union_together _ z (union_together _ y (union_together _ x (union_together s u f g) h) k) m)))))
 
 number_product_sound : (x y : Pair) (t : Datum) (flags : ℕ) → FlagsGoTogether flags
     → AreSound (number_product x y t flags)
 number_product_sound x y t flags f =
-    continued_sound (lost_of_product x.high x.low y.high y.low t) (λ tau s. closed t tau (flags ∪ s))
+    continued_sound (lost_of_product x.high x.low y.high y.low t) (λ tau s. closing t tau (flags ∪ s))
     (lost_of_product_sound x.high x.low y.high y.low t)
-    (λ tau s g. closed_sound t tau (flags ∪ s) (union_together flags s f g))
+    (λ tau s g. closing_sound t tau (flags ∪ s) (union_together flags s f g))
 
 product_of_numbers_sound : (x y : Pair) → AreSound (product_of_numbers x y)
-product_of_numbers_sound x y = (
-  product_sound double x.high y.high,
-  λ t s f.
-      sound_if (is_finite_non_zero t) (number_product x y t s) (ends (alone t) s) (number_product_sound x y t s f) f,
-)
+product_of_numbers_sound x y =
+    sound_after (product_sound double x.high y.high) (λ t s f.
+    sound_if (is_finite_non_zero t) (number_product x y t s) (ends (alone t) s) (number_product_sound x y t s f) f)
 
 product_of_categories_sound : (first second : Category) (x y : Pair)
     → AreSound (product_of_categories first second x y)

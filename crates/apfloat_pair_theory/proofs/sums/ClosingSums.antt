@@ -1,21 +1,22 @@
 -- The closing sum of two doubles z and y, which ends each sum and each product of pairs: within reach, it is exact, and
 -- the result is normalized.
-use Rattle.std.proofs.Common.{◌≡◌, ℕ, ◌*◌, ◌^◌, ◌<◌, ◌≤◌, true, false, eqb, sym, refl, ap, ◌∙◌, subst, arith, inl, lit<, lit≤}
+use Rattle.std.proofs.Common.{◌≡◌, ℕ, Bool, if◌then◌else◌, ◌*◌, ◌^◌, ◌<◌, ◌≤◌, true, false, eqb, sym, refl, ap, ◌∙◌, subst, arith, inl, lit<, lit≤}
 use Rattle.std.specs.Prelude.{ℤ, pos, ◌+ℤ◌}
-use Rattle.std.proofs.lemmas.Bool.{false≢true, and_parts, eqb-true, MatchBool-at_true}
+use Rattle.std.proofs.lemmas.Bool.{false≢true, and_parts, eqb-true}
 use Rattle.apfloat_model.specs.declared.kinds.NonfiniteBehavior.TheVariants.{IEEE754}
 use Rattle.apfloat_model.specs.declared.kinds.Round.TheVariants.{NearestTiesToEven}
 use Rattle.apfloat_model.specs.formats.Format.{largest}
 use Rattle.apfloat_model.specs.formats.Datum.{Datum, finite, infinite, nan}
 use Rattle.apfloat_model.specs.rounding.Rounding.{ok_bits}
+use Rattle.apfloat_model.specs.rounding.Steps.{Steps, Leads}
 use Rattle.apfloat_model.specs.order.Classes.{is_finite, is_infinite, same_datum}
 use Rattle.apfloat_model.specs.arithmetic.Exact.{same_sign, signed}
 use Rattle.apfloat_model.specs.order.Order.{number}
 use Rattle.apfloat_model.specs.arithmetic.Sums.{IsSum}
 use Rattle.apfloat_model.proofs.arithmetic.Signs.{no_sign}
 use Rattle.apfloat_pair_theory.specs.PairFormats.{double}
-use Rattle.apfloat_pair_theory.specs.Pairs.{Pair, positive_zero, alone, pair_number, IsPairAnswer, IsNormalised}
-use Rattle.apfloat_pair_theory.specs.PairSums.{◌∪◌, IsLowPart, IsClosed}
+use Rattle.apfloat_pair_theory.specs.Pairs.{Pair, positive_zero, alone, pair_number, IsNormalised}
+use Rattle.apfloat_pair_theory.specs.PairSums.{◌∪◌, closing_low, closing}
 use Rattle.apfloat_pair_theory.specs.PairAccuracy.{IsOkOrInexact, sum_reach}
 use Rattle.apfloat_pair_theory.proofs.numbers.Signed.{IsGridNumber}
 use Rattle.apfloat_pair_theory.proofs.numbers.TwoSums.{IsShared}
@@ -50,6 +51,13 @@ finite_is_not_infinite (finite b n) h = refl
 finite_is_not_infinite (infinite b) h = absurd (false≢true h)
 finite_is_not_infinite (nan b n) h = absurd (false≢true h)
 
+-- where the test holds, the chain goes on with the first branch
+pub at_true : (test : Bool) (one other : Steps Pair) (answer : Pair) (status : ℕ) → test ≡ true
+    → Leads double NearestTiesToEven (if test then one else other) answer status
+    → Leads double NearestTiesToEven one answer status
+at_true true one other answer status e h = h
+at_true false one other answer status e h = absurd (false≢true e)
+
 -- ---- the closing sum
 
 -- a normalized result whose number is the sum plus the rest; its status is OK or INEXACT if the flags before it are
@@ -77,11 +85,11 @@ pair_of_high z y h l flags status fh fl e n o = record {
 
 -- what holds of a given pair holds of a result equal to it
 pub given_pair : (sum rest : Datum) (before : ℕ) (given : Pair) (flags : ℕ) (answer : Pair) (status : ℕ)
-    → IsPairAnswer given flags answer status → IsPairOf sum rest before given flags
+    → (answer ≡ given) × (status ≡ flags) → IsPairOf sum rest before given flags
     → IsPairOf sum rest before answer status
 given_pair z y before given flags answer status x p =
-    subst (λ (s : ℕ). IsPairOf z y before answer s) (sym x.status_is)
-    (subst (λ (w : Pair). IsPairOf z y before w flags) (sym x.answer_is) p)
+    subst (λ (s : ℕ). IsPairOf z y before answer s) (sym x.1)
+    (subst (λ (w : Pair). IsPairOf z y before w flags) (sym x.0) p)
 
 -- the operands of a closing sum: both on the grid, and multiples of one unit
 pub record IsClosable (sum rest : Datum) : Type 0 where
@@ -93,40 +101,40 @@ pub record IsClosable (sum rest : Datum) : Type 0 where
 -- the low part is the error of the rounded sum
 low_part_pair : (sum rest high : Datum) (before h_flags flags : ℕ) (answer : Pair) (status : ℕ) → IsClosable sum rest
     → (IsOkOrInexact before → IsOkOrInexact flags) → IsSum double NearestTiesToEven sum rest high h_flags
-    → IsLowPart NearestTiesToEven sum rest high flags answer status → IsPairOf sum rest before answer status
-low_part_pair z y h before h_flags flags answer status a o s x =
+    → Leads double NearestTiesToEven (closing_low sum rest high flags) answer status
+    → IsPairOf sum rest before answer status
+low_part_pair z y h before h_flags flags answer status a o s left =
+    let low = left.3 in
     let fz = a.addend.finite_sum in
     let fy = a.addend.finite_rest in
-    let steps : IsClosingSteps double z y h x.left x.low =
+    let steps : IsClosingSteps double z y h left.0 low.0 =
     record {
       sum_flags = h_flags;
-      first_flags = x.left_flags;
-      last_flags = x.low_flags;
+      first_flags = left.1;
+      last_flags = low.1;
       sum = s;
-      first = x.is_left;
-      last = x.is_low;
+      first = left.2;
+      last = low.2;
     } in
-    let c = closed double is_ieee wide_enough sum_reach room z y h x.left x.low a.addend steps in
+    let c = closed double is_ieee wide_enough sum_reach room z y h left.0 low.0 a.addend steps in
     let e = fast_two_sum double.precision wide_enough _ _ _ _ _ a.sum_on_grid a.rest_on_grid a.shared c.roundings in
-    let n = high_of_sum double z y h x.low h_flags is_ieee fz fy c.finite_high c.finite_low e s in
-    let left_status = difference_status double z h x.left x.left_flags is_ieee digits fz c.finite_high c.finite_left
-    x.is_left in
-    let low_status = sum_status double x.left y x.low x.low_flags is_ieee digits c.finite_left fy c.finite_low
-    x.is_low in
-    given_pair z y before (record { high = h; low = x.low }) _ answer status x.is_answer
-    (pair_of_high z y h x.low before _ c.finite_high c.finite_low e n
+    let n = high_of_sum double z y h low.0 h_flags is_ieee fz fy c.finite_high c.finite_low e s in
+    let left_status = difference_status double z h left.0 left.1 is_ieee digits fz c.finite_high c.finite_left
+    left.2 in
+    let low_status = sum_status double left.0 y low.0 low.1 is_ieee digits c.finite_left fy c.finite_low low.2 in
+    given_pair z y before (record { high = h; low = low.0 }) _ answer status low.3
+    (pair_of_high z y h low.0 before _ c.finite_high c.finite_low e n
     (λ p. union_status _ _ (union_status _ _ (o p) left_status) low_status))
 
 -- the closing sum of the sum and the rest, whatever the flags before it
 pub closed_pair : (sum rest : Datum) (flags : ℕ) (answer : Pair) (status : ℕ) → IsClosable sum rest
-    → IsClosed NearestTiesToEven sum rest flags answer status → IsPairOf sum rest flags answer status
-closed_pair z y flags answer status a x =
-    let n = high_rounded double is_ieee wide_enough sum_reach room z y x.h x.h_flags a.addend x.is_h in
-    let h_status = sum_status double z y x.h x.h_flags is_ieee digits a.addend.finite_sum a.addend.finite_rest
-    n.is_finite x.is_h in
-    low_part_pair z y x.h flags x.h_flags (flags ∪ x.h_flags) answer status a (λ p. union_status _ _ p h_status)
-    x.is_h
-    (MatchBool-at_true _ _ n.is_finite x.is_answer)
+    → Leads double NearestTiesToEven (closing sum rest flags) answer status → IsPairOf sum rest flags answer status
+closed_pair z y flags answer status a (h, h_flags, is_h, is_answer) =
+    let n = high_rounded double is_ieee wide_enough sum_reach room z y h h_flags a.addend is_h in
+    let h_status = sum_status double z y h h_flags is_ieee digits a.addend.finite_sum a.addend.finite_rest
+    n.is_finite is_h in
+    low_part_pair z y h flags h_flags (flags ∪ h_flags) answer status a (λ p. union_status _ _ p h_status) is_h
+    (at_true _ _ _ answer status n.is_finite is_answer)
 
 -- ---- a rest of zero
 

@@ -1,11 +1,14 @@
 -- The rows of the sum of two pairs whose high parts are finite: if an operand is zero, the result is
 -- the other; otherwise it is the sum of numbers.
 use Rattle.std.proofs.Common.{◌≡◌, ℕ, ◌⊎◌, true, false, eqb, inl, inr, refl, ap, ◌∙◌, subst, ⊎_elim}
+use Rattle.std.proofs.Math.Path.{subst₂}
 use Rattle.std.specs.Prelude.{pos}
 use Rattle.std.proofs.lemmas.Bool.{cases_eq, false≢true, ne_eqb, eq-eqb}
 use Rattle.apfloat_model.specs.declared.kinds.Round.TheVariants.{NearestTiesToEven}
 use Rattle.apfloat_model.specs.formats.Datum.{Datum, finite, infinite, nan}
 use Rattle.apfloat_model.specs.rounding.Rounding.{ok_bits}
+use Rattle.apfloat_model.specs.rounding.Steps.{Leads}
+use Rattle.apfloat_pair_theory.specs.PairFormats.{double}
 use Rattle.apfloat_model.specs.order.Classes.{is_finite, category_of}
 use Rattle.apfloat_model.specs.arithmetic.Exact.{signed}
 use Rattle.apfloat_model.specs.order.Order.{number}
@@ -13,7 +16,7 @@ use Rattle.apfloat_model.proofs.arithmetic.Signs.{no_sign}
 use Rattle.apfloat_pair_theory.specs.Pairs.{Pair, pair_category}
 use Rattle.apfloat_model.specs.declared.kinds.Category.{Category}
 use Rattle.apfloat_model.specs.declared.kinds.Category.TheVariants.{Zero, Normal}
-use Rattle.apfloat_pair_theory.specs.PairSums.{IsSumOfCategories, IsSumOfNumbers, IsPairSum}
+use Rattle.apfloat_pair_theory.specs.PairSums.{sum_of_categories, sum_of_numbers, IsPairSum}
 
 -- a zero of either sign
 pub record HasNumberZero (datum : Datum) : Type 0 where
@@ -46,32 +49,32 @@ pub record IsGivenBack (other given answer : Pair) (status : ℕ) : Type 0 where
 -- the row of the sum for known categories
 at_categories : (first second : Category) (x y answer : Pair) (status : ℕ) → pair_category x ≡ first
     → pair_category y ≡ second → IsPairSum NearestTiesToEven x y answer status
-    → IsSumOfCategories first second NearestTiesToEven x y answer status
+    → Leads double NearestTiesToEven (sum_of_categories first second x y) answer status
 at_categories first second x y answer status e g s =
-    subst (λ (i : Category). IsSumOfCategories first i NearestTiesToEven x y answer status) g
-    (subst (λ (i : Category). IsSumOfCategories i (pair_category y) NearestTiesToEven x y answer status) e s)
+    subst₂ (λ (i : Category) (j : Category). Leads double NearestTiesToEven (sum_of_categories i j x y) answer status)
+    e g s
 
 -- either one operand is zero and the other is the result, or both are nonzero
 pub sum_rows : (x y answer : Pair) (status : ℕ) → is_finite x.high ≡ true → is_finite y.high ≡ true
     → IsPairSum NearestTiesToEven x y answer status
     → IsGivenBack y x answer status
-    ⊎ (IsGivenBack x y answer status ⊎ IsSumOfNumbers NearestTiesToEven x y answer status)
+    ⊎ (IsGivenBack x y answer status ⊎ Leads double NearestTiesToEven (sum_of_numbers x y) answer status)
 sum_rows x y answer status fx fy s =
     ⊎_elim
     (λ (a : HasNumberZero x.high).
     ⊎_elim
     (λ (c : HasNumberZero y.high).
     let t = at_categories Zero Zero x y answer status a.category_is c.category_is s in
-    inl (record { other_is = c.number_is; answer_is = t.answer_is; status_is = t.status_is }))
+    inl (record { other_is = c.number_is; answer_is = t.0; status_is = t.1 }))
     (λ (c : category_of y.high ≡ Normal).
     let t = at_categories Zero Normal x y answer status a.category_is c s in
-    inr (inl (record { other_is = a.number_is; answer_is = t.answer_is; status_is = t.status_is })))
+    inr (inl (record { other_is = a.number_is; answer_is = t.0; status_is = t.1 })))
     (finite_category y.high fy))
     (λ (a : category_of x.high ≡ Normal).
     ⊎_elim
     (λ (c : HasNumberZero y.high).
     let t = at_categories Normal Zero x y answer status a c.category_is s in
-    inl (record { other_is = c.number_is; answer_is = t.answer_is; status_is = t.status_is }))
+    inl (record { other_is = c.number_is; answer_is = t.0; status_is = t.1 }))
     (λ (c : category_of y.high ≡ Normal). inr (inr (at_categories Normal Normal x y answer status a c s)))
     (finite_category y.high fy))
     (finite_category x.high fx)

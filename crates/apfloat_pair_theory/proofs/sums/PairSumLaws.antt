@@ -6,6 +6,7 @@ use Rattle.std.proofs.lemmas.Int.{ints}
 use Rattle.apfloat_model.specs.declared.kinds.Round.TheVariants.{NearestTiesToEven}
 use Rattle.apfloat_model.specs.formats.Format.{largest}
 use Rattle.apfloat_model.specs.formats.Datum.{Datum}
+use Rattle.apfloat_model.specs.rounding.Steps.{Leads}
 use Rattle.apfloat_model.specs.order.Classes.{is_finite, quanta_of}
 use Rattle.apfloat_model.specs.arithmetic.Exact.{magnitude}
 use Rattle.apfloat_model.specs.formats.Members.{IsMember}
@@ -14,7 +15,7 @@ use Rattle.apfloat_model.specs.arithmetic.Sums.{IsSum}
 use Rattle.apfloat_model.proofs.arithmetic.Signs.{one_side}
 use Rattle.apfloat_pair_theory.specs.PairFormats.{double}
 use Rattle.apfloat_pair_theory.specs.Pairs.{Pair, pair_number, IsNormalised}
-use Rattle.apfloat_pair_theory.specs.PairSums.{IsSumOfNumbers, IsPairSum}
+use Rattle.apfloat_pair_theory.specs.PairSums.{sum_of_numbers, IsPairSum}
 use Rattle.apfloat_pair_theory.specs.PairAccuracy.{sum_reach, AreWithinReach, IsExactPair, IsClosePair, total_size, IsErrorFreeSum, IsAccurateSum, HasPlainStatus}
 use Rattle.apfloat_pair_theory.proofs.numbers.SignedProducts.{times_one}
 use Rattle.apfloat_pair_theory.proofs.sums.SumBounds.{opening_bound}
@@ -135,7 +136,7 @@ alone_sum x y answer status k s t r =
     (λ (g : IsGivenBack x y answer status).
     given_exactly x y y answer g.answer_is (single_normalised y t r.second)
     (second_back (number x.high) (number x.low) (number y.high) (number y.low) g.other_is (single_low x s)))
-    (λ (n : IsSumOfNumbers NearestTiesToEven x y answer status).
+    (λ (n : Leads double NearestTiesToEven (sum_of_numbers x y) answer status).
     summed_exactly x y answer status s t
     (numbers_summed x y answer status (single_summand x s r.first) (single_summand y t r.second)
     (λ z q v i d e u w m. (singles_open x y z q v i d e u w s t m).1) n))
@@ -231,7 +232,7 @@ accurate_sum x y answer status k s t r =
     given_closely x y y answer g.answer_is t
     (second_back (number x.high) (number x.low) (number y.high) (number y.low) g.other_is
     (low_zero _ (number x.low) (normalised_low x s) g.other_is)))
-    (λ (n : IsSumOfNumbers NearestTiesToEven x y answer status).
+    (λ (n : Leads double NearestTiesToEven (sum_of_numbers x y) answer status).
     summed_closely x y answer status s t
     (numbers_summed x y answer status (normalised_summand x s r.first) (normalised_summand y t r.second)
     (normalised_share x y s t) n))
@@ -247,7 +248,7 @@ plain_sum x y answer status k s t r =
     (λ h.
     ⊎_elim
     (λ (g : IsGivenBack x y answer status). inl g.status_is)
-    (λ (n : IsSumOfNumbers NearestTiesToEven x y answer status).
+    (λ (n : Leads double NearestTiesToEven (sum_of_numbers x y) answer status).
     let m = numbers_summed x y answer status (normalised_summand x s r.first) (normalised_summand y t r.second)
     (normalised_share x y s t) n in
     m.plain)

@@ -1,19 +1,19 @@
 -- The steps of the sum of two pairs of doubles: within reach, they are roundings that give a normalized pair.
-use Rattle.std.proofs.Common.{◌≡◌, ℕ, Bool, true, false, sym, refl, subst}
-use Rattle.std.proofs.lemmas.Bool.{MatchBool-at_false}
+use Rattle.std.proofs.Common.{◌≡◌, ℕ, if◌then◌else◌, Bool, true, false, sym, refl}
+use Rattle.std.proofs.lemmas.Bool.{false≢true}
 use Rattle.std.specs.Prelude.{ℤ, ◌+ℤ◌}
-use Rattle.std.specs.Bool.{MatchBool}
 use Rattle.apfloat_model.specs.declared.kinds.NonfiniteBehavior.TheVariants.{IEEE754}
 use Rattle.apfloat_model.specs.declared.kinds.Round.TheVariants.{NearestTiesToEven}
 use Rattle.apfloat_model.specs.formats.Datum.{Datum}
 use Rattle.apfloat_model.specs.rounding.Rounding.{ok_bits}
+use Rattle.apfloat_model.specs.rounding.Steps.{Steps, ends, Leads}
 use Rattle.apfloat_model.specs.rounding.Negation.{negated}
 use Rattle.apfloat_model.specs.order.Classes.{same_datum}
 use Rattle.apfloat_model.specs.order.Order.{number}
 use Rattle.apfloat_model.specs.arithmetic.Sums.{IsSum}
 use Rattle.apfloat_pair_theory.specs.PairFormats.{double}
-use Rattle.apfloat_pair_theory.specs.Pairs.{Pair, positive_zero, alone, pair_number, IsPairAnswer, IsNormalised}
-use Rattle.apfloat_pair_theory.specs.PairSums.{◌∪◌, IsClosed, IsLost, IsFiniteSum, IsSumOfNumbers}
+use Rattle.apfloat_pair_theory.specs.Pairs.{Pair, positive_zero, alone, pair_number, IsNormalised}
+use Rattle.apfloat_pair_theory.specs.PairSums.{◌∪◌, closing, finite_sum, sum_of_numbers}
 use Rattle.apfloat_pair_theory.specs.PairAccuracy.{IsOkOrInexact, sum_reach}
 use Rattle.apfloat_pair_theory.proofs.numbers.TwoSums.{IsShared}
 use Rattle.apfloat_pair_theory.proofs.sums.PairRoundings.{IsOpening}
@@ -55,77 +55,68 @@ pub record IsSummed (x y answer : Pair) (status : ℕ) : Type 0 where
 -- a sum whose rest is 0 is the result, any other is closed
 answer_pair : (is_zero : Bool) (z zz : Datum) (flags : ℕ) (answer : Pair) (status : ℕ)
     → same_datum zz positive_zero ≡ is_zero → IsClosable z zz
-    → MatchBool is_zero (IsPairAnswer (alone z) ok_bits answer status)
-    (IsClosed NearestTiesToEven z zz flags answer status)
+    → Leads double NearestTiesToEven (if is_zero then ends (alone z) ok_bits else closing z zz flags) answer status
     → IsPairOf z zz flags answer status
 answer_pair true z w flags answer status h a x =
     given_pair z w flags (alone z) ok_bits answer status x (alone_pair z w flags a (zero_number w h))
 answer_pair false z w flags answer status h a x = closed_pair z w flags answer status a x
 
--- the steps of the definition before the closing sum, as opening steps
-opening_steps : (x y : Pair) (z zz : Datum) (z_flags zz_flags : ℕ)
-    → IsSum double NearestTiesToEven x.high y.high z z_flags
-    → (lost : IsLost NearestTiesToEven x.high x.low y.high y.low z zz zz_flags)
-    → IsOpeningSteps double x.high x.low y.high y.low z lost.q lost.lost_of_c lost.z_again lost.gained lost.lost
-    lost.with_aa zz
-opening_steps x y z w z_flags w_flags s lost = record {
-  six = record {
-    sum_flags = z_flags;
-    first_flags = lost.q_flags;
-    second_flags = lost.lost_of_c_flags;
-    third_flags = lost.z_again_flags;
-    fourth_flags = lost.gained_flags;
-    last_flags = lost.lost_flags;
-    sum = s;
-    first = lost.is_q;
-    second = lost.is_lost_of_c;
-    third = lost.is_z_again;
-    fourth = lost.is_gained;
-    last = lost.is_lost;
-  };
-  first_flags = lost.with_aa_flags;
-  second_flags = lost.zz_flags;
-  with_first = lost.is_with_aa;
-  with_second = lost.is_zz;
-}
-
--- the seven steps raise at most INEXACT
-lost_status : (x y : Pair) (z zz : Datum) (zz_flags : ℕ) → IsPairSummand x → IsPairSummand y
-    → (lost : IsLost NearestTiesToEven x.high x.low y.high y.low z zz zz_flags)
-    → IsOpened double.precision sum_reach x.high x.low y.high y.low z lost.q lost.lost_of_c lost.z_again lost.gained
-    lost.lost lost.with_aa zz → IsOkOrInexact zz_flags
-lost_status x y z w w_flags a c lost o =
+-- the seven steps before the closing sum raise at most INEXACT
+opening_status : (x y : Pair) (z q v r d e u w : Datum) → IsPairSummand x → IsPairSummand y
+    → (k : IsOpeningSteps double x.high x.low y.high y.low z q v r d e u w)
+    → IsOpened double.precision sum_reach x.high x.low y.high y.low z q v r d e u w
+    → IsOkOrInexact (k.six.first_flags ∪ k.six.second_flags ∪ k.six.third_flags ∪ k.six.fourth_flags
+    ∪ k.six.last_flags ∪ k.first_flags ∪ k.second_flags)
+opening_status x y z q v r d e u w a c k o =
     let f = o.finite in
-    let s₁ =
-    difference_status double x.high z lost.q lost.q_flags is_ieee digits a.finite_high f.sum f.first lost.is_q in
-    let s₂ = sum_status double lost.q y.high lost.lost_of_c lost.lost_of_c_flags is_ieee digits f.first c.finite_high
-    f.second lost.is_lost_of_c in
-    let s₃ = sum_status double lost.q z lost.z_again lost.z_again_flags is_ieee digits f.first f.sum f.third
-    lost.is_z_again in
-    let s₄ = difference_status double lost.z_again x.high lost.gained lost.gained_flags is_ieee digits f.third
-    a.finite_high f.fourth lost.is_gained in
-    let s₅ = sum_status double lost.lost_of_c (negated IEEE754 lost.gained) lost.lost lost.lost_flags is_ieee digits
-    f.second (negated_finite lost.gained f.fourth) f.last lost.is_lost in
-    let s₆ = sum_status double lost.lost x.low lost.with_aa lost.with_aa_flags is_ieee digits f.last a.finite_low
-    o.finite_middle
-    lost.is_with_aa in
-    let s₇ = sum_status double lost.with_aa y.low w lost.zz_flags is_ieee digits o.finite_middle c.finite_low
-    o.addend.finite_rest lost.is_zz in
-    let all = union_status _ _
+    let s₁ = difference_status double x.high z q _ is_ieee digits a.finite_high f.sum f.first k.six.first in
+    let s₂ = sum_status double q y.high v _ is_ieee digits f.first c.finite_high f.second k.six.second in
+    let s₃ = sum_status double q z r _ is_ieee digits f.first f.sum f.third k.six.third in
+    let s₄ = difference_status double r x.high d _ is_ieee digits f.third a.finite_high f.fourth k.six.fourth in
+    let s₅ = sum_status double v (negated IEEE754 d) e _ is_ieee digits f.second (negated_finite d f.fourth) f.last
+    k.six.last in
+    let s₆ = sum_status double e x.low u _ is_ieee digits f.last a.finite_low o.finite_middle k.with_first in
+    let s₇ = sum_status double u y.low w _ is_ieee digits o.finite_middle c.finite_low o.addend.finite_rest
+    k.with_second in
+    union_status _ _
     (union_status _ _ (union_status _ _ (union_status _ _ (union_status _ _ (union_status _ _ s₁ s₂) s₃) s₄) s₅) s₆)
-    s₇ in
-    subst (λ (s : ℕ). IsOkOrInexact s) (sym lost.flags_are) all
+    s₇
 
 -- the sum of two pairs whose high parts have a finite sum
 finite_summed : (x y : Pair) (z : Datum) (z_flags : ℕ) (answer : Pair) (status : ℕ) → IsPairSummand x
     → IsPairSummand y
     → IsSharing x y → IsSum double NearestTiesToEven x.high y.high z z_flags
-    → IsFiniteSum NearestTiesToEven x y z z_flags answer status → IsSummed x y answer status
-finite_summed x y z z_flags answer status a c sh s k =
-    let t = k.is_zz in
-    let o = opened double is_ieee wide_enough sum_reach room _ _ _ _ _ _ _ _ _ _ _ _ a c
-    (opening_steps x y z k.zz z_flags k.zz_flags s t) in
-    let m : IsClosable z k.zz =
+    → Leads double NearestTiesToEven (finite_sum x y z z_flags) answer status → IsSummed x y answer status
+finite_summed x y z z_flags answer status a c sh s q =
+    let v = q.3 in
+    let r = v.3 in
+    let d = r.3 in
+    let e = d.3 in
+    let u = e.3 in
+    let w = u.3 in
+    let k : IsOpeningSteps double x.high x.low y.high y.low z q.0 v.0 r.0 d.0 e.0 u.0 w.0 =
+    record {
+      six = record {
+        sum_flags = z_flags;
+        first_flags = q.1;
+        second_flags = v.1;
+        third_flags = r.1;
+        fourth_flags = d.1;
+        last_flags = e.1;
+        sum = s;
+        first = q.2;
+        second = v.2;
+        third = r.2;
+        fourth = d.2;
+        last = e.2;
+      };
+      first_flags = u.1;
+      second_flags = w.1;
+      with_first = u.2;
+      with_second = w.2;
+    } in
+    let o = opened double is_ieee wide_enough sum_reach room _ _ _ _ _ _ _ _ _ _ _ _ a c k in
+    let m : IsClosable z w.0 =
     record {
       addend = o.addend;
       sum_on_grid = o.roundings.six.sum.on_grid;
@@ -134,30 +125,36 @@ finite_summed x y z z_flags answer status a c sh s k =
     } in
     let z_status = sum_status double x.high y.high z z_flags is_ieee digits a.finite_high c.finite_high o.finite.sum
     s in
-    let flags = union_status _ _ z_status (lost_status x y z k.zz k.zz_flags a c t o) in
-    let p = answer_pair (same_datum k.zz positive_zero) z k.zz (z_flags ∪ k.zz_flags) answer status refl m
-    k.is_answer in
+    let flags = union_status _ _ z_status (opening_status x y z q.0 v.0 r.0 d.0 e.0 u.0 w.0 a c k o) in
+    let p = answer_pair (same_datum w.0 positive_zero) z w.0 _ answer status refl m w.3 in
     record {
       z = z;
-      q = t.q;
-      v = t.lost_of_c;
-      r = t.z_again;
-      d = t.gained;
-      e = t.lost;
-      u = t.with_aa;
-      w = k.zz;
+      q = q.0;
+      v = v.0;
+      r = r.0;
+      d = d.0;
+      e = e.0;
+      u = u.0;
+      w = w.0;
       roundings = o.roundings;
       normalised = p.normalised;
       number_is = p.number_is;
       plain = p.plain flags;
     }
 
+-- where the test fails, the chain goes on with the second branch
+at_false : (test : Bool) (one other : Steps Pair) (answer : Pair) (status : ℕ) → test ≡ false
+    → Leads double NearestTiesToEven (if test then one else other) answer status
+    → Leads double NearestTiesToEven other answer status
+at_false true one other answer status e h = absurd (false≢true (sym e))
+at_false false one other answer status e h = h
+
 -- the sum of two pairs whose high parts are within reach
 pub numbers_summed : (x y answer : Pair) (status : ℕ) → IsPairSummand x → IsPairSummand y → IsSharing x y
-    → IsSumOfNumbers NearestTiesToEven x y answer status
+    → Leads double NearestTiesToEven (sum_of_numbers x y) answer status
     → IsSummed x y answer status
-numbers_summed x y answer status a c sh s =
-    let h = first_finite double is_ieee wide_enough sum_reach room x.high y.high s.z s.z_flags a.finite_high
-    c.finite_high a.within c.within s.is_z in
-    finite_summed x y s.z s.z_flags answer status a c sh s.is_z
-    (MatchBool-at_false _ _ (finite_is_not_infinite s.z h) s.is_answer)
+numbers_summed x y answer status a c sh (z, z_flags, is_z, is_answer) =
+    let h = first_finite double is_ieee wide_enough sum_reach room x.high y.high z z_flags a.finite_high
+    c.finite_high a.within c.within is_z in
+    finite_summed x y z z_flags answer status a c sh is_z
+    (at_false _ _ _ answer status (finite_is_not_infinite z h) is_answer)

@@ -1,58 +1,30 @@
 -- Results of calls on pairs, from the results of their steps.
-use Rattle.std.proofs.Common.{◌≡◌, ℕ, Bool, true, false, not, ◌&&◌, ◌||◌, sym, ap, ◌∙◌, subst}
+use Rattle.std.proofs.Common.{◌≡◌, ℕ, if◌then◌else◌, Bool, true, false, not, ◌&&◌, ◌||◌, sym, ap, ◌∙◌, subst}
 use Rattle.std.proofs.Math.Path.{subst₂}
 use mathlib.Core.Bool.{beq}
-use Rattle.std.specs.Bool.{MatchBool}
 use Rattle.apfloat_model.specs.declared.kinds.Category.{Category}
 use Rattle.apfloat_model.specs.declared.kinds.Round.{Round}
 use Rattle.apfloat_model.specs.formats.Datum.{Datum}
-use Rattle.apfloat_model.specs.order.Classes.{category_of, is_finite, is_finite_non_zero, is_negative, is_finite_non_zero_category, is_denormal}
+use Rattle.apfloat_model.specs.order.Classes.{category_of, is_finite, is_infinite, is_finite_non_zero, is_negative, is_finite_non_zero_category, is_denormal}
+use Rattle.apfloat_model.specs.rounding.Steps.{Steps, Leads}
 use Rattle.apfloat_model.specs.arithmetic.Exact.{same_sign}
-use Rattle.apfloat_model.specs.formats.Nan.{invalid_bit}
-use Rattle.apfloat_model.specs.rounding.Rounding.{ok_bits}
-use Rattle.apfloat_model.specs.order.Predicates.{is_finite_category}
-use Rattle.apfloat_model.proofs.order.PredicatesAgree.{finite_agrees, number_agrees}
+use Rattle.apfloat_model.specs.order.Predicates.{is_finite_category, is_infinite_category}
+use Rattle.apfloat_model.proofs.order.PredicatesAgree.{finite_agrees, infinite_agrees, number_agrees}
 use Rattle.apfloat_model.proofs.general.Choices.{same_beq, match_true, match_false}
 use Rattle.apfloat_model.specs.declared.kinds.Round.TheVariants.{NearestTiesToEven}
 use Rattle.apfloat_model.specs.order.Order.{is_equal}
 use Rattle.apfloat_model.specs.formats.Members.{IsMember}
-use Rattle.apfloat_model.specs.arithmetic.Sums.{IsSum, IsDifference}
-use Rattle.apfloat_model.specs.arithmetic.Products.{IsProduct}
+use Rattle.apfloat_model.specs.arithmetic.Sums.{IsSum}
 use Rattle.apfloat_pair_theory.specs.PairFormats.{double, wide}
-use Rattle.apfloat_pair_theory.specs.Pairs.{Pair, IsPairAnswer, IsJoined, IsSplit, IsSplitAnswer, IsSumOfParts, IsWidened, IsWideAnswer, IsWideAnswerOfTwo, alone, negated_pair, pair_category, pair_nan_signed_as}
-use Rattle.apfloat_pair_theory.specs.PairSums.{◌∪◌, greater, lesser, IsClosed, IsSumAnew, IsSumAnewLow, IsSumOfInfinities, IsSumOfCategories, IsPairSum, IsPairDifference}
+use Rattle.apfloat_pair_theory.specs.Pairs.{Pair, IsJoined, IsSplit, IsSplitAnswer, IsSumOfParts, IsWidened, IsWideAnswer, IsWideAnswerOfTwo, negated_pair, pair_category}
+use Rattle.apfloat_pair_theory.specs.PairSums.{◌∪◌, sum_of_categories, IsPairSum, IsPairDifference}
 use Rattle.apfloat_pair_theory.specs.PairParts.{is_denormal_pair}
 use Rattle.apfloat_pair_theory.proofs.parts.DenormalPairs.{denormal_by_sum}
-use Rattle.apfloat_pair_theory.specs.PairProducts.{IsLostOfProduct, IsNumberProduct, IsProductOfNumbers, IsProductOfCategories, IsPairProduct}
+use Rattle.apfloat_pair_theory.specs.PairProducts.{product_of_categories, IsPairProduct}
 use Rattle.apfloat_pair_theory.specs.PairAccuracy.{IsErrorFreeSum, IsAccurateSum, IsErrorFreeDifference, IsAccurateDifference, IsErrorFreeProduct, IsAccurateProduct, HasPlainStatus}
 use Rattle.apfloat_pair_theory.proofs.sums.PairSumLaws.{error_free_sum, accurate_sum, plain_sum}
 use Rattle.apfloat_pair_theory.proofs.sums.DifferenceLaws.{error_free_difference, accurate_difference, plain_difference}
 use Rattle.apfloat_pair_theory.proofs.products.PairProductLaws.{error_free_product, accurate_product}
-
--- the product of two pairs of numbers, from its steps
-pub product_by_steps : (mode : Round) (x y : Pair) (left right t tau : Datum) (t_flags tau_flags flags : ℕ)
-    (is_number : Bool) (answer : Pair) (status : ℕ) → left ≡ x.high → right ≡ y.high
-    → IsProduct double mode left right t t_flags → is_number ≡ is_finite_non_zero_category (category_of t)
-    → is_number ≡ true → IsLostOfProduct mode x.high x.low y.high y.low t tau tau_flags → flags ≡ t_flags ∪ tau_flags
-    → IsClosed mode t tau flags answer status → IsProductOfNumbers mode x y answer status
-product_by_steps mode x y a c t tau t_flags tau_flags flags is_number answer status i j product e some lost joined
-    closed =
-    record {
-      t = t;
-      t_flags = t_flags;
-      is_t =
-          subst₂ (λ (left : Datum) (right : Datum). IsProduct double mode left right t t_flags) i j product;
-      is_answer =
-          match_true (is_finite_non_zero t) (IsNumberProduct mode x y t t_flags answer status)
-          (IsPairAnswer (alone t) t_flags answer status)
-          (sym (number_agrees t) ∙ sym e ∙ some)
-          (record {
-            tau = tau;
-            tau_flags = tau_flags;
-            is_tau = lost;
-            is_answer = subst (λ (i : ℕ). IsClosed mode t tau i answer status) joined closed;
-          });
-    }
 
 -- whether a pair is denormal, from the sum of its parts
 pub denormal_at_sum : (x : Pair) (sum : Datum) (status : ℕ) (is_number is_denormal_high answer : Bool)
@@ -67,140 +39,42 @@ denormal_at_sum x sum status is_number is_denormal_high answer n t d f s a =
     ap (λ (b : Bool). b && (is_denormal double x.high || not (is_equal x.high sum))) e ∙
     ap (λ (b : Bool). true && (b || not (is_equal x.high sum))) g)
 
--- the sum of two infinities of the same sign, from its steps
-pub infinities_of_one_sign : (x y answer : Pair) (status : ℕ) (first second : Bool) → first ≡ is_negative x.high
-    → second ≡ is_negative y.high → beq first second ≡ true → answer ≡ x → status ≡ ok_bits
-    → IsSumOfInfinities x y answer status
-infinities_of_one_sign x y answer status first second a b e v s =
-    match_true (same_sign (is_negative x.high) (is_negative y.high)) (IsPairAnswer x ok_bits answer status)
-    (IsPairAnswer (pair_nan_signed_as x) invalid_bit answer status)
-    (ap (λ (i : Bool). same_sign i (is_negative y.high)) (sym a) ∙ ap (λ (i : Bool). same_sign first i) (sym b) ∙
-    sym (same_beq first second) ∙ e)
-    (record { answer_is = v; status_is = s })
+-- ---- chains of steps
 
--- ---- the sum computed again, from the smallest part
+-- where the test holds, a chain goes on with its first branch
+pub on_true : (mode : Round) (test : Bool) (one other : Steps Pair) (answer : Pair) (status : ℕ) → test ≡ true
+    → Leads double mode one answer status → Leads double mode (if test then one else other) answer status
+on_true mode test one other answer status e h =
+    subst (λ (b : Bool). Leads double mode (if b then one else other) answer status) (sym e) h
 
--- the greater and the lesser high part, and the sum that starts with the low parts, with its flags
-pub record IsOpenedAnew (mode : Round) (x y : Pair) (big small z : Datum) (flags : ℕ) : Type 0 where
-  pub lows : Datum
-  pub with_lesser : Datum
-  pub lows_flags : ℕ
-  pub with_lesser_flags : ℕ
-  pub z_flags : ℕ
-  pub flags_with_lesser : ℕ
-  pub big_is : big ≡ greater x.high y.high
-  pub small_is : small ≡ lesser x.high y.high
-  pub is_lows : IsSum double mode y.low x.low lows lows_flags
-  pub is_with_lesser : IsSum double mode lows small with_lesser with_lesser_flags
-  pub is_z : IsSum double mode with_lesser big z z_flags
-  pub joined : flags_with_lesser ≡ lows_flags ∪ with_lesser_flags
-  pub flags_are : flags ≡ flags_with_lesser ∪ z_flags
+-- where it fails, with the second
+pub on_false : (mode : Round) (test : Bool) (one other : Steps Pair) (answer : Pair) (status : ℕ) → test ≡ false
+    → Leads double mode other answer status → Leads double mode (if test then one else other) answer status
+on_false mode test one other answer status e h =
+    subst (λ (b : Bool). Leads double mode (if b then one else other) answer status) (sym e) h
 
--- the rest of that sum, and its flags
-pub record IsClosedAnew (mode : Round) (x y : Pair) (big small z : Datum) (flags : ℕ) (low : Datum)
-    (all_flags : ℕ) : Type 0 where
-  pub zz : Datum
-  pub left : Datum
-  pub with_lesser : Datum
-  pub zz_flags : ℕ
-  pub left_flags : ℕ
-  pub with_lesser_flags : ℕ
-  pub low_flags : ℕ
-  pub flags_with_zz : ℕ
-  pub flags_with_left : ℕ
-  pub flags_with_lesser : ℕ
-  pub is_zz : IsSum double mode x.low y.low zz zz_flags
-  pub is_left : IsDifference double mode big z left left_flags
-  pub is_with_lesser : IsSum double mode left small with_lesser with_lesser_flags
-  pub is_low : IsSum double mode with_lesser zz low low_flags
-  pub zz_joined : flags_with_zz ≡ flags ∪ zz_flags
-  pub left_joined : flags_with_left ≡ flags_with_zz ∪ left_flags
-  pub lesser_joined : flags_with_lesser ≡ flags_with_left ∪ with_lesser_flags
-  pub flags_are : all_flags ≡ flags_with_lesser ∪ low_flags
+-- the tests of the language are those of the model
+pub finite_is : (x : Datum) (test value : Bool) → test ≡ is_finite_category (category_of x) → test ≡ value
+    → is_finite x ≡ value
+finite_is x test value t e = sym (finite_agrees x) ∙ sym t ∙ e
 
--- the union of three sets of flags
-two_joined : (a b c ab abc : ℕ) → ab ≡ a ∪ b → abc ≡ ab ∪ c → abc ≡ a ∪ b ∪ c
-two_joined a b c ab abc e f = f ∙ ap (λ (i : ℕ). i ∪ c) e
+pub infinite_is : (x : Datum) (test value : Bool) → test ≡ is_infinite_category (category_of x) → test ≡ value
+    → is_infinite x ≡ value
+infinite_is x test value t e = sym (infinite_agrees x) ∙ sym t ∙ e
 
--- the flags are those of the three sums
-flags_of_opened : (mode : Round) (x y : Pair) (big small z : Datum) (flags : ℕ)
-    → (opened : IsOpenedAnew mode x y big small z flags)
-    → flags ≡ opened.lows_flags ∪ opened.with_lesser_flags ∪ opened.z_flags
-flags_of_opened mode x y big small z flags o =
-    two_joined o.lows_flags o.with_lesser_flags o.z_flags o.flags_with_lesser flags o.joined o.flags_are
+pub number_is : (x : Datum) (test value : Bool) → test ≡ is_finite_non_zero_category (category_of x) → test ≡ value
+    → is_finite_non_zero x ≡ value
+number_is x test value t e = sym (number_agrees x) ∙ sym t ∙ e
 
--- the result of a sum computed again, decided by its high part
-anew : (mode : Round) (x y : Pair) (big small z : Datum) (flags : ℕ) (answer : Pair) (status : ℕ)
-    → (opened : IsOpenedAnew mode x y big small z flags)
-    → MatchBool (is_finite z)
-    (IsSumAnewLow mode x y z (opened.lows_flags ∪ opened.with_lesser_flags ∪ opened.z_flags) answer status)
-    (IsPairAnswer (alone z) (opened.lows_flags ∪ opened.with_lesser_flags ∪ opened.z_flags) answer status)
-    → IsSumAnew mode x y answer status
-anew mode x y big small z flags answer status o is_answer =
-    record {
-      lows = o.lows;
-      with_lesser = o.with_lesser;
-      z = z;
-      lows_flags = o.lows_flags;
-      with_lesser_flags = o.with_lesser_flags;
-      z_flags = o.z_flags;
-      is_lows = o.is_lows;
-      is_with_lesser =
-          subst (λ (d : Datum). IsSum double mode o.lows d o.with_lesser o.with_lesser_flags) o.small_is
-          o.is_with_lesser;
-      is_z = subst (λ (d : Datum). IsSum double mode o.with_lesser d z o.z_flags) o.big_is o.is_z;
-      is_answer = is_answer;
-    }
+pub signs_are : (x y : Pair) (first second value : Bool) → first ≡ is_negative x.high → second ≡ is_negative y.high
+    → beq first second ≡ value → same_sign (is_negative x.high) (is_negative y.high) ≡ value
+signs_are x y first second value a b e =
+    ap (λ (i : Bool). same_sign i (is_negative y.high)) (sym a) ∙ ap (λ (i : Bool). same_sign first i) (sym b) ∙
+    sym (same_beq first second) ∙ e
 
--- if the high part is not finite, it is the result with low part +0
-pub anew_beyond : (mode : Round) (x y : Pair) (big small z : Datum) (flags : ℕ) (is_within : Bool) (answer : Pair)
-    (status : ℕ) → IsOpenedAnew mode x y big small z flags → is_within ≡ is_finite_category (category_of z)
-    → is_within ≡ false → answer ≡ alone z → status ≡ flags → IsSumAnew mode x y answer status
-anew_beyond mode x y big small z flags is_within answer status o w e v s =
-    let all = o.lows_flags ∪ o.with_lesser_flags ∪ o.z_flags in
-    anew mode x y big small z flags answer status o
-    (match_false (is_finite z) (IsSumAnewLow mode x y z all answer status)
-    (IsPairAnswer (alone z) all answer status)
-    (sym (finite_agrees z) ∙ sym w ∙ e)
-    (record { answer_is = v; status_is = s ∙ flags_of_opened mode x y big small z flags o }))
-
--- if the high part is finite, the low part is the rest
-pub anew_within : (mode : Round) (x y : Pair) (big small z low : Datum) (flags all_flags : ℕ) (is_within : Bool)
-    (answer : Pair) (status : ℕ) → IsOpenedAnew mode x y big small z flags
-    → is_within ≡ is_finite_category (category_of z) → is_within ≡ true
-    → IsClosedAnew mode x y big small z flags low all_flags → answer ≡ (record { high = z; low = low })
-    → status ≡ all_flags → IsSumAnew mode x y answer status
-anew_within mode x y big small z low flags all_flags is_within answer status o w e k v s =
-    let all = o.lows_flags ∪ o.with_lesser_flags ∪ o.z_flags in
-    anew mode x y big small z flags answer status o
-    (match_true (is_finite z) (IsSumAnewLow mode x y z all answer status)
-    (IsPairAnswer (alone z) all answer status)
-    (sym (finite_agrees z) ∙ sym w ∙ e)
-    (record {
-      zz = k.zz;
-      left = k.left;
-      with_lesser = k.with_lesser;
-      low = low;
-      zz_flags = k.zz_flags;
-      left_flags = k.left_flags;
-      with_lesser_flags = k.with_lesser_flags;
-      low_flags = k.low_flags;
-      is_zz = k.is_zz;
-      is_left = subst (λ (d : Datum). IsDifference double mode d z k.left k.left_flags) o.big_is k.is_left;
-      is_with_lesser =
-          subst (λ (d : Datum). IsSum double mode k.left d k.with_lesser k.with_lesser_flags) o.small_is
-          k.is_with_lesser;
-      is_low = k.is_low;
-      is_answer = record {
-        answer_is = v;
-        status_is =
-            s ∙ k.flags_are ∙ ap (λ (i : ℕ). i ∪ k.low_flags)
-            (k.lesser_joined ∙ ap (λ (i : ℕ). i ∪ k.with_lesser_flags)
-            (k.left_joined ∙ ap (λ (i : ℕ). i ∪ k.left_flags)
-            (k.zz_joined ∙ ap (λ (i : ℕ). i ∪ k.zz_flags)
-            (flags_of_opened mode x y big small z flags o))));
-      };
-    }))
+-- one more step raises its flags too
+pub joined : (before flags all total : ℕ) → total ≡ all ∪ flags → all ≡ before → total ≡ before ∪ flags
+joined before flags all total e g = e ∙ ap (λ (i : ℕ). i ∪ flags) g
 
 -- ---- pairs in the wide format
 
@@ -258,16 +132,16 @@ wide_of_one call x joined value flags answer status j h e s =
 -- the result for the categories of two operands is their sum
 pub sum_by_categories : (mode : Round) (x y : Pair) (first second : Category) (answer : Pair) (status : ℕ)
     → first ≡ pair_category x → second ≡ pair_category y
-    → IsSumOfCategories first second mode x y answer status → IsPairSum mode x y answer status
+    → Leads double mode (sum_of_categories first second x y) answer status → IsPairSum mode x y answer status
 sum_by_categories mode x y first second answer status i j s =
-    subst₂ (λ (k : Category) (l : Category). IsSumOfCategories k l mode x y answer status) i j s
+    subst₂ (λ (k : Category) (l : Category). Leads double mode (sum_of_categories k l x y) answer status) i j s
 
 -- the result for the categories of two factors is their product
 pub product_by_categories : (mode : Round) (x y : Pair) (first second : Category) (answer : Pair) (status : ℕ)
     → first ≡ pair_category x → second ≡ pair_category y
-    → IsProductOfCategories first second mode x y answer status → IsPairProduct mode x y answer status
+    → Leads double mode (product_of_categories first second x y) answer status → IsPairProduct mode x y answer status
 product_by_categories mode x y first second answer status i j s =
-    subst₂ (λ (k : Category) (l : Category). IsProductOfCategories k l mode x y answer status) i j s
+    subst₂ (λ (k : Category) (l : Category). Leads double mode (product_of_categories k l x y) answer status) i j s
 
 -- a difference is the sum with the negated pair
 pub difference_by_negation : (mode : Round) (x y negated answer : Pair) (status : ℕ) → negated ≡ negated_pair y

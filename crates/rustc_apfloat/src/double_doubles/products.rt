@@ -3,7 +3,9 @@
 ghost use Rattle.std.specs.Prelude.{◌≡◌};
 ghost use Rattle.apfloat_model.specs.declared.kinds.Round.TheVariants.{NearestTiesToEven};
 ghost use Rattle.apfloat_model.specs.rounding.Flags.{Gives, bits_of};
-ghost use Rattle.apfloat_pair_theory.specs.PairProducts.{IsLostOfProduct, IsPairProduct, IsProductOfCategories, IsProductOfNumbers};
+ghost use Rattle.apfloat_model.specs.rounding.Steps.{Leads};
+ghost use Rattle.apfloat_pair_theory.specs.PairFormats.{double};
+ghost use Rattle.apfloat_pair_theory.specs.PairProducts.{lost_of_product, product_of_categories, product_of_numbers, IsPairProduct};
 ghost use Rattle.apfloat_pair_theory.specs.PairAccuracy.{IsAccurateProduct, IsErrorFreeProduct};
 
 use crate::double_doubles::DoubleFloat;
@@ -16,7 +18,7 @@ use apfloat_model::unpack;
 /// The error of the product `t` of the high parts, plus the products of a high part and a low part.
 #[inline]
 fn lost(x: DoubleFloat, y: DoubleFloat, t: Double, round: Round) -> StatusAnd<Double>
-    ensures { Gives (IsLostOfProduct round x.high x.low y.high y.low t) result }
+    ensures { Gives (Leads double round (lost_of_product x.high x.low y.high y.low t)) result }
 {
     let DoubleFloat(a, b) = x;
     let DoubleFloat(c, d) = y;
@@ -32,7 +34,7 @@ fn lost(x: DoubleFloat, y: DoubleFloat, t: Double, round: Round) -> StatusAnd<Do
 /// The product of two pairs whose high parts are finite and nonzero.
 #[inline]
 fn product_of_numbers(x: DoubleFloat, y: DoubleFloat, round: Round) -> StatusAnd<DoubleFloat>
-    ensures { Gives (IsProductOfNumbers round x y) result }
+    ensures { Gives (Leads double round (product_of_numbers x y)) result }
 {
     let mut status;
     let t = unpack!(status =, x.0.mul_r(y.0, round));
@@ -52,7 +54,7 @@ fn product_of_categories(
     y: DoubleFloat,
     round: Round,
 ) -> StatusAnd<DoubleFloat>
-    ensures { Gives (IsProductOfCategories first second round x y) result }
+    ensures { Gives (Leads double round (product_of_categories first second x y)) result }
 {
     match (first, second) {
         (Category::NaN, _) => Status::OK.and(x),

@@ -4,9 +4,12 @@ ghost use Rattle.std.specs.Prelude.{◌≡◌, ℕ};
 ghost use Rattle.apfloat_model.specs.declared.kinds.Category.TheVariants.{Infinity, Normal};
 ghost use Rattle.apfloat_model.specs.declared.kinds.Round.TheVariants.{NearestTiesToEven};
 ghost use Rattle.apfloat_model.specs.order.Classes.{category_of};
+ghost use Rattle.apfloat_model.specs.declared.kinds.Round.{Round};
 ghost use Rattle.apfloat_model.specs.rounding.Flags.{Gives, bits_of};
+ghost use Rattle.apfloat_model.specs.rounding.Steps.{Leads};
+ghost use Rattle.apfloat_pair_theory.specs.PairFormats.{double};
 ghost use Rattle.apfloat_pair_theory.specs.Pairs.{pair_category};
-ghost use Rattle.apfloat_pair_theory.specs.PairSums.{greater, lesser, IsClosed, IsFiniteSum, IsLost, IsPairSum, IsPairDifference, IsSumAnew, IsSumOfCategories, IsSumOfInfinities, IsSumOfNumbers};
+ghost use Rattle.apfloat_pair_theory.specs.PairSums.{closing, finite_sum, greater, lesser, lost, sum_anew, sum_of_categories, sum_of_infinities, sum_of_numbers, IsPairSum, IsPairDifference};
 ghost use Rattle.apfloat_pair_theory.specs.PairAccuracy.{HasPlainStatus, IsAccurateDifference, IsAccurateSum, IsErrorFreeDifference, IsErrorFreeSum};
 
 use crate::double_doubles::DoubleFloat;
@@ -20,7 +23,7 @@ use std::cmp::Ordering;
 /// of the steps so far.
 #[inline]
 pub(crate) fn closed(z: Double, zz: Double, status: Status, round: Round) -> StatusAnd<DoubleFloat>
-    ensures { Gives (IsClosed round z zz (bits_of status)) result }
+    ensures { Gives (Leads double round (closing z zz (bits_of status))) result }
 {
     let mut flags = status;
     let high = unpack!(flags |=, z.add_r(zz, round));
@@ -35,7 +38,7 @@ pub(crate) fn closed(z: Double, zz: Double, status: Status, round: Round) -> Sta
 /// The error of the sum `z` of the high parts, plus the low parts.
 #[inline]
 fn lost(x: DoubleFloat, y: DoubleFloat, z: Double, round: Round) -> StatusAnd<Double>
-    ensures { Gives (IsLost round x.high x.low y.high y.low z) result }
+    ensures { Gives (Leads double round (lost x.high x.low y.high y.low z)) result }
 {
     let DoubleFloat(a, aa) = x;
     let DoubleFloat(c, cc) = y;
@@ -58,7 +61,7 @@ fn finite_sum(
     z: StatusAnd<Double>,
     round: Round,
 ) -> StatusAnd<DoubleFloat>
-    ensures { Gives (IsFiniteSum round x y z.value (bits_of z.status)) result }
+    ensures { Gives (Leads double round (finite_sum x y z.value (bits_of z.status))) result }
 {
     let mut status = z.status;
     let zz = unpack!(status |=, lost(x, y, z.value, round));
@@ -88,7 +91,7 @@ fn by_magnitude(a: Double, c: Double) -> (Double, Double)
 fn sum_anew(x: DoubleFloat, y: DoubleFloat, round: Round) -> StatusAnd<DoubleFloat>
     requires first { category_of x.high ≡ Normal }
     requires second { category_of y.high ≡ Normal }
-    ensures { Gives (IsSumAnew round x y) result }
+    ensures { Gives (Leads double round (sum_anew x y)) result }
 {
     let (greater, lesser) = by_magnitude(x.0, y.0);
     let mut status;
@@ -110,7 +113,7 @@ fn sum_anew(x: DoubleFloat, y: DoubleFloat, round: Round) -> StatusAnd<DoubleFlo
 fn sum_of_numbers(x: DoubleFloat, y: DoubleFloat, round: Round) -> StatusAnd<DoubleFloat>
     requires first { category_of x.high ≡ Normal }
     requires second { category_of y.high ≡ Normal }
-    ensures { Gives (IsSumOfNumbers round x y) result }
+    ensures { Gives (Leads double round (sum_of_numbers x y)) result }
 {
     let z = x.0.add_r(y.0, round);
     if z.value.is_infinite() {
@@ -123,7 +126,7 @@ fn sum_of_numbers(x: DoubleFloat, y: DoubleFloat, round: Round) -> StatusAnd<Dou
 /// The sum of two pairs whose high parts are infinite.
 #[inline]
 fn sum_of_infinities(x: DoubleFloat, y: DoubleFloat) -> StatusAnd<DoubleFloat>
-    ensures { Gives (IsSumOfInfinities x y) result }
+    ensures { (mode : Round) → Gives (Leads double mode (sum_of_infinities x y)) result }
 {
     if x.0.is_negative() == y.0.is_negative() {
         Status::OK.and(x)
@@ -143,7 +146,7 @@ fn sum_of_categories(
 ) -> StatusAnd<DoubleFloat>
     requires first { first ≡ pair_category x }
     requires second { second ≡ pair_category y }
-    ensures { Gives (IsSumOfCategories first second round x y) result }
+    ensures { Gives (Leads double round (sum_of_categories first second x y)) result }
 {
     match (first, second) {
         (Category::Infinity, Category::Infinity) => sum_of_infinities(x, y),

@@ -7,9 +7,12 @@ use Rattle.apfloat_model.specs.order.Classes.{category_of, is_negative, same_dat
 use Rattle.apfloat_model.specs.order.Predicates.{is_zero_category}
 use Rattle.apfloat_model.specs.rounding.Flags.{bits_of}
 use Rattle.apfloat_model.specs.rounding.Rounding.{ok_bits}
-use Rattle.apfloat_model.proofs.general.Choices.{match_true, match_false}
-use Rattle.apfloat_pair_theory.specs.Pairs.{Pair, IsPairAnswer, alone, positive_zero}
-use Rattle.apfloat_pair_theory.specs.PairSums.{◌∪◌, IsClosed, IsFiniteSum, IsLost}
+use Rattle.apfloat_model.specs.rounding.Steps.{ends, Leads}
+use Rattle.apfloat_pair_theory.specs.Pairs.{Pair, alone, positive_zero}
+use Rattle.apfloat_pair_theory.specs.PairSums.{◌∪◌, closing, finite_sum, lost}
+use Rattle.apfloat_pair_theory.specs.PairFormats.{double}
+use Rattle.apfloat_pair_theory.proofs.sums.SumsSound.{continued_leads}
+use Rattle.rustc_apfloat.proofs.double_doubles_lemmas.PairSteps.{on_true, on_false}
 use Rattle.rustc_apfloat.proofs.double_doubles.sums.finite_sum.Goals as goal
 
 -- a finite datum that is zero and has no sign is +0
@@ -27,46 +30,45 @@ is_positive_zero (finite b n) = zero_without_sign b _
 is_positive_zero (infinite b) = refl
 is_positive_zero (nan b s) = refl
 
--- without an error, the sum of the high parts is the result
-exact_sum : (mode : Round) (x y : Pair) (z zz : Datum) (z_flags zz_flags : ℕ) (is_none : Bool) (answer : Pair)
-    (status : ℕ) → IsLost mode x.high x.low y.high y.low z zz zz_flags
-    → is_none ≡ (is_zero_category (category_of zz) && not (is_negative zz)) → is_none ≡ true
-    → answer ≡ alone z → status ≡ ok_bits → IsFiniteSum mode x y z z_flags answer status
-exact_sum mode x y z zz z_flags zz_flags is_none answer status lost e none a s =
-    record {
-      zz = zz;
-      zz_flags = zz_flags;
-      is_zz = lost;
-      is_answer =
-          match_true (same_datum zz positive_zero) (IsPairAnswer (alone z) ok_bits answer status)
-          (IsClosed mode z zz (z_flags ∪ zz_flags) answer status)
-          (sym (is_positive_zero zz) ∙ sym e ∙ none) (record { answer_is = a; status_is = s });
-    }
+-- the test for no error is that of the chain
+none_is : (zz : Datum) (is_none value : Bool) → is_none ≡ (is_zero_category (category_of zz) && not (is_negative zz))
+    → is_none ≡ value → same_datum zz positive_zero ≡ value
+none_is zz is_none value e g = sym (is_positive_zero zz) ∙ sym e ∙ g
 
--- with an error, the result takes one more sum
-closed_sum : (mode : Round) (x y : Pair) (z zz : Datum) (z_flags zz_flags flags : ℕ) (is_none : Bool) (answer : Pair)
-    (status : ℕ) → IsLost mode x.high x.low y.high y.low z zz zz_flags
-    → is_none ≡ (is_zero_category (category_of zz) && not (is_negative zz)) → is_none ≡ false
-    → flags ≡ z_flags ∪ zz_flags → IsClosed mode z zz flags answer status
-    → IsFiniteSum mode x y z z_flags answer status
-closed_sum mode x y z zz z_flags zz_flags flags is_none answer status lost e some joined closed =
-    record {
-      zz = zz;
-      zz_flags = zz_flags;
-      is_zz = lost;
-      is_answer =
-          match_false (same_datum zz positive_zero) (IsPairAnswer (alone z) ok_bits answer status)
-          (IsClosed mode z zz (z_flags ∪ zz_flags) answer status)
-          (sym (is_positive_zero zz) ∙ sym e ∙ some)
-          (subst (λ (i : ℕ). IsClosed mode z zz i answer status) joined closed);
-    }
+-- the steps after the error
+from_error : (mode : Round) (x y : Pair) (z zz : Datum) (z_flags zz_flags : ℕ) (answer : Pair) (status : ℕ)
+    → Leads double mode (lost x.high x.low y.high y.low z) zz zz_flags
+    → Leads double mode
+    (if same_datum zz positive_zero then ends (alone z) ok_bits else closing z zz (z_flags ∪ zz_flags)) answer status
+    → Leads double mode (finite_sum x y z z_flags) answer status
+from_error mode x y z zz z_flags zz_flags answer status =
+    continued_leads double mode (lost x.high x.low y.high y.low z)
+    (λ w s. if same_datum w positive_zero then ends (alone z) ok_bits else closing z w (z_flags ∪ s))
+    zz zz_flags answer status
+
+closing_at : (mode : Round) (z zz : Datum) (flags other : ℕ) (answer : Pair) (status : ℕ) → flags ≡ other
+    → Leads double mode (closing z zz flags) answer status → Leads double mode (closing z zz other) answer status
+closing_at mode z zz flags other answer status e h =
+    subst (λ (i : ℕ). Leads double mode (closing z zz i) answer status) e h
 
 pub returns-then-is_pos_zero : goal.returns-then-is_pos_zero
 returns-then-is_pos_zero c =
-    exact_sum c.args.round c.args.x c.args.y _ _ _ _ _ _ _ c.lost.ensures c.is_pos_zero.ensures c.if-is_pos_zero.true
-    (c.and.ensures.value ∙ c.alone.ensures) (ap bits_of c.and.ensures.status)
+    let z = c.args.z.value in
+    let zz = c.lost.result.value in
+    let z_flags = bits_of c.args.z.status in
+    let zz_flags = bits_of c.lost.result.status in
+    from_error c.args.round c.args.x c.args.y z zz z_flags zz_flags _ _ c.lost.ensures
+    (on_true c.args.round (same_datum zz positive_zero) (ends (alone z) ok_bits) (closing z zz (z_flags ∪ zz_flags)) _ _
+    (none_is zz _ _ c.is_pos_zero.ensures c.if-is_pos_zero.true)
+    (c.and.ensures.value ∙ c.alone.ensures, ap bits_of c.and.ensures.status))
 
 pub returns-else-is_pos_zero : goal.returns-else-is_pos_zero
 returns-else-is_pos_zero c =
-    closed_sum c.args.round c.args.x c.args.y _ _ _ _ _ _ _ _ c.lost.ensures c.is_pos_zero.ensures
-    c.if-is_pos_zero.false (c.unpack-union-status.ensures tt) assumption
+    let z = c.args.z.value in
+    let zz = c.lost.result.value in
+    let z_flags = bits_of c.args.z.status in
+    let zz_flags = bits_of c.lost.result.status in
+    from_error c.args.round c.args.x c.args.y z zz z_flags zz_flags _ _ c.lost.ensures
+    (on_false c.args.round (same_datum zz positive_zero) (ends (alone z) ok_bits) (closing z zz (z_flags ∪ zz_flags))
+    _ _ (none_is zz _ _ c.is_pos_zero.ensures c.if-is_pos_zero.false)
+    (closing_at c.args.round z zz _ _ _ _ (c.unpack-union-status.ensures tt) assumption))

@@ -1,13 +1,19 @@
 use Rattle.std.proofs.Common.{ap, ◌∙◌}
+use Rattle.apfloat_model.specs.arithmetic.Exact.{same_sign}
 use Rattle.apfloat_model.specs.order.Classes.{is_negative}
+use Rattle.apfloat_model.specs.formats.Nan.{invalid_bit}
 use Rattle.apfloat_model.specs.rounding.Flags.{bits_of}
-use Rattle.apfloat_pair_theory.specs.Pairs.{Pair}
-use Rattle.rustc_apfloat.proofs.double_doubles_lemmas.PairSteps.{infinities_of_one_sign}
+use Rattle.apfloat_model.specs.rounding.Rounding.{ok_bits}
+use Rattle.apfloat_model.specs.rounding.Steps.{ends}
+use Rattle.apfloat_pair_theory.specs.Pairs.{Pair, pair_nan_signed_as}
+use Rattle.rustc_apfloat.proofs.double_doubles_lemmas.PairSteps.{on_true, signs_are}
 use Rattle.rustc_apfloat.proofs.double_doubles.sums.sum_of_infinities.Goals as goal
 
 pub returns-then-is_negative : goal.returns-then-is_negative
-returns-then-is_negative c =
-    infinities_of_one_sign c.args.x c.args.y _ _ _ _
+returns-then-is_negative c mode =
+    on_true mode (same_sign (is_negative c.args.x.high) (is_negative c.args.y.high)) (ends c.args.x ok_bits)
+    (ends (pair_nan_signed_as c.args.x) invalid_bit) _ _
+    (signs_are c.args.x c.args.y _ _ _
     (c.is_negative.ensures ∙ ap (λ (p : Pair). is_negative p.high) c.x.view_is)
-    (c.is_negative-2.ensures ∙ ap (λ (p : Pair). is_negative p.high) c.y.view_is) c.if-is_negative.true
-    c.and.ensures.value (ap bits_of c.and.ensures.status)
+    (c.is_negative-2.ensures ∙ ap (λ (p : Pair). is_negative p.high) c.y.view_is) c.if-is_negative.true)
+    (c.and.ensures.value, ap bits_of c.and.ensures.status)
