@@ -25,7 +25,8 @@ use Rattle.apfloat_pair_theory.proofs.sums.SumSteps.{size, within_largest}
 use Rattle.apfloat_pair_theory.proofs.numbers.WholeProducts.{high_rounded}
 use Rattle.apfloat_pair_theory.proofs.products.ProductSteps.{IsLostNumber, AreFactors, nearest_close, lost_numbers}
 use Rattle.apfloat_pair_theory.proofs.products.ProductRanges.{IsInRange}
-use Rattle.apfloat_pair_theory.proofs.sums.ClosingSums.{is_ieee, room, IsClosable, at_true, closed_pair}
+use Rattle.apfloat_pair_theory.proofs.sums.ClosingSums.{is_ieee, room, IsClosable, closed_pair}
+use Rattle.apfloat_pair_theory.proofs.sums.SumsSound.{at_test}
 
 -- ---- categories
 
@@ -163,5 +164,5 @@ product_numbers x y answer status whole a c r s =
           (finite_number y.high c.is_number) r.whole l is_t in
           let e = nearest_close double.precision whole (number t) sixty_four n.nearest in
           from_steps x y t t_flags answer status whole a c r n.is_finite n.nearest
-          (at_true _ _ _ answer status
+          (at_test NearestTiesToEven _ true _ _ answer status
           (non_zero t n.is_finite (some_left _ _ _ e r.some (reached whole (number t)))) is_answer)

@@ -1,6 +1,6 @@
 -- The closing sum of two doubles z and y, which ends each sum and each product of pairs: within reach, it is exact, and
 -- the result is normalized.
-use Rattle.std.proofs.Common.{◌≡◌, ℕ, Bool, if◌then◌else◌, ◌*◌, ◌^◌, ◌<◌, ◌≤◌, true, false, eqb, sym, refl, ap, ◌∙◌, subst, arith, inl, lit<, lit≤}
+use Rattle.std.proofs.Common.{◌≡◌, ℕ, ◌*◌, ◌^◌, ◌<◌, ◌≤◌, true, false, eqb, sym, refl, ap, ◌∙◌, subst, arith, inl, lit<, lit≤}
 use Rattle.std.specs.Prelude.{ℤ, pos, ◌+ℤ◌}
 use Rattle.std.proofs.lemmas.Bool.{false≢true, and_parts, eqb-true}
 use Rattle.apfloat_model.specs.declared.kinds.NonfiniteBehavior.TheVariants.{IEEE754}
@@ -8,7 +8,7 @@ use Rattle.apfloat_model.specs.declared.kinds.Round.TheVariants.{NearestTiesToEv
 use Rattle.apfloat_model.specs.formats.Format.{largest}
 use Rattle.apfloat_model.specs.formats.Datum.{Datum, finite, infinite, nan}
 use Rattle.apfloat_model.specs.rounding.Rounding.{ok_bits}
-use Rattle.apfloat_model.specs.rounding.Steps.{Steps, Leads}
+use Rattle.apfloat_model.specs.rounding.Steps.{Leads}
 use Rattle.apfloat_model.specs.order.Classes.{is_finite, is_infinite, same_datum}
 use Rattle.apfloat_model.specs.arithmetic.Exact.{same_sign, signed}
 use Rattle.apfloat_model.specs.order.Order.{number}
@@ -22,6 +22,7 @@ use Rattle.apfloat_pair_theory.proofs.numbers.Signed.{IsGridNumber}
 use Rattle.apfloat_pair_theory.proofs.numbers.TwoSums.{IsShared}
 use Rattle.apfloat_pair_theory.proofs.sums.PairRoundings.{fast_two_sum}
 use Rattle.apfloat_pair_theory.proofs.sums.SumSteps.{IsClosingSteps, IsAddend, size, closed, high_rounded}
+use Rattle.apfloat_pair_theory.proofs.sums.SumsSound.{at_test}
 use Rattle.apfloat_pair_theory.proofs.numbers.Statuses.{sum_status, difference_status, union_status}
 use Rattle.apfloat_pair_theory.proofs.pairs.Normalised.{IsHighOf, high_of_sum, high_alone}
 
@@ -50,13 +51,6 @@ pub finite_is_not_infinite : (datum : Datum) → is_finite datum ≡ true → is
 finite_is_not_infinite (finite b n) h = refl
 finite_is_not_infinite (infinite b) h = absurd (false≢true h)
 finite_is_not_infinite (nan b n) h = absurd (false≢true h)
-
--- where the test holds, the chain goes on with the first branch
-pub at_true : (test : Bool) (one other : Steps Pair) (answer : Pair) (status : ℕ) → test ≡ true
-    → Leads double NearestTiesToEven (if test then one else other) answer status
-    → Leads double NearestTiesToEven one answer status
-at_true true one other answer status e h = h
-at_true false one other answer status e h = absurd (false≢true e)
 
 -- ---- the closing sum
 
@@ -134,7 +128,7 @@ closed_pair z y flags answer status a (h, h_flags, is_h, is_answer) =
     let h_status = sum_status double z y h h_flags is_ieee digits a.addend.finite_sum a.addend.finite_rest
     n.is_finite is_h in
     low_part_pair z y h flags h_flags (flags ∪ h_flags) answer status a (λ p. union_status _ _ p h_status) is_h
-    (at_true _ _ _ answer status n.is_finite is_answer)
+    (at_test NearestTiesToEven _ true _ _ answer status n.is_finite is_answer)
 
 -- ---- a rest of zero
 

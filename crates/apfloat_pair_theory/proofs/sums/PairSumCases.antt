@@ -1,6 +1,6 @@
 -- The rows of the sum of two pairs whose high parts are finite: if an operand is zero, the result is
 -- the other; otherwise it is the sum of numbers.
-use Rattle.std.proofs.Common.{◌≡◌, ℕ, ◌⊎◌, true, false, eqb, inl, inr, refl, ap, ◌∙◌, subst, ⊎_elim}
+use Rattle.std.proofs.Common.{◌≡◌, ℕ, ◌⊎◌, true, false, eqb, inl, inr, refl, ap, ◌∙◌, ⊎_elim}
 use Rattle.std.proofs.Math.Path.{subst₂}
 use Rattle.std.specs.Prelude.{pos}
 use Rattle.std.proofs.lemmas.Bool.{cases_eq, false≢true, ne_eqb, eq-eqb}

@@ -1,12 +1,11 @@
 -- The steps of the sum of two pairs of doubles: within reach, they are roundings that give a normalized pair.
-use Rattle.std.proofs.Common.{◌≡◌, ℕ, if◌then◌else◌, Bool, true, false, sym, refl}
-use Rattle.std.proofs.lemmas.Bool.{false≢true}
+use Rattle.std.proofs.Common.{◌≡◌, ℕ, if◌then◌else◌, Bool, true, false, refl}
 use Rattle.std.specs.Prelude.{ℤ, ◌+ℤ◌}
 use Rattle.apfloat_model.specs.declared.kinds.NonfiniteBehavior.TheVariants.{IEEE754}
 use Rattle.apfloat_model.specs.declared.kinds.Round.TheVariants.{NearestTiesToEven}
 use Rattle.apfloat_model.specs.formats.Datum.{Datum}
 use Rattle.apfloat_model.specs.rounding.Rounding.{ok_bits}
-use Rattle.apfloat_model.specs.rounding.Steps.{Steps, ends, Leads}
+use Rattle.apfloat_model.specs.rounding.Steps.{ends, Leads}
 use Rattle.apfloat_model.specs.rounding.Negation.{negated}
 use Rattle.apfloat_model.specs.order.Classes.{same_datum}
 use Rattle.apfloat_model.specs.order.Order.{number}
@@ -19,6 +18,7 @@ use Rattle.apfloat_pair_theory.proofs.numbers.TwoSums.{IsShared}
 use Rattle.apfloat_pair_theory.proofs.sums.PairRoundings.{IsOpening}
 use Rattle.apfloat_pair_theory.proofs.sums.SumSteps.{IsOpened, IsOpeningSteps, IsSummand, opened, first_finite}
 use Rattle.apfloat_pair_theory.proofs.numbers.Roundings.{negated_finite}
+use Rattle.apfloat_pair_theory.proofs.sums.SumsSound.{at_test}
 use Rattle.apfloat_pair_theory.proofs.numbers.Statuses.{sum_status, difference_status, union_status}
 use Rattle.apfloat_pair_theory.proofs.sums.ClosingSums.{is_ieee, wide_enough, digits, room, finite_is_not_infinite, IsClosable, IsPairOf, given_pair, closed_pair, alone_pair, zero_number}
 
@@ -142,13 +142,6 @@ finite_summed x y z z_flags answer status a c sh s q =
       plain = p.plain flags;
     }
 
--- where the test fails, the chain goes on with the second branch
-at_false : (test : Bool) (one other : Steps Pair) (answer : Pair) (status : ℕ) → test ≡ false
-    → Leads double NearestTiesToEven (if test then one else other) answer status
-    → Leads double NearestTiesToEven other answer status
-at_false true one other answer status e h = absurd (false≢true (sym e))
-at_false false one other answer status e h = h
-
 -- the sum of two pairs whose high parts are within reach
 pub numbers_summed : (x y answer : Pair) (status : ℕ) → IsPairSummand x → IsPairSummand y → IsSharing x y
     → Leads double NearestTiesToEven (sum_of_numbers x y) answer status
@@ -157,4 +150,4 @@ numbers_summed x y answer status a c sh (z, z_flags, is_z, is_answer) =
     let h = first_finite double is_ieee wide_enough sum_reach room x.high y.high z z_flags a.finite_high
     c.finite_high a.within c.within is_z in
     finite_summed x y z z_flags answer status a c sh is_z
-    (at_false _ _ _ answer status (finite_is_not_infinite z h) is_answer)
+    (at_test NearestTiesToEven _ false _ _ answer status (finite_is_not_infinite z h) is_answer)

@@ -1,5 +1,5 @@
 -- The chain of a sum of pairs is sound, so that it leads to one result with one status, whose flags go together.
-use Rattle.std.proofs.Common.{ℕ, Bool, true, false, subst, if◌then◌else◌}
+use Rattle.std.proofs.Common.{◌≡◌, ℕ, Bool, true, false, subst, if◌then◌else◌}
 use Rattle.apfloat_model.specs.declared.kinds.Round.{Round}
 use Rattle.apfloat_model.specs.declared.kinds.NonfiniteBehavior.TheVariants.{IEEE754}
 use Rattle.apfloat_model.specs.declared.kinds.Category.{Category}
@@ -24,6 +24,13 @@ pub sound_if : (test : Bool) (one other : Steps Pair) → AreSound one → AreSo
     → AreSound (if test then one else other)
 sound_if true one other h k = h
 sound_if false one other h k = k
+
+-- a chain that goes on by a test goes on by its value
+pub at_test : (mode : Round) (test value : Bool) (one other : Steps Pair) (answer : Pair) (status : ℕ) → test ≡ value
+    → Leads double mode (if test then one else other) answer status
+    → Leads double mode (if value then one else other) answer status
+at_test mode test value one other answer status e h =
+    subst (λ (b : Bool). Leads double mode (if b then one else other) answer status) e h
 
 pub continued_sound : {A B : Type 0} (steps : Steps A) (next : A → ℕ → Steps B) → AreSound steps
     → ((given : A) (flags : ℕ) → FlagsGoTogether flags → AreSound (next given flags))

@@ -1,12 +1,12 @@
 -- Results of calls on pairs, from the results of their steps.
-use Rattle.std.proofs.Common.{◌≡◌, ℕ, if◌then◌else◌, Bool, true, false, not, ◌&&◌, ◌||◌, sym, ap, ◌∙◌, subst}
+use Rattle.std.proofs.Common.{◌≡◌, ℕ, Bool, true, false, not, ◌&&◌, ◌||◌, sym, ap, ◌∙◌, subst}
 use Rattle.std.proofs.Math.Path.{subst₂}
 use mathlib.Core.Bool.{beq}
 use Rattle.apfloat_model.specs.declared.kinds.Category.{Category}
 use Rattle.apfloat_model.specs.declared.kinds.Round.{Round}
 use Rattle.apfloat_model.specs.formats.Datum.{Datum}
 use Rattle.apfloat_model.specs.order.Classes.{category_of, is_finite, is_infinite, is_finite_non_zero, is_negative, is_finite_non_zero_category, is_denormal}
-use Rattle.apfloat_model.specs.rounding.Steps.{Steps, Leads}
+use Rattle.apfloat_model.specs.rounding.Steps.{Leads}
 use Rattle.apfloat_model.specs.arithmetic.Exact.{same_sign}
 use Rattle.apfloat_model.specs.order.Predicates.{is_finite_category, is_infinite_category}
 use Rattle.apfloat_model.proofs.order.PredicatesAgree.{finite_agrees, infinite_agrees, number_agrees}
@@ -41,36 +41,24 @@ denormal_at_sum x sum status is_number is_denormal_high answer n t d f s a =
 
 -- ---- chains of steps
 
--- where the test holds, a chain goes on with its first branch
-pub on_true : (mode : Round) (test : Bool) (one other : Steps Pair) (answer : Pair) (status : ℕ) → test ≡ true
-    → Leads double mode one answer status → Leads double mode (if test then one else other) answer status
-on_true mode test one other answer status e h =
-    subst (λ (b : Bool). Leads double mode (if b then one else other) answer status) (sym e) h
-
--- where it fails, with the second
-pub on_false : (mode : Round) (test : Bool) (one other : Steps Pair) (answer : Pair) (status : ℕ) → test ≡ false
-    → Leads double mode other answer status → Leads double mode (if test then one else other) answer status
-on_false mode test one other answer status e h =
-    subst (λ (b : Bool). Leads double mode (if b then one else other) answer status) (sym e) h
-
--- the tests of the language are those of the model
+-- the value of a test of the language is that of the test of the model
 pub finite_is : (x : Datum) (test value : Bool) → test ≡ is_finite_category (category_of x) → test ≡ value
-    → is_finite x ≡ value
-finite_is x test value t e = sym (finite_agrees x) ∙ sym t ∙ e
+    → value ≡ is_finite x
+finite_is x test value t e = sym e ∙ t ∙ finite_agrees x
 
 pub infinite_is : (x : Datum) (test value : Bool) → test ≡ is_infinite_category (category_of x) → test ≡ value
-    → is_infinite x ≡ value
-infinite_is x test value t e = sym (infinite_agrees x) ∙ sym t ∙ e
+    → value ≡ is_infinite x
+infinite_is x test value t e = sym e ∙ t ∙ infinite_agrees x
 
 pub number_is : (x : Datum) (test value : Bool) → test ≡ is_finite_non_zero_category (category_of x) → test ≡ value
-    → is_finite_non_zero x ≡ value
-number_is x test value t e = sym (number_agrees x) ∙ sym t ∙ e
+    → value ≡ is_finite_non_zero x
+number_is x test value t e = sym e ∙ t ∙ number_agrees x
 
 pub signs_are : (x y : Pair) (first second value : Bool) → first ≡ is_negative x.high → second ≡ is_negative y.high
-    → beq first second ≡ value → same_sign (is_negative x.high) (is_negative y.high) ≡ value
+    → beq first second ≡ value → value ≡ same_sign (is_negative x.high) (is_negative y.high)
 signs_are x y first second value a b e =
-    ap (λ (i : Bool). same_sign i (is_negative y.high)) (sym a) ∙ ap (λ (i : Bool). same_sign first i) (sym b) ∙
-    sym (same_beq first second) ∙ e
+    sym e ∙ same_beq first second ∙ ap (λ (i : Bool). same_sign first i) b ∙
+    ap (λ (i : Bool). same_sign i (is_negative y.high)) a
 
 -- one more step raises its flags too
 pub joined : (before flags all total : ℕ) → total ≡ all ∪ flags → all ≡ before → total ≡ before ∪ flags

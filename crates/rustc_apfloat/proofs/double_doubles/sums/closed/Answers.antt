@@ -1,11 +1,11 @@
-use Rattle.std.proofs.Common.{ap, ◌∙◌}
+use Rattle.std.proofs.Common.{false, true, ap, ◌∙◌}
 use Rattle.apfloat_model.specs.order.Classes.{is_finite}
 use Rattle.apfloat_model.specs.rounding.Flags.{bits_of}
 use Rattle.apfloat_model.specs.rounding.Steps.{ends}
 use Rattle.apfloat_pair_theory.specs.Pairs.{alone}
 use Rattle.apfloat_pair_theory.specs.PairSums.{◌∪◌, closing_low}
-use Rattle.apfloat_pair_theory.proofs.sums.SumsSound.{step}
-use Rattle.rustc_apfloat.proofs.double_doubles_lemmas.PairSteps.{on_true, on_false, finite_is, joined}
+use Rattle.apfloat_pair_theory.proofs.sums.SumsSound.{at_test, step}
+use Rattle.rustc_apfloat.proofs.double_doubles_lemmas.PairSteps.{finite_is, joined}
 use Rattle.rustc_apfloat.proofs.double_doubles.sums.closed.Goals as goal
 
 pub returns-then-not-is_finite : goal.returns-then-not-is_finite
@@ -13,7 +13,7 @@ returns-then-not-is_finite c =
     let h = c.add_r.result.value in
     let flags = bits_of c.args.status ∪ bits_of c.add_r.result.status in
     step _ _ c.add_r.ensures.sum
-    (on_false c.args.round (is_finite h) (closing_low c.args.z c.args.zz h flags) (ends (alone h) flags) _ _
+    (at_test c.args.round false (is_finite h) (closing_low c.args.z c.args.zz h flags) (ends (alone h) flags) _ _
     (finite_is h _ _ c.is_finite.ensures c.if-not-is_finite.true)
     (c.and.ensures.value ∙ c.alone.ensures, ap bits_of c.and.ensures.status ∙ c.unpack-union-flags.ensures tt))
 
@@ -22,7 +22,7 @@ returns c =
     let h = c.add_r.result.value in
     let flags = bits_of c.args.status ∪ bits_of c.add_r.result.status in
     step _ _ c.add_r.ensures.sum
-    (on_true c.args.round (is_finite h) (closing_low c.args.z c.args.zz h flags) (ends (alone h) flags) _ _
+    (at_test c.args.round true (is_finite h) (closing_low c.args.z c.args.zz h flags) (ends (alone h) flags) _ _
     (finite_is h _ _ c.is_finite.ensures c.if-not-is_finite.false)
     (step _ _ c.sub_r.ensures.difference (step _ _ c.add_r-2.ensures.sum (
       c.and-2.ensures.value,

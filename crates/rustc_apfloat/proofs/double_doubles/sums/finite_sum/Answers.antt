@@ -11,8 +11,7 @@ use Rattle.apfloat_model.specs.rounding.Steps.{ends, Leads}
 use Rattle.apfloat_pair_theory.specs.Pairs.{Pair, alone, positive_zero}
 use Rattle.apfloat_pair_theory.specs.PairSums.{◌∪◌, closing, finite_sum, lost}
 use Rattle.apfloat_pair_theory.specs.PairFormats.{double}
-use Rattle.apfloat_pair_theory.proofs.sums.SumsSound.{continued_leads}
-use Rattle.rustc_apfloat.proofs.double_doubles_lemmas.PairSteps.{on_true, on_false}
+use Rattle.apfloat_pair_theory.proofs.sums.SumsSound.{at_test, continued_leads}
 use Rattle.rustc_apfloat.proofs.double_doubles.sums.finite_sum.Goals as goal
 
 -- a finite datum that is zero and has no sign is +0
@@ -32,8 +31,8 @@ is_positive_zero (nan b s) = refl
 
 -- the test for no error is that of the chain
 none_is : (zz : Datum) (is_none value : Bool) → is_none ≡ (is_zero_category (category_of zz) && not (is_negative zz))
-    → is_none ≡ value → same_datum zz positive_zero ≡ value
-none_is zz is_none value e g = sym (is_positive_zero zz) ∙ sym e ∙ g
+    → is_none ≡ value → value ≡ same_datum zz positive_zero
+none_is zz is_none value e g = sym g ∙ e ∙ is_positive_zero zz
 
 -- the steps after the error
 from_error : (mode : Round) (x y : Pair) (z zz : Datum) (z_flags zz_flags : ℕ) (answer : Pair) (status : ℕ)
@@ -58,7 +57,7 @@ returns-then-is_pos_zero c =
     let z_flags = bits_of c.args.z.status in
     let zz_flags = bits_of c.lost.result.status in
     from_error c.args.round c.args.x c.args.y z zz z_flags zz_flags _ _ c.lost.ensures
-    (on_true c.args.round (same_datum zz positive_zero) (ends (alone z) ok_bits) (closing z zz (z_flags ∪ zz_flags)) _ _
+    (at_test c.args.round true (same_datum zz positive_zero) (ends (alone z) ok_bits) (closing z zz (z_flags ∪ zz_flags)) _ _
     (none_is zz _ _ c.is_pos_zero.ensures c.if-is_pos_zero.true)
     (c.and.ensures.value ∙ c.alone.ensures, ap bits_of c.and.ensures.status))
 
@@ -69,6 +68,6 @@ returns-else-is_pos_zero c =
     let z_flags = bits_of c.args.z.status in
     let zz_flags = bits_of c.lost.result.status in
     from_error c.args.round c.args.x c.args.y z zz z_flags zz_flags _ _ c.lost.ensures
-    (on_false c.args.round (same_datum zz positive_zero) (ends (alone z) ok_bits) (closing z zz (z_flags ∪ zz_flags))
+    (at_test c.args.round false (same_datum zz positive_zero) (ends (alone z) ok_bits) (closing z zz (z_flags ∪ zz_flags))
     _ _ (none_is zz _ _ c.is_pos_zero.ensures c.if-is_pos_zero.false)
     (closing_at c.args.round z zz _ _ _ _ (c.unpack-union-status.ensures tt) assumption))

@@ -1,4 +1,4 @@
-use Rattle.std.proofs.Common.{◌≡◌, ℕ, ap, ◌∙◌, subst}
+use Rattle.std.proofs.Common.{false, true, ◌≡◌, ℕ, ap, ◌∙◌, subst}
 use Rattle.apfloat_model.specs.declared.kinds.Round.{Round}
 use Rattle.apfloat_model.specs.formats.Datum.{Datum}
 use Rattle.apfloat_model.specs.rounding.Flags.{bits_of}
@@ -8,8 +8,8 @@ use Rattle.apfloat_model.specs.order.Classes.{is_finite}
 use Rattle.apfloat_model.specs.rounding.Steps.{ends}
 use Rattle.apfloat_pair_theory.specs.Pairs.{Pair, alone}
 use Rattle.apfloat_pair_theory.specs.PairSums.{◌∪◌, sum_anew_low}
-use Rattle.apfloat_pair_theory.proofs.sums.SumsSound.{step}
-use Rattle.rustc_apfloat.proofs.double_doubles_lemmas.PairSteps.{on_true, on_false, finite_is, joined}
+use Rattle.apfloat_pair_theory.proofs.sums.SumsSound.{at_test, step}
+use Rattle.rustc_apfloat.proofs.double_doubles_lemmas.PairSteps.{finite_is, joined}
 use Rattle.rustc_apfloat.proofs.double_doubles.sums.sum_anew.Goals as goal
 
 -- the sum with an equal datum
@@ -33,7 +33,7 @@ returns-then-not-is_finite c =
     (step _ _ c.add_r.ensures.sum
     (step _ _ (sum_at c.args.round _ _ _ _ _ c.by_magnitude.ensures.lesser c.add_r-2.ensures.sum)
     (step _ _ (sum_at c.args.round _ _ _ _ _ c.by_magnitude.ensures.greater c.add_r-3.ensures.sum)
-    (on_false c.args.round (is_finite z) (sum_anew_low x y z flags) (ends (alone z) flags) _ _
+    (at_test c.args.round false (is_finite z) (sum_anew_low x y z flags) (ends (alone z) flags) _ _
     (finite_is _ _ _ c.is_finite.ensures c.if-not-is_finite.true) (
       c.and.ensures.value ∙ c.alone.ensures,
       ap bits_of c.and.ensures.status ∙ joined _ _ _ _ (c.unpack-union-status-2.ensures tt)
@@ -51,7 +51,7 @@ returns c =
     (step _ _ c.add_r.ensures.sum
     (step _ _ (sum_at c.args.round _ _ _ _ _ c.by_magnitude.ensures.lesser c.add_r-2.ensures.sum)
     (step _ _ (sum_at c.args.round _ _ _ _ _ c.by_magnitude.ensures.greater c.add_r-3.ensures.sum)
-    (on_true c.args.round (is_finite z) (sum_anew_low x y z flags) (ends (alone z) flags) _ _
+    (at_test c.args.round true (is_finite z) (sum_anew_low x y z flags) (ends (alone z) flags) _ _
     (finite_is _ _ _ c.is_finite.ensures c.if-not-is_finite.false)
     (step _ _ c.add_r-4.ensures.sum
     (step _ _ (difference_at c.args.round _ _ _ _ _ c.by_magnitude.ensures.greater c.sub_r.ensures.difference)
