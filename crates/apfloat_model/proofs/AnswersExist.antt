@@ -23,7 +23,8 @@ use Rattle.apfloat_model.proofs.general.Choices.{match_case}
 use Rattle.apfloat_model.proofs.rounding.NeighboursExist.{below_exists, above_exists}
 use Rattle.apfloat_model.proofs.general.Powers.{twice_half}
 use Rattle.apfloat_model.proofs.Outcomes.{yields_something, sum_sound, difference_sound, product_sound, quotient_sound, root_sound, fused_sum_sound, integral_sound, remainder_sound}
-pub use Rattle.apfloat_model.proofs.rounding.DeliveriesExist.{HasAnswer, answer_exists, rounded_exists, delivered_root_exists}
+pub use Rattle.apfloat_model.proofs.rounding.DeliveriesExist.{HasAnswer, answer_exists}
+pub use Rattle.apfloat_model.proofs.rounding.DeliveriesExist.{rounded_exists, delivered_root_exists}
 
 module _ (format : Format) (precise : 0 < format.precision) where
   -- each of the following operations has a result for all operands
@@ -55,7 +56,8 @@ module _ (format : Format) (precise : 0 < format.precision) where
   round_to_integral_exists mode x = yields_something format mode _ precise (integral_sound format mode x)
 
   pub remainder_exists : (quotient : ℕ → ℕ → ℕ) (x y : Datum) → HasAnswer (IsRemainder format quotient x y)
-  remainder_exists quotient x y = yields_something format NearestTiesToEven _ precise (remainder_sound format quotient x y)
+  remainder_exists quotient x y =
+      yields_something format NearestTiesToEven _ precise (remainder_sound format quotient x y)
 
   next_of_number_exists : (negative : Bool) (quanta : ℕ) → HasAnswer (IsNextOfNumber format negative quanta)
   next_of_number_exists true quanta =

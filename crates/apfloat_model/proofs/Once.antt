@@ -24,7 +24,8 @@ use Rattle.apfloat_model.proofs.rounding.Neighbours.{below_unique, above_unique}
 use Rattle.apfloat_model.proofs.general.Choices.{match_case, not_zero}
 use Rattle.apfloat_model.proofs.rounding.Laws.{delivered_once}
 use Rattle.apfloat_model.proofs.Outcomes.{yields_once}
-pub use Rattle.apfloat_model.proofs.rounding.RootsOnce.{Once, answer_once, below_root_unique, above_root_unique, delivered_root_once}
+pub use Rattle.apfloat_model.proofs.rounding.RootsOnce.{Once, answer_once, delivered_root_once}
+pub use Rattle.apfloat_model.proofs.rounding.RootsOnce.{below_root_unique, above_root_unique}
 
 -- each of the following operations has at most one value and one status
 pub sum_once : (format : Format) (mode : Round) (x y : Datum) → Once (IsSum format mode x y)

@@ -94,10 +94,14 @@ pub difference_sound : (format : Format) (x y : Datum) → IsSound (difference f
 difference_sound format (nan b s) y = invalid_if_together _
 difference_sound format (finite b m) (nan c t) = invalid_if_together _
 difference_sound format (infinite b) (nan c t) = invalid_if_together _
-difference_sound format (finite b m) (finite c n) = sum_sound format (finite b m) (negated format.nonfinite (finite c n))
-difference_sound format (finite b m) (infinite c) = sum_sound format (finite b m) (negated format.nonfinite (infinite c))
-difference_sound format (infinite b) (finite c n) = sum_sound format (infinite b) (negated format.nonfinite (finite c n))
-difference_sound format (infinite b) (infinite c) = sum_sound format (infinite b) (negated format.nonfinite (infinite c))
+difference_sound format (finite b m) (finite c n) =
+    sum_sound format (finite b m) (negated format.nonfinite (finite c n))
+difference_sound format (finite b m) (infinite c) =
+    sum_sound format (finite b m) (negated format.nonfinite (infinite c))
+difference_sound format (infinite b) (finite c n) =
+    sum_sound format (infinite b) (negated format.nonfinite (finite c n))
+difference_sound format (infinite b) (infinite c) =
+    sum_sound format (infinite b) (negated format.nonfinite (infinite c))
 
 pub product_fixed : (format : Format) (x y : Datum) → IsFixed (product format x y)
 product_fixed format (nan b s) y = invalid_if_together _

@@ -27,7 +27,9 @@ use Rattle.apfloat_model.specs.arithmetic.FusedSums.{IsFusedSum}
 use Rattle.apfloat_model.specs.arithmetic.Remainders.{IsRemainder}
 use Rattle.apfloat_model.specs.whole_numbers.WholeNumbers.{from_unsigned, from_signed, IsFromUnsigned, IsFromSigned, IsRoundToIntegral}
 use Rattle.apfloat_model.proofs.Outcomes.{yields_together, sum_sound, difference_sound, product_sound, quotient_sound, root_sound, fused_sum_sound, remainder_sound, from_unsigned_sound, from_signed_sound, integral_sound}
-pub use Rattle.apfloat_model.proofs.rounding.StatusesTogether.{Together, inexact_together, ok_together, invalid_together, invalid_if_together, only_inexact_together, inexact_unless_together, union_keeps, union_together, delivered_together, answer_together}
+pub use Rattle.apfloat_model.proofs.rounding.StatusesTogether.{Together, inexact_together, ok_together, invalid_together}
+pub use Rattle.apfloat_model.proofs.rounding.StatusesTogether.{invalid_if_together, only_inexact_together, inexact_unless_together}
+pub use Rattle.apfloat_model.proofs.rounding.StatusesTogether.{union_keeps, union_together, delivered_together, answer_together}
 
 -- ---- arithmetic
 
@@ -110,11 +112,13 @@ conversion_together from into mode (finite b n) loses_info value status h =
 
 pub from_unsigned_together : (format : Format) (mode : Round) (number : ℕ)
     → Together (IsFromUnsigned format mode number)
-from_unsigned_together format mode number = yields_together format mode (from_unsigned format number) (from_unsigned_sound format number)
+from_unsigned_together format mode number =
+    yields_together format mode (from_unsigned format number) (from_unsigned_sound format number)
 
 pub from_signed_together : (format : Format) (mode : Round) (number : ℤ)
     → Together (IsFromSigned format mode number)
-from_signed_together format mode number = yields_together format mode (from_signed format number) (from_signed_sound format number)
+from_signed_together format mode number =
+    yields_together format mode (from_signed format number) (from_signed_sound format number)
 
 pub round_to_integral_together : (format : Format) (mode : Round) (x : Datum)
     → Together (IsRoundToIntegral format mode x)

@@ -57,7 +57,8 @@ returns-then-is_pos_zero c =
     let z_flags = bits_of c.args.z.status in
     let zz_flags = bits_of c.lost.result.status in
     from_error c.args.round c.args.x c.args.y z zz z_flags zz_flags _ _ c.lost.ensures
-    (at_test c.args.round true (same_datum zz positive_zero) (ends (alone z) ok_bits) (closing z zz (z_flags ∪ zz_flags)) _ _
+    (at_test c.args.round true (same_datum zz positive_zero) (ends (alone z) ok_bits)
+    (closing z zz (z_flags ∪ zz_flags)) _ _
     (none_is zz _ _ c.is_pos_zero.ensures c.if-is_pos_zero.true)
     (c.and.ensures.value ∙ c.alone.ensures, ap bits_of c.and.ensures.status))
 
@@ -68,6 +69,7 @@ returns-else-is_pos_zero c =
     let z_flags = bits_of c.args.z.status in
     let zz_flags = bits_of c.lost.result.status in
     from_error c.args.round c.args.x c.args.y z zz z_flags zz_flags _ _ c.lost.ensures
-    (at_test c.args.round false (same_datum zz positive_zero) (ends (alone z) ok_bits) (closing z zz (z_flags ∪ zz_flags))
+    (at_test c.args.round false (same_datum zz positive_zero) (ends (alone z) ok_bits)
+    (closing z zz (z_flags ∪ zz_flags))
     _ _ (none_is zz _ _ c.is_pos_zero.ensures c.if-is_pos_zero.false)
     (closing_at c.args.round z zz _ _ _ _ (c.unpack-union-status.ensures tt) assumption))
