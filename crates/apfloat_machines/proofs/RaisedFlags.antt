@@ -35,7 +35,7 @@ use Rattle.apfloat_machines.specs.Conversions.{is_lost_nan}
 use Rattle.apfloat_machines.specs.WholeNumbers.{invalid_flags, settled_flags, IsMachineSigned, IsMachineUnsigned}
 use Rattle.apfloat_machines.specs.Flushing.{flushes, IsRoundedOrFlushed}
 use Rattle.apfloat_machines.specs.FlushedOperations.{YieldsFlushed, IsFlushedSum, IsFlushedDifference, IsFlushedProduct, IsFlushedQuotient, IsFlushedFusedSum, IsFlushedConversion}
-use Rattle.apfloat_machines.specs.RaisedFlags.{RaiseTogether, RaiseTogetherFlushed}
+use Rattle.apfloat_machines.specs.RaisedFlags.{MachineFlagsGoTogether, FlushedFlagsGoTogether}
 
 -- ---- operations on one, two and three operands
 
@@ -95,7 +95,7 @@ unsigned_together f machine mode width x number status h =
       is_exact_is = refl;
     })))
 
-pub raise_together : (f : Format) (machine : Machine) → RaiseTogether f machine
+pub raise_together : (f : Format) (machine : Machine) → MachineFlagsGoTogether f machine
 raise_together f machine =
     record {
       sum = λ mode x y. of_two_together f machine x y (is_invalid_sum x y) (IsSum f mode x y)
@@ -162,7 +162,7 @@ flushed_conversion_together f g mode (finite b n) =
 flushed_conversion_together f g mode (infinite b) = any_loss_together f g mode (infinite b)
 flushed_conversion_together f g mode (nan b t) = any_loss_together f g mode (nan b t)
 
-pub raise_together_flushed : (f : Format) (machine : Machine) → RaiseTogetherFlushed f machine
+pub raise_together_flushed : (f : Format) (machine : Machine) → FlushedFlagsGoTogether f machine
 raise_together_flushed f machine =
     record {
       sum = λ mode x y. of_two_together f machine x y (is_invalid_sum x y) (IsFlushedSum f X86 mode x y)

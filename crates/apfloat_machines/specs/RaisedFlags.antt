@@ -18,7 +18,7 @@ use Rattle.apfloat_machines.specs.FlushedMachines.{IsFlushedMachineSum, IsFlushe
 use Rattle.apfloat_machines.specs.FlushedMachines.{IsFlushedMachineProduct, IsFlushedMachineQuotient}
 use Rattle.apfloat_machines.specs.FlushedMachines.{IsFlushedMachineFusedSum, IsFlushedMachineConversion}
 
-pub record RaiseTogether (f : Format) (machine : Machine) : Type 0 where
+pub record MachineFlagsGoTogether (f : Format) (machine : Machine) : Type 0 where
   pub sum : (mode : Round) (x y : Datum) → RaisesTogether (IsMachineSum f machine mode x y)
   pub difference : (mode : Round) (x y : Datum) → RaisesTogether (IsMachineDifference f machine mode x y)
   pub product : (mode : Round) (x y : Datum) → RaisesTogether (IsMachineProduct f machine mode x y)
@@ -36,7 +36,7 @@ pub record RaiseTogether (f : Format) (machine : Machine) : Type 0 where
   pub signed : (mode : Round) (width : ℕ) (x : Datum) → RaisesTogether (IsMachineSigned f machine mode width x)
   pub unsigned : (mode : Round) (width : ℕ) (x : Datum) → RaisesTogether (IsMachineUnsigned f machine mode width x)
 
-pub record RaiseTogetherFlushed (f : Format) (machine : Machine) : Type 0 where
+pub record FlushedFlagsGoTogether (f : Format) (machine : Machine) : Type 0 where
   pub sum : (mode : Round) (x y : Datum) → RaisesTogether (IsFlushedMachineSum f machine X86 mode x y)
   pub difference : (mode : Round) (x y : Datum) → RaisesTogether (IsFlushedMachineDifference f machine X86 mode x y)
   pub product : (mode : Round) (x y : Datum) → RaisesTogether (IsFlushedMachineProduct f machine X86 mode x y)

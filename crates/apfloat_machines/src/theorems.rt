@@ -9,7 +9,7 @@ ghost use Rattle.apfloat_machines.specs.FlushedMachines.{FlushedMachinesHaveOneA
 ghost use Rattle.apfloat_machines.specs.FlushedMachines.{IsFlushedAndSettledFused};
 ghost use Rattle.apfloat_machines.specs.FlushedOperations.{FlushedHaveOneAnswer};
 ghost use Rattle.apfloat_machines.specs.Operations.{IsSettledFused};
-ghost use Rattle.apfloat_machines.specs.RaisedFlags.{RaiseTogether, RaiseTogetherFlushed};
+ghost use Rattle.apfloat_machines.specs.RaisedFlags.{MachineFlagsGoTogether, FlushedFlagsGoTogether};
 ghost use Rattle.apfloat_machines.specs.Theorems.{HaveOneAnswer, FusedSumsHaveOneAnswer};
 ghost use Rattle.apfloat_machines.specs.Theorems.{ConversionsHaveOneAnswer};
 ghost use Rattle.apfloat_machines.specs.Theorems.{WholeNumbersHaveOneAnswer};
@@ -57,6 +57,6 @@ pub fn flushed_machine_operations_have_one_answer()
 /// Each operation of a machine raises OVERFLOW and UNDERFLOW only together with INEXACT, and so does each one that
 /// flushes tiny results with the flags of `Flush::X86`. `Flush::Arm` raises UNDERFLOW alone.
 pub fn flags_go_together()
-    ensures plain { (f : Format) (machine : Machine) → RaiseTogether f machine }
-    ensures flushed { (f : Format) (machine : Machine) → RaiseTogetherFlushed f machine }
+    ensures plain { (f : Format) (machine : Machine) → MachineFlagsGoTogether f machine }
+    ensures flushed { (f : Format) (machine : Machine) → FlushedFlagsGoTogether f machine }
 {}
