@@ -1,6 +1,5 @@
 -- What a machine makes of a flushed answer is what its definition says of the operation with flushing.
 use Rattle.std.proofs.Common.{◌≡◌, ℕ, true}
-use Rattle.std.specs.Bool.{MatchBool}
 use Rattle.apfloat_model.specs.declared.kinds.Round.{Round}
 use Rattle.apfloat_model.specs.declared.kinds.NonfiniteBehavior.TheVariants.{IEEE754}
 use Rattle.apfloat_model.specs.declared.status.StatusAnd.{StatusAnd}
@@ -21,13 +20,13 @@ use Rattle.apfloat_machines.specs.declared.machine.Machine.{Machine}
 use Rattle.apfloat_machines.specs.declared.flushing.Flush.{Flush}
 use Rattle.apfloat_machines.specs.Machines.{nan_choice}
 use Rattle.apfloat_machines.specs.Nans.{default_nan, settled, takes_none}
-use Rattle.apfloat_machines.specs.Invalid.{is_invalid_sum, is_invalid_difference, is_invalid_product, is_invalid_quotient, is_invalid_fused}
-use Rattle.apfloat_machines.specs.Operations.{is_nan_of_three, settled_fused, settled_fused_flags}
+use Rattle.apfloat_machines.specs.Invalid.{is_invalid_sum, is_invalid_difference, is_invalid_product, is_invalid_quotient}
+use Rattle.apfloat_machines.specs.Operations.{settled_fused, settled_fused_flags}
 use Rattle.apfloat_machines.specs.Conversions.{is_lost_nan, settled_conversion}
 use Rattle.apfloat_machines.specs.FlushedOperations.{IsFlushedSum, IsFlushedDifference, IsFlushedProduct, IsFlushedQuotient, IsFlushedFusedSum, IsFlushedConversion}
 use Rattle.apfloat_machines.specs.FlushedMachines.{IsFlushedMachineConversion, AreFlushedAndSettled, IsFlushedAndSettledFused, FlushedMachinesHaveOneAnswer}
 use Rattle.apfloat_machines.proofs.Settling.{of_two, of_three, left, conversion_cases}
-use Rattle.apfloat_machines.proofs.Once.{of_two_once}
+use Rattle.apfloat_machines.proofs.Once.{of_two_once, of_three_once}
 use Rattle.apfloat_machines.proofs.Usual.{sum_usual, difference_usual, product_usual, quotient_usual, fused_usual}
 use Rattle.apfloat_machines.proofs.FlushedUsual.{flushed_settled_or_number}
 use Rattle.apfloat_machines.proofs.FlushedAnswers.{yields_flushed_once, conversion_with_flush}
@@ -98,11 +97,8 @@ flushed_machines_once f machine flush =
           (IsFlushedProduct f flush mode x y) (yields_flushed_once f flush mode (product f x y)));
       quotient = λ mode x y. gives_once _ (of_two_once f machine x y (is_invalid_quotient x y)
           (IsFlushedQuotient f flush mode x y) (yields_flushed_once f flush mode (quotient f x y)));
-      fused_sum = λ mode x y z. gives_once _ (match_case Once (is_nan_of_three x y z) (IsAnswer _ _)
-          (λ v s. MatchBool (is_invalid_fused x y z) (IsAnswer _ _ v s) (IsFlushedFusedSum f flush mode x y z v s))
-          (answer_once _ _) (match_case Once (is_invalid_fused x y z) (IsAnswer _ _)
-          (IsFlushedFusedSum f flush mode x y z) (answer_once _ _)
-          (yields_flushed_once f flush mode (fused_sum f x y z))));
+      fused_sum = λ mode x y z. gives_once _ (of_three_once f machine x y z (IsFlushedFusedSum f flush mode x y z)
+          (yields_flushed_once f flush mode (fused_sum f x y z)));
       conversion = λ source mode x. gives_once _ (match_case Once (is_lost_nan source machine x) (IsAnswer _ _)
           (IsFlushedConversion source f flush mode x) (answer_once _ _) (conversion_with_flush source f flush mode x));
     }

@@ -21,7 +21,7 @@ use Rattle.ieee_operations.specs.WholeNumbers.{IsRoundedToIntegral}
 use Rattle.ieee_operations.proofs.IntegralOnce.{integral_once}
 use Rattle.apfloat_machines.specs.declared.machine.Machine.{Machine}
 use Rattle.apfloat_machines.specs.Invalid.{is_invalid_sum, is_invalid_difference, is_invalid_product, is_invalid_quotient, is_invalid_remainder, is_invalid_root, is_invalid_fused}
-use Rattle.apfloat_machines.specs.Operations.{is_nan_of_three, IsOfTwo}
+use Rattle.apfloat_machines.specs.Operations.{is_nan_of_three, IsOfTwo, IsOfThree}
 use Rattle.apfloat_machines.specs.Conversions.{is_lost_nan}
 use Rattle.apfloat_machines.specs.Theorems.{HaveOneAnswer, ConversionsHaveOneAnswer, WholeNumbersHaveOneAnswer, FusedSumsHaveOneAnswer}
 
@@ -54,12 +54,16 @@ operations_once f machine =
           (integral_once f mode x));
     }
 
+pub of_three_once : (f : Format) (machine : Machine) (x y z : Datum) (Says : Datum → ℕ → Type 0)
+    → Once Says → Once (IsOfThree f machine x y z Says)
+of_three_once f machine x y z Says once =
+    match_case Once (is_nan_of_three x y z) (IsAnswer _ _)
+    (λ v s. MatchBool (is_invalid_fused x y z) (IsAnswer _ _ v s) (Says v s)) (answer_once _ _)
+    (match_case Once (is_invalid_fused x y z) (IsAnswer _ _) Says (answer_once _ _) once)
+
 pub fused_sums_once : FusedSumsHaveOneAnswer
 fused_sums_once f machine mode x y z =
-    gives_once _ (match_case Once (is_nan_of_three x y z) (IsAnswer _ _)
-    (λ v s. MatchBool (is_invalid_fused x y z) (IsAnswer _ _ v s) (IsFusedSum f mode x y z v s))
-    (answer_once _ _) (match_case Once (is_invalid_fused x y z) (IsAnswer _ _) (IsFusedSum f mode x y z)
-    (answer_once _ _) (fused_sum_once f mode x y z)))
+    gives_once _ (of_three_once f machine x y z (IsFusedSum f mode x y z) (fused_sum_once f mode x y z))
 
 -- whatever it says of the loss of information
 pub converted_once : (f g : Format) (mode : Round) (x : Datum)

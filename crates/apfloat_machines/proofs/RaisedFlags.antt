@@ -30,7 +30,7 @@ use Rattle.apfloat_machines.specs.declared.machine.Machine.{Machine}
 use Rattle.apfloat_machines.specs.declared.flushing.Flush.TheVariants.{X86}
 use Rattle.apfloat_machines.specs.Machines.{invalid_integer_is_inexact}
 use Rattle.apfloat_machines.specs.Invalid.{is_invalid_sum, is_invalid_difference, is_invalid_product, is_invalid_quotient, is_invalid_remainder, is_invalid_root, is_invalid_fused}
-use Rattle.apfloat_machines.specs.Operations.{is_nan_of_three, IsOfTwo}
+use Rattle.apfloat_machines.specs.Operations.{is_nan_of_three, IsOfTwo, IsOfThree}
 use Rattle.apfloat_machines.specs.Conversions.{is_lost_nan}
 use Rattle.apfloat_machines.specs.WholeNumbers.{invalid_flags, settled_flags, IsMachineSigned, IsMachineUnsigned}
 use Rattle.apfloat_machines.specs.Flushing.{flushes, IsRoundedOrFlushed}
@@ -45,6 +45,15 @@ of_two_together f machine x y invalid Says together =
     match_case RaisesTogether (is_nan x || is_nan y) (IsAnswer _ _)
     (λ v s. MatchBool invalid (IsAnswer _ _ v s) (Says v s)) (answer_together _ _ (invalid_if_together _))
     (match_case RaisesTogether invalid (IsAnswer _ _) Says (answer_together _ _ invalid_together) together)
+
+of_three_together : (f : Format) (machine : Machine) (x y z : Datum) (Says : Datum → ℕ → Type 0)
+    → RaisesTogether Says → RaisesTogether (IsOfThree f machine x y z Says)
+of_three_together f machine x y z Says together =
+    match_case RaisesTogether (is_nan_of_three x y z) (IsAnswer _ _)
+    (λ v s. MatchBool (is_invalid_fused x y z) (IsAnswer _ _ v s) (Says v s))
+    (answer_together _ _ (invalid_if_together _))
+    (match_case RaisesTogether (is_invalid_fused x y z) (IsAnswer _ _) Says (answer_together _ _ invalid_together)
+    together)
 
 -- rounding to an integral datum without INEXACT raises INVALID_OP or nothing
 integral_together : (f : Format) (mode : Round) (x : Datum) → RaisesTogether (IsRoundedToIntegral f mode x)
@@ -115,11 +124,8 @@ raise_together f machine =
           (round_to_integral_together f mode x);
       integral = λ mode x. of_two_together f machine x x false (IsRoundedToIntegral f mode x)
           (integral_together f mode x);
-      fused_sum = λ mode x y z. match_case RaisesTogether (is_nan_of_three x y z) (IsAnswer _ _)
-          (λ v s. MatchBool (is_invalid_fused x y z) (IsAnswer _ _ v s) (IsFusedSum f mode x y z v s))
-          (answer_together _ _ (invalid_if_together _))
-          (match_case RaisesTogether (is_invalid_fused x y z) (IsAnswer _ _) (IsFusedSum f mode x y z)
-          (answer_together _ _ invalid_together) (fused_sum_together f mode x y z));
+      fused_sum = λ mode x y z. of_three_together f machine x y z (IsFusedSum f mode x y z)
+          (fused_sum_together f mode x y z);
       conversion = λ source mode x. match_case RaisesTogether (is_lost_nan source machine x) (IsAnswer _ _)
           (λ v s. (loses : Bool) × IsConversion source f mode x v s loses)
           (answer_together _ _ (invalid_if_together _)) (any_loss_together source f mode x);
@@ -174,12 +180,8 @@ raise_together_flushed f machine =
           (yields_flushed_together f mode (product f x y) (product_sound f x y));
       quotient = λ mode x y. of_two_together f machine x y (is_invalid_quotient x y)
           (IsFlushedQuotient f X86 mode x y) (yields_flushed_together f mode (quotient f x y) (quotient_sound f x y));
-      fused_sum = λ mode x y z. match_case RaisesTogether (is_nan_of_three x y z) (IsAnswer _ _)
-          (λ v s. MatchBool (is_invalid_fused x y z) (IsAnswer _ _ v s) (IsFlushedFusedSum f X86 mode x y z v s))
-          (answer_together _ _ (invalid_if_together _))
-          (match_case RaisesTogether (is_invalid_fused x y z) (IsAnswer _ _) (IsFlushedFusedSum f X86 mode x y z)
-          (answer_together _ _ invalid_together)
-          (yields_flushed_together f mode (fused_sum f x y z) (fused_sum_sound f x y z)));
+      fused_sum = λ mode x y z. of_three_together f machine x y z (IsFlushedFusedSum f X86 mode x y z)
+          (yields_flushed_together f mode (fused_sum f x y z) (fused_sum_sound f x y z));
       conversion = λ source mode x. match_case RaisesTogether (is_lost_nan source machine x) (IsAnswer _ _)
           (IsFlushedConversion source f X86 mode x) (answer_together _ _ (invalid_if_together _))
           (flushed_conversion_together source f mode x);

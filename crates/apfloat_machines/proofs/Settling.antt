@@ -25,7 +25,7 @@ use Rattle.apfloat_machines.specs.declared.machine.Machine.{Machine}
 use Rattle.apfloat_machines.specs.Machines.{nan_choice, fused_order}
 use Rattle.apfloat_machines.specs.Nans.{default_nan, nan_of, settled, takes_none}
 use Rattle.apfloat_machines.specs.Invalid.{is_invalid_sum, is_invalid_difference, is_invalid_product, is_invalid_quotient, is_invalid_remainder, is_invalid_root, is_invalid_fused}
-use Rattle.apfloat_machines.specs.Operations.{is_signaling_of_two, is_nan_of_three, IsOfTwo, AreSettled, AreSettledOfOne, IsMachineFusedSum, taken_in_order, fused_takes_none, fused_nan, is_invalid_of_nans, settled_fused, settled_fused_flags}
+use Rattle.apfloat_machines.specs.Operations.{is_signaling_of_two, is_nan_of_three, IsOfTwo, IsOfThree, AreSettled, AreSettledOfOne, IsMachineFusedSum, taken_in_order, fused_takes_none, is_invalid_of_nans, settled_fused, settled_fused_flags}
 use Rattle.apfloat_machines.specs.Conversions.{is_lost_nan, settled_conversion, IsMachineConversion}
 use Rattle.apfloat_machines.proofs.Usual.{IsUsual, IsUsualNumber, IsUsualFused, settled_or_number, sum_usual, difference_usual, product_usual, quotient_usual, remainder_usual, root_usual, exact_usual, integral_usual, fused_usual}
 
@@ -123,13 +123,8 @@ fused_cases false keeps false chosen default value flags status Says u h = rw u 
 
 pub of_three : (f : Format) (machine : Machine) (x y z : Datum) (Says : Datum → ℕ → Type 0) (value : Datum) (status : ℕ)
     → IsUsualFused x y z value status → Says value status
-    → MatchBool (is_nan_of_three x y z)
-    (IsAnswer (fused_nan f machine x y z) (invalid_if (is_invalid_of_nans f machine x y z))
-    (settled_fused f machine x y z value) (settled_fused_flags f machine x y z value status))
-    (MatchBool (is_invalid_fused x y z)
-    (IsAnswer (default_nan f machine) invalid_bit (settled_fused f machine x y z value)
-    (settled_fused_flags f machine x y z value status))
-    (Says (settled_fused f machine x y z value) (settled_fused_flags f machine x y z value status)))
+    → IsOfThree f machine x y z Says (settled_fused f machine x y z value)
+    (settled_fused_flags f machine x y z value status)
 of_three f machine x y z Says value status u h =
     fused_cases (is_nan_of_three x y z) (not (fused_takes_none f machine x y z)) (is_invalid_fused x y z)
     (quieted_datum f (taken_in_order (fused_order machine) (nan_choice machine) f x y z)) (default_nan f machine) value

@@ -9,14 +9,14 @@ use Rattle.apfloat_model.specs.declared.status.StatusAnd.{StatusAnd}
 use Rattle.apfloat_model.specs.rounding.Flags.{Gives}
 use Rattle.apfloat_model.specs.formats.Format.{Format}
 use Rattle.apfloat_model.specs.formats.Datum.{Datum}
-use Rattle.apfloat_model.specs.formats.Nan.{invalid_bit, invalid_if, is_signaling_nan}
+use Rattle.apfloat_model.specs.formats.Nan.{invalid_if, is_signaling_nan}
 use Rattle.apfloat_model.specs.rounding.Answer.{IsAnswer}
 use Rattle.apfloat_machines.specs.declared.machine.Machine.{Machine}
 use Rattle.apfloat_machines.specs.declared.flushing.Flush.{Flush}
 use Rattle.apfloat_machines.specs.Nans.{default_nan}
 use Rattle.apfloat_machines.specs.Invalid.{is_invalid_sum, is_invalid_difference, is_invalid_product}
-use Rattle.apfloat_machines.specs.Invalid.{is_invalid_quotient, is_invalid_fused}
-use Rattle.apfloat_machines.specs.Operations.{IsOfTwo, is_nan_of_three, fused_nan, is_invalid_of_nans}
+use Rattle.apfloat_machines.specs.Invalid.{is_invalid_quotient}
+use Rattle.apfloat_machines.specs.Operations.{IsOfTwo, IsOfThree}
 use Rattle.apfloat_machines.specs.Conversions.{is_lost_nan}
 use Rattle.apfloat_machines.specs.Theorems.{IsOnce}
 use Rattle.apfloat_machines.specs.FlushedOperations.{IsFlushedSum, IsFlushedDifference, IsFlushedProduct}
@@ -41,10 +41,7 @@ IsFlushedMachineQuotient f machine flush mode x y value status =
 abbrev pub IsFlushedMachineFusedSum
     : Format → Machine → Flush → Round → Datum → Datum → Datum → Datum → ℕ → Type 0
 IsFlushedMachineFusedSum f machine flush mode x y z value status =
-    MatchBool (is_nan_of_three x y z)
-    (IsAnswer (fused_nan f machine x y z) (invalid_if (is_invalid_of_nans f machine x y z)) value status)
-    (MatchBool (is_invalid_fused x y z) (IsAnswer (default_nan f machine) invalid_bit value status)
-    (IsFlushedFusedSum f flush mode x y z value status))
+    IsOfThree f machine x y z (IsFlushedFusedSum f flush mode x y z) value status
 
 -- of a datum of f into g
 abbrev pub IsFlushedMachineConversion : Format → Format → Machine → Flush → Round → Datum → Datum → ℕ → Type 0

@@ -138,12 +138,18 @@ is_invalid_of_nans f machine x y z =
     is_signaling_nan f x || (is_signaling_nan f y || (is_signaling_nan f z
     || (is_invalid_product x y && flags_quiet_addend machine)))
 
-abbrev pub IsMachineFusedSum : Format → Machine → Round → Datum → Datum → Datum → Datum → ℕ → Type 0
-IsMachineFusedSum f machine mode x y z value status =
+-- If an operand is a NaN, or the fused sum is invalid, the machine's NaN; otherwise what the fused sum gives.
+abbrev pub IsOfThree
+    : Format → Machine → Datum → Datum → Datum → (Datum → ℕ → Type 0) → Datum → ℕ → Type 0
+IsOfThree f machine x y z Says value status =
     MatchBool (is_nan_of_three x y z)
     (IsAnswer (fused_nan f machine x y z) (invalid_if (is_invalid_of_nans f machine x y z)) value status)
     (MatchBool (is_invalid_fused x y z) (IsAnswer (default_nan f machine) invalid_bit value status)
-    (IsFusedSum f mode x y z value status))
+    (Says value status))
+
+abbrev pub IsMachineFusedSum : Format → Machine → Round → Datum → Datum → Datum → Datum → ℕ → Type 0
+IsMachineFusedSum f machine mode x y z value status =
+    IsOfThree f machine x y z (IsFusedSum f mode x y z) value status
 
 -- ---- what a machine has
 
