@@ -19,14 +19,14 @@ use Rattle.small_formats.specs.declared.blocks.ElementFormat.{ElementFormat}
 use Rattle.small_formats.specs.blocks.Elements.{IsQuotientBy, width}
 use Rattle.small_formats.specs.blocks.Magnitudes.{are_finite}
 use Rattle.small_formats.specs.blocks.MxBlocks.{IsBlockOfNan, IsBlockOfNumbers}
-use Rattle.small_formats.specs.blocks.Places.{AreInPlaces}
+use Rattle.small_formats.specs.blocks.Places.{AreElementsInPlaces}
 use Rattle.apfloat_arrays.specs.declared.scaled_blocks.Quantization.{Quantization}
 use Rattle.apfloat_arrays.specs.scaled_blocks.Quantized.{AreQuantized, IsBlockOf, width_in}
 use Rattle.apfloat_arrays.specs.scaled_blocks.Values.{values_in}
 
 quotients : (element : ElementFormat) (f : Format) (mode : Round) (divisor unit : ℕ) (values : List Datum)
     (codes flags : List ℕ)
-    → AreInPlaces (λ x code status. IsQuotientBy element f mode divisor unit x code status) values codes flags
+    → AreElementsInPlaces (λ x code status. IsQuotientBy element f mode divisor unit x code status) values codes flags
     → All (λ code. code < 2 ^ width element) codes
 quotients element f mode divisor unit values codes flags places k d within =
     let same = places.same_size in

@@ -1,13 +1,14 @@
 -- The point that a mode of conversions picks, from the digits that a cut keeps; what is delivered for it.
 use Rattle.std.proofs.Common.{◌≡◌, ℕ, ◌+◌, ◌-◌, ◌*◌, ◌/◌, ◌%◌, ◌^◌, ◌<◌, ◌≤◌, Bool, false, cond, eqb}
 use Rattle.std.proofs.Common.{sym, ap, ◌∙◌, ⊎_elim, arith}
-use Rattle.std.proofs.Math.Nat.{mul-div_cancel, mul-le-mul_right, mul-pos}
+use Rattle.std.proofs.Math.Nat.{mul-le-mul_right, mul-pos}
 use Rattle.std.proofs.lemmas.Bool.{cases_lt, eq-eqb, ne_eqb, MatchBool-at_false}
 use Rattle.std.proofs.lemmas.Nat.{pow_pos, div-add-mod', mod_below}
 use Rattle.apfloat_model.specs.rounding.Enclosure.{IsEnclosed}
 use Rattle.apfloat_model.proofs.general.Choices.{cond_times, cond_same}
 use Rattle.apfloat_model.proofs.rounding.KeptDigits.{same_unit}
 use Rattle.apfloat_model.proofs.rounding.Neighbours.{below_is, above_is_same, above_is_next}
+use Rattle.apfloat_model.proofs.rounding.Picks.{odd_is}
 use Rattle.small_formats.specs.declared.modes.ConversionRound.{ConversionRound}
 use Rattle.small_formats.specs.Codes.{point}
 use Rattle.small_formats.specs.ModeConversions.{IsSaturatedBy}
@@ -19,12 +20,6 @@ use Rattle.small_formats.specs.Storage.{Constants, IsLawful}
 use Rattle.small_formats.proofs.MovesScaled.{moves_alike}
 
 -- ---- the neighbours of an enclosed magnitude
-
--- the lower neighbour, counted in steps to the upper one, is odd exactly if its significand is
-odd_is : (m c : ℕ) → eqb (m * 2 ^ c / ((m + 1) * 2 ^ c - m * 2 ^ c) % 2) 1 ≡ eqb (m % 2) 1
-odd_is m c =
-    let d : (m + 1) * 2 ^ c - m * 2 ^ c ≡ 2 ^ c = omega arith in
-    ap (λ (x : ℕ). eqb (m * 2 ^ c / x % 2) 1) d ∙ ap (λ (x : ℕ). eqb (x % 2) 1) (mul-div_cancel m (pow_pos c))
 
 -- a magnitude that is a point does not move, and any other moves as the mode takes
 pub stays : (mode : ConversionRound) (negative odd : Bool) (x y : ℕ) → x ≡ 0

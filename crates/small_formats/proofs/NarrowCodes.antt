@@ -16,6 +16,7 @@ use Rattle.apfloat_model.proofs.Once.{conversion_once}
 use Rattle.apfloat_model.proofs.bits.EncodedOnce.{encoded_once, fields_with}
 use Rattle.apfloat_model.proofs.bits.Encodings.{bits_back, fields_back, fields_within}
 use Rattle.apfloat_model.proofs.general.Powers.{two_pos}
+use Rattle.apfloat_model.proofs.general.Choices.{digit_low}
 use Rattle.small_formats.specs.Float8E3M4.{IsE3M4Once, IsNarrow, e3m4_datum, e3m4_format, e3m4_layout, narrowed, wide_datum, wide_format, wide_layout, widened}
 
 -- ---- fields
@@ -73,10 +74,6 @@ same_datum b e t l =
     rw (test, seven) refl)
     (cases_lt e 7)
 
-sign_digit : (b : Bool) → cond b 1 0 < 2
-sign_digit true = lit≤ tt
-sign_digit false = lit≤ tt
-
 -- a code by its fields
 widened_fields : (b e t : ℕ) → b < 2 → e < 8 → t < 16 → widened ((b * 8 + e) * 16 + t) ≡ (b * 16 + field e) * 16 + t
 widened_fields b e t l m k =
@@ -102,7 +99,7 @@ widened_datum code l =
     record { biased_exponent = field_fits x.biased_exponent w.biased_exponent; trailing = w.trailing } in
     let written : widened code ≡ bits_of_fields wide_format wide_layout (wide_fields x) =
     ap widened (sym back)
-    ∙ widened_fields (cond x.negative 1 0) x.biased_exponent x.trailing (sign_digit x.negative) w.biased_exponent
+    ∙ widened_fields (cond x.negative 1 0) x.biased_exponent x.trailing (digit_low x.negative) w.biased_exponent
     w.trailing in
     ap (λ (n : ℕ). datum_of_fields wide_format wide_layout (fields_of wide_format wide_layout n)) written
     ∙ ap (λ (y : Fields). datum_of_fields wide_format wide_layout y)
@@ -270,7 +267,7 @@ sided code l =
     let x = fields_of wide_format wide_layout code in
     let w = fields_within wide_format wide_layout wide_interchange code in
     let back = bits_back wide_format wide_layout wide_interchange code l in
-    let digit = sign_digit x.negative in
+    let digit = digit_low x.negative in
     let rest : code % 256 ≡ x.biased_exponent * 16 + x.trailing =
     omega (arith, back, w.biased_exponent, w.trailing, digit) in
     let both = sided_fields x.negative x.biased_exponent x.trailing (code % 256) w.biased_exponent w.trailing rest in
@@ -282,7 +279,7 @@ special_code code l other =
     let x = fields_of wide_format wide_layout code in
     let w = fields_within wide_format wide_layout wide_interchange code in
     let back = bits_back wide_format wide_layout wide_interchange code l in
-    let digit = sign_digit x.negative in
+    let digit = digit_low x.negative in
     let rest : code % 256 ≡ x.biased_exponent * 16 + x.trailing =
     omega (arith, back, w.biased_exponent, w.trailing, digit) in
     ⊎_elim
@@ -409,14 +406,14 @@ past_converted f mode (nan b t) given value flags status code lost number side h
 
 -- ---- one answer
 
-encoded : (code : ℕ) → code < 256 → IsEncodedBy e3m4_format e3m4_layout code (e3m4_datum code)
-encoded code l = record { below = l; canonical = refl; is = refl }
+pub e3m4_encoded : (code : ℕ) → code < 256 → IsEncodedBy e3m4_format e3m4_layout code (e3m4_datum code)
+e3m4_encoded code l = record { below = l; canonical = refl; is = refl }
 
 pub e3m4_once : IsE3M4Once
 e3m4_once f mode x code other status flags loses lost l k h j =
     let same = conversion_once f e3m4_format mode x (e3m4_datum code) (e3m4_datum other) status flags loses lost h j in
-    let is = subst (λ (d : Datum). IsEncodedBy e3m4_format e3m4_layout code d) same.0 (encoded code l) in (
-      encoded_once e3m4_format e3m4_layout (e3m4_datum other) code other e3m4_interchange is (encoded other k),
+    let is = subst (λ (d : Datum). IsEncodedBy e3m4_format e3m4_layout code d) same.0 (e3m4_encoded code l) in (
+      encoded_once e3m4_format e3m4_layout (e3m4_datum other) code other e3m4_interchange is (e3m4_encoded other k),
       same.1,
       same.2,
     )

@@ -199,8 +199,8 @@ scale_once f mode (finite false (suc n)) code other status flags loses lost x y 
 
 -- ---- without a sign
 
-interchange : IsInterchange signed_format signed_layout
-interchange = record {
+pub signed_interchange : IsInterchange signed_format signed_layout
+signed_interchange = record {
   precise = lit≤ tt;
   some = lit≤ tt;
   bits = refl;
@@ -209,13 +209,13 @@ interchange = record {
   explicit = refl;
 }
 
-unsigned_encoded : (code : ℕ) → code < 128 → IsEncodedBy signed_format signed_layout code (unsigned_datum code)
+pub unsigned_encoded : (code : ℕ) → code < 128 → IsEncodedBy signed_format signed_layout code (unsigned_datum code)
 unsigned_encoded code l = record { below = omega (arith, l); canonical = refl; is = refl }
 
 unsigned_code_once : (code other : ℕ) → code < 128 → other < 128 → unsigned_datum code ≡ unsigned_datum other
     → code ≡ other
 unsigned_code_once code other l k e =
-    encoded_once signed_format signed_layout (unsigned_datum other) code other interchange
+    encoded_once signed_format signed_layout (unsigned_datum other) code other signed_interchange
     (subst (λ (x : Datum). IsEncodedBy signed_format signed_layout code x) e (unsigned_encoded code l))
     (unsigned_encoded other k)
 

@@ -14,6 +14,7 @@ use Rattle.apfloat_model.specs.declared.kinds.Category.TheVariants.{NaN, Normal,
 use Rattle.apfloat_model.specs.rounding.Negation.{negated}
 use Rattle.apfloat_model.specs.order.Classes.{category_of, is_negative, quanta_of}
 use Rattle.apfloat_model.specs.rounding.Rounding.{IsDelivered, inexact_bit, leads_out, ok_bits, signed_quanta, zero_sign}
+use Rattle.apfloat_model.proofs.order.Categories.{no_nan}
 use Rattle.small_formats.specs.Codes.{point}
 use Rattle.small_formats.specs.declared.modes.ConversionRound.{ConversionRound}
 use Rattle.small_formats.specs.Picks.{IsProjectedAt}
@@ -69,10 +70,6 @@ largest_some c law = by_cases c.signed c.extended (four_codes c law)
     by_cases false false l = omega (arith, l)
 
 -- by the category
-no_nan : (none : Bool) → cond none Zero Normal ≡ NaN → ⊥
-no_nan true h = cc
-no_nan false h = cc
-
 pub nan_into : (c : Projection) (f : Format) (mode : ConversionRound) (x : Datum) (code status : ℕ) (loses : Bool)
     → category_of x ≡ NaN → projected_datum c code ≡ nan false 0
     → status ≡ invalid_if (is_signaling_nan f x) → loses ≡ not (eqb (payload_mask f) 0)

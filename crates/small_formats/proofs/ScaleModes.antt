@@ -15,7 +15,7 @@ use Rattle.small_formats.specs.ScaleModes.{picked_code_by}
 use Rattle.small_formats.specs.Scales.{IsPickedScale, IsScaleOf, delivered_code, scale_format, scale_status}
 use Rattle.small_formats.proofs.OneAnswer.{AreSame, least_or_not, low_once, scale_once}
 
-some_quanta : (n : ℕ) → eqb (suc n) 0 ≡ false
+pub some_quanta : (n : ℕ) → eqb (suc n) 0 ≡ false
 some_quanta n = ne_eqb (suc n) 0 (λ e. omega (arith, e))
 
 -- ---- one answer

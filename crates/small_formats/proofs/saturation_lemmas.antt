@@ -1,2 +1,1 @@
 pub mod FiniteValues
-pub mod Negations

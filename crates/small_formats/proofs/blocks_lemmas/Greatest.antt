@@ -6,7 +6,6 @@ use Rattle.std.specs.Prelude.{slice_get}
 use Rattle.std.proofs.lemmas.Bool.{and_from, and_parts, cases_lt, ne_eqb, lt-ltb, le-ltb}
 use Rattle.apfloat_model.specs.formats.Datum.{Datum, finite, infinite, nan}
 use Rattle.apfloat_model.specs.declared.kinds.NonfiniteBehavior.{NonfiniteBehavior}
-use Rattle.apfloat_model.specs.declared.kinds.NonfiniteBehavior.TheVariants.{IEEE754, NanOnly, NanNegativeZero}
 use Rattle.apfloat_model.specs.declared.kinds.Category.TheVariants.{Normal}
 use Rattle.apfloat_model.specs.formats.Format.{Format}
 use Rattle.apfloat_model.specs.formats.Members.{IsMember}
@@ -16,8 +15,8 @@ use Rattle.apfloat_model.proofs.order.PredicatesAgree.{zero_agrees}
 use Rattle.std.proofs.lemmas.Nat.{pow_pos}
 use Rattle.apfloat_model.specs.order.Order.{is_below}
 use Rattle.apfloat_model.specs.rounding.Negation.{negated}
-use Rattle.apfloat_model.specs.rounding.Rounding.{zero_sign}
-use Rattle.apfloat_model.proofs.general.Choices.{not_zero}
+use Rattle.apfloat_model.proofs.general.Choices.{not_zero, above_zero}
+use Rattle.apfloat_model.proofs.arithmetic.Signs.{plus_zero}
 use Rattle.apfloat_model.specs.order.Positive.{IsPositive}
 use Rattle.small_formats.specs.blocks.Magnitudes.{are_finite, greatest_magnitude}
 use Rattle.small_formats.proofs.blocks_lemmas.Places.{some_same}
@@ -98,16 +97,11 @@ finite_magnitude kind (finite true n) magnitude h some e = e ∙ rw (not_zero n 
 finite_magnitude kind (infinite b) magnitude h some e = cc
 finite_magnitude kind (nan b s) magnitude h some e = cc
 
-no_sign : (kind : NonfiniteBehavior) → false ≡ zero_sign kind false
-no_sign IEEE754 = refl
-no_sign NanOnly = refl
-no_sign NanNegativeZero = refl
-
 -- it is a value of the format too
 pub magnitude_member : (f : Format) (x : Datum) → is_finite x ≡ true → IsMember f x
     → IsMember f (finite false (quanta_of x))
 magnitude_member f (finite b n) h m =
-    record { on_grid = m.on_grid; within = m.within; zero_has = λ z. no_sign f.nonfinite }
+    record { on_grid = m.on_grid; within = m.within; zero_has = λ z. sym (plus_zero f.nonfinite) }
 magnitude_member f (infinite b) h m = cc
 magnitude_member f (nan b s) h m = cc
 
@@ -129,13 +123,7 @@ pub below_quanta : (x y : Datum) (m n : ℕ) (test : Bool) → x ≡ finite fals
 below_quanta x y m n test e f h =
     h ∙ ap (λ (z : Datum). is_below z y) e ∙ ap (λ (z : Datum). is_below (finite false m) z) f ∙ below_is m n
 
--- what is normal is positive, and any other finite value is a zero, which is not greater
-pub normal_quanta : (x : Datum) → category_of x ≡ Normal → 0 < quanta_of x
-normal_quanta (finite b zero) e = cc
-normal_quanta (finite b (suc m)) e = omega arith
-normal_quanta (infinite b) e = cc
-normal_quanta (nan b s) e = cc
-
+-- a finite value that is not normal is a zero, which is not greater
 pub no_quanta : (x : Datum) → is_finite x ≡ true → (category_of x ≡ Normal → ⊥) → (n : ℕ)
     → max (quanta_of x) n ≡ n
 no_quanta (finite b zero) h none n = max_right 0 n (omega arith)
@@ -156,18 +144,14 @@ zero_member f some =
     record {
       on_grid = record { significand = 0; place = 0; fits = pow_pos f.precision; is = refl };
       within = omega arith;
-      zero_has = λ z. no_sign f.nonfinite;
+      zero_has = λ z. sym (plus_zero f.nonfinite);
     }
 
 -- a value that is neither below zero nor a zero
-some_of : (n : ℕ) → eqb n 0 ≡ false → 0 < n
-some_of zero e = cc
-some_of (suc n) e = omega arith
-
 pub positive_of : (f : Format) (x : Datum) → x ≡ finite false (quanta_of x) → eqb (quanta_of x) 0 ≡ false
     → IsMember f x → IsPositive f x
 positive_of f x e off m =
-    record { is = e; some = some_of (quanta_of x) off; member = subst (λ (d : Datum). IsMember f d) e m }
+    record { is = e; some = above_zero (quanta_of x) off; member = subst (λ (d : Datum). IsMember f d) e m }
 
 -- what is not below zero has its quanta
 pub own_quanta : (x : Datum) (n : ℕ) → x ≡ finite false n → x ≡ finite false (quanta_of x)

@@ -11,13 +11,14 @@ use Rattle.apfloat_model.specs.formats.Format.{Format, largest}
 use Rattle.apfloat_model.specs.formats.Members.{IsFiniteOf, IsMember}
 use Rattle.apfloat_model.specs.order.Classes.{category_of, is_finite, is_negative, quanta_of}
 use Rattle.apfloat_model.proofs.general.Choices.{not_zero}
+use Rattle.apfloat_model.proofs.order.Categories.{normal_quanta}
 use Rattle.apfloat_model.specs.order.Positive.{IsPositive}
 use Rattle.small_formats.specs.Conversions.{saturated_value}
 use Rattle.small_formats.specs.declared.blocks.elements.ElementFormat.TheVariants.{E4M3FN}
 use Rattle.small_formats.specs.blocks.Elements.{IsSaturatedIn, element_datum}
 use Rattle.small_formats.specs.blocks.Nvfp4.{IsNvScale, IsScaleIn, IsScaleOfSome, is_positive, nan_scale, scale_quanta}
 use Rattle.small_formats.specs.blocks.Nvfp4.{unless_zero}
-use Rattle.small_formats.proofs.blocks_lemmas.Greatest.{max_right, normal_quanta}
+use Rattle.small_formats.proofs.blocks_lemmas.Greatest.{max_right}
 
 -- ---- positive values
 

@@ -7,7 +7,8 @@ use Rattle.std.proofs.lemmas.List.{length_push}
 use Rattle.std.proofs.lemmas.Option.{slice_get_within}
 use Rattle.apfloat_model.proofs.general.ListLaws.{get_left, get_last}
 use Rattle.small_formats.specs.declared.blocks.counts.Counts.{Counts}
-use Rattle.small_formats.specs.blocks.Places.{AreCounted, HaveRoom, count_raised, counts_of, is_raised, with_status}
+use Rattle.small_formats.specs.blocks.Places.{AreCounted, BlockCountsHaveRoom, count_raised, counts_of, is_raised}
+use Rattle.small_formats.specs.blocks.Places.{with_status}
 
 -- ---- a write to a list
 
@@ -64,7 +65,7 @@ at_most_all flag (status ∷ flags) =
 
 -- counts of fewer elements than a machine word can count
 pub room_for : (flags : List ℕ) (counts : Counts) → counts ≡ counts_of flags → length flags < 2 ^ 64 - 1
-    → HaveRoom counts
+    → BlockCountsHaveRoom counts
 room_for flags counts e l =
     let a : counts.invalid ≡ count_raised 1 flags = ap (λ (k : Counts). k.invalid) e in
     let b : counts.overflow ≡ count_raised 4 flags = ap (λ (k : Counts). k.overflow) e in

@@ -2,12 +2,12 @@
 use Rattle.std.proofs.Common.{◌≡◌, ℕ, suc, refl, sym, ap, ◌∙◌, arith, List, [], ◌∷◌}
 use Rattle.apfloat_model.proofs.Once.{Once}
 use Rattle.small_formats.specs.declared.blocks.counts.Counts.{Counts}
-use Rattle.small_formats.specs.blocks.Places.{AreCounted, AreInPlaces, counts_of}
+use Rattle.small_formats.specs.blocks.Places.{AreCounted, AreElementsInPlaces, counts_of}
 
 -- the places after the first one
 pub rest_in_places : {A B : Type 0} → (Holds : A → B → ℕ → Type 0) (x : A) (xs : List A) (y : B) (ys : List B)
-    (status : ℕ) (flags : List ℕ) → AreInPlaces Holds (x ∷ xs) (y ∷ ys) (status ∷ flags)
-    → AreInPlaces Holds xs ys flags
+    (status : ℕ) (flags : List ℕ) → AreElementsInPlaces Holds (x ∷ xs) (y ∷ ys) (status ∷ flags)
+    → AreElementsInPlaces Holds xs ys flags
 rest_in_places Holds x xs y ys status flags all =
     let size = all.same_size in
     let count = all.flags_size in
@@ -18,8 +18,8 @@ rest_in_places Holds x xs y ys status flags all =
     }
 
 in_places_once : {A B : Type 0} → (Holds : A → B → ℕ → Type 0) → ((x : A) → Once (Holds x))
-    → (read : List A) (written others : List B) (flags more : List ℕ) → AreInPlaces Holds read written flags
-    → AreInPlaces Holds read others more → (written ≡ others) × (flags ≡ more)
+    → (read : List A) (written others : List B) (flags more : List ℕ) → AreElementsInPlaces Holds read written flags
+    → AreElementsInPlaces Holds read others more → (written ≡ others) × (flags ≡ more)
 in_places_once Holds once [] [] [] [] [] p q = (refl, refl)
 in_places_once Holds once [] (y ∷ ys) others flags more p q = let s = p.same_size in absurd (omega (arith, s))
 in_places_once Holds once [] [] (z ∷ zs) flags more p q = let s = q.same_size in absurd (omega (arith, s))

@@ -5,15 +5,13 @@ use Rattle.std.proofs.Math.Nat.{mul-pos}
 use Rattle.std.proofs.lemmas.Bool.{ne_eqb, MatchBool-at_false}
 use Rattle.std.proofs.lemmas.Nat.{pow_pos}
 use Rattle.apfloat_model.specs.declared.kinds.NonfiniteBehavior.{NonfiniteBehavior}
-use Rattle.apfloat_model.specs.declared.kinds.NonfiniteBehavior.TheVariants.{IEEE754, NanOnly, NanNegativeZero}
 use Rattle.apfloat_model.specs.declared.kinds.Round.{Round}
 use Rattle.apfloat_model.specs.arithmetic.Exact.{product_sign}
 use Rattle.apfloat_model.specs.formats.Datum.{Datum, finite, infinite, nan}
 use Rattle.apfloat_model.specs.formats.Format.{Format, largest, nan_base}
 use Rattle.apfloat_model.specs.order.Classes.{is_finite, is_negative, quanta_of}
 use Rattle.apfloat_model.specs.rounding.Rounding.{IsDelivered, leads_out, past_largest, signed_quanta, zero_sign}
-use Rattle.apfloat_model.specs.rounding.Negation.{negated}
-use Rattle.apfloat_model.proofs.general.Choices.{not_zero}
+use Rattle.apfloat_model.proofs.rounding.Deliveries.{past_not_finite}
 use Rattle.apfloat_arithmetic.specs.other_formats.FormatOf.{IsQuotientTo}
 use Rattle.small_formats.specs.Quotients.{IsRatioOf}
 use Rattle.small_formats.specs.declared.blocks.elements.ElementFormat.{ElementFormat}
@@ -21,17 +19,6 @@ use Rattle.small_formats.specs.blocks.Elements.{IsElement, IsSaturatedIn, format
 use Rattle.small_formats.proofs.blocks_lemmas.SameFractions.{delivered_across}
 
 -- ---- saturating
-
--- negating a nonzero number changes its sign
-pub negated_some : (kind : NonfiniteBehavior) (quanta : ℕ) → 0 < quanta
-    → negated kind (finite false quanta) ≡ finite true quanta
-negated_some kind quanta some = rw (not_zero quanta some) refl
-
-past_not_finite : (kind : NonfiniteBehavior) (base : ℕ) (negative : Bool)
-    → is_finite (past_largest kind base negative) ≡ false
-past_not_finite IEEE754 base negative = refl
-past_not_finite NanOnly base negative = refl
-past_not_finite NanNegativeZero base negative = refl
 
 finite_choice : (test one other : Bool) (m n : ℕ) → is_finite (cond test (finite one m) (finite other n)) ≡ true
 finite_choice true one other m n = refl

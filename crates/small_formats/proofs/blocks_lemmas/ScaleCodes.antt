@@ -6,7 +6,6 @@ use Rattle.std.specs.Prelude.{◌≤ℤ◌}
 use Rattle.std.proofs.lemmas.Int.{ints}
 use Rattle.apfloat_model.specs.rounding.Bounds.{IsWithin}
 use Rattle.apfloat_model.specs.arithmetic.Exact.{up}
-use Rattle.apfloat_model.proofs.arithmetic.SingleScalings.{up_le}
 
 -- ---- clamping
 
@@ -15,10 +14,6 @@ min_left a b l = grind arith
 
 pub min_right : (a b : ℕ) → b ≤ a → min a b ≡ b
 min_right a b l = grind arith
-
--- what is not above 0 has nothing above it
-pub up_zero : (z : ℤ) → z ≤ℤ pos 0 → up z ≡ 0
-up_zero z l = let k = up_le z 0 l in omega (arith, k)
 
 -- between both ends the code is the number itself
 pub inside : (z : ℤ) → pos 0 ≤ℤ z → z ≤ℤ pos 254 → nat_abs z ≡ min (up z) 254

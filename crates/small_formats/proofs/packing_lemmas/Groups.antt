@@ -1,5 +1,5 @@
 -- The bytes and the codes of the groups so far, and one more group.
-use Rattle.std.proofs.Common.{◌≡◌, ℕ, zero, suc, ◌+◌, ◌*◌, ◌/◌, ◌%◌, ◌^◌, ◌<◌, ◌≤◌, refl, sym, ap, ◌∙◌, arith, List, [], ◌∷◌}
+use Rattle.std.proofs.Common.{◌≡◌, ℕ, ◌+◌, ◌*◌, ◌/◌, ◌%◌, ◌^◌, ◌<◌, ◌≤◌, sym, ap, ◌∙◌, arith, List, [], ◌∷◌}
 use Rattle.std.proofs.Common.{◌++◌, length, take, get_or, append_assoc}
 use Rattle.std.specs.Prelude.{All, slice_set}
 use Rattle.std.proofs.Math.Nat.{div-div-eq-div-mul}
@@ -26,11 +26,6 @@ packed_whole bits codes bytes code byte l k fit so_far = record {
 }
 
 -- ---- one item more of a group
-
-pub length_set : {X : Type 0} → (xs : List X) (i : ℕ) (y : X) → length (slice_set xs i y) ≡ length xs
-length_set [] i y = refl
-length_set (x ∷ xs) zero y = refl
-length_set (x ∷ xs) (suc i) y = ap suc (length_set xs i y)
 
 -- it is written
 pub set_next : (xs front group : List ℕ) (n next y : ℕ) → next ≡ n + 1 → n < length xs

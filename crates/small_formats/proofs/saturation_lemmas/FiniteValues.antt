@@ -1,5 +1,6 @@
 -- Conversions that saturate, by the class of what is converted.
 use Rattle.std.proofs.Common.{◌≡◌, ℕ, Bool, true, false, eqb, cond, refl}
+use Rattle.apfloat_model.proofs.order.Categories.{no_nan}
 use Rattle.rustc_apfloat.specs.declared.Category.TheVariants.{NaN, Infinity as InfiniteCategory, Zero, Normal}
 use Rattle.rustc_apfloat.specs.declared.Round.{Round}
 use Rattle.rustc_apfloat.specs.Classes.{category_of, is_finite, is_negative}
@@ -43,16 +44,12 @@ number_saturated nans f g mode (nan b s) rounded value status loses e h v = cc
 
 -- ---- classes
 
-not_nan : (none : Bool) → cond none Zero Normal ≡ NaN → ⊥
-not_nan true e = cc
-not_nan false e = cc
-
 not_infinite : (none : Bool) → cond none Zero Normal ≡ InfiniteCategory → ⊥
 not_infinite true e = cc
 not_infinite false e = cc
 
 pub nan_class : (x : Datum) → category_of x ≡ NaN → class_of x ≡ NotANumber
-nan_class (finite b n) e = absurd (not_nan (eqb n 0) e)
+nan_class (finite b n) e = absurd (no_nan (eqb n 0) e)
 nan_class (infinite b) e = cc
 nan_class (nan b s) e = refl
 

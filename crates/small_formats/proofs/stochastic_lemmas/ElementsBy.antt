@@ -21,7 +21,8 @@ use Rattle.small_formats.specs.Modes.{ieee_mode}
 use Rattle.small_formats.proofs.NarrowCodes.{IsSided, lost_past, narrow_delivered, past_narrow, picked_quanta}
 use Rattle.small_formats.proofs.NarrowCodes.{quanta_finite, within_both, within_converted, past_converted}
 use Rattle.small_formats.specs.stochastic.ModeConversions.{IsConversionBy, IsDeliveredBy, IsNumberBy}
-use Rattle.small_formats.proofs.stochastic_lemmas.NumbersBy.{number_by, some_quanta}
+use Rattle.small_formats.proofs.stochastic_lemmas.NumbersBy.{number_by}
+use Rattle.small_formats.proofs.ScaleModes.{some_quanta}
 
 -- ---- what is not rounded
 

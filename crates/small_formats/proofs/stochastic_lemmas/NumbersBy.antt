@@ -2,7 +2,7 @@
 use Rattle.std.proofs.Common.{◌≡◌, ℕ, zero, suc, ◌*◌, ◌^◌, ◌<◌, ◌≤◌, Bool, false, cond, eqb}
 use Rattle.std.proofs.Common.{not, sym, refl, ap, ◌∙◌, arith, ◌-◌, ◌/◌, ◌%◌}
 use Rattle.std.proofs.Math.Nat.{le_of_mul-le-mul_right}
-use Rattle.std.proofs.lemmas.Bool.{ne_eqb, MatchBool-at_false}
+use Rattle.std.proofs.lemmas.Bool.{MatchBool-at_false}
 use Rattle.std.proofs.lemmas.Nat.{pow_pos}
 use Rattle.apfloat_model.specs.declared.kinds.Category.TheVariants.{Normal}
 use Rattle.apfloat_model.specs.declared.kinds.Round.{Round}
@@ -21,11 +21,9 @@ use Rattle.small_formats.specs.declared.modes.ConversionRound.{ConversionRound}
 use Rattle.small_formats.specs.declared.modes.ConversionRound.TheVariants.{Stochastic, ToOdd}
 use Rattle.small_formats.specs.declared.modes.RandomDigits.{RandomDigits}
 use Rattle.small_formats.proofs.stochastic_lemmas.DirectedResults.{status_in_direction, takes_direction, value_in_direction}
+use Rattle.small_formats.proofs.ScaleModes.{some_quanta}
 use Rattle.small_formats.specs.stochastic.Directions.{IsDirection, direction, reaches}
 use Rattle.small_formats.specs.stochastic.ModeConversions.{IsConversionBy, IsNumberBy, IsRandomlyDelivered}
-
-pub some_quanta : (n : ℕ) → eqb (suc n) 0 ≡ false
-some_quanta n = ne_eqb (suc n) 0 (λ e. omega (arith, e))
 
 pub converted_number : (f g : Format) (mode : Round) (b : Bool) (n : ℕ) (value : Datum) (status : ℕ) (loses : Bool)
     → IsConversion f g mode (finite b (suc n)) value status loses

@@ -16,7 +16,7 @@ use Rattle.small_formats.specs.declared.modes.ConversionRound.TheVariants.{Ieee,
 use Rattle.small_formats.specs.Modes.{ieee_mode, next_between}
 use Rattle.small_formats.specs.stochastic.Laws.{AreConversionsOfModel, IsConversionByOnce}
 use Rattle.small_formats.specs.stochastic.ModeConversions.{IsDeliveredBy, IsNumberBy}
-use Rattle.small_formats.proofs.stochastic_lemmas.NumbersBy.{some_quanta}
+use Rattle.small_formats.proofs.ScaleModes.{some_quanta}
 
 delivered_by_once : (g : Format) (mode : ConversionRound) (negative : Bool) (amount parts : ℕ) (v w : Datum)
     (s t : ℕ)

@@ -13,9 +13,9 @@ use Rattle.small_formats.specs.declared.modes.ConversionRound.TheVariants.{Ieee,
 use Rattle.small_formats.specs.Modes.{ieee_mode}
 use Rattle.small_formats.specs.Unsigned.{IsUnsigned, signed_format, unsigned_datum}
 use Rattle.small_formats.proofs.UnsignedSigns.{kept_sign}
+use Rattle.small_formats.proofs.ScaleModes.{some_quanta}
 use Rattle.small_formats.specs.stochastic.ElementConversions.{IsUnsignedBy}
 use Rattle.small_formats.specs.stochastic.ModeConversions.{IsConversionBy, IsDeliveredBy, IsNumberBy}
-use Rattle.small_formats.proofs.stochastic_lemmas.NumbersBy.{some_quanta}
 
 -- ---- what is not rounded, and what is below zero
 

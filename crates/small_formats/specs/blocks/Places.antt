@@ -5,7 +5,7 @@ use Rattle.std.specs.Prelude.{[], ◌∷◌}
 use Rattle.small_formats.specs.declared.blocks.counts.Counts.{Counts}
 
 -- the relation between what is read, what is written and its flags holds in each place
-pub record AreInPlaces {A B : Type 0} (Holds : A → B → ℕ → Type 0) (read : List A) (written : List B)
+pub record AreElementsInPlaces {A B : Type 0} (Holds : A → B → ℕ → Type 0) (read : List A) (written : List B)
     (flags : List ℕ) : Type 0 where
   pub same_size : length written ≡ length read
   pub flags_size : length flags ≡ length read
@@ -40,7 +40,7 @@ with_status counts status =
     }
 
 -- each count can grow by 1
-pub record HaveRoom (counts : Counts) : Type 0 where
+pub record BlockCountsHaveRoom (counts : Counts) : Type 0 where
   pub invalid : counts.invalid < 2 ^ 64 - 1
   pub overflow : counts.overflow < 2 ^ 64 - 1
   pub underflow : counts.underflow < 2 ^ 64 - 1
@@ -50,5 +50,5 @@ pub record HaveRoom (counts : Counts) : Type 0 where
 pub record AreCounted {A B : Type 0} (Holds : A → B → ℕ → Type 0) (read : List A) (written : List B)
     (counts : Counts) : Type 0 where
   pub flags : List ℕ
-  pub in_places : AreInPlaces Holds read written flags
+  pub in_places : AreElementsInPlaces Holds read written flags
   pub counted : counts ≡ counts_of flags

@@ -2,7 +2,7 @@
 
 ghost use Rattle.std.specs.Prelude.{◌≡◌};
 ghost use Rattle.apfloat_model.specs.rounding.Flags.{bits_of};
-ghost use Rattle.small_formats.specs.blocks.Places.{HaveRoom, with_status};
+ghost use Rattle.small_formats.specs.blocks.Places.{BlockCountsHaveRoom, with_status};
 
 use apfloat_base::{Flags, Status};
 
@@ -30,7 +30,7 @@ impl Counts {
 
     /// The counts with one more element.
     pub fn with(self, status: Status) -> Counts
-        requires { HaveRoom self }
+        requires { BlockCountsHaveRoom self }
         ensures { result ≡ with_status self (bits_of status) }
     {
         let flags = status.bits();

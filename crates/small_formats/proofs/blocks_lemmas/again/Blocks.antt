@@ -19,7 +19,7 @@ use Rattle.small_formats.specs.blocks.Elements.{IsQuotientBy, element_datum, for
 use Rattle.small_formats.specs.blocks.Laws.{IsExactlyScaled}
 use Rattle.small_formats.specs.blocks.Magnitudes.{are_finite, greatest_magnitude}
 use Rattle.small_formats.specs.blocks.MxBlocks.{IsBlockOfNan, IsBlockOfNumbers}
-use Rattle.small_formats.specs.blocks.Places.{AreInPlaces}
+use Rattle.small_formats.specs.blocks.Places.{AreElementsInPlaces}
 use Rattle.small_formats.proofs.blocks_lemmas.ElementNumbers.{IsElementNumber, element_number}
 use Rattle.small_formats.proofs.blocks_lemmas.ElementsOnce.{code_of_element_once}
 use Rattle.small_formats.proofs.blocks_lemmas.again.Elements.{kept_element, same_element}
@@ -57,7 +57,7 @@ record IsKnownBlock (element : ElementFormat) (g : Format) (scale : ℕ) (codes 
 
 known_block : (element : ElementFormat) (g : Format) (scale : ℕ) (codes : List ℕ) (values : List Datum)
     (flags : List ℕ) → All (λ code. code < 2 ^ width element) codes
-    → AreInPlaces (λ code value status. IsExactlyScaled element g scale code value status) codes values flags
+    → AreElementsInPlaces (λ code value status. IsExactlyScaled element g scale code value status) codes values flags
     → IsKnownBlock element g scale codes values
 known_block element g scale codes values flags narrow all =
     let Holds : ℕ → Datum → ℕ

@@ -11,7 +11,7 @@ use Rattle.small_formats.specs.blocks.Again.{greatest_element}
 use Rattle.small_formats.specs.declared.blocks.elements.ElementFormat.{ElementFormat}
 use Rattle.small_formats.specs.blocks.Elements.{element_datum}
 use Rattle.small_formats.specs.blocks.Magnitudes.{are_finite, greatest_magnitude}
-use Rattle.small_formats.specs.blocks.Places.{AreInPlaces}
+use Rattle.small_formats.specs.blocks.Places.{AreElementsInPlaces}
 use Rattle.small_formats.proofs.blocks_lemmas.Greatest.{at_most_greatest}
 use Rattle.small_formats.proofs.blocks_lemmas.PlacesOnce.{rest_in_places}
 
@@ -37,7 +37,7 @@ pub record IsThere {A B : Type 0} (Holds : A → B → ℕ → Type 0) (written 
 
 pub there : {A B : Type 0}
     → (Holds : A → B → ℕ → Type 0) (read : List A) (written : List B) (flags : List ℕ)
-    (place : ℕ) (x : A) → AreInPlaces Holds read written flags → slice_get read place ≡ Some x
+    (place : ℕ) (x : A) → AreElementsInPlaces Holds read written flags → slice_get read place ≡ Some x
     → IsThere Holds written place x
 there Holds read written flags place x all at =
     let within = slice_get_within read place x at in
@@ -80,7 +80,7 @@ max_scaled p q r s a b some e f =
 -- if all values are their elements times one factor, the greatest of them is too
 pub scaled_greatest : (element : ElementFormat) (a b : ℕ) (codes : List ℕ) (values : List Datum) (flags : List ℕ)
     → 0 < b
-    → AreInPlaces
+    → AreElementsInPlaces
     (λ code value status. quanta_of value * a ≡ quanta_of (element_datum element code) * b) codes values
     flags
     → greatest_magnitude values * a ≡ greatest_element element codes * b
@@ -98,7 +98,7 @@ scaled_greatest element a b (x ∷ xs) (y ∷ ys) (s ∷ ss) some all =
 
 -- all are finite
 pub finite_places : (codes : List ℕ) (values : List Datum) (flags : List ℕ)
-    → AreInPlaces (λ code value status. is_finite value ≡ true) codes values flags → are_finite values ≡ true
+    → AreElementsInPlaces (λ code value status. is_finite value ≡ true) codes values flags → are_finite values ≡ true
 finite_places [] [] flags all = refl
 finite_places [] (y ∷ ys) flags all = let s = all.same_size in absurd (omega (arith, s))
 finite_places (x ∷ xs) [] flags all = let s = all.same_size in absurd (omega (arith, s))

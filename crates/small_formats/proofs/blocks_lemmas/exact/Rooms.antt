@@ -9,7 +9,7 @@ use Rattle.small_formats.specs.blocks.Elements.{format_of_element, max_exp}
 use Rattle.small_formats.proofs.blocks_lemmas.ExactProducts.{HasProducts}
 
 -- what the element formats have in common
-pub record IsShort (element : ElementFormat) : Type 0 where
+pub record IsShortElement (element : ElementFormat) : Type 0 where
   pub digits : (format_of_element element).precision ≤ 4
   pub quantum : (format_of_element element).scale ≤ 16
   pub exponents : max_exp element ≤ 15
@@ -21,7 +21,7 @@ pub record IsShort (element : ElementFormat) : Type 0 where
   pub most : largest (format_of_element element)
       ≤ (2 ^ (format_of_element element).precision - 1) * 2 ^ (format_of_element element).span
 
-pub short : (element : ElementFormat) → IsShort element
+pub short : (element : ElementFormat) → IsShortElement element
 short E5M2 = record {
   digits = lit≤ tt;
   quantum = lit≤ tt;

@@ -3,8 +3,9 @@ use Rattle.apfloat_model.specs.formats.Datum.{Datum, finite}
 use Rattle.apfloat_model.specs.formats.Members.{IsMember}
 use Rattle.apfloat_model.specs.order.Classes.{quanta_of}
 use Rattle.apfloat_model.proofs.order.PositiveValues.{magnitude_positive}
+use Rattle.apfloat_model.proofs.order.Categories.{normal_quanta}
 use Rattle.apfloat_ieee.specs.Types.{format_of}
-use Rattle.small_formats.proofs.blocks_lemmas.Greatest.{finite_magnitude, no_quanta, normal_quanta}
+use Rattle.small_formats.proofs.blocks_lemmas.Greatest.{finite_magnitude, no_quanta}
 use Rattle.small_formats.proofs.blocks.magnitudes.greater.Goals as goal
 
 pub larger-requires-clause-y : goal.larger-requires-clause-y

@@ -2,7 +2,8 @@ use Rattle.std.proofs.Common.{ap, ◌∙◌, sym, ℕ, w32, pos, ◌+ℤ◌, min
 use Rattle.std.proofs.lemmas.Int.{ints, to_z-of_z}
 use Rattle.apfloat_model.specs.arithmetic.Exact.{up}
 use Rattle.apfloat_model.proofs.arithmetic.SingleScalings.{up_far}
-use Rattle.small_formats.proofs.blocks_lemmas.ScaleCodes.{far_fits, inside, min_left, min_right, up_zero}
+use Rattle.apfloat_model.proofs.arithmetic.Signs.{no_up}
+use Rattle.small_formats.proofs.blocks_lemmas.ScaleCodes.{far_fits, inside, min_left, min_right}
 use Rattle.small_formats.proofs.blocks.mx_scales.clamped_code.Goals as goal
 
 -- at most 0
@@ -10,7 +11,7 @@ pub returns-then-code-le0 : goal.returns-then-code-le0
 returns-then-code-le0 c =
     let e = to_z-of_z w32 c.args.exponent c.ranges.exponent in
     let low = rw e at c.if-code-le0.true in
-    let none = up_zero (c.args.exponent +ℤ pos 127) (omega (arith, ints, low)) in
+    let none = no_up (c.args.exponent +ℤ pos 127) (omega (arith, ints, low)) in
     sym (ap (λ (n : ℕ). min n 254) none ∙ min_left 0 254 (omega arith))
 
 -- at least 254

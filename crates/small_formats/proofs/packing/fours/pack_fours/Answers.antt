@@ -1,7 +1,8 @@
 use Rattle.std.proofs.Common.{◌+◌, ◌*◌, ◌<◌, sym, append-nil, refl, arith, [], ◌∷◌, length, take, get_or}
 use Rattle.std.proofs.lemmas.List.{take_more_set}
-use Rattle.small_formats.proofs.packing_lemmas.Groups.{length_set, one_more, read_next}
+use Rattle.small_formats.proofs.packing_lemmas.Groups.{one_more, read_next}
 use Rattle.small_formats.proofs.packing.fours.pack_fours.Goals as goal
+use Rattle.small_formats.proofs.blocks_lemmas.Places.{length_set}
 
 pub loop-index-preserved : goal.loop-index-preserved
 loop-index-preserved c =

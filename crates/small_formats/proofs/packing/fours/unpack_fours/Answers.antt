@@ -3,8 +3,9 @@ use Rattle.std.proofs.Common.{length, take, get_or, subst}
 use Rattle.std.specs.Prelude.{All, slice_set}
 use Rattle.std.proofs.lemmas.List.{take_more}
 use Rattle.small_formats.proofs.packing_lemmas.All.{all_append, all_cons, all_none}
-use Rattle.small_formats.proofs.packing_lemmas.Groups.{byte_of_fours, length_set, one_more, set_next}
+use Rattle.small_formats.proofs.packing_lemmas.Groups.{byte_of_fours, one_more, set_next}
 use Rattle.small_formats.proofs.packing.fours.unpack_fours.Goals as goal
+use Rattle.small_formats.proofs.blocks_lemmas.Places.{length_set}
 
 pub loop-index-preserved : goal.loop-index-preserved
 loop-index-preserved c =

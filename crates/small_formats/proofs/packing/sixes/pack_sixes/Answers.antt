@@ -1,8 +1,9 @@
 use Rattle.std.proofs.Common.{◌≡◌, ℕ, ◌+◌, ◌*◌, ◌/◌, ◌%◌, ◌<◌, List, refl, sym, ◌∙◌, append-nil, arith, [], ◌∷◌}
 use Rattle.std.proofs.Common.{length, take, get_or}
 use Rattle.std.specs.Prelude.{slice_set}
-use Rattle.small_formats.proofs.packing_lemmas.Groups.{bytes_of_number, length_set, one_more, read_next, set_next}
+use Rattle.small_formats.proofs.packing_lemmas.Groups.{bytes_of_number, one_more, read_next, set_next}
 use Rattle.small_formats.proofs.packing.sixes.pack_sixes.Goals as goal
+use Rattle.small_formats.proofs.blocks_lemmas.Places.{length_set}
 
 pub loop-index-preserved : goal.loop-index-preserved
 loop-index-preserved c =

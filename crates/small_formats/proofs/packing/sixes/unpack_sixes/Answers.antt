@@ -2,8 +2,9 @@ use Rattle.std.proofs.Common.{◌≡◌, ℕ, ◌+◌, ◌*◌, ◌/◌, ◌%◌
 use Rattle.std.proofs.Common.{length, take, get_or, subst}
 use Rattle.std.specs.Prelude.{All, slice_set}
 use Rattle.small_formats.proofs.packing_lemmas.All.{all_append, all_cons, all_none}
-use Rattle.small_formats.proofs.packing_lemmas.Groups.{length_set, one_more, read_next, set_next, sixes_of_bytes}
+use Rattle.small_formats.proofs.packing_lemmas.Groups.{one_more, read_next, set_next, sixes_of_bytes}
 use Rattle.small_formats.proofs.packing.sixes.unpack_sixes.Goals as goal
+use Rattle.small_formats.proofs.blocks_lemmas.Places.{length_set}
 
 pub loop-index-preserved : goal.loop-index-preserved
 loop-index-preserved c =

@@ -4,7 +4,7 @@ use Rattle.rustc_apfloat.specs.FlaggedTypes.{format_of}
 use Rattle.rustc_apfloat.specs.Format.{largest}
 use Rattle.rustc_apfloat.specs.Negation.{negated}
 use Rattle.apfloat_model.proofs.whole_numbers.SignedNumbers.{largest_some}
-use Rattle.small_formats.proofs.saturation_lemmas.Negations.{negated_some}
+use Rattle.apfloat_model.proofs.arithmetic.Signs.{negated_some}
 use Rattle.small_formats.proofs.saturation.saturation.largest_of_sign.Goals as goal
 
 pub returns-then-negative : goal.returns-then-negative
