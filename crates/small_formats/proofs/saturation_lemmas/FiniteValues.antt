@@ -1,12 +1,12 @@
 -- Conversions that saturate, by the class of what is converted.
 use Rattle.std.proofs.Common.{◌≡◌, ℕ, Bool, true, false, eqb, cond, refl}
 use Rattle.apfloat_model.proofs.order.Categories.{no_nan}
-use Rattle.rustc_apfloat.specs.declared.Category.TheVariants.{NaN, Infinity as InfiniteCategory, Zero, Normal}
-use Rattle.rustc_apfloat.specs.declared.Round.{Round}
-use Rattle.rustc_apfloat.specs.Classes.{category_of, is_finite, is_negative}
-use Rattle.rustc_apfloat.specs.Conversions.{IsConversion}
-use Rattle.rustc_apfloat.specs.Datum.{Datum, finite, infinite, nan}
-use Rattle.rustc_apfloat.specs.Format.{Format, largest}
+use Rattle.apfloat_model.specs.declared.kinds.Category.TheVariants.{NaN, Infinity as InfiniteCategory, Zero, Normal}
+use Rattle.apfloat_model.specs.declared.kinds.Round.{Round}
+use Rattle.apfloat_model.specs.order.Classes.{category_of, is_finite, is_negative}
+use Rattle.apfloat_model.specs.arithmetic.Conversions.{IsConversion}
+use Rattle.apfloat_model.specs.formats.Datum.{Datum, finite, infinite, nan}
+use Rattle.apfloat_model.specs.formats.Format.{Format, largest}
 use Rattle.small_formats.specs.declared.saturation.saturation.FiniteNan.{FiniteNan}
 use Rattle.small_formats.specs.declared.saturation.saturation.FiniteNan.TheVariants.{Kept, Largest}
 use Rattle.small_formats.specs.declared.saturation.saturation.ValueClass.TheVariants.{Number, Infinity, NotANumber}

@@ -1,12 +1,12 @@
 -- Conversions that saturate: a number that overflows becomes the largest value of its sign.
 use Rattle.std.specs.Prelude.{◌≡◌, ℕ, Bool, true, false, not, ◌&&◌, if◌then◌else◌}
-use Rattle.rustc_apfloat.specs.declared.Round.{Round}
-use Rattle.rustc_apfloat.specs.Format.{Format, largest}
-use Rattle.rustc_apfloat.specs.Datum.{Datum, finite, infinite, nan}
-use Rattle.rustc_apfloat.specs.Nan.{invalid_bit}
-use Rattle.rustc_apfloat.specs.Rounding.{inexact_bit}
-use Rattle.rustc_apfloat.specs.Classes.{is_finite, is_negative}
-use Rattle.rustc_apfloat.specs.Conversions.{IsConversion, IsConverted}
+use Rattle.apfloat_model.specs.declared.kinds.Round.{Round}
+use Rattle.apfloat_model.specs.formats.Format.{Format, largest}
+use Rattle.apfloat_model.specs.formats.Datum.{Datum, finite, infinite, nan}
+use Rattle.apfloat_model.specs.formats.Nan.{invalid_bit}
+use Rattle.apfloat_model.specs.rounding.Rounding.{inexact_bit}
+use Rattle.apfloat_model.specs.order.Classes.{is_finite, is_negative}
+use Rattle.apfloat_model.specs.arithmetic.Conversions.{IsConversion, IsConverted}
 use Rattle.small_formats.specs.declared.saturation.saturation.Overflow.{Overflow}
 use Rattle.small_formats.specs.declared.saturation.saturation.Overflow.TheVariants.{Rounded, Saturated, Finite}
 use Rattle.small_formats.specs.declared.saturation.saturation.FiniteNan.{FiniteNan}

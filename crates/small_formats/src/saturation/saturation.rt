@@ -1,17 +1,17 @@
 //! Conversions that saturate: a number that overflows becomes the largest value of its sign.
 
 ghost use Rattle.std.specs.Prelude.{◌≡◌};
-ghost use Rattle.rustc_apfloat.specs.Classes.{category_of, is_negative};
-ghost use Rattle.rustc_apfloat.specs.Datum.{Datum, finite};
-ghost use Rattle.rustc_apfloat.specs.Flags.{bits_of};
-ghost use Rattle.rustc_apfloat.specs.Format.{Format, largest};
-ghost use Rattle.rustc_apfloat.specs.FlaggedTypes.{format_of};
-ghost use Rattle.rustc_apfloat.specs.Conversions.{IsConversion};
-ghost use Rattle.rustc_apfloat.specs.declared.Round.{Round};
+ghost use Rattle.apfloat_model.specs.order.Classes.{category_of, is_negative};
+ghost use Rattle.apfloat_model.specs.formats.Datum.{Datum, finite};
+ghost use Rattle.apfloat_model.specs.rounding.Flags.{bits_of};
+ghost use Rattle.apfloat_model.specs.formats.Format.{Format, largest};
+ghost use Rattle.apfloat_ieee.specs.FlaggedTypes.{format_of};
+ghost use Rattle.apfloat_model.specs.arithmetic.Conversions.{IsConversion};
+ghost use Rattle.apfloat_model.specs.declared.kinds.Round.{Round};
 ghost use Rattle.small_formats.specs.saturation.Saturation.{IsConversionBy, IsFiniteConversion, class_of, saturated};
 
-use rustc_apfloat::ieee::{Flagged, IeeeFloat};
-use rustc_apfloat::{Category, Float, FloatConvert, Round, Status, StatusAnd};
+use apfloat_base::{Category, Float, FloatConvert, Round, Status, StatusAnd};
+use apfloat_ieee::{Flagged, IeeeFloat};
 
 /// What a NaN becomes where only finite values are wanted.
 #[derive(Clone, Copy, Debug)]

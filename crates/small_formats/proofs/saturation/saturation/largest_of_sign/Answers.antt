@@ -1,8 +1,8 @@
 use Rattle.std.proofs.Common.{Bool, ap, sym, ◌∙◌}
-use Rattle.rustc_apfloat.specs.Datum.{finite}
-use Rattle.rustc_apfloat.specs.FlaggedTypes.{format_of}
-use Rattle.rustc_apfloat.specs.Format.{largest}
-use Rattle.rustc_apfloat.specs.Negation.{negated}
+use Rattle.apfloat_model.specs.formats.Datum.{finite}
+use Rattle.apfloat_ieee.specs.FlaggedTypes.{format_of}
+use Rattle.apfloat_model.specs.formats.Format.{largest}
+use Rattle.apfloat_model.specs.rounding.Negation.{negated}
 use Rattle.apfloat_model.proofs.whole_numbers.SignedNumbers.{largest_some}
 use Rattle.apfloat_model.proofs.arithmetic.Signs.{negated_some}
 use Rattle.small_formats.proofs.saturation.saturation.largest_of_sign.Goals as goal

@@ -1,8 +1,8 @@
 use Rattle.std.proofs.Common.{ap, sym, refl, ◌∙◌}
-use Rattle.rustc_apfloat.specs.Datum.{finite}
-use Rattle.rustc_apfloat.specs.Flags.{bits_of}
-use Rattle.rustc_apfloat.specs.FlaggedTypes.{format_of}
-use Rattle.rustc_apfloat.specs.Format.{largest}
+use Rattle.apfloat_model.specs.formats.Datum.{finite}
+use Rattle.apfloat_model.specs.rounding.Flags.{bits_of}
+use Rattle.apfloat_ieee.specs.FlaggedTypes.{format_of}
+use Rattle.apfloat_model.specs.formats.Format.{largest}
 use Rattle.small_formats.proofs.saturation_lemmas.FiniteValues.{infinity_largest, nan_kept, nan_largest, number_saturated}
 use Rattle.small_formats.proofs.saturation.saturation.made_finite.Goals as goal
 
