@@ -1,5 +1,6 @@
 pub mod Bounded
 pub mod DecimalPowers
 pub mod LeadingNumbers
+pub mod QuantumPlaces
 pub mod Values
 pub mod WordProducts
