@@ -25,17 +25,17 @@ use Rattle.apfloat_decimals.specs.DecimalTexts.{decimal_fault_of}
 -- ---- the parts of a text
 
 -- the division of the text after the first digits: a dot or none, digits, and the rest
-record IsSplit (rest : List ℕ) : Type 0 where
+record IsSplitAtPoint (rest : List ℕ) : Type 0 where
   point : List ℕ
   spelled : rest ≡ point ++ (fraction_in rest ++ after_fraction rest)
   is_point : (point ≡ codes ".") ⊎ ((point ≡ []) × (fraction_in rest ≡ []))
   digits : every is_decimal (fraction_in rest) ≡ true
 
-split : (rest : List ℕ) → IsSplit rest
+split : (rest : List ℕ) → IsSplitAtPoint rest
 split [] = record { point = []; spelled = refl; is_point = inr (refl, refl); digits = refl }
 split (c ∷ rest) = go (cases_Bool (is_dot c))
   where
-    go : (is_dot c ≡ true) ⊎ (is_dot c ≡ false) → IsSplit (c ∷ rest)
+    go : (is_dot c ≡ true) ⊎ (is_dot c ≡ false) → IsSplitAtPoint (c ∷ rest)
     go (inl e) =
         record {
           point = codes ".";

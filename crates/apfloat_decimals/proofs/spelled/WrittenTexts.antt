@@ -28,7 +28,7 @@ use Rattle.apfloat_decimals.proofs.spelled.WrittenNumbers.{length_more, few_digi
 -- ---- digits
 
 -- a list of digits of the number n
-pub record IsNumber (n : ℕ) (digits : List ℕ) : Type 0 where
+pub record IsNumeral (n : ℕ) (digits : List ℕ) : Type 0 where
   pub are_digits : every is_decimal digits ≡ true
   pub some : 1 ≤ length digits
   pub number_is : number 10 digits ≡ n
@@ -42,15 +42,15 @@ digit_number n d l =
     let v : digit_value (48 + d) ≡ d = value_of_digit (48 + d) (omega arith) ∙ omega arith in
     ap (λ (x : ℕ). n * 10 + x) v
 
-single_digit : (d : ℕ) → d < 10 → IsNumber d ((48 + d) ∷ [])
+single_digit : (d : ℕ) → d < 10 → IsNumeral d ((48 + d) ∷ [])
 single_digit d l = record {
   are_digits = and_from (is_decimal (48 + d)) true (digit_is d l) refl;
   some = omega arith;
   number_is = digit_number 0 d l ∙ omega arith;
 }
 
-more_digits : (n : ℕ) (digits : List ℕ) → 10 ≤ n → IsNumber (n / 10) digits
-    → IsNumber n (digits ++ ((48 + n % 10) ∷ []))
+more_digits : (n : ℕ) (digits : List ℕ) → 10 ≤ n → IsNumeral (n / 10) digits
+    → IsNumeral n (digits ++ ((48 + n % 10) ∷ []))
 more_digits n digits l x =
     let d : n % 10 < 10 = omega arith in
     record {
@@ -64,9 +64,9 @@ more_digits n digits l x =
     }
 
 -- the written digits of a number are digits of it
-pub number_of_decimal : (n : ℕ) → n < 10 ^ 64 → IsNumber n (decimal n)
+pub number_of_decimal : (n : ℕ) → n < 10 ^ 64 → IsNumeral n (decimal n)
 number_of_decimal n few =
-    decimal_by_steps_wide (λ (m : ℕ) (ds : List ℕ). IsNumber m ds) single_digit more_digits n few
+    decimal_by_steps_wide (λ (m : ℕ) (ds : List ℕ). IsNumeral m ds) single_digit more_digits n few
 
 -- a number with digits appended is the number moved up, plus that of the digits
 after : (n : ℕ) (digits : List ℕ) → number_from n digits ≡ n * 10 ^ length digits + number_from 0 digits
