@@ -5,7 +5,7 @@ ghost use Rattle.formats_at_run_time.specs.ValueKinds.{of_format};
 ghost use Rattle.formats_at_run_time.specs.BuiltIns.{constants_in, format_in, kind_coded, kind_named, kind_of};
 
 use crate::flagged::{FillsInFormat, WritesInFormat};
-use crate::in_kind::{InFormat, InKind};
+use crate::in_kind::{InFormat, InKind, ReadsInFormat};
 use rustc_apfloat::ieee::{
     BFloatS, DoubleS, Float8E4M3B11FNUZS, Float8E4M3FNS, Float8E4M3FNUZS, Float8E4M3S,
     Float8E5M2FNUZS, Float8E5M2S, FloatTF32S, HalfS, QuadS, SingleS, X87DoubleExtendedS,
@@ -38,6 +38,15 @@ macro_rules! run_in {
     (($format:expr, $call:expr) $($name:ident $semantics:ident $word:literal $code:literal,)*) => {
         match $format {
             $(BuiltInFormat::$name => $call.in_format::<$semantics>(),)*
+        }
+    };
+}
+
+macro_rules! read_in {
+    (($format:expr, $call:expr, $bytes:expr)
+        $($name:ident $semantics:ident $word:literal $code:literal,)*) => {
+        match $format {
+            $(BuiltInFormat::$name => $call.read_in_format::<$semantics>($bytes),)*
         }
     };
 }
@@ -137,6 +146,14 @@ impl BuiltInFormat {
         ensures { C.gives call (of_format (constants_in self)) result }
     {
         each_format!(run_in(self, call))
+    }
+
+    /// Makes a call for values of the format that it reads, which writes to lent bytes.
+    pub fn read<C: ReadsInFormat>(self, call: C, bytes: &mut [u8]) -> C::Output
+        requires { C.can call (of_format (constants_in self)) bytes.old }
+        ensures { C.gives call (of_format (constants_in self)) bytes.old bytes.new result }
+    {
+        each_format!(read_in(self, call, bytes))
     }
 
     /// Makes a call that writes to lent bytes, in the format.

@@ -17,6 +17,6 @@ pub use flagged::{
     FillsInFormat, FillsInKind, FlaggedFormat, FlaggedKind, IeeeFormat, InFlaggedFormat,
     InFlaggedKind, WritesInFormat,
 };
-pub use in_kind::{InFormat, InKind};
+pub use in_kind::{InFormat, InKind, ReadsInFormat};
 pub use modes::{mode_coded, mode_named};
 pub use value_type::ValueType;

@@ -49,12 +49,21 @@ widths_with extended (OutOf source target) =
 abbrev pub widths_of : StorageArray → Widths
 widths_of array = widths_with array.extended array.ends
 
+-- the same of the bytes of the value and of its code
+abbrev pub IsStoredIn : Overflow → Constants → StoredFormat → Round → List ℕ → List ℕ → Outcome → Type 0
+IsStoredIn overflow c format mode input output outcome =
+    IsStoredAs overflow c format mode (number_of input) (number_of output) outcome
+
+abbrev pub IsLoadedIn : Overflow → StoredFormat → Constants → Round → List ℕ → List ℕ → Outcome → Type 0
+IsLoadedIn overflow format d mode input output outcome =
+    IsLoaded overflow format d mode (number_of input) (number_of output) outcome
+
 -- the input bytes are a value of the source format, and the output bytes its conversion
 abbrev pub IsConvertedAt : Overflow → Round → Ends → List ℕ → List ℕ → Outcome → Type 0
 IsConvertedAt overflow mode (Into source target) input output outcome =
-    IsStoredAs overflow (constants_in source) target mode (number_of input) (number_of output) outcome
+    IsStoredIn overflow (constants_in source) target mode input output outcome
 IsConvertedAt overflow mode (OutOf source target) input output outcome =
-    IsLoaded overflow source (flagged_constants target) mode (number_of input) (number_of output) outcome
+    IsLoadedIn overflow source (flagged_constants target) mode input output outcome
 
 abbrev pub IsConverted : StorageArray → List ℕ → List ℕ → Outcome → Type 0
 IsConverted array input output outcome = IsConvertedAt array.overflow array.round array.ends input output outcome

@@ -1,9 +1,10 @@
 //! Arrays quantized to blocks.
 
-ghost use Rattle.std.specs.Prelude.{◌≡◌, ◌+◌, ◌*◌, ◌^◌, ◌≤◌, true, length};
+ghost use Rattle.std.specs.Prelude.{◌≡◌, ◌+◌, ◌*◌, ◌^◌, ◌<◌, ◌≤◌, true, length};
 ghost use Rattle.rustc_apfloat.specs.Lawful.{format_with};
 ghost use Rattle.small_formats.specs.Scales.{largest_code, scale_format};
-ghost use Rattle.formats_at_run_time.specs.BuiltIns.{constants_in};
+ghost use Rattle.rustc_apfloat.specs.Types.{constants_of, format_of};
+ghost use Rattle.formats_at_run_time.specs.FormatKinds.{IfFormat};
 ghost use Rattle.small_formats.specs.blocks.Elements.{IsQuotientBy};
 ghost use Rattle.small_formats.specs.blocks.Magnitudes.{are_finite};
 ghost use Rattle.small_formats.specs.blocks.MxBlocks.{IsBlock};
@@ -14,12 +15,13 @@ ghost use Rattle.apfloat_arrays.specs.scaled_blocks.Values.{values_in};
 
 use crate::scaled_blocks::errors::ArrayError;
 use crate::scaled_blocks::lengths::blocks_of;
-use crate::scaled_blocks::scales::{QuotientCall, ScaleCall};
+use crate::scaled_blocks::scales::{block_scale, quotient_of};
 use crate::scaled_blocks::values::bits_at;
 use crate::{Counts, Extended, width};
-use formats_at_run_time::BuiltInFormat;
+use formats_at_run_time::{BuiltInFormat, ReadsInFormat};
 use rustc_apfloat::Round;
-use small_formats::blocks::{Block, Counts as ElementCounts, ElementFormat};
+use rustc_apfloat::ieee::Semantics;
+use small_formats::blocks::{Block, Counts as ElementCounts, ElementFormat, power_of};
 
 /// The code of the scale that is a NaN.
 const NAN_SCALE: u8 = 255;
@@ -103,32 +105,52 @@ impl Quantization {
         for index in 0..blocks {
             let first = index * self.length;
             let part = &mut codes[first..first + self.length];
-            let block = self.quantize_one(width, first, values, part);
+            let call = BlockCall {
+                element: self.element,
+                round: self.round,
+                width,
+                first,
+                values,
+            };
+            let block = self.source.read(call, part);
             scales[index] = block.scale;
             counts.add(counts_of(self.length, block));
         }
         counts
     }
+}
 
-    /// Quantizes the block whose first value has that index.
-    fn quantize_one(self, width: usize, first: usize, values: &[u8], codes: &mut [u8]) -> Block
-        requires least { 1 ≤ width }
-        requires few { width ≤ 16 }
-        requires within { (first + length codes.old) * width ≤ length values.now }
-        ensures { let c = constants_in self.source in
-            IsBlock self.element (format_with c) self.round
-            (values_in c width values.now first (length codes.old)) codes.new result }
-    {
-        let call = ScaleCall {
-            element: self.element,
+/// The call that quantizes the block whose first value has that index, made at the type of its values.
+#[derive(Clone, Copy)]
+struct BlockCall<'a> {
+    element: ElementFormat,
+    round: Round,
+    width: usize,
+    first: usize,
+    values: &'a [u8],
+}
+
+impl ReadsInFormat for BlockCall<'_> {
+    type Output = Block;
+
+    ghost can = { λ it kind old. (1 ≤ it.width) × (it.width ≤ 16)
+        × ((it.first + length old) * it.width ≤ length it.values.now) };
+
+    ghost gives = { λ it kind old new block. IfFormat kind
+        (λ c. IsBlock it.element (format_with c) it.round
+        (values_in c it.width it.values.now it.first (length old)) new block) };
+
+    fn read_in_format<S: Semantics>(self, bytes: &mut [u8]) -> Block {
+        let BlockCall {
+            element,
+            round,
             width,
             first,
-            count: codes.len(),
-            bytes: values,
-        };
-        match self.source.run(call) {
+            values,
+        } = self;
+        match block_scale::<S>(element, width, first, bytes.len(), values) {
             None => {
-                codes.fill(0);
+                bytes.fill(0);
                 Block {
                     scale: NAN_SCALE,
                     counts: ElementCounts::NONE,
@@ -137,43 +159,42 @@ impl Quantization {
             }
             Some(scale) => Block {
                 scale,
-                counts: self.write_codes(width, first, scale, values, codes),
+                counts: write_codes::<S>(element, round, width, first, scale, values, bytes),
                 is_finite: true,
             },
         }
     }
+}
 
-    /// Writes the quotients by a scale.
-    fn write_codes(
-        self,
-        width: usize,
-        first: usize,
-        scale: u8,
-        values: &[u8],
-        codes: &mut [u8],
-    ) -> ElementCounts
-        requires least { 1 ≤ width }
-        requires few { width ≤ 16 }
-        requires within { (first + length codes.old) * width ≤ length values.now }
-        requires scale { scale ≤ largest_code }
-        requires finite { are_finite (values_in (constants_in self.source) width values.now first
-            (length codes.old)) ≡ true }
-        ensures { let c = constants_in self.source in
-            AreCounted (IsQuotientBy self.element (format_with c) self.round (2 ^ scale)
-            (2 ^ scale_format.scale)) (values_in c width values.now first (length codes.old))
-            codes.new result }
-    {
-        let mut counts = ElementCounts::NONE;
-        for index in 0..codes.len() {
-            let answer = self.source.run(QuotientCall {
-                element: self.element,
-                round: self.round,
-                scale,
-                bits: bits_at(width, first + index, values),
-            });
-            codes[index] = answer.value;
-            counts = counts.with(answer.status);
-        }
-        counts
+/// Writes the quotients by a scale.
+fn write_codes<S: Semantics>(
+    element: ElementFormat,
+    round: Round,
+    width: usize,
+    first: usize,
+    scale: u8,
+    values: &[u8],
+    codes: &mut [u8],
+) -> ElementCounts
+    requires read { S.PRECISION < S.BITS }
+    requires least { 1 ≤ width }
+    requires few { width ≤ 16 }
+    requires within { (first + length codes.old) * width ≤ length values.now }
+    requires scale { scale ≤ largest_code }
+    requires finite { are_finite (values_in (constants_of S.Semantics) width values.now first
+        (length codes.old)) ≡ true }
+    ensures { AreCounted (IsQuotientBy element (format_of S.Semantics) round (2 ^ scale)
+        (2 ^ scale_format.scale))
+        (values_in (constants_of S.Semantics) width values.now first (length codes.old))
+        codes.new result }
+{
+    let power = power_of(scale);
+    let mut counts = ElementCounts::NONE;
+    for index in 0..codes.len() {
+        let bits = bits_at(width, first + index, values);
+        let answer = quotient_of::<S>(element, round, power, bits);
+        codes[index] = answer.value;
+        counts = counts.with(answer.status);
     }
+    counts
 }

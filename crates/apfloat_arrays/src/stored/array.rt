@@ -1,16 +1,16 @@
 //! Conversion of arrays, in bytes that the caller lends.
 
-ghost use Rattle.std.specs.Prelude.{◌≡◌, ◌*◌, ◌≤◌, length};
-ghost use Rattle.formats_at_run_time.specs.BuiltIns.{constants_in};
-ghost use Rattle.formats_at_run_time.specs.FlaggedKinds.{flagged_constants};
+ghost use Rattle.std.specs.Prelude.{◌≡◌, ◌*◌, ◌<◌, ◌≤◌, length};
+ghost use Rattle.rustc_apfloat.specs.FlaggedTypes.{constants_of as flagged_constants_of};
+ghost use Rattle.rustc_apfloat.specs.Types.{constants_of};
 ghost use Rattle.formats_at_run_time.specs.FormatKinds.{IfFormat};
 ghost use Rattle.apfloat_arrays.specs.Blocks.{IsBlock};
 ghost use Rattle.apfloat_arrays.specs.Bytes.{number_of};
-ghost use Rattle.apfloat_arrays.specs.stored.Arrays.{IsConverted, IsLoaded, IsStoredAs, widths_of};
+ghost use Rattle.apfloat_arrays.specs.stored.Arrays.{IsConverted, IsLoadedIn, IsStoredIn, widths_of};
 
 use crate::stored::formats::StoredFormat;
-use crate::{Converted, Counts, Extended, Outcome, Widths, number_of, width, write_number};
-use formats_at_run_time::{BuiltInFormat, FlaggedFormat, InFlaggedFormat, InFormat};
+use crate::{Counts, Extended, Outcome, Widths, number_of, width, write_number};
+use formats_at_run_time::{BuiltInFormat, FlaggedFormat, ReadsInFormat, WritesInFormat};
 use rustc_apfloat::ieee::{Flagged, IeeeFloat, Semantics};
 use rustc_apfloat::{Float, Round, StatusAnd};
 use small_formats::saturation::Overflow;
@@ -64,98 +64,172 @@ impl StorageArray {
         ensures { IsBlock (IsConverted self) (widths_of self).source (widths_of self).target count
             input.now output.new result }
     {
-        self.convert_each(self.widths(), count, input, output)
-    }
-
-    /// The same, with the widths of a value.
-    fn convert_each(self, widths: Widths, count: usize, input: &[u8], output: &mut [u8]) -> Counts
-        requires widths { widths ≡ widths_of self }
-        requires input { length input.now ≡ count * widths.source }
-        requires output { length output.old ≡ count * widths.target }
-        ensures { IsBlock (IsConverted self) widths.source widths.target count input.now
-            output.new result }
-    {
-        let mut counts = Counts::NONE;
-        for index in 0..count {
-            let (from, to) = (index * widths.source, index * widths.target);
-            let source = &input[from..from + widths.source];
-            let target = &mut output[to..to + widths.target];
-            counts.count(self.convert_value(source, target));
-        }
-        counts
-    }
-
-    /// Converts one value.
-    fn convert_value(self, input: &[u8], output: &mut [u8]) -> Outcome
-        requires input { length input.now ≡ (widths_of self).source }
-        requires output { length output.old ≡ (widths_of self).target }
-        ensures { IsConverted self input.now output.new result }
-    {
         let StorageArray {
             ends,
-            extended: _,
+            extended,
             round,
             overflow,
         } = self;
         match ends {
             Ends::Into(source, target) => {
-                store_value(source, target, round, overflow, input, output)
+                let call = StoreCall {
+                    target,
+                    round,
+                    overflow,
+                    width: width(source, extended),
+                    count,
+                    input,
+                };
+                source.read(call, output)
             }
             Ends::OutOf(source, target) => {
-                load_value(source, target, round, overflow, input, output)
+                let call = LoadCall {
+                    source,
+                    round,
+                    overflow,
+                    width: width(target.built_in(), extended),
+                    count,
+                    input,
+                };
+                target.write(call, output)
             }
         }
     }
 }
 
+/// The call that converts an array into a storage format, made at the type of the source format.
+#[derive(Clone, Copy)]
+struct StoreCall<'a> {
+    target: StoredFormat,
+    round: Round,
+    overflow: Overflow,
+    width: usize,
+    count: usize,
+    input: &'a [u8],
+}
+
+/// The call that converts an array out of a storage format, made at the type of the target format.
+#[derive(Clone, Copy)]
+struct LoadCall<'a> {
+    source: StoredFormat,
+    round: Round,
+    overflow: Overflow,
+    width: usize,
+    count: usize,
+    input: &'a [u8],
+}
+
+impl ReadsInFormat for StoreCall<'_> {
+    type Output = Counts;
+
+    ghost can = { λ it kind old. (it.width ≤ 16)
+        × (length it.input.now ≡ it.count * it.width)
+        × (length old ≡ it.count * 1) };
+
+    ghost gives = { λ it kind old new counts. IfFormat kind
+        (λ c. IsBlock (IsStoredIn it.overflow c it.target it.round) it.width 1 it.count
+        it.input.now new counts) };
+
+    fn read_in_format<S: Semantics>(self, bytes: &mut [u8]) -> Counts {
+        let StoreCall {
+            target,
+            round,
+            overflow,
+            width,
+            count,
+            input,
+        } = self;
+        let mut counts = Counts::NONE;
+        for index in 0..count {
+            let (from, to) = (index * width, index * 1);
+            let value = &input[from..from + width];
+            let place = &mut bytes[to..to + 1];
+            counts.count(store_value::<S>(target, round, overflow, value, place));
+        }
+        counts
+    }
+}
+
+impl WritesInFormat for LoadCall<'_> {
+    type Output = Counts;
+
+    ghost can = { λ it kind old. (length it.input.now ≡ it.count * 1)
+        × (length old ≡ it.count * it.width)
+        × IfFormat kind (λ d. d.bits ≤ 8 * it.width) };
+
+    ghost gives = { λ it kind old new counts. IfFormat kind
+        (λ d. IsBlock (IsLoadedIn it.overflow it.source d it.round) 1 it.width it.count
+        it.input.now new counts) };
+
+    fn write_in_format<T: Flagged>(self, bytes: &mut [u8]) -> Counts {
+        let LoadCall {
+            source,
+            round,
+            overflow,
+            width,
+            count,
+            input,
+        } = self;
+        let mut counts = Counts::NONE;
+        for index in 0..count {
+            let (from, to) = (index * 1, index * width);
+            let value = &input[from..from + 1];
+            let place = &mut bytes[to..to + width];
+            counts.count(load_value::<T>(source, round, overflow, value, place));
+        }
+        counts
+    }
+}
+
 /// Converts a value into a storage format.
-fn store_value(
-    source: BuiltInFormat,
+fn store_value<S: Semantics>(
     target: StoredFormat,
     round: Round,
     overflow: Overflow,
     input: &[u8],
     output: &mut [u8],
 ) -> Outcome
+    requires read { S.PRECISION < S.BITS }
     requires input { length input.now ≤ 16 }
     requires output { length output.old ≡ 1 }
-    ensures { IsStoredAs overflow (constants_in source) target round (number_of input.now)
-        (number_of output.new) result }
+    ensures { IsStoredIn overflow (constants_of S.Semantics) target round input.now output.new
+        result }
 {
-    let bits = number_of(input);
-    let answer = source.run(StoreCall {
-        target,
-        round,
-        overflow,
-        bits,
-    });
-    write_number(u128::from(answer.code), output);
-    answer.outcome
+    let x = IeeeFloat::<S>::from_bits(number_of(input));
+    let answer = target.store(overflow, round, x);
+    write_number(u128::from(answer.value), output);
+    Outcome {
+        status: answer.status,
+        is_nan: target.is_nan(answer.value),
+    }
 }
 
 /// Converts a value out of a storage format.
-fn load_value(
+fn load_value<T: Flagged>(
     source: StoredFormat,
-    target: FlaggedFormat,
     round: Round,
     overflow: Overflow,
     input: &[u8],
     output: &mut [u8],
 ) -> Outcome
+    requires written { T.PRECISION < T.BITS }
     requires input { length input.now ≡ 1 }
-    requires output { (flagged_constants target).bits ≤ 8 * length output.old }
-    ensures { IsLoaded overflow source (flagged_constants target) round (number_of input.now)
-        (number_of output.new) result }
+    requires output { T.BITS ≤ 8 * length output.old }
+    ensures { IsLoadedIn overflow source (flagged_constants_of T.Flagged) round input.now output.new
+        result }
 {
-    let byte = byte_of(input);
-    let answer = target.run(LoadCall {
-        source,
-        round,
+    let mut loses_info = false;
+    let answer: StatusAnd<IeeeFloat<T>> = source.load(
+        byte_of(input),
         overflow,
-        byte,
-    });
-    write_number(answer.bits, output);
-    answer.outcome
+        round,
+        &mut loses_info,
+    );
+    write_number(answer.value.to_bits(), output);
+    Outcome {
+        status: answer.status,
+        is_nan: answer.value.is_nan(),
+    }
 }
 
 /// The only byte.
@@ -164,71 +238,4 @@ fn byte_of(bytes: &[u8]) -> u8
     ensures { result ≡ number_of bytes.now }
 {
     bytes[0]
-}
-
-/// A stored value.
-#[derive(Clone, Copy)]
-pub struct Stored {
-    /// Its code.
-    pub code: u8,
-    /// The outcome of its conversion.
-    pub outcome: Outcome,
-}
-
-/// The call that stores a value, made at the type of its format.
-#[derive(Clone, Copy)]
-struct StoreCall {
-    target: StoredFormat,
-    round: Round,
-    overflow: Overflow,
-    bits: u128,
-}
-
-impl InFormat for StoreCall {
-    type Output = Stored;
-
-    ghost gives = { λ it kind answer. IfFormat kind
-        (λ c. IsStoredAs it.overflow c it.target it.round it.bits answer.code answer.outcome) };
-
-    fn in_format<S: Semantics>(self) -> Stored {
-        let x = IeeeFloat::<S>::from_bits(self.bits);
-        let answer = self.target.store(self.overflow, self.round, x);
-        Stored {
-            code: answer.value,
-            outcome: Outcome {
-                status: answer.status,
-                is_nan: self.target.is_nan(answer.value),
-            },
-        }
-    }
-}
-
-/// The call that takes a value out of its storage format, made at the type of the other format.
-#[derive(Clone, Copy)]
-struct LoadCall {
-    source: StoredFormat,
-    round: Round,
-    overflow: Overflow,
-    byte: u8,
-}
-
-impl InFlaggedFormat for LoadCall {
-    type Output = Converted;
-
-    ghost gives = { λ it kind answer. IfFormat kind
-        (λ d. IsLoaded it.overflow it.source d it.round it.byte answer.bits answer.outcome) };
-
-    fn in_flagged_format<T: Flagged>(self) -> Converted {
-        let mut loses_info = false;
-        let answer: StatusAnd<IeeeFloat<T>> = self
-            .source
-            .load(self.byte, self.overflow, self.round, &mut loses_info);
-        Converted {
-            bits: answer.value.to_bits(),
-            outcome: Outcome {
-                status: answer.status,
-                is_nan: answer.value.is_nan(),
-            },
-        }
-    }
 }

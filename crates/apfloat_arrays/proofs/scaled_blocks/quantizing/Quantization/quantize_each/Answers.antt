@@ -16,22 +16,26 @@ pub loop-index-init : goal.loop-index-init
 loop-index-init c =
     (c.requires.scales, made_none c.args.self c.args.values.now c.args.scales.now c.args.codes.now)
 
-pub quantize_one-block-requires-clause-within : goal.quantize_one-block-requires-clause-within
-quantize_one-block-requires-clause-within c =
+pub read-block-requires : goal.read-block-requires
+read-block-requires c =
     let size : length c.loop-index.codes ≡ c.args.blocks * c.args.self.length =
-    c.loop-index.auto.codes ∙ c.requires.codes in
-    block_within c.loop-index.index c.args.blocks c.args.self.length c.args.width _ (length c.args.values.now)
-    c.loop-index-test.true
-    (place_size c.args.self.length c.loop-index.index c.args.blocks c.loop-index.codes c.loop-index-test.true size)
-    c.requires.values
+    c.loop-index.auto.codes ∙ c.requires.codes in (
+      c.requires.least,
+      c.requires.few,
+      block_within c.loop-index.index c.args.blocks c.args.self.length c.args.width _ (length c.args.values.now)
+          c.loop-index-test.true
+          (place_size c.args.self.length c.loop-index.index c.args.blocks c.loop-index.codes c.loop-index-test.true
+          size)
+          c.requires.values,
+    )
 
 pub loop-index-preserved : goal.loop-index-preserved
 loop-index-preserved c =
     let q = c.args.self in
     let k = constants_in q.source in
     let index = c.loop-index.index in
-    let block = c.quantize_one-block.result in
-    let new = c.quantize_one-block.new.codes in
+    let block = c.read-block.result in
+    let new = c.read-block.new.bytes in
     let values = c.args.values.now in
     let size : length c.loop-index.codes ≡ c.args.blocks * q.length = c.loop-index.auto.codes ∙ c.requires.codes in
     let part : List ℕ = value_at q.length index c.loop-index.codes in
@@ -42,12 +46,12 @@ loop-index-preserved c =
     (values_in k (width_in q) values (index * q.length) n) new block) long
     (subst (λ (w : ℕ). IsBlock q.element (format_with k) q.round
     (values_in k w values (index * q.length) (length part)) new block) c.requires.width
-    c.quantize_one-block.ensures) in
+    c.read-block.ensures) in
     rw c.add.ensures
     (rw c.counts_of.ensures (
       length_set c.loop-index.scales index block.scale ∙ c.loop-index.invariant.0,
       made_more q values index c.args.blocks c.loop-index.scales c.loop-index.codes new c.loop-index.counts block
-          c.loop-index-test.true c.loop-index.invariant.0 size (c.quantize_one-block.auto.codes ∙ long) here
+          c.loop-index-test.true c.loop-index.invariant.0 size (c.read-block.auto.bytes ∙ long) here
           c.loop-index.invariant.1,
     ))
 

@@ -2,10 +2,9 @@ use Rattle.std.proofs.Common.{◌≡◌, ℕ, ◌+◌, ◌^◌, ◌<◌, List, l
 use Rattle.std.specs.Prelude.{slice_set}
 use Rattle.rustc_apfloat.specs.Datum.{Datum}
 use Rattle.rustc_apfloat.specs.Flags.{bits_of}
-use Rattle.rustc_apfloat.specs.Lawful.{format_with}
+use Rattle.rustc_apfloat.specs.Types.{constants_of, format_of}
 use Rattle.apfloat_model.specs.order.Classes.{is_finite}
 use Rattle.small_formats.specs.Scales.{scale_format}
-use Rattle.formats_at_run_time.specs.BuiltIns.{constants_in}
 use Rattle.formats_at_run_time.specs.ValueKinds.{value_of}
 use Rattle.small_formats.specs.blocks.Elements.{IsQuotientBy}
 use Rattle.small_formats.specs.blocks.Places.{AreCounted}
@@ -14,51 +13,48 @@ use Rattle.small_formats.proofs.blocks_lemmas.Places.{AreWritten, all_written, l
 use Rattle.apfloat_arrays.specs.scaled_blocks.Values.{value_in, values_in}
 use Rattle.apfloat_arrays.proofs.scaled_blocks_lemmas.Fitting.{index_within, value_within}
 use Rattle.apfloat_arrays.proofs.scaled_blocks_lemmas.Listed.{values_at, values_length}
-use Rattle.apfloat_arrays.proofs.scaled_blocks.quantizing.Quantization.write_codes.Goals as goal
+use Rattle.apfloat_arrays.proofs.scaled_blocks.quantizing.write_codes.Goals as goal
 
 pub loop-index-init : goal.loop-index-init
-loop-index-init c = none_written _ _ c.args.codes.now
+loop-index-init g c = none_written _ _ c.args.codes.now
 
 pub overflow_add-first : goal.overflow_add-first
-overflow_add-first c =
+overflow_add-first g c =
     let at = index_within c.args.first c.loop-index.index (length c.args.codes.now) c.args.width
     (length c.args.values.now) c.loop-index-test.true c.requires.least c.requires.within in
     record { fits = omega (arith, at) }
 
-pub bits_at-requires-clause-within : goal.bits_at-requires-clause-within
-bits_at-requires-clause-within c =
+pub bits_at-bits-requires-clause-within : goal.bits_at-bits-requires-clause-within
+bits_at-bits-requires-clause-within g c =
     value_within c.args.first c.loop-index.index (length c.args.codes.now) c.args.width (length c.args.values.now)
     c.loop-index-test.true c.requires.within
 
 -- the value is one of the finite ones
-pub run-answer-requires : goal.run-answer-requires
-run-answer-requires c =
-    let k = constants_in c.args.self.source in
+pub quotient_of-answer-requires-clause-finite : goal.quotient_of-answer-requires-clause-finite
+quotient_of-answer-requires-clause-finite g c =
+    let k = constants_of g.S.Semantics in
     let index = c.loop-index.index in
     let xs : List Datum = values_in k c.args.width c.args.values.now c.args.first (length c.args.codes.now) in
-    let x : Datum = value_in k c.args.width c.args.values.now (c.args.first + index) in (
-      c.requires.scale,
-      ap (λ (n : ℕ). is_finite (value_of k n)) c.bits_at.ensures
-          ∙ finite_at xs index x c.requires.finite
-          (values_at k c.args.width c.args.values.now c.args.first (length c.args.codes.now) index
-          c.loop-index-test.true),
-    )
+    let x : Datum = value_in k c.args.width c.args.values.now (c.args.first + index) in
+    ap (λ (n : ℕ). is_finite (value_of k n)) c.bits_at-bits.ensures
+    ∙ finite_at xs index x c.requires.finite
+    (values_at k c.args.width c.args.values.now c.args.first (length c.args.codes.now) index c.loop-index-test.true)
 
 pub with-counts-requires : goal.with-counts-requires
-with-counts-requires c =
+with-counts-requires g c =
     let so_far = c.loop-index.invariant in
     let size = so_far.flags_size in
     room_for so_far.flags c.loop-index.counts so_far.counted (omega (arith, size, c.loop-index-test.true))
 
 pub loop-index-preserved : goal.loop-index-preserved
-loop-index-preserved c =
-    let k = constants_in c.args.self.source in
+loop-index-preserved g c =
+    let k = constants_of g.S.Semantics in
     let index = c.loop-index.index in
     let codes = c.loop-index.codes in
-    let y = c.run-answer.result.value in
-    let status = bits_of c.run-answer.result.status in
+    let y = c.quotient_of-answer.result.value in
+    let status = bits_of c.quotient_of-answer.result.status in
     let Holds : Datum → ℕ → ℕ → Type 0 =
-    IsQuotientBy c.args.self.element (format_with k) c.args.self.round (2 ^ c.args.scale) (2 ^ scale_format.scale) in
+    IsQuotientBy c.args.element (format_of g.S.Semantics) c.args.round (2 ^ c.args.scale) (2 ^ scale_format.scale) in
     let size : length codes ≡ length c.args.codes.now = c.loop-index.auto.codes in
     let before : index < length codes = omega (arith, c.loop-index-test.true, size) in
     subst
@@ -68,15 +64,16 @@ loop-index-preserved c =
     (one_written Holds index (values_in k c.args.width c.args.values.now c.args.first (length codes)) codes
     c.loop-index.counts c.with-counts.result (value_in k c.args.width c.args.values.now (c.args.first + index)) y
     status before (values_at k c.args.width c.args.values.now c.args.first (length codes) index before)
-    (subst (λ (n : ℕ). Holds (value_of k n) y status) c.bits_at.ensures c.run-answer.ensures)
+    (subst (λ (n : ℕ). Holds (value_of k n) y status) c.bits_at-bits.ensures
+    (c.quotient_of-answer.ensures c.args.scale c.power_of-power.ensures.value))
     c.with-counts.ensures c.loop-index.invariant)
 
 pub returns : goal.returns
-returns c =
-    let k = constants_in c.args.self.source in
+returns g c =
+    let k = constants_of g.S.Semantics in
     let codes = c.loop-index.codes in
     let Holds : Datum → ℕ → ℕ → Type 0 =
-    IsQuotientBy c.args.self.element (format_with k) c.args.self.round (2 ^ c.args.scale) (2 ^ scale_format.scale) in
+    IsQuotientBy c.args.element (format_of g.S.Semantics) c.args.round (2 ^ c.args.scale) (2 ^ scale_format.scale) in
     let size : length codes ≡ length c.args.codes.now = c.loop-index.auto.codes in
     let last : c.loop-index.index ≡ length codes =
     omega (arith, size, c.loop-index-test.false, c.loop-index.auto.index-end) in
