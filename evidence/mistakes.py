@@ -96,6 +96,9 @@ MISTAKES = {
         ("apfloat_rounding", "", "half mul even 0400 3bff\t0400 INEXACT"),
         ("apfloat_rounding", "", "half div up 07fe 3fff\t0400 INEXACT"),
     ],
+    "underflow-by-the-pick-before-rounding": [
+        ("apfloat_rounding", "", call("mul_r", "half+ieee+before", "even", "3c01 03ff", "0400", "UNDERFLOW|INEXACT", "-"))
+    ],
     "exact-zero-keeps-left-sign": [
         ("apfloat_arithmetic", "", "half sub down 3c00 3c00\t8000 OK"),
         ("apfloat_arithmetic", "-word-sum", "half sub down 3c00 3c00\t8000 OK"),
