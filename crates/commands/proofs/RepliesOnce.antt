@@ -119,7 +119,8 @@ only_fused_sum constants mode left right addend x y z a b d answer reply first s
     a_is b_is d_is answers in
     rw (first, second, third)
     (only_where (in_format constants) constants.bits (IsFormatResult constants mode (fused_sum x y z)) answer reply
-    (gives_once _ (fused_sum_once (format_with constants) mode _ _ _)) of_all is_line)
+    (gives_once _ (fused_sum_once (format_with constants) mode (value_of constants x) (value_of constants y)
+    (value_of constants z))) of_all is_line)
 
 -- ---- the reply in any kind of values
 
