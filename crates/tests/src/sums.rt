@@ -1,6 +1,6 @@
 //! Sums of two terms.
 
-ghost use Rattle.std.specs.Prelude.{◌^◌, ◌<◌, ◌≤◌};
+ghost use Rattle.std.specs.Prelude.{◌≡◌, ◌^◌, ◌<◌, ◌≤◌};
 ghost use Rattle.apfloat_model.specs.rounding.Bounds.{IsWithin, exponent_bound, integer_bit_bound};
 
 use crate::asserts::same;
@@ -188,7 +188,7 @@ fn plain_less(x_exponent: ExpInt, x: u128, y_exponent: ExpInt, y: u128) -> Plain
 
 /// Whether a total that was rounded to odd is the plain one.
 fn agrees(plain: Total, negative: bool, exponent: ExpInt, significand: u128) -> bool {
-    let places = plain.exponent.wrapping_sub(exponent) as u32;
+    let places = plain.exponent.wrapping_sub(exponent).unsigned_abs();
     let cut = shift_right(significand, places, Loss::ExactlyZero);
     let is_zero = significand == 0;
     (is_zero || negative == plain.negative)
@@ -198,8 +198,10 @@ fn agrees(plain: Total, negative: bool, exponent: ExpInt, significand: u128) -> 
 
 /// Whether the difference of two significands of 17 digits is the plain one in a word, in a `u128` and in two words.
 fn all_agree(x_exponent: ExpInt, x: u128, y_exponent: ExpInt, y: u128) -> bool
-    requires x { IsWithin integer_bit_bound x_exponent }
-    requires y { IsWithin integer_bit_bound y_exponent }
+    requires x { IsWithin exponent_bound x_exponent }
+    requires y { IsWithin exponent_bound y_exponent }
+    requires x_near { IsWithin integer_bit_bound x_exponent }
+    requires y_near { IsWithin integer_bit_bound y_exponent }
     requires x_fits { x < 2 ^ 17 }
     requires y_fits { y < 2 ^ 17 }
     requires x_full { 2 ^ 16 ≤ x }
