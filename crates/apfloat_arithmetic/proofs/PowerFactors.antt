@@ -4,7 +4,7 @@ use Rattle.std.proofs.Math.Nat.{div-add-mod', mod-lt, pow-le-pow_right}
 use Rattle.std.proofs.lemmas.Bool.{cases_lt}
 use Rattle.apfloat_model.proofs.general.Powers.{twice_power, two_pos}
 
-pub record IsPower (n : ℕ) : Type 0 where
+pub record IsPowerFactor (n : ℕ) : Type 0 where
   pub place : ℕ
   pub is : n ≡ 2 ^ place
 
@@ -34,7 +34,7 @@ odd_product : (a b p : ℕ) → (2 * a + 1) * (2 * b + 1) ≡ 2 * p → ⊥
 odd_product a b p e = let f : 2 * (2 * (a * b) + a + b) + 1 ≡ 2 * p = omega arith in omega arith
 
 -- a factor of a power of two is a power of two
-pub factor_of_power : (k a b : ℕ) → a * b ≡ 2 ^ k → IsPower a
+pub factor_of_power : (k a b : ℕ) → a * b ≡ 2 ^ k → IsPowerFactor a
 factor_of_power zero a b e = record { place = 0; is = one_factor a b e }
 factor_of_power (suc k) a b e =
     let t : 2 ^ (k + 1) ≡ 2 * 2 ^ k = twice_power k in
@@ -60,7 +60,7 @@ factor_of_power (suc k) a b e =
     x.is
 
 -- a power of two with exactly that many digits is the least number with that many digits
-pub power_with_digits : (precision m : ℕ) → 0 < precision → 2 ^ (precision - 1) ≤ m → m < 2 ^ precision → IsPower m
+pub power_with_digits : (precision m : ℕ) → 0 < precision → 2 ^ (precision - 1) ≤ m → m < 2 ^ precision → IsPowerFactor m
     → m ≡ 2 ^ (precision - 1)
 power_with_digits precision m p l h i =
     let e : m ≡ 2 ^ i.place = i.is in

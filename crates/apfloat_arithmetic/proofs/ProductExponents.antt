@@ -16,12 +16,12 @@ use Rattle.apfloat_rounding.specs.Stored.{IsNormalAt, quanta_at}
 use Rattle.apfloat_rounding.proofs.ShapeExponents.{scale_is, exponent_word}
 
 -- the exponent of a stored number is within the bounds of numbers, and fits in its type
-pub record IsNear (e : ℤ) : Type 0 where
+pub record IsNearProduct (e : ℤ) : Type 0 where
   pub within : IsWithin number_bound e
   pub word : to_z w32 (of_z w32 e) ≡ e
 
 -- the exponent of a stored number is within those bounds
-pub normal_near : (shape : Shape) (m : ℕ) (e : ℤ) → IsNormalAt shape m e → IsNear e
+pub normal_near : (shape : Shape) (m : ℕ) (e : ℤ) → IsNormalAt shape m e → IsNearProduct e
 normal_near shape m e n =
     let l = shape.parameters in
     let o = n.operand in

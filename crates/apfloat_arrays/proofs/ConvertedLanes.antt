@@ -126,7 +126,7 @@ short_plan_answers overflow c d mode plan input output bits lane is read written
 -- ---- counts
 
 -- the flags of a lane, by its parts
-pub record AreCounted (lane : Lane) : Type 0 where
+pub record AreLanesCounted (lane : Lane) : Type 0 where
   pub inexact : raised 16 (outcome_of lane) ≡ lane.inexact
   pub underflow : raised 8 (outcome_of lane) ≡ lane.underflow
   pub overflow : raised 4 (outcome_of lane) ≡ lane.overflow
@@ -144,7 +144,7 @@ lane_with bits inexact underflow overflow invalid is_nan =
     }
 
 flags_counted : (bits : ℕ) (inexact underflow overflow invalid is_nan : Bool)
-    → AreCounted (lane_with bits inexact underflow overflow invalid is_nan)
+    → AreLanesCounted (lane_with bits inexact underflow overflow invalid is_nan)
 flags_counted bits true true true true is_nan =
     record { inexact = refl; underflow = refl; overflow = refl; invalid = refl }
 flags_counted bits true true true false is_nan =
@@ -178,6 +178,6 @@ flags_counted bits false false false true is_nan =
 flags_counted bits false false false false is_nan =
     record { inexact = refl; underflow = refl; overflow = refl; invalid = refl }
 
-pub lane_counted : (lane : Lane) → AreCounted lane
+pub lane_counted : (lane : Lane) → AreLanesCounted lane
 lane_counted lane =
     flags_counted lane.bits lane.inexact lane.underflow lane.overflow lane.invalid lane.is_nan

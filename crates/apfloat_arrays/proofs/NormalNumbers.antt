@@ -2,7 +2,7 @@
 use Rattle.std.proofs.Common.{◌≡◌, ℕ, Bool, false, not, eqb, refl, sym, ap, subst}
 use Rattle.std.proofs.Math.Path.{subst₂}
 use Rattle.fast_bits.specs.declared.Encoded.{Encoded}
-use Rattle.fast_bits.specs.Encoded.{IsConvertedNumber}
+use Rattle.fast_bits.specs.Encoded.{IsEncodedConversion}
 use Rattle.rustc_apfloat.specs.declared.Round.{Round}
 use Rattle.rustc_apfloat.specs.Datum.{Datum, finite}
 use Rattle.rustc_apfloat.specs.Flags.{bits_of}
@@ -26,7 +26,7 @@ kept_number Saturated g left right quanta = refl
 kept_number (Finite nans) g left right quanta = refl
 
 pub number_answered : (overflow : Overflow) (c d : Constants) (mode : Round) (bits : ℕ) (number : Encoded)
-    (answer : Converted) → IsConvertedNumber c d mode bits number
+    (answer : Converted) → IsEncodedConversion c d mode bits number
     → answer.bits ≡ number.bits → answer.outcome.status ≡ number.status → answer.outcome.is_nan ≡ false
     → IsAnswerFrom overflow c d mode bits answer
 number_answered overflow c d mode bits number answer is bits_are status_is no_nan =

@@ -10,7 +10,7 @@ use Rattle.std.proofs.lemmas.Option.{slice_get_past, slice_get-get_or}
 use Rattle.std.proofs.lemmas.Slice.{drop-put_mid}
 use borrow.Rule.Slice.PartMut.{put_mid}
 use Rattle.apfloat_model.specs.rounding.RoundingToOdd.{odd_quotient}
-use Rattle.fast_bits.specs.lanes.Targets.{IsSingle}
+use Rattle.fast_bits.specs.lanes.Targets.{IsSingleFormat}
 use Rattle.fast_bits.proofs.lanes_lemmas.Cuts.{exact_odd, inexact_odd}
 use Rattle.fast_bits.proofs.lanes_lemmas.Singles.{single_read}
 use Rattle.rustc_apfloat.specs.Classes.{is_nan}
@@ -261,7 +261,7 @@ conversion_of (Finite nans) c d mode input output o it =
 
 -- the zero of a single, whose conversion counts nothing
 pub zeros_quiet : (overflow : Overflow) (c d : Constants) (mode : Round)
-    → IsSingle (format_with c) (layout_with c) → (input bytes : List ℕ) (o : Outcome) → number_of input ≡ 0
+    → IsSingleFormat (format_with c) (layout_with c) → (input bytes : List ℕ) (o : Outcome) → number_of input ≡ 0
     → IsConvertedBy overflow c d mode input bytes o → IsQuiet o
 zeros_quiet overflow c d mode is_single input bytes o none it =
     let of = conversion_of overflow c d mode input bytes o it in
@@ -276,7 +276,7 @@ zeros_quiet overflow c d mode is_single input bytes o none it =
 
 -- what no bytes encode is one
 pub zero_quiet : (overflow : Overflow) (c d : Constants) (mode : Round)
-    → IsSingle (format_with c) (layout_with c) → (bytes : List ℕ) (o : Outcome)
+    → IsSingleFormat (format_with c) (layout_with c) → (bytes : List ℕ) (o : Outcome)
     → IsConvertedBy overflow c d mode [] bytes o → IsQuiet o
 zero_quiet overflow c d mode is_single bytes o it = zeros_quiet overflow c d mode is_single [] bytes o refl it
 

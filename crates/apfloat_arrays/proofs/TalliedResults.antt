@@ -12,7 +12,7 @@ use Rattle.apfloat_arrays.specs.Blocks.{AreInPlaces, value_at}
 use Rattle.apfloat_arrays.specs.Bytes.{number_of}
 use Rattle.apfloat_arrays.specs.Entries.{AreEntries, AreLookedUp, HasEntry, IsEntry, IsEntryOf, IsEntryTable, entry_of}
 use Rattle.apfloat_arrays.specs.Outcomes.{one_if}
-use Rattle.apfloat_arrays.specs.Tallies.{AreAtMost, Fits, nothing, packed_of, sum_of, tallies, tally_of, total, unpacked}
+use Rattle.apfloat_arrays.specs.Tallies.{AreTalliesAtMost, Fits, nothing, packed_of, sum_of, tallies, tally_of, total, unpacked}
 use Rattle.apfloat_arrays.proofs.Places.{earlier, latest, place_below, places_more, places_none, places_push}
 use Rattle.apfloat_arrays.proofs.PlacesOnce.{element}
 
@@ -44,7 +44,7 @@ same_tally : {a b c d e f p q r s t u : ℕ} → a ≡ p → b ≡ q → c ≡ r
 same_tally x y z u v w = cc
 
 -- the digits are the counts, if these are few
-pub taken_out : (tally : Tally) (most : ℕ) → most ≤ 31 → AreAtMost most tally
+pub taken_out : (tally : Tally) (most : ℕ) → most ≤ 31 → AreTalliesAtMost most tally
     → unpacked (packed_of tally) ≡ tally
 taken_out t most few it =
     let fits : (n : ℕ) → n ≤ most → n ≤ 31 = λ n h. omega (arith, h, few) in
@@ -69,7 +69,7 @@ one_most true = omega arith
 one_most false = omega arith
 
 -- the tally of one result
-pub tally_most : (flags : ℕ) (is_nan : Bool) → AreAtMost 1 (tally_of flags is_nan)
+pub tally_most : (flags : ℕ) (is_nan : Bool) → AreTalliesAtMost 1 (tally_of flags is_nan)
 tally_most flags is_nan =
     record {
       inexact = one_most _;
@@ -80,8 +80,8 @@ tally_most flags is_nan =
       nans = one_most is_nan;
     }
 
-pub most_sum : (first size : ℕ) (some others : Tally) → AreAtMost first some → AreAtMost size others
-    → AreAtMost (first + size) (sum_of some others)
+pub most_sum : (first size : ℕ) (some others : Tally) → AreTalliesAtMost first some → AreTalliesAtMost size others
+    → AreTalliesAtMost (first + size) (sum_of some others)
 most_sum first size some others p q =
     let added : (a b : ℕ) → a ≤ first → b ≤ size → a + b ≤ first + size =
     λ a b p q. omega (arith, p, q) in
@@ -94,7 +94,7 @@ most_sum first size some others p q =
       nans = added _ _ p.nans q.nans;
     }
 
-pub sum_fits : (most : ℕ) (tally : Tally) → most < 2 ^ 64 → AreAtMost most tally → Fits tally
+pub sum_fits : (most : ℕ) (tally : Tally) → most < 2 ^ 64 → AreTalliesAtMost most tally → Fits tally
 sum_fits most tally room it =
     let fits : (n : ℕ) → n ≤ most → n < 2 ^ 64 = λ n h. omega (arith, h, room) in
     record {
@@ -124,13 +124,13 @@ sum_none a =
 -- a number is the packed tally of one result
 pub record IsMark (mark : ℕ) : Type 0 where
   pub tally : Tally
-  pub few : AreAtMost 1 tally
+  pub few : AreTalliesAtMost 1 tally
   pub is : mark ≡ packed_of tally
 
 unpacked_mark : (mark : ℕ) (it : IsMark mark) → unpacked mark ≡ it.tally
 unpacked_mark mark it = ap unpacked it.is ∙ taken_out it.tally 1 (lit≤ tt) it.few
 
-none_at_most : AreAtMost 0 nothing
+none_at_most : AreTalliesAtMost 0 nothing
 none_at_most =
     record {
       inexact = lit≤ tt;
@@ -146,16 +146,16 @@ unfolding total
 nothing_up_to marks = refl
 
 -- the values up to an index, the tally of those since `first` packed in a number
-pub record IsTotal (marks : ℕ → ℕ) (first index : ℕ) (tally : Tally) (packed : ℕ) : Type 0 where
+pub record IsTallyTotal (marks : ℕ → ℕ) (first index : ℕ) (tally : Tally) (packed : ℕ) : Type 0 where
   pub few : Tally
   pub done : ℕ
   pub index_is : index ≡ first + done
-  pub most : AreAtMost done few
+  pub most : AreTalliesAtMost done few
   pub packed_is : packed ≡ packed_of few
   pub total_is : sum_of tally few ≡ total marks index
 
 pub total_begun : (marks : ℕ → ℕ) (first : ℕ) (tally : Tally) → tally ≡ total marks first
-    → IsTotal marks first first tally 0
+    → IsTallyTotal marks first first tally 0
 total_begun marks first tally is =
     record {
       few = nothing;
@@ -167,7 +167,7 @@ total_begun marks first tally is =
     }
 
 pub total_more : (marks : ℕ → ℕ) (first index : ℕ) (tally : Tally) (packed : ℕ) → IsMark (marks index)
-    → IsTotal marks first index tally packed → IsTotal marks first (index + 1) tally (packed + marks index)
+    → IsTallyTotal marks first index tally packed → IsTallyTotal marks first (index + 1) tally (packed + marks index)
 unfolding total
 total_more marks first index tally packed mark so_far =
     let e = mark.tally in
@@ -187,7 +187,7 @@ total_more marks first index tally packed mark so_far =
 -- the digits of the number are the tally
 digits_are : (marks : ℕ → ℕ) (first index size : ℕ) (tally : Tally) (packed : ℕ) → index ≡ first + size
     → size ≤ 31
-    → (it : IsTotal marks first index tally packed) → (it.done ≡ size) × (unpacked packed ≡ it.few)
+    → (it : IsTallyTotal marks first index tally packed) → (it.done ≡ size) × (unpacked packed ≡ it.few)
 digits_are marks first index size tally packed last few it =
     let is = it.index_is in
     let all : it.done ≡ size = omega (arith, is, last) in
@@ -196,14 +196,14 @@ digits_are marks first index size tally packed last few it =
 
 pub total_done : (marks : ℕ → ℕ) (first index size : ℕ) (tally : Tally) (packed : ℕ)
     → index ≡ first + size
-    → size ≤ 31 → AreAtMost first tally → IsTotal marks first index tally packed
+    → size ≤ 31 → AreTalliesAtMost first tally → IsTallyTotal marks first index tally packed
     → (sum_of tally (unpacked packed) ≡ total marks (first + size))
-    × AreAtMost (first + size) (sum_of tally (unpacked packed))
+    × AreTalliesAtMost (first + size) (sum_of tally (unpacked packed))
 total_done marks first index size tally packed last few before it =
     let digits = digits_are marks first index size tally packed last few it in
-    let most : AreAtMost size it.few = subst (λ (n : ℕ). AreAtMost n it.few) digits.0 it.most in (
+    let most : AreTalliesAtMost size it.few = subst (λ (n : ℕ). AreTalliesAtMost n it.few) digits.0 it.most in (
       ap (sum_of tally) digits.1 ∙ it.total_is ∙ ap (total marks) last,
-      subst (λ (t : Tally). AreAtMost (first + size) (sum_of tally t)) (sym digits.1)
+      subst (λ (t : Tally). AreTalliesAtMost (first + size) (sum_of tally t)) (sym digits.1)
           (most_sum first size tally it.few before most),
     )
 
@@ -269,7 +269,7 @@ pub record AreLookedUpSince (place : ℕ → ℕ) (size width first index : ℕ)
     (packed : ℕ) : Type 0 where
   pub within : (k : ℕ) → k < index → place k < size
   pub copied : (k : ℕ) → k < index → number_of (value_at width k output) ≡ entry_of table (place k) % 2 ^ 32
-  pub counted : IsTotal (λ k. entry_of table (place k) / 2 ^ 32) first index tally packed
+  pub counted : IsTallyTotal (λ k. entry_of table (place k) / 2 ^ 32) first index tally packed
 
 module _ (place : ℕ → ℕ) (size width first : ℕ) (table : List ℕ) (tally : Tally) where
   abbrev marks : ℕ → ℕ
@@ -299,12 +299,12 @@ module _ (place : ℕ → ℕ) (size width first : ℕ) (table : List ℕ) (tall
         within = below_more index (subst (λ (n : ℕ). n < size) at_is within) so_far.within;
         copied = each_more results width index count output new before long wide
             (copied ∙ ap (λ (n : ℕ). entry_of table n % 2 ^ 32) at_is) so_far.copied;
-        counted = subst (λ (n : ℕ). IsTotal marks first (index + 1) tally (packed + n)) (sym same)
+        counted = subst (λ (n : ℕ). IsTallyTotal marks first (index + 1) tally (packed + n)) (sym same)
             (total_more marks first index tally packed one so_far.counted);
       }
 
   pub since_fits : (index few : ℕ) (output : List ℕ) (packed : ℕ) → index ≡ first + few → few ≤ 31
-      → first + few < 2 ^ 64 → AreAtMost first tally
+      → first + few < 2 ^ 64 → AreTalliesAtMost first tally
       → AreLookedUpSince place size width first index table output tally packed
       → Fits (sum_of tally (unpacked packed))
   since_fits index few output packed last is_few room before it =
@@ -313,7 +313,7 @@ module _ (place : ℕ → ℕ) (size width first : ℕ) (table : List ℕ) (tall
 
   pub since_done : (index few : ℕ) (output : List ℕ) (all : Tally) (packed : ℕ) → index ≡ first + few
       → few ≤ 31
-      → AreAtMost first tally → all ≡ sum_of tally (unpacked packed)
+      → AreTalliesAtMost first tally → all ≡ sum_of tally (unpacked packed)
       → AreLookedUpSince place size width first index table output tally packed
       → AreLookedUp place size width (first + few) table output all
   since_done index few output all packed last is_few before is it =
@@ -323,7 +323,7 @@ module _ (place : ℕ → ℕ) (size width first : ℕ) (table : List ℕ) (tall
         each = subst
             (λ (n : ℕ). (k : ℕ) → k < n → number_of (value_at width k output) ≡ results k) last it.copied;
         tally_is = is ∙ done.0;
-        most = subst (AreAtMost (first + few)) (sym is) done.1;
+        most = subst (AreTalliesAtMost (first + few)) (sym is) done.1;
       }
 
 pub none_looked_up : (place : ℕ → ℕ) (size width : ℕ) (table output : List ℕ)
@@ -380,7 +380,7 @@ module _ {O : Type 0} (Answers : ℕ → ℕ → O → Type 0) (tally : O → Ta
 
   pub entries_more : (place size : ℕ) (table entry : List ℕ) (result : ℕ) (outcome : O) → place < size
       → length table ≡ size * 8 → length entry ≡ 8 → Answers place result outcome → result < 2 ^ 32
-      → AreAtMost 1 (tally outcome) → number_of entry ≡ result + 2 ^ 32 * packed_of (tally outcome)
+      → AreTalliesAtMost 1 (tally outcome) → number_of entry ≡ result + 2 ^ 32 * packed_of (tally outcome)
       → IsEntryTable Answers tally place table
       → IsEntryTable Answers tally (place + 1) (put_mid (place * 8) (place * 8 + 8 - place * 8) table entry)
   entries_more place size table entry result outcome within long wide is fits few parts so_far =

@@ -3,7 +3,7 @@ use Rattle.std.specs.Prelude.{◌≡◌, ℕ, ◌+◌, ◌*◌, ◌/◌, ◌%◌
 use Rattle.apfloat_arrays.specs.declared.tallies.Tally.{Tally}
 use Rattle.apfloat_arrays.specs.Blocks.{AreInPlaces, value_at}
 use Rattle.apfloat_arrays.specs.Bytes.{number_of}
-use Rattle.apfloat_arrays.specs.Tallies.{AreAtMost, packed_of, total}
+use Rattle.apfloat_arrays.specs.Tallies.{AreTalliesAtMost, packed_of, total}
 
 -- the entry of a place
 abbrev pub entry_of : List ℕ → ℕ → ℕ
@@ -13,7 +13,7 @@ entry_of table place = number_of (value_at 8 place table)
 pub record IsEntry (entry result : ℕ) (tally : Tally) : Type 0 where
   pub parts : entry ≡ result + 2 ^ 32 * packed_of tally
   pub result_fits : result < 2 ^ 32
-  pub few : AreAtMost 1 tally
+  pub few : AreTalliesAtMost 1 tally
 
 -- the same of a result that fits in so many bytes
 pub record IsEntryOf (width entry : ℕ) : Type 0 where
@@ -48,4 +48,4 @@ pub record AreLookedUp (place : ℕ → ℕ) (size width count : ℕ) (table out
   pub each : (index : ℕ) → index < count
       → number_of (value_at width index output) ≡ entry_of table (place index) % 2 ^ 32
   pub tally_is : tally ≡ total (λ index. entry_of table (place index) / 2 ^ 32) count
-  pub most : AreAtMost count tally
+  pub most : AreTalliesAtMost count tally

@@ -16,7 +16,7 @@ use Rattle.apfloat_arrays.specs.Outcomes.{one_if}
 use Rattle.small_formats.specs.saturation.Saturation.{saturated}
 
 -- a magnitude of amount / parts quanta that is on that side
-pub record IsPast (g : Format) (amount parts : ℕ) : Type 0 where
+pub record IsFarPast (g : Format) (amount parts : ℕ) : Type 0 where
   pub some : 0 < parts
   pub from : 2 ^ (g.precision + g.span) * parts ≤ amount
 
@@ -25,7 +25,7 @@ pub record IsLittle (amount parts : ℕ) : Type 0 where
   pub to : 2 * amount < parts
 
 abbrev pub IsFar : Bool → Format → ℕ → ℕ → Type 0
-IsFar true g amount parts = IsPast g amount parts
+IsFar true g amount parts = IsFarPast g amount parts
 IsFar false g amount parts = IsLittle amount parts
 
 -- the value of a conversion, from the value that a number of this sign is rounded to

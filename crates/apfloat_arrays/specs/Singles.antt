@@ -42,6 +42,6 @@ abbrev pub outcome_of : Lane → Outcome
 outcome_of lane = record { status = record { 0 = flags_of lane }; is_nan = lane.is_nan }
 
 -- they are the upper and the lower halves of the words of so many given values
-pub record AreHalves (count : ℕ) (uppers lowers : List ℕ) (given : ℕ → List ℕ) : Type 0 where
+pub record AreHalfSingles (count : ℕ) (uppers lowers : List ℕ) (given : ℕ → List ℕ) : Type 0 where
   pub upper : (index : ℕ) → index < count → slice_index uppers index ≡ number_of (given index) / 2 ^ 16
   pub lower : (index : ℕ) → index < count → slice_index lowers index ≡ number_of (given index) % 2 ^ 16

@@ -26,7 +26,7 @@ pub record Fits (tally : Tally) : Type 0 where
   pub nans : tally.nans < 2 ^ 64
 
 -- each count is at most that
-pub record AreAtMost (most : ℕ) (tally : Tally) : Type 0 where
+pub record AreTalliesAtMost (most : ℕ) (tally : Tally) : Type 0 where
   pub inexact : tally.inexact ≤ most
   pub underflow : tally.underflow ≤ most
   pub overflow : tally.overflow ≤ most

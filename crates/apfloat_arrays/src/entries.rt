@@ -4,7 +4,7 @@ ghost use Rattle.std.specs.Prelude.{◌≡◌, ℕ, ◌+◌, ◌*◌, ◌/◌, �
 ghost use Rattle.apfloat_arrays.specs.Blocks.{value_at};
 ghost use Rattle.apfloat_arrays.specs.Bytes.{number_of};
 ghost use Rattle.apfloat_arrays.specs.Entries.{AreEntries, AreLookedUp, IsEntryOf, entry_of};
-ghost use Rattle.apfloat_arrays.specs.Tallies.{AreAtMost, packed_of};
+ghost use Rattle.apfloat_arrays.specs.Tallies.{AreTalliesAtMost, packed_of};
 ghost use Rattle.apfloat_arrays.specs.declared.tallies.Tally.{Tally as Few};
 
 use crate::bytes::{number_of, write_number};
@@ -230,7 +230,7 @@ fn look_up_one(place: usize, table: &[u8], target: &mut [u8]) -> u64
     requires within { place * 8 + 8 ≤ length table.now }
     ensures result { number_of target.new ≡ entry_of table.now place % 2 ^ 32 }
     ensures mark { result ≡ entry_of table.now place / 2 ^ 32 }
-    ensures few { (few : Few) × AreAtMost 1 few × (result ≡ packed_of few) }
+    ensures few { (few : Few) × AreTalliesAtMost 1 few × (result ≡ packed_of few) }
 {
     let from = place * ENTRY;
     let entry = number_of(&table[from..from + ENTRY]);

@@ -3,7 +3,7 @@
 
 ghost use Rattle.std.specs.Prelude.{◌≡◌, ℕ, ◌+◌, ◌*◌, ◌%◌, ◌^◌, ◌≤◌, ◌<◌, List, length, slice_index, false, IsTrue};
 ghost use Rattle.fast_bits.specs.lanes.Sides.{LeadsPast};
-ghost use Rattle.fast_bits.specs.lanes.Targets.{IsSingle, IsTarget};
+ghost use Rattle.fast_bits.specs.lanes.Targets.{IsSingleFormat, IsTarget};
 ghost use Rattle.rustc_apfloat.specs.declared.Round.{Round as Mode};
 ghost use Rattle.rustc_apfloat.specs.Lawful.{Constants, format_with, layout_with};
 ghost use Rattle.rustc_apfloat.specs.FlaggedTypes.{constants_of, format_of, layout_of};
@@ -79,7 +79,7 @@ fn convert_halves<const N: usize>(
     requires few { N < 2 ^ 16 }
     requires output { length output.old ≡ N * width }
     ensures { (overflow : Overflow) (c d : Constants) (mode : Mode) (given : ℕ → List ℕ)
-        → IsSingle (format_with c) (layout_with c) → IsShortPlanFor overflow d mode plan
+        → IsSingleFormat (format_with c) (layout_with c) → IsShortPlanFor overflow d mode plan
         → AreHalvesOf N halves.now given
         → IsRow (IsConvertedBy overflow c d mode) given width N output.new (counts_with result N) }
 {
@@ -113,7 +113,7 @@ fn convert_alike<const N: usize>(
     requires few { N < 2 ^ 16 }
     requires output { length output.old ≡ N * width }
     ensures { (overflow : Overflow) (c d : Constants) (mode : Mode) (given : ℕ → List ℕ)
-        → IsSingle (format_with c) (layout_with c) → IsShortPlanFor overflow d mode plan
+        → IsSingleFormat (format_with c) (layout_with c) → IsShortPlanFor overflow d mode plan
         → AreHalvesOf N halves.now given
         → IsRow (IsConvertedBy overflow c d mode) given width N output.new result }
 {
@@ -139,7 +139,7 @@ fn convert_apart<S: Flagged, T: Flagged, const N: usize>(
 ) -> Counts
     requires read { S.PRECISION < S.BITS }
     requires written { T.PRECISION < T.BITS }
-    requires single { IsSingle (format_of S.Flagged) (layout_of S.Flagged) }
+    requires single { IsSingleFormat (format_of S.Flagged) (layout_of S.Flagged) }
     requires plan { IsShortPlanFor overflow (constants_of T.Flagged) round plan }
     requires source { widths.source ≡ 4 }
     requires short { IsTarget (format_of T.Flagged) (layout_of T.Flagged) T.MIN_EXP T.MAX_EXP }
@@ -177,7 +177,7 @@ pub(crate) fn convert_block<S: Flagged, T: Flagged, const N: usize>(
 ) -> Counts
     requires read { S.PRECISION < S.BITS }
     requires written { T.PRECISION < T.BITS }
-    requires single { IsSingle (format_of S.Flagged) (layout_of S.Flagged) }
+    requires single { IsSingleFormat (format_of S.Flagged) (layout_of S.Flagged) }
     requires plan { IsShortPlanFor overflow (constants_of T.Flagged) round plan }
     requires source { widths.source ≡ 4 }
     requires short { IsTarget (format_of T.Flagged) (layout_of T.Flagged) T.MIN_EXP T.MAX_EXP }

@@ -3,7 +3,7 @@
 
 ghost use Rattle.std.specs.Prelude.{◌≡◌, ℕ, ℤ, ⊤, ◌*◌, ◌%◌, ◌^◌, ◌≤◌, ◌<◌, length};
 ghost use Rattle.apfloat_model.specs.bits.Layout.{Layout};
-ghost use Rattle.fast_bits.specs.lanes.Targets.{IsShort, IsSingle, IsTarget};
+ghost use Rattle.fast_bits.specs.lanes.Targets.{IsShortFormat, IsSingleFormat, IsTarget};
 ghost use Rattle.rustc_apfloat.specs.declared.Round.{Round as Mode};
 ghost use Rattle.rustc_apfloat.specs.Lawful.{Constants};
 ghost use Rattle.rustc_apfloat.specs.FlaggedTypes.{constants_of, format_of, layout_of};
@@ -57,7 +57,7 @@ trait BlockPlan<const N: usize>: SinglesPlan {
     ) -> Counts
         requires read { S.PRECISION < S.BITS }
         requires written { T.PRECISION < T.BITS }
-        requires single { IsSingle (format_of S.Flagged) (layout_of S.Flagged) }
+        requires single { IsSingleFormat (format_of S.Flagged) (layout_of S.Flagged) }
         requires plan { Self.is_for self overflow (constants_of T.Flagged) round }
         requires source { widths.source ≡ 4 }
         requires format { IsTarget (format_of T.Flagged) (layout_of T.Flagged) T.MIN_EXP T.MAX_EXP }
@@ -102,7 +102,7 @@ impl<const N: usize> BlockPlan<N> for Plan {
 }
 
 impl SinglesPlan for ShortPlan {
-    ghost can = { λ layout precision least. IsShort layout precision least };
+    ghost can = { λ layout precision least. IsShortFormat layout precision least };
 
     ghost is_for = { λ plan overflow d mode. IsShortPlanFor overflow d mode plan };
 
@@ -144,7 +144,7 @@ fn convert_whole<P: BlockPlan<N>, S: Flagged, T: Flagged, const N: usize>(
 ) -> Counts
     requires read { S.PRECISION < S.BITS }
     requires written { T.PRECISION < T.BITS }
-    requires single { IsSingle (format_of S.Flagged) (layout_of S.Flagged) }
+    requires single { IsSingleFormat (format_of S.Flagged) (layout_of S.Flagged) }
     requires plan { P.is_for plan overflow (constants_of T.Flagged) round }
     requires source { widths.source ≡ 4 }
     requires format { IsTarget (format_of T.Flagged) (layout_of T.Flagged) T.MIN_EXP T.MAX_EXP }
@@ -193,7 +193,7 @@ fn convert_blocks<P: BlockPlan<N>, S: Flagged, T: Flagged, const N: usize>(
 ) -> Counts
     requires read { S.PRECISION < S.BITS }
     requires written { T.PRECISION < T.BITS }
-    requires single { IsSingle (format_of S.Flagged) (layout_of S.Flagged) }
+    requires single { IsSingleFormat (format_of S.Flagged) (layout_of S.Flagged) }
     requires plan { P.is_for plan overflow (constants_of T.Flagged) round }
     requires source { widths.source ≡ 4 }
     requires format { IsTarget (format_of T.Flagged) (layout_of T.Flagged) T.MIN_EXP T.MAX_EXP }
@@ -227,7 +227,7 @@ fn convert_few<P: BlockPlan<BLOCK>, S: Flagged, T: Flagged>(
 ) -> Counts
     requires read { S.PRECISION < S.BITS }
     requires written { T.PRECISION < T.BITS }
-    requires single { IsSingle (format_of S.Flagged) (layout_of S.Flagged) }
+    requires single { IsSingleFormat (format_of S.Flagged) (layout_of S.Flagged) }
     requires plan { P.is_for plan overflow (constants_of T.Flagged) round }
     requires target { IsTarget (format_of T.Flagged) (layout_of T.Flagged) T.MIN_EXP T.MAX_EXP }
     requires width { T.BITS ≤ 8 * bytes_of T.BITS }
@@ -271,7 +271,7 @@ fn convert_rest<P: BlockPlan<BLOCK>, S: Flagged, T: Flagged>(
 ) -> Counts
     requires read { S.PRECISION < S.BITS }
     requires written { T.PRECISION < T.BITS }
-    requires single { IsSingle (format_of S.Flagged) (layout_of S.Flagged) }
+    requires single { IsSingleFormat (format_of S.Flagged) (layout_of S.Flagged) }
     requires target { IsTarget (format_of T.Flagged) (layout_of T.Flagged) T.MIN_EXP T.MAX_EXP }
     requires can { P.can (layout_of T.Flagged) T.PRECISION T.MIN_EXP }
     requires width { T.BITS ≤ 8 * bytes_of T.BITS }
@@ -310,7 +310,7 @@ fn convert_many<P: BlockPlan<BLOCK> + BlockPlan<LONG>, S: Flagged, T: Flagged>(
 ) -> Counts
     requires read { S.PRECISION < S.BITS }
     requires written { T.PRECISION < T.BITS }
-    requires single { IsSingle (format_of S.Flagged) (layout_of S.Flagged) }
+    requires single { IsSingleFormat (format_of S.Flagged) (layout_of S.Flagged) }
     requires plan { P.is_for plan overflow (constants_of T.Flagged) round }
     requires target { IsTarget (format_of T.Flagged) (layout_of T.Flagged) T.MIN_EXP T.MAX_EXP }
     requires can { P.can (layout_of T.Flagged) T.PRECISION T.MIN_EXP }
@@ -350,7 +350,7 @@ fn convert_singles<P: BlockPlan<BLOCK> + BlockPlan<LONG>, S: Flagged, T: Flagged
 ) -> Counts
     requires read { S.PRECISION < S.BITS }
     requires written { T.PRECISION < T.BITS }
-    requires single { IsSingle (format_of S.Flagged) (layout_of S.Flagged) }
+    requires single { IsSingleFormat (format_of S.Flagged) (layout_of S.Flagged) }
     requires target { IsTarget (format_of T.Flagged) (layout_of T.Flagged) T.MIN_EXP T.MAX_EXP }
     requires can { P.can (layout_of T.Flagged) T.PRECISION T.MIN_EXP }
     requires width { T.BITS ≤ 8 * bytes_of T.BITS }
@@ -388,7 +388,7 @@ pub fn convert_all_singles<S: Flagged, T: Flagged>(
 ) -> Counts
     requires read { S.PRECISION < S.BITS }
     requires written { T.PRECISION < T.BITS }
-    requires single { IsSingle (format_of S.Flagged) (layout_of S.Flagged) }
+    requires single { IsSingleFormat (format_of S.Flagged) (layout_of S.Flagged) }
     requires target { IsTarget (format_of T.Flagged) (layout_of T.Flagged) T.MIN_EXP T.MAX_EXP }
     requires width { T.BITS ≤ 8 * bytes_of T.BITS }
     requires input { length input.now ≡ count * 4 }

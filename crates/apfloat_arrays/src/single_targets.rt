@@ -2,7 +2,7 @@
 
 ghost use Rattle.std.specs.Prelude.{◌≡◌, ◌<◌, ◌≤◌, pos, negsuc, ◌≤ℤ◌, false, IsTrue};
 ghost use Rattle.fast_bits.specs.lanes.At.{format_at, layout_at};
-ghost use Rattle.fast_bits.specs.lanes.Targets.{IsShort, IsSingle, IsTarget};
+ghost use Rattle.fast_bits.specs.lanes.Targets.{IsShortFormat, IsSingleFormat, IsTarget};
 ghost use Rattle.rustc_apfloat.specs.FlaggedTypes.{format_of, layout_of};
 ghost use Rattle.rustc_apfloat.specs.Standing.{reads_halves};
 ghost use Rattle.apfloat_arrays.specs.Singles.{saturates};
@@ -25,7 +25,7 @@ pub fn saturates(overflow: Overflow) -> bool
 /// Whether `S` is the format of singles.
 #[inline(always)]
 pub fn is_single<S: Flagged>() -> bool
-    ensures { IsTrue result → IsSingle (format_of S.Flagged) (layout_of S.Flagged) }
+    ensures { IsTrue result → IsSingleFormat (format_of S.Flagged) (layout_of S.Flagged) }
 {
     (S::BITS == 32)
         & (S::EXP_BITS == 8)
@@ -73,7 +73,7 @@ pub fn is_target<T: Flagged>() -> bool
 /// Whether the upper sixteen bits of a single are enough for `T`.
 #[inline(always)]
 pub fn is_short_target<T: Flagged>() -> bool
-    ensures { IsTrue result → IsShort (layout_of T.Flagged) T.PRECISION T.MIN_EXP }
+    ensures { IsTrue result → IsShortFormat (layout_of T.Flagged) T.PRECISION T.MIN_EXP }
 {
     (T::BITS <= 8) & (T::PRECISION <= 6) & (T::MIN_EXP >= -119)
 }

@@ -2,16 +2,16 @@
 //! of sixteen bits, so that a compiler can work on several values at once.
 
 ghost use Rattle.std.specs.Prelude.{◌≡◌, ℕ, ◌+◌, ◌*◌, ◌/◌, ◌%◌, ◌^◌, ◌≤◌, ◌<◌, List, length, replicate, false, IsTrue};
-ghost use Rattle.fast_bits.specs.lanes.FewCounts.{AreAtMost};
+ghost use Rattle.fast_bits.specs.lanes.FewCounts.{FewAreAtMost};
 ghost use Rattle.fast_bits.specs.lanes.Sides.{LeadsPast};
-ghost use Rattle.fast_bits.specs.lanes.Targets.{IsSingle, IsTarget};
+ghost use Rattle.fast_bits.specs.lanes.Targets.{IsSingleFormat, IsTarget};
 ghost use Rattle.rustc_apfloat.specs.declared.Round.{Round as Mode};
 ghost use Rattle.rustc_apfloat.specs.Lawful.{Constants, format_with, layout_with};
 ghost use Rattle.rustc_apfloat.specs.FlaggedTypes.{constants_of, format_of, layout_of};
 ghost use Rattle.apfloat_arrays.specs.Blocks.{IsBlock, value_at};
 ghost use Rattle.apfloat_arrays.specs.Outcomes.{with_outcome};
 ghost use Rattle.apfloat_arrays.specs.Rows.{AreFiniteHalves, IsRow, number_from};
-ghost use Rattle.apfloat_arrays.specs.Singles.{AreHalves, IsPlanFor, counts_with, outcome_of};
+ghost use Rattle.apfloat_arrays.specs.Singles.{AreHalfSingles, IsPlanFor, counts_with, outcome_of};
 ghost use Rattle.apfloat_arrays.specs.Values.{IsConvertedBy};
 ghost use Rattle.apfloat_arrays.specs.Widths.{bytes_of};
 
@@ -33,7 +33,7 @@ const FEWEST: usize = 20;
 #[inline(always)]
 fn read_halves<const N: usize>(bytes: &[u8], uppers: &mut [u16; N], lowers: &mut [u16; N])
     requires { length bytes.now ≡ N * 4 }
-    ensures { AreHalves N uppers.new lowers.new (λ index. value_at 4 index bytes.now) }
+    ensures { AreHalfSingles N uppers.new lowers.new (λ index. value_at 4 index bytes.now) }
 {
     for index in 0..N {
         let from = index * 4;
@@ -48,8 +48,8 @@ fn read_halves<const N: usize>(bytes: &[u8], uppers: &mut [u16; N], lowers: &mut
 fn clear_specials<const N: usize>(uppers: &mut [u16; N], lowers: &mut [u16; N])
     ensures finite { AreFiniteHalves N uppers.new }
     ensures kept { (input : List ℕ)
-        → AreHalves N uppers.old lowers.old (λ index. value_at 4 index input)
-        → AreHalves N uppers.new lowers.new (number_from 0 input) }
+        → AreHalfSingles N uppers.old lowers.old (λ index. value_at 4 index input)
+        → AreHalfSingles N uppers.new lowers.new (number_from 0 input) }
 {
     for index in 0..N {
         lowers[index] = lower_in(uppers[index], lowers[index]);
@@ -62,8 +62,8 @@ fn clear_specials<const N: usize>(uppers: &mut [u16; N], lowers: &mut [u16; N])
 fn leave_numbers<const N: usize>(uppers: &mut [u16; N], lowers: &mut [u16; N]) -> bool
     ensures finite { AreFiniteHalves N uppers.new }
     ensures kept { (input : List ℕ)
-        → AreHalves N uppers.old lowers.old (λ index. value_at 4 index input)
-        → AreHalves N uppers.new lowers.new (number_from 0 input) }
+        → AreHalfSingles N uppers.old lowers.old (λ index. value_at 4 index input)
+        → AreHalfSingles N uppers.new lowers.new (number_from 0 input) }
     ensures all { IsTrue result → AreFiniteHalves N uppers.old }
 {
     if are_finite(uppers) {
@@ -77,10 +77,10 @@ fn leave_numbers<const N: usize>(uppers: &mut [u16; N], lowers: &mut [u16; N]) -
 /// The counts after one more value.
 #[inline(always)]
 pub(crate) fn counted(few: FewCounts, lane: Lane) -> FewCounts
-    requires { AreAtMost 65534 few }
+    requires { FewAreAtMost 65534 few }
     ensures counts { (values : ℕ) → counts_with result (values + 1)
         ≡ with_outcome (counts_with few values) (outcome_of lane) }
-    ensures most { (most : ℕ) → AreAtMost most few → AreAtMost (most + 1) result }
+    ensures most { (most : ℕ) → FewAreAtMost most few → FewAreAtMost (most + 1) result }
 {
     with_lane(few, lane)
 }
@@ -116,8 +116,8 @@ fn convert_halves<const N: usize>(
     requires few { N < 2 ^ 16 }
     requires output { length output.old ≡ N * width }
     ensures { (overflow : Overflow) (c d : Constants) (mode : Mode) (given : ℕ → List ℕ)
-        → IsSingle (format_with c) (layout_with c) → IsPlanFor overflow d mode plan
-        → AreHalves N uppers.now lowers.now given
+        → IsSingleFormat (format_with c) (layout_with c) → IsPlanFor overflow d mode plan
+        → AreHalfSingles N uppers.now lowers.now given
         → IsRow (IsConvertedBy overflow c d mode) given width N output.new (counts_with result N) }
 {
     let mut few = FewCounts {
@@ -151,8 +151,8 @@ fn convert_alike<const N: usize>(
     requires few { N < 2 ^ 16 }
     requires output { length output.old ≡ N * width }
     ensures { (overflow : Overflow) (c d : Constants) (mode : Mode) (given : ℕ → List ℕ)
-        → IsSingle (format_with c) (layout_with c) → IsPlanFor overflow d mode plan
-        → AreHalves N uppers.now lowers.now given
+        → IsSingleFormat (format_with c) (layout_with c) → IsPlanFor overflow d mode plan
+        → AreHalfSingles N uppers.now lowers.now given
         → IsRow (IsConvertedBy overflow c d mode) given width N output.new result }
 {
     if are_finite(uppers) {
@@ -178,11 +178,11 @@ fn convert_apart<S: Flagged, T: Flagged, const N: usize>(
 ) -> Counts
     requires read { S.PRECISION < S.BITS }
     requires written { T.PRECISION < T.BITS }
-    requires single { IsSingle (format_of S.Flagged) (layout_of S.Flagged) }
+    requires single { IsSingleFormat (format_of S.Flagged) (layout_of S.Flagged) }
     requires plan { IsPlanFor overflow (constants_of T.Flagged) round plan }
     requires source { widths.source ≡ 4 }
     requires target { T.BITS ≤ 8 * widths.target }
-    requires halves { AreHalves N uppers.old lowers.old (λ index. value_at 4 index input.now) }
+    requires halves { AreHalfSingles N uppers.old lowers.old (λ index. value_at 4 index input.now) }
     requires groups { N % 16 ≡ 0 }
     requires few { N < 2 ^ 16 }
     requires input { length input.now ≡ N * widths.source }
@@ -215,7 +215,7 @@ pub(crate) fn convert_block<S: Flagged, T: Flagged, const N: usize>(
 ) -> Counts
     requires read { S.PRECISION < S.BITS }
     requires written { T.PRECISION < T.BITS }
-    requires single { IsSingle (format_of S.Flagged) (layout_of S.Flagged) }
+    requires single { IsSingleFormat (format_of S.Flagged) (layout_of S.Flagged) }
     requires plan { IsPlanFor overflow (constants_of T.Flagged) round plan }
     requires source { widths.source ≡ 4 }
     requires target { T.BITS ≤ 8 * widths.target }
@@ -249,7 +249,7 @@ fn convert_between<S: Flagged, T: Flagged>(
 ) -> Counts
     requires read { S.PRECISION < S.BITS }
     requires written { T.PRECISION < T.BITS }
-    requires single { IsSingle (format_of S.Flagged) (layout_of S.Flagged) }
+    requires single { IsSingleFormat (format_of S.Flagged) (layout_of S.Flagged) }
     requires target { IsTarget (format_of T.Flagged) (layout_of T.Flagged) T.MIN_EXP T.MAX_EXP }
     requires width { T.BITS ≤ 8 * bytes_of T.BITS }
     requires few { count ≤ 64 }
@@ -296,7 +296,7 @@ fn convert_padded<S: Flagged, T: Flagged>(
 ) -> Counts
     requires read { S.PRECISION < S.BITS }
     requires written { T.PRECISION < T.BITS }
-    requires single { IsSingle (format_of S.Flagged) (layout_of S.Flagged) }
+    requires single { IsSingleFormat (format_of S.Flagged) (layout_of S.Flagged) }
     requires target { IsTarget (format_of T.Flagged) (layout_of T.Flagged) T.MIN_EXP T.MAX_EXP }
     requires width { T.BITS ≤ 8 * bytes_of T.BITS }
     requires few { count ≤ 64 }
@@ -330,7 +330,7 @@ pub(crate) fn convert_last<S: Flagged, T: Flagged>(
 ) -> Counts
     requires read { S.PRECISION < S.BITS }
     requires written { T.PRECISION < T.BITS }
-    requires single { IsSingle (format_of S.Flagged) (layout_of S.Flagged) }
+    requires single { IsSingleFormat (format_of S.Flagged) (layout_of S.Flagged) }
     requires target { IsTarget (format_of T.Flagged) (layout_of T.Flagged) T.MIN_EXP T.MAX_EXP }
     requires width { T.BITS ≤ 8 * bytes_of T.BITS }
     requires few { count < 64 }
@@ -355,7 +355,7 @@ pub(crate) fn convert_last<S: Flagged, T: Flagged>(
 #[inline(always)]
 pub fn has_singles<S: Flagged, T: Flagged>(widths: Widths) -> bool
     requires written { T.PRECISION < T.BITS }
-    ensures single { IsTrue result → IsSingle (format_of S.Flagged) (layout_of S.Flagged) }
+    ensures single { IsTrue result → IsSingleFormat (format_of S.Flagged) (layout_of S.Flagged) }
     ensures target { IsTrue result
         → IsTarget (format_of T.Flagged) (layout_of T.Flagged) T.MIN_EXP T.MAX_EXP }
     ensures source_width { IsTrue result → widths.source ≡ 4 }

@@ -2,7 +2,7 @@
 //! raise no flag and are no NaNs, until they are converted one by one.
 
 ghost use Rattle.std.specs.Prelude.{◌≡◌, ℕ, ◌+◌, ◌*◌, ◌%◌, ◌^◌, ◌<◌, ◌≤◌, length, slice_index, IsTrue};
-ghost use Rattle.fast_bits.specs.lanes.Targets.{IsSingle};
+ghost use Rattle.fast_bits.specs.lanes.Targets.{IsSingleFormat};
 ghost use Rattle.rustc_apfloat.specs.FlaggedTypes.{constants_of, format_of, layout_of};
 ghost use Rattle.apfloat_arrays.specs.Blocks.{IsBlock, value_at};
 ghost use Rattle.apfloat_arrays.specs.Bytes.{number_of};
@@ -91,7 +91,7 @@ fn convert_group<S: Flagged, T: Flagged, const N: usize>(
 ) -> Counts
     requires read { S.PRECISION < S.BITS }
     requires written { T.PRECISION < T.BITS }
-    requires single { IsSingle (format_of S.Flagged) (layout_of S.Flagged) }
+    requires single { IsSingleFormat (format_of S.Flagged) (layout_of S.Flagged) }
     requires target { T.BITS ≤ 8 * width }
     requires within { first + 16 ≤ N }
     requires input { length input.now ≡ N * 4 }
@@ -129,7 +129,7 @@ pub(crate) fn convert_specials<S: Flagged, T: Flagged, const N: usize>(
 ) -> Counts
     requires read { S.PRECISION < S.BITS }
     requires written { T.PRECISION < T.BITS }
-    requires single { IsSingle (format_of S.Flagged) (layout_of S.Flagged) }
+    requires single { IsSingleFormat (format_of S.Flagged) (layout_of S.Flagged) }
     requires target { T.BITS ≤ 8 * width }
     requires groups { N % 16 ≡ 0 }
     requires input { length input.now ≡ N * 4 }

@@ -24,7 +24,7 @@ use Rattle.apfloat_c.specs.ArrayCalls.{bytes_in, conversion_between, conversion_
 use Rattle.apfloat_c.specs.ArrayCalls.{has_element_operation, if_fitting}
 use Rattle.apfloat_c.specs.ArrayCalls.{known_array_conversion, known_map, lengths_fit, operand_length, operands_fit}
 use Rattle.apfloat_c.specs.ArrayCalls.{operands_of}
-use Rattle.apfloat_c.specs.Arrays.{AreConverted, AreElements, AreMapped, IsConvertedArray, IsMappedArray}
+use Rattle.apfloat_c.specs.Arrays.{AreValuesConverted, AreElements, AreMapped, IsConvertedArray, IsMappedArray}
 use Rattle.apfloat_c.specs.Arrays.{IsValueConverted, answer_with}
 
 -- ---- lengths that fit
@@ -134,7 +134,7 @@ pub are_converted : (conversion : KnownConversion) (count : ℕ) (given old fron
     → length front ≡ count * (conversion_widths conversion).target
     → IsBlock (IsValueConverted conversion) (conversion_widths conversion).source
     (conversion_widths conversion).target count given front counts
-    → AreConverted conversion count given old (front ++ drop (count * (conversion_widths conversion).target) old)
+    → AreValuesConverted conversion count given old (front ++ drop (count * (conversion_widths conversion).target) old)
     (answer_with (record { counts = counts; div_by_zero = 0 }))
 are_converted conversion count given old front counts size block =
     record {
@@ -168,7 +168,7 @@ are_mapped map count xs ys zs old front counted size elements =
 -- a conversion that is not refused leaves the array converted
 pub converted_array : (known : Result KnownConversion ℕ) (conversion : KnownConversion) (given old new : List ℕ)
     (before after : ArrayAnswer) → known ≡ Ok conversion
-    → AreConverted conversion (length given / (conversion_widths conversion).source) given old new after
+    → AreValuesConverted conversion (length given / (conversion_widths conversion).source) given old new after
     → IsConvertedArray known given old new before after 0
 converted_array known conversion given old new before after is converted =
     subst (λ (k : Result KnownConversion ℕ). IsConvertedArray k given old new before after 0) (sym is)
@@ -212,7 +212,7 @@ conversion_left known conversion widths given old front counts before after widt
     let at_widths : Left (conversion_widths conversion) =
     λ long made. converted_array known conversion given old _ before after known_is
     (subst
-    (λ (a : ArrayAnswer). AreConverted conversion (length given / (conversion_widths conversion).source) given old
+    (λ (a : ArrayAnswer). AreValuesConverted conversion (length given / (conversion_widths conversion).source) given old
     (front ++ drop (length given / (conversion_widths conversion).source * (conversion_widths conversion).target)
     old) a)
     (sym after_is)

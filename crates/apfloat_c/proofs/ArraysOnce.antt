@@ -23,7 +23,7 @@ use Rattle.apfloat_c.specs.declared.array_data.ArrayAnswer.{ArrayAnswer}
 use Rattle.apfloat_c.specs.declared.array_data.Element.{Element}
 use Rattle.apfloat_c.specs.declared.array_data.ElementCounts.{ElementCounts}
 use Rattle.apfloat_c.specs.ArrayCalls.{bytes_in, conversion_widths}
-use Rattle.apfloat_c.specs.Arrays.{AreConverted, AreMapped, IsElement, IsElementAt, IsValueConverted, answer_with}
+use Rattle.apfloat_c.specs.Arrays.{AreValuesConverted, AreMapped, IsElement, IsElementAt, IsValueConverted, answer_with}
 use Rattle.apfloat_c.specs.Arrays.{call_of, counts_of, is_nan_in}
 use Rattle.apfloat_c.specs.OneAnswer.{IsConvertedArrayOnce, IsLeftIn, IsMappedArrayOnce}
 use Rattle.apfloat_c.proofs.ExportsOnce.{kind_law, kind_once}
@@ -83,7 +83,7 @@ block_places_once conversion source target count input bytes other counts others
 
 converted_once : (conversion : KnownConversion) (count : ℕ) (given old first second : List ℕ)
     (after also : ArrayAnswer) → IsLeftIn old first → IsLeftIn old second
-    → AreConverted conversion count given old first after → AreConverted conversion count given old second also
+    → AreValuesConverted conversion count given old first after → AreValuesConverted conversion count given old second also
     → (first ≡ second) × (after ≡ also)
 converted_once conversion count given old first second after also a b x y =
     let all = count * (conversion_widths conversion).target in

@@ -38,8 +38,8 @@ use Rattle.apfloat_c.specs.declared.exported_call.ExportedCall.TheVariants.{Expo
 use Rattle.apfloat_c.specs.declared.exported_call.ExportedCall.TheVariants.{Class, Conversion, Text}
 use Rattle.apfloat_c.specs.OneAnswer.{SameAnswer}
 use Rattle.apfloat_c.specs.KnownCalls.{fault_in, known_call, without}
-use Rattle.apfloat_c.specs.Answers.{IsKindAnswer, IsConverted, IsConvertedInto, IsConvertedTo, IsFractionOf, IsNumber}
-use Rattle.apfloat_c.specs.Answers.{IsReturned, IsSigned, IsTypeAnswer, IsUnsigned, IsUntold, IsValue, IsWritten}
+use Rattle.apfloat_c.specs.Answers.{IsKindAnswer, IsConverted, IsConvertedInto, IsAnswerConverted, IsFractionOf, IsNumberAlone}
+use Rattle.apfloat_c.specs.Answers.{IsReturned, IsSignedAnswer, IsTypeAnswer, IsUnsigned, IsUntold, IsValue, IsValueWritten}
 use Rattle.apfloat_c.specs.Answers.{one_if, whole}
 
 -- at most one result
@@ -59,7 +59,7 @@ unsigned_once Holds once a b x y =
     }
 
 -- if a relation has one result, it leaves one signed integer
-signed_once : (Holds : StatusAnd ℤ → Bool → Type 0) → DeterminesBoth Holds → OnceAnswer (IsSigned Holds)
+signed_once : (Holds : StatusAnd ℤ → Bool → Type 0) → DeterminesBoth Holds → OnceAnswer (IsSignedAnswer Holds)
 signed_once Holds once a b x y =
     let same = once x.given y.given x.is_exact y.is_exact x.holds y.holds in
     record {
@@ -69,7 +69,7 @@ signed_once Holds once a b x y =
     }
 
 -- if a relation has one number, it leaves one result
-number_once : (Holds : ℤ → Type 0) → Determines Holds → OnceAnswer (IsNumber Holds)
+number_once : (Holds : ℤ → Type 0) → Determines Holds → OnceAnswer (IsNumberAlone Holds)
 number_once Holds once a b x y = record {
   bits = x.bits_are ∙ sym y.bits_are;
   status = x.status_is ∙ sym y.status_is;
@@ -77,7 +77,7 @@ number_once Holds once a b x y = record {
 }
 
 -- a result that is a given number is unique
-pub given_once : (given : ℤ) → OnceAnswer (IsNumber (λ (n : ℤ). n ≡ given))
+pub given_once : (given : ℤ) → OnceAnswer (IsNumberAlone (λ (n : ℤ). n ≡ given))
 given_once given = number_once (λ (n : ℤ). n ≡ given) (λ m n h k. h ∙ sym k)
 
 -- ---- values of a type
@@ -85,7 +85,7 @@ given_once given = number_once (λ (n : ℤ). n ≡ given) (λ m n h k. h ∙ sy
 module _ {A : Type 0} (of_type : Relations A) (mode : Round) (precision width : ℕ) (wide : precision < width)
     (once : AreDetermined of_type.meaning mode precision width) where
   written_once : (given other : StatusAnd A) (i j : ℤ) (first second : Answer) → given ≡ other → i ≡ j
-      → IsWritten of_type given i first → IsWritten of_type other j second → SameAnswer first second
+      → IsValueWritten of_type given i first → IsValueWritten of_type other j second → SameAnswer first second
   written_once given other i j a b given_is number_is x y =
       let encodes = λ (d : StatusAnd A). of_type.meaning.writes_bits d.value (whole a.bits) in
       record {
@@ -157,7 +157,7 @@ module _ (constants : Constants) (has : HasLaw constants) (mode : Round) where
 
   -- a value converted to another format has one result
   converted_once : (Holds : Datum → ℕ → Bool → Type 0) → OnceWith Holds
-      → OnceAnswer (IsConvertedTo constants Holds)
+      → OnceAnswer (IsAnswerConverted constants Holds)
   converted_once Holds determines a b x y =
       let same = determines x.given.value y.given.value (bits_of x.given.status) (bits_of y.given.status) x.loses
       y.loses x.holds y.holds in

@@ -2,7 +2,7 @@
 use Rattle.std.proofs.Common.{◌≡◌, ℕ, Bool, true, false, not, eqb, Option, Some, None, refl, sym, subst, pos, arith}
 use Rattle.std.proofs.lemmas.Bool.{false≢true, ne_eqb}
 use Rattle.fast_bits.specs.declared.Encoded.{Encoded}
-use Rattle.fast_bits.specs.Encoded.{IsConvertedNumber}
+use Rattle.fast_bits.specs.Encoded.{IsEncodedConversion}
 use Rattle.rustc_apfloat.specs.declared.Round.{Round}
 use Rattle.rustc_apfloat.specs.declared.StatusAnd.{StatusAnd}
 use Rattle.rustc_apfloat.specs.Classes.{is_finite}
@@ -46,7 +46,7 @@ offered has Says Tells (Some answer) implies said = (said.0, implies answer said
 
 -- a number other than zero, converted from bits to bits, is what every machine gives
 pub number_on_machine : (c d : Constants) (machine : Machine) (mode : Round) (bits : ℕ) (number : Encoded)
-    (answer : Answer) → IsConvertedNumber c d mode bits number → whole answer.bits ≡ number.bits
+    (answer : Answer) → IsEncodedConversion c d mode bits number → whole answer.bits ≡ number.bits
     → answer.status ≡ bits_of number.status → answer.number ≡ pos 0
     → IsMachineConverted c machine mode (value_of c bits) (of_format d) answer
 number_on_machine c d machine mode bits number answer is bits_are status_is number_is =

@@ -6,7 +6,7 @@ use Rattle.std.proofs.Common.{ltb, Option, Some, None, is_some}
 use Rattle.std.specs.Char.{is_ascii}
 use Rattle.std.proofs.lemmas.Bool.{and_parts, and_from, or_cases, cond_both, eqb-true, leb-true, lt-ltb, false≢true}
 use Rattle.apfloat_model.specs.texts.Digits.{every, same, begins, is_empty, is_decimal, is_hexadecimal, number}
-use Rattle.apfloat_model.specs.texts.Specials.{Meaning, infinity, not_a_number, hexadecimal, mark_of, after_mark}
+use Rattle.apfloat_model.specs.texts.Specials.{TextMeaning, infinity, not_a_number, hexadecimal, mark_of, after_mark}
 use Rattle.apfloat_model.specs.texts.Specials.{is_minus, is_infinity, is_x, radix_of, after_prefix, after_plus}
 use Rattle.apfloat_model.specs.texts.Specials.{is_digit_of, base_of, number_of_digits, plain_payload, inside}
 use Rattle.apfloat_model.specs.texts.Specials.{in_parentheses, payload_of, with_payload, is_nan_name, named_nan, is_s}
@@ -167,7 +167,7 @@ named_ascii : (negative signaling : Bool) (text : List ℕ) → HasAscii text (n
 named_ascii negative signaling text =
     let payload = payload_of (drop 3 text) in
     cond_both (is_nan_name (take 3 text)) (with_payload negative signaling payload) None
-    (λ (o : Option Meaning). HasAscii text o)
+    (λ (o : Option TextMeaning). HasAscii text o)
     (λ name some.
     of_parts 3 text (same_as_either (take 3 text) (codes "nan") (codes "NaN") refl refl name)
     (payload_ascii (drop 3 text) (with_payload_some negative signaling payload some)))
@@ -183,7 +183,7 @@ s_or_not : (negative : Bool) (body : List ℕ)
     → HasAscii body (cond (begins is_s body) (named_nan negative true (drop 1 body)) (named_nan negative false body))
 s_or_not negative body =
     cond_both (begins is_s body) (named_nan negative true (drop 1 body)) (named_nan negative false body)
-    (λ (o : Option Meaning). HasAscii body o)
+    (λ (o : Option TextMeaning). HasAscii body o)
     (λ s some.
     begins_ascii is_s body (λ c h. is_either c 115 83 refl refl h) s (named_ascii negative true (drop 1 body) some))
     (λ s some. named_ascii negative false body some)
@@ -206,13 +206,13 @@ infinity_ascii Minus body h =
 special_body_ascii : (mark : Mark) (body : List ℕ) → HasAscii body (special_meaning mark body)
 special_body_ascii mark body =
     cond_both (is_infinity mark body) (Some (infinity (is_minus mark))) (nan_meaning mark body)
-    (λ (o : Option Meaning). HasAscii body o)
+    (λ (o : Option TextMeaning). HasAscii body o)
     (λ e some. infinity_ascii mark body e) (λ e some. nan_ascii mark body some)
 
-special_ascii : (text : List ℕ) (meaning : Meaning) → special_of text ≡ Some meaning → IsAllAscii text
+special_ascii : (text : List ℕ) (meaning : TextMeaning) → special_of text ≡ Some meaning → IsAllAscii text
 special_ascii text meaning h =
     after_mark_ascii text
-    (special_body_ascii (mark_of text) (after_mark text) (ap (λ (o : Option Meaning). is_some o) h))
+    (special_body_ascii (mark_of text) (after_mark text) (ap (λ (o : Option TextMeaning). is_some o) h))
 
 -- ---- hexadecimal numbers
 
@@ -242,7 +242,7 @@ literal_ascii body h f e x =
     (append-every is_ascii x.fraction _ digits.1 (append-every is_ascii x.letter x.exponent letter exponent)))))
 
 -- a text with a meaning is ASCII
-pub meaningful_ascii : (text : List ℕ) (meaning : Meaning) → Means text meaning → every is_ascii text ≡ true
+pub meaningful_ascii : (text : List ℕ) (meaning : TextMeaning) → Means text meaning → every is_ascii text ≡ true
 meaningful_ascii text (infinity negative) means = special_ascii text (infinity negative) means
 meaningful_ascii text (not_a_number negative signaling payload) means =
     special_ascii text (not_a_number negative signaling payload) means

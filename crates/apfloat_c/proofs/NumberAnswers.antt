@@ -18,7 +18,7 @@ use Rattle.formats_at_run_time.specs.declared.Arithmetic.TheVariants.{Sum, Diffe
 use Rattle.formats_at_run_time.specs.Relations.{in_format}
 use Rattle.formats_at_run_time.specs.ValueKinds.{of_format, value_of}
 use Rattle.fast_bits.specs.declared.encoded.Encoded.{Encoded}
-use Rattle.fast_bits.specs.Encoded.{IsConvertedNumber, IsEncodedAnswer, IsNumberAnswer}
+use Rattle.fast_bits.specs.Encoded.{IsEncodedConversion, IsEncodedAnswer, IsNumberAnswer}
 use Rattle.apfloat_c.specs.declared.data.Answer.{Answer}
 use Rattle.apfloat_c.specs.declared.machine_call.MachineOperation.TheVariants.{OfTwo}
 use Rattle.apfloat_c.specs.Answers.{IsConvertedInto, IsLeftBy, IsValue, one_if, whole}
@@ -135,7 +135,7 @@ left_difference c machine mode x y encoded old answer fit number =
 
 -- a number other than zero, converted from bits to bits, is what the conversion gives
 pub number_in_format : (c d : Constants) (mode : Round) (bits : ℕ) (number : Encoded) (answer : Answer)
-    → IsConvertedNumber c d mode bits number → whole answer.bits ≡ number.bits
+    → IsEncodedConversion c d mode bits number → whole answer.bits ≡ number.bits
     → answer.status ≡ bits_of number.status → answer.number ≡ one_if (not (eqb (bits_of number.status) 0))
     → IsConvertedInto c mode (value_of c bits) (of_format d) answer
 number_in_format c d mode bits number answer is bits_are status_is number_is =

@@ -63,7 +63,7 @@ pub record IsUnsigned (Holds : StatusAnd ℕ → Bool → Type 0) (answer : Answ
   pub number_is : answer.number ≡ one_if is_exact
 
 -- a signed integer in two's complement, its flags, and whether it equals the value
-pub record IsSigned (Holds : StatusAnd ℤ → Bool → Type 0) (answer : Answer) : Type 0 where
+pub record IsSignedAnswer (Holds : StatusAnd ℤ → Bool → Type 0) (answer : Answer) : Type 0 where
   pub given : StatusAnd ℤ
   pub is_exact : Bool
   pub holds : Holds given is_exact
@@ -72,7 +72,7 @@ pub record IsSigned (Holds : StatusAnd ℤ → Bool → Type 0) (answer : Answer
   pub number_is : answer.number ≡ one_if is_exact
 
 -- a number alone
-pub record IsNumber (Holds : ℤ → Type 0) (answer : Answer) : Type 0 where
+pub record IsNumberAlone (Holds : ℤ → Type 0) (answer : Answer) : Type 0 where
   pub holds : Holds answer.number
   pub bits_are : whole answer.bits ≡ 0
   pub status_is : answer.status ≡ 0
@@ -80,7 +80,7 @@ pub record IsNumber (Holds : ℤ → Type 0) (answer : Answer) : Type 0 where
 -- ---- values of a type
 
 -- the bits of a value, its flags, and a number
-pub record IsWritten {A : Type 0} (of_type : Relations A) (given : StatusAnd A) (number : ℤ)
+pub record IsValueWritten {A : Type 0} (of_type : Relations A) (given : StatusAnd A) (number : ℤ)
     (answer : Answer) : Type 0 where
   pub is_encoded : of_type.meaning.writes_bits given.value (whole answer.bits)
   pub status_is : answer.status ≡ bits_of given.status
@@ -91,14 +91,14 @@ pub record IsValue {A : Type 0} (of_type : Relations A) (Holds : StatusAnd A →
     (answer : Answer) : Type 0 where
   pub given : StatusAnd A
   pub holds : Holds given
-  pub is_written : IsWritten of_type given (pos 0) answer
+  pub is_written : IsValueWritten of_type given (pos 0) answer
 
 -- a value without flags
 pub record IsUntold {A : Type 0} (of_type : Relations A) (Holds : A → Type 0) (answer : Answer) : Type 0 where
   pub given : StatusAnd A
   pub holds : Holds given.value
   pub no_flags : bits_of given.status ≡ 0
-  pub is_written : IsWritten of_type given (pos 0) answer
+  pub is_written : IsValueWritten of_type given (pos 0) answer
 
 -- a fraction and its exponent, without flags
 pub record IsFractionOf {A : Type 0} (of_type : Relations A) (Holds : A → ℤ → Type 0)
@@ -107,7 +107,7 @@ pub record IsFractionOf {A : Type 0} (of_type : Relations A) (Holds : A → ℤ 
   pub exponent : ℤ
   pub holds : Holds given.value exponent
   pub no_flags : bits_of given.status ≡ 0
-  pub is_written : IsWritten of_type given exponent answer
+  pub is_written : IsValueWritten of_type given exponent answer
 
 abbrev pub class_of : {A : Type 0} → Relations A → A → ℤ
 class_of of_type x =
@@ -129,7 +129,7 @@ IsTypeAnswer of_type mode (FromSigned number) answer =
 IsTypeAnswer of_type mode (ToUnsigned x width) answer =
     IsUnsigned (of_type.meaning.converts_to_unsigned (of_type.meaning.value_of_bits x) width mode) answer
 IsTypeAnswer of_type mode (ToSigned x width) answer =
-    IsSigned (of_type.meaning.converts_to_signed (of_type.meaning.value_of_bits x) width mode) answer
+    IsSignedAnswer (of_type.meaning.converts_to_signed (of_type.meaning.value_of_bits x) width mode) answer
 IsTypeAnswer of_type mode (RoundToIntegral x) answer =
     IsValue of_type (of_type.meaning.rounds_to_integral (of_type.meaning.value_of_bits x) mode) answer
 IsTypeAnswer of_type mode (Scaling x power) answer =
@@ -137,16 +137,16 @@ IsTypeAnswer of_type mode (Scaling x power) answer =
 IsTypeAnswer of_type mode (Fraction x) answer =
     IsFractionOf of_type (of_type.meaning.has_fraction (of_type.meaning.value_of_bits x) mode) answer
 IsTypeAnswer of_type mode (Exponent x) answer =
-    IsNumber (of_type.meaning.has_exponent (of_type.meaning.value_of_bits x)) answer
+    IsNumberAlone (of_type.meaning.has_exponent (of_type.meaning.value_of_bits x)) answer
 IsTypeAnswer of_type mode (NextUp x) answer =
     IsValue of_type (of_type.meaning.steps_up (of_type.meaning.value_of_bits x)) answer
 IsTypeAnswer of_type mode (NextDown x) answer =
     IsValue of_type (of_type.meaning.steps_down (of_type.meaning.value_of_bits x)) answer
 IsTypeAnswer of_type mode (Comparison x y) answer =
-    IsNumber
+    IsNumberAlone
     (λ n. n ≡ order_code (of_type.order (of_type.meaning.value_of_bits x) (of_type.meaning.value_of_bits y))) answer
 IsTypeAnswer of_type mode (Class x) answer =
-    IsNumber (λ n. n ≡ class_of of_type (of_type.meaning.value_of_bits x)) answer
+    IsNumberAlone (λ n. n ≡ class_of of_type (of_type.meaning.value_of_bits x)) answer
 IsTypeAnswer of_type mode (Conversion x target) answer = ⊥
 IsTypeAnswer of_type mode (Text text) answer =
     IsValue of_type (λ given. of_type.meaning.reads text.now mode (Ok given)) answer
@@ -161,16 +161,16 @@ FractionFits of_type call = ⊤
 -- ---- in a format
 
 -- a value in the target, its flags, and whether information was lost
-pub record IsConvertedTo (c : Constants) (Holds : Datum → ℕ → Bool → Type 0) (answer : Answer) : Type 0 where
+pub record IsAnswerConverted (c : Constants) (Holds : Datum → ℕ → Bool → Type 0) (answer : Answer) : Type 0 where
   pub given : StatusAnd Datum
   pub loses : Bool
   pub holds : Holds given.value (bits_of given.status) loses
-  pub is_written : IsWritten (in_format c) given (one_if loses) answer
+  pub is_written : IsValueWritten (in_format c) given (one_if loses) answer
 
 -- a value of the first format in values of a kind; there is no conversion to pairs
 abbrev pub IsConvertedInto : Constants → Round → Datum → Kind → Answer → Type 0
 IsConvertedInto c mode x (of_format d) answer =
-    IsConvertedTo d (IsConversion (format_with c) (format_with d) mode x) answer
+    IsAnswerConverted d (IsConversion (format_with c) (format_with d) mode x) answer
 IsConvertedInto c mode x of_pairs answer = ⊥
 
 abbrev pub IsConverted : Constants → Round → Datum → Option FlaggedKind → Answer → Type 0

@@ -112,7 +112,7 @@ IsValueConverted (BuiltIn conversion) =
 IsValueConverted (Storage array) = IsConverted array
 
 -- each value is converted in its place, and the bytes after the last are as before
-pub record AreConverted (conversion : KnownConversion) (count : ℕ) (given old new : List ℕ)
+pub record AreValuesConverted (conversion : KnownConversion) (count : ℕ) (given old new : List ℕ)
     (answer : ArrayAnswer) : Type 0 where
   pub counts : Counts
   pub block : IsBlock (IsValueConverted conversion) (conversion_widths conversion).source
@@ -128,7 +128,7 @@ abbrev pub IsConvertedArray : Result KnownConversion ℕ → List ℕ → List �
 IsConvertedArray (Err error) given old new before after code = (code ≡ error) × (new ≡ old) × (after ≡ before)
 IsConvertedArray (Ok conversion) given old new before after code =
     (code ≡ answered)
-    × AreConverted conversion (length given / (conversion_widths conversion).source) given old new after
+    × AreValuesConverted conversion (length given / (conversion_widths conversion).source) given old new after
 
 -- ---- operations
 

@@ -16,7 +16,7 @@ use Rattle.apfloat_c.specs.declared.flagless_call.FlaglessCall.{FlaglessCall}
 use Rattle.apfloat_c.specs.declared.flagless_call.FlaglessCall.TheVariants.{Negation, AbsoluteValue, SignCopy}
 use Rattle.apfloat_c.specs.declared.flagless_call.FlaglessCall.TheVariants.{LesserNumber, GreaterNumber, Minimum}
 use Rattle.apfloat_c.specs.declared.flagless_call.FlaglessCall.TheVariants.{Maximum, QuietNan, SignalingNan, SignTest}
-use Rattle.apfloat_c.specs.Answers.{IsNumber, one_if, whole}
+use Rattle.apfloat_c.specs.Answers.{IsNumberAlone, one_if, whole}
 use Rattle.apfloat_c.specs.KnownCalls.{answered, unknown_format}
 
 -- ---- results
@@ -54,7 +54,7 @@ IsFlaglessAnswer m order (QuietNan negative payload) answer =
     IsFlagless m (signed m.negated negative (m.quiet_nan_of payload)) answer
 IsFlaglessAnswer m order (SignalingNan negative payload) answer =
     IsFlagless m (signed m.negated negative (m.signaling_nan_of payload)) answer
-IsFlaglessAnswer m order (SignTest x) answer = IsNumber (λ n. n ≡ one_if (m.sign_of (m.value_of_bits x))) answer
+IsFlaglessAnswer m order (SignTest x) answer = IsNumberAlone (λ n. n ≡ one_if (m.sign_of (m.value_of_bits x))) answer
 
 abbrev pub IsFlaglessKindAnswer : Kind → FlaglessCall → Answer → Type 0
 IsFlaglessKindAnswer (of_format c) call answer =

@@ -38,7 +38,7 @@ use Rattle.apfloat_c.specs.declared.ieee_call.IeeeCall.TheVariants.{LogB, ScaleB
 use Rattle.apfloat_c.specs.declared.ieee_call.InAnotherCall.{InAnotherCall}
 use Rattle.apfloat_c.specs.declared.ieee_call.InAnotherCall.TheVariants.{SumTo, DifferenceTo, ProductTo}
 use Rattle.apfloat_c.specs.declared.ieee_call.InAnotherCall.TheVariants.{QuotientTo, FusedSumTo, RootTo}
-use Rattle.apfloat_c.specs.Answers.{IsNumber, IsValue, one_if, order_code, whole}
+use Rattle.apfloat_c.specs.Answers.{IsNumberAlone, IsValue, one_if, order_code, whole}
 use Rattle.apfloat_c.specs.KnownCalls.{answered, unknown_format, unknown_mode, no_such_operation}
 
 -- ---- codes
@@ -109,7 +109,7 @@ IsIeeeAnswer c mode (Predicated predicate on_nan x y) answer =
     IsTruth
     (λ given. Gives (IsComparison (format_with c) predicate on_nan (value_of c x) (value_of c y)) given) answer
 IsIeeeAnswer c mode (TotalOrder x y) answer =
-    IsNumber (λ n. n ≡ order_code (Some (total_cmp (format_with c) (value_of c x) (value_of c y)))) answer
+    IsNumberAlone (λ n. n ≡ order_code (Some (total_cmp (format_with c) (value_of c x) (value_of c y)))) answer
 IsIeeeAnswer c mode (ExtremumOf which prefers_number x y) answer =
     IsValue (in_format c) (IsExtremumBy prefers_number c which (value_of c x) (value_of c y)) answer
 IsIeeeAnswer c mode (LogB x) answer =

@@ -12,8 +12,8 @@ ghost use Rattle.apfloat_c.specs.declared.exported_call.ExportedCall.TheVariants
 ghost use Rattle.apfloat_c.specs.declared.exported_call.ExportedCall.TheVariants.{FromUnsigned, FromSigned, ToUnsigned};
 ghost use Rattle.apfloat_c.specs.declared.exported_call.ExportedCall.TheVariants.{ToSigned, RoundToIntegral, Scaling};
 ghost use Rattle.apfloat_c.specs.declared.exported_call.ExportedCall.TheVariants.{Fraction, Conversion, Text};
-ghost use Rattle.apfloat_c.specs.Answers.{FractionFits, IsConvertedInto, IsKindAnswer, IsLeft, IsNumber, IsTypeAnswer};
-ghost use Rattle.apfloat_c.specs.Answers.{IsTypeLeft, IsValue, IsWritten, class_of, one_if, order_code, whole};
+ghost use Rattle.apfloat_c.specs.Answers.{FractionFits, IsConvertedInto, IsKindAnswer, IsLeft, IsNumberAlone, IsTypeAnswer};
+ghost use Rattle.apfloat_c.specs.Answers.{IsTypeLeft, IsValue, IsValueWritten, class_of, one_if, order_code, whole};
 
 use crate::codes::{
     ANSWERED, NO_SUCH_OPERATION, REFUSED_TEXT, UNKNOWN_FORMAT, WRONG_WIDTH, class_code, is_width,
@@ -362,7 +362,7 @@ pub fn fraction<F: ValueType>(answer: &mut Answer, round: Round, x: u128)
 #[inline(never)]
 pub fn exponent<F: Float>(answer: &mut Answer, x: u128)
     requires { F.PRECISION < F.BITS }
-    ensures { IsNumber (F.meaning.has_exponent (F.meaning.value_of_bits x)) answer.new }
+    ensures { IsNumberAlone (F.meaning.has_exponent (F.meaning.value_of_bits x)) answer.new }
 {
     *answer = Answer::number(F::from_bits(x).ilogb());
 }
@@ -391,7 +391,7 @@ pub fn next_down<F: ValueType>(answer: &mut Answer, x: u128)
 #[inline(never)]
 pub fn comparison<F: Float>(answer: &mut Answer, x: u128, y: u128)
     requires { F.PRECISION < F.BITS }
-    ensures { IsNumber
+    ensures { IsNumberAlone
         (λ n. n
         ≡ order_code (F.partial_cmp (F.meaning.value_of_bits x) (F.meaning.value_of_bits y)))
         answer.new }
@@ -405,7 +405,7 @@ pub fn comparison<F: Float>(answer: &mut Answer, x: u128, y: u128)
 pub fn class<F: ValueType>(answer: &mut Answer, x: u128)
     requires { F.PRECISION < F.BITS }
     ensures { let of_type = relations_of F.Float.own F.partial_cmp F.takes_root in
-        IsNumber (λ n. n ≡ class_of of_type (F.meaning.value_of_bits x)) answer.new }
+        IsNumberAlone (λ n. n ≡ class_of of_type (F.meaning.value_of_bits x)) answer.new }
 {
     let x = F::from_bits(x);
     let code = class_code(
@@ -524,7 +524,7 @@ pub fn read<F: ValueType>(answer: &mut Answer, round: Round, bytes: &[u8]) -> u3
 fn written<F: ValueType>(answer: StatusAnd<F>) -> Answer
     requires { F.PRECISION < F.BITS }
     ensures { let of_type = relations_of F.Float.own F.partial_cmp F.takes_root in
-        IsWritten of_type answer (pos 0) result }
+        IsValueWritten of_type answer (pos 0) result }
 {
     shown(answer, 0)
 }
@@ -534,7 +534,7 @@ fn written<F: ValueType>(answer: StatusAnd<F>) -> Answer
 fn shown<F: ValueType>(answer: StatusAnd<F>, number: i32) -> Answer
     requires { F.PRECISION < F.BITS }
     ensures { let of_type = relations_of F.Float.own F.partial_cmp F.takes_root in
-        IsWritten of_type answer number result }
+        IsValueWritten of_type answer number result }
 {
     Answer::of(answer.value.to_bits(), answer.status, number)
 }

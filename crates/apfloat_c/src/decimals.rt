@@ -12,7 +12,7 @@ ghost use Rattle.formats_at_run_time.specs.FormatKinds.{IfFormat};
 ghost use Rattle.formats_at_run_time.specs.Modes.{mode_coded};
 ghost use Rattle.formats_at_run_time.specs.Relations.{in_pairs};
 ghost use Rattle.formats_at_run_time.specs.ValueKinds.{of_format, of_pairs};
-ghost use Rattle.apfloat_c.specs.Answers.{IsWritten, whole};
+ghost use Rattle.apfloat_c.specs.Answers.{IsValueWritten, whole};
 ghost use Rattle.apfloat_c.specs.Decimals.{IsKindText, IsParsed, IsReadInto, IsShortestWritten, IsText};
 ghost use Rattle.apfloat_c.specs.Decimals.{IsValueText, decimal_kind, known_reading, text_format, text_of_shortest};
 
@@ -166,7 +166,7 @@ fn read_pair(answer: &mut Answer, round: Round, text: &[u8]) -> u32
 
 /// A pair with its flags.
 fn pair_in_bits(read: StatusAnd<DoubleDouble>) -> Answer
-    ensures { IsWritten in_pairs read (pos 0) result }
+    ensures { IsValueWritten in_pairs read (pos 0) result }
 {
     Answer::of(read.value.to_bits(), read.status, 0)
 }

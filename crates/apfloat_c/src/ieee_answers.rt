@@ -9,7 +9,7 @@ ghost use Rattle.apfloat_c.specs.declared.ieee_call.IeeeCall.TheVariants.{Predic
 ghost use Rattle.apfloat_c.specs.declared.ieee_call.IeeeCall.TheVariants.{LogB, ScaleB, Integral};
 ghost use Rattle.apfloat_c.specs.declared.ieee_call.InAnotherCall.TheVariants.{SumTo, DifferenceTo, ProductTo};
 ghost use Rattle.apfloat_c.specs.declared.ieee_call.InAnotherCall.TheVariants.{QuotientTo, FusedSumTo, RootTo};
-ghost use Rattle.apfloat_c.specs.Answers.{IsWritten, one_if, whole};
+ghost use Rattle.apfloat_c.specs.Answers.{IsValueWritten, one_if, whole};
 ghost use Rattle.apfloat_c.specs.IeeeCalls.{IsExtremumBy, IsIeeeAnswer, IsInAnotherFormat};
 
 use crate::codes::{one_if, order_code};
@@ -191,7 +191,7 @@ fn told(answer: StatusAnd<bool>) -> Answer
 /// A value with its flags.
 pub fn written<S: Flagged>(answer: StatusAnd<IeeeFloat<S>>) -> Answer
     requires { S.PRECISION < S.BITS }
-    ensures { IsWritten (in_format (constants_of S.Flagged)) answer (pos 0) result }
+    ensures { IsValueWritten (in_format (constants_of S.Flagged)) answer (pos 0) result }
 {
     Answer::of(answer.value.to_bits(), answer.status, 0)
 }

@@ -24,7 +24,7 @@ use Rattle.apfloat_model.specs.whole_numbers.WholeNumbers.{IsFromUnsigned, IsFro
 use Rattle.apfloat_model.specs.whole_numbers.WholeNumbersOut.{IsToUnsigned, IsToSigned, to_unsigned, to_signed}
 use Rattle.apfloat_model.specs.arithmetic.NextUp.{IsNextUp, IsNextDown}
 use Rattle.apfloat_model.specs.arithmetic.Exponents.{IsIlogb, IsLogarithm, IsFraction, IsFrexp, AreInverse, IsExactInverse}
-use Rattle.apfloat_model.specs.texts.Specials.{Meaning, infinity, not_a_number, hexadecimal}
+use Rattle.apfloat_model.specs.texts.Specials.{TextMeaning, infinity, not_a_number, hexadecimal}
 use Rattle.apfloat_model.specs.texts.Faults.{words}
 use Rattle.apfloat_model.specs.texts.Readings.{IsMeant, IsReading, IsRefusal}
 use Rattle.apfloat_model.specs.texts.Parsing.{IsRead}
@@ -116,7 +116,7 @@ to_signed_once format mode width x r s a b h k =
 -- ---- texts
 
 -- the result of a text's meaning is determined
-meant_once : (format : Format) (mode : Round) (meaning : Meaning) → Once (IsMeant format mode meaning)
+meant_once : (format : Format) (mode : Round) (meaning : TextMeaning) → Once (IsMeant format mode meaning)
 meant_once format mode (infinity negative) = answer_once _ _
 meant_once format mode (not_a_number negative signaling payload) = answer_once _ _
 meant_once format mode (hexadecimal negative h places e) = delivered_once format mode negative _ _
@@ -126,7 +126,7 @@ pub reading_once : (format : Format) (mode : Round) (text : List ℕ) → Once (
 reading_once format mode text v w r s h k =
     let e = one_meaning text k.meaning h.meaning k.means h.means in
     meant_once format mode h.meaning v w r s h.is_meant
-    (subst (λ (m : Meaning). IsMeant format mode m w s) e k.is_meant)
+    (subst (λ (m : TextMeaning). IsMeant format mode m w s) e k.is_meant)
 
 -- the words of a refusal are determined: those of the first fault
 pub refusal_once : (text : List ℕ) → Determines (IsRefusal text)

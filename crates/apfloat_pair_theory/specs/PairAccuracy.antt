@@ -20,7 +20,7 @@ use Rattle.apfloat_pair_theory.specs.Pairs.{Pair, positive_zero, pair_number, Is
 -- ---- operands
 
 -- a finite high part with +0 as the low part; for the laws about it, the high part is a double
-pub record IsSingle (x : Pair) : Type 0 where
+pub record HasZeroLow (x : Pair) : Type 0 where
   pub is_finite : is_finite x.high ≡ true
   pub low_is : x.low ≡ positive_zero
 
@@ -65,7 +65,7 @@ total_size x y = magnitude (pair_number x) + magnitude (pair_number y)
 -- for two doubles, the sum is exact
 abbrev pub IsErrorFreeSum : Pair → Pair → Pair → Type 0
 IsErrorFreeSum x y answer =
-    IsSingle x → IsSingle y → AreWithinReach x y → IsExactPair (pair_number x +ℤ pair_number y) 1 answer
+    HasZeroLow x → HasZeroLow y → AreWithinReach x y → IsExactPair (pair_number x +ℤ pair_number y) 1 answer
 
 -- for normalized pairs, the error is small relative to the sum of both magnitudes
 abbrev pub IsAccurateSum : Pair → Pair → Pair → Type 0
@@ -77,7 +77,7 @@ IsAccurateSum x y answer =
 
 abbrev pub IsErrorFreeDifference : Pair → Pair → Pair → Type 0
 IsErrorFreeDifference x y answer =
-    IsSingle x → IsSingle y → AreWithinReach x y → IsExactPair (pair_number x -ℤ pair_number y) 1 answer
+    HasZeroLow x → HasZeroLow y → AreWithinReach x y → IsExactPair (pair_number x -ℤ pair_number y) 1 answer
 
 abbrev pub IsAccurateDifference : Pair → Pair → Pair → Type 0
 IsAccurateDifference x y answer =
@@ -89,7 +89,7 @@ IsAccurateDifference x y answer =
 -- for two doubles, the product is exact if all its digits are within the range of doubles
 abbrev pub IsErrorFreeProduct : Pair → Pair → Pair → Type 0
 IsErrorFreeProduct x y answer =
-    IsSingle x → IsSingle y → HaveExponents x y (neg_ℤ (pos 970)) (pos 1021)
+    HasZeroLow x → HasZeroLow y → HaveExponents x y (neg_ℤ (pos 970)) (pos 1021)
     → IsExactPair (pair_number x *ℤ pair_number y) (2 ^ double.scale) answer
 
 -- for normalized pairs, the error is small relative to the exact product

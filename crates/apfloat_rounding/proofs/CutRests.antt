@@ -132,7 +132,7 @@ rest_below s places half rest p h r =
     omega (arith, t, m, h, r)
 
 -- a significand with more digits than the precision, and its cut to the precision
-pub record IsSplit (precision s digits place rest half up down : ℕ) : Type 0 where
+pub record IsSplitRest (precision s digits place rest half up down : ℕ) : Type 0 where
   pub some : 0 < precision
   pub long : precision < digits
   pub fits : s < 2 ^ digits
@@ -152,7 +152,7 @@ split_full precision s digits p l h =
 
 -- the kept digits represent the amount in quanta, with the loss of the rest
 pub split_stands : (precision s digits place rest half up down amount parts : ℕ)
-    → IsSplit precision s digits place rest half up down → 0 < parts
+    → IsSplitRest precision s digits place rest half up down → 0 < parts
     → StandsFor s ExactlyZero (amount * 2 ^ down) (parts * 2 ^ up)
     → StandsFor (s / 2 ^ (digits - precision)) (loss_at rest half) amount (2 ^ place * parts)
 split_stands precision s digits place rest half up down amount parts i p h =
@@ -167,7 +167,7 @@ split_stands precision s digits place rest half up down amount parts i p h =
     (mul-pos p (pow_pos up)) h)
 
 pub split_encloses : (precision s digits place rest half up down amount parts : ℕ)
-    → IsSplit precision s digits place rest half up down → 0 < parts
+    → IsSplitRest precision s digits place rest half up down → 0 < parts
     → StandsFor s ExactlyZero (amount * 2 ^ down) (parts * 2 ^ up)
     → IsEnclosed precision (2 ^ (precision - 1)) (s / 2 ^ (digits - precision)) place amount parts
 split_encloses precision s digits place rest half up down amount parts i p h =
@@ -344,7 +344,7 @@ within_format format next place s f l =
 
 -- the kept digits of a cut enclose the amount, and represent it with the loss of the rest, in any units
 pub cut_off : (precision s digits place rest half up down amount parts kept some unit : ℕ)
-    → IsSplit precision s digits place rest half up down → kept ≡ s / 2 ^ (digits - precision)
+    → IsSplitRest precision s digits place rest half up down → kept ≡ s / 2 ^ (digits - precision)
     → loss_at some unit ≡ loss_at rest half → 0 < parts
     → StandsFor s ExactlyZero (amount * 2 ^ down) (parts * 2 ^ up)
     → IsEnclosed precision (2 ^ (precision - 1)) kept place amount parts

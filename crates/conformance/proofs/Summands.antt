@@ -19,7 +19,7 @@ use Rattle.apfloat_pair_theory.proofs.numbers.Signed.{magnitude_le, first_most}
 use Rattle.apfloat_pair_theory.proofs.numbers.SignedProducts.{times_one}
 use Rattle.apfloat_pair_theory.proofs.pairs.LawOperands.{magnitude_quanta, normalised_low, double_alone}
 use Rattle.apfloat_pair_theory.proofs.sums.PairSumLaws.{single_normalised}
-use Rattle.conformance.specs.Summands.{reach_of_three, IsSummand}
+use Rattle.conformance.specs.Summands.{reach_of_three, IsPlainSummand}
 
 -- the number of a pair that is a double and +0
 alone_number : (x : Datum) → pair_number (alone x) ≡ number x
@@ -31,14 +31,14 @@ pub alone_of_bits : (x : Datum) (bits : ℕ) → bits < 2 ^ 64
 alone_of_bits x bits h e = rw (mod-eq_of_lt h, div-eq_of_lt h, e) refl
 
 -- a summand with low part +0 is a single double
-single : (reach : ℕ) (x : Datum) → IsSummand reach x → IsSingle (alone x)
+single : (reach : ℕ) (x : Datum) → IsPlainSummand reach x → IsSingle (alone x)
 single reach x s = record { is_finite = s.is_finite; low_is = refl }
 
 -- ---- two doubles
 
 -- a sum of two doubles loses nothing
 pub two_exactly : (x y : Datum) (first second answer : Pair) → first ≡ alone x → second ≡ alone y
-    → IsSummand sum_reach x → IsSummand sum_reach y → IsErrorFreeSum first second answer
+    → IsPlainSummand sum_reach x → IsPlainSummand sum_reach y → IsErrorFreeSum first second answer
     → IsExactPair (number x +ℤ number y) 1 answer
 two_exactly x y p q answer e f s t law =
     let at_both = subst₂ (λ (i : Pair) (j : Pair). IsErrorFreeSum i j answer) e f law in
@@ -57,7 +57,7 @@ four_times : 4 * reach_of_three ≡ sum_reach
 four_times = refl
 
 -- the number of a summand is within its reach
-summand_size : (reach : ℕ) (x : Datum) → IsSummand reach x → magnitude (number x) ≤ reach
+summand_size : (reach : ℕ) (x : Datum) → IsPlainSummand reach x → magnitude (number x) ≤ reach
 summand_size reach x s = subst (λ (i : ℕ). i ≤ reach) (sym (magnitude_quanta x s.is_finite)) s.within
 
 -- the number of an exact sum is the sum of the numbers
@@ -66,7 +66,7 @@ exact_number : (x y : Datum) (sum : Pair) → IsExactPair (number x +ℤ number 
 exact_number x y s e = sym (times_one (pair_number s)) ∙ e.number_is
 
 -- the exact sum of two of three doubles is within reach
-first_reach : (x y : Datum) (sum : Pair) → IsSummand reach_of_three x → IsSummand reach_of_three y
+first_reach : (x y : Datum) (sum : Pair) → IsPlainSummand reach_of_three x → IsPlainSummand reach_of_three y
     → IsExactPair (number x +ℤ number y) 1 sum → quanta_of sum.high ≤ sum_reach
 first_reach x y s k m e =
     let n = exact_number x y s e in
@@ -87,7 +87,7 @@ widened_reach : (t n : ℕ) → n ≤ t → n ≤ 4 * t
 widened_reach t n h = omega arith
 
 -- the third double is within reach too
-third_reach : (z : Datum) → IsSummand reach_of_three z → quanta_of z ≤ sum_reach
+third_reach : (z : Datum) → IsPlainSummand reach_of_three z → quanta_of z ≤ sum_reach
 third_reach z s = subst (λ (i : ℕ). quanta_of z ≤ i) four_times
     (widened_reach reach_of_three (quanta_of z) s.within)
 
@@ -100,7 +100,7 @@ close_by m n p q answer e f close =
 
 -- a sum of three doubles loses little
 pub three_closely : (x y z : Datum) (sum third answer : Pair) → third ≡ alone z → IsMember double z
-    → IsSummand reach_of_three x → IsSummand reach_of_three y → IsSummand reach_of_three z
+    → IsPlainSummand reach_of_three x → IsPlainSummand reach_of_three y → IsPlainSummand reach_of_three z
     → IsExactPair (number x +ℤ number y) 1 sum → IsAccurateSum sum third answer
     → IsClosePair ((number x +ℤ number y) +ℤ number z) 1 103
     (magnitude (number x +ℤ number y) + magnitude (number z)) answer

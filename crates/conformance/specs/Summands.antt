@@ -5,7 +5,7 @@ use Rattle.rustc_apfloat.specs.Classes.{is_finite, quanta_of}
 use Rattle.rustc_apfloat.specs.PairFormats.{double}
 
 -- a number of at most `reach` quanta
-pub record IsSummand (reach : ℕ) (x : Datum) : Type 0 where
+pub record IsPlainSummand (reach : ℕ) (x : Datum) : Type 0 where
   pub is_finite : is_finite x ≡ true
   pub within : quanta_of x ≤ reach
 

@@ -7,7 +7,7 @@ ghost use Rattle.rustc_apfloat.specs.Order.{number};
 ghost use Rattle.rustc_apfloat.specs.PairAccuracy.{sum_reach, IsClosePair, IsExactPair};
 ghost use Rattle.rustc_apfloat.specs.PairFormats.{double};
 ghost use Rattle.rustc_apfloat.specs.Pairs.{alone};
-ghost use Rattle.conformance.specs.Summands.{reach_of_three, IsSummand};
+ghost use Rattle.conformance.specs.Summands.{reach_of_three, IsPlainSummand};
 
 use rustc_apfloat::Float;
 use rustc_apfloat::ieee::Double;
@@ -25,8 +25,8 @@ fn alone(x: Double) -> DoubleDouble
 
 /// The exact sum of two doubles of magnitude at most 2^1022.
 pub fn exact_sum(x: Double, y: Double) -> DoubleDouble
-    requires first { IsSummand sum_reach x }
-    requires second { IsSummand sum_reach y }
+    requires first { IsPlainSummand sum_reach x }
+    requires second { IsPlainSummand sum_reach y }
     ensures { IsExactPair (number x +ℤ number y) 1 result }
 {
     (alone(x) + alone(y)).value
@@ -35,9 +35,9 @@ pub fn exact_sum(x: Double, y: Double) -> DoubleDouble
 /// The sum of three doubles of magnitude at most 2^1020. The error is at most 2^-103 times the sum of the magnitudes of
 /// `x + y` and `z`.
 pub fn sum_of_three(x: Double, y: Double, z: Double) -> DoubleDouble
-    requires first { IsSummand reach_of_three x }
-    requires second { IsSummand reach_of_three y }
-    requires third { IsSummand reach_of_three z }
+    requires first { IsPlainSummand reach_of_three x }
+    requires second { IsPlainSummand reach_of_three y }
+    requires third { IsPlainSummand reach_of_three z }
     ensures { IsClosePair ((number x +ℤ number y) +ℤ number z) 1 103
         (magnitude (number x +ℤ number y) + magnitude (number z)) result }
 {

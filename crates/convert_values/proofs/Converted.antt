@@ -9,7 +9,7 @@ use Rattle.apfloat_arrays.specs.Outcomes.{sum_of}
 use Rattle.apfloat_arrays.proofs.Places.{places_more, places_none}
 use Rattle.apfloat_arrays.specs.scaled_blocks.Quantized.{no_counts}
 use Rattle.convert_values.specs.declared.blocks.BlockConversion.{BlockConversion}
-use Rattle.convert_values.specs.Blocks.{AreConverted, IsConverted, block_widths, total_of}
+use Rattle.convert_values.specs.Blocks.{AreBlocksConverted, IsConverted, block_widths, total_of}
 
 total_push : (before : Counts) (parts : List Counts) (part : Counts)
     → total_of before (parts ++ part ∷ []) ≡ sum_of (total_of before parts) part
@@ -20,7 +20,7 @@ abbrev IsOneOf : BlockConversion → List ℕ → ℕ → List ℕ → Counts �
 IsOneOf q read index bytes part = IsConverted q (value_at (block_widths q).source index read) bytes part
 
 pub converted_none : (q : BlockConversion) (read written : List ℕ)
-    → AreConverted q 0 read written no_counts
+    → AreBlocksConverted q 0 read written no_counts
 converted_none q read written = record {
   parts = [];
   places = places_none (IsOneOf q read) (block_widths q).target written;
@@ -31,8 +31,8 @@ converted_none q read written = record {
 pub converted_more : (q : BlockConversion) (index count : ℕ) (read written new : List ℕ) (counts part : Counts)
     → index < count → length written ≡ count * (block_widths q).target → length new ≡ (block_widths q).target
     → IsConverted q (value_at (block_widths q).source index read) new part
-    → AreConverted q index read written counts
-    → AreConverted q (index + 1) read
+    → AreBlocksConverted q index read written counts
+    → AreBlocksConverted q (index + 1) read
     (put_mid (index * (block_widths q).target)
     (index * (block_widths q).target + (block_widths q).target - index * (block_widths q).target) written new)
     (sum_of counts part)
@@ -47,14 +47,14 @@ converted_more q index count read written new counts part before all size here s
 pub converted_next : (q : BlockConversion) (w : Widths) (index count : ℕ) (read written new : List ℕ)
     (counts part : Counts) → w ≡ block_widths q → index < count → length written ≡ count * w.target
     → length new ≡ w.target → IsConverted q (value_at w.source index read) new part
-    → AreConverted q index read written counts
-    → AreConverted q (index + 1) read
+    → AreBlocksConverted q index read written counts
+    → AreBlocksConverted q (index + 1) read
     (put_mid (index * w.target) (index * w.target + w.target - index * w.target) written new) (sum_of counts part)
 converted_next q w index count read written new counts part e before all size here so_far =
     subst
     (λ (v : Widths). length written ≡ count * v.target → length new ≡ v.target
     → IsConverted q (value_at v.source index read) new part
-    → AreConverted q (index + 1) read
+    → AreBlocksConverted q (index + 1) read
     (put_mid (index * v.target) (index * v.target + v.target - index * v.target) written new) (sum_of counts part))
     (sym e)
     (λ all size here. converted_more q index count read written new counts part before all size here so_far)
@@ -63,9 +63,9 @@ converted_next q w index count read written new counts part e before all size he
 -- all blocks, with the widths by their name
 pub converted_all : (q : BlockConversion) (w : Widths) (read bytes : List ℕ) (counts : Counts)
     → w ≡ block_widths q
-    → AreConverted q (length read / w.source) (take (length read / w.source * w.source) read) bytes counts
-    → AreConverted q (length read / (block_widths q).source)
+    → AreBlocksConverted q (length read / w.source) (take (length read / w.source * w.source) read) bytes counts
+    → AreBlocksConverted q (length read / (block_widths q).source)
     (take (length read / (block_widths q).source * (block_widths q).source) read) bytes counts
 converted_all q w read bytes counts e here =
-    subst (λ (v : Widths). AreConverted q (length read / v.source) (take (length read / v.source * v.source) read)
+    subst (λ (v : Widths). AreBlocksConverted q (length read / v.source) (take (length read / v.source * v.source) read)
     bytes counts) e here

@@ -31,7 +31,7 @@ abbrev pub block_size : BlockForm → ℕ
 block_size form = 1 + packed_size form
 
 -- the bytes of a block: its scale, and its packed codes
-pub record IsInBytes (element : ElementFormat) (scale : ℕ) (codes bytes : List ℕ) : Type 0 where
+pub record IsBlockInBytes (element : ElementFormat) (scale : ℕ) (codes bytes : List ℕ) : Type 0 where
   pub packed : List ℕ
   pub are_packed : ArePacked (width element) codes packed
   pub bytes_are : bytes ≡ scale ∷ packed
@@ -63,13 +63,13 @@ pub record IsQuantizedIn (q : BlockConversion) (values bytes : List ℕ) (counts
   pub scale : ℕ
   pub codes : List ℕ
   pub is_quantized : AreQuantized (quantization_of q) values 1 (scale ∷ []) codes counts
-  pub is_in_bytes : IsInBytes q.form.element scale codes bytes
+  pub is_in_bytes : IsBlockInBytes q.form.element scale codes bytes
 
 -- the values are those of the block in these bytes
 pub record IsDequantizedFrom (q : BlockConversion) (bytes values : List ℕ) (counts : Counts) : Type 0 where
   pub scale : ℕ
   pub codes : List ℕ
-  pub is_in_bytes : IsInBytes q.form.element scale codes bytes
+  pub is_in_bytes : IsBlockInBytes q.form.element scale codes bytes
   pub is_dequantized : AreDequantized (dequantization_of q) (flagged_constants (BuiltIn q.format))
       (width_out (dequantization_of q)) (scale ∷ []) codes values counts
 
@@ -89,7 +89,7 @@ total_of before [] = before
 total_of before (counts ∷ rest) = total_of (sum_of before counts) rest
 
 -- each block is converted, in its place
-pub record AreConverted (q : BlockConversion) (count : ℕ) (read written : List ℕ) (counts : Counts) : Type 0 where
+pub record AreBlocksConverted (q : BlockConversion) (count : ℕ) (read written : List ℕ) (counts : Counts) : Type 0 where
   pub parts : List Counts
   pub places : AreInPlaces (λ index bytes part. IsConverted q (value_at (block_widths q).source index read) bytes part)
       (block_widths q).target count written parts

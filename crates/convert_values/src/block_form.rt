@@ -24,7 +24,7 @@ pub struct BlockForm {
 }
 
 impl BlockForm {
-    ghost use Rattle.convert_values.specs.Blocks.{IsInBytes, packed_size};
+    ghost use Rattle.convert_values.specs.Blocks.{IsBlockInBytes, packed_size};
 
     /// The form of blocks with so many elements, if their codes fill whole bytes.
     pub fn new(element: ElementFormat, length: usize) -> Option<BlockForm>
@@ -60,7 +60,7 @@ impl BlockForm {
         requires codes { length codes.now ≡ self.length }
         requires narrow { All (λ code. code < 2 ^ width self.element) codes.now }
         requires bytes { length bytes.old ≡ 1 + packed_size self }
-        ensures { IsInBytes self.element scale codes.now bytes.new }
+        ensures { IsBlockInBytes self.element scale codes.now bytes.new }
     {
         bytes[0] = scale;
         self.pack(codes, &mut bytes[1..]);
@@ -70,7 +70,7 @@ impl BlockForm {
     pub fn read(self, bytes: &[u8], codes: &mut [u8]) -> u8
         requires bytes { length bytes.now ≡ 1 + packed_size self }
         requires codes { length codes.old ≡ self.length }
-        ensures { IsInBytes self.element result codes.new bytes.now }
+        ensures { IsBlockInBytes self.element result codes.new bytes.now }
     {
         self.unpack(&bytes[1..], codes);
         bytes[0]

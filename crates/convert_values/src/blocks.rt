@@ -31,7 +31,7 @@ pub struct BlockConversion {
 }
 
 impl BlockConversion {
-    ghost use Rattle.convert_values.specs.Blocks.{AreConverted, IsConverted, IsDequantizedFrom, IsQuantizedIn};
+    ghost use Rattle.convert_values.specs.Blocks.{AreBlocksConverted, IsConverted, IsDequantizedFrom, IsQuantizedIn};
     ghost use Rattle.convert_values.specs.Blocks.{block_size, block_widths, values_size};
 
     /// How many bytes the values of a block take.
@@ -74,7 +74,7 @@ impl BlockConversion {
             (result.written ≡ count * (block_widths self).target)
             × (result.left_over + count * (block_widths self).source ≡ length read.now) }
         ensures blocks { let count = length read.now / (block_widths self).source in
-            AreConverted self count (take (count * (block_widths self).source) read.now)
+            AreBlocksConverted self count (take (count * (block_widths self).source) read.now)
             (take result.written result.buffer.items) result.counts }
     {
         let widths = self.widths();
@@ -97,7 +97,7 @@ impl BlockConversion {
         requires widths { widths ≡ block_widths self }
         requires read { length read.now ≡ count * widths.source }
         requires room { count * widths.target ≤ length buffer.old }
-        ensures { AreConverted self count read.now (take (count * widths.target) buffer.new)
+        ensures { AreBlocksConverted self count read.now (take (count * widths.target) buffer.new)
             result }
     {
         let front = &mut buffer[..count * widths.target];
@@ -109,7 +109,7 @@ impl BlockConversion {
         requires widths { widths ≡ block_widths self }
         requires read { length read.now ≡ count * widths.source }
         requires written { length written.old ≡ count * widths.target }
-        ensures { AreConverted self count read.now written.new result }
+        ensures { AreBlocksConverted self count read.now written.new result }
     {
         let mut counts = Counts::NONE;
         for index in 0..count {

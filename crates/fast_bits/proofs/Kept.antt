@@ -12,14 +12,14 @@ use Rattle.apfloat_model.proofs.general.Powers.{pow3, two_pos}
 use Rattle.apfloat_model.proofs.rounding.KeptDigits.{enclosed_from}
 use Rattle.fast_bits.specs.declared.encoded.Encoded.{Encoded}
 use Rattle.fast_bits.specs.declared.numbers.Number.{Number}
-use Rattle.fast_bits.specs.Encoded.{IsConvertedNumber, IsEncodedNumber}
+use Rattle.fast_bits.specs.Encoded.{IsEncodedConversion, IsEncodedNumber}
 use Rattle.fast_bits.specs.Numbers.{IsNumberOf, quanta_of}
 use Rattle.apfloat_rounding.specs.Cuts.{loss_at}
-use Rattle.apfloat_rounding.proofs.CutRests.{IsSplit, split_encloses, split_fits, split_full, split_stands}
+use Rattle.apfloat_rounding.proofs.CutRests.{IsSplitRest, split_encloses, split_fits, split_full, split_stands}
 use Rattle.apfloat_rounding.proofs.OddCuts.{top_fits, top_full}
 
 -- all digits are kept of amount / parts quanta, with the loss of the rest
-pub record IsKept (precision kept rest half place amount parts : ℕ) : Type 0 where
+pub record IsKeptNumber (precision kept rest half place amount parts : ℕ) : Type 0 where
   pub full : 2 ^ (precision - 1) ≤ kept
   pub fits : kept < 2 ^ precision
   pub enclosed : IsEnclosed precision (2 ^ (precision - 1)) kept place amount parts
@@ -38,9 +38,9 @@ shortened_stands m place scale other =
 shortened_by : (precision digits m from scale other place half rest : ℕ) → 0 < precision → precision < digits
     → m < 2 ^ digits → 2 ^ (digits - 1) ≤ m → half ≡ 2 ^ (digits - precision - 1)
     → rest ≡ m % 2 ^ (digits - precision) → place + (precision + other) ≡ digits + from + scale
-    → IsKept precision (m / 2 ^ (digits - precision)) rest half place (m * 2 ^ from * 2 ^ scale) (2 ^ other)
+    → IsKeptNumber precision (m / 2 ^ (digits - precision)) rest half place (m * 2 ^ from * 2 ^ scale) (2 ^ other)
 shortened_by precision digits m from scale other place half rest some long fits full half_is rest_is balance =
-    let split : IsSplit precision m digits place rest half (from + scale) other = record {
+    let split : IsSplitRest precision m digits place rest half (from + scale) other = record {
       some = some;
       long = long;
       fits = fits;
@@ -64,10 +64,10 @@ shortened_by precision digits m from scale other place half rest some long fits 
 pub shortened_kept : (precision digits m from scale other place last half : ℕ) → 0 < precision → precision < digits
     → m < 2 ^ digits → 2 ^ (digits - 1) ≤ m → last ≡ 2 ^ (digits - precision)
     → half ≡ 2 ^ (digits - precision - 1) → place + (precision + other) ≡ digits + from + scale
-    → IsKept precision (m / last) (m % last) half place (m * 2 ^ from * 2 ^ scale) (2 ^ other)
+    → IsKeptNumber precision (m / last) (m % last) half place (m * 2 ^ from * 2 ^ scale) (2 ^ other)
 shortened_kept precision digits m from scale other place last half some long fits full last_is half_is balance =
     subst
-    (λ (n : ℕ). IsKept precision (m / n) (m % n) half place (m * 2 ^ from * 2 ^ scale) (2 ^ other))
+    (λ (n : ℕ). IsKeptNumber precision (m / n) (m % n) half place (m * 2 ^ from * 2 ^ scale) (2 ^ other))
     (sym last_is)
     (shortened_by precision digits m from scale other place half (m % 2 ^ (digits - precision)) some long fits full
     half_is (omega arith) balance)
@@ -96,7 +96,7 @@ lengthened_fits precision digits m power short fits is =
 pub lengthened_kept : (precision digits m from scale other place kept : ℕ) → 0 < precision → digits ≤ precision
     → 2 ^ (precision - 1) ≤ kept → kept < 2 ^ precision → kept ≡ m * 2 ^ (precision - digits)
     → place + (precision + other) ≡ digits + from + scale
-    → IsKept precision kept 0 1 place (m * 2 ^ from * 2 ^ scale) (2 ^ other)
+    → IsKeptNumber precision kept 0 1 place (m * 2 ^ from * 2 ^ scale) (2 ^ other)
 lengthened_kept precision digits m from scale other place kept some short full fits is balance =
     let exact : m * 2 ^ from * 2 ^ scale ≡ m * 2 ^ (precision - digits) * (2 ^ place * 2 ^ other) =
     lengthened_stands m from scale other (precision - digits) place (omega (arith, short, balance)) in
@@ -123,7 +123,7 @@ pub converted_if_some : (c d : Constants) (mode : Round) (bits : ℕ) (x : Numbe
     → IsNumberOf c bits x
     → IfSome answer (IsEncodedNumber d mode x.negative (quanta_of x * 2 ^ (format_with d).scale)
     (2 ^ (format_with c).scale))
-    → IfSome answer (IsConvertedNumber c d mode bits)
+    → IfSome answer (IsEncodedConversion c d mode bits)
 converted_if_some c d mode bits x None is given = given
 converted_if_some c d mode bits x (Some encoded) is given =
     let full = is.is_full.full in

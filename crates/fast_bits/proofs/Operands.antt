@@ -17,14 +17,14 @@ use Rattle.apfloat_model.specs.rounding.RoundingToOdd.{IsRoundedToOdd}
 use Rattle.apfloat_model.proofs.rounding.KeptDigits.{fits_cut, full_cut}
 use Rattle.apfloat_words.specs.Totals.{counted, IsSignedToOdd}
 use Rattle.apfloat_words.proofs.Totals.{no_down}
-use Rattle.apfloat_rounding.proofs.CutRests.{IsSplit, split_encloses, split_fits, split_full, split_stands}
+use Rattle.apfloat_rounding.proofs.CutRests.{IsSplitRest, split_encloses, split_fits, split_full, split_stands}
 use Rattle.apfloat_rounding.proofs.OddCuts.{IsTopSplit, top_cut_encloses, top_cut_fits, top_cut_full, top_cut_stands, top_fits, top_full}
 use Rattle.apfloat_arithmetic.proofs.Additions.{IsRepresentedToOdd, read_odd_sum}
 use Rattle.fast_bits.specs.declared.encoded.Encoded.{Encoded}
 use Rattle.fast_bits.specs.declared.numbers.Number.{Number}
 use Rattle.fast_bits.specs.Encoded.{IsEncodedNumber, IsNumberAnswer}
-use Rattle.fast_bits.specs.Numbers.{IsFull, quanta_of}
-use Rattle.fast_bits.proofs.Kept.{IsKept, word_room}
+use Rattle.fast_bits.specs.Numbers.{IsFullNumber, quanta_of}
+use Rattle.fast_bits.proofs.Kept.{IsKeptNumber, word_room}
 
 -- ---- sums
 
@@ -73,7 +73,7 @@ product_stands m from n to moved scale =
 pub product_kept : (precision m from n to moved scale product place half : ℕ) → 0 < precision
     → product ≡ m * n * 2 ^ moved → product < 2 ^ (2 * precision) → 2 ^ (2 * precision - 1) ≤ product
     → half ≡ 2 ^ (precision - 1) → place + (scale + moved) ≡ from + to + precision
-    → IsKept precision (product / 2 ^ precision) (product % 2 ^ precision) half place
+    → IsKeptNumber precision (product / 2 ^ precision) (product % 2 ^ precision) half place
     (m * 2 ^ from * (n * 2 ^ to)) (2 ^ scale)
 product_kept precision m from n to moved scale product place half some is fits full half_is balance =
     let digits : 2 * precision - precision ≡ precision = omega arith in
@@ -82,7 +82,7 @@ product_kept precision m from n to moved scale product place half some is fits f
     ap (λ (x : ℕ). product % 2 ^ x) (sym digits) in
     let half_there : half ≡ 2 ^ (2 * precision - precision - 1) =
     half_is ∙ ap (λ (x : ℕ). 2 ^ (x - 1)) (sym digits) in
-    let split : IsSplit precision product (2 * precision) place (product % 2 ^ precision) half (from + to)
+    let split : IsSplitRest precision product (2 * precision) place (product % 2 ^ precision) half (from + to)
     (scale + moved) = record {
       some = some;
       long = long;
@@ -95,7 +95,7 @@ product_kept precision m from n to moved scale product place half some is fits f
     let stands = product_stands m from n to moved scale in
     let exact : m * 2 ^ from * (n * 2 ^ to) * 2 ^ (scale + moved) ≡ product * (2 ^ scale * 2 ^ (from + to)) =
     stands ∙ ap (λ (x : ℕ). x * (2 ^ scale * 2 ^ (from + to))) (sym is) in
-    let there : IsKept precision (product / 2 ^ (2 * precision - precision)) (product % 2 ^ precision) half place
+    let there : IsKeptNumber precision (product / 2 ^ (2 * precision - precision)) (product % 2 ^ precision) half place
     (m * 2 ^ from * (n * 2 ^ to)) (2 ^ scale) = record {
       full = split_full precision product (2 * precision) some long full;
       fits = split_fits precision product (2 * precision) long fits;
@@ -107,7 +107,7 @@ product_kept precision m from n to moved scale product place half some is fits f
           (scale + moved) (m * 2 ^ from * (n * 2 ^ to)) (2 ^ scale) split (pow_pos scale) exact;
     } in
     subst
-    (λ (x : ℕ). IsKept precision (product / 2 ^ x) (product % 2 ^ precision) half place
+    (λ (x : ℕ). IsKeptNumber precision (product / 2 ^ x) (product % 2 ^ precision) half place
     (m * 2 ^ from * (n * 2 ^ to)) (2 ^ scale))
     digits there
 
@@ -149,7 +149,7 @@ pub total_kept : (precision m digits top place last half up down amount parts : 
     → digits ≤ 64 → 0 < digits → m < 2 ^ digits → 2 ^ (digits - 1) ≤ m → top ≡ m * 2 ^ (64 - digits)
     → last ≡ 2 ^ (64 - precision) → half ≡ 2 ^ (64 - precision - 1) → digits + up ≡ place + precision + down
     → 0 < parts → IsRoundedToOdd (2 ^ (precision + 1)) m (amount * 2 ^ down) (parts * 2 ^ up)
-    → IsKept precision (top / last) (top % last) half place amount parts
+    → IsKeptNumber precision (top / last) (top % last) half place amount parts
 total_kept precision m digits top place last half up down amount parts some short word any fits full top_is last_is
     half_is place_is parts_some rounded =
     let split : IsTopSplit 64 precision m digits top place (top % 2 ^ (64 - precision)) half up down = record {
@@ -164,7 +164,7 @@ total_kept precision m digits top place last half up down amount parts some shor
       rest_is = refl;
       place_is = place_is;
     } in
-    let there : IsKept precision (top / 2 ^ (64 - precision)) (top % 2 ^ (64 - precision)) half place amount parts =
+    let there : IsKeptNumber precision (top / 2 ^ (64 - precision)) (top % 2 ^ (64 - precision)) half place amount parts =
     record {
       full =
           top_cut_full 64 precision m digits top place (top % 2 ^ (64 - precision)) half up down split;
@@ -177,7 +177,7 @@ total_kept precision m digits top place last half up down amount parts some shor
           top_cut_stands 64 precision m digits top place (top % 2 ^ (64 - precision)) half up down amount parts split
           parts_some rounded;
     } in
-    subst (λ (x : ℕ). IsKept precision (top / x) (top % x) half place amount parts) (sym last_is) there
+    subst (λ (x : ℕ). IsKeptNumber precision (top / x) (top % x) half place amount parts) (sym last_is) there
 
 -- the highest digits of a significand at the top of a word are all those of the precision
 pub total_full : (precision m digits top last : ℕ) → 3 ≤ precision → precision ≤ 59 → digits ≤ 64 → 0 < digits
@@ -211,7 +211,7 @@ answered_if_some c mode negative sign amount parts (Some encoded) same given = r
 }
 
 -- a positive number of quanta
-pub quanta_some : (c : Constants) (x : Number) → IsFull c x → 0 < quanta_of x
+pub quanta_some : (c : Constants) (x : Number) → IsFullNumber c x → 0 < quanta_of x
 quanta_some c x is =
     let full = is.full in
     let whole : 0 < 2 ^ (c.precision - 1) = pow_pos (c.precision - 1) in

@@ -23,7 +23,7 @@ use Rattle.apfloat_arithmetic.proofs.Additions.{IsRepresentedToOdd}
 use Rattle.fast_bits.specs.declared.encoded.Encoded.{Encoded}
 use Rattle.fast_bits.specs.declared.numbers.Number.{Number}
 use Rattle.fast_bits.specs.Encoded.{IsNumberAnswer}
-use Rattle.fast_bits.specs.Numbers.{AreOrdered, IsNumberOf, quanta_of}
+use Rattle.fast_bits.specs.Numbers.{AreOrderedNumbers, IsNumberOf, quanta_of}
 use Rattle.fast_bits.proofs.Operands.{total_read}
 use Rattle.fast_bits.proofs.Reading.{number_is, trailing_low, word_field}
 
@@ -221,7 +221,7 @@ pub numbers_in_order : (c : Constants) (x y left right high low above below uppe
     → high_sign ≡ cond b x_sign (not (beq y_sign changed)) → low_sign ≡ cond b (not (beq y_sign changed)) x_sign
     → upper ≡ 2 ^ (c.precision - 1) + (fields_of (format_with c) (layout_with c) high).trailing
     → lower ≡ 2 ^ (c.precision - 1) + (fields_of (format_with c) (layout_with c) low).trailing
-    → AreOrdered c x y changed (record {
+    → AreOrderedNumbers c x y changed (record {
       high = record { negative = high_sign; place = above - 1; significand = upper };
       low = record { negative = low_sign; place = below - 1; significand = lower };
       unlike = not (beq x_sign (not (beq y_sign changed)));

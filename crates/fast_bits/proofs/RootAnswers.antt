@@ -25,7 +25,7 @@ use Rattle.apfloat_arithmetic.proofs.RootStandings.{stands}
 use Rattle.fast_bits.specs.declared.encoded.Encoded.{Encoded}
 use Rattle.fast_bits.specs.declared.numbers.Number.{Number}
 use Rattle.fast_bits.specs.Encoded.{IsEncodedAnswer, IsEncodedNumber}
-use Rattle.fast_bits.specs.Numbers.{IsFull, quanta_of}
+use Rattle.fast_bits.specs.Numbers.{IsFullNumber, quanta_of}
 use Rattle.fast_bits.proofs.Operands.{quanta_some}
 
 -- ---- digits
@@ -162,7 +162,7 @@ root_encoded c mode m from zeros place whole loss answer some full fits balance 
 -- ---- answers
 
 -- the root of a positive number is the answer
-pub root_if_some : (c : Constants) (mode : Round) (x : Number) (answer : Option Encoded) → IsFull c x
+pub root_if_some : (c : Constants) (mode : Round) (x : Number) (answer : Option Encoded) → IsFullNumber c x
     → x.negative ≡ false
     → IfSome answer (IsEncodedAnswer c
     (IsDeliveredRoot (format_with c) mode (quanta_of x * 2 ^ (format_with c).scale)))

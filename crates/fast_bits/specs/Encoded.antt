@@ -33,7 +33,7 @@ pub record IsEncodedNumber (c : Constants) (mode : Round) (negative : Bool) (amo
   pub is_encoded : IsEncodedBy (format_with c) (layout_with c) answer.bits (finite negative quanta)
 
 -- the bits of the format c encode a nonzero number, whose conversion to the format d is encoded
-pub record IsConvertedNumber (c d : Constants) (mode : Round) (bits : ℕ) (answer : Encoded) : Type 0 where
+pub record IsEncodedConversion (c d : Constants) (mode : Round) (bits : ℕ) (answer : Encoded) : Type 0 where
   pub negative : Bool
   pub quanta : ℕ
   pub read : value_in c bits ≡ finite negative quanta

@@ -17,14 +17,14 @@ abbrev pub quanta_of : Number → ℕ
 quanta_of x = x.significand * 2 ^ x.place
 
 -- a number whose significand has all digits of the format
-pub record IsFull (c : Constants) (x : Number) : Type 0 where
+pub record IsFullNumber (c : Constants) (x : Number) : Type 0 where
   pub full : 2 ^ (c.precision - 1) ≤ x.significand
   pub fits : x.significand < 2 ^ c.precision
   pub near : x.place < 2 ^ 22
 
 -- the bits encode the number
 pub record IsNumberOf (c : Constants) (bits : ℕ) (x : Number) : Type 0 where
-  pub is_full : IsFull c x
+  pub is_full : IsFullNumber c x
   pub read : value_in c bits ≡ finite x.negative (quanta_of x)
 
 -- the number, with the opposite sign if it is asked for
@@ -43,7 +43,7 @@ pub record IsOrdered (o : Ordered) : Type 0 where
 
 -- The bits x and y encode two numbers. They are in order of their magnitudes once the sign of the second is changed, if
 -- that is asked for.
-pub record AreOrdered (c : Constants) (x y : ℕ) (changed : Bool) (o : Ordered) : Type 0 where
+pub record AreOrderedNumbers (c : Constants) (x y : ℕ) (changed : Bool) (o : Ordered) : Type 0 where
   pub left : Number
   pub right : Number
   pub of_left : IsNumberOf c x left

@@ -2,8 +2,8 @@
 
 ghost use Rattle.std.specs.Prelude.{◌≡◌, ◌+◌, ◌-◌, ◌*◌, ◌^◌, ◌<◌, ◌≤◌, pos, ◌+ℤ◌, IfSome};
 ghost use Rattle.apfloat_ieee.specs.FlaggedTypes.{constants_of, format_of};
-ghost use Rattle.fast_bits.specs.Encoded.{IsConvertedNumber, IsEncodedNumber};
-ghost use Rattle.fast_bits.specs.Numbers.{FitsWord, IsFull, quanta_of};
+ghost use Rattle.fast_bits.specs.Encoded.{IsEncodedConversion, IsEncodedNumber};
+ghost use Rattle.fast_bits.specs.Numbers.{FitsWord, IsFullNumber, quanta_of};
 
 use crate::cuts::{encode_cut, inner_place, power_of};
 use crate::encoded::Encoded;
@@ -38,7 +38,7 @@ fn shortened<S: Flagged, T: Flagged>(x: Number, round: Round) -> Option<Encoded>
     requires from { FitsWord (constants_of S.Flagged) }
     requires to { FitsWord (constants_of T.Flagged) }
     requires longer { T.PRECISION < S.PRECISION }
-    requires x { IsFull (constants_of S.Flagged) x }
+    requires x { IsFullNumber (constants_of S.Flagged) x }
     ensures { IfSome result (IsEncodedNumber (constants_of T.Flagged) round x.negative
         (quanta_of x * 2 ^ (format_of T.Flagged).scale) (2 ^ (format_of S.Flagged).scale)) }
 {
@@ -78,7 +78,7 @@ fn lengthened<S: Flagged, T: Flagged>(x: Number, round: Round) -> Option<Encoded
     requires from { FitsWord (constants_of S.Flagged) }
     requires to { FitsWord (constants_of T.Flagged) }
     requires shorter { S.PRECISION ≤ T.PRECISION }
-    requires x { IsFull (constants_of S.Flagged) x }
+    requires x { IsFullNumber (constants_of S.Flagged) x }
     ensures { IfSome result (IsEncodedNumber (constants_of T.Flagged) round x.negative
         (quanta_of x * 2 ^ (format_of T.Flagged).scale) (2 ^ (format_of S.Flagged).scale)) }
 {
@@ -97,7 +97,7 @@ fn convert_number<S: Flagged, T: Flagged>(x: Number, round: Round) -> Option<Enc
     requires written { T.PRECISION < T.BITS }
     requires from { FitsWord (constants_of S.Flagged) }
     requires to { FitsWord (constants_of T.Flagged) }
-    requires x { IsFull (constants_of S.Flagged) x }
+    requires x { IsFullNumber (constants_of S.Flagged) x }
     ensures { IfSome result (IsEncodedNumber (constants_of T.Flagged) round x.negative
         (quanta_of x * 2 ^ (format_of T.Flagged).scale) (2 ^ (format_of S.Flagged).scale)) }
 {
@@ -116,7 +116,7 @@ fn convert_word<S: Flagged, T: Flagged>(bits: u128, round: Round) -> Option<Enco
     requires from { FitsWord (constants_of S.Flagged) }
     requires to { FitsWord (constants_of T.Flagged) }
     ensures { IfSome result
-        (IsConvertedNumber (constants_of S.Flagged) (constants_of T.Flagged) round bits) }
+        (IsEncodedConversion (constants_of S.Flagged) (constants_of T.Flagged) round bits) }
 {
     if let Some(x) = normal_number::<S>(bits) {
         convert_number::<S, T>(x, round)
@@ -133,7 +133,7 @@ pub fn convert_normal<S: Flagged, T: Flagged>(bits: u128, round: Round) -> Optio
     requires read { S.PRECISION < S.BITS }
     requires written { T.PRECISION < T.BITS }
     ensures { IfSome result
-        (IsConvertedNumber (constants_of S.Flagged) (constants_of T.Flagged) round bits) }
+        (IsEncodedConversion (constants_of S.Flagged) (constants_of T.Flagged) round bits) }
 {
     if fits_word::<S>() {
         if fits_word::<T>() {

@@ -5,7 +5,7 @@ ghost use mathlib.Core.Bool.{beq};
 ghost use Rattle.apfloat_model.specs.bits.Layout.{fields_of};
 ghost use Rattle.apfloat_ieee.specs.FlaggedTypes.{constants_of, format_of, layout_of};
 ghost use Rattle.fast_bits.specs.Encoded.{value_in};
-ghost use Rattle.fast_bits.specs.Numbers.{AreOrdered, FitsWord, IsNumberOf};
+ghost use Rattle.fast_bits.specs.Numbers.{AreOrderedNumbers, FitsWord, IsNumberOf};
 
 use apfloat_ieee::Flagged;
 use apfloat_words::low_digits;
@@ -165,7 +165,7 @@ pub(crate) struct Ordered {
 pub(crate) fn ordered_numbers<S: Flagged>(x: u128, y: u128, changed: bool) -> Option<Ordered>
     requires bits { S.PRECISION < S.BITS }
     requires word { FitsWord (constants_of S.Flagged) }
-    ensures { IfSome result (λ o. AreOrdered (constants_of S.Flagged) x y changed o
+    ensures { IfSome result (λ o. AreOrderedNumbers (constants_of S.Flagged) x y changed o
         × (o.unlike ≡ not (beq o.high.negative o.low.negative))) }
 {
     let left = magnitude_of::<S>(x);

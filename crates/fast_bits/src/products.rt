@@ -5,7 +5,7 @@ ghost use Rattle.apfloat_model.specs.arithmetic.Exact.{product_sign};
 ghost use Rattle.apfloat_model.specs.arithmetic.Products.{IsProduct};
 ghost use Rattle.apfloat_ieee.specs.FlaggedTypes.{constants_of, format_of};
 ghost use Rattle.fast_bits.specs.Encoded.{IsEncodedAnswer, IsEncodedNumber, IsNumberAnswer, value_in};
-ghost use Rattle.fast_bits.specs.Numbers.{FitsWord, IsFull, quanta_of};
+ghost use Rattle.fast_bits.specs.Numbers.{FitsWord, IsFullNumber, quanta_of};
 
 use crate::cuts::{encode_cut, inner_place, power_of};
 use crate::encoded::Encoded;
@@ -97,8 +97,8 @@ fn product_place<S: Flagged>(left: u32, right: u32, moved: u32) -> ExpInt
 fn multiply_numbers<S: Flagged>(x: Number, y: Number, round: Round) -> Option<Encoded>
     requires bits { S.PRECISION < S.BITS }
     requires word { FitsWord (constants_of S.Flagged) }
-    requires x { IsFull (constants_of S.Flagged) x }
-    requires y { IsFull (constants_of S.Flagged) y }
+    requires x { IsFullNumber (constants_of S.Flagged) x }
+    requires y { IsFullNumber (constants_of S.Flagged) y }
     ensures { IfSome result (IsEncodedNumber (constants_of S.Flagged) round
         (product_sign x.negative y.negative) (quanta_of x * quanta_of y)
         (2 ^ (format_of S.Flagged).scale)) }

@@ -9,7 +9,7 @@ ghost use Rattle.apfloat_model.specs.rounding.RoundingToOdd.{IsRoundedToOdd};
 ghost use Rattle.apfloat_words.specs.Totals.{IsApartToOdd};
 ghost use Rattle.apfloat_ieee.specs.FlaggedTypes.{constants_of, format_of};
 ghost use Rattle.fast_bits.specs.Encoded.{IsEncodedAnswer, IsNumberAnswer, value_in};
-ghost use Rattle.fast_bits.specs.Numbers.{FitsWord, IsFull, IsOrdered, quanta_of};
+ghost use Rattle.fast_bits.specs.Numbers.{FitsWord, IsFullNumber, IsOrdered, quanta_of};
 
 use crate::encoded::Encoded;
 use crate::numbers::{Ordered, fits_word, ordered_numbers, precision_of, word_of};
@@ -88,8 +88,8 @@ fn total_of(high: u64, low: u64, gap: u32, unlike: bool) -> u64
 fn add_ordered<S: Flagged>(numbers: Ordered, round: Round) -> Option<Encoded>
     requires bits { S.PRECISION < S.BITS }
     requires word { FitsWord (constants_of S.Flagged) }
-    requires high { IsFull (constants_of S.Flagged) numbers.high }
-    requires low { IsFull (constants_of S.Flagged) numbers.low }
+    requires high { IsFullNumber (constants_of S.Flagged) numbers.high }
+    requires low { IsFullNumber (constants_of S.Flagged) numbers.low }
     requires order { IsOrdered numbers }
     requires unlike { numbers.unlike
         ≡ not (beq numbers.high.negative numbers.low.negative) }

@@ -7,7 +7,7 @@ use Rattle.apfloat_model.specs.formats.Datum.{Datum}
 use Rattle.apfloat_model.specs.rounding.Rounding.{IsDelivered}
 use Rattle.apfloat_model.proofs.rounding.Laws.{delivered_exists}
 use Rattle.apfloat_model.proofs.arithmetic.RootSides.{AgreesWithRoot}
-use Rattle.apfloat_arithmetic.specs.other_formats.RootsOf.{IsDeliveredRoot}
+use Rattle.apfloat_arithmetic.specs.other_formats.RootsOf.{IsDeliveredFractionRoot}
 use Rattle.apfloat_arithmetic.proofs.other_formats_lemmas.Once.{delivered_root_once}
 use Rattle.apfloat_arithmetic.proofs.other_formats_lemmas.RootDeliveries.{root_delivered}
 
@@ -57,7 +57,7 @@ root_some square fine amount parts p q a =
 -- as the root is delivered, so is a fraction that agrees with it at quarters
 pub fraction_delivered : (f : Format) (mode : Round) (square parts amount units : ℕ) (value : Datum) (status : ℕ)
     → 0 < f.precision → 0 < parts → AgreesWithRoot square 4 amount units
-    → IsDeliveredRoot f mode square parts value status
+    → IsDeliveredFractionRoot f mode square parts value status
     → IsDelivered f mode false amount (units * parts) value status
 fraction_delivered f mode square parts amount units value status precise some agrees d =
     let r = delivered_exists f mode false amount (units * parts) precise (mul-pos agrees.some some) in

@@ -13,7 +13,7 @@ use Rattle.apfloat_model.specs.rounding.Flags.{Gives, bits_of}
 use Rattle.apfloat_model.specs.rounding.Rounding.{IsDelivered}
 use Rattle.apfloat_model.proofs.general.Choices.{not_zero}
 use Rattle.apfloat_model.proofs.arithmetic.RootSides.{AgreesWithRoot, coarser, agreeing}
-use Rattle.apfloat_arithmetic.specs.other_formats.RootsOf.{IsDeliveredRoot}
+use Rattle.apfloat_arithmetic.specs.other_formats.RootsOf.{IsDeliveredFractionRoot}
 use Rattle.apfloat_arithmetic.proofs.other_formats_lemmas.Cases.{unless_zero}
 use Rattle.apfloat_arithmetic.proofs.other_formats_lemmas.RootDeliveries.{root_delivered}
 use Rattle.round_to_odd.specs.Odd.{IsToOdd, IsAnswerMadeOdd}
@@ -34,7 +34,7 @@ pub root_again : (f g : Format) (mode : Round) (square parts amount units : ℕ)
     → AgreesWithRoot square (4 * 2 ^ g.scale) amount units
     → Gives (IsDelivered f TowardZero false (amount * 2 ^ f.scale) (units * parts)) toward
     → IsAnswerMadeOdd f false toward first → Gives (IsRoundedAgain f g mode first) answer
-    → Gives (IsDeliveredRoot g mode (square * (2 ^ g.scale * 2 ^ g.scale)) parts) answer
+    → Gives (IsDeliveredFractionRoot g mode (square * (2 ^ g.scale * 2 ^ g.scale)) parts) answer
 root_again f g mode square parts amount units toward first answer precise room some apart agrees d made second =
     let fine : ℕ = 2 ^ f.scale in
     let coarse : ℕ = 2 ^ g.scale in
@@ -78,7 +78,7 @@ root_rounded_once h f g mode quanta toward first answer precise room some root m
     coarser square (4 * coarse) fine r.amount r.parts p
     (subst (λ (x : ℕ). AgreesWithRoot square x r.amount r.parts) e r.agrees) in
     let three : 3 ≤ f.precision = precise_too f g precise room in
-    let toward_zero : IsDeliveredRoot f TowardZero (square * (fine * fine)) parts toward.value
+    let toward_zero : IsDeliveredFractionRoot f TowardZero (square * (fine * fine)) parts toward.value
     (bits_of toward.status) =
     MatchBool-at_false _ _ (not_zero quanta some) root in
     let d : IsDelivered f TowardZero false (r.amount * fine) (r.parts * parts) toward.value (bits_of toward.status) =

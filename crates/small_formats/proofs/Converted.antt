@@ -14,12 +14,12 @@ use Rattle.apfloat_model.specs.formats.Nan.{nan_sign, qnan, quiet_significand}
 use Rattle.apfloat_model.specs.rounding.Rounding.{IsDelivered, ok_bits, zero_sign}
 use Rattle.small_formats.specs.Codes.{datum_of, is_negative_code, magnitude_of, point}
 use Rattle.small_formats.specs.Scales.{scale_format, scale_of}
-use Rattle.small_formats.specs.Storage.{Constants, format_with}
+use Rattle.small_formats.specs.Storage.{StorageConstants, format_with}
 use Rattle.small_formats.proofs.CodesCompared.{not_below_number, zero_point}
 
 -- ---- elements
 
-pub zero_converted : (c : Constants) (g : Format) (mode : Round) (code : ℕ) (value : Datum) (status : ℕ)
+pub zero_converted : (c : StorageConstants) (g : Format) (mode : Round) (code : ℕ) (value : Datum) (status : ℕ)
     (loses : Bool) → magnitude_of c code ≡ 0
     → IsKept (finite (zero_sign g.nonfinite (is_negative_code c code)) 0)
     (loses_zero_sign g (is_negative_code c code)) value status loses
@@ -32,7 +32,7 @@ zero_converted c g mode code value status loses z h =
     (IsKept (finite (zero_sign g.nonfinite b) 0) (loses_zero_sign g b) value status loses)
     (IsConvertedNumber (format_with c) g mode b n value status loses)) (sym (eq-eqb n 0 at)) h
 
-pub number_converted : (c : Constants) (g : Format) (mode : Round) (code : ℕ) (value : Datum) (status : ℕ)
+pub number_converted : (c : StorageConstants) (g : Format) (mode : Round) (code : ℕ) (value : Datum) (status : ℕ)
     (loses : Bool) → 0 < c.precision → 0 < magnitude_of c code
     → IsDelivered g mode (is_negative_code c code) (point c.precision (magnitude_of c code) * 2 ^ g.scale)
     (2 ^ (format_with c).scale) value status → loses ≡ not (eqb status ok_bits)

@@ -16,7 +16,7 @@ use Rattle.small_formats.specs.Modes.{IsPickBy, ieee_mode, takes_next}
 use Rattle.small_formats.specs.Picks.{IsPointDelivered}
 use Rattle.small_formats.specs.PicksBy.{IsPointAt, moves}
 use Rattle.small_formats.specs.ProjectionModes.{index_by}
-use Rattle.small_formats.specs.Storage.{Constants, IsLawful}
+use Rattle.small_formats.specs.Storage.{StorageConstants, IsLawfulStorage}
 use Rattle.small_formats.proofs.MovesScaled.{moves_alike}
 
 -- ---- the neighbours of an enclosed magnitude
@@ -154,8 +154,8 @@ index_is p mode negative amount parts low moved from e =
 
 -- ---- what is delivered
 
-pub saturated_by : (c : Constants) (mode : ConversionRound) (negative : Bool)
-    (amount parts index code status : ℕ) (exact : Bool) → IsLawful c
+pub saturated_by : (c : StorageConstants) (mode : ConversionRound) (negative : Bool)
+    (amount parts index code status : ℕ) (exact : Bool) → IsLawfulStorage c
     → IsPointAt c.precision mode negative amount parts index exact
     → IsPointDelivered c (ieee_mode mode) negative amount parts index code status
     → IsSaturatedBy c mode negative amount parts code status

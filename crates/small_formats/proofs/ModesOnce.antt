@@ -12,7 +12,7 @@ use Rattle.small_formats.specs.Conversions.{IsStoredNumber, saturated_value}
 use Rattle.small_formats.specs.ModeConversions.{IsStoredBy}
 use Rattle.small_formats.specs.ModeLaws.{IsIntoByOnce, IsIntoOfModel}
 use Rattle.small_formats.specs.Modes.{IsPickBy, ieee_mode, next_between}
-use Rattle.small_formats.specs.Storage.{Constants, IsLawful, format_with}
+use Rattle.small_formats.specs.Storage.{StorageConstants, IsLawfulStorage, format_with}
 use Rattle.small_formats.proofs.OneAnswer.{AreSame, code_once, given_once}
 use Rattle.small_formats.proofs.RandomCounts.{picks_of_model}
 
@@ -24,8 +24,8 @@ pick_by_once precision mode negative amount parts p q x y =
     x.is ∙ ap (λ (z : ℕ). next_between mode negative z x.above amount parts) low
     ∙ ap (λ (z : ℕ). next_between mode negative y.below z amount parts) high ∙ sym y.is
 
-number_once : (c : Constants) (f : Format) (mode : ConversionRound) (b : Bool) (n code other status flags : ℕ)
-    (loses lost : Bool) → IsLawful c → code < 2 ^ c.bits → other < 2 ^ c.bits
+number_once : (c : StorageConstants) (f : Format) (mode : ConversionRound) (b : Bool) (n code other status flags : ℕ)
+    (loses lost : Bool) → IsLawfulStorage c → code < 2 ^ c.bits → other < 2 ^ c.bits
     → IsStoredBy c f mode b n code status loses → IsStoredBy c f mode b n other flags lost
     → AreSame code status loses other flags lost
 number_once c f mode b n code other status flags loses lost law l k x y =

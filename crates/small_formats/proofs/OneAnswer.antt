@@ -22,7 +22,7 @@ use Rattle.small_formats.specs.Conversions.{IsGiven, IsSaturated, IsStoredNumber
 use Rattle.small_formats.specs.Laws.{IsIntoOnce, IsScaleOnce, IsUnsignedOnce}
 use Rattle.small_formats.specs.Scales.{IsCode, IsPickedScale, IsScaleOf}
 use Rattle.small_formats.specs.Scales.{delivered_code, picked_code, scale_format, scale_status}
-use Rattle.small_formats.specs.Storage.{Constants, IsLawful, format_with}
+use Rattle.small_formats.specs.Storage.{StorageConstants, IsLawfulStorage, format_with}
 use Rattle.small_formats.specs.Unsigned.{signed_format, signed_layout, unsigned_datum}
 use Rattle.small_formats.proofs.Points.{one_number}
 
@@ -51,7 +51,7 @@ code_is half code l =
     (cases_lt code half)
 
 -- no two codes mean one number
-pub code_once : (c : Constants) (code other : ℕ) (x : Datum) → IsLawful c → code < 2 ^ c.bits → other < 2 ^ c.bits
+pub code_once : (c : StorageConstants) (code other : ℕ) (x : Datum) → IsLawfulStorage c → code < 2 ^ c.bits → other < 2 ^ c.bits
     → datum_of c code ≡ x → datum_of c other ≡ x → code ≡ other
 code_once c code other x law l k e f =
     let low = law.precision_low in
@@ -69,8 +69,8 @@ code_once c code other x law l k e f =
 
 -- ---- conversions
 
-pub given_once : (c : Constants) (given : Datum) (bits : ℕ) (lossy : Bool) (code other status flags : ℕ)
-    (loses lost : Bool) → IsLawful c → code < 2 ^ c.bits → other < 2 ^ c.bits
+pub given_once : (c : StorageConstants) (given : Datum) (bits : ℕ) (lossy : Bool) (code other status flags : ℕ)
+    (loses lost : Bool) → IsLawfulStorage c → code < 2 ^ c.bits → other < 2 ^ c.bits
     → IsGiven c given bits lossy code status loses → IsGiven c given bits lossy other flags lost
     → AreSame code status loses other flags lost
 given_once c given bits lossy code other status flags loses lost law l k x y = (
@@ -80,8 +80,8 @@ given_once c given bits lossy code other status flags loses lost law l k x y = (
 )
 
 -- a number that is rounded once
-pub saturated_once : (c : Constants) (mode : Round) (b : Bool) (amount parts code other status flags : ℕ)
-    → IsLawful c → code < 2 ^ c.bits → other < 2 ^ c.bits → IsSaturated c mode b amount parts code status
+pub saturated_once : (c : StorageConstants) (mode : Round) (b : Bool) (amount parts code other status flags : ℕ)
+    → IsLawfulStorage c → code < 2 ^ c.bits → other < 2 ^ c.bits → IsSaturated c mode b amount parts code status
     → IsSaturated c mode b amount parts other flags → (code ≡ other) × (status ≡ flags)
 saturated_once c mode b amount parts code other status flags law l k v w =
     let same : v.pick ≡ w.pick = pick_unique c.precision mode b amount parts v.pick w.pick v.is_pick w.is_pick in (
@@ -90,8 +90,8 @@ saturated_once c mode b amount parts code other status flags law l k v w =
       v.status_is ∙ ap (λ (p : ℕ). delivered_status (format_with c) mode b amount parts p) same ∙ sym w.status_is,
     )
 
-number_once : (c : Constants) (f : Format) (mode : Round) (b : Bool) (n code other status flags : ℕ)
-    (loses lost : Bool) → IsLawful c → code < 2 ^ c.bits → other < 2 ^ c.bits
+number_once : (c : StorageConstants) (f : Format) (mode : Round) (b : Bool) (n code other status flags : ℕ)
+    (loses lost : Bool) → IsLawfulStorage c → code < 2 ^ c.bits → other < 2 ^ c.bits
     → IsStoredNumber c f mode b n code status loses → IsStoredNumber c f mode b n other flags lost
     → AreSame code status loses other flags lost
 number_once c f mode b n code other status flags loses lost law l k x y =

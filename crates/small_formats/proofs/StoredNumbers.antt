@@ -8,7 +8,7 @@ use Rattle.apfloat_model.specs.formats.Datum.{finite}
 use Rattle.apfloat_model.specs.rounding.Standing.{up, down}
 use Rattle.apfloat_model.proofs.arithmetic.SingleScalings.{scaled_stands}
 use Rattle.small_formats.specs.Codes.{datum_of, magnitude_of, point}
-use Rattle.small_formats.specs.Storage.{Constants}
+use Rattle.small_formats.specs.Storage.{StorageConstants}
 
 -- ---- codes
 
@@ -32,7 +32,7 @@ parts_of_code half magnitude code false l e =
       rest = ap (λ (n : ℕ). n % half) same ∙ mod-eq_of_lt l;
     }
 
-pub datum_is : (c : Constants) (magnitude code : ℕ) (negative : Bool) → magnitude < 2 ^ (c.bits - 1)
+pub datum_is : (c : StorageConstants) (magnitude code : ℕ) (negative : Bool) → magnitude < 2 ^ (c.bits - 1)
     → code ≡ cond negative (2 ^ (c.bits - 1)) 0 + magnitude
     → datum_of c code ≡ finite negative (point c.precision magnitude)
 datum_is c magnitude code negative l e =

@@ -17,7 +17,7 @@ use Rattle.apfloat_model.proofs.rounding.Picks.{pick_is}
 use Rattle.small_formats.specs.Codes.{datum_of, index_of, largest_index, point}
 use Rattle.small_formats.specs.Conversions.{IsSaturated}
 use Rattle.small_formats.specs.Picks.{IsPickedAt, IsPointDelivered}
-use Rattle.small_formats.specs.Storage.{Constants, IsLawful, format_with}
+use Rattle.small_formats.specs.Storage.{StorageConstants, IsLawfulStorage, format_with}
 use Rattle.small_formats.proofs.Points.{at_index, at_next, low_point, points_in_order}
 
 -- ---- the pick
@@ -68,7 +68,7 @@ largest_at p half exponents codes some h two e =
     let full : 2 ^ (p - 1) ≤ 2 ^ p - 1 = omega (arith, double, one) in
     ap (λ (n : ℕ). point p n) index ∙ at_index p (2 ^ p - 1) d some (omega (arith, double, one)) (inr full)
 
-pub largest_point : (c : Constants) → IsLawful c → point c.precision (largest_index c) ≡ largest (format_with c)
+pub largest_point : (c : StorageConstants) → IsLawfulStorage c → point c.precision (largest_index c) ≡ largest (format_with c)
 largest_point c law =
     let low = law.precision_low in
     let above = law.exponent in
@@ -110,8 +110,8 @@ tiny_is p index some =
     le-ltb index h l ∙ sym (le-ltb (point p index) h (omega (arith, at, more))))
     (cases_lt index h)
 
-pub past_delivered : (c : Constants) (mode : Round) (negative : Bool) (amount parts index code status : ℕ)
-    → IsLawful c → largest_index c < index → datum_of c code ≡ finite negative (largest (format_with c))
+pub past_delivered : (c : StorageConstants) (mode : Round) (negative : Bool) (amount parts index code status : ℕ)
+    → IsLawfulStorage c → largest_index c < index → datum_of c code ≡ finite negative (largest (format_with c))
     → status ≡ cond (leads_out mode negative) 20 16
     → IsPointDelivered c mode negative amount parts index code status
 past_delivered c mode negative amount parts index code status law l value flags =
@@ -122,8 +122,8 @@ past_delivered c mode negative amount parts index code status law l value flags 
     lt-ltb (largest (format_with c)) (point c.precision index) (omega (arith, at, more)) in
     record { value_is = rw past value; status_is = rw past flags }
 
-pub within_delivered : (c : Constants) (mode : Round) (negative : Bool) (amount parts index code status : ℕ)
-    (exact : Bool) → IsLawful c → exact ≡ eqb (point c.precision index * parts) amount
+pub within_delivered : (c : StorageConstants) (mode : Round) (negative : Bool) (amount parts index code status : ℕ)
+    (exact : Bool) → IsLawfulStorage c → exact ≡ eqb (point c.precision index * parts) amount
     → index ≤ largest_index c → datum_of c code ≡ finite negative (point c.precision index)
     → status ≡ cond exact 0 (cond (ltb index (2 ^ (c.precision - 1))) 24 16)
     → IsPointDelivered c mode negative amount parts index code status
@@ -141,7 +141,7 @@ within_delivered c mode negative amount parts index code status exact law same l
     (tiny_is c.precision index some) in
     record { value_is = rw within value; status_is = rw within told }
 
-pub saturated : (c : Constants) (mode : Round) (negative : Bool) (amount parts index code status : ℕ) (exact : Bool)
+pub saturated : (c : StorageConstants) (mode : Round) (negative : Bool) (amount parts index code status : ℕ) (exact : Bool)
     → IsPickedAt c.precision mode negative amount parts index exact
     → IsPointDelivered c mode negative amount parts index code status
     → IsSaturated c mode negative amount parts code status

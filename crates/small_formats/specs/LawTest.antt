@@ -4,9 +4,9 @@ use Rattle.std.proofs.Common.{subst, sym, T}
 use Rattle.std.proofs.lemmas.Bool.{and_parts, leb-true, ltb-true}
 use lib.Signed.{le_z, le_z_yes}
 use Rattle.apfloat_model.specs.rounding.Bounds.{format_bound}
-use Rattle.small_formats.specs.Storage.{Constants, IsLawful}
+use Rattle.small_formats.specs.Storage.{StorageConstants, IsLawfulStorage}
 
-abbrev pub lawful_test : Constants → Bool
+abbrev pub lawful_test : StorageConstants → Bool
 lawful_test c =
     leb 2 c.precision
     && (ltb c.precision c.bits
@@ -18,7 +18,7 @@ at_most : (a b : ℤ) → le_z a b ≡ true → a ≤ℤ b
 at_most a b e = le_z_yes (subst T (sym e) tt)
 
 -- constants that pass the test are lawful
-pub lawful_from_test : (c : Constants) → lawful_test c ≡ true → IsLawful c
+pub lawful_from_test : (c : StorageConstants) → lawful_test c ≡ true → IsLawfulStorage c
 lawful_from_test c e =
     let a = and_parts _ _ e in
     let b = and_parts _ _ a.1 in

@@ -6,7 +6,7 @@ use Rattle.apfloat_model.specs.formats.Format.{Format}
 use Rattle.small_formats.specs.Codes.{point}
 use Rattle.small_formats.specs.Conversions.{IsInto}
 use Rattle.small_formats.specs.Scales.{IsScale}
-use Rattle.small_formats.specs.Storage.{Constants, IsLawful}
+use Rattle.small_formats.specs.Storage.{StorageConstants, IsLawfulStorage}
 use Rattle.small_formats.specs.Unsigned.{IsUnsigned}
 
 -- the point with the greater number is the greater one
@@ -16,8 +16,8 @@ AreCodesInOrder = (precision i j : ℕ) → 1 ≤ precision → i < j → point 
 -- the code, the flags and the loss of information are determined
 abbrev pub IsIntoOnce : Type 0
 IsIntoOnce =
-    (c : Constants) (f : Format) (mode : Round) (x : Datum) (code other status flags : ℕ) (loses lost : Bool)
-    → IsLawful c → code < 2 ^ c.bits → other < 2 ^ c.bits → IsInto c f mode x code status loses
+    (c : StorageConstants) (f : Format) (mode : Round) (x : Datum) (code other status flags : ℕ) (loses lost : Bool)
+    → IsLawfulStorage c → code < 2 ^ c.bits → other < 2 ^ c.bits → IsInto c f mode x code status loses
     → IsInto c f mode x other flags lost → (code ≡ other) × (status ≡ flags) × (loses ≡ lost)
 
 abbrev pub IsScaleOnce : Type 0

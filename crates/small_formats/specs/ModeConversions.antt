@@ -11,17 +11,17 @@ use Rattle.small_formats.specs.declared.modes.NanResult.TheVariants.{Zero, Large
 use Rattle.small_formats.specs.Codes.{datum_of}
 use Rattle.small_formats.specs.Conversions.{IsGiven, saturated_value}
 use Rattle.small_formats.specs.Modes.{IsPickBy, ieee_mode}
-use Rattle.small_formats.specs.Storage.{Constants, format_with}
+use Rattle.small_formats.specs.Storage.{StorageConstants, format_with}
 
 -- as `IsSaturated`
-pub record IsSaturatedBy (c : Constants) (mode : ConversionRound) (negative : Bool) (amount parts code status : ℕ)
+pub record IsSaturatedBy (c : StorageConstants) (mode : ConversionRound) (negative : Bool) (amount parts code status : ℕ)
     : Type 0 where
   pub pick : ℕ
   pub is_pick : IsPickBy c.precision mode negative amount parts pick
   pub value_is : datum_of c code ≡ saturated_value (format_with c) negative pick
   pub status_is : status ≡ delivered_status (format_with c) (ieee_mode mode) negative amount parts pick
 
-pub record IsStoredBy (c : Constants) (f : Format) (mode : ConversionRound) (negative : Bool) (quanta code status : ℕ)
+pub record IsStoredBy (c : StorageConstants) (f : Format) (mode : ConversionRound) (negative : Bool) (quanta code status : ℕ)
     (loses_info : Bool) : Type 0 where
   pub is_rounded : IsSaturatedBy c mode negative (quanta * 2 ^ (format_with c).scale) (2 ^ f.scale) code status
   pub loses_is : loses_info ≡ not (eqb status ok_bits)
@@ -31,7 +31,7 @@ nan_result Zero f = finite false 0
 nan_result Largest f = finite false (largest f)
 
 -- A value of the format f becomes this code. An infinity becomes the largest number of its sign.
-abbrev pub IsIntoBy : Constants → Format → ConversionRound → NanResult → Datum → ℕ → ℕ → Bool → Type 0
+abbrev pub IsIntoBy : StorageConstants → Format → ConversionRound → NanResult → Datum → ℕ → ℕ → Bool → Type 0
 IsIntoBy c f mode nans (nan b s) code status loses_info =
     IsGiven c (nan_result nans (format_with c)) invalid_bit true code status loses_info
 IsIntoBy c f mode nans (infinite b) code status loses_info =

@@ -14,7 +14,7 @@ use Rattle.small_formats.specs.declared.modes.RandomDigits.{RandomDigits}
 use Rattle.small_formats.specs.Conversions.{IsInto}
 use Rattle.small_formats.specs.ModeConversions.{IsIntoBy}
 use Rattle.small_formats.specs.Modes.{IsPickBy, parts_above}
-use Rattle.small_formats.specs.Storage.{Constants, IsLawful}
+use Rattle.small_formats.specs.Storage.{StorageConstants, IsLawfulStorage}
 
 -- how many of the numbers below `bound` pass the test
 abbrev pub count_below : (ℕ → Bool) → ℕ → ℕ
@@ -54,13 +54,13 @@ ArePicksOfModel =
 -- and so are conversions by them, if a NaN becomes zero
 abbrev pub IsIntoOfModel : Type 0
 IsIntoOfModel =
-    (c : Constants) (f : Format) (mode : Round) (x : Datum) (code status : ℕ) (loses : Bool)
+    (c : StorageConstants) (f : Format) (mode : Round) (x : Datum) (code status : ℕ) (loses : Bool)
     → IsIntoBy c f (Ieee mode) Zero x code status loses → IsInto c f mode x code status loses
 
 -- the code, the flags and the loss of information are determined
 abbrev pub IsIntoByOnce : Type 0
 IsIntoByOnce =
-    (c : Constants) (f : Format) (mode : ConversionRound) (nans : NanResult) (x : Datum)
-    (code other status flags : ℕ) (loses lost : Bool) → IsLawful c → code < 2 ^ c.bits → other < 2 ^ c.bits
+    (c : StorageConstants) (f : Format) (mode : ConversionRound) (nans : NanResult) (x : Datum)
+    (code other status flags : ℕ) (loses lost : Bool) → IsLawfulStorage c → code < 2 ^ c.bits → other < 2 ^ c.bits
     → IsIntoBy c f mode nans x code status loses → IsIntoBy c f mode nans x other flags lost
     → (code ≡ other) × (status ≡ flags) × (loses ≡ lost)

@@ -5,7 +5,7 @@ use Rattle.apfloat_model.specs.rounding.Rounding.{IsPick, delivered_status}
 use Rattle.small_formats.specs.Codes.{datum_of, point}
 use Rattle.small_formats.specs.Conversions.{saturated_value}
 use Rattle.small_formats.specs.Projections.{Projection, projected_datum, projected_status, projected_value}
-use Rattle.small_formats.specs.Storage.{Constants, format_with}
+use Rattle.small_formats.specs.Storage.{StorageConstants, format_with}
 
 -- the point with that number is picked, and is the magnitude itself or not
 pub record IsPickedAt (precision : ℕ) (mode : Round) (negative : Bool) (amount parts index : ℕ) (exact : Bool)
@@ -14,7 +14,7 @@ pub record IsPickedAt (precision : ℕ) (mode : Round) (negative : Bool) (amount
   pub exact_is : exact ≡ eqb (point precision index * parts) amount
 
 -- what is delivered for the point with that number
-pub record IsPointDelivered (c : Constants) (mode : Round) (negative : Bool) (amount parts index code status : ℕ)
+pub record IsPointDelivered (c : StorageConstants) (mode : Round) (negative : Bool) (amount parts index code status : ℕ)
     : Type 0 where
   pub value_is : datum_of c code ≡ saturated_value (format_with c) negative (point c.precision index)
   pub status_is : status ≡ delivered_status (format_with c) mode negative amount parts (point c.precision index)

@@ -6,16 +6,16 @@ use Rattle.apfloat_model.specs.formats.Format.{Format}
 use Rattle.apfloat_model.specs.rounding.Bounds.{format_bound}
 
 -- named as in the types of storage formats
-pub record Constants : Type 0 where
+pub record StorageConstants : Type 0 where
   pub bits : ℕ
   pub precision : ℕ
   pub min_exp : ℤ
 
-abbrev pub constants_with : ℕ → ℕ → ℤ → Constants
+abbrev pub constants_with : ℕ → ℕ → ℤ → StorageConstants
 constants_with bits precision min_exp = record { bits = bits; precision = precision; min_exp = min_exp }
 
 -- The law. The exponent has at least one bit.
-pub record IsLawful (c : Constants) : Type 0 where
+pub record IsLawfulStorage (c : StorageConstants) : Type 0 where
   pub precision_low : 2 ≤ c.precision
   pub exponent : c.precision < c.bits
   pub bits_high : c.bits ≤ 8
@@ -24,7 +24,7 @@ pub record IsLawful (c : Constants) : Type 0 where
 
 -- The numbers of the format as those of a format of the model: the quantum, the digits, and the exponents. What is past
 -- the largest number never occurs, so the kind of infinities and NaNs does not matter; this one has a negative zero.
-abbrev pub format_with : Constants → Format
+abbrev pub format_with : StorageConstants → Format
 format_with c =
     record {
       precision = c.precision;

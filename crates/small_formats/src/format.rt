@@ -1,7 +1,7 @@
 //! The constants that define a storage format.
 
 ghost use Rattle.std.specs.Prelude.{ℕ, ℤ};
-ghost use Rattle.small_formats.specs.Storage.{IsLawful, constants_with};
+ghost use Rattle.small_formats.specs.Storage.{IsLawfulStorage, constants_with};
 
 use apfloat_base::ExpInt;
 
@@ -30,5 +30,5 @@ pub trait StorageFormat: Copy {
 
     // The constants obey the rules above. If they are literals, the proof is `lawful_from_test _ refl`, with
     // `lawful_from_test` of `small_formats.specs.LawTest`.
-    ghost lawful: { IsLawful (constants_with BITS PRECISION MIN_EXP) };
+    ghost lawful: { IsLawfulStorage (constants_with BITS PRECISION MIN_EXP) };
 }

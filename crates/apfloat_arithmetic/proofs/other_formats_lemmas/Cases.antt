@@ -11,7 +11,7 @@ use Rattle.apfloat_arithmetic.specs.other_formats.Extended.{Extended, number, in
 use Rattle.apfloat_model.specs.declared.kinds.Round.{Round}
 use Rattle.apfloat_model.specs.formats.Format.{Format}
 use Rattle.apfloat_arithmetic.specs.other_formats.Operands.{StandsFor, IsAmount}
-use Rattle.apfloat_arithmetic.specs.other_formats.RootsOf.{IsDeliveredRoot, IsRootOfNumber}
+use Rattle.apfloat_arithmetic.specs.other_formats.RootsOf.{IsDeliveredFractionRoot, IsRootOfNumber}
 
 -- what holds of the infinity that an operand is holds of each value that it stands for
 pub of_infinity : (P : Extended → Type 0) (into : Shape) (negative : Bool) (left : Extended)
@@ -42,7 +42,7 @@ all_digits s (inr l) h = l
 -- the root of a positive number
 pub positive_root : (g : Format) (mode : Round) (negative : Bool) (amount places : ℕ) (value : Datum) (status : ℕ)
     → negative ≡ false
-    → IsDeliveredRoot g mode (amount * 2 ^ places * (2 ^ g.scale * 2 ^ g.scale)) (2 ^ places) value status
+    → IsDeliveredFractionRoot g mode (amount * 2 ^ places * (2 ^ g.scale * 2 ^ g.scale)) (2 ^ places) value status
     → IsRootOfNumber g mode negative amount places value status
 positive_root g mode negative amount places value status e h =
     subst (λ (b : Bool). IsRootOfNumber g mode b amount places value status) (sym e) h

@@ -11,7 +11,7 @@ use Rattle.apfloat_model.proofs.general.Choices.{match_case}
 use Rattle.apfloat_model.proofs.rounding.Laws.{delivered_once}
 use Rattle.apfloat_arithmetic.specs.other_formats.Extended.{Extended, number, infinity, not_number, seen, opposite}
 use Rattle.apfloat_arithmetic.specs.other_formats.FormatOf.{IsSumOf, IsProductOf, IsQuotientOf, IsFusedSumOf, IsNumberByInfinity, IsSumWithInfinity}
-use Rattle.apfloat_arithmetic.specs.other_formats.RootsOf.{IsBelowRoot, IsAboveRoot, IsRootPick, root_between, root_status, IsDeliveredRoot, IsRootOfNumber, IsRootOfInfinity, IsRootOf}
+use Rattle.apfloat_arithmetic.specs.other_formats.RootsOf.{IsBelowFractionRoot, IsAboveFractionRoot, IsFractionRootPick, root_between, root_status, IsDeliveredFractionRoot, IsRootOfNumber, IsRootOfInfinity, IsRootOf}
 use Rattle.apfloat_arithmetic.specs.other_formats.Theorems.{HasOneSum, HasOneDifference, HasOneProduct, HasOneQuotient, HasOneFusedSum, HasOneRoot}
 
 sum_once : (g : Format) (mode : Round) (x y : Extended) → Once (IsSumOf g mode x y)
@@ -67,22 +67,22 @@ fused_sum_once g mode (number b m s) (number c n t) z = sum_once g mode (number 
 
 -- ---- roots
 
-below_root_unique : (precision a b square parts : ℕ) → IsBelowRoot precision a square parts
-    → IsBelowRoot precision b square parts → a ≡ b
+below_root_unique : (precision a b square parts : ℕ) → IsBelowFractionRoot precision a square parts
+    → IsBelowFractionRoot precision b square parts → a ≡ b
 below_root_unique precision a b square parts x y =
     let l : a ≤ b = y.greatest a x.on_grid x.not_above in
     let k : b ≤ a = x.greatest b y.on_grid y.not_above in
     omega arith
 
-above_root_unique : (precision a b square parts : ℕ) → IsAboveRoot precision a square parts
-    → IsAboveRoot precision b square parts → a ≡ b
+above_root_unique : (precision a b square parts : ℕ) → IsAboveFractionRoot precision a square parts
+    → IsAboveFractionRoot precision b square parts → a ≡ b
 above_root_unique precision a b square parts x y =
     let l : b ≤ a = y.least a x.on_grid x.not_below in
     let k : a ≤ b = x.least b y.on_grid y.not_below in
     omega arith
 
-root_pick_unique : (precision : ℕ) (mode : Round) (square parts p q : ℕ) → IsRootPick precision mode square parts p
-    → IsRootPick precision mode square parts q → p ≡ q
+root_pick_unique : (precision : ℕ) (mode : Round) (square parts p q : ℕ) → IsFractionRootPick precision mode square parts p
+    → IsFractionRootPick precision mode square parts q → p ≡ q
 root_pick_unique precision mode square parts p q x y =
     x.is ∙
     ap (λ (b : ℕ). root_between mode b x.above square parts)
@@ -91,7 +91,7 @@ root_pick_unique precision mode square parts p q x y =
     (above_root_unique precision x.above y.above square parts x.is_above y.is_above) ∙
     sym y.is
 
-pub delivered_root_once : (g : Format) (mode : Round) (square parts : ℕ) → Once (IsDeliveredRoot g mode square parts)
+pub delivered_root_once : (g : Format) (mode : Round) (square parts : ℕ) → Once (IsDeliveredFractionRoot g mode square parts)
 delivered_root_once g mode square parts v w s t x y =
     let e : x.pick ≡ y.pick = root_pick_unique g.precision mode square parts x.pick y.pick x.is_pick y.is_pick in (
       x.value_is ∙ ap (λ (z : ℕ). delivered_value g mode false z) e ∙ sym y.value_is,

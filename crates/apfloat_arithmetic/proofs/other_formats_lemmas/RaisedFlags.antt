@@ -16,7 +16,7 @@ use Rattle.apfloat_model.proofs.rounding.FlagsTogether.{Together, ok_together, i
 use Rattle.apfloat_arithmetic.specs.other_formats.Extended.{Extended, number, infinity, not_number, seen, opposite}
 use Rattle.apfloat_arithmetic.specs.other_formats.FormatOf.{IsSumOf, IsProductOf, IsQuotientOf, IsFusedSumOf, IsInfinity, IsNumberByInfinity, IsSumWithInfinity}
 use Rattle.apfloat_arithmetic.specs.other_formats.RootsOf.{square_of, is_tiny_root, root_status, IsRootOfNumber, IsRootOfInfinity, IsRootOf}
-use Rattle.apfloat_arithmetic.specs.other_formats.RaisedFlags.{RaiseTogether}
+use Rattle.apfloat_arithmetic.specs.other_formats.RaisedFlags.{FormatOfFlagsGoTogether}
 
 -- ---- statuses
 
@@ -126,7 +126,7 @@ root_together g mode (number b n s) =
 
 -- ---- on data
 
-pub raise_together : (g : Format) → RaiseTogether g
+pub raise_together : (g : Format) → FormatOfFlagsGoTogether g
 raise_together g =
     record {
       sum = λ f h mode x y. sum_together g mode (seen f g x) (seen h g y);

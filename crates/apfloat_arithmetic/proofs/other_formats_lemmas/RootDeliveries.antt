@@ -16,7 +16,7 @@ use Rattle.apfloat_model.proofs.general.Choices.{where_open, by_order}
 use Rattle.apfloat_model.proofs.arithmetic.RootDeliveries.{doubled}
 use Rattle.apfloat_words.specs.RootStanding.{RootStandsFor}
 use Rattle.apfloat_arithmetic.proofs.RootStandings.{stands}
-use Rattle.apfloat_arithmetic.specs.other_formats.RootsOf.{square_of, IsBelowRoot, IsAboveRoot, IsRootPick, root_rounds_below_normal, is_tiny_root, root_status, IsDeliveredRoot}
+use Rattle.apfloat_arithmetic.specs.other_formats.RootsOf.{square_of, IsBelowFractionRoot, IsAboveFractionRoot, IsFractionRootPick, root_rounds_below_normal, is_tiny_root, root_status, IsDeliveredFractionRoot}
 
 -- a fraction that agrees with the root at halves
 module _ (square parts amount units : ℕ) (halves : AgreesWithRoot square 2 amount units) where
@@ -57,7 +57,7 @@ module _ (square parts amount units : ℕ) (halves : AgreesWithRoot square 2 amo
 
   -- the neighbours of the fraction are those of the root
   below_root : (precision point : ℕ) → IsBelow precision point amount (units * parts)
-      → IsBelowRoot precision point square parts
+      → IsBelowFractionRoot precision point square parts
   below_root precision point b = record {
     on_grid = b.on_grid;
     not_above = not_above point b.not_above;
@@ -65,7 +65,7 @@ module _ (square parts amount units : ℕ) (halves : AgreesWithRoot square 2 amo
   }
 
   above_root : (precision point : ℕ) → IsAbove precision point amount (units * parts)
-      → IsAboveRoot precision point square parts
+      → IsAboveFractionRoot precision point square parts
   above_root precision point b = record {
     on_grid = b.on_grid;
     not_below = not_below point b.not_below;
@@ -96,7 +96,7 @@ module _ (square parts amount units : ℕ) (halves : AgreesWithRoot square 2 amo
 
   -- the pick for the fraction is the pick for the root
   root_pick : (precision : ℕ) (mode : Round) (pick : ℕ) → IsPick precision mode false amount (units * parts) pick
-      → IsRootPick precision mode square parts pick
+      → IsFractionRootPick precision mode square parts pick
   root_pick precision mode pick p = record {
     below = p.below;
     above = p.above;
@@ -199,7 +199,7 @@ module _ (square parts amount units : ℕ) (agrees : AgreesWithRoot square 4 amo
   -- what is delivered for the fraction is delivered for the root
   pub root_delivered : (g : Format) (mode : Round) (value : Datum) (status : ℕ)
       → IsDelivered g mode false amount (units * parts) value status
-      → IsDeliveredRoot g mode square parts value status
+      → IsDeliveredFractionRoot g mode square parts value status
   root_delivered g mode value status d = record {
     pick = d.pick;
     is_pick = root_pick square parts amount units halves_of g.precision mode d.pick d.is_pick;
@@ -215,7 +215,7 @@ pub delivered_of_standing : (g : Format) (mode : Round) (square parts radicand o
     → RootStandsFor whole loss radicand
     → ((amount pieces : ℕ) → 0 < pieces → StandsFor whole loss (amount * under) (pieces * over)
     → IsDelivered g mode false amount pieces value status)
-    → IsDeliveredRoot g mode square parts value status
+    → IsDeliveredFractionRoot g mode square parts value status
 delivered_of_standing g mode square parts radicand over under whole loss value status r p q e s delivered =
     let f = agreeing square (4 * under) (omega (arith, q)) in
     let d : 4 * under ≡ 2 * under * 2 = omega arith in

@@ -30,7 +30,7 @@ IsOperand into (Nan x) = IsStored into x.value
 abbrev pub IsAmount : ℕ → ℕ → Term → Type 0
 IsAmount amount places x = IsQuantaAt (neg_ℤ (pos places)) x.significand x.exponent amount
 
-pub record IsNumber (negative : Bool) (amount places : ℕ) (x : Term) : Type 0 where
+pub record IsTermOf (negative : Bool) (amount places : ℕ) (x : Term) : Type 0 where
   pub sign : x.negative ≡ negative
   pub is : IsAmount amount places x
 
@@ -39,7 +39,7 @@ pub record IsNanOperand (into : Shape) (signaling : Bool) (given : Datum) (x : N
   pub given_is : datum_at into x.value ≡ given
 
 abbrev pub StandsFor : Shape → Extended → Operand → Type 0
-StandsFor into (number b m s) (Number x) = IsNumber b m s x
+StandsFor into (number b m s) (Number x) = IsTermOf b m s x
 StandsFor into (number b m s) (Infinity negative) = ⊥
 StandsFor into (number b m s) (Nan x) = ⊥
 StandsFor into (infinity b) (Number x) = ⊥
@@ -52,7 +52,7 @@ StandsFor into (not_number s d) (Nan x) = IsNanOperand into s d x
 -- ---- totals
 
 -- the total is exact * 2 ^ -places, rounded to odd
-pub record IsTotal (exact : ℤ) (places : ℕ) (total : U128Total) : Type 0 where
+pub record IsTotalOf (exact : ℤ) (places : ℕ) (total : U128Total) : Type 0 where
   pub rounded : IsRoundedToOdd (2 ^ 126) total.significand (magnitude exact * 2 ^ down (total.exponent +ℤ pos places))
       (1 * 2 ^ up (total.exponent +ℤ pos places))
   pub is : signed total.negative (magnitude exact) ≡ exact

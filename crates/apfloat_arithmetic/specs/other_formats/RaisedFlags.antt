@@ -11,7 +11,7 @@ abbrev pub RaisesTogether : (Datum → ℕ → Type 0) → Type 0
 RaisesTogether Says = (value : Datum) (status : ℕ) → Says value status → FlagsGoTogether status
 
 -- in the format g
-pub record RaiseTogether (g : Format) : Type 0 where
+pub record FormatOfFlagsGoTogether (g : Format) : Type 0 where
   pub sum : (f h : Format) (mode : Round) (x y : Datum) → RaisesTogether (IsSumTo f h g mode x y)
   pub difference : (f h : Format) (mode : Round) (x y : Datum) → RaisesTogether (IsDifferenceTo f h g mode x y)
   pub product : (f h : Format) (mode : Round) (x y : Datum) → RaisesTogether (IsProductTo f h g mode x y)

@@ -20,13 +20,13 @@ abbrev pub square_of : ℕ → ℕ → ℕ
 square_of point parts = (point * parts) * (point * parts)
 
 -- the greatest grid point that is not above the root
-pub record IsBelowRoot (precision point square parts : ℕ) : Type 0 where
+pub record IsBelowFractionRoot (precision point square parts : ℕ) : Type 0 where
   pub on_grid : IsOnGrid precision point
   pub not_above : square_of point parts ≤ square
   pub greatest : (other : ℕ) → IsOnGrid precision other → square_of other parts ≤ square → other ≤ point
 
 -- the least grid point that is not below the root
-pub record IsAboveRoot (precision point square parts : ℕ) : Type 0 where
+pub record IsAboveFractionRoot (precision point square parts : ℕ) : Type 0 where
   pub on_grid : IsOnGrid precision point
   pub not_below : square ≤ square_of point parts
   pub least : (other : ℕ) → IsOnGrid precision other → square ≤ square_of other parts → point ≤ other
@@ -38,11 +38,11 @@ root_between mode below above square parts =
     then above else below
 
 -- the neighbour of the root that the mode picks
-pub record IsRootPick (precision : ℕ) (mode : Round) (square parts pick : ℕ) : Type 0 where
+pub record IsFractionRootPick (precision : ℕ) (mode : Round) (square parts pick : ℕ) : Type 0 where
   pub below : ℕ
   pub above : ℕ
-  pub is_below : IsBelowRoot precision below square parts
-  pub is_above : IsAboveRoot precision above square parts
+  pub is_below : IsBelowFractionRoot precision below square parts
+  pub is_above : IsAboveFractionRoot precision above square parts
   pub is : pick ≡ root_between mode below above square parts
 
 -- Whether the root, rounded to `precision` digits with an unbounded exponent, is below the smallest normalized number,
@@ -68,9 +68,9 @@ root_status g mode square parts pick =
     else (if is_tiny_root g mode square parts pick then underflow_bit + inexact_bit else inexact_bit))
 
 -- the root of `square`, divided by `parts`, in quanta of g, rounded once
-pub record IsDeliveredRoot (g : Format) (mode : Round) (square parts : ℕ) (value : Datum) (status : ℕ) : Type 0 where
+pub record IsDeliveredFractionRoot (g : Format) (mode : Round) (square parts : ℕ) (value : Datum) (status : ℕ) : Type 0 where
   pub pick : ℕ
-  pub is_pick : IsRootPick g.precision mode square parts pick
+  pub is_pick : IsFractionRootPick g.precision mode square parts pick
   pub value_is : value ≡ delivered_value g mode false pick
   pub status_is : status ≡ root_status g mode square parts pick
 
@@ -78,7 +78,7 @@ pub record IsDeliveredRoot (g : Format) (mode : Round) (square parts : ℕ) (val
 abbrev pub IsRootOfNumber : Format → Round → Bool → ℕ → ℕ → Datum → ℕ → Type 0
 IsRootOfNumber g mode true amount places value status = IsInvalid g value status
 IsRootOfNumber g mode false amount places value status =
-    IsDeliveredRoot g mode (amount * 2 ^ places * (2 ^ g.scale * 2 ^ g.scale)) (2 ^ places) value status
+    IsDeliveredFractionRoot g mode (amount * 2 ^ places * (2 ^ g.scale * 2 ^ g.scale)) (2 ^ places) value status
 
 abbrev pub IsRootOfInfinity : Format → Bool → Datum → ℕ → Type 0
 IsRootOfInfinity g true value status = IsInvalid g value status

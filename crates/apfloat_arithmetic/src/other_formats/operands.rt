@@ -4,7 +4,7 @@ ghost use Rattle.std.specs.Prelude.{◌≡◌, ℕ, ◌-◌, ◌*◌, ◌^◌, �
 ghost use Rattle.apfloat_rounding.specs.Shapes.{format_at};
 ghost use Rattle.apfloat_rounding.specs.Stored.{IsNormal, IsStored, datum_at, quanta_of};
 ghost use Rattle.apfloat_arithmetic.specs.other_formats.Extended.{Extended, seen, signals, opposite};
-ghost use Rattle.apfloat_arithmetic.specs.other_formats.Operands.{IsOperand, IsTerm, IsNumber, StandsFor};
+ghost use Rattle.apfloat_arithmetic.specs.other_formats.Operands.{IsOperand, IsTerm, IsTermOf, StandsFor};
 
 use apfloat_model::Category;
 use apfloat_rounding::exponents::lowered;
@@ -56,7 +56,7 @@ fn full_significand(precision: u32, significand: u128) -> u128
 fn number_term(from: Shape, x: Unpacked) -> Term
     requires { IsNormal from x }
     ensures term { IsTerm result }
-    ensures is { IsNumber x.negative (quanta_of from x) (format_at from).scale result }
+    ensures is { IsTermOf x.negative (quanta_of from x) (format_at from).scale result }
 {
     let term = term_of(from, x);
     Term {
@@ -70,7 +70,7 @@ fn number_term(from: Shape, x: Unpacked) -> Term
 #[inline(always)]
 fn zero_term(negative: bool) -> Term
     ensures term { IsTerm result }
-    ensures is { (places : ℕ) → IsNumber negative 0 places result }
+    ensures is { (places : ℕ) → IsTermOf negative 0 places result }
 {
     Term {
         negative,

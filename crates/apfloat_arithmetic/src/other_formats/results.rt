@@ -5,7 +5,7 @@ ghost use Rattle.apfloat_model.specs.rounding.Bounds.{IsWithin, exponent_bound};
 ghost use Rattle.apfloat_model.specs.arithmetic.Sums.{zero_sum_sign};
 ghost use Rattle.apfloat_rounding.specs.Shapes.{format_at};
 ghost use Rattle.apfloat_rounding.specs.Stored.{IsStored, datum_at, GivesAt};
-ghost use Rattle.apfloat_arithmetic.specs.other_formats.Operands.{IsTotal};
+ghost use Rattle.apfloat_arithmetic.specs.other_formats.Operands.{IsTotalOf};
 ghost use Rattle.apfloat_arithmetic.specs.other_formats.FormatOf.{IsNan, IsInfinity, IsRounded};
 
 use crate::sums;
@@ -27,7 +27,7 @@ pub(crate) fn deliver_total_in(
 ) -> StatusAnd<Unpacked>
     requires { IsWithin exponent_bound total.exponent }
     ensures stored { IsStored into result.value }
-    ensures delivered { (exact : ℤ) (places : ℕ) → IsTotal exact places total
+    ensures delivered { (exact : ℤ) (places : ℕ) → IsTotalOf exact places total
         → GivesAt into (IsRounded (format_at into) round (zero_sum_sign round left right) exact
         places) result }
 {

@@ -1,7 +1,7 @@
 //! Theorems about the definitions that the calls cite, as contracts of functions with empty bodies.
 
 ghost use Rattle.apfloat_model.specs.formats.Format.{Format};
-ghost use Rattle.apfloat_arithmetic.specs.other_formats.RaisedFlags.{RaiseTogether};
+ghost use Rattle.apfloat_arithmetic.specs.other_formats.RaisedFlags.{FormatOfFlagsGoTogether};
 ghost use Rattle.apfloat_arithmetic.specs.other_formats.Theorems.{HasOneSum, HasOneDifference, HasOneProduct, HasOneQuotient};
 ghost use Rattle.apfloat_arithmetic.specs.other_formats.Theorems.{HasOneFusedSum, HasOneRoot};
 
@@ -17,5 +17,5 @@ pub fn operations_have_one_answer()
 
 /// Each operation raises OVERFLOW and UNDERFLOW only together with INEXACT.
 pub fn flags_go_together()
-    ensures { (g : Format) → RaiseTogether g }
+    ensures { (g : Format) → FormatOfFlagsGoTogether g }
 {}

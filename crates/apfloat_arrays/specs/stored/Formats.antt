@@ -7,20 +7,20 @@ use Rattle.rustc_apfloat.specs.Format.{Format}
 use Rattle.small_formats.specs.Codes.{datum_of}
 use Rattle.small_formats.specs.Float8E3M4.{e3m4_datum, e3m4_format}
 use Rattle.small_formats.specs.Scales.{scale_format, scale_of}
-use Rattle.small_formats.specs.Storage.{Constants, constants_with, format_with}
+use Rattle.small_formats.specs.Storage.{StorageConstants, constants_with, format_with}
 use Rattle.small_formats.specs.Unsigned.{signed_format, unsigned_datum}
 use Rattle.apfloat_arrays.specs.declared.stored.formats.StoredFormat.{StoredFormat}
 use Rattle.apfloat_arrays.specs.declared.stored.formats.StoredFormat.TheVariants.{E2M1FN, E2M3FN, E3M2FN, E3M4, E8M0FNU, UE4M3}
 
 -- ---- formats
 
-abbrev pub e2m1fn_constants : Constants
+abbrev pub e2m1fn_constants : StorageConstants
 e2m1fn_constants = constants_with 4 2 (pos 0)
 
-abbrev pub e2m3fn_constants : Constants
+abbrev pub e2m3fn_constants : StorageConstants
 e2m3fn_constants = constants_with 6 4 (pos 0)
 
-abbrev pub e3m2fn_constants : Constants
+abbrev pub e3m2fn_constants : StorageConstants
 e3m2fn_constants = constants_with 6 3 (negsuc 1)
 
 -- how many bits a code has

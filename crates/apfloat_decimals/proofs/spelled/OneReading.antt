@@ -13,7 +13,7 @@ use Rattle.apfloat_model.specs.formats.Format.{Format}
 use Rattle.apfloat_model.specs.rounding.Flags.{bits_of}
 use Rattle.apfloat_model.specs.texts.Digits.{is_empty}
 use Rattle.apfloat_model.specs.texts.Faults.{words, begins_literal}
-use Rattle.apfloat_model.specs.texts.Specials.{Meaning, mark_of, after_mark, is_minus, special_of}
+use Rattle.apfloat_model.specs.texts.Specials.{TextMeaning, mark_of, after_mark, is_minus, special_of}
 use Rattle.apfloat_model.specs.texts.Texts.{Means}
 use Rattle.apfloat_model.proofs.Determined.{gives_once, reading_once}
 use Rattle.apfloat_model.proofs.Once.{Once}
@@ -61,7 +61,7 @@ same_fault false false false true rest body h = h
 same_fault false false false false rest body h = absurd (none-some NoLiteral (sym h))
 
 -- a text with a meaning has no fault as a decimal text
-meaning_no_decimal_fault : (text : List ℕ) (meaning : Meaning) → Means text meaning → decimal_fault_of text ≡ None
+meaning_no_decimal_fault : (text : List ℕ) (meaning : TextMeaning) → Means text meaning → decimal_fault_of text ≡ None
 meaning_no_decimal_fault text meaning means =
     same_fault (is_empty text) (is_empty (after_mark text)) (is_some (special_of text))
     (begins_literal (after_mark text)) _ (body_fault (after_mark text)) (meaning_no_fault text meaning means)

@@ -263,13 +263,13 @@ quiet_is q k l =
     ∙ ap (λ (n : ℕ). bit_or n q) (or_zero_l (2 ^ k)) ∙ joined q k l
 
 -- the significand is its quiet digit, 0 or 1, and the payload
-record IsSplit (s k : ℕ) : Type 0 where
+record IsSplitPayload (s k : ℕ) : Type 0 where
   digit : ℕ
   few : digit < 2
   is : s ≡ digit * 2 ^ k + s % 2 ^ k
   tested : bit_and s (2 ^ k) ≡ digit * 2 ^ k
 
-split : (s k : ℕ) → s < 2 ^ (k + 1) → IsSplit s k
+split : (s k : ℕ) → s < 2 ^ (k + 1) → IsSplitPayload s k
 split s k l =
     let more : 2 ^ (k + 1) ≡ 2 * 2 ^ k = twice_power k in
     let parts : s / 2 ^ k * 2 ^ k + s % 2 ^ k ≡ s = div-add-mod' s (2 ^ k) in

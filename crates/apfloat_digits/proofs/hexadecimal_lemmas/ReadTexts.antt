@@ -22,7 +22,7 @@ use Rattle.apfloat_model.specs.rounding.Rounding.{past_largest}
 use Rattle.apfloat_model.specs.texts.Digits.{every, is_hexadecimal}
 use Rattle.apfloat_model.specs.texts.Parsing.{IsRead}
 use Rattle.apfloat_model.specs.texts.Readings.{IsMeant}
-use Rattle.apfloat_model.specs.texts.Specials.{Meaning, infinity, not_a_number, hexadecimal}
+use Rattle.apfloat_model.specs.texts.Specials.{TextMeaning, infinity, not_a_number, hexadecimal}
 use Rattle.apfloat_model.specs.texts.Texts.{Means, IsHexadecimal}
 use Rattle.apfloat_model.proofs.rounding.Deliveries.{signed_some}
 use Rattle.apfloat_model.proofs.rounding.Laws.{delivered_once, exact_delivered, zero_delivered}
@@ -107,7 +107,7 @@ number_means false first places fraction e one fits low high =
 
 -- the text has a meaning, and that is the datum, exactly
 pub record IsTextOf (f : Format) (mode : Round) (x : Datum) (text : List ℕ) : Type 0 where
-  pub meaning : Meaning
+  pub meaning : TextMeaning
   pub means : Means text meaning
   pub meant : (value : Datum) (status : ℕ) → IsMeant f mode meaning value status → (value ≡ x) × (status ≡ 0)
 
@@ -188,7 +188,7 @@ pub read_of : (f : Format) (mode : Round) (x : Datum) (text : List ℕ) (answer 
 read_of f mode x text (Ok answer) t read =
     let same = one_meaning text read.meaning t.meaning read.means t.means in
     t.meant answer.value (bits_of answer.status)
-    (subst (λ (m : Meaning). IsMeant f mode m answer.value (bits_of answer.status)) same read.is_meant)
+    (subst (λ (m : TextMeaning). IsMeant f mode m answer.value (bits_of answer.status)) same read.is_meant)
 read_of f mode x text (Err error) t read =
     absurd (none-some _ (sym (meaning_no_fault text t.meaning t.means) ∙ read.is_first))
 

@@ -21,14 +21,14 @@ use Rattle.apfloat_model.proofs.rounding.Losses.{stands_from, stands_to}
 use Rattle.apfloat_conversions.proofs.Wholes.{whole_at, exact_at}
 use Rattle.apfloat_decimals.proofs.numbers.DecimalPowers.{stands_moved}
 use Rattle.apfloat_digits.specs.hexadecimal.HexTexts.{last_place, number_text}
-use Rattle.apfloat_digits.specs.hexadecimal.RoundedTexts.{units, unit, IsCarried, IsRoundedNumber, IsRoundedText, IsRoundedHexText}
+use Rattle.apfloat_digits.specs.hexadecimal.RoundedTexts.{units, unit, IsHexCarried, IsHexRoundedNumber, IsRoundedText, IsRoundedHexText}
 use Rattle.apfloat_digits.proofs.hexadecimal_lemmas.Numbers.{sixteens}
 use Rattle.apfloat_digits.proofs.hexadecimal_lemmas.AlignedDigits.{IsWide}
 
 -- ---- the digits that are kept
 
 -- the first digits of a value, and the loss below them
-pub record IsCut (f : Format) (q places s : ℕ) (loss : Loss) (first : ℤ) : Type 0 where
+pub record IsHexCut (f : Format) (q places s : ℕ) (loss : Loss) (first : ℤ) : Type 0 where
   pub low : 16 ^ places ≤ s
   pub high : s < 2 * 16 ^ places
   pub stands : StandsFor s loss (units f q places first) (unit f places first)
@@ -37,7 +37,7 @@ pub cut_of : (f : Format) (q places digits s k : ℕ) (loss : Loss) (first : ℤ
     → IsWide f q digits first
     → ((amount parts : ℕ) → 0 < parts → StandsFor digits ExactlyZero amount parts
     → StandsFor s loss amount (2 ^ k * parts))
-    → IsCut f q places s loss first
+    → IsHexCut f q places s loss first
 cut_of f q places digits s k loss first few is wide step =
     let z = last_place f 31 first in
     let w = last_place f places first in
@@ -82,7 +82,7 @@ cut_of f q places digits s k loss first few is wide step =
 -- ---- the first digit
 
 pub carried_not : (places n one : ℕ) (first : ℤ) → one ≡ 2 ^ (4 * places) → 16 ^ places ≤ n → n < 2 * one
-    → IsCarried places n first (n - one) first
+    → IsHexCarried places n first (n - one) first
 carried_not places n one first is least less =
     let same = sixteens places in record {
       fitting = λ h. (omega (arith, is, same, least), refl);
@@ -90,7 +90,7 @@ carried_not places n one first is least less =
     }
 
 pub carried_up : (places n one : ℕ) (first : ℤ) → one ≡ 2 ^ (4 * places) → 2 * one ≤ n
-    → IsCarried places n first 0 (first +ℤ pos 1)
+    → IsHexCarried places n first 0 (first +ℤ pos 1)
 carried_up places n one first is most =
     let same = sixteens places in
     record { fitting = λ h. absurd (omega (arith, h, is, same, most)); carried = λ h. (refl, refl) }
@@ -104,11 +104,11 @@ one_within places one few is =
 -- ---- rounded
 
 pub rounded_at : (f : Format) (mode : Round) (negative : Bool) (q places s n fraction : ℕ) (loss : Loss)
-    (moves exact : Bool) (first exponent : ℤ) → IsLogarithm f q first → IsCut f q places s loss first
+    (moves exact : Bool) (first exponent : ℤ) → IsLogarithm f q first → IsHexCut f q places s loss first
     → moves ≡ rounds_up mode negative loss (eqb (s % 2) 1) → n ≡ cond moves (s + 1) s
     → (exact ≡ true → loss ≡ ExactlyZero) → (exact ≡ false → loss ≡ ExactlyZero → ⊥)
-    → IsCarried places n first fraction exponent
-    → IsRoundedNumber f mode negative q places fraction exponent exact
+    → IsHexCarried places n first fraction exponent
+    → IsHexRoundedNumber f mode negative q places fraction exponent exact
 rounded_at f mode negative q places s n fraction loss moves exact first exponent log cut moved picked when unless
     carried =
     let some : 0 < unit f places first = pow_pos (up (last_place f places first)) in
@@ -118,7 +118,7 @@ rounded_at f mode negative q places s n fraction loss moves exact first exponent
     record {
       first = first;
       is_first = log;
-      picked = subst (λ (k : ℕ). IsCarried places k first fraction exponent) pick carried;
+      picked = subst (λ (k : ℕ). IsHexCarried places k first fraction exponent) pick carried;
       exact_is = exact_at mode negative s (units f q places first) (unit f places first) loss exact some cut.stands
           when unless;
     }
@@ -139,13 +139,13 @@ record AreSame (fraction other : ℕ) (exponent place : ℤ) (exact lost : Bool)
   exactly : exact ≡ lost
 
 one_rounded : (f : Format) (mode : Round) (negative : Bool) (q places fraction other : ℕ) (exponent place : ℤ)
-    (exact lost : Bool) → IsRoundedNumber f mode negative q places fraction exponent exact
-    → IsRoundedNumber f mode negative q places other place lost
+    (exact lost : Bool) → IsHexRoundedNumber f mode negative q places fraction exponent exact
+    → IsHexRoundedNumber f mode negative q places other place lost
     → AreSame fraction other exponent place exact lost
 one_rounded f mode negative q places fraction other exponent place exact lost x y =
     let same : y.first ≡ x.first = one_first f q y.first x.first y.is_first x.is_first in
     let picked = subst (λ (z : ℤ).
-    IsCarried places (whole_pick mode negative (units f q places z) (unit f places z)) z other place) same y.picked in
+    IsHexCarried places (whole_pick mode negative (units f q places z) (unit f places z)) z other place) same y.picked in
     let told = subst (λ (z : ℤ).
     lost ≡ eqb (whole_pick mode negative (units f q places z) (unit f places z) * unit f places z)
     (units f q places z)) same y.exact_is in

@@ -11,7 +11,7 @@ use Rattle.apfloat_model.specs.formats.Members.{IsMember}
 use Rattle.apfloat_model.specs.order.Classes.{is_finite, is_finite_non_zero}
 use Rattle.apfloat_model.specs.rounding.Grid.{IsOnGrid}
 use Rattle.apfloat_model.specs.rounding.Rounding.{IsPick, IsDelivered, leads_out, past_largest, signed_quanta, zero_sign}
-use Rattle.apfloat_model.specs.texts.Specials.{Meaning, infinity, not_a_number, hexadecimal}
+use Rattle.apfloat_model.specs.texts.Specials.{TextMeaning, infinity, not_a_number, hexadecimal}
 use Rattle.apfloat_model.specs.texts.Readings.{IsMeant}
 use Rattle.apfloat_model.proofs.rounding.Laws.{zero_on_grid}
 use Rattle.apfloat_pair_theory.specs.PairFormats.{wide}
@@ -73,7 +73,7 @@ delivered_member mode b amount parts value status x f =
     (λ e. ltb-false (largest wide) x.pick e)
     (sym (ap is_finite x.value_is) ∙ f))
 
-meant_member : (mode : Round) (meaning : Meaning) (value : Datum) (status : ℕ) → IsMeant wide mode meaning value status
+meant_member : (mode : Round) (meaning : TextMeaning) (value : Datum) (status : ℕ) → IsMeant wide mode meaning value status
     → is_finite value ≡ true → IsMember wide value
 meant_member mode (infinity b) value status x f = absurd (false≢true (sym (ap is_finite x.value_is) ∙ f))
 meant_member mode (not_a_number b s p) value status x f = absurd (false≢true (sym (ap is_finite x.value_is) ∙ f))

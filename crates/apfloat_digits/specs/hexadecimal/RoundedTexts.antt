@@ -18,16 +18,16 @@ abbrev pub unit : Format → ℕ → ℤ → ℕ
 unit f places exponent = 2 ^ up (last_place f places exponent)
 
 -- n units of the last digit; 2 in the first digit becomes 1 with the next exponent
-pub record IsCarried (places n : ℕ) (first : ℤ) (fraction : ℕ) (exponent : ℤ) : Type 0 where
+pub record IsHexCarried (places n : ℕ) (first : ℤ) (fraction : ℕ) (exponent : ℤ) : Type 0 where
   pub fitting : n < 2 * 16 ^ places → (n ≡ 16 ^ places + fraction) × (exponent ≡ first)
   pub carried : 2 * 16 ^ places ≤ n → (fraction ≡ 0) × (exponent ≡ first +ℤ pos 1)
 
 -- at the place of the last digit, if the first one is that of the value, the integer that the mode picks
-pub record IsRoundedNumber (f : Format) (mode : Round) (negative : Bool) (quanta places fraction : ℕ) (exponent : ℤ)
+pub record IsHexRoundedNumber (f : Format) (mode : Round) (negative : Bool) (quanta places fraction : ℕ) (exponent : ℤ)
     (exact : Bool) : Type 0 where
   pub first : ℤ
   pub is_first : IsLogarithm f quanta first
-  pub picked : IsCarried places
+  pub picked : IsHexCarried places
       (whole_pick mode negative (units f quanta places first) (unit f places first)) first fraction exponent
   -- whether that number is the value itself
   pub exact_is : exact ≡ eqb
@@ -38,7 +38,7 @@ pub record IsRoundedText (f : Format) (mode : Round) (negative : Bool) (quanta p
     (exact : Bool) : Type 0 where
   pub fraction : ℕ
   pub exponent : ℤ
-  pub number : IsRoundedNumber f mode negative quanta places fraction exponent exact
+  pub number : IsHexRoundedNumber f mode negative quanta places fraction exponent exact
   pub text_is : text ≡ number_text negative 1 places fraction exponent
 
 -- zeros, infinities and NaNs are exact

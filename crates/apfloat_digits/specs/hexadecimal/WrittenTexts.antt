@@ -19,7 +19,7 @@ IsPut text before after (Err NoRoom) = (length before < length text) × (after �
 IsPut text before after (Err TooManyDigits) = ⊥
 
 -- the shortest text of a value
-pub record IsWritten (f : Format) (x : Datum) (before after : List ℕ) (answer : Result ℕ HexError) : Type 0 where
+pub record IsHexWritten (f : Format) (x : Datum) (before after : List ℕ) (answer : Result ℕ HexError) : Type 0 where
   pub text : List ℕ
   pub is_text : IsHexText f x text
   pub is_put : IsPut text before after answer

@@ -8,7 +8,7 @@ ghost use Rattle.apfloat_model.specs.order.Classes.{quanta_of};
 ghost use Rattle.apfloat_model.specs.rounding.Bounds.{IsWithin};
 ghost use Rattle.apfloat_ieee.specs.Types.{format_of};
 ghost use Rattle.apfloat_model.specs.order.Positive.{IsPositive};
-ghost use Rattle.apfloat_digits.specs.hexadecimal.RoundedTexts.{IsCarried, IsRoundedHexText, IsRoundedText};
+ghost use Rattle.apfloat_digits.specs.hexadecimal.RoundedTexts.{IsHexCarried, IsRoundedHexText, IsRoundedText};
 ghost use Rattle.apfloat_digits.specs.hexadecimal.WrittenTexts.{IsWrittenRounded};
 
 use crate::hexadecimal::significands::{PLACES, digits_of};
@@ -35,7 +35,7 @@ fn carried(places: u32, units: u128, exponent: ExpInt) -> Number
     ensures first { result.first ≡ 1 }
     ensures places { result.places ≡ places }
     ensures within { IsWithin (2 ^ 23) result.exponent }
-    ensures carried { IsCarried places units exponent result.fraction result.exponent }
+    ensures carried { IsHexCarried places units exponent result.fraction result.exponent }
 {
     let one = power_of_two(4 * places);
     if units < 2 * one {

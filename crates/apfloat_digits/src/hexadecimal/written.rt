@@ -7,7 +7,7 @@ ghost use Rattle.apfloat_model.specs.order.Classes.{quanta_of};
 ghost use Rattle.apfloat_ieee.specs.Types.{format_of};
 ghost use Rattle.apfloat_model.specs.order.Positive.{IsPositive};
 ghost use Rattle.apfloat_digits.specs.hexadecimal.HexTexts.{IsHexText, IsShortestText};
-ghost use Rattle.apfloat_digits.specs.hexadecimal.WrittenTexts.{IsPut, IsWritten};
+ghost use Rattle.apfloat_digits.specs.hexadecimal.WrittenTexts.{IsPut, IsHexWritten};
 
 use crate::hexadecimal::significands::{digits_of, shortened};
 use crate::hexadecimal::texts::{Number, infinity_line, nan_line, number_line};
@@ -95,7 +95,7 @@ pub(crate) fn line_of<S: Semantics>(x: IeeeFloat<S>) -> Line
 ///
 /// `NoRoom` if the text is longer than the buffer, which then is unchanged. 45 bytes have room for every text.
 pub fn write_hex<S: Semantics>(x: IeeeFloat<S>, buffer: &mut [u8]) -> Result<usize, HexError>
-    ensures { IsWritten (format_of S.Semantics) x buffer.old buffer.new result }
+    ensures { IsHexWritten (format_of S.Semantics) x buffer.old buffer.new result }
 {
     put(&line_of(x), buffer)
 }

@@ -14,7 +14,7 @@ use Rattle.apfloat_model.specs.arithmetic.NextUp.{IsNextGreater, IsNextLess, IsN
 use Rattle.apfloat_model.specs.arithmetic.Conversions.{has_infinities, loses_zero_sign, IsKept, IsConvertedNumber, IsConversion}
 use Rattle.apfloat_model.specs.whole_numbers.WholeNumbersOut.{Whole, whole_within, IsToUnsigned, IsToSigned}
 use Rattle.apfloat_model.specs.whole_numbers.SignedWholes.{IsNegatedWhole}
-use Rattle.apfloat_model.specs.texts.Specials.{Meaning, infinity, not_a_number, hexadecimal}
+use Rattle.apfloat_model.specs.texts.Specials.{TextMeaning, infinity, not_a_number, hexadecimal}
 use Rattle.apfloat_model.specs.texts.Readings.{IsMeant, IsReading}
 use Rattle.apfloat_model.proofs.general.Choices.{match_case, if_case}
 use Rattle.apfloat_model.specs.rounding.Answer.{IsAnswer}
@@ -27,9 +27,11 @@ use Rattle.apfloat_model.specs.arithmetic.FusedSums.{IsFusedSum}
 use Rattle.apfloat_model.specs.arithmetic.Remainders.{IsRemainder}
 use Rattle.apfloat_model.specs.whole_numbers.WholeNumbers.{from_unsigned, from_signed, IsFromUnsigned, IsFromSigned, IsRoundToIntegral}
 use Rattle.apfloat_model.proofs.Outcomes.{yields_together, sum_sound, difference_sound, product_sound, quotient_sound, root_sound, fused_sum_sound, remainder_sound, from_unsigned_sound, from_signed_sound, integral_sound}
-pub use Rattle.apfloat_model.proofs.rounding.StatusesTogether.{Together, inexact_together, ok_together, invalid_together}
-pub use Rattle.apfloat_model.proofs.rounding.StatusesTogether.{invalid_if_together, only_inexact_together, inexact_unless_together}
-pub use Rattle.apfloat_model.proofs.rounding.StatusesTogether.{union_keeps, union_together, delivered_together, answer_together}
+pub use Rattle.apfloat_model.proofs.rounding.StatusesTogether.{Together, inexact_together, ok_together}
+pub use Rattle.apfloat_model.proofs.rounding.StatusesTogether.{invalid_together, invalid_if_together}
+pub use Rattle.apfloat_model.proofs.rounding.StatusesTogether.{only_inexact_together, inexact_unless_together}
+pub use Rattle.apfloat_model.proofs.rounding.StatusesTogether.{union_keeps, union_together}
+pub use Rattle.apfloat_model.proofs.rounding.StatusesTogether.{delivered_together, answer_together}
 
 -- ---- arithmetic
 
@@ -157,7 +159,7 @@ negated_whole_together is_zero width number flags exact value status is_exact f 
 
 -- ---- texts
 
-meant_together : (format : Format) (mode : Round) (meaning : Meaning) → Together (IsMeant format mode meaning)
+meant_together : (format : Format) (mode : Round) (meaning : TextMeaning) → Together (IsMeant format mode meaning)
 meant_together format mode (infinity negative) = answer_together _ _ ok_together
 meant_together format mode (not_a_number negative signaling payload) = answer_together _ _ ok_together
 meant_together format mode (hexadecimal negative h places e) = delivered_together format mode _ _ _

@@ -14,7 +14,7 @@ use Rattle.apfloat_model.specs.arithmetic.Exact.{magnitude, IsRounded, down}
 use Rattle.apfloat_model.specs.arithmetic.Sums.{zero_sum_sign, sum, difference, IsSum, IsDifference}
 use Rattle.apfloat_model.specs.arithmetic.Conversions.{IsConversion}
 use Rattle.apfloat_model.specs.whole_numbers.WholeNumbers.{from_unsigned, from_signed, IsFromUnsigned, IsFromSigned}
-use Rattle.apfloat_model.specs.texts.Specials.{Meaning, infinity, not_a_number, hexadecimal}
+use Rattle.apfloat_model.specs.texts.Specials.{TextMeaning, infinity, not_a_number, hexadecimal}
 use Rattle.apfloat_model.specs.texts.Readings.{IsMeant, IsReading}
 use Rattle.apfloat_model.specs.arithmetic.Products.{product, IsProduct}
 use Rattle.apfloat_model.specs.arithmetic.Quotients.{quotient, IsQuotient}
@@ -168,7 +168,7 @@ conversion_agrees from into (finite b (suc n)) =
     (λ mode other v w s x y. delivered_agrees into b (suc n * 2 ^ into.scale) (2 ^ from.scale)
     (pow_pos from.scale) mode other v w s x.1.is_delivered y.1.is_delivered)
 
-meant_agrees : (format : Format) (meaning : Meaning) → AgreesWhereOk (λ mode. IsMeant format mode meaning)
+meant_agrees : (format : Format) (meaning : TextMeaning) → AgreesWhereOk (λ mode. IsMeant format mode meaning)
 meant_agrees format (infinity negative) = answer_agrees _ _
 meant_agrees format (not_a_number negative signaling payload) = answer_agrees _ _
 meant_agrees format (hexadecimal negative h places e) =
@@ -178,7 +178,7 @@ pub reading_agrees : (format : Format) (text : List ℕ) → AgreesWhereOk (λ m
 reading_agrees format text mode other v w s h k =
     let e = one_meaning text k.meaning h.meaning k.means h.means in
     meant_agrees format h.meaning mode other v w s h.is_meant
-    (subst (λ (m : Meaning). IsMeant format other m w s) e k.is_meant)
+    (subst (λ (m : TextMeaning). IsMeant format other m w s) e k.is_meant)
 
 -- ---- sums: the sign of an exact zero depends on the mode
 

@@ -24,7 +24,7 @@ use Rattle.apfloat_model.specs.rounding.Negation.{negated}
 use Rattle.apfloat_model.specs.rounding.Rounding.{ok_bits, inexact_bit, past_largest, zero_sign, signed_quanta, IsDelivered}
 use Rattle.apfloat_model.specs.rounding.TwoModes.{AreBounds, IsOk, IsOkOrOfZero}
 use Rattle.apfloat_model.specs.texts.Readings.{read_nan, IsMeant, IsReading}
-use Rattle.apfloat_model.specs.texts.Specials.{Meaning, infinity, not_a_number, hexadecimal}
+use Rattle.apfloat_model.specs.texts.Specials.{TextMeaning, infinity, not_a_number, hexadecimal}
 use Rattle.apfloat_model.specs.whole_numbers.WholeNumbers.{IsFromUnsigned, IsFromSigned}
 use Rattle.apfloat_model.proofs.arithmetic.Signs.{no_sign}
 use Rattle.apfloat_model.proofs.general.Choices.{not_zero, above_zero}
@@ -168,7 +168,7 @@ conversion_encloses from into (finite b (suc n)) =
     (delivered_encloses into b (suc n * 2 ^ into.scale) (2 ^ from.scale) (pow_pos from.scale) low high s t
     d.1.is_delivered g.1.is_delivered k l))
 
-pub meant_encloses : (format : Format) (meaning : Meaning) → Encloses IsOk (λ mode. IsMeant format mode meaning)
+pub meant_encloses : (format : Format) (meaning : TextMeaning) → Encloses IsOk (λ mode. IsMeant format mode meaning)
 meant_encloses format (infinity negative) = ok_encloses (infinity_of format negative)
 meant_encloses format (not_a_number negative signaling payload) =
     ok_encloses (read_nan format negative signaling payload)
@@ -179,7 +179,7 @@ pub reading_encloses : (format : Format) (text : List ℕ) → Encloses IsOk (λ
 reading_encloses format text low high s t d g n m =
     let e = one_meaning text g.meaning d.meaning g.means d.means in
     meant_encloses format d.meaning low high s t d.is_meant
-    (subst (λ (x : Meaning). IsMeant format TowardPositive x high t) e g.is_meant) n m
+    (subst (λ (x : TextMeaning). IsMeant format TowardPositive x high t) e g.is_meant) n m
 
 -- ---- sums: the sign of an exact zero depends on the mode
 

@@ -9,7 +9,7 @@ use Rattle.std.proofs.lemmas.Bool.{and_parts, and_from, or_cases, eqb-true, ltb-
 use Rattle.std.proofs.lemmas.List.Elements.{filter-append}
 use Rattle.std.proofs.lemmas.Option.{none-some}
 use Rattle.apfloat_model.specs.texts.Digits.{every, begins, run, after_run, is_empty, is_decimal, is_hexadecimal, number}
-use Rattle.apfloat_model.specs.texts.Specials.{Meaning, infinity, not_a_number, hexadecimal, mark_of, after_mark, is_minus, is_infinity, is_s, payload_of, with_payload, is_nan_name, named_nan, nan_meaning, special_meaning, special_of}
+use Rattle.apfloat_model.specs.texts.Specials.{TextMeaning, infinity, not_a_number, hexadecimal, mark_of, after_mark, is_minus, is_infinity, is_s, payload_of, with_payload, is_nan_name, named_nan, nan_meaning, special_meaning, special_of}
 use Rattle.apfloat_model.specs.texts.Texts.{IsHexadecimal, Means, marked}
 use Rattle.apfloat_model.specs.texts.Faults.{is_dot, is_p, is_digit_or_dot, significand_of, after_significand, begins_literal, tail_fault, literal_fault, after_prefix_fault, fault_of}
 use Rattle.apfloat_model.proofs.texts.OneMeaning.{digit_is_no_dot, significand_parts}
@@ -18,7 +18,7 @@ use Rattle.apfloat_model.proofs.general.Choices.{left_none}
 
 -- ---- no special text is a hexadecimal one
 
-abbrev NotHexadecimal : Option Meaning → Type 0
+abbrev NotHexadecimal : Option TextMeaning → Type 0
 NotHexadecimal None = ⊤
 NotHexadecimal (Some (infinity b)) = ⊤
 NotHexadecimal (Some (not_a_number b s p)) = ⊤
@@ -50,8 +50,8 @@ special_not mark body =
     (λ e. tt) (λ e. nan_not mark body)
 
 -- a special text has the meaning of an infinity or a NaN
-means_special : (text : List ℕ) (special : Option Meaning) → NotHexadecimal special → special_of text ≡ special
-    → is_some special ≡ true → (meaning : Meaning) × Means text meaning
+means_special : (text : List ℕ) (special : Option TextMeaning) → NotHexadecimal special → special_of text ≡ special
+    → is_some special ≡ true → (meaning : TextMeaning) × Means text meaning
 means_special text None n e s = absurd (false≢true s)
 means_special text (Some (infinity b)) n e s = (infinity b, e)
 means_special text (Some (not_a_number b g p)) n e s = (not_a_number b g p, e)
@@ -251,12 +251,12 @@ begun_of (c ∷ d ∷ rest) h =
     (or_cases (eqb c 48 && (eqb d 120 && true)) (eqb c 48 && (eqb d 88 && true)) h)
 
 -- a text whose body is a hexadecimal number has a meaning
-means_hexadecimal : (text : List ℕ) → IsAnyHexadecimal (after_mark text) → (meaning : Meaning) × Means text meaning
+means_hexadecimal : (text : List ℕ) → IsAnyHexadecimal (after_mark text) → (meaning : TextMeaning) × Means text meaning
 means_hexadecimal text x = (hexadecimal (is_minus (mark_of text)) x.h x.f x.e, (refl, x.is))
 
 -- a text that begins like a literal and has no fault has a meaning
 body_means : (text body : List ℕ) → after_mark text ≡ body → begins_literal body ≡ true
-    → after_prefix_fault (drop 2 body) ≡ None → (meaning : Meaning) × Means text meaning
+    → after_prefix_fault (drop 2 body) ≡ None → (meaning : TextMeaning) × Means text meaning
 body_means text body p b h =
     ⊎_elim
     (λ (q : body ≡ codes "0x" ++ drop 2 body).
@@ -266,7 +266,7 @@ body_means text body p b h =
     (begun_of body b)
 
 -- a nonempty text without a fault has a meaning
-text_means : (text : List ℕ) → is_empty text ≡ false → fault_of text ≡ None → (meaning : Meaning) × Means text meaning
+text_means : (text : List ℕ) → is_empty text ≡ false → fault_of text ≡ None → (meaning : TextMeaning) × Means text meaning
 text_means text n h =
     let body = after_mark text in
     let special = special_of text in
@@ -283,6 +283,6 @@ text_means text n h =
     (cases_Bool (is_some special))
 
 -- each text without a fault has a meaning
-pub no_fault_meaning : (text : List ℕ) → fault_of text ≡ None → (meaning : Meaning) × Means text meaning
+pub no_fault_meaning : (text : List ℕ) → fault_of text ≡ None → (meaning : TextMeaning) × Means text meaning
 no_fault_meaning [] h = absurd (none-some _ (sym h))
 no_fault_meaning (c ∷ text) h = text_means (c ∷ text) refl h

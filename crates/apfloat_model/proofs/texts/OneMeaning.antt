@@ -9,7 +9,7 @@ use Rattle.std.proofs.lemmas.Bool.{ne_eqb, false≢true, or_left}
 use Rattle.std.proofs.lemmas.List.Elements.{filter-append}
 use Rattle.std.proofs.lemmas.Option.{none-some, same_Some}
 use Rattle.apfloat_model.specs.texts.Digits.{every, after_run, is_empty, is_decimal, is_hexadecimal, number}
-use Rattle.apfloat_model.specs.texts.Specials.{Meaning, infinity, not_a_number, hexadecimal, mark_of, after_mark, special_meaning, special_of}
+use Rattle.apfloat_model.specs.texts.Specials.{TextMeaning, infinity, not_a_number, hexadecimal, mark_of, after_mark, special_meaning, special_of}
 use Rattle.apfloat_model.specs.texts.Literals.{digits_number, places_after_dot, exponent_text, exponent_number}
 use Rattle.apfloat_model.specs.texts.Texts.{IsHexadecimal, Means, marked}
 use Rattle.apfloat_model.specs.texts.Faults.{is_dot, is_p, is_digit_or_dot, begins_literal, exponent_fault, after_prefix_fault, fault_of}
@@ -209,18 +209,18 @@ no_special_alone Plus = refl
 no_special_alone Minus = refl
 
 -- a special body has no fault
-special_by : (mark : Mark) (body : List ℕ) (meaning : Meaning) → special_meaning mark body ≡ Some meaning
+special_by : (mark : Mark) (body : List ℕ) (meaning : TextMeaning) → special_meaning mark body ≡ Some meaning
     → fault_by false mark body ≡ None
 special_by mark [] meaning h = absurd (none-some _ (sym (no_special_alone mark) ∙ h))
 special_by mark (c ∷ body) meaning h = rw h refl
 
 -- a special text has no fault
-special_no_fault : (text : List ℕ) (meaning : Meaning) → special_of text ≡ Some meaning → fault_of text ≡ None
+special_no_fault : (text : List ℕ) (meaning : TextMeaning) → special_of text ≡ Some meaning → fault_of text ≡ None
 special_no_fault [] meaning h = absurd (none-some _ h)
 special_no_fault (c ∷ text) meaning h = special_by (mark_of (c ∷ text)) (after_mark (c ∷ text)) meaning h
 
 -- a text that has a meaning has no fault
-pub meaning_no_fault : (text : List ℕ) (meaning : Meaning) → Means text meaning → fault_of text ≡ None
+pub meaning_no_fault : (text : List ℕ) (meaning : TextMeaning) → Means text meaning → fault_of text ≡ None
 meaning_no_fault text (infinity negative) h = special_no_fault text (infinity negative) h
 meaning_no_fault text (not_a_number negative signaling payload) h =
     special_no_fault text (not_a_number negative signaling payload) h
@@ -258,7 +258,7 @@ hexadecimal_no_special text h f e x =
     let b = body_of (after_mark text) h f e x in begun_special text b.rest b.begun
 
 -- no text has two meanings
-pub one_meaning : (text : List ℕ) (first second : Meaning) → Means text first → Means text second → first ≡ second
+pub one_meaning : (text : List ℕ) (first second : TextMeaning) → Means text first → Means text second → first ≡ second
 one_meaning text (hexadecimal b h f e) (hexadecimal b2 h2 f2 e2) x y =
     same_hexadecimal b b2 h f h2 f2 e e2 (x.0 ∙ sym y.0) (drop 2 (after_mark text))
     (literal_of_hexadecimal (after_mark text) h f e x.1)

@@ -5,7 +5,8 @@ use Rattle.apfloat_model.specs.formats.Format.{Format}
 use Rattle.apfloat_model.specs.formats.Datum.{Datum, finite, infinite, nan}
 use Rattle.apfloat_model.specs.rounding.Outcome.{Outcome, rooted, exactly, invalid, of_nan, Yields}
 pub use Rattle.apfloat_model.specs.rounding.DeliveredRoots.{IsBelowRoot, IsAboveRoot, root_between, IsRootPick}
-pub use Rattle.apfloat_model.specs.rounding.DeliveredRoots.{root_rounds_below_normal, is_tiny_root, root_status, IsDeliveredRoot}
+pub use Rattle.apfloat_model.specs.rounding.DeliveredRoots.{root_rounds_below_normal, is_tiny_root}
+pub use Rattle.apfloat_model.specs.rounding.DeliveredRoots.{root_status, IsDeliveredRoot}
 
 -- a zero is its own root, with its sign
 abbrev pub root : Format → Datum → Outcome

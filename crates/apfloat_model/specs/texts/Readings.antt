@@ -9,7 +9,7 @@ use Rattle.apfloat_model.specs.formats.Constants.{infinity_of}
 use Rattle.apfloat_model.specs.rounding.Answer.{IsAnswer}
 use Rattle.apfloat_model.specs.formats.Nan.{quiet_significand, signaling_significand, nan_sign}
 use Rattle.apfloat_model.specs.arithmetic.Exact.{up, down}
-use Rattle.apfloat_model.specs.texts.Specials.{Meaning, infinity, not_a_number, hexadecimal}
+use Rattle.apfloat_model.specs.texts.Specials.{TextMeaning, infinity, not_a_number, hexadecimal}
 use Rattle.apfloat_model.specs.texts.Texts.{Means}
 use Rattle.apfloat_model.specs.texts.Faults.{words, fault_of}
 
@@ -24,7 +24,7 @@ IsScaledDelivery f mode negative n power value status =
     IsDelivered f mode negative (n * 2 ^ up power) (2 ^ down power) value status
 
 -- The result for a meaning. A zero has the sign of its text, whatever its exponent.
-abbrev pub IsMeant : Format → Round → Meaning → Datum → ℕ → Type 0
+abbrev pub IsMeant : Format → Round → TextMeaning → Datum → ℕ → Type 0
 IsMeant f mode (infinity negative) value status = IsAnswer (infinity_of f negative) ok_bits value status
 IsMeant f mode (not_a_number negative signaling payload) value status =
     IsAnswer (read_nan f negative signaling payload) ok_bits value status
@@ -33,7 +33,7 @@ IsMeant f mode (hexadecimal negative h places e) value status =
 
 -- a text is read as the result for its meaning
 pub record IsReading (f : Format) (mode : Round) (text : List ℕ) (value : Datum) (status : ℕ) : Type 0 where
-  pub meaning : Meaning
+  pub meaning : TextMeaning
   pub means : Means text meaning
   pub is_meant : IsMeant f mode meaning value status
 

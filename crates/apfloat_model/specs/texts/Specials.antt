@@ -7,10 +7,10 @@ use Rattle.apfloat_model.specs.declared.marks.Radix.TheVariants.{Sixteen, Eight,
 use Rattle.apfloat_model.specs.texts.Digits.{same, every, begins, is_empty, is_decimal, is_octal, is_hexadecimal, number}
 
 -- negative; negative, signaling and payload; negative and h, f, e of h * 2 ^ (e - 4 * f)
-pub data Meaning : Type 0 where
-  infinity : Bool → Meaning
-  not_a_number : Bool → Bool → ℕ → Meaning
-  hexadecimal : Bool → ℕ → ℕ → ℤ → Meaning
+pub data TextMeaning : Type 0 where
+  infinity : Bool → TextMeaning
+  not_a_number : Bool → Bool → ℕ → TextMeaning
+  hexadecimal : Bool → ℕ → ℕ → ℤ → TextMeaning
 
 -- the sign that a text or an exponent begins with
 abbrev pub mark_of : List ℕ → Mark
@@ -84,14 +84,14 @@ payload_of (c ∷ text) =
     if same (c ∷ text) (in_parentheses (inside (c ∷ text))) then plain_payload (inside (c ∷ text))
     else plain_payload (c ∷ text)
 
-abbrev pub with_payload : Bool → Bool → Option ℕ → Option Meaning
+abbrev pub with_payload : Bool → Bool → Option ℕ → Option TextMeaning
 with_payload negative signaling None = None
 with_payload negative signaling (Some payload) = Some (not_a_number negative signaling payload)
 
 abbrev pub is_nan_name : List ℕ → Bool
 is_nan_name text = same text (codes "nan") || same text (codes "NaN")
 
-abbrev pub named_nan : Bool → Bool → List ℕ → Option Meaning
+abbrev pub named_nan : Bool → Bool → List ℕ → Option TextMeaning
 named_nan negative signaling text =
     if is_nan_name (take 3 text) then with_payload negative signaling (payload_of (drop 3 text)) else None
 
@@ -99,15 +99,15 @@ named_nan negative signaling text =
 abbrev pub is_s : ℕ → Bool
 is_s c = eqb c 115 || eqb c 83
 
-abbrev pub nan_meaning : Mark → List ℕ → Option Meaning
+abbrev pub nan_meaning : Mark → List ℕ → Option TextMeaning
 nan_meaning Unmarked body = if begins is_s body then named_nan false true (drop 1 body)
     else named_nan false false body
 nan_meaning Plus body = None
 nan_meaning Minus body = if begins is_s body then named_nan true true (drop 1 body) else named_nan true false body
 
-abbrev pub special_meaning : Mark → List ℕ → Option Meaning
+abbrev pub special_meaning : Mark → List ℕ → Option TextMeaning
 special_meaning mark body = if is_infinity mark body then Some (infinity (is_minus mark)) else nan_meaning mark body
 
 -- the infinity or the NaN of a text
-abbrev pub special_of : List ℕ → Option Meaning
+abbrev pub special_of : List ℕ → Option TextMeaning
 special_of text = special_meaning (mark_of text) (after_mark text)

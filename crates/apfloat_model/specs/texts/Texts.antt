@@ -3,7 +3,7 @@ use Rattle.std.specs.Prelude.{◌≡◌, ◌⊎◌, ℕ, ◌≤◌, ℤ, pos, ne
 use Rattle.apfloat_model.specs.declared.marks.Mark.{Mark}
 use Rattle.apfloat_model.specs.declared.marks.Mark.TheVariants.{Unmarked, Plus, Minus}
 use Rattle.apfloat_model.specs.texts.Digits.{every, is_decimal, is_hexadecimal, number}
-use Rattle.apfloat_model.specs.texts.Specials.{Meaning, infinity, not_a_number, hexadecimal, mark_of, after_mark, is_minus, special_of}
+use Rattle.apfloat_model.specs.texts.Specials.{TextMeaning, infinity, not_a_number, hexadecimal, mark_of, after_mark, is_minus, special_of}
 
 -- an integer with the sign of its mark
 abbrev pub marked : Mark → ℕ → ℤ
@@ -33,7 +33,7 @@ pub record IsHexadecimal (body : List ℕ) (h f : ℕ) (e : ℤ) : Type 0 where
   pub e_is : e ≡ marked (mark_of exponent) (number 10 (after_mark exponent))
 
 -- the text has that meaning
-abbrev pub Means : List ℕ → Meaning → Type 0
+abbrev pub Means : List ℕ → TextMeaning → Type 0
 Means text (infinity negative) = special_of text ≡ Some (infinity negative)
 Means text (not_a_number negative signaling payload) =
     special_of text ≡ Some (not_a_number negative signaling payload)

@@ -180,7 +180,7 @@ high_rounded format a c t flags x k fa fc w l h =
     (product_within format a c t flags k fa fc b h)
 
 -- a finite datum with that number
-pub record IsNumber (exact : ℤ) (value : Datum) : Type 0 where
+pub record IsWholeNumberAt (exact : ℤ) (value : Datum) : Type 0 where
   pub is_finite : is_finite value ≡ true
   pub number_is : number value ≡ exact
 
@@ -191,7 +191,7 @@ pub two_product : (format : Format) (first second product rest : Datum) (flags :
     → IsWholeProduct format.precision format.scale (number first) (number second) x → magnitude x ≤ largest format
     → IsNearest format.precision x (number product)
     → IsFusedSum format NearestTiesToEven first second (negated IEEE754 product) rest flags
-    → IsNumber (x -ℤ number product) rest
+    → IsWholeNumberAt (x -ℤ number product) rest
 two_product format a c t rest flags x k wide fa fc ft w l n h =
     let r = x -ℤ number t in
     let e = rest_times x (number t) (number (negated IEEE754 t)) (pos (2 ^ format.scale)) (number a) (number c)

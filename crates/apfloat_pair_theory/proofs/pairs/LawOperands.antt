@@ -10,7 +10,7 @@ use Rattle.apfloat_model.specs.order.Order.{number}
 use Rattle.apfloat_model.proofs.arithmetic.Signs.{magnitude_signed}
 use Rattle.apfloat_pair_theory.specs.PairFormats.{double}
 use Rattle.apfloat_pair_theory.specs.Pairs.{Pair, positive_zero, IsNormalised}
-use Rattle.apfloat_pair_theory.specs.PairAccuracy.{IsSingle}
+use Rattle.apfloat_pair_theory.specs.PairAccuracy.{HasZeroLow}
 use Rattle.apfloat_pair_theory.proofs.numbers.Signed.{IsGridNumber, on_grid_as}
 use Rattle.apfloat_pair_theory.proofs.numbers.Nearest.{IsNearest}
 use Rattle.apfloat_pair_theory.proofs.sums.PairRoundings.{low_eighth}
@@ -39,7 +39,7 @@ pub record IsDoubleAlone (x : Pair) : Type 0 where
   pub low_is : x.low ≡ positive_zero
 
 -- a double with low part +0 is a double alone
-pub double_alone : (x : Pair) → IsMember double x.high → IsSingle x → IsDoubleAlone x
+pub double_alone : (x : Pair) → IsMember double x.high → HasZeroLow x → IsDoubleAlone x
 double_alone x m s = record { is_double = m; is_finite = s.is_finite; low_is = s.low_is }
 
 -- the low part of a double alone has the number 0

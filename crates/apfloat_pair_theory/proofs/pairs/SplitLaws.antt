@@ -27,7 +27,7 @@ use Rattle.apfloat_pair_theory.proofs.numbers.SignedProducts.{times_one}
 use Rattle.apfloat_pair_theory.proofs.sums.PairRoundings.{error_eighth}
 use Rattle.apfloat_pair_theory.proofs.pairs.Normalised.{is_equal_by}
 use Rattle.apfloat_pair_theory.proofs.sums.ClosingSums.{wide_enough}
-use Rattle.apfloat_pair_theory.proofs.numbers.WholeProducts.{IsWholeProduct, product_error_on_grid, IsNumber}
+use Rattle.apfloat_pair_theory.proofs.numbers.WholeProducts.{IsWholeProduct, product_error_on_grid, IsWholeNumberAt}
 use Rattle.apfloat_pair_theory.proofs.numbers.Roundings.{signed_exact, IsRoundedTo, within_nearest, finite_nearest, within_is, beyond_is}
 
 -- ---- an integral number of quanta, in parts of a quantum
@@ -122,7 +122,7 @@ ok_is_exact format s amount u p status l d o =
 -- the low part has the number of the rest, or is +0 if there is none
 low_at : (some ok negative high_negative : Bool) (m n : ℕ) → (ok ≡ true → signed high_negative n ≡ signed negative m)
     → (some ≡ false → signed high_negative n ≡ signed negative m)
-    → IsNumber (signed negative m -ℤ signed high_negative n)
+    → IsWholeNumberAt (signed negative m -ℤ signed high_negative n)
     (cond (some && not ok) (left_over (finite negative m) (finite high_negative n)) positive_zero)
 low_at true false b c m n f g = record { is_finite = refl; number_is = signed_exact false (signed b m -ℤ signed c n) }
 low_at true true b c m n f g = let e = f refl in record { is_finite = refl; number_is = omega (arith, ints, e) }
@@ -132,7 +132,7 @@ low_at false u b c m n f g = let e = g refl in record { is_finite = refl; number
 low_left : (negative : Bool) (m : ℕ) (high : Datum) (status : ℕ) → is_finite high ≡ true
     → (status ≡ ok_bits → number high ≡ signed negative m)
     → (is_finite_non_zero high ≡ false → number high ≡ signed negative m)
-    → IsNumber (signed negative m -ℤ number high) (low_part (finite negative m) high status)
+    → IsWholeNumberAt (signed negative m -ℤ number high) (low_part (finite negative m) high status)
 low_left b m (finite c n) status h f g =
     low_at (ltb 0 n) (eqb status ok_bits) b c m n (λ e. f (eqb-true status ok_bits e)) g
 low_left b m (infinite c) status h f g = absurd (false≢true h)
@@ -193,7 +193,7 @@ finite_pick b p high f v =
 pub record IsCut (negative : Bool) (m : ℕ) (answer : Pair) : Type 0 where
   pub exactly : IsExactPair (signed negative m) 1 answer
   pub high_is : IsRoundedTo double.precision (signed negative m) answer.high
-  pub low_is : IsNumber (signed negative m -ℤ number answer.high) answer.low
+  pub low_is : IsWholeNumberAt (signed negative m -ℤ number answer.high) answer.low
 
 -- a finite high part is the nearest double to the wide number
 pub high_rounded_to : (negative : Bool) (m : ℕ) (high : Datum) (status : ℕ) → 0 < m → is_finite high ≡ true
@@ -226,8 +226,8 @@ split_exactly b m answer p f s =
     (eq_of_mul-eq-mul_right (2 ^ double.scale) u x.pick m
     (ok_is_exact double b (m * 2 ^ double.scale) (2 ^ double.scale) x.pick s.status q x.status_is o)) in
     let n = low_left b m answer.high s.status r.is_finite exactly (λ z. absurd (never_zero b m answer.high p r z)) in
-    let n' : IsNumber (signed b m -ℤ number answer.high) answer.low =
-    subst (λ (d : Datum). IsNumber (signed b m -ℤ number answer.high) d) (sym s.low_is) n in
+    let n' : IsWholeNumberAt (signed b m -ℤ number answer.high) answer.low =
+    subst (λ (d : Datum). IsWholeNumberAt (signed b m -ℤ number answer.high) d) (sym s.low_is) n in
     let e = rest_joined (number answer.high) (number answer.low) (signed b m) n'.number_is in
     record {
       exactly = record {

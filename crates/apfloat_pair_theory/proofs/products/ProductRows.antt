@@ -11,7 +11,7 @@ use Rattle.apfloat_model.specs.formats.Members.{IsFiniteOf}
 use Rattle.apfloat_pair_theory.specs.PairFormats.{double}
 use Rattle.apfloat_pair_theory.specs.Pairs.{Pair, alone, IsNormalised, pair_number}
 use Rattle.apfloat_pair_theory.specs.PairProducts.{pair_product, IsPairProduct}
-use Rattle.apfloat_pair_theory.specs.PairAccuracy.{HaveExponents, IsSingle}
+use Rattle.apfloat_pair_theory.specs.PairAccuracy.{HaveExponents, HasZeroLow}
 use Rattle.apfloat_model.proofs.Steps.{leads_somewhere}
 use Rattle.apfloat_pair_theory.proofs.pairs.LawOperands.{double_alone}
 use Rattle.apfloat_pair_theory.proofs.sums.PairSumLaws.{single_normalised}
@@ -78,10 +78,10 @@ five_is = record {
 }
 
 -- 3 and 5 are pairs with low part +0
-three_single : IsSingle three
+three_single : HasZeroLow three
 three_single = record { is_finite = refl; low_is = refl }
 
-five_single : IsSingle five
+five_single : HasZeroLow five
 five_single = record { is_finite = refl; low_is = refl }
 
 -- the pairs of 3 and of 5 are normalized

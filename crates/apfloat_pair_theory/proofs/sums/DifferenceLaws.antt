@@ -9,14 +9,14 @@ use Rattle.apfloat_model.specs.formats.Members.{IsMember}
 use Rattle.apfloat_pair_theory.specs.PairFormats.{double}
 use Rattle.apfloat_pair_theory.specs.Pairs.{Pair, pair_number, negated_pair}
 use Rattle.apfloat_pair_theory.specs.PairSums.{IsPairDifference}
-use Rattle.apfloat_pair_theory.specs.PairAccuracy.{sum_reach, IsSingle, AreWithinReach, IsExactPair, IsClosePair, total_size, IsErrorFreeDifference, IsAccurateDifference, HasPlainStatus}
+use Rattle.apfloat_pair_theory.specs.PairAccuracy.{sum_reach, HasZeroLow, AreWithinReach, IsExactPair, IsClosePair, total_size, IsErrorFreeDifference, IsAccurateDifference, HasPlainStatus}
 use Rattle.apfloat_pair_theory.proofs.numbers.Signed.{magnitude-neg}
 use Rattle.apfloat_pair_theory.proofs.numbers.Roundings.{negated_finite}
 use Rattle.apfloat_pair_theory.proofs.pairs.Negated.{negated_low, negated_normalised, negated_pair_number, negated_quanta, negated_member}
 use Rattle.apfloat_pair_theory.proofs.sums.PairSumLaws.{error_free_sum, accurate_sum, plain_sum}
 
 -- the negation of a double alone is a double alone
-negated_single : (x : Pair) → IsSingle x → IsSingle (negated_pair x)
+negated_single : (x : Pair) → HasZeroLow x → HasZeroLow (negated_pair x)
 negated_single x s = record { is_finite = negated_finite x.high s.is_finite; low_is = ap negated_low s.low_is }
 
 -- negation keeps a pair within the reach of sums

@@ -28,7 +28,7 @@ use Rattle.apfloat_rounding.proofs.HalfQuanta.{picked_is}
 use Rattle.apfloat_rounding.proofs.CutRests.{loss_some, loss_zero, picked_if_moved}
 use Rattle.fast_bits.specs.declared.lanes.lanes.Lane.{Lane}
 use Rattle.fast_bits.specs.lanes.Lanes.{IsRounded, finished, flag_if, flags_of}
-use Rattle.fast_bits.specs.lanes.Scaled.{IsReached, IsScaled}
+use Rattle.fast_bits.specs.lanes.Scaled.{IsReachedLane, IsScaled}
 use Rattle.fast_bits.specs.lanes.Sides.{greatest_code, rounded_by}
 use Rattle.fast_bits.specs.lanes.Targets.{has_no_sign, is_ieee, largest_code, signed_code}
 use Rattle.fast_bits.proofs.lanes_lemmas.Interchanges.{spans}
@@ -37,7 +37,7 @@ use Rattle.fast_bits.proofs.lanes_lemmas.Codes.{code_encoded, past_by_code}
 -- ---- what is picked
 
 -- `code` is the place and the significand, added, of the number that is picked
-pub record IsPickedCode (precision : ℕ) (mode : Round) (negative : Bool) (amount parts code rest : ℕ) : Type 0 where
+pub record IsPickedSingle (precision : ℕ) (mode : Round) (negative : Bool) (amount parts code rest : ℕ) : Type 0 where
   pub place : ℕ
   pub next : ℕ
   pub code_is : code ≡ place * 2 ^ (precision - 1) + next
@@ -69,7 +69,7 @@ some_rest rest more = ⊎_elim (λ (z : rest < 1). absurd (more (omega (arith, z
 picked_code : (precision low : ℕ) (mode : Round) (negative : Bool) (t amount parts : ℕ) → 3 ≤ precision
     → 0 < parts
     → IsScaled precision low t amount parts
-    → IsPickedCode precision mode negative amount parts (rounded_by low mode negative t) (t % 2 ^ low)
+    → IsPickedSingle precision mode negative amount parts (rounded_by low mode negative t) (t % 2 ^ low)
 picked_code precision low mode negative t amount parts precise any it =
     let half = 2 ^ (low - 1) in
     let rest = t % 2 ^ low in
@@ -114,7 +114,7 @@ keeps_sign kind true bits code has = rw has refl
 keeps_sign kind false bits code has = refl
 
 -- the sign that a number is encoded with
-pub record IsSigned (f : Format) (layout : Layout) (negative : Bool) (n code : ℕ) : Type 0 where
+pub record IsSignedCode (f : Format) (layout : Layout) (negative : Bool) (n code : ℕ) : Type 0 where
   pub sign : Bool
   pub value_is : signed_quanta f.nonfinite negative n ≡ finite sign n
   pub bits_are : signed_code f.nonfinite layout.bits negative code ≡ cond sign (2 ^ (layout.bits - 1)) 0 + code
@@ -161,9 +161,9 @@ has_sign NanNegativeZero bits code some below =
 
 signed_number : (f : Format) (layout : Layout) (negative : Bool) (n code : ℕ) → code < 2 ^ (layout.bits - 1)
     → (n ≡ 0 → code ≡ 0)
-    → (code ≡ 0 → n ≡ 0) → IsSigned f layout negative n code
+    → (code ≡ 0 → n ≡ 0) → IsSignedCode f layout negative n code
 signed_number f layout negative n code below forth back =
-    ⊎_elim {C = IsSigned f layout negative n code}
+    ⊎_elim {C = IsSignedCode f layout negative n code}
     (λ (none : n ≡ 0). record {
       sign = zero_sign f.nonfinite negative;
       value_is = zero_signed f.nonfinite negative n none;
@@ -352,7 +352,7 @@ past_saturated NanOnly f negative base = refl
 past_saturated NanNegativeZero f negative base = refl
 
 -- the bits encode a datum, and whether the code is past the largest one says whether that is a NaN
-pub record IsGiven (f : Format) (layout : Layout) (negative : Bool) (code : ℕ) (datum : Datum) : Type 0 where
+pub record IsGivenCode (f : Format) (layout : Layout) (negative : Bool) (code : ℕ) (datum : Datum) : Type 0 where
   pub is_encoded : IsEncodedBy f layout (signed_code f.nonfinite layout.bits negative code) datum
   pub nan_is : (not (is_ieee f.nonfinite) && ltb (largest_code f) code) ≡ is_nan datum
 
@@ -368,7 +368,7 @@ number_given : (f : Format) (layout : Layout) (negative : Bool) (place next code
     → next ≤ 2 ^ f.precision
     → next * 2 ^ place ≤ largest f → code ≡ place * 2 ^ (f.precision - 1) + next
     → code ≤ largest_code f
-    → IsGiven f layout negative code (signed_quanta f.nonfinite negative (next * 2 ^ place))
+    → IsGivenCode f layout negative code (signed_quanta f.nonfinite negative (next * 2 ^ place))
 number_given f layout negative place next code law implied full fits within is low =
     let half : ℕ = 2 ^ (f.precision - 1) in
     let below = largest_below f layout law implied in
@@ -405,7 +405,7 @@ number_given f layout negative place next code law implied full fits within is l
 -- the largest value
 largest_given : (f : Format) (layout : Layout) (negative : Bool) → IsInterchange f layout
     → f.explicit_integer_bit ≡ false
-    → IsGiven f layout negative (largest_code f) (finite negative (largest f))
+    → IsGivenCode f layout negative (largest_code f) (finite negative (largest f))
 largest_given f layout negative law implied =
     let precise = law.precise in
     let fits = greatest_fits f.nonfinite f.precision in
@@ -415,14 +415,14 @@ largest_given f layout negative law implied =
     let above : 1 * 2 ^ f.span ≤ largest f = mul-le-mul_right (2 ^ f.span) (omega (arith, full, some)) in
     let value : signed_quanta f.nonfinite negative (largest f) ≡ finite negative (largest f) =
     some_signed f.nonfinite negative (largest f) (λ e. omega (arith, e, above, unit)) in
-    subst (λ (v : Datum). IsGiven f layout negative (largest_code f) v) value
+    subst (λ (v : Datum). IsGivenCode f layout negative (largest_code f) v) value
     (number_given f layout negative f.span (greatest_significand f.nonfinite f.precision) (largest_code f) law implied
     (inr full) (omega (arith, fits)) (omega arith) refl (omega arith))
 
 -- what is past it
 pub past_given : (kind : NonfiniteBehavior) (f : Format) (layout : Layout) (negative : Bool) → f.nonfinite ≡ kind
     → IsInterchange f layout → f.explicit_integer_bit ≡ false
-    → IsGiven f layout negative (largest_code f + 1) (past_largest kind (nan_base f) negative)
+    → IsGivenCode f layout negative (largest_code f + 1) (past_largest kind (nan_base f) negative)
 past_given IEEE754 f layout negative is law implied =
     record {
       is_encoded =
@@ -484,12 +484,12 @@ past_given NanNegativeZero f layout negative is law implied =
 -- past the largest value, by the mode
 beyond_given : (saturates out : Bool) (f : Format) (layout : Layout) (mode : Round) (negative : Bool)
     → leads_out mode negative ≡ out → IsInterchange f layout → f.explicit_integer_bit ≡ false
-    → IsGiven f layout negative (greatest_code saturates f mode negative)
+    → IsGivenCode f layout negative (greatest_code saturates f mode negative)
     (finished saturates f negative
     (cond out (past_largest f.nonfinite (nan_base f) negative) (finite negative (largest f))))
 beyond_given true true f layout mode negative e law implied =
     rw e
-    (subst (λ (v : Datum). IsGiven f layout negative (largest_code f) v)
+    (subst (λ (v : Datum). IsGivenCode f layout negative (largest_code f) v)
     (sym (past_saturated f.nonfinite f negative (nan_base f)))
     (largest_given f layout negative law implied))
 beyond_given true false f layout mode negative e law implied = rw e (largest_given f layout negative law implied)
@@ -514,8 +514,8 @@ cap_most false false top = omega arith
 value_given : (saturates : Bool) (f : Format) (layout : Layout) (mode : Round) (negative : Bool)
     (amount parts r rest : ℕ)
     → IsInterchange f layout → f.explicit_integer_bit ≡ false
-    → (picked : IsPickedCode f.precision mode negative amount parts r rest)
-    → IsGiven f layout negative (min r (greatest_code saturates f mode negative))
+    → (picked : IsPickedSingle f.precision mode negative amount parts r rest)
+    → IsGivenCode f layout negative (min r (greatest_code saturates f mode negative))
     (finished saturates f negative
     (delivered_value f mode negative (picked.next * 2 ^ picked.place)))
 value_given saturates f layout mode negative amount parts r rest law implied picked =
@@ -526,7 +526,7 @@ value_given saturates f layout mode negative amount parts r rest law implied pic
     let past_is : ltb (largest f) pick ≡ ltb top r =
     past_by_code f picked.next picked.place law.precise picked.full picked.fits
     ∙ ap (λ (x : ℕ). ltb top x) (sym picked.code_is) in
-    let Says : ℕ → Datum → Type 0 = λ code v. IsGiven f layout negative code (finished saturates f negative v) in
+    let Says : ℕ → Datum → Type 0 = λ code v. IsGivenCode f layout negative code (finished saturates f negative v) in
     ⊎_elim {C = Says (min r (greatest_code saturates f mode negative)) (delivered_value f mode negative pick)}
     (λ (past : top < r).
     let capped : min r (greatest_code saturates f mode negative) ≡ greatest_code saturates f mode negative =
@@ -545,7 +545,7 @@ value_given saturates f layout mode negative amount parts r rest law implied pic
     (ltb-false (largest f) pick inside) picked.code_is within in
     subst (λ (n : ℕ). Says n (delivered_value f mode negative pick)) (sym same)
     (subst (λ (v : Datum). Says r v) (sym value)
-    (subst (λ (v : Datum). IsGiven f layout negative r v) (kept saturates f negative f.nonfinite pick) given)))
+    (subst (λ (v : Datum). IsGivenCode f layout negative r v) (kept saturates f negative f.nonfinite pick) given)))
     (cases_lt top r)
   where
     kept : (saturates : Bool) (f : Format) (negative : Bool) (kind : NonfiniteBehavior) (n : ℕ)
@@ -636,7 +636,7 @@ rounded_most low mode negative t =
 flags_given : (low : ℕ) (f : Format) (layout : Layout) (mode : Round) (negative : Bool) (t amount parts : ℕ)
     → IsInterchange f layout
     → reads_halves f ≡ false → 0 < parts → IsScaled f.precision low t amount parts
-    → (picked : IsPickedCode f.precision mode negative amount parts (rounded_by low mode negative t) (t % 2 ^ low))
+    → (picked : IsPickedSingle f.precision mode negative amount parts (rounded_by low mode negative t) (t % 2 ^ low))
     → let some = not (eqb (t % 2 ^ low) 0) in let past = ltb (largest_code f) (rounded_by low mode negative t) in
     let normal = cond f.tiny_before_rounding (leb (2 ^ (f.precision - 1)) (t / 2 ^ low))
     (leb (2 ^ (f.precision - 1)) (rounded_by low mode negative t)) in
@@ -731,7 +731,7 @@ made_rounded low saturates f layout mode negative t amount parts lane law implie
 pub lane_rounded : (saturates : Bool) (f : Format) (layout : Layout) (mode : Round) (negative : Bool)
     (t amount parts : ℕ) (lane : Lane)
     → IsInterchange f layout → f.explicit_integer_bit ≡ false → reads_halves f ≡ false
-    → 0 < parts → IsMade 16 saturates f layout mode negative t lane → IsReached f t amount parts
+    → 0 < parts → IsMade 16 saturates f layout mode negative t lane → IsReachedLane f t amount parts
     → IsRounded saturates f layout mode negative amount parts lane
 lane_rounded saturates f layout mode negative t amount parts lane law implied rule any made it =
     let precise = law.precise in

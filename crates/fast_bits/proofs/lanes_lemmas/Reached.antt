@@ -12,7 +12,7 @@ use Rattle.apfloat_model.specs.rounding.Standing.{StandsFor}
 use Rattle.apfloat_model.proofs.general.Powers.{pow3, two_pos}
 use Rattle.apfloat_model.proofs.rounding.KeptDigits.{enclosed_from}
 use Rattle.apfloat_rounding.specs.Cuts.{loss_at}
-use Rattle.fast_bits.specs.lanes.Scaled.{IsPast, IsReached, IsScaled}
+use Rattle.fast_bits.specs.lanes.Scaled.{IsPastTarget, IsReachedLane, IsScaled}
 use Rattle.fast_bits.specs.lanes.Targets.{IsTarget}
 use Rattle.fast_bits.proofs.lanes_lemmas.Cuts.{exact_odd}
 use Rattle.fast_bits.proofs.lanes_lemmas.Interchanges.{places_below}
@@ -37,7 +37,7 @@ zero_scaled precision low parts some any =
 -- a significand with all digits, past all places
 past_at : (f : Format) (m e first : ℕ) → f.precision ≤ 24 → 149 ≡ f.scale + (24 - f.precision) + first
     → 2 ^ 23 ≤ m
-    → first + (f.span + 1) ≤ e → IsPast f (m * 2 ^ e * 2 ^ f.scale) (2 ^ 149)
+    → first + (f.span + 1) ≤ e → IsPastTarget f (m * 2 ^ e * 2 ^ f.scale) (2 ^ 149)
 past_at f m e first digits scales full far =
     let low : 2 ^ (23 + e + f.scale) ≡ 2 ^ 23 * 2 ^ e * 2 ^ f.scale = pow3 23 e f.scale in
     let placed : 2 ^ 23 * 2 ^ e * 2 ^ f.scale ≤ m * 2 ^ e * 2 ^ f.scale =
@@ -76,13 +76,13 @@ near_reached f m place first precise digits scales some fits full =
 
 some_reached : (f : Format) (m place first : ℕ) → 3 ≤ f.precision → f.precision ≤ 11
     → 149 ≡ f.scale + (24 - f.precision) + first → 0 < m → m < 2 ^ 24 → (place ≡ 0) ⊎ (2 ^ 23 ≤ m)
-    → IsReached f (steps f first m place) (m * 2 ^ place * 2 ^ f.scale) (2 ^ 149)
+    → IsReachedLane f (steps f first m place) (m * 2 ^ place * 2 ^ f.scale) (2 ^ 149)
 unfolding steps
 some_reached f m place first precise digits scales some fits full =
     let p = f.precision in
     let last = first + (f.span + 1) in
     let odd = odd_quotient m (2 ^ 9) in
-    ⊎_elim {C = IsReached f (steps f first m place) (m * 2 ^ place * 2 ^ f.scale) (2 ^ 149)}
+    ⊎_elim {C = IsReachedLane f (steps f first m place) (m * 2 ^ place * 2 ^ f.scale) (2 ^ 149)}
     (λ (far : last < place).
     let digits_full : 2 ^ 23 ≤ m =
     ⊎_elim (λ (z : place ≡ 0). absurd (omega (arith, z, far))) (λ (h : 2 ^ 23 ≤ m). h) full in
@@ -120,7 +120,7 @@ some_reached f m place first precise digits scales some fits full =
     (cases_lt last place)
 
 zero_reached : (f : Format) (m place first : ℕ) → 3 ≤ f.precision → m ≡ 0 → place ≡ 0
-    → IsReached f (steps f first m place) (m * 2 ^ place * 2 ^ f.scale) (2 ^ 149)
+    → IsReachedLane f (steps f first m place) (m * 2 ^ place * 2 ^ f.scale) (2 ^ 149)
 unfolding steps
 zero_reached f m place first precise none last =
     let p = f.precision in
@@ -186,7 +186,7 @@ balance precision scale first min_exp precise digits there is = omega (arith, in
 
 -- what the code computes
 pub record AreSteps (f : Format) (kept rest m place : ℕ) : Type 0 where
-  pub reached : IsReached f (kept * 2 ^ 16 + rest) (m * 2 ^ place * 2 ^ f.scale) (2 ^ 149)
+  pub reached : IsReachedLane f (kept * 2 ^ 16 + rest) (m * 2 ^ place * 2 ^ f.scale) (2 ^ 149)
   pub below : kept + 2 < 2 ^ 16
 
 pub steps_are : (f : Format) (layout : Layout) (min_exp max_exp : ℤ) (m place first odd above up moved places : ℕ)
@@ -214,8 +214,8 @@ steps_are f layout min_exp max_exp m place first odd above up moved places is sc
     ap (λ (n : ℕ). min (place - first) (f.span + 1) * n) power ∙ omega arith in
     let sum : steps f first m place ≡ (moved / 65536 + places) * 2 ^ 16 + moved % 65536 =
     omega (arith, right, left_is, right_is, whole, moved_is, places_are) in
-    let it : IsReached f (steps f first m place) (m * 2 ^ place * 2 ^ f.scale) (2 ^ 149) =
-    ⊎_elim {C = IsReached f (steps f first m place) (m * 2 ^ place * 2 ^ f.scale) (2 ^ 149)}
+    let it : IsReachedLane f (steps f first m place) (m * 2 ^ place * 2 ^ f.scale) (2 ^ 149) =
+    ⊎_elim {C = IsReachedLane f (steps f first m place) (m * 2 ^ place * 2 ^ f.scale) (2 ^ 149)}
     (λ (z : m < 1).
     let none : m ≡ 0 = omega (arith, z) in
     let last : place ≡ 0 =
@@ -224,6 +224,6 @@ steps_are f layout min_exp max_exp m place first odd above up moved places is sc
     (λ (some : 1 ≤ m). some_reached f m place first is.precise is.digits scales some fits full)
     (cases_lt m 1) in
     record {
-      reached = subst (λ (n : ℕ). IsReached f n (m * 2 ^ place * 2 ^ f.scale) (2 ^ 149)) sum it;
+      reached = subst (λ (n : ℕ). IsReachedLane f n (m * 2 ^ place * 2 ^ f.scale) (2 ^ 149)) sum it;
       below = omega (arith, right, left_is, right_is, below.0, below.1, moved_is, places_are);
     }

@@ -15,7 +15,7 @@ use Rattle.apfloat_model.proofs.bits.EncodedOnce.{fields_with}
 use Rattle.apfloat_model.proofs.rounding.Laws.{delivered_once, zero_delivered}
 use Rattle.fast_bits.specs.declared.lanes.lanes.Lane.{Lane}
 use Rattle.fast_bits.specs.lanes.Lanes.{IsConvertedLane, IsRounded, flag_if, flags_of}
-use Rattle.fast_bits.specs.lanes.Targets.{IsSingle, has_one_zero}
+use Rattle.fast_bits.specs.lanes.Targets.{IsSingleFormat, has_one_zero}
 
 -- ---- from bits
 
@@ -53,7 +53,7 @@ fields_number f layout negative biased trailing kind implied digits few =
     (cases_eq biased 0))
 
 -- the fields of the bits of a single
-pub single_read : (f : Format) (layout : Layout) (x : ℕ) → IsSingle f layout → x < 2 ^ 32
+pub single_read : (f : Format) (layout : Layout) (x : ℕ) → IsSingleFormat f layout → x < 2 ^ 32
     → x % 2 ^ 31 < 255 * 2 ^ 23
     → datum_of f layout x
     ≡ finite (eqb (x / 2 ^ 31) 1) (significand_of (x % 2 ^ 31) * 2 ^ place_of (x % 2 ^ 31))

@@ -27,7 +27,7 @@ use Rattle.fast_bits.specs.declared.lanes.lanes.Lane.{Lane}
 use Rattle.fast_bits.specs.declared.lanes.constants.Target.{Target}
 use Rattle.fast_bits.specs.lanes.At.{format_at}
 use Rattle.fast_bits.specs.lanes.Lanes.{IsPastLane, IsRounded, IsPayload, IsSpecialLane, flag_if, flags_of}
-use Rattle.fast_bits.specs.lanes.Targets.{IsSingle, has_no_sign, is_ieee, largest_code, signed_code}
+use Rattle.fast_bits.specs.lanes.Targets.{IsSingleFormat, has_no_sign, is_ieee, largest_code, signed_code}
 use Rattle.fast_bits.proofs.lanes_lemmas.Answers.{digits_encoded, keeps_sign, past_given}
 use Rattle.fast_bits.proofs.lanes_lemmas.Cuts.{exact_odd, inexact_odd}
 use Rattle.fast_bits.proofs.lanes_lemmas.Singles.{place_of, significand_of}
@@ -126,7 +126,7 @@ abbrev pub special_datum : Bool → ℕ → Datum
 special_datum negative s = cond (eqb s 0) (infinite negative) (nan negative s)
 
 -- the fields of the bits of an infinity or a NaN
-pub special_read : (f : Format) (layout : Layout) (x : ℕ) → IsSingle f layout → x < 2 ^ 32
+pub special_read : (f : Format) (layout : Layout) (x : ℕ) → IsSingleFormat f layout → x < 2 ^ 32
     → 255 * 2 ^ 23 ≤ x % 2 ^ 31
     → datum_of f layout x ≡ special_datum (eqb (x / 2 ^ 31) 1) (x % 2 ^ 23)
 special_read f layout x single word high =
@@ -149,7 +149,7 @@ special_read f layout x single word high =
 -- ---- NaNs
 
 -- the bit that makes a single's NaN quiet
-single_quiet : (f : Format) (layout : Layout) → IsSingle f layout → quiet_bits f ≡ 2 ^ 22
+single_quiet : (f : Format) (layout : Layout) → IsSingleFormat f layout → quiet_bits f ≡ 2 ^ 22
 single_quiet f layout single =
     (λ i. quiet_bits_of (single.nonfinite i) (single.implied i) (single.precision i))
 
@@ -160,7 +160,7 @@ quiet_bit_set s below set =
 quiet_bit_clear : (s : ℕ) → s < 2 ^ 22 → bit_and s (2 ^ 22) ≡ 0
 quiet_bit_clear s below = and_pow s 22 ∙ (let e : s / 2 ^ 22 % 2 * 2 ^ 22 ≡ 0 = omega (arith, below) in e)
 
-signaling_is : (f : Format) (layout : Layout) (s : ℕ) → IsSingle f layout → s < 2 ^ 23
+signaling_is : (f : Format) (layout : Layout) (s : ℕ) → IsSingleFormat f layout → s < 2 ^ 23
     → is_signaling f s ≡ ltb s (2 ^ 22)
 signaling_is f layout s single below =
     ap (λ (q : ℕ). not (eqb (bit_and s q) q)) (single_quiet f layout single)
@@ -172,7 +172,7 @@ signaling_is f layout s single below =
     ap not (eq-eqb (bit_and s (2 ^ 22)) (2 ^ 22) (quiet_bit_set s below l)) ∙ sym (le-ltb s (2 ^ 22) l))
     (cases_lt s (2 ^ 22))
 
-pub quieted_is : (f : Format) (layout : Layout) (s : ℕ) → IsSingle f layout → s < 2 ^ 23
+pub quieted_is : (f : Format) (layout : Layout) (s : ℕ) → IsSingleFormat f layout → s < 2 ^ 23
     → quieted f s ≡ s % 2 ^ 22 + 2 ^ 22
 quieted_is f layout s single below =
     let quiet : quiet_bit f ≡ 2 ^ 22 = (λ i. quiet_bit_of (single.nonfinite i) (single.precision i)) in
@@ -231,7 +231,7 @@ quiet_is g d kind implied precise it =
     ∙ sym parts
 
 -- what a single's NaN becomes, if there are infinities too
-nan_of_digits : (f g : Format) (layout : Layout) (negative : Bool) (s : ℕ) → IsSingle f layout → s < 2 ^ 23
+nan_of_digits : (f g : Format) (layout : Layout) (negative : Bool) (s : ℕ) → IsSingleFormat f layout → s < 2 ^ 23
     → g.nonfinite ≡ IEEE754 → g.explicit_integer_bit ≡ false → 3 ≤ g.precision → g.precision ≤ 11
     → converted_nan f g negative s ≡ nan negative ((s % 2 ^ 22 + 2 ^ 22) / 2 ^ (24 - g.precision))
 nan_of_digits f g layout negative s single below kind implied precise few =
@@ -300,7 +300,7 @@ nan_flags kind lane digits payload true is underflow invalid = rw (underflow, is
 nan_flags kind lane digits payload false is underflow invalid = rw (underflow, is, invalid) refl
 
 module _ (f : Format) (read : Layout) (g : Format) (layout : Layout) (mode : Round) (x payload : ℕ) (lane : Lane)
-    (single : IsSingle f read) (law : IsInterchange g layout) (implied : g.explicit_integer_bit ≡ false)
+    (single : IsSingleFormat f read) (law : IsInterchange g layout) (implied : g.explicit_integer_bit ≡ false)
     (few : g.precision ≤ 11) (word : x < 2 ^ 32) (high : 255 * 2 ^ 23 ≤ x % 2 ^ 31)
     (past : IsPastLane g layout (eqb (x / 2 ^ 31) 1) lane) where
   abbrev pub Becomes : Lane → Type 0
@@ -552,7 +552,7 @@ a_single =
 abbrev pub a_layout : Layout
 a_layout = record { bits = 32; exponent_bits = 8 }
 
-pub a_single_is : IsSingle a_single a_layout
+pub a_single_is : IsSingleFormat a_single a_layout
 a_single_is = record {
   precision = refl;
   scale = refl;

@@ -18,7 +18,7 @@ with_lane few lane =
     }
 
 -- each count is at most that
-pub record AreAtMost (most : ℕ) (few : FewCounts) : Type 0 where
+pub record FewAreAtMost (most : ℕ) (few : FewCounts) : Type 0 where
   pub inexact : few.inexact ≤ most
   pub underflow : few.underflow ≤ most
   pub overflow : few.overflow ≤ most

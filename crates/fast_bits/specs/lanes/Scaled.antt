@@ -17,12 +17,12 @@ pub record IsScaled (precision low t amount parts : ℕ) : Type 0 where
   pub stands : StandsFor kept (loss_at (t % 2 ^ low) (2 ^ (low - 1))) amount (2 ^ place * parts)
 
 -- a magnitude past all values
-pub record IsPast (f : Format) (amount parts : ℕ) : Type 0 where
+pub record IsPastTarget (f : Format) (amount parts : ℕ) : Type 0 where
   pub some : 0 < parts
   pub from : 2 ^ (f.precision + f.span) * parts ≤ amount
 
 -- the same for the magnitude itself, or, if that is past all values, for another one past them
-pub record IsReached (f : Format) (t amount parts : ℕ) : Type 0 where
+pub record IsReachedLane (f : Format) (t amount parts : ℕ) : Type 0 where
   pub reached : ℕ
   pub scaled : IsScaled f.precision 16 t reached parts
-  pub alike : (reached ≡ amount) ⊎ (IsPast f reached parts × IsPast f amount parts)
+  pub alike : (reached ≡ amount) ⊎ (IsPastTarget f reached parts × IsPastTarget f amount parts)

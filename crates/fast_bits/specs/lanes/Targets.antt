@@ -8,7 +8,7 @@ use Rattle.apfloat_model.specs.formats.Lawful.{more_exponents}
 use Rattle.apfloat_model.specs.rounding.Standing.{reads_halves}
 
 -- the format of singles (3.6): its quantum is 2 ^ -149
-pub record IsSingle (f : Format) (layout : Layout) : Type 0 where
+pub record IsSingleFormat (f : Format) (layout : Layout) : Type 0 where
   pub precision : f.precision ≡ 24
   pub scale : f.scale ≡ 149
   pub nonfinite : f.nonfinite ≡ IEEE754
@@ -49,7 +49,7 @@ pub record IsTarget (f : Format) (layout : Layout) (min_exp max_exp : ℤ) : Typ
 
 -- at most 8 bits and 6 digits, so that the upper half of a single has at least two digits more, and a least normal
 -- number far above denormal singles
-pub record IsShort (layout : Layout) (precision : ℕ) (min_exp : ℤ) : Type 0 where
+pub record IsShortFormat (layout : Layout) (precision : ℕ) (min_exp : ℤ) : Type 0 where
   pub bits : layout.bits ≤ 8
   pub digits : precision ≤ 6
   pub least : negsuc 118 ≤ℤ min_exp

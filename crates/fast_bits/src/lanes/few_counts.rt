@@ -1,7 +1,7 @@
 //! Counts of few numbers.
 
 ghost use Rattle.std.specs.Prelude.{◌≡◌, ℕ, ◌+◌, ◌≤◌};
-ghost use Rattle.fast_bits.specs.lanes.FewCounts.{AreAtMost, one_if, with_lane};
+ghost use Rattle.fast_bits.specs.lanes.FewCounts.{FewAreAtMost, one_if, with_lane};
 
 use crate::lanes::lanes::Lane;
 
@@ -32,9 +32,9 @@ pub(crate) fn one_if(holds: bool) -> u16
 /// The counts after one more value.
 #[inline(always)]
 pub fn with_lane(few: FewCounts, lane: Lane) -> FewCounts
-    requires { AreAtMost 65534 few }
+    requires { FewAreAtMost 65534 few }
     ensures counts { result ≡ with_lane few lane }
-    ensures most { (most : ℕ) → AreAtMost most few → AreAtMost (most + 1) result }
+    ensures most { (most : ℕ) → FewAreAtMost most few → FewAreAtMost (most + 1) result }
 {
     FewCounts {
         inexact: few.inexact + one_if(lane.inexact),

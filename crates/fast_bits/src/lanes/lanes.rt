@@ -7,9 +7,9 @@ ghost use Rattle.apfloat_model.specs.bits.Layout.{Layout};
 ghost use Rattle.apfloat_model.specs.formats.Format.{Format};
 ghost use Rattle.fast_bits.specs.lanes.At.{format_at, layout_at};
 ghost use Rattle.fast_bits.specs.lanes.Lanes.{IsConvertedLane, IsDeliveredLane, IsLane, IsPastLane, IsRounded};
-ghost use Rattle.fast_bits.specs.lanes.Scaled.{IsReached};
+ghost use Rattle.fast_bits.specs.lanes.Scaled.{IsReachedLane};
 ghost use Rattle.fast_bits.specs.lanes.Sides.{IsSideOf, LeadsPast};
-ghost use Rattle.fast_bits.specs.lanes.Targets.{IsSingle, has_one_zero, is_ieee, largest_code, signed_code};
+ghost use Rattle.fast_bits.specs.lanes.Targets.{IsSingleFormat, has_one_zero, is_ieee, largest_code, signed_code};
 
 use crate::lanes::constants::{Addend, Side, Target};
 use crate::lanes::few_counts::one_if;
@@ -133,7 +133,7 @@ fn finish(target: Target, side: Side, negative: bool, scaled: Scaled) -> Lane
     requires scaled { scaled.kept + 2 < 2 ^ 16 }
     ensures { (saturates : Bool) (mode : Mode) (amount parts : ℕ) → 0 < parts
         → IsSideOf 16 saturates (format_at target) mode negative side
-        → IsReached (format_at target) (scaled.kept * 2 ^ 16 + scaled.rest) amount parts
+        → IsReachedLane (format_at target) (scaled.kept * 2 ^ 16 + scaled.rest) amount parts
         → IsRounded saturates (format_at target) (layout_at target) mode negative amount parts
         result }
 {
@@ -164,7 +164,7 @@ pub(crate) fn loses_sign(target: Target, negative: bool, zero: bool) -> bool
 fn convert_number(plan: Plan, upper: u16, lower: u16) -> Lane
     ensures below { result.bits < 2 ^ plan.target.bits }
     ensures converted { (single : Format) (layout : Layout) → upper % 2 ^ 15 < 255 * 2 ^ 7
-        → IsSingle single layout
+        → IsSingleFormat single layout
         → IsConvertedLane plan.saturates single layout (format_at plan.target)
         (layout_at plan.target) plan.round (upper * 2 ^ 16 + lower) result }
     ensures past { 255 * 2 ^ 7 ≤ upper % 2 ^ 15 → LeadsPast plan.saturates plan.round
@@ -197,7 +197,7 @@ pub fn convert_single(plan: Plan, specials: bool, upper: u16, lower: u16) -> Lan
     requires number { specials ≡ false → upper % 2 ^ 15 < 255 * 2 ^ 7 }
     requires leads { IsTrue specials → LeadsPast plan.saturates plan.round }
     ensures below { result.bits < 2 ^ plan.target.bits }
-    ensures converted { (single : Format) (layout : Layout) → IsSingle single layout
+    ensures converted { (single : Format) (layout : Layout) → IsSingleFormat single layout
         → IsLane plan.saturates single layout (format_at plan.target) (layout_at plan.target)
         plan.round (upper * 2 ^ 16 + lower) result }
 {

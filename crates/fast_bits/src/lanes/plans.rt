@@ -3,7 +3,7 @@
 ghost use Rattle.std.specs.Prelude.{true, false, ◌-◌, ◌^◌, ◌<◌};
 ghost use Rattle.fast_bits.specs.lanes.At.{format_at, layout_at};
 ghost use Rattle.fast_bits.specs.lanes.Sides.{IsSideOf};
-ghost use Rattle.fast_bits.specs.lanes.Targets.{IsShort};
+ghost use Rattle.fast_bits.specs.lanes.Targets.{IsShortFormat};
 
 use crate::lanes::constants::{Side, Target};
 use apfloat_model::Round;
@@ -38,7 +38,7 @@ pub struct ShortPlan {
     pub positive: Side,
     /// What it does with negative numbers.
     pub negative: Side,
-    ghost short: { IsShort (layout_at target) target.precision target.min_exp },
+    ghost short: { IsShortFormat (layout_at target) target.precision target.min_exp },
     ghost positive_is: { IsSideOf (15 - target.precision) saturates (format_at target) round false
         positive },
     ghost negative_is: { IsSideOf (15 - target.precision) saturates (format_at target) round true

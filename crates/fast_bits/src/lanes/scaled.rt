@@ -2,7 +2,7 @@
 
 ghost use Rattle.std.specs.Prelude.{◌≡◌, ◌+◌, ◌-◌, ◌*◌, ◌/◌, ◌%◌, ◌^◌, ◌<◌, ◌≤◌, min, pos, ◌+ℤ◌};
 ghost use Rattle.apfloat_model.specs.rounding.RoundingToOdd.{odd_for_rest, odd_quotient};
-ghost use Rattle.fast_bits.specs.lanes.Scaled.{IsReached};
+ghost use Rattle.fast_bits.specs.lanes.Scaled.{IsReachedLane};
 ghost use Rattle.fast_bits.specs.lanes.At.{format_at};
 
 use crate::lanes::constants::Target;
@@ -80,7 +80,7 @@ fn odd_significand(magnitude: u16, lower: u16) -> u16
 #[inline(always)]
 pub(crate) fn scaled_to(target: Target, magnitude: u16, lower: u16) -> Scaled
     requires { magnitude < 2 ^ 15 }
-    ensures reached { IsReached (format_at target) (result.kept * 2 ^ 16 + result.rest)
+    ensures reached { IsReachedLane (format_at target) (result.kept * 2 ^ 16 + result.rest)
         (((magnitude % 2 ^ 7 + min (magnitude / 2 ^ 7) 1 * 2 ^ 7) * 2 ^ 16 + lower)
         * 2 ^ (magnitude / 2 ^ 7 - 1) * 2 ^ (format_at target).scale) (2 ^ 149) }
     ensures below { result.kept + 2 < 2 ^ 16 }

@@ -10,7 +10,7 @@ ghost use Rattle.fast_bits.specs.lanes.At.{format_at, layout_at};
 ghost use Rattle.fast_bits.specs.lanes.Lanes.{IsConvertedLane, IsLane, IsPastLane, IsRounded};
 ghost use Rattle.fast_bits.specs.lanes.Scaled.{IsScaled};
 ghost use Rattle.fast_bits.specs.lanes.Sides.{IsSideOf, LeadsPast};
-ghost use Rattle.fast_bits.specs.lanes.Targets.{IsSingle};
+ghost use Rattle.fast_bits.specs.lanes.Targets.{IsSingleFormat};
 
 use crate::lanes::constants::{Addend, Side, Target};
 use crate::lanes::halves::{digits_of, first_exponent, place_of};
@@ -97,7 +97,7 @@ fn convert_number(plan: ShortPlan, half: u16) -> Lane
     ensures below { result.bits < 2 ^ plan.target.bits }
     ensures converted { (bits : ℕ) (single : Format) (layout : Layout)
         → half % 2 ^ 15 < 255 * 2 ^ 7 → half ≡ odd_quotient bits (2 ^ 16)
-        → IsSingle single layout
+        → IsSingleFormat single layout
         → IsConvertedLane plan.saturates single layout (format_at plan.target)
         (layout_at plan.target) plan.round bits result }
     ensures past { 255 * 2 ^ 7 ≤ half % 2 ^ 15 → LeadsPast plan.saturates plan.round
@@ -131,7 +131,7 @@ pub fn convert_half(plan: ShortPlan, specials: bool, half: u16) -> Lane
     requires leads { IsTrue specials → LeadsPast plan.saturates plan.round }
     ensures below { result.bits < 2 ^ plan.target.bits }
     ensures converted { (bits : ℕ) (single : Format) (layout : Layout)
-        → half ≡ odd_quotient bits (2 ^ 16) → IsSingle single layout
+        → half ≡ odd_quotient bits (2 ^ 16) → IsSingleFormat single layout
         → IsLane plan.saturates single layout (format_at plan.target) (layout_at plan.target)
         plan.round bits result }
 {

@@ -5,7 +5,7 @@ ghost use Rattle.apfloat_model.specs.declared.kinds.Round.{Round as Mode};
 ghost use Rattle.apfloat_model.specs.rounding.Rounding.{leads_out};
 ghost use Rattle.fast_bits.specs.lanes.At.{format_at, layout_at};
 ghost use Rattle.fast_bits.specs.lanes.Sides.{IsAddendOf, IsSideOf, LeadsPast};
-ghost use Rattle.fast_bits.specs.lanes.Targets.{IsShort};
+ghost use Rattle.fast_bits.specs.lanes.Targets.{IsShortFormat};
 
 use crate::lanes::constants::{Addend, Side, Target};
 use crate::lanes::plans::{Plan, ShortPlan};
@@ -104,7 +104,7 @@ pub fn plan_of(target: Target, saturates: bool, round: Round) -> Plan
 /// The same for a format of at most eight bits.
 #[inline(always)]
 pub fn short_plan_of(target: Target, saturates: bool, round: Round) -> ShortPlan
-    requires short { IsShort (layout_at target) target.precision target.min_exp }
+    requires short { IsShortFormat (layout_at target) target.precision target.min_exp }
     ensures target { result.target ≡ target }
     ensures saturates { result.saturates ≡ saturates }
     ensures round { result.round ≡ round }

@@ -7,7 +7,7 @@ ghost use Rattle.apfloat_model.specs.formats.Format.{Format};
 ghost use Rattle.apfloat_model.specs.formats.Nan.{quieted};
 ghost use Rattle.fast_bits.specs.lanes.At.{format_at, layout_at};
 ghost use Rattle.fast_bits.specs.lanes.Lanes.{IsPastLane, IsPayload, IsSpecialLane};
-ghost use Rattle.fast_bits.specs.lanes.Targets.{IsSingle};
+ghost use Rattle.fast_bits.specs.lanes.Targets.{IsSingleFormat};
 
 use crate::lanes::constants::Target;
 use crate::lanes::lanes::Lane;
@@ -16,7 +16,7 @@ use apfloat_model::NonfiniteBehavior;
 /// The first digits of a NaN's significand, made quiet, given sixteen of them.
 #[inline(always)]
 fn quiet_digits(target: Target, payload: u16) -> u16
-    ensures is { (single : Format) (layout : Layout) (trailing : ℕ) → IsSingle single layout
+    ensures is { (single : Format) (layout : Layout) (trailing : ℕ) → IsSingleFormat single layout
         → trailing < 2 ^ 23 → IsPayload target.precision trailing payload
         → result ≡ quieted single trailing / 2 ^ (24 - target.precision) }
     ensures below { result < 2 ^ 15 }
@@ -37,7 +37,7 @@ pub(crate) fn with_special(
     requires { lane.bits < 2 ^ 16 }
     ensures number { special ≡ false → nan ≡ false → result ≡ lane }
     ensures special { (single : Format) (read : Layout) (mode : Mode) (bits : ℕ)
-        → IsSingle single read → bits < 2 ^ 32 → 255 * 2 ^ 23 ≤ bits % 2 ^ 31
+        → IsSingleFormat single read → bits < 2 ^ 32 → 255 * 2 ^ 23 ≤ bits % 2 ^ 31
         → IsPastLane (format_at target) (layout_at target) (eqb (bits / 2 ^ 31) 1) lane
         → IsTrue special → nan ≡ not (eqb (bits % 2 ^ 23) 0)
         → IsPayload target.precision (bits % 2 ^ 23) payload

@@ -88,7 +88,7 @@ difference_of_right f (nan b m) (nan c n) head tail status p h e = record { is =
 
 -- ---- ranges
 
-pub record HasRanges (c : Constants) : Type 0 where
+pub record HasCaseRanges (c : Constants) : Type 0 where
   pub precision : 3 ≤ c.precision
   pub scale : (format_with c).scale < (format_with c).span
   pub wide : c.precision < (format_with c).span
@@ -96,7 +96,7 @@ pub record HasRanges (c : Constants) : Type 0 where
   pub span_short : (format_with c).span ≤ 2 ^ 21
   pub span_is : c.max_exp -ℤ c.min_exp ≡ pos ((format_with c).span)
 
-pub ranges_of : (c : Constants) → IsLawful c → HasRanges c
+pub ranges_of : (c : Constants) → IsLawful c → HasCaseRanges c
 ranges_of c law =
     let p = law.parameters in
     let scale : pos (c.precision - 1) -ℤ c.min_exp ≡ pos (unsigned_abs (pos (c.precision - 1) -ℤ c.min_exp)) =

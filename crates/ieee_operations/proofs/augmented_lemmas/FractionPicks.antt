@@ -23,7 +23,7 @@ use Rattle.ieee_operations.proofs.augmented_lemmas.Heads.{half_unit}
 use Rattle.ieee_operations.proofs.augmented_lemmas.Multiples.{takes_low_by, takes_high_by}
 
 -- the magnitude is no integral number of quanta
-pub record IsFraction (amount parts : ℕ) : Type 0 where
+pub record IsFractionPick (amount parts : ℕ) : Type 0 where
   pub not_whole : (whole : ℕ) → whole * parts ≡ amount → ⊥
 
 -- the magnitude is halfway between that number of quanta and the next one
@@ -33,7 +33,7 @@ IsHalfPast low amount parts = 2 * amount ≡ (2 * low + 1) * parts
 -- ---- the two neighbours
 
 -- the neighbours of a fraction are on either side of it
-pub above_fraction : (precision below amount parts : ℕ) → IsFraction amount parts
+pub above_fraction : (precision below amount parts : ℕ) → IsFractionPick amount parts
     → IsBelow precision below amount parts → below * parts < amount
 above_fraction precision below amount parts n b =
     ⊎_elim
@@ -43,7 +43,7 @@ above_fraction precision below amount parts n b =
     absurd (n.not_whole below (omega (arith, q, l))))
     (cases_lt (below * parts) amount)
 
-pub below_fraction : (precision above amount parts : ℕ) → IsFraction amount parts
+pub below_fraction : (precision above amount parts : ℕ) → IsFractionPick amount parts
     → IsAbove precision above amount parts → amount < above * parts
 below_fraction precision above amount parts n a =
     ⊎_elim
@@ -114,7 +114,7 @@ even_grid precision n g l =
     (cases_lt g.place 1)
 
 -- twice a fraction that is an integral number of quanta is an odd one
-pub odd_half : (amount parts k : ℕ) → IsFraction amount parts → 2 * amount ≡ k * parts
+pub odd_half : (amount parts k : ℕ) → IsFractionPick amount parts → 2 * amount ≡ k * parts
     → (i : ℕ) × IsHalfPast i amount parts
 odd_half amount parts k n e =
     ⊎_elim
@@ -127,7 +127,7 @@ odd_half amount parts k n e =
     (halves k)
 
 -- Two neighbours with a fraction halfway between them are one quantum apart.
-pub tie_of_quanta : (precision below above amount parts : ℕ) → 0 < precision → 0 < parts → IsFraction amount parts
+pub tie_of_quanta : (precision below above amount parts : ℕ) → 0 < precision → 0 < parts → IsFractionPick amount parts
     → IsBelow precision below amount parts → IsAbove precision above amount parts
     → 2 * amount ≡ (below + above) * parts → above ≡ below + 1
 tie_of_quanta precision below above amount parts h p n b a e =
@@ -266,8 +266,8 @@ abbrev pub distance : ℕ → ℕ → ℕ → ℕ
 distance head amount parts = apart amount (head * parts)
 
 -- it is no integral number of quanta either
-pub distance_fraction : (head amount parts : ℕ) → IsFraction amount parts
-    → IsFraction (distance head amount parts) parts
+pub distance_fraction : (head amount parts : ℕ) → IsFractionPick amount parts
+    → IsFractionPick (distance head amount parts) parts
 distance_fraction head amount parts n = record {
   not_whole = λ k e.
       ⊎_elim

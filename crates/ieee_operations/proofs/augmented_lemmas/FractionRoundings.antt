@@ -28,7 +28,7 @@ use Rattle.apfloat_pair_theory.proofs.numbers.WholeProducts.{IsWholeProduct, who
 use Rattle.apfloat_pair_theory.proofs.sums.PairRoundings.{error_eighth}
 use Rattle.apfloat_pair_theory.proofs.sums.DifferenceLaws.{minus_is}
 use Rattle.apfloat_pair_theory.proofs.numbers.SignedProducts.{sign_times}
-use Rattle.ieee_operations.specs.augmented.Numbers.{IsNumberIn}
+use Rattle.ieee_operations.specs.augmented.Numbers.{IsAugmentedNumber}
 use Rattle.ieee_operations.proofs.augmented_lemmas.Multiples.{times_cancelled}
 use Rattle.ieee_operations.proofs.augmented_lemmas.Numbers.{IsRoundedExactly, signed_number, same_number, within_is}
 use Rattle.ieee_operations.proofs.augmented_lemmas.Numbers.{finite_within, negated_has, ok_tests, test_within}
@@ -57,13 +57,13 @@ fraction_exactly f mode of_zero z exact parts value status p g l e h =
     }
 
 -- a finite datum of exactly exact / parts quanta
-pub record HasParts (parts : ℕ) (exact : ℤ) (value : Datum) : Type 0 where
+pub record HasFractionParts (parts : ℕ) (exact : ℤ) (value : Datum) : Type 0 where
   pub is_finite : is_finite value ≡ true
   pub parts_are : (number value *ℤ pos parts) ≡ exact
 
 -- a rounding with status OK is exact
 pub ok_parts : (f : Format) (mode : Round) (of_zero : Bool) (exact : ℤ) (parts : ℕ) (value : Datum) (status : ℕ)
-    → IsRounded f mode of_zero exact parts value status → status ≡ ok_bits → HasParts parts exact value
+    → IsRounded f mode of_zero exact parts value status → status ≡ ok_bits → HasFractionParts parts exact value
 ok_parts f mode of_zero exact parts value status x o =
     let s = sign_of of_zero exact in
     let t = ok_tests (ltb (largest f) x.pick) (eqb (x.pick * parts) (magnitude exact)) (raises_overflow f mode s)
@@ -203,7 +203,7 @@ finite_is_nearest f of_zero exact whole parts value status p e q x =
 
 -- What the finite product to nearest leaves of an integral number of quanta is exact.
 pub whole_is_exact : (f : Format) → 3 ≤ f.precision → (x y near rest : Datum) (i j : ℕ) (whole : ℤ)
-    → IsNumberIn f x → IsNumberIn f y → IsNumberIn f near → 0 < magnitude (number x *ℤ number y)
+    → IsAugmentedNumber f x → IsAugmentedNumber f y → IsAugmentedNumber f near → 0 < magnitude (number x *ℤ number y)
     → IsProduct f NearestTiesToEven x y near i → IsFusedSum f NearestTiesToEven x y (negated f.nonfinite near) rest j
     → (whole *ℤ pos (2 ^ f.scale)) ≡ (number x *ℤ number y) → j ≡ ok_bits
 whole_is_exact f h x y near rest i j v nx ny nn o product fused e =

@@ -30,7 +30,7 @@ use Rattle.apfloat_model.proofs.rounding.Deliveries.{signed_some, past_not_finit
 use Rattle.apfloat_model.proofs.rounding.Laws.{delivered_once, exact_delivered}
 use Rattle.apfloat_pair_theory.proofs.numbers.Roundings.{signed_exact, signed_not}
 use Rattle.apfloat_pair_theory.proofs.numbers.Signed.{magnitude-neg}
-use Rattle.ieee_operations.specs.augmented.Numbers.{HasNumber, IsNumberIn}
+use Rattle.ieee_operations.specs.augmented.Numbers.{HasNumber, IsAugmentedNumber}
 
 -- ---- quanta with a sign
 
@@ -204,7 +204,7 @@ difference_rounded f mode (nan b m) y value status p q s = absurd (false≢true 
 
 -- ---- numbers of a format
 
-pub number_in : (f : Format) (x : Datum) → is_finite x ≡ true → IsMember f x → IsNumberIn f x
+pub number_in : (f : Format) (x : Datum) → is_finite x ≡ true → IsMember f x → IsAugmentedNumber f x
 number_in f (finite b m) p h =
     let e = magnitude_signed b m in
     record {
@@ -215,7 +215,7 @@ number_in f (finite b m) p h =
 number_in f (infinite b) p h = absurd (false≢true p)
 number_in f (nan b m) p h = absurd (false≢true p)
 
-pub negated_in : (f : Format) (x : Datum) → IsNumberIn f x → IsNumberIn f (negated f.nonfinite x)
+pub negated_in : (f : Format) (x : Datum) → IsAugmentedNumber f x → IsAugmentedNumber f (negated f.nonfinite x)
 negated_in f x h =
     let o = negated_has f x h.is_finite in
     let e : magnitude (number x) ≡ magnitude (number (negated f.nonfinite x)) =
@@ -228,7 +228,7 @@ negated_in f x h =
 
 -- a number of quanta with a sign
 pub quanta_in : (f : Format) (negative : Bool) (p : ℕ) (x : Datum) → IsOnGrid f.precision p → p ≤ largest f
-    → x ≡ signed_quanta f.nonfinite negative p → IsNumberIn f x
+    → x ≡ signed_quanta f.nonfinite negative p → IsAugmentedNumber f x
 quanta_in f s p x g l e =
     let k = signed_number f.nonfinite s p in
     let q : p ≡ magnitude (number x) =

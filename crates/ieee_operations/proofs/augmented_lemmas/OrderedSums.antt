@@ -20,7 +20,7 @@ use Rattle.apfloat_model.proofs.whole_numbers.SignedNumbers.{largest_some}
 use Rattle.apfloat_pair_theory.proofs.numbers.Signed.{on_grid_as}
 use Rattle.ieee_operations.specs.augmented.TiesToZero.{IsTiesToZeroPick}
 use Rattle.ieee_operations.specs.augmented.Augmented.{IsAugmentedSum}
-use Rattle.ieee_operations.specs.augmented.Numbers.{HasNumber, IsNumberIn, IsNearestTo, with_sign}
+use Rattle.ieee_operations.specs.augmented.Numbers.{HasNumber, IsAugmentedNumber, IsNearestTo, with_sign}
 use Rattle.ieee_operations.proofs.augmented_lemmas.Cases.{sum_of_numbers}
 use Rattle.ieee_operations.proofs.augmented_lemmas.Heads.{half_unit, with_tail_is, past_largest_is, picks_of}
 use Rattle.ieee_operations.proofs.augmented_lemmas.Heads.{near_is_nearest, pick_is_nearest, tie_is, no_tie_is, at_half}
@@ -29,8 +29,8 @@ use Rattle.ieee_operations.proofs.augmented_lemmas.Numbers.{signed_number, withi
 use Rattle.ieee_operations.proofs.augmented_lemmas.Rests.{as_nearest, rest_in_format}
 
 -- the sum toward zero is a number of the format
-pub short_in : (f : Format) → 3 ≤ f.precision → (x y short : Datum) (j : ℕ) → IsNumberIn f x → IsNumberIn f y
-    → IsSum f TowardZero x y short j → IsNumberIn f short
+pub short_in : (f : Format) → 3 ≤ f.precision → (x y short : Datum) (j : ℕ) → IsAugmentedNumber f x → IsAugmentedNumber f y
+    → IsSum f TowardZero x y short j → IsAugmentedNumber f short
 short_in f h x y short j nx ny sum =
     let v = number x +ℤ number y in
     let of_zero = zero_sum_sign NearestTiesToEven (is_negative x) (is_negative y) in
@@ -47,7 +47,7 @@ short_in f h x y short j nx ny sum =
     (cases_lt (largest f) r.pick)
 
 -- a head within the largest value and what it leaves are the two results
-finish : (f : Format) → 3 ≤ f.precision → (x y : Datum) → IsNumberIn f x → IsNumberIn f y → (p : ℕ)
+finish : (f : Format) → 3 ≤ f.precision → (x y : Datum) → IsAugmentedNumber f x → IsAugmentedNumber f y → (p : ℕ)
     → IsTiesToZeroPick f.precision (magnitude (number x +ℤ number y)) 1 p → p ≤ largest f
     → (value rest head tail : Datum) (status : ℕ)
     → value ≡ signed_quanta f.nonfinite
@@ -69,8 +69,8 @@ finish f h x y nx ny p t l value rest head tail status e r hd tl o =
 
 -- the sum toward zero is the head: it leaves exactly the opposite of what the sum to nearest leaves
 pub head_is_short : (f : Format) → 3 ≤ f.precision → (x y near short rest left other : Datum) (i j rest_status : ℕ)
-    → IsNumberIn f x → IsNumberIn f y → IsSum f NearestTiesToEven x y near i → IsSum f TowardZero x y short j
-    → IsNumberIn f near
+    → IsAugmentedNumber f x → IsAugmentedNumber f y → IsSum f NearestTiesToEven x y near i → IsSum f TowardZero x y short j
+    → IsAugmentedNumber f near
     → (rest_status ≡ ok_bits → HasNumber ((number x +ℤ number y) -ℤ number near) rest)
     → (IsNearestTo f.precision (number x +ℤ number y) (number near) → rest_status ≡ ok_bits)
     → HasNumber ((number x +ℤ number y) -ℤ number short) left → other ≡ negated f.nonfinite rest
@@ -91,8 +91,8 @@ head_is_short f h x y near short rest left other i j rest_status nx ny sum short
 -- the sum to nearest is the head
 pub head_is_near : (f : Format) → 3 ≤ f.precision → (x y near short rest left other : Datum)
     (i j rest_status left_status : ℕ)
-    → IsNumberIn f x → IsNumberIn f y → IsSum f NearestTiesToEven x y near i → IsSum f TowardZero x y short j
-    → IsNumberIn f near
+    → IsAugmentedNumber f x → IsAugmentedNumber f y → IsSum f NearestTiesToEven x y near i → IsSum f TowardZero x y short j
+    → IsAugmentedNumber f near
     → (rest_status ≡ ok_bits → HasNumber ((number x +ℤ number y) -ℤ number near) rest)
     → (IsNearestTo f.precision (number x +ℤ number y) (number near) → rest_status ≡ ok_bits)
     → (left_status ≡ ok_bits → HasNumber ((number x +ℤ number y) -ℤ number short) left)
@@ -115,7 +115,7 @@ head_is_near f h x y near short rest left other i j rest_status left_status nx n
 -- the largest value is the head: the sum is halfway past it
 pub head_is_largest : (f : Format) → 3 ≤ f.precision → 1 ≤ f.span → (x y near short left magnitude_of_left unit : Datum)
     (i j : ℕ)
-    → IsNumberIn f x → IsNumberIn f y → IsSum f NearestTiesToEven x y near i → IsSum f TowardZero x y short j
+    → IsAugmentedNumber f x → IsAugmentedNumber f y → IsSum f NearestTiesToEven x y near i → IsSum f TowardZero x y short j
     → is_finite near ≡ false
     → HasNumber ((number x +ℤ number y) -ℤ number short) left → magnitude_of_left ≡ abs f left
     → unit ≡ finite false (half_unit f) → is_equal magnitude_of_left unit ≡ true
@@ -141,7 +141,7 @@ head_is_largest f h k x y near short left magnitude_of_left unit i j nx ny sum s
 -- the head is past the largest value
 pub head_is_past : (f : Format) → 3 ≤ f.precision → 1 ≤ f.span → (x y near short left magnitude_of_left unit : Datum)
     (i j left_status : ℕ)
-    → IsNumberIn f x → IsNumberIn f y → IsSum f NearestTiesToEven x y near i → IsSum f TowardZero x y short j
+    → IsAugmentedNumber f x → IsAugmentedNumber f y → IsSum f NearestTiesToEven x y near i → IsSum f TowardZero x y short j
     → is_finite near ≡ false
     → (left_status ≡ ok_bits → HasNumber ((number x +ℤ number y) -ℤ number short) left)
     → (IsNearestTo f.precision (number x +ℤ number y) (number short) → left_status ≡ ok_bits)

@@ -18,7 +18,7 @@ use Rattle.apfloat_model.proofs.rounding.Laws.{zero_on_grid}
 use Rattle.apfloat_pair_theory.proofs.numbers.Signed.{magnitude-sub, on_grid_as}
 use Rattle.apfloat_pair_theory.proofs.numbers.Nearest.{IsNearest, nearest_above, nearest_below, error_le_second, error_on_grid}
 use Rattle.apfloat_pair_theory.proofs.numbers.TwoSums.{fast_two_sum_difference_greater}
-use Rattle.ieee_operations.specs.augmented.Numbers.{HasNumber, IsNumberIn, IsNearestTo}
+use Rattle.ieee_operations.specs.augmented.Numbers.{HasNumber, IsAugmentedNumber, IsNearestTo}
 use Rattle.ieee_operations.proofs.augmented_lemmas.Numbers.{rounded_exactly, ok_exactly, difference_rounded}
 
 -- eight numbers at least
@@ -99,7 +99,7 @@ first_exact f x head first status p q h o =
 
 -- of a nearest sum, the first is exact
 pub first_of_nearest : (f : Format) → 3 ≤ f.precision → (x y head first : Datum) (status : ℕ)
-    → IsNumberIn f x → IsNumberIn f y → IsNumberIn f head → magnitude (number y) ≤ magnitude (number x)
+    → IsAugmentedNumber f x → IsAugmentedNumber f y → IsAugmentedNumber f head → magnitude (number y) ≤ magnitude (number x)
     → IsNearestTo f.precision (number x +ℤ number y) (number head)
     → IsDifference f NearestTiesToEven head x first status → status ≡ ok_bits
 first_of_nearest f h x y head first status p q r l n d =
@@ -114,7 +114,7 @@ first_of_nearest f h x y head first status p q r l n d =
 
 -- and so is the second
 pub second_of_nearest : (f : Format) → 3 ≤ f.precision → (x y head first rest : Datum) (status : ℕ)
-    → IsNumberIn f x → IsNumberIn f y → HasNumber (number head -ℤ number x) first
+    → IsAugmentedNumber f x → IsAugmentedNumber f y → HasNumber (number head -ℤ number x) first
     → IsNearestTo f.precision (number x +ℤ number y) (number head)
     → IsDifference f NearestTiesToEven y first rest status → status ≡ ok_bits
 second_of_nearest f h x y head first rest status p q d n s =

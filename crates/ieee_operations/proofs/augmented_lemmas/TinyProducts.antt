@@ -32,9 +32,9 @@ use Rattle.apfloat_pair_theory.proofs.numbers.SignedProducts.{sum_times, magnitu
 use Rattle.apfloat_pair_theory.proofs.numbers.WholeProducts.{whole_product}
 use Rattle.apfloat_pair_theory.proofs.pairs.Normalised.{is_equal_by}
 use Rattle.ieee_operations.specs.augmented.Augmented.{left_of, IsPastLargest, IsWithTail, IsAugmentedProduct}
-use Rattle.ieee_operations.specs.augmented.Numbers.{HasNumber, IsNumberIn, IsNonzeroIn, IsTwiceLeft}
+use Rattle.ieee_operations.specs.augmented.Numbers.{HasNumber, IsAugmentedNumber, IsNonzeroIn, IsTwiceLeft}
 use Rattle.ieee_operations.specs.augmented.TiesToZero.{IsTiesToZeroPick}
-use Rattle.ieee_operations.proofs.augmented_lemmas.FractionPicks.{IsFraction, IsHalfPast, distance, below_fraction, gap, odd_half, tie_of_quanta, from_even_in, pick_cases, half_pick, half_short, low_pick, distance_fraction, distance_half, distance_half_past, distance_at_most}
+use Rattle.ieee_operations.proofs.augmented_lemmas.FractionPicks.{IsFractionPick, IsHalfPast, distance, below_fraction, gap, odd_half, tie_of_quanta, from_even_in, pick_cases, half_pick, half_short, low_pick, distance_fraction, distance_half, distance_half_past, distance_at_most}
 use Rattle.ieee_operations.proofs.augmented_lemmas.FractionRoundings.{rest_of_product, fraction_exactly, ok_parts, product_rounded, rest_rounded, small_product, whole_is_exact}
 use Rattle.ieee_operations.proofs.augmented_lemmas.Multiples.{sign_some}
 use Rattle.ieee_operations.proofs.augmented_lemmas.Numbers.{signed_number, same_number, within_is, finite_within}
@@ -67,13 +67,13 @@ double_within f h w n g q =
 -- ---- what is known of a product with digits below the quantum
 
 -- its size, and that of one factor
-record IsSmall (f : Format) (x y : Datum) : Type 0 where
+record IsSmallProduct (f : Format) (x y : Datum) : Type 0 where
   pub low : magnitude (number x *ℤ number y) < 2 ^ f.precision * (2 ^ (f.precision - 1) * 2 ^ f.scale)
   pub double : 2 * magnitude (number x) ≤ largest f
 
 -- the picks to nearest and toward zero, as data
 pub record IsTiny (f : Format) (x y near short : Datum) (s : Bool) (amount parts : ℕ) : Type 0 where
-  pub fraction : IsFraction amount parts
+  pub fraction : IsFractionPick amount parts
   pub low : amount < 2 ^ f.precision * (2 ^ (f.precision - 1) * parts)
   pub double : 2 * magnitude (number x) ≤ largest f
   pub even : ℕ
@@ -93,9 +93,9 @@ sign_of_product x y = sign_of (product_sign (is_negative x) (is_negative y)) (nu
 
 -- The product is no integral number of quanta, since what its rounding leaves would be exact.
 no_whole : (f : Format) → 3 ≤ f.precision → (x y near rest : Datum) (i k : ℕ) → IsNonzeroIn f x → IsNonzeroIn f y
-    → IsNumberIn f near → IsProduct f NearestTiesToEven x y near i
+    → IsAugmentedNumber f near → IsProduct f NearestTiesToEven x y near i
     → IsFusedSum f NearestTiesToEven x y (negated f.nonfinite near) rest k → (k ≡ ok_bits → ⊥)
-    → IsFraction (magnitude (exact_of x y)) (2 ^ f.scale)
+    → IsFractionPick (magnitude (exact_of x y)) (2 ^ f.scale)
 no_whole f h x y near rest i k nx ny nn product fused lost = record {
   not_whole = λ whole e.
       let w : (signed (sign_of_product x y) whole *ℤ pos (2 ^ f.scale)) ≡ (number x *ℤ number y) =
@@ -107,8 +107,8 @@ no_whole f h x y near rest i k nx ny nn product fused lost = record {
 }
 
 small : (f : Format) → 3 ≤ f.precision → f.scale < f.span → (x y near rest : Datum) (i k : ℕ) → IsNonzeroIn f x
-    → IsNonzeroIn f y → IsNumberIn f near → IsProduct f NearestTiesToEven x y near i
-    → IsFusedSum f NearestTiesToEven x y (negated f.nonfinite near) rest k → (k ≡ ok_bits → ⊥) → IsSmall f x y
+    → IsNonzeroIn f y → IsAugmentedNumber f near → IsProduct f NearestTiesToEven x y near i
+    → IsFusedSum f NearestTiesToEven x y (negated f.nonfinite near) rest k → (k ≡ ok_bits → ⊥) → IsSmallProduct f x y
 small f h w x y near rest i k nx ny nn product fused lost =
     let g = nx.is_in.on_grid in
     let j = ny.is_in.on_grid in
@@ -127,7 +127,7 @@ small f h w x y near rest i k nx ny nn product fused lost =
     (cases_lt (g.place + j.place) f.scale)
 
 pub tiny_of : (f : Format) → 3 ≤ f.precision → f.scale < f.span → (x y near short rest : Datum) (i j k : ℕ)
-    → IsNonzeroIn f x → IsNonzeroIn f y → IsNumberIn f near → IsProduct f NearestTiesToEven x y near i
+    → IsNonzeroIn f x → IsNonzeroIn f y → IsAugmentedNumber f near → IsProduct f NearestTiesToEven x y near i
     → IsProduct f TowardZero x y short j → IsFusedSum f NearestTiesToEven x y (negated f.nonfinite near) rest k
     → (k ≡ ok_bits → ⊥) → IsTiny f x y near short (sign_of_product x y) (magnitude (exact_of x y)) (2 ^ f.scale)
 tiny_of f h w x y near short rest i j k nx ny nn product shorter fused lost =
@@ -161,7 +161,7 @@ signed_double : (s : Bool) (m : ℕ) → signed s (m * 2) ≡ (signed s m +ℤ s
 signed_double true m = omega (arith, ints)
 signed_double false m = omega (arith, ints)
 
-doubled_has : (f : Format) (x double : Datum) → IsNumberIn f x → 2 * magnitude (number x) ≤ largest f
+doubled_has : (f : Format) (x double : Datum) → IsAugmentedNumber f x → 2 * magnitude (number x) ≤ largest f
     → IsScaling f NearestTiesToEven x (pos 1) double → HasNumber (number x +ℤ number x) double
 doubled_has f (finite b m) double n l h =
     let g = n.on_grid in
@@ -188,8 +188,8 @@ magnitude_double : (z : ℤ) → magnitude (z +ℤ z) ≡ 2 * magnitude z
 magnitude_double z = omega (arith, ints, one_side z, one_side (z +ℤ z))
 
 -- twice what a head leaves is rounded once
-twice_rounded : (f : Format) (x y head left : Datum) (k : ℕ) → IsNumberIn f x → is_finite y ≡ true
-    → IsNumberIn f head → 2 * magnitude (number x) ≤ largest f → 2 * magnitude (number head) ≤ largest f
+twice_rounded : (f : Format) (x y head left : Datum) (k : ℕ) → IsAugmentedNumber f x → is_finite y ≡ true
+    → IsAugmentedNumber f head → 2 * magnitude (number x) ≤ largest f → 2 * magnitude (number head) ≤ largest f
     → IsTwiceLeft f x y head left k
     → (of_zero : Bool) × IsRounded f NearestTiesToEven of_zero
     (rest_of_product f x y head +ℤ rest_of_product f x y head) (2 ^ f.scale) left k
@@ -241,7 +241,7 @@ module _ (f : Format) (precise : 3 ≤ f.precision) (wide : f.precision < f.span
   short_number : number short ≡ signed (sign_of_product x y) t.lower
   short_number = ap number t.short_is ∙ (signed_number f.nonfinite (sign_of_product x y) t.lower).number_is
 
-  short_in : IsNumberIn f short
+  short_in : IsAugmentedNumber f short
   short_in =
       quanta_in f (sign_of_product x y) t.lower short
       (on_grid_as (sym lower_below) t.is_even.is_below.on_grid) t.lower_within t.short_is
@@ -390,7 +390,7 @@ module _ (f : Format) (precise : 3 ≤ f.precision) (wide : f.precision < f.span
       lower_apart t.is_even.is_below.not_above t.is_even.is_above.not_below h
 
   -- What a head leaves is rounded to nearest with ties toward zero, and inexact.
-  tail_is : (head tail : Datum) (pick status last : ℕ) (mode : Round) → IsNumberIn f head
+  tail_is : (head tail : Datum) (pick status last : ℕ) (mode : Round) → IsAugmentedNumber f head
       → head ≡ signed_quanta f.nonfinite (sign_of_product x y) pick → pick ≤ largest f
       → (pick ≡ t.is_even.above) ⊎ (pick ≡ t.is_even.below)
       → IsTiesToZeroPick f.precision (magnitude (exact_of x y)) (2 ^ f.scale) pick
@@ -502,7 +502,7 @@ module _ (f : Format) (precise : 3 ≤ f.precision) (wide : f.precision < f.span
   near_side =
       pick_cases f.precision (sign_of_product x y) (magnitude (exact_of x y)) (2 ^ f.scale) t.even t.is_even
 
-  pub head_is_near_tie : IsNumberIn f near → k ≡ ok_bits → (magnitude (number left) ≡ 1 → ⊥) → (head tail : Datum)
+  pub head_is_near_tie : IsAugmentedNumber f near → k ≡ ok_bits → (magnitude (number left) ≡ 1 → ⊥) → (head tail : Datum)
       (status last : ℕ) → head ≡ near → IsFusedSum f TowardZero x y (negated f.nonfinite near) tail last
       → status ≡ underflow_bit + inexact_bit → IsAugmentedProduct f x y head tail status
   head_is_near_tie nn ok other head tail status last hd fused o =
@@ -510,7 +510,7 @@ module _ (f : Format) (precise : 3 ≤ f.precision) (wide : f.precision < f.span
       (tail_is near tail t.even status last TowardZero nn t.near_is t.even_within near_side (pick_near (inr other))
       fused (picks_short t.even near_side ok) o)
 
-  pub head_is_near : IsNumberIn f near → (k ≡ ok_bits → ⊥) → (head tail : Datum) (status last : ℕ) → head ≡ near
+  pub head_is_near : IsAugmentedNumber f near → (k ≡ ok_bits → ⊥) → (head tail : Datum) (status last : ℕ) → head ≡ near
       → IsFusedSum f NearestTiesToEven x y (negated f.nonfinite near) tail last
       → status ≡ underflow_bit + inexact_bit → IsAugmentedProduct f x y head tail status
   head_is_near nn lost head tail status last hd fused o =

@@ -19,14 +19,14 @@ pub record HasNumber (exact : ℤ) (value : Datum) : Type 0 where
   pub number_is : number value ≡ exact
 
 -- a finite datum of the format
-pub record IsNumberIn (f : Format) (x : Datum) : Type 0 where
+pub record IsAugmentedNumber (f : Format) (x : Datum) : Type 0 where
   pub is_finite : is_finite x ≡ true
   pub on_grid : IsOnGrid f.precision (magnitude (number x))
   pub within : magnitude (number x) ≤ largest f
 
 -- a finite datum of the format other than zero
 pub record IsNonzeroIn (f : Format) (x : Datum) : Type 0 where
-  pub is_in : IsNumberIn f x
+  pub is_in : IsAugmentedNumber f x
   pub some : 0 < magnitude (number x)
 
 -- what a head leaves of a product, times two, rounded

@@ -16,7 +16,7 @@ ghost use Rattle.apfloat_model.specs.arithmetic.FusedSums.{IsFusedSum};
 ghost use Rattle.apfloat_model.specs.order.Classes.{is_finite, is_finite_non_zero};
 ghost use Rattle.apfloat_ieee.specs.FlaggedTypes.{format_of};
 ghost use Rattle.ieee_operations.specs.augmented.Augmented.{IsAugmentedProduct};
-ghost use Rattle.ieee_operations.specs.augmented.Numbers.{IsNumberIn, IsNonzeroIn, IsTwiceLeft};
+ghost use Rattle.ieee_operations.specs.augmented.Numbers.{IsAugmentedNumber, IsNonzeroIn, IsTwiceLeft};
 
 use crate::augmented::augmented::{Augmented, both, past_largest, with_rounded_tail};
 use crate::augmented::sums::{augmented_add, is_exactly, is_number, is_ok};
@@ -66,7 +66,7 @@ fn within_product<S: Flagged>(
 ) -> StatusAnd<Augmented<S>>
     requires left { IsNonzeroIn (format_of S.Flagged) x }
     requires right { IsNonzeroIn (format_of S.Flagged) y }
-    requires near { IsNumberIn (format_of S.Flagged) near }
+    requires near { IsAugmentedNumber (format_of S.Flagged) near }
     requires product { (status : ℕ)
         × IsProduct (format_of S.Flagged) NearestTiesToEven x y near status }
     ensures { IsAugmentedProduct (format_of S.Flagged) x y result.value.head result.value.tail
@@ -117,7 +117,7 @@ fn tiny_product<S: Flagged>(
 ) -> StatusAnd<Augmented<S>>
     requires left { IsNonzeroIn (format_of S.Flagged) x }
     requires right { IsNonzeroIn (format_of S.Flagged) y }
-    requires near { IsNumberIn (format_of S.Flagged) near }
+    requires near { IsAugmentedNumber (format_of S.Flagged) near }
     requires product { (status : ℕ)
         × IsProduct (format_of S.Flagged) NearestTiesToEven x y near status }
     requires lost { (rest : Datum) × (status : ℕ)

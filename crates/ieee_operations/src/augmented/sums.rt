@@ -15,7 +15,7 @@ ghost use Rattle.apfloat_model.specs.order.Classes.{is_finite};
 ghost use Rattle.apfloat_model.specs.order.Order.{number, is_equal};
 ghost use Rattle.apfloat_ieee.specs.FlaggedTypes.{format_of};
 ghost use Rattle.ieee_operations.specs.augmented.Augmented.{IsAugmentedSum, IsAugmentedDifference};
-ghost use Rattle.ieee_operations.specs.augmented.Numbers.{HasNumber, IsNumberIn, IsNearestTo};
+ghost use Rattle.ieee_operations.specs.augmented.Numbers.{HasNumber, IsAugmentedNumber, IsNearestTo};
 
 use crate::augmented::augmented::{Augmented, both, past_largest, with_tail};
 use apfloat_base::{Category, ExpInt, Float, Round, Status, StatusAnd};
@@ -53,8 +53,8 @@ pub fn augmented_subtract<S: Flagged>(x: IeeeFloat<S>, y: IeeeFloat<S>) -> Statu
 
 /// The augmented sum of two finite values.
 fn finite_sum<S: Flagged>(x: IeeeFloat<S>, y: IeeeFloat<S>) -> StatusAnd<Augmented<S>>
-    requires left { IsNumberIn (format_of S.Flagged) x }
-    requires right { IsNumberIn (format_of S.Flagged) y }
+    requires left { IsAugmentedNumber (format_of S.Flagged) x }
+    requires right { IsAugmentedNumber (format_of S.Flagged) y }
     ensures { IsAugmentedSum (format_of S.Flagged) x y result.value.head result.value.tail
         (bits_of result.status) }
 {
@@ -67,8 +67,8 @@ fn finite_sum<S: Flagged>(x: IeeeFloat<S>, y: IeeeFloat<S>) -> StatusAnd<Augment
 
 /// The augmented sum of two finite values, the second of which is not the greater in magnitude.
 fn ordered_sum<S: Flagged>(x: IeeeFloat<S>, y: IeeeFloat<S>) -> StatusAnd<Augmented<S>>
-    requires left { IsNumberIn (format_of S.Flagged) x }
-    requires right { IsNumberIn (format_of S.Flagged) y }
+    requires left { IsAugmentedNumber (format_of S.Flagged) x }
+    requires right { IsAugmentedNumber (format_of S.Flagged) y }
     requires order { magnitude (number y) ≤ magnitude (number x) }
     ensures { IsAugmentedSum (format_of S.Flagged) x y result.value.head result.value.tail
         (bits_of result.status) }
@@ -97,9 +97,9 @@ fn rest_of<S: Flagged>(
     y: IeeeFloat<S>,
     head: IeeeFloat<S>,
 ) -> StatusAnd<IeeeFloat<S>>
-    requires left { IsNumberIn (format_of S.Flagged) x }
-    requires right { IsNumberIn (format_of S.Flagged) y }
-    requires head { IsNumberIn (format_of S.Flagged) head }
+    requires left { IsAugmentedNumber (format_of S.Flagged) x }
+    requires right { IsAugmentedNumber (format_of S.Flagged) y }
+    requires head { IsAugmentedNumber (format_of S.Flagged) head }
     requires order { magnitude (number y) ≤ magnitude (number x) }
     ensures exact { bits_of result.status ≡ ok_bits
         → HasNumber ((number x +ℤ number y) -ℤ number head) result.value }
@@ -129,7 +129,7 @@ pub(crate) fn is_exactly<S: Flagged>(
 
 /// Whether the value is finite.
 pub(crate) fn is_number<S: Flagged>(x: IeeeFloat<S>) -> bool
-    ensures yes { result ≡ true → IsNumberIn (format_of S.Flagged) x }
+    ensures yes { result ≡ true → IsAugmentedNumber (format_of S.Flagged) x }
     ensures no { result ≡ false → is_finite x ≡ false }
 {
     match x.category() {

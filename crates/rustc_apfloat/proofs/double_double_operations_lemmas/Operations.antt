@@ -23,7 +23,7 @@ use Rattle.apfloat_pair_theory.proofs.calls.CallsExist.{conversion_exists, joine
 use Rattle.apfloat_pair_theory.proofs.pairs.PairBits.{double_of, pair_of_halves}
 use Rattle.apfloat_pair_theory.proofs.pairs.SplitLaws.{lossless_split}
 use Rattle.rustc_apfloat.proofs.double_doubles_lemmas.PairSteps.{wide_of_none}
-use Rattle.rustc_apfloat.specs.double_double_operations.PairConversions.{IsConvertedTo, IsPairTo, IsPairFrom, IsExactPairFrom}
+use Rattle.rustc_apfloat.specs.double_double_operations.PairConversions.{IsConvertedAnyway, IsPairTo, IsPairFrom, IsExactPairFrom}
 use Rattle.rustc_apfloat.specs.double_double_operations.PairFusedSums.{IsWideAnswerOfThree, IsPairFusedSum}
 
 -- ---- the parts of a pair, read from its bits
@@ -51,7 +51,7 @@ pub by_sum : (g : Format) (mode : Round) (x : Pair) (high low : Datum) (is_numbe
     → IsSumTo double double g mode high low value status → IsPairTo g mode x value status
 by_sum g mode x high low is_number value status h l n e s =
     match_true (is_finite_non_zero x.high) (IsSumTo double double g mode x.high x.low value status)
-    (IsConvertedTo double g mode x.high value status)
+    (IsConvertedAnyway double g mode x.high value status)
     (ap is_finite_non_zero (sym h) ∙ sym (number_agrees high) ∙ sym n ∙ e)
     (subst₂ (λ (a : Datum) (b : Datum). IsSumTo double double g mode a b value status) h l s)
 
@@ -60,7 +60,7 @@ pub alone : (g : Format) (mode : Round) (x : Pair) (high : Datum) (is_number : B
     → IsConversion double g mode high value status loses → IsPairTo g mode x value status
 alone g mode x high is_number value status loses h n e s =
     match_false (is_finite_non_zero x.high) (IsSumTo double double g mode x.high x.low value status)
-    (IsConvertedTo double g mode x.high value status)
+    (IsConvertedAnyway double g mode x.high value status)
     (ap is_finite_non_zero (sym h) ∙ sym (number_agrees high) ∙ sym n ∙ e)
     (record {
       loses_info = loses;
@@ -141,24 +141,24 @@ exactly_from f (finite b m) value flags loses answer status exact split e = λ n
 exactly_from f (infinite b) value flags loses answer status exact split e = tt
 exactly_from f (nan b s) value flags loses answer status exact split e = tt
 
-converted_once : (f g : Format) (mode : Round) (x : Datum) → Once (IsConvertedTo f g mode x)
+converted_once : (f g : Format) (mode : Round) (x : Datum) → Once (IsConvertedAnyway f g mode x)
 converted_once f g mode x v w r s h k =
     let e = conversion_once f g mode x v w r s h.loses_info k.loses_info h.is_conversion k.is_conversion in
     (e.0, e.1)
 
-converted_exists : (f : Format) (mode : Round) (x : Datum) → HasAnswer (IsConvertedTo f wide mode x)
+converted_exists : (f : Format) (mode : Round) (x : Datum) → HasAnswer (IsConvertedAnyway f wide mode x)
 converted_exists f mode x =
     let c = conversion_exists f wide (lit< tt) mode x in
     (c.0, (c.1.0, record { loses_info = c.1.1.0; is_conversion = c.1.1.1 }))
 
 pub one_from_format : (f : Format) (mode : Round) (x : Datum) → HasOneAnswer (IsPairFrom f mode x)
 one_from_format f mode x = record {
-  exists = split_answer_exists (IsConvertedTo f wide mode x) (converted_exists f mode x);
-  once = split_answer_once (IsConvertedTo f wide mode x) (converted_once f wide mode x);
+  exists = split_answer_exists (IsConvertedAnyway f wide mode x) (converted_exists f mode x);
+  once = split_answer_once (IsConvertedAnyway f wide mode x) (converted_once f wide mode x);
 }
 
 pub one_to_format : HasOneSum → (g : Format) (mode : Round) (x : Pair) → DeterminesBoth (IsPairTo g mode x)
 one_to_format one_sum g mode x v w r s h k =
     match_case Once (is_finite_non_zero x.high) (IsSumTo double double g mode x.high x.low)
-    (IsConvertedTo double g mode x.high) (one_sum double double g mode x.high x.low)
+    (IsConvertedAnyway double g mode x.high) (one_sum double double g mode x.high x.low)
     (converted_once double g mode x.high) v w r s h k

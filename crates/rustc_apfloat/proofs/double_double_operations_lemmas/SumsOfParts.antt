@@ -23,7 +23,7 @@ use Rattle.apfloat_arithmetic.specs.other_formats.FormatOf.{IsRounded, IsSumTo}
 use Rattle.apfloat_pair_theory.specs.PairFormats.{double}
 use Rattle.apfloat_pair_theory.specs.Pairs.{Pair}
 use Rattle.apfloat_pair_theory.proofs.numbers.SignedProducts.{sum_times, magnitude-times, signed_times}
-use Rattle.rustc_apfloat.specs.double_double_operations.PairConversions.{IsConvertedTo, IsPairTo, IsPairNumberTo}
+use Rattle.rustc_apfloat.specs.double_double_operations.PairConversions.{IsConvertedAnyway, IsPairTo, IsPairNumberTo}
 
 -- ---- a magnitude as a fraction with fewer parts
 
@@ -233,5 +233,5 @@ pub number_delivered : (g : Format) (mode : Round) (x : Pair) (value : Datum) (s
 number_delivered g mode x value status h = λ some low.
     parts_rounded double g mode x.high x.low value status
     (chosen (is_finite_non_zero x.high) (IsSumTo double double g mode x.high x.low value status)
-    (IsConvertedTo double g mode x.high value status) some h)
+    (IsConvertedAnyway double g mode x.high value status) some h)
     (finite_of x.high some) low

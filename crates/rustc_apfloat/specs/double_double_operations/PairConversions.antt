@@ -16,7 +16,7 @@ use Rattle.apfloat_pair_theory.specs.PairFormats.{double, wide}
 use Rattle.apfloat_pair_theory.specs.Pairs.{Pair, pair_number, IsSplitAnswer}
 
 -- the conversion of a datum of f to g, whether or not it loses information
-pub record IsConvertedTo (f g : Format) (mode : Round) (x value : Datum) (status : ℕ) : Type 0 where
+pub record IsConvertedAnyway (f g : Format) (mode : Round) (x value : Datum) (status : ℕ) : Type 0 where
   pub loses_info : Bool
   pub is_conversion : IsConversion f g mode x value status loses_info
 
@@ -25,7 +25,7 @@ pub record IsConvertedTo (f g : Format) (mode : Round) (x value : Datum) (status
 abbrev pub IsPairTo : Format → Round → Pair → Datum → ℕ → Type 0
 IsPairTo g mode x value status =
     MatchBool (is_finite_non_zero x.high) (IsSumTo double double g mode x.high x.low value status)
-    (IsConvertedTo double g mode x.high value status)
+    (IsConvertedAnyway double g mode x.high value status)
 
 -- if both parts are finite and the high part is not zero: the number of the pair, rounded once
 abbrev pub IsPairNumberTo : Format → Round → Pair → Datum → ℕ → Type 0
@@ -36,7 +36,7 @@ IsPairNumberTo g mode x value status =
 
 -- a datum of f, rounded once in the wide format and split, with the flags of that rounding
 abbrev pub IsPairFrom : Format → Round → Datum → Pair → ℕ → Type 0
-IsPairFrom f mode x answer status = IsSplitAnswer (IsConvertedTo f wide mode x) answer status
+IsPairFrom f mode x answer status = IsSplitAnswer (IsConvertedAnyway f wide mode x) answer status
 
 -- if the wide format has the number too, within the largest double, the pair is normalized and is that number
 abbrev pub IsExactPairFrom : Format → Datum → Pair → ℕ → Type 0

@@ -18,7 +18,7 @@ use Rattle.apfloat_model.proofs.general.Powers.{twice_half}
 use Rattle.apfloat_model.proofs.rounding.Neighbours.{multiple_on_grid}
 use Rattle.small_formats.specs.Codes.{largest_index, magnitude_of, point}
 use Rattle.small_formats.specs.LawTest.{lawful_from_test}
-use Rattle.small_formats.specs.Storage.{Constants, IsLawful}
+use Rattle.small_formats.specs.Storage.{StorageConstants, IsLawfulStorage}
 use Rattle.small_formats.specs.Storage.{format_with as stored_format}
 use Rattle.small_formats.proofs.Points.{point_on_grid}
 use Rattle.small_formats.proofs.StoredPicks.{largest_point, not_greater}
@@ -33,11 +33,11 @@ pub record IsElementNumber (element : ElementFormat) (quanta : ℕ) : Type 0 whe
 
 -- ---- storage formats
 
-pub record IsStoredNumber (c : Constants) (quanta : ℕ) : Type 0 where
+pub record IsStoredNumber (c : StorageConstants) (quanta : ℕ) : Type 0 where
   pub on_grid : IsOnGrid c.precision quanta
   pub within : quanta ≤ largest (stored_format c)
 
-pub stored_number : (c : Constants) (code : ℕ) → IsLawful c
+pub stored_number : (c : StorageConstants) (code : ℕ) → IsLawfulStorage c
     → IsStoredNumber c (point c.precision (magnitude_of c code))
 stored_number c code law =
     let low = law.precision_low in
@@ -50,13 +50,13 @@ stored_number c code law =
       within = let at = largest_point c law in omega (arith, most, at);
     }
 
-e3m2fn_law : IsLawful e3m2fn
+e3m2fn_law : IsLawfulStorage e3m2fn
 e3m2fn_law = lawful_from_test _ refl
 
-e2m3fn_law : IsLawful e2m3fn
+e2m3fn_law : IsLawfulStorage e2m3fn
 e2m3fn_law = lawful_from_test _ refl
 
-pub e2m1fn_law : IsLawful e2m1fn
+pub e2m1fn_law : IsLawfulStorage e2m1fn
 e2m1fn_law = lawful_from_test _ refl
 
 -- ---- formats of 8 bits: a finite code is an implied number

@@ -7,7 +7,7 @@ use Rattle.apfloat_model.specs.formats.Lawful.{format_with as library_format}
 use Rattle.apfloat_model.specs.formats.Members.{IsFiniteOf}
 use Rattle.round_to_odd.proofs.OddPoints.{moved_on_grid, wider_grid}
 use Rattle.small_formats.specs.Codes.{is_negative_code, largest_index, magnitude_of, point}
-use Rattle.small_formats.specs.Storage.{Constants, IsLawful, format_with}
+use Rattle.small_formats.specs.Storage.{StorageConstants, IsLawfulStorage, format_with}
 use Rattle.small_formats.proofs.Points.{point_on_grid}
 use Rattle.small_formats.proofs.StoredPicks.{largest_point, not_greater}
 use Rattle.small_formats.proofs.blocks_lemmas.Tops.{top_below}
@@ -19,7 +19,7 @@ moved_quanta m scale l =
     (let z : m * 2 ^ (24 - scale) * 2 ^ scale ≡ m * (2 ^ (24 - scale) * 2 ^ scale) = omega arith in z)
     ∙ sym (ap (λ (n : ℕ). m * n) p)
 
-pub half_member : (c : Constants) (code : ℕ) → IsLawful c → c.precision ≤ 11 → (format_with c).scale ≤ 24
+pub half_member : (c : StorageConstants) (code : ℕ) → IsLawfulStorage c → c.precision ≤ 11 → (format_with c).scale ≤ 24
     → (format_with c).span + c.precision + 24 ≤ (format_with c).scale + 40
     → IsFiniteOf (library_format half_constants) (is_negative_code c code)
     (point c.precision (magnitude_of c code) * 2 ^ (24 - (format_with c).scale))

@@ -18,7 +18,7 @@ use Rattle.apfloat_model.proofs.general.Powers.{both_above_zero}
 use Rattle.apfloat_arithmetic.specs.other_formats.Extended.{seen}
 use Rattle.apfloat_arithmetic.specs.other_formats.FormatOf.{IsProductTo}
 use Rattle.small_formats.specs.Codes.{datum_of, is_negative_code, magnitude_of, point}
-use Rattle.small_formats.specs.Storage.{Constants, format_with as stored_format}
+use Rattle.small_formats.specs.Storage.{StorageConstants, format_with as stored_format}
 use Rattle.small_formats.specs.declared.blocks.elements.ElementFormat.{ElementFormat}
 use Rattle.small_formats.specs.blocks.Elements.{element_datum, format_of_element}
 use Rattle.small_formats.proofs.blocks_lemmas.SameFractions.{delivered_across}
@@ -79,7 +79,7 @@ product_in f h g mode x y value status amount places precise is some p same =
     (subst (λ (d : Datum). IsProductTo f h g mode x d value status) is p)
 
 -- the same of the number of a storage format that the half is
-pub product_of_half : (c : Constants) (h g : Format) (mode : Round) (code : ℕ) (half y value : Datum)
+pub product_of_half : (c : StorageConstants) (h g : Format) (mode : Round) (code : ℕ) (half y value : Datum)
     (status amount places : ℕ) → 0 < g.precision
     → half ≡ finite (is_negative (datum_of c code)) (quanta_of half)
     → quanta_of half * 2 ^ (stored_format c).scale ≡ quanta_of (datum_of c code) * 2 ^ 24

@@ -11,7 +11,7 @@ use Rattle.apfloat_model.specs.rounding.Rounding.{IsPick, delivered_status}
 use Rattle.small_formats.specs.Codes.{datum_of}
 use Rattle.small_formats.specs.Conversions.{saturated_value}
 use Rattle.small_formats.specs.Storage.{constants_with}
-use Rattle.small_formats.specs.Storage.{Constants as Stored, format_with as stored_format}
+use Rattle.small_formats.specs.Storage.{StorageConstants as Stored, format_with as stored_format}
 use Rattle.small_formats.specs.declared.blocks.elements.ElementFormat.{ElementFormat}
 use Rattle.small_formats.specs.declared.blocks.elements.ElementFormat.TheVariants.{E5M2, E4M3FN, E3M2FN, E2M3FN, E2M1FN}
 

@@ -1,10 +1,10 @@
 use Rattle.std.specs.Prelude.{ℕ, List}
-use Rattle.fast_bits.specs.lanes.Targets.{IsSingle}
+use Rattle.fast_bits.specs.lanes.Targets.{IsSingleFormat}
 use Rattle.rustc_apfloat.specs.Lawful.{Constants, format_with, layout_with}
 use Rattle.rustc_apfloat.specs.declared.Round.{Round}
 use Rattle.fast_bits.specs.declared.lanes.few_counts.FewCounts.{FewCounts}
 use Rattle.fast_bits.specs.declared.lanes.plans.ShortPlan.{ShortPlan}
-use Rattle.fast_bits.specs.lanes.FewCounts.{AreAtMost}
+use Rattle.fast_bits.specs.lanes.FewCounts.{FewAreAtMost}
 use Rattle.small_formats.specs.declared.saturation.saturation.Overflow.{Overflow}
 use Rattle.apfloat_arrays.specs.Rows.{IsRow}
 use Rattle.apfloat_arrays.specs.ShortSingles.{AreHalvesOf, IsShortPlanFor}
@@ -14,9 +14,9 @@ use Rattle.apfloat_arrays.proofs.short_singles.convert_halves.Given as goal
 
 pub record AreConverted (plan : ShortPlan) (width count index : ℕ) (halves output : List ℕ)
     (few : FewCounts) : Type 0 where
-  pub few_are : AreAtMost index few
+  pub few_are : FewAreAtMost index few
   pub row : (overflow : Overflow) (c d : Constants) (mode : Round) (given : ℕ → List ℕ)
-      → IsSingle (format_with c) (layout_with c) → IsShortPlanFor overflow d mode plan
+      → IsSingleFormat (format_with c) (layout_with c) → IsShortPlanFor overflow d mode plan
       → AreHalvesOf count halves given
       → IsRow (IsConvertedBy overflow c d mode) given width index output (counts_with few index)
 

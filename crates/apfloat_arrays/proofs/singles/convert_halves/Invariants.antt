@@ -1,22 +1,22 @@
 use Rattle.std.specs.Prelude.{ℕ, List}
-use Rattle.fast_bits.specs.lanes.Targets.{IsSingle}
+use Rattle.fast_bits.specs.lanes.Targets.{IsSingleFormat}
 use Rattle.rustc_apfloat.specs.Lawful.{Constants, format_with, layout_with}
 use Rattle.rustc_apfloat.specs.declared.Round.{Round}
 use Rattle.fast_bits.specs.declared.lanes.few_counts.FewCounts.{FewCounts}
 use Rattle.fast_bits.specs.declared.lanes.plans.Plan.{Plan}
-use Rattle.fast_bits.specs.lanes.FewCounts.{AreAtMost}
+use Rattle.fast_bits.specs.lanes.FewCounts.{FewAreAtMost}
 use Rattle.small_formats.specs.declared.saturation.saturation.Overflow.{Overflow}
 use Rattle.apfloat_arrays.specs.Rows.{IsRow}
-use Rattle.apfloat_arrays.specs.Singles.{AreHalves, IsPlanFor, counts_with}
+use Rattle.apfloat_arrays.specs.Singles.{AreHalfSingles, IsPlanFor, counts_with}
 use Rattle.apfloat_arrays.specs.Values.{IsConvertedBy}
 use Rattle.apfloat_arrays.proofs.singles.convert_halves.Given as goal
 
 pub record AreConverted (plan : Plan) (width count index : ℕ) (uppers lowers output : List ℕ) (few : FewCounts)
     : Type 0 where
-  pub few_are : AreAtMost index few
+  pub few_are : FewAreAtMost index few
   pub row : (overflow : Overflow) (c d : Constants) (mode : Round) (given : ℕ → List ℕ)
-      → IsSingle (format_with c) (layout_with c) → IsPlanFor overflow d mode plan
-      → AreHalves count uppers lowers given
+      → IsSingleFormat (format_with c) (layout_with c) → IsPlanFor overflow d mode plan
+      → AreHalfSingles count uppers lowers given
       → IsRow (IsConvertedBy overflow c d mode) given width index output (counts_with few index)
 
 abbrev pub invariant-loop-index : goal.invariant-loop-index

@@ -2,7 +2,7 @@ use Rattle.std.proofs.Common.{◌-◌, ◌%◌, ◌^◌, refl, arith, w32}
 use Rattle.std.proofs.lemmas.Int.{ints, to_z-of_z}
 use borrow.Author.Differences.{fits_in}
 use Rattle.apfloat_model.specs.rounding.Standing.{up, down}
-use Rattle.apfloat_rounding.proofs.CutRests.{IsSplit, split_fits, split_full, cut_off}
+use Rattle.apfloat_rounding.proofs.CutRests.{IsSplitRest, split_fits, split_full, cut_off}
 use Rattle.apfloat_rounding.proofs.rounding.cut_counted_u128.Goals as goal
 
 pub returns-clause-fits : goal.returns-clause-fits
@@ -23,7 +23,7 @@ returns-clause-cut c = λ amount parts p h.
     let place = c.full_place.result in
     let places = c.args.digits - c.args.precision in
     let e = to_z-of_z w32 unit (fits_in w32 unit (omega (arith, ints, c.requires.within))) in
-    let i : IsSplit precision s c.args.digits place (s % 2 ^ places) (2 ^ (places - 1)) (up unit) (down unit) = record {
+    let i : IsSplitRest precision s c.args.digits place (s % 2 ^ places) (2 ^ (places - 1)) (up unit) (down unit) = record {
       some = c.requires.some;
       long = c.requires.long;
       fits = c.requires.fits;

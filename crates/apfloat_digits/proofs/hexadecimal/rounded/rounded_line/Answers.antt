@@ -4,13 +4,13 @@ use Rattle.apfloat_model.specs.order.Classes.{quanta_of}
 use Rattle.apfloat_ieee.specs.Types.{format_of}
 use Rattle.apfloat_digits.specs.hexadecimal.HexTexts.{number_text}
 use Rattle.apfloat_model.proofs.arithmetic.Significands.{exponent_fits}
-use Rattle.apfloat_digits.proofs.hexadecimal_lemmas.Roundings.{IsCut, cut_of, rounded_at}
+use Rattle.apfloat_digits.proofs.hexadecimal_lemmas.Roundings.{IsHexCut, cut_of, rounded_at}
 use Rattle.apfloat_digits.proofs.hexadecimal.rounded.rounded_line.Given.{Over}
 use Rattle.apfloat_digits.proofs.hexadecimal.rounded.rounded_line.Goals.{After-shift_right-cut, then-moves, else-moves}
 use Rattle.apfloat_digits.proofs.hexadecimal.rounded.rounded_line.Goals as goal
 
 cut_is : (g : Over) → (state : After-shift_right-cut g)
-    → IsCut (format_of g.S.Semantics) (quanta_of state.args.x) state.args.places
+    → IsHexCut (format_of g.S.Semantics) (quanta_of state.args.x) state.args.places
     state.shift_right-cut.result.significand state.shift_right-cut.result.loss state.digits_of-number.result.exponent
 cut_is g c =
     cut_of (format_of g.S.Semantics) (quanta_of c.args.x) c.args.places c.digits_of-number.result.digits

@@ -4,7 +4,7 @@ use Rattle.std.proofs.lemmas.Nat.{pow_pos}
 use Rattle.apfloat_model.specs.bits.Layout.{datum_of}
 use Rattle.apfloat_model.specs.formats.Datum.{finite}
 use Rattle.fast_bits.specs.lanes.At.{format_at, layout_at}
-use Rattle.fast_bits.specs.lanes.Scaled.{IsReached}
+use Rattle.fast_bits.specs.lanes.Scaled.{IsReachedLane}
 use Rattle.fast_bits.specs.lanes.Sides.{IsSideOf}
 use Rattle.fast_bits.specs.lanes.Targets.{has_one_zero}
 use Rattle.fast_bits.proofs.lanes_lemmas.Singles.{lane_converted, place_of, significand_of, single_read}
@@ -29,8 +29,8 @@ returns c =
       | else-negative w ↦ rw (w.side-is, ne_eqb (upper / 2 ^ 15) 1 w.if-negative.false) plan.positive_is
     ] in
     let t_is = c.scaled_to.result.kept * 2 ^ 16 + c.scaled_to.result.rest in
-    let reached : IsReached f t_is (significand_of a * 2 ^ place_of a * 2 ^ f.scale) (2 ^ 149) =
-    subst (λ (n : ℕ). IsReached f t_is (n * 2 ^ f.scale) (2 ^ 149))
+    let reached : IsReachedLane f t_is (significand_of a * 2 ^ place_of a * 2 ^ f.scale) (2 ^ 149) =
+    subst (λ (n : ℕ). IsReachedLane f t_is (n * 2 ^ f.scale) (2 ^ 149))
     (λ i. word.significand i * 2 ^ word.place i) c.scaled_to.ensures.reached in
     let precise = t.lawful.precise in
     let magnitude = word.magnitude in

@@ -6,7 +6,7 @@ use Rattle.apfloat_model.specs.formats.Format.{Format}
 use Rattle.fast_bits.specs.declared.lanes.lanes.Lane.{Lane}
 use Rattle.fast_bits.specs.lanes.At.{format_at, layout_at}
 use Rattle.fast_bits.specs.lanes.Lanes.{IsLane, IsPastLane}
-use Rattle.fast_bits.specs.lanes.Targets.{IsSingle}
+use Rattle.fast_bits.specs.lanes.Targets.{IsSingleFormat}
 use Rattle.fast_bits.proofs.lanes_lemmas.Specials.{a_layout, a_single, a_single_is, word_nan, word_payload}
 use Rattle.fast_bits.proofs.lanes_lemmas.Words.{word_is}
 use Rattle.fast_bits.proofs.lanes.lanes.convert_single.Goals as goal
@@ -15,7 +15,7 @@ use Rattle.fast_bits.proofs.lanes.lanes.convert_single.Goals as goal
 abbrev nan_test : ℕ → ℕ → Bool
 nan_test m lower = leb (255 * 2 ^ 7) m && (not (eqb m (255 * 2 ^ 7)) || not (eqb lower 0))
 
-converted : (c : goal.After-with_special) (single : Format) (layout : Layout) → IsSingle single layout
+converted : (c : goal.After-with_special) (single : Format) (layout : Layout) → IsSingleFormat single layout
     → IsLane c.args.plan.saturates single layout (format_at c.args.plan.target) (layout_at c.args.plan.target)
     c.args.plan.round (c.args.upper * 2 ^ 16 + c.args.lower) c.with_special.result
 converted c single layout is_single =

@@ -1,7 +1,7 @@
 use Rattle.std.proofs.Common.{◌≡◌, ◌+◌, ◌-◌, ◌*◌, ◌/◌, ◌%◌, ◌^◌, ℕ, refl, ap, subst, pos, ◌-ℤ◌, ⊎_elim, inl, inr, ◌⊎◌, ◌≤◌, ◌∙◌, arith}
 use Rattle.std.proofs.lemmas.Int.{ints}
 use Rattle.fast_bits.specs.lanes.At.{format_at, layout_at}
-use Rattle.fast_bits.specs.lanes.Scaled.{IsReached}
+use Rattle.fast_bits.specs.lanes.Scaled.{IsReachedLane}
 use Rattle.fast_bits.proofs.lanes_lemmas.Reached.{AreSteps, steps_are}
 use Rattle.fast_bits.proofs.lanes_lemmas.UpperHalves.{short_significand}
 use Rattle.fast_bits.proofs.lanes_lemmas.Words.{word_significand_fits}
@@ -40,9 +40,9 @@ returns-clause-reached c =
     (λ i. c.from.ensures i * c.from-2.ensures i % 65536) in
     let place = c.args.magnitude / 2 ^ 7 - 1 in
     subst
-    (λ (n : ℕ). IsReached (format_at t) (kept * 2 ^ 16 + n) (m * 2 ^ place * 2 ^ (format_at t).scale) (2 ^ 149)) rest
+    (λ (n : ℕ). IsReachedLane (format_at t) (kept * 2 ^ 16 + n) (m * 2 ^ place * 2 ^ (format_at t).scale) (2 ^ 149)) rest
     (subst
-    (λ (n : ℕ). IsReached (format_at t) (kept * 2 ^ 16 + c.from.result * c.from-2.result % 65536)
+    (λ (n : ℕ). IsReachedLane (format_at t) (kept * 2 ^ 16 + c.from.result * c.from-2.result % 65536)
     (m * 2 ^ n * 2 ^ (format_at t).scale) (2 ^ 149)) c.place_of-place.ensures (steps c.before).reached)
 
 pub returns-clause-below : goal.returns-clause-below

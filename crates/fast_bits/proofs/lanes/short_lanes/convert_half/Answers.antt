@@ -7,13 +7,13 @@ use Rattle.apfloat_model.specs.rounding.RoundingToOdd.{odd_quotient}
 use Rattle.fast_bits.specs.declared.lanes.lanes.Lane.{Lane}
 use Rattle.fast_bits.specs.lanes.At.{format_at, layout_at}
 use Rattle.fast_bits.specs.lanes.Lanes.{IsLane, IsPastLane}
-use Rattle.fast_bits.specs.lanes.Targets.{IsSingle}
+use Rattle.fast_bits.specs.lanes.Targets.{IsSingleFormat}
 use Rattle.fast_bits.proofs.lanes_lemmas.Specials.{a_layout, a_single, a_single_is, half_nan, half_payload}
 use Rattle.fast_bits.proofs.lanes_lemmas.UpperHalves.{half_alone, half_is, word_below}
 use Rattle.fast_bits.proofs.lanes.short_lanes.convert_half.Goals as goal
 
 converted : (c : goal.After-with_special) (x : ℕ) (single : Format) (layout : Layout)
-    → c.args.half ≡ odd_quotient x (2 ^ 16) → IsSingle single layout
+    → c.args.half ≡ odd_quotient x (2 ^ 16) → IsSingleFormat single layout
     → IsLane c.args.plan.saturates single layout (format_at c.args.plan.target) (layout_at c.args.plan.target)
     c.args.plan.round x c.with_special.result
 converted c x single layout is is_single =
