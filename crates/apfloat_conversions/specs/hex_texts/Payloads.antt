@@ -29,11 +29,11 @@ pub record IsPayloadRead (radix : Radix) (digits left : List ℕ) (number : ℕ)
 abbrev pub named_payload : List ℕ → Option ℕ
 named_payload text = if model.is_nan_name (take 3 text) then model.payload_of (drop 3 text) else None
 
-abbrev pub meaning_of : Bool → Special → model.Meaning
+abbrev pub meaning_of : Bool → Special → model.TextMeaning
 meaning_of negative Infinity = model.infinity negative
 meaning_of negative (Quiet payload) = model.not_a_number negative false payload
 meaning_of negative (Signaling payload) = model.not_a_number negative true payload
 
-abbrev pub meaning_at : Bool → Option Special → Option model.Meaning
+abbrev pub meaning_at : Bool → Option Special → Option model.TextMeaning
 meaning_at negative None = None
 meaning_at negative (Some special) = Some (meaning_of negative special)
