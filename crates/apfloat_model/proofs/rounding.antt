@@ -16,3 +16,4 @@ pub mod Tininess
 pub mod FarMagnitudes
 pub mod OutwardRoundings
 pub mod OutwardResults
+pub mod WholeRoots

@@ -12,3 +12,4 @@ pub mod TwoModes
 pub mod DeliveredRoots
 pub mod Outcome
 pub mod Steps
+pub mod DividedRoots
