@@ -16,4 +16,3 @@ pub mod Tininess
 pub mod FarMagnitudes
 pub mod OutwardRoundings
 pub mod OutwardResults
-pub mod WholeRoots

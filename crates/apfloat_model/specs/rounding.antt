@@ -12,4 +12,3 @@ pub mod TwoModes
 pub mod DeliveredRoots
 pub mod Outcome
 pub mod Steps
-pub mod DividedRoots
