@@ -68,7 +68,7 @@ fixed_if : (test : Bool) (one other : Outcome) → IsFixed one → IsFixed other
 fixed_if true one other h k = h
 fixed_if false one other h k = k
 
-sound_if : (test : Bool) (one other : Outcome) → IsSound one → IsSound other
+pub sound_if : (test : Bool) (one other : Outcome) → IsSound one → IsSound other
     → IsSound (if test then one else other)
 sound_if true one other h k = h
 sound_if false one other h k = k

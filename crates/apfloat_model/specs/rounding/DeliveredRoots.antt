@@ -1,8 +1,8 @@
 -- A square root, divided by a number, and rounded once (IEEE 754-2019 5.4.1).
 --
 -- No root is computed here: a number is compared with the root by their squares. The root is that of an integer,
--- `square`, and is divided by `parts`. The root of n quanta is the number of quanta whose square is n * 2 ^ scale, since
--- the quantum is 2 ^ -scale; that of a number of another format need not be the root of an integer, so there are parts.
+-- `square`, divided by `parts`. The root of n quanta is the number of quanta whose square is n * 2 ^ scale, since the
+-- quantum is 2 ^ -scale; the root of a number of another format need not be that of an integer, so there are parts.
 use Rattle.std.specs.Prelude.{◌≡◌, ℕ, ◌+◌, ◌-◌, ◌*◌, ◌/◌, ◌%◌, ◌^◌, ◌≤◌, Bool, true, false, not, ◌&&◌, ◌||◌, ltb, leb, eqb, if◌then◌else◌}
 use Rattle.apfloat_model.specs.declared.kinds.Round.{Round}
 use Rattle.apfloat_model.specs.formats.Format.{Format, smallest_normalized, largest}
