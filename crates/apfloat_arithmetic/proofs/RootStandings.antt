@@ -59,21 +59,25 @@ module _ (square radicand over under amount parts : ℕ) (some : 0 < over)
       let l = halves_more (2 * (whole + 1)) (omega (arith, b)) in
       (omega (arith, k), omega (arith, l))
 
--- if each fraction that a significand and its loss represent is delivered as a value, the root that they represent is
--- delivered as that value
-pub delivered_of_standing : (f : Format) (mode : Round) (square radicand over under whole : ℕ) (loss : Loss)
-    (value : Datum) (status : ℕ) → 0 < over → 0 < under → square * (under * under) ≡ radicand * (over * over)
+-- If each fraction that a significand and its loss represent is delivered as a value, the root that they represent is
+-- delivered as that value. The unit is over / under quanta.
+pub delivered_of_standing : (f : Format) (mode : Round) (square parts radicand over under whole : ℕ) (loss : Loss)
+    (value : Datum) (status : ℕ) → 0 < parts → 0 < over → 0 < under
+    → square * (under * under) ≡ radicand * ((over * parts) * (over * parts))
     → RootStandsFor whole loss radicand
-    → ((amount parts : ℕ) → 0 < parts → StandsFor whole loss (amount * under) (parts * over)
-    → IsDelivered f mode false amount parts value status)
-    → IsDeliveredRoot f mode square value status
-delivered_of_standing f mode square radicand over under whole loss value status p q e s delivered =
-    let g = agreeing square (4 * under) (omega arith) in
+    → ((amount pieces : ℕ) → 0 < pieces → StandsFor whole loss (amount * under) (pieces * over)
+    → IsDelivered f mode false amount pieces value status)
+    → IsDeliveredRoot f mode square parts value status
+delivered_of_standing f mode square parts radicand over under whole loss value status r p q e s delivered =
+    let g = agreeing square (4 * under) (omega (arith, q)) in
     let d : 4 * under ≡ 2 * under * 2 = omega arith in
     let a : AgreesWithRoot square (2 * under) g.amount g.parts =
     coarser square (2 * under) 2 g.amount g.parts (omega arith)
     (subst (λ (x : ℕ). AgreesWithRoot square x g.amount g.parts) d g.agrees) in
     let b : AgreesWithRoot square 4 g.amount g.parts = coarser square 4 under g.amount g.parts q g.agrees in
-    root_delivered square g.amount g.parts b f mode value status
-    (delivered g.amount g.parts g.agrees.some
-    (stands square radicand over under g.amount g.parts p e a whole loss s))
+    let h : StandsFor whole loss (g.amount * under) (g.parts * (over * parts)) =
+    stands square radicand (over * parts) under g.amount g.parts (mul-pos p r) e a whole loss s in
+    let c : g.parts * (over * parts) ≡ g.parts * parts * over = omega arith in
+    root_delivered square parts g.amount g.parts b f mode value status
+    (delivered g.amount (g.parts * parts) (mul-pos g.agrees.some r)
+    (subst (λ (x : ℕ). StandsFor whole loss (g.amount * under) x) c h))

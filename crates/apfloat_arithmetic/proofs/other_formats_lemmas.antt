@@ -2,6 +2,5 @@ pub mod Exponents
 pub mod OddTotals
 pub mod Cases
 pub mod Once
-pub mod RootDeliveries
 pub mod RootExponents
 pub mod RaisedFlags

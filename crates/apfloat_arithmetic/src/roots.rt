@@ -49,7 +49,7 @@ fn root_of_number(shape: Shape, x: Unpacked, round: Round) -> StatusAnd<Unpacked
     requires { IsNormal shape x }
     ensures stored { IsStored shape result.value }
     ensures delivered { GivesAt shape (IsDeliveredRoot (format_at shape) round
-        (quanta_of shape x * 2 ^ (format_at shape).scale)) result }
+        (quanta_of shape x * 2 ^ (format_at shape).scale) 1) result }
 {
     let exponent = halves_of(x.exponent);
     let places = shape.precision - 1 + exponent.odd;

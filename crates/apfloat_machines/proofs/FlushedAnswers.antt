@@ -79,7 +79,7 @@ abbrev IsUnflushed : Format → Outcome → Type 0
 IsUnflushed f (settled datum flags) = is_flushed f datum flags ≡ false
 IsUnflushed f (rounded negative amount parts) = 0 < parts
 IsUnflushed f (totalled left right exact parts) = 0 < parts
-IsUnflushed f (rooted square) = ⊥
+IsUnflushed f (rooted square parts) = ⊥
 
 outcome_flushed : (f : Format) (flush : Flush) (mode : Round) (outcome : Outcome) (given value : Datum)
     (flags status : ℕ) → 0 < f.precision → smallest_normalized f ≤ largest f → IsUnflushed f outcome
@@ -92,7 +92,7 @@ outcome_flushed f flush mode (rounded negative amount parts) given value flags s
 outcome_flushed f flush mode (totalled left right exact parts) given value flags status p l u h k =
     rounded_or_flushed f flush mode (sign_of (zero_sum_sign mode left right) exact) (magnitude exact) parts given value
     flags status p l u h k
-outcome_flushed f flush mode (rooted square) given value flags status p l u h k = absurd u
+outcome_flushed f flush mode (rooted square parts) given value flags status p l u h k = absurd u
 
 sum_unflushed : (f : Format) (x y : Datum) → IsUnflushed f (sum f x y)
 sum_unflushed f (nan b s) y = nan_kept f b s _
@@ -143,7 +143,7 @@ on_product_unflushed f z (settled datum flags) u =
     if_case (IsUnflushed f) (eqb flags ok_bits) (λ e. sum_unflushed f datum z) (λ e. u)
 on_product_unflushed f z (rounded negative amount parts) u = u
 on_product_unflushed f z (totalled left right exact parts) u = u
-on_product_unflushed f z (rooted square) u = u
+on_product_unflushed f z (rooted square parts) u = u
 
 with_product_unflushed : (f : Format) (x y z : Datum) → IsUnflushed f (with_product f x y z)
 with_product_unflushed f x y z = on_product_unflushed f z (product f x y) (product_unflushed f x y)
@@ -227,7 +227,7 @@ yields_flushed_once f flush mode (rounded negative amount parts) =
     rounded_or_flushed_once f flush mode negative amount parts
 yields_flushed_once f flush mode (totalled left right exact parts) =
     rounded_or_flushed_once f flush mode (sign_of (zero_sum_sign mode left right) exact) (magnitude exact) parts
-yields_flushed_once f flush mode (rooted square) = delivered_root_once f mode square
+yields_flushed_once f flush mode (rooted square parts) = delivered_root_once f mode square parts
 
 pub conversion_with_flush : (f g : Format) (flush : Flush) (mode : Round) (x : Datum)
     → Once (IsFlushedConversion f g flush mode x)

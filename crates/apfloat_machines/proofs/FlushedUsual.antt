@@ -33,4 +33,5 @@ flushed_settled_or_number f flush mode (rounded negative amount parts) value sta
     rounded_number f flush mode negative amount parts value status e h
 flushed_settled_or_number f flush mode (totalled left right exact parts) value status e h =
     rounded_number f flush mode _ _ parts value status e h
-flushed_settled_or_number f flush mode (rooted square) value status e h = root_number f mode square value status e h
+flushed_settled_or_number f flush mode (rooted square parts) value status e h =
+    root_number f mode square parts value status e h

@@ -154,7 +154,7 @@ yields_flushed_together f mode (rounded negative amount parts) h =
     rounded_or_flushed_together f mode negative amount parts
 yields_flushed_together f mode (totalled left right exact parts) h =
     rounded_or_flushed_together f mode (sign_of (zero_sum_sign mode left right) exact) (magnitude exact) parts
-yields_flushed_together f mode (rooted square) h = yields_together f mode (rooted square) h
+yields_flushed_together f mode (rooted square parts) h = yields_together f mode (rooted square parts) h
 
 zero_flags : (test : Bool) → FlagsGoTogether (if test then inexact_bit else ok_bits)
 zero_flags true = only_inexact_together

@@ -81,9 +81,9 @@ delivered_number : (f : Format) (mode : Round) (negative : Bool) (amount parts :
 delivered_number f mode negative amount parts value status e h =
     is_of value (delivered_value f mode negative h.pick) false h.value_is (value_number f mode negative h.pick e)
 
-pub root_number : (f : Format) (mode : Round) (square : ℕ) (value : Datum) (status : ℕ)
-    → f.nonfinite ≡ IEEE754 → IsDeliveredRoot f mode square value status → is_nan value ≡ false
-root_number f mode square value status e h =
+pub root_number : (f : Format) (mode : Round) (square parts : ℕ) (value : Datum) (status : ℕ)
+    → f.nonfinite ≡ IEEE754 → IsDeliveredRoot f mode square parts value status → is_nan value ≡ false
+root_number f mode square parts value status e h =
     is_of value (delivered_value f mode false h.pick) false h.value_is (value_number f mode false h.pick e)
 
 rest_number : (kind : NonfiniteBehavior) (negative : Bool) (m taken : ℕ)
@@ -110,7 +110,7 @@ abbrev pub IsSettledOrNumber : Outcome → Datum → ℕ → Type 0
 IsSettledOrNumber (settled datum flags) value status = IsAnswer datum flags value status
 IsSettledOrNumber (rounded negative amount parts) value status = is_nan value ≡ false
 IsSettledOrNumber (totalled left right exact parts) value status = is_nan value ≡ false
-IsSettledOrNumber (rooted square) value status = is_nan value ≡ false
+IsSettledOrNumber (rooted square parts) value status = is_nan value ≡ false
 
 pub settled_or_number : (f : Format) (mode : Round) (outcome : Outcome) (value : Datum) (status : ℕ)
     → f.nonfinite ≡ IEEE754 → Yields f mode outcome value status → IsSettledOrNumber outcome value status
@@ -119,7 +119,7 @@ settled_or_number f mode (rounded negative amount parts) value status e h =
     delivered_number f mode negative amount parts value status e h
 settled_or_number f mode (totalled left right exact parts) value status e h =
     delivered_number f mode _ _ parts value status e h
-settled_or_number f mode (rooted square) value status e h = root_number f mode square value status e h
+settled_or_number f mode (rooted square parts) value status e h = root_number f mode square parts value status e h
 
 invalid_or : (f : Format) (test : Bool) (given : Datum) (flags : ℕ) (value : Datum) (status : ℕ) → is_nan given ≡ false
     → IsSettledOrNumber (if test then invalid f else settled given flags) value status
@@ -244,12 +244,13 @@ remainder_usual f quotient (finite b m) (finite c n) value status h =
     (rest_number f.nonfinite b m (n * quotient m n)) h
 
 -- a number, by whether it is a zero, and its sign
-root_of_number : (f : Format) (test b : Bool) (square : ℕ) (value : Datum) (status : ℕ)
-    → IsSettledOrNumber (if test then exactly (finite b 0) else (if b then invalid f else rooted square)) value status
+root_of_number : (f : Format) (test b : Bool) (square parts : ℕ) (value : Datum) (status : ℕ)
+    → IsSettledOrNumber (if test then exactly (finite b 0) else (if b then invalid f else rooted square parts)) value
+    status
     → IsUsualNumber (not test && b) value status
-root_of_number f true b square value status h = of_number (finite b 0) ok_bits value status refl h
-root_of_number f false true square value status h = of_nan _ _ _ value status h
-root_of_number f false false square value status h = h
+root_of_number f true b square parts value status h = of_number (finite b 0) ok_bits value status refl h
+root_of_number f false true square parts value status h = of_nan _ _ _ value status h
+root_of_number f false false square parts value status h = h
 
 same_or : (test : Bool) → test ≡ (test || test)
 same_or true = refl
@@ -261,7 +262,7 @@ root_usual f (nan b s) value status h =
     let k = of_nan _ _ _ value status h in
     (k.0, k.1 ∙ ap (λ (test : Bool). invalid_if test) (same_or (is_signaling f s)))
 root_usual f (infinite b) value status h = invalid_or f b (infinite false) ok_bits value status refl h
-root_usual f (finite b n) value status h = root_of_number f (eqb n 0) b (n * 2 ^ f.scale) value status h
+root_usual f (finite b n) value status h = root_of_number f (eqb n 0) b (n * 2 ^ f.scale) 1 value status h
 
 pub exact_usual : (f : Format) (mode : Round) (x value : Datum) (status : ℕ)
     → IsRoundToIntegral f mode x value status → IsUsual f x x false value status

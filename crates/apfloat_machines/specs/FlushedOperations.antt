@@ -28,7 +28,7 @@ YieldsFlushed f flush mode (rounded negative amount parts) value status =
     IsRoundedOrFlushed f flush mode negative amount parts value status
 YieldsFlushed f flush mode (totalled left right exact parts) value status =
     IsRoundedOrFlushed f flush mode (sign_of (zero_sum_sign mode left right) exact) (magnitude exact) parts value status
-YieldsFlushed f flush mode (rooted square) value status = IsDeliveredRoot f mode square value status
+YieldsFlushed f flush mode (rooted square parts) value status = IsDeliveredRoot f mode square parts value status
 
 abbrev pub IsFlushedSum : Format → Flush → Round → Datum → Datum → Datum → ℕ → Type 0
 IsFlushedSum f flush mode x y value status = YieldsFlushed f flush mode (sum f x y) value status

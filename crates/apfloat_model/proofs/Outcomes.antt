@@ -1,8 +1,8 @@
 -- What holds of every outcome: it is delivered, as one value with one status, whose flags go together.
-use Rattle.std.proofs.Common.{◌≡◌, ℕ, ◌*◌, ◌^◌, ◌<◌, Bool, true, false, eqb, sym, subst, ⊎_elim, lit<, arith}
+use Rattle.std.proofs.Common.{◌≡◌, ℕ, ◌*◌, ◌^◌, ◌<◌, Bool, true, false, eqb, ⊎_elim, lit<, arith}
 use Rattle.std.proofs.lemmas.Nat.{pow_pos}
 use Rattle.std.proofs.lemmas.Bool.{cases_eq, eq-eqb, ne_eqb}
-use Rattle.std.specs.Prelude.{ℤ, ⊤, if◌then◌else◌}
+use Rattle.std.specs.Prelude.{ℤ, if◌then◌else◌}
 use Rattle.apfloat_model.specs.declared.kinds.Round.{Round}
 use Rattle.apfloat_model.specs.formats.Format.{Format}
 use Rattle.apfloat_model.specs.formats.Datum.{Datum, finite, infinite, nan}
@@ -19,7 +19,7 @@ use Rattle.apfloat_model.specs.arithmetic.Remainders.{remainder}
 use Rattle.apfloat_model.specs.whole_numbers.WholeNumbers.{from_unsigned, from_signed, integral}
 use Rattle.apfloat_model.specs.arithmetic.Exact.{same_sign, product_sign, sign_of, magnitude, zero_sum_sign}
 use Rattle.apfloat_model.proofs.rounding.Laws.{delivered_once}
-use Rattle.apfloat_model.proofs.rounding.StatusesTogether.{Together, answer_together, delivered_together, root_status_together, ok_together, invalid_together, invalid_if_together, div_by_zero_together, inexact_unless_together}
+use Rattle.apfloat_model.proofs.rounding.StatusesTogether.{Together, answer_together, delivered_together, delivered_root_together, ok_together, invalid_together, invalid_if_together, div_by_zero_together, inexact_unless_together}
 use Rattle.apfloat_model.proofs.rounding.RootsOnce.{Once, answer_once, delivered_root_once}
 use Rattle.apfloat_model.proofs.rounding.DeliveriesExist.{HasAnswer, answer_exists, rounded_exists, delivered_root_exists}
 
@@ -30,7 +30,7 @@ yields_once format mode (settled datum flags) = answer_once datum flags
 yields_once format mode (rounded negative amount parts) = delivered_once format mode negative amount parts
 yields_once format mode (totalled left right exact parts) =
     delivered_once format mode (sign_of (zero_sum_sign mode left right) exact) (magnitude exact) parts
-yields_once format mode (rooted square) = delivered_root_once format mode square
+yields_once format mode (rooted square parts) = delivered_root_once format mode square parts
 
 pub yields_something : (format : Format) (mode : Round) (outcome : Outcome) → 0 < format.precision
     → IsSound outcome → HasAnswer (Yields format mode outcome)
@@ -39,7 +39,7 @@ yields_something format mode (rounded negative amount parts) p h =
     rounded_exists format p mode negative amount parts h
 yields_something format mode (totalled left right exact parts) p h =
     rounded_exists format p mode (sign_of (zero_sum_sign mode left right) exact) (magnitude exact) parts h
-yields_something format mode (rooted square) p h = delivered_root_exists format p mode square
+yields_something format mode (rooted square parts) p h = delivered_root_exists format p mode square parts h
 
 pub yields_together : (format : Format) (mode : Round) (outcome : Outcome) → IsSound outcome
     → Together (Yields format mode outcome)
@@ -47,21 +47,20 @@ yields_together format mode (settled datum flags) h = answer_together datum flag
 yields_together format mode (rounded negative amount parts) h = delivered_together format mode negative amount parts
 yields_together format mode (totalled left right exact parts) h =
     delivered_together format mode (sign_of (zero_sum_sign mode left right) exact) (magnitude exact) parts
-yields_together format mode (rooted square) h =
-    λ value status x. subst FlagsGoTogether (sym x.status_is) (root_status_together format mode square x.pick)
+yields_together format mode (rooted square parts) h = delivered_root_together format mode square parts
 
 -- an outcome whose sign does not depend on the mode
 abbrev pub IsFixed : Outcome → Type 0
 IsFixed (settled datum flags) = FlagsGoTogether flags
 IsFixed (rounded negative amount parts) = 0 < parts
 IsFixed (totalled left right exact parts) = ⊥
-IsFixed (rooted square) = ⊤
+IsFixed (rooted square parts) = 0 < parts
 
 fixed_sound : (outcome : Outcome) → IsFixed outcome → IsSound outcome
 fixed_sound (settled datum flags) h = h
 fixed_sound (rounded negative amount parts) h = h
 fixed_sound (totalled left right exact parts) h = absurd h
-fixed_sound (rooted square) h = tt
+fixed_sound (rooted square parts) h = h
 
 -- ---- every outcome in the table is sound
 
@@ -69,7 +68,7 @@ fixed_if : (test : Bool) (one other : Outcome) → IsFixed one → IsFixed other
 fixed_if true one other h k = h
 fixed_if false one other h k = k
 
-sound_if : (test : Bool) (one other : Outcome) → IsSound one → IsSound other
+pub sound_if : (test : Bool) (one other : Outcome) → IsSound one → IsSound other
     → IsSound (if test then one else other)
 sound_if true one other h k = h
 sound_if false one other h k = k
@@ -132,7 +131,7 @@ quotient_sound format x y = fixed_sound (quotient format x y) (quotient_fixed fo
 pub root_sound : (format : Format) (x : Datum) → IsSound (root format x)
 root_sound format (nan b s) = invalid_if_together _
 root_sound format (infinite b) = sound_if b _ _ invalid_together ok_together
-root_sound format (finite b n) = sound_if (eqb n 0) _ _ ok_together (sound_if b _ _ invalid_together tt)
+root_sound format (finite b n) = sound_if (eqb n 0) _ _ ok_together (sound_if b _ _ invalid_together (lit< tt))
 
 on_product_sound : (format : Format) (z : Datum) (outcome : Outcome) → IsSound outcome
     → IsSound (on_product format z outcome)
@@ -140,7 +139,7 @@ on_product_sound format z (settled datum flags) h =
     sound_if (eqb flags ok_bits) _ _ (sum_sound format datum z) h
 on_product_sound format z (rounded negative amount parts) h = h
 on_product_sound format z (totalled left right exact parts) h = h
-on_product_sound format z (rooted square) h = h
+on_product_sound format z (rooted square parts) h = h
 
 with_product_sound : (format : Format) (x y z : Datum)
     → IsSound (with_product format x y z)

@@ -24,7 +24,7 @@ abbrev pub IsSettled : Outcome → Type 0
 IsSettled (settled datum flags) = ⊤
 IsSettled (rounded negative amount parts) = ⊥
 IsSettled (totalled left right exact parts) = ⊥
-IsSettled (rooted square) = ⊥
+IsSettled (rooted square parts) = ⊥
 
 settled_if : (test : Bool) (one other : Outcome) → IsSettled one → IsSettled other
     → IsSettled (if test then one else other)
@@ -54,7 +54,7 @@ on_settled format mode (settled datum t) z given value flags status i h k =
     (IsAnswer given s value status)) h.status_is k))
 on_settled format mode (rounded negative amount parts) z given value flags status i h k = absurd i
 on_settled format mode (totalled left right exact parts) z given value flags status i h k = absurd i
-on_settled format mode (rooted square) z given value flags status i h k = absurd i
+on_settled format mode (rooted square parts) z given value flags status i h k = absurd i
 
 -- the sum with a product that raises no flag, or else the product
 pub special_sum : (format : Format) (mode : Round) (x y z value given : Datum) (status flags : ℕ)

@@ -13,6 +13,7 @@ use Rattle.apfloat_model.specs.formats.Datum.{Datum, finite}
 use Rattle.apfloat_model.specs.formats.Lawful.{Constants, format_with}
 use Rattle.apfloat_model.specs.rounding.Enclosure.{IsEnclosed}
 use Rattle.apfloat_model.specs.rounding.Flags.{bits_of}
+use Rattle.apfloat_model.specs.rounding.Rounding.{IsDelivered}
 use Rattle.apfloat_model.specs.rounding.Standing.{StandsFor}
 use Rattle.apfloat_model.proofs.arithmetic.RootDeliveries.{root_delivered}
 use Rattle.apfloat_model.proofs.arithmetic.RootSides.{AgreesWithRoot, agreeing, coarser, root_lt}
@@ -122,7 +123,7 @@ root_answered : (c : Constants) (mode : Round) (square radicand over whole : ℕ
     → 0 < over → square * (1 * 1) ≡ radicand * (over * over) → RootStandsFor whole loss radicand
     → ((amount parts : ℕ) → 0 < parts → StandsFor whole loss amount (over * parts)
     → IsEncodedNumber c mode false amount parts answer)
-    → IsEncodedAnswer c (IsDeliveredRoot (format_with c) mode square) answer
+    → IsEncodedAnswer c (IsDeliveredRoot (format_with c) mode square 1) answer
 root_answered c mode square radicand over whole loss answer some same is encoded =
     let g = agreeing square 4 (omega arith) in
     let halves : AgreesWithRoot square (2 * 1) g.amount g.parts =
@@ -134,12 +135,15 @@ root_answered c mode square radicand over whole loss answer some same is encoded
     let placed : StandsFor whole loss g.amount (over * g.parts) =
     subst (λ (x : ℕ). StandsFor whole loss x (over * g.parts)) amount
     (subst (λ (x : ℕ). StandsFor whole loss (g.amount * 1) x) unit there) in
+    let whole_parts : g.parts ≡ g.parts * 1 = omega arith in
     let number = encoded g.amount g.parts g.agrees.some placed in
     record {
       value = finite false number.quanta;
       says =
-          root_delivered square g.amount g.parts g.agrees (format_with c) mode (finite false number.quanta)
-          (bits_of answer.status) number.is_delivered;
+          root_delivered square 1 g.amount g.parts g.agrees (format_with c) mode (finite false number.quanta)
+          (bits_of answer.status)
+          (subst (λ (x : ℕ). IsDelivered (format_with c) mode false g.amount x (finite false number.quanta)
+          (bits_of answer.status)) whole_parts number.is_delivered);
       is_encoded = number.is_encoded;
     }
 
@@ -151,7 +155,7 @@ pub root_encoded : (c : Constants) (mode : Round) (m from zeros place whole : �
     → StandsFor whole loss amount (2 ^ place * parts)
     → IsEncodedNumber c mode false amount parts answer)
     → IsEncodedAnswer c
-    (IsDeliveredRoot (format_with c) mode (m * 2 ^ from * 2 ^ (format_with c).scale)) answer
+    (IsDeliveredRoot (format_with c) mode (m * 2 ^ from * 2 ^ (format_with c).scale) 1) answer
 root_encoded c mode m from zeros place whole loss answer some full fits balance is encoded =
     root_answered c mode (m * 2 ^ from * 2 ^ (format_with c).scale) (m * 2 ^ zeros) (2 ^ place) whole loss answer
     (pow_pos place) (radicand_is m from (format_with c).scale zeros place balance) is
@@ -165,7 +169,7 @@ root_encoded c mode m from zeros place whole loss answer some full fits balance 
 pub root_if_some : (c : Constants) (mode : Round) (x : Number) (answer : Option Encoded) → IsFullNumber c x
     → x.negative ≡ false
     → IfSome answer (IsEncodedAnswer c
-    (IsDeliveredRoot (format_with c) mode (quanta_of x * 2 ^ (format_with c).scale)))
+    (IsDeliveredRoot (format_with c) mode (quanta_of x * 2 ^ (format_with c).scale) 1))
     → IfSome answer (IsEncodedAnswer c (IsRoot (format_with c) mode (finite x.negative (quanta_of x))))
 root_if_some c mode x None full positive given = given
 root_if_some c mode x (Some encoded) full positive given = record {

@@ -11,4 +11,3 @@ pub mod OddOnce
 pub mod Rooms
 pub mod RootFractions
 pub mod RootsAgain
-pub mod OwnRoots

@@ -2,7 +2,6 @@
 -- compares like the root with quarters of quanta of both formats, and of fractions that is known.
 use Rattle.std.proofs.Common.{◌≡◌, ℕ, ◌*◌, ◌^◌, ◌<◌, ◌≤◌, false, subst, arith}
 use Rattle.std.proofs.Math.Nat.{mul-pos}
-use Rattle.std.proofs.lemmas.Bool.{MatchBool-at_false}
 use Rattle.std.proofs.lemmas.Nat.{pow_pos}
 use Rattle.apfloat_model.specs.declared.kinds.Round.{Round}
 use Rattle.apfloat_model.specs.declared.kinds.Round.TheVariants.{TowardZero}
@@ -11,30 +10,29 @@ use Rattle.apfloat_model.specs.formats.Format.{Format}
 use Rattle.apfloat_model.specs.formats.Datum.{Datum}
 use Rattle.apfloat_model.specs.rounding.Flags.{Gives, bits_of}
 use Rattle.apfloat_model.specs.rounding.Rounding.{IsDelivered}
+use Rattle.apfloat_model.specs.arithmetic.Roots.{IsDeliveredRoot}
 use Rattle.apfloat_model.proofs.general.Choices.{not_zero}
+use Rattle.apfloat_model.proofs.arithmetic.RootDeliveries.{root_delivered}
 use Rattle.apfloat_model.proofs.arithmetic.RootSides.{AgreesWithRoot, coarser, agreeing}
-use Rattle.apfloat_arithmetic.specs.other_formats.RootsOf.{IsDeliveredFractionRoot}
-use Rattle.apfloat_arithmetic.proofs.other_formats_lemmas.Cases.{unless_zero}
-use Rattle.apfloat_arithmetic.proofs.other_formats_lemmas.RootDeliveries.{root_delivered}
 use Rattle.round_to_odd.specs.Odd.{IsToOdd, IsAnswerMadeOdd}
 use Rattle.round_to_odd.specs.Again.{IsRoundedAgain, HasRoomFor}
-use Rattle.round_to_odd.specs.Roots.{IsRootRoundedOnce}
+use Rattle.round_to_odd.specs.Roots.{IsRootRoundedOnce, IsOwnRootRoundedOnce}
 use Rattle.round_to_odd.proofs.MadeOdd.{odd_of_truncated}
 use Rattle.round_to_odd.proofs.RoundedOnce.{rounded_once}
-use Rattle.round_to_odd.proofs.RootFractions.{scaled_agrees, moved_agrees, root_some, fraction_delivered}
+use Rattle.round_to_odd.proofs.RootFractions.{scaled_agrees, moved_agrees, root_some, fraction_delivered, multiplied_root}
 
 -- Three digits at least, in the format with room.
-pub precise_too : (f g : Format) → 3 ≤ g.precision → HasRoomFor g f → 3 ≤ f.precision
+precise_too : (f g : Format) → 3 ≤ g.precision → HasRoomFor g f → 3 ≤ f.precision
 precise_too f g precise room = let digits = room.digits in omega (arith, precise, digits)
 
 -- The root of `square`, divided by `parts`, in units of 1, and a fraction that agrees with it at quarters of quanta of
 -- g: if that fraction is delivered in f toward zero, made odd and rounded again, the root is rounded once in g.
-pub root_again : (f g : Format) (mode : Round) (square parts amount units : ℕ)
+root_again : (f g : Format) (mode : Round) (square parts amount units : ℕ)
     (toward first answer : StatusAnd Datum) → 3 ≤ g.precision → HasRoomFor g f → 0 < square → 0 < parts
     → AgreesWithRoot square (4 * 2 ^ g.scale) amount units
     → Gives (IsDelivered f TowardZero false (amount * 2 ^ f.scale) (units * parts)) toward
     → IsAnswerMadeOdd f false toward first → Gives (IsRoundedAgain f g mode first) answer
-    → Gives (IsDeliveredFractionRoot g mode (square * (2 ^ g.scale * 2 ^ g.scale)) parts) answer
+    → Gives (IsDeliveredRoot g mode (square * (2 ^ g.scale * 2 ^ g.scale)) parts) answer
 root_again f g mode square parts amount units toward first answer precise room some apart agrees d made second =
     let fine : ℕ = 2 ^ f.scale in
     let coarse : ℕ = 2 ^ g.scale in
@@ -78,12 +76,23 @@ root_rounded_once h f g mode quanta toward first answer precise room some root m
     coarser square (4 * coarse) fine r.amount r.parts p
     (subst (λ (x : ℕ). AgreesWithRoot square x r.amount r.parts) e r.agrees) in
     let three : 3 ≤ f.precision = precise_too f g precise room in
-    let toward_zero : IsDeliveredFractionRoot f TowardZero (square * (fine * fine)) parts toward.value
+    let toward_zero : IsDeliveredRoot f TowardZero (square * (fine * fine)) parts toward.value
     (bits_of toward.status) =
-    MatchBool-at_false _ _ (not_zero quanta some) root in
+    rw (not_zero quanta some) at root in
     let d : IsDelivered f TowardZero false (r.amount * fine) (r.parts * parts) toward.value (bits_of toward.status) =
     fraction_delivered f TowardZero (square * (fine * fine)) parts (r.amount * fine) r.parts toward.value
     (bits_of toward.status) (omega (arith, three)) s (moved_agrees square 4 fine r.amount r.parts in_f) toward_zero in
-    unless_zero quanta _ _ some
+    rw (not_zero quanta some)
     (root_again f g mode square parts r.amount r.parts toward first answer precise room (mul-pos some s) s in_g d made
     second)
+
+pub own_root_rounded_once : IsOwnRootRoundedOnce
+own_root_rounded_once f g mode quanta toward first answer precise room some root made second =
+    let fine : ℕ = 2 ^ f.scale in
+    let three : 3 ≤ f.precision = precise_too f g precise room in
+    let toward_zero : IsDeliveredRoot f TowardZero (quanta * fine) 1 toward.value (bits_of toward.status) =
+    rw (not_zero quanta some) at root in
+    root_rounded_once f f g mode quanta toward first answer precise room some
+    (rw (not_zero quanta some)
+    (multiplied_root f TowardZero (quanta * fine) fine toward.value (bits_of toward.status) (omega (arith, three))
+    (pow_pos f.scale) toward_zero)) made second

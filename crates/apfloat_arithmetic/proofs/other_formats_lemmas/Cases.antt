@@ -3,7 +3,7 @@ use Rattle.std.proofs.Common.{◌≡◌, ◌⊎◌, ◌<◌, ◌≤◌, ◌^◌,
 use Rattle.std.specs.Bool.{MatchBool}
 use Rattle.std.specs.Prelude.{◌*◌}
 use Rattle.std.proofs.lemmas.Bool.{eq-eqb, ne_eqb}
-use Rattle.apfloat_model.specs.formats.Datum.{Datum}
+use Rattle.apfloat_model.specs.formats.Datum.{Datum, finite}
 use Rattle.apfloat_words.specs.declared.terms.Term.{Term}
 use Rattle.apfloat_rounding.specs.declared.shape.Shape.{Shape}
 use Rattle.apfloat_arithmetic.specs.declared.other_formats.operands.Operand.TheVariants.{Number, Infinity}
@@ -11,7 +11,10 @@ use Rattle.apfloat_arithmetic.specs.other_formats.Extended.{Extended, number, in
 use Rattle.apfloat_model.specs.declared.kinds.Round.{Round}
 use Rattle.apfloat_model.specs.formats.Format.{Format}
 use Rattle.apfloat_arithmetic.specs.other_formats.Operands.{StandsFor, IsAmount}
-use Rattle.apfloat_arithmetic.specs.other_formats.RootsOf.{IsDeliveredFractionRoot, IsRootOfNumber}
+use Rattle.apfloat_model.specs.rounding.DeliveredRoots.{IsDeliveredRoot}
+use Rattle.apfloat_model.specs.rounding.Answer.{IsAnswer}
+use Rattle.apfloat_model.specs.rounding.Rounding.{ok_bits, zero_sign}
+use Rattle.apfloat_arithmetic.specs.other_formats.RootsOf.{IsRootOf}
 
 -- what holds of the infinity that an operand is holds of each value that it stands for
 pub of_infinity : (P : Extended → Type 0) (into : Shape) (negative : Bool) (left : Extended)
@@ -41,8 +44,14 @@ all_digits s (inr l) h = l
 
 -- the root of a positive number
 pub positive_root : (g : Format) (mode : Round) (negative : Bool) (amount places : ℕ) (value : Datum) (status : ℕ)
-    → negative ≡ false
-    → IsDeliveredFractionRoot g mode (amount * 2 ^ places * (2 ^ g.scale * 2 ^ g.scale)) (2 ^ places) value status
-    → IsRootOfNumber g mode negative amount places value status
-positive_root g mode negative amount places value status e h =
-    subst (λ (b : Bool). IsRootOfNumber g mode b amount places value status) (sym e) h
+    → 0 < amount → negative ≡ false
+    → IsDeliveredRoot g mode (amount * 2 ^ places * (2 ^ g.scale * 2 ^ g.scale)) (2 ^ places) value status
+    → IsRootOf g mode (number negative amount places) value status
+positive_root g mode negative amount places value status p e h =
+    rw (ne_eqb amount 0 (λ z. omega (arith, z, p)), e) h
+
+-- the root of a zero
+pub zero_root : (g : Format) (mode : Round) (negative : Bool) (amount places : ℕ) (value : Datum) (status : ℕ)
+    → amount ≡ 0 → IsAnswer (finite (zero_sign g.nonfinite negative) 0) ok_bits value status
+    → IsRootOf g mode (number negative amount places) value status
+zero_root g mode negative amount places value status e h = rw (eq-eqb amount 0 e) h

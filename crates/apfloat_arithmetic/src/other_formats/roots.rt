@@ -1,11 +1,12 @@
 //! Square roots.
 
 ghost use Rattle.std.specs.Prelude.{ℕ, ◌<◌, ◌*◌, ◌^◌};
+ghost use Rattle.apfloat_model.specs.rounding.DeliveredRoots.{IsDeliveredRoot};
 ghost use Rattle.apfloat_rounding.specs.Shapes.{format_at};
 ghost use Rattle.apfloat_rounding.specs.Stored.{IsStored, GivesAt};
 ghost use Rattle.apfloat_arithmetic.specs.other_formats.Extended.{Extended, number};
 ghost use Rattle.apfloat_arithmetic.specs.other_formats.Operands.{IsOperand, IsTerm, IsAmount, StandsFor};
-ghost use Rattle.apfloat_arithmetic.specs.other_formats.RootsOf.{IsDeliveredFractionRoot, IsRootOf};
+ghost use Rattle.apfloat_arithmetic.specs.other_formats.RootsOf.{IsRootOf};
 
 use crate::exact::exact_zero;
 use crate::other_formats::operands::{DIGITS, Operand};
@@ -27,7 +28,7 @@ fn root_of_nonzero(into: Shape, x: Term, round: Round) -> StatusAnd<Unpacked>
     requires some { 0 < x.significand }
     ensures stored { IsStored into result.value }
     ensures root { (m s : ℕ) → IsAmount m s x
-        → GivesAt into (IsDeliveredFractionRoot (format_at into) round
+        → GivesAt into (IsDeliveredRoot (format_at into) round
         (m * 2 ^ s * (2 ^ (format_at into).scale * 2 ^ (format_at into).scale)) (2 ^ s)) result }
 {
     let exponent = halves_of(x.exponent);

@@ -1,4 +1,5 @@
--- A fraction that agrees with a square root at quarters of quanta is rounded like the root.
+-- A fraction that agrees with a square root at quarters of quanta is rounded like the root, where a point of the grid
+-- is `parts` of the units that the root is counted in.
 use Rattle.std.proofs.Common.{◌≡◌, ℕ, ◌+◌, ◌-◌, ◌*◌, ◌/◌, ◌%◌, ◌^◌, ◌<◌, ◌≤◌, Bool, true, false, not, ◌&&◌, ◌||◌, eqb, ltb, leb, cond, if◌then◌else◌, sym, ap, ◌∙◌, ⊎_elim, arith}
 use Rattle.std.proofs.lemmas.Bool.{cases_lt, eq-eqb, ne_eqb, lt-ltb, le-ltb, le-leb, lt-leb, leb-false, ltb-true}
 use Rattle.apfloat_model.specs.declared.kinds.Round.{Round}
@@ -6,60 +7,59 @@ use Rattle.apfloat_model.specs.formats.Format.{Format, smallest_normalized, larg
 use Rattle.apfloat_model.specs.formats.Datum.{Datum}
 use Rattle.apfloat_model.specs.rounding.Grid.{IsBelow, IsAbove}
 use Rattle.apfloat_model.specs.rounding.Rounding.{takes_above, IsPick, IsDelivered, is_tiny, rounds_below_normal, delivered_status, raises_overflow, ok_bits, overflow_bit, underflow_bit, inexact_bit}
-use Rattle.apfloat_model.specs.arithmetic.Roots.{IsBelowRoot, IsAboveRoot, IsRootPick, root_rounds_below_normal, is_tiny_root, root_status, IsDeliveredRoot}
+use Rattle.apfloat_model.specs.arithmetic.Roots.{square_of, IsBelowRoot, IsAboveRoot, IsRootPick, root_rounds_below_normal, is_tiny_root, root_status, IsDeliveredRoot}
 use Rattle.apfloat_model.proofs.rounding.Picks.{takes_less, takes_half, takes_more}
 use Rattle.apfloat_model.proofs.arithmetic.RootSides.{AgreesWithRoot, coarser}
 use Rattle.apfloat_model.proofs.general.Choices.{by_order, where_open}
 
 -- a fraction that agrees with the root at halves
-module _ (square amount parts : ℕ) (halves : AgreesWithRoot square 2 amount parts) where
-  -- a fraction that agrees with the root at halves agrees at whole quanta
-  whole : AgreesWithRoot square 1 amount parts
-  whole = coarser square 1 2 amount parts (omega arith) halves
+module _ (square parts amount units : ℕ) (halves : AgreesWithRoot square 2 amount units) where
+  whole : AgreesWithRoot square 1 amount units
+  whole = coarser square 1 2 amount units (omega arith) halves
 
-  point_less : (n : ℕ) → n * n < square → n * parts < amount
-  point_less n h = let k = whole.less n (omega arith) in omega (arith, k)
+  point_less : (n : ℕ) → square_of n parts < square → n * (units * parts) < amount
+  point_less n h = let k = whole.less (n * parts) (omega (arith, h)) in omega (arith, k)
 
-  point_same : (n : ℕ) → n * n ≡ square → n * parts ≡ amount
-  point_same n h = let k = whole.same n (omega arith) in omega (arith, k)
+  point_same : (n : ℕ) → square_of n parts ≡ square → n * (units * parts) ≡ amount
+  point_same n h = let k = whole.same (n * parts) (omega (arith, h)) in omega (arith, k)
 
-  point_more : (n : ℕ) → square < n * n → amount < n * parts
-  point_more n h = let k = whole.more n (omega arith) in omega (arith, k)
+  point_more : (n : ℕ) → square < square_of n parts → amount < n * (units * parts)
+  point_more n h = let k = whole.more (n * parts) (omega (arith, h)) in omega (arith, k)
 
-  -- the converse, at whole quanta
-  not_above : (n : ℕ) → n * parts ≤ amount → n * n ≤ square
+  -- the converse, at points
+  not_above : (n : ℕ) → n * (units * parts) ≤ amount → square_of n parts ≤ square
   not_above n h =
-      ⊎_elim (λ (q : square < n * n). let k = point_more n q in absurd (omega (arith, k))) (λ q. q)
-      (cases_lt square (n * n))
+      ⊎_elim (λ (q : square < square_of n parts). let k = point_more n q in absurd (omega (arith, k, h))) (λ q. q)
+      (cases_lt square (square_of n parts))
 
-  not_below : (n : ℕ) → amount ≤ n * parts → square ≤ n * n
+  not_below : (n : ℕ) → amount ≤ n * (units * parts) → square ≤ square_of n parts
   not_below n h =
-      ⊎_elim (λ (q : n * n < square). let k = point_less n q in absurd (omega (arith, k))) (λ q. q)
-      (cases_lt (n * n) square)
+      ⊎_elim (λ (q : square_of n parts < square). let k = point_less n q in absurd (omega (arith, k, h))) (λ q. q)
+      (cases_lt (square_of n parts) square)
 
-  at_most : (n : ℕ) → n * n ≤ square → n * parts ≤ amount
+  at_most : (n : ℕ) → square_of n parts ≤ square → n * (units * parts) ≤ amount
   at_most n h =
-      ⊎_elim (λ (q : amount < n * parts). let k = not_below n (omega arith) in
-      let e = point_same n (omega (arith, k)) in absurd (omega (arith, e))) (λ q. q)
-      (cases_lt amount (n * parts))
+      ⊎_elim (λ (q : amount < n * (units * parts)). let k = not_below n (omega (arith, q)) in
+      let e = point_same n (omega (arith, k, h)) in absurd (omega (arith, e, q))) (λ q. q)
+      (cases_lt amount (n * (units * parts)))
 
-  at_least : (n : ℕ) → square ≤ n * n → amount ≤ n * parts
+  at_least : (n : ℕ) → square ≤ square_of n parts → amount ≤ n * (units * parts)
   at_least n h =
-      ⊎_elim (λ (q : n * parts < amount). let k = not_above n (omega arith) in
-      let e = point_same n (omega (arith, k)) in absurd (omega (arith, e))) (λ q. q)
-      (cases_lt (n * parts) amount)
+      ⊎_elim (λ (q : n * (units * parts) < amount). let k = not_above n (omega (arith, q)) in
+      let e = point_same n (omega (arith, k, h)) in absurd (omega (arith, e, q))) (λ q. q)
+      (cases_lt (n * (units * parts)) amount)
 
   -- the neighbours of the fraction are those of the root
-  pub below_root : (precision point : ℕ) → IsBelow precision point amount parts
-      → IsBelowRoot precision point square
+  pub below_root : (precision point : ℕ) → IsBelow precision point amount (units * parts)
+      → IsBelowRoot precision point square parts
   below_root precision point b = record {
     on_grid = b.on_grid;
     not_above = not_above point b.not_above;
     greatest = λ other g l. b.greatest other g (at_most other l);
   }
 
-  pub above_root : (precision point : ℕ) → IsAbove precision point amount parts
-      → IsAboveRoot precision point square
+  pub above_root : (precision point : ℕ) → IsAbove precision point amount (units * parts)
+      → IsAboveRoot precision point square parts
   above_root precision point b = record {
     on_grid = b.on_grid;
     not_below = not_below point b.not_below;
@@ -67,27 +67,30 @@ module _ (square amount parts : ℕ) (halves : AgreesWithRoot square 2 amount pa
   }
 
   -- the mode picks the same of two neighbours for the fraction and for the root
-  pub takes_same : (mode : Round) (below above : ℕ) (odd : Bool) → below * parts ≤ amount
-      → amount ≤ above * parts
-      → takes_above mode false (amount - below * parts) (above * parts - amount) odd
-      ≡ takes_above mode false (4 * square) ((below + above) * (below + above)) odd
+  pub takes_same : (mode : Round) (below above : ℕ) (odd : Bool) → below * (units * parts) ≤ amount
+      → amount ≤ above * (units * parts)
+      → takes_above mode false (amount - below * (units * parts)) (above * (units * parts) - amount) odd
+      ≡ takes_above mode false (4 * square) (square_of (below + above) parts) odd
   takes_same mode below above odd l h =
-      let n : ℕ = below + above in
-      by_order (takes_above mode false (amount - below * parts) (above * parts - amount) odd
-      ≡ takes_above mode false (4 * square) ((below + above) * (below + above)) odd) (n * n) (4 * square)
+      by_order (takes_above mode false (amount - below * (units * parts)) (above * (units * parts) - amount) odd
+      ≡ takes_above mode false (4 * square) (square_of (below + above) parts) odd)
+      (square_of (below + above) parts) (4 * square)
       (λ q.
-      let k : n * parts < amount * 2 = halves.less n (omega arith) in
-      takes_more mode false odd _ _ (omega arith) ∙ sym (takes_more mode false odd _ _ (omega arith)))
+      let k : (below + above) * parts * units < amount * 2 =
+      halves.less ((below + above) * parts) (omega (arith, q)) in
+      takes_more mode false odd _ _ (omega (arith, k, l, h)) ∙ sym (takes_more mode false odd _ _ q))
       (λ q.
-      let k : n * parts ≡ amount * 2 = halves.same n (omega arith) in
-      takes_half mode false odd _ _ (omega arith) ∙ sym (takes_half mode false odd _ _ (omega arith)))
+      let k : (below + above) * parts * units ≡ amount * 2 =
+      halves.same ((below + above) * parts) (omega (arith, q)) in
+      takes_half mode false odd _ _ (omega (arith, k, l, h)) ∙ sym (takes_half mode false odd _ _ (omega (arith, q))))
       (λ q.
-      let k : amount * 2 < n * parts = halves.more n (omega arith) in
-      takes_less mode false odd _ _ (omega arith) ∙ sym (takes_less mode false odd _ _ (omega arith)))
+      let k : amount * 2 < (below + above) * parts * units =
+      halves.more ((below + above) * parts) (omega (arith, q)) in
+      takes_less mode false odd _ _ (omega (arith, k, l, h)) ∙ sym (takes_less mode false odd _ _ q))
 
   -- the pick for the fraction is the pick for the root
-  pub root_pick : (precision : ℕ) (mode : Round) (pick : ℕ) → IsPick precision mode false amount parts pick
-      → IsRootPick precision mode square pick
+  pub root_pick : (precision : ℕ) (mode : Round) (pick : ℕ) → IsPick precision mode false amount (units * parts) pick
+      → IsRootPick precision mode square parts pick
   root_pick precision mode pick p = record {
     below = p.below;
     above = p.above;
@@ -100,33 +103,40 @@ module _ (square amount parts : ℕ) (halves : AgreesWithRoot square 2 amount pa
   }
 
   -- a point equals the fraction exactly if its square is that of the root
-  exact_same : (n : ℕ) → eqb (n * parts) amount ≡ eqb (n * n) square
+  exact_same : (n : ℕ) → eqb (n * (units * parts)) amount ≡ eqb (square_of n parts) square
   exact_same n =
-      by_order (eqb (n * parts) amount ≡ eqb (n * n) square) (n * n) square
+      by_order (eqb (n * (units * parts)) amount ≡ eqb (square_of n parts) square) (square_of n parts) square
       (λ q. let k = point_less n q in
-      ne_eqb (n * parts) amount (λ e. omega (arith, k, e)) ∙ sym (ne_eqb (n * n) square (λ e. omega (arith, q, e))))
-      (λ q. eq-eqb (n * parts) amount (point_same n q) ∙ sym (eq-eqb (n * n) square q))
+      ne_eqb (n * (units * parts)) amount (λ e. omega (arith, k, e)) ∙
+      sym (ne_eqb (square_of n parts) square (λ e. omega (arith, q, e))))
+      (λ q. eq-eqb (n * (units * parts)) amount (point_same n q) ∙ sym (eq-eqb (square_of n parts) square q))
       (λ q. let k = point_more n q in
-      ne_eqb (n * parts) amount (λ e. omega (arith, k, e)) ∙ sym (ne_eqb (n * n) square (λ e. omega (arith, q, e))))
+      ne_eqb (n * (units * parts)) amount (λ e. omega (arith, k, e)) ∙
+      sym (ne_eqb (square_of n parts) square (λ e. omega (arith, q, e))))
 
-  below_same : (n : ℕ) → ltb amount (n * parts) ≡ ltb square (n * n)
+  below_same : (n : ℕ) → ltb amount (n * (units * parts)) ≡ ltb square (square_of n parts)
   below_same n =
-      by_order (ltb amount (n * parts) ≡ ltb square (n * n)) (n * n) square
+      by_order (ltb amount (n * (units * parts)) ≡ ltb square (square_of n parts)) (square_of n parts) square
       (λ q. let k = point_less n q in
-      le-ltb amount (n * parts) (omega (arith, k)) ∙ sym (le-ltb square (n * n) (omega arith)))
+      le-ltb amount (n * (units * parts)) (omega (arith, k)) ∙
+      sym (le-ltb square (square_of n parts) (omega (arith, q))))
       (λ q. let k = point_same n q in
-      le-ltb amount (n * parts) (omega (arith, k)) ∙ sym (le-ltb square (n * n) (omega arith)))
-      (λ q. lt-ltb amount (n * parts) (point_more n q) ∙ sym (lt-ltb square (n * n) q))
+      le-ltb amount (n * (units * parts)) (omega (arith, k)) ∙
+      sym (le-ltb square (square_of n parts) (omega (arith, q))))
+      (λ q. lt-ltb amount (n * (units * parts)) (point_more n q) ∙ sym (lt-ltb square (square_of n parts) q))
 
-  not_above_same : (n : ℕ) → leb amount (n * parts) ≡ leb square (n * n)
+  not_above_same : (n : ℕ) → leb amount (n * (units * parts)) ≡ leb square (square_of n parts)
   not_above_same n =
-      by_order (leb amount (n * parts) ≡ leb square (n * n)) (n * n) square
+      by_order (leb amount (n * (units * parts)) ≡ leb square (square_of n parts)) (square_of n parts) square
       (λ q. let k = point_less n q in
-      lt-leb amount (n * parts) (omega (arith, k)) ∙ sym (lt-leb square (n * n) (omega arith)))
+      lt-leb amount (n * (units * parts)) (omega (arith, k)) ∙
+      sym (lt-leb square (square_of n parts) (omega (arith, q))))
       (λ q. let k = point_same n q in
-      le-leb amount (n * parts) (omega (arith, k)) ∙ sym (le-leb square (n * n) (omega arith)))
+      le-leb amount (n * (units * parts)) (omega (arith, k)) ∙
+      sym (le-leb square (square_of n parts) (omega (arith, q))))
       (λ q. let k = point_more n q in
-      le-leb amount (n * parts) (omega (arith, k)) ∙ sym (le-leb square (n * n) (omega arith)))
+      le-leb amount (n * (units * parts)) (omega (arith, k)) ∙
+      sym (le-leb square (square_of n parts) (omega (arith, q))))
 
 -- twice the fraction agrees with twice the root at halves
 pub doubled : (square amount parts : ℕ) → AgreesWithRoot square 4 amount parts
@@ -139,60 +149,64 @@ doubled square amount parts a = record {
 }
 
 -- a fraction that agrees with the root at quarters
-module _ (square amount parts : ℕ) (agrees : AgreesWithRoot square 4 amount parts) where
-  halves_of : AgreesWithRoot square 2 amount parts
-  halves_of = coarser square 2 2 amount parts (omega arith) agrees
+module _ (square parts amount units : ℕ) (agrees : AgreesWithRoot square 4 amount units) where
+  halves_of : AgreesWithRoot square 2 amount units
+  halves_of = coarser square 2 2 amount units (omega arith) agrees
 
-  twice : AgreesWithRoot (4 * square) 2 (2 * amount) parts
-  twice = doubled square amount parts agrees
+  twice : AgreesWithRoot (4 * square) 2 (2 * amount) units
+  twice = doubled square amount units agrees
 
   below_normal_same : (precision : ℕ) (mode : Round)
-      → rounds_below_normal precision mode false amount parts ≡ root_rounds_below_normal precision mode square
+      → rounds_below_normal precision mode false amount (units * parts)
+      ≡ root_rounds_below_normal precision mode square parts
   below_normal_same precision mode =
       let last : ℕ = 2 ^ precision - 1 in
       let next : ℕ = 2 ^ precision in
-      let t : Bool = takes_above mode false (2 * amount - last * parts) (next * parts - 2 * amount) true in
-      let u : Bool = takes_above mode false (4 * (4 * square)) ((last + next) * (last + next)) true in
-      where_open (leb (2 * amount) (last * parts)) (ltb (2 * amount) (next * parts)) t u
+      let t : Bool = takes_above mode false (2 * amount - last * (units * parts)) (next * (units * parts) - 2 * amount)
+      true in
+      let u : Bool = takes_above mode false (4 * (4 * square)) (square_of (last + next) parts) true in
+      where_open (leb (2 * amount) (last * (units * parts))) (ltb (2 * amount) (next * (units * parts))) t u
       (λ x y.
-      let a : last * parts < 2 * amount = leb-false (2 * amount) (last * parts) x in
-      let b : 2 * amount < next * parts = ltb-true (2 * amount) (next * parts) y in
-      takes_same (4 * square) (2 * amount) parts twice mode last next true (omega arith) (omega arith)) ∙
-      ap (λ (x : Bool). x || (ltb (2 * amount) (next * parts) && not u))
-      (not_above_same (4 * square) (2 * amount) parts twice last) ∙
-      ap (λ (y : Bool). leb (4 * square) (last * last) || (y && not u))
-      (below_same (4 * square) (2 * amount) parts twice next)
+      let a : last * (units * parts) < 2 * amount = leb-false (2 * amount) (last * (units * parts)) x in
+      let b : 2 * amount < next * (units * parts) = ltb-true (2 * amount) (next * (units * parts)) y in
+      takes_same (4 * square) parts (2 * amount) units twice mode last next true (omega (arith, a))
+      (omega (arith, b))) ∙
+      ap (λ (x : Bool). x || (ltb (2 * amount) (next * (units * parts)) && not u))
+      (not_above_same (4 * square) parts (2 * amount) units twice last) ∙
+      ap (λ (y : Bool). leb (4 * square) (square_of last parts) || (y && not u))
+      (below_same (4 * square) parts (2 * amount) units twice next)
 
   pub tiny_same : (f : Format) (mode : Round) (pick : ℕ)
-      → is_tiny f mode false amount parts pick ≡ is_tiny_root f mode square pick
+      → is_tiny f mode false amount (units * parts) pick ≡ is_tiny_root f mode square parts pick
   tiny_same f mode pick =
       ap (λ (b : Bool). if f.tiny_before_rounding then b
-      else (if f.ieee_flags then rounds_below_normal f.precision mode false amount parts
+      else (if f.ieee_flags then rounds_below_normal f.precision mode false amount (units * parts)
       else ltb pick (smallest_normalized f)))
-      (below_same square amount parts halves_of (smallest_normalized f)) ∙
-      ap (λ (b : Bool). if f.tiny_before_rounding then ltb square (smallest_normalized f * smallest_normalized f)
+      (below_same square parts amount units halves_of (smallest_normalized f)) ∙
+      ap (λ (b : Bool). if f.tiny_before_rounding then ltb square (square_of (smallest_normalized f) parts)
       else (if f.ieee_flags then b else ltb pick (smallest_normalized f)))
       (below_normal_same f.precision mode)
 
   pub status_same : (f : Format) (mode : Round) (pick : ℕ)
-      → delivered_status f mode false amount parts pick ≡ root_status f mode square pick
+      → delivered_status f mode false amount (units * parts) pick ≡ root_status f mode square parts pick
   status_same f mode pick =
       ap (λ (b : Bool). if ltb (largest f) pick
       then (if raises_overflow f mode false then overflow_bit + inexact_bit else inexact_bit)
       else (if b then ok_bits
-      else (if is_tiny f mode false amount parts pick then underflow_bit + inexact_bit else inexact_bit)))
-      (exact_same square amount parts halves_of pick) ∙
+      else (if is_tiny f mode false amount (units * parts) pick then underflow_bit + inexact_bit else inexact_bit)))
+      (exact_same square parts amount units halves_of pick) ∙
       ap (λ (b : Bool). if ltb (largest f) pick
       then (if raises_overflow f mode false then overflow_bit + inexact_bit else inexact_bit)
-      else (if eqb (pick * pick) square then ok_bits
+      else (if eqb (square_of pick parts) square then ok_bits
       else (if b then underflow_bit + inexact_bit else inexact_bit))) (tiny_same f mode pick)
 
   -- what is delivered for the fraction is delivered for the root
   pub root_delivered : (f : Format) (mode : Round) (value : Datum) (status : ℕ)
-      → IsDelivered f mode false amount parts value status → IsDeliveredRoot f mode square value status
+      → IsDelivered f mode false amount (units * parts) value status
+      → IsDeliveredRoot f mode square parts value status
   root_delivered f mode value status d = record {
     pick = d.pick;
-    is_pick = root_pick square amount parts halves_of f.precision mode d.pick d.is_pick;
+    is_pick = root_pick square parts amount units halves_of f.precision mode d.pick d.is_pick;
     value_is = d.value_is;
     status_is = d.status_is ∙ status_same f mode d.pick;
   }

@@ -12,7 +12,7 @@ use Rattle.apfloat_model.specs.rounding.Grid.{IsOnGrid}
 use Rattle.apfloat_model.specs.rounding.Rounding.{takes_above, IsDelivered, ok_bits, overflow_bit, underflow_bit, inexact_bit, raises_overflow}
 use Rattle.apfloat_model.specs.rounding.Enclosure.{IsEnclosed}
 use Rattle.apfloat_model.specs.rounding.Outcome.{Outcome, rooted, exactly, invalid, Yields}
-use Rattle.apfloat_model.specs.arithmetic.Roots.{IsBelowRoot, IsAboveRoot, root_between, IsRootPick, root_rounds_below_normal, IsDeliveredRoot, IsRoot}
+use Rattle.apfloat_model.specs.arithmetic.Roots.{square_of, IsBelowRoot, IsAboveRoot, root_between, IsRootPick, root_rounds_below_normal, IsDeliveredRoot, IsRoot}
 use Rattle.apfloat_model.proofs.general.Choices.{either}
 use Rattle.apfloat_model.proofs.general.Powers.{two_pos, twice_power, twice_half}
 use Rattle.apfloat_model.proofs.rounding.Laws.{delivered_exists}
@@ -22,6 +22,10 @@ use Rattle.apfloat_model.proofs.rounding.Picks.{takes_less, takes_more}
 use Rattle.apfloat_model.proofs.arithmetic.RootSides.{AgreesWithRoot, root_lt, agreeing}
 use Rattle.apfloat_model.proofs.arithmetic.RootDeliveries.{below_root, above_root, root_delivered}
 use Rattle.apfloat_model.proofs.Once.{below_root_unique, above_root_unique, delivered_root_once}
+
+-- divided by 1, the root is itself
+pub square_whole : (n : ℕ) → square_of n 1 ≡ n * n
+square_whole n = omega arith
 
 -- a number agrees with the root of its square
 square_agrees : (root : ℕ) → AgreesWithRoot (root * root) 4 root 1
@@ -37,17 +41,17 @@ square_agrees root = record {
 
 -- what is delivered for a number is delivered for the root of its square
 pub number_is_root : (format : Format) (mode : Round) (root : ℕ) (value : Datum) (status : ℕ)
-    → IsDelivered format mode false root 1 value status → IsDeliveredRoot format mode (root * root) value status
+    → IsDelivered format mode false root 1 value status → IsDeliveredRoot format mode (root * root) 1 value status
 number_is_root format mode root value status d =
-    root_delivered (root * root) root 1 (square_agrees root) format mode value status d
+    root_delivered (root * root) 1 root 1 (square_agrees root) format mode value status d
 
 -- what is delivered for the root of the square of a number is delivered for the number
 pub root_of_square : (format : Format) (mode : Round) (root : ℕ) (value : Datum) (status : ℕ)
     → 0 < format.precision
-    → IsDeliveredRoot format mode (root * root) value status → IsDelivered format mode false root 1 value status
+    → IsDeliveredRoot format mode (root * root) 1 value status → IsDelivered format mode false root 1 value status
 root_of_square format mode root value status p d =
     let r = delivered_exists format mode false root 1 p (omega arith) in
-    let e = delivered_root_once format mode (root * root) r.0 value r.1.0 status
+    let e = delivered_root_once format mode (root * root) 1 r.0 value r.1.0 status
     (number_is_root format mode root r.0 r.1.0 r.1.1) d in
     subst (λ (v : Datum). IsDelivered format mode false root 1 v status) e.0
     (subst (λ (s : ℕ). IsDelivered format mode false root 1 r.0 s) e.1 r.1.1)
@@ -59,33 +63,35 @@ record HasNeighbours (half square : ℕ) (precision : ℕ) : Type 0 where
   significand : ℕ
   place : ℕ
   full : (place ≡ 0) ⊎ (half ≤ significand)
-  is_below : IsBelowRoot precision (significand * 2 ^ place) square
-  is_above : IsAboveRoot precision (significand * 2 ^ place) square
-      ⊎ IsAboveRoot precision ((significand + 1) * 2 ^ place) square
+  is_below : IsBelowRoot precision (significand * 2 ^ place) square 1
+  is_above : IsAboveRoot precision (significand * 2 ^ place) square 1
+      ⊎ IsAboveRoot precision ((significand + 1) * 2 ^ place) square 1
 
 neighbours : (precision half square : ℕ) → 2 ^ precision ≡ 2 * half → HasNeighbours half square precision
 neighbours precision half square e =
     let g = agreeing square 2 (lit< tt) in
-    let r = enclosed_at precision half g.amount g.parts g.agrees.some e in
+    let some : 0 < g.parts = g.agrees.some in
+    let pieces : 0 < g.parts * 1 = omega (arith, some) in
+    let r = enclosed_at precision half g.amount (g.parts * 1) pieces e in
     let c : ℕ = r.0 in
-    let m : ℕ = g.amount / (g.parts * 2 ^ c) in
-    let i : IsEnclosed precision half m c g.amount g.parts = r.1 in
+    let m : ℕ = g.amount / (g.parts * 1 * 2 ^ c) in
+    let i : IsEnclosed precision half m c g.amount (g.parts * 1) = r.1 in
     record {
       significand = m;
       place = c;
       full = i.full;
-      is_below = below_root square g.amount g.parts g.agrees precision (m * 2 ^ c)
-          (below_is precision half m c g.amount g.parts i);
+      is_below = below_root square 1 g.amount g.parts g.agrees precision (m * 2 ^ c)
+          (below_is precision half m c g.amount (g.parts * 1) i);
       is_above = ⊎_elim
-          (λ (q : m * 2 ^ c * g.parts < g.amount).
-          inr (above_root square g.amount g.parts g.agrees precision ((m + 1) * 2 ^ c)
-          (above_is_next precision half m c g.amount g.parts i q)))
-          (λ (q : g.amount ≤ m * 2 ^ c * g.parts).
-          let f : m * 2 ^ c * g.parts ≤ g.amount = i.from in
-          let d : g.amount ≡ m * 2 ^ c * g.parts = omega arith in
-          inl (above_root square g.amount g.parts g.agrees precision (m * 2 ^ c)
-          (above_is_same precision half m c g.amount g.parts g.agrees.some i d)))
-          (cases_lt (m * 2 ^ c * g.parts) g.amount);
+          (λ (q : m * 2 ^ c * (g.parts * 1) < g.amount).
+          inr (above_root square 1 g.amount g.parts g.agrees precision ((m + 1) * 2 ^ c)
+          (above_is_next precision half m c g.amount (g.parts * 1) i q)))
+          (λ (q : g.amount ≤ m * 2 ^ c * (g.parts * 1)).
+          let f : m * 2 ^ c * (g.parts * 1) ≤ g.amount = i.from in
+          let d : g.amount ≡ m * 2 ^ c * (g.parts * 1) = omega arith in
+          inl (above_root square 1 g.amount g.parts g.agrees precision (m * 2 ^ c)
+          (above_is_same precision half m c g.amount (g.parts * 1) pieces i d)))
+          (cases_lt (m * 2 ^ c * (g.parts * 1)) g.amount);
     }
 
 -- an odd square is not a multiple of a greater power of two
@@ -142,37 +148,37 @@ both_nearest x y odd n =
 
 -- if the root is not halfway between its neighbours, both modes to nearest pick the same
 same_between : (below above square : ℕ)
-    → (below ≡ above) ⊎ ((below + above) * (below + above) ≡ 4 * square → ⊥)
-    → root_between NearestTiesToEven below above square ≡ root_between NearestTiesToAway below above square
+    → (below ≡ above) ⊎ (square_of (below + above) 1 ≡ 4 * square → ⊥)
+    → root_between NearestTiesToEven below above square 1 ≡ root_between NearestTiesToAway below above square 1
 same_between below above square (inl e) = either _ above below (sym e) ∙ sym (either _ above below (sym e))
 same_between below above square (inr n) =
     ap (λ (t : Bool). cond t above below)
-    (both_nearest (4 * square) ((below + above) * (below + above)) (eqb (below / (above - below) % 2) 1)
+    (both_nearest (4 * square) (square_of (below + above) 1) (eqb (below / (above - below) % 2) 1)
     (λ e. n (sym e)))
 
 -- the root of a number on the grid is not halfway between its neighbours
 apart : (precision half s k : ℕ) → 2 ^ precision ≡ 2 * half → s < 2 ^ precision
-    → (pick : ℕ) → (x : IsRootPick precision NearestTiesToEven (s * 2 ^ k) pick)
-    → (x.below ≡ x.above) ⊎ ((x.below + x.above) * (x.below + x.above) ≡ 4 * (s * 2 ^ k) → ⊥)
+    → (pick : ℕ) → (x : IsRootPick precision NearestTiesToEven (s * 2 ^ k) 1 pick)
+    → (x.below ≡ x.above) ⊎ (square_of (x.below + x.above) 1 ≡ 4 * (s * 2 ^ k) → ⊥)
 apart precision half s k e l pick x =
     let n = neighbours precision half (s * 2 ^ k) e in
     let b : x.below ≡ n.significand * 2 ^ n.place =
-    below_root_unique precision x.below _ (s * 2 ^ k) x.is_below n.is_below in
+    below_root_unique precision x.below _ (s * 2 ^ k) 1 x.is_below n.is_below in
     ⊎_elim
-    (λ (h : IsAboveRoot precision (n.significand * 2 ^ n.place) (s * 2 ^ k)).
-    inl (b ∙ sym (above_root_unique precision x.above _ (s * 2 ^ k) x.is_above h)))
-    (λ (h : IsAboveRoot precision ((n.significand + 1) * 2 ^ n.place) (s * 2 ^ k)).
+    (λ (h : IsAboveRoot precision (n.significand * 2 ^ n.place) (s * 2 ^ k) 1).
+    inl (b ∙ sym (above_root_unique precision x.above _ (s * 2 ^ k) 1 x.is_above h)))
+    (λ (h : IsAboveRoot precision ((n.significand + 1) * 2 ^ n.place) (s * 2 ^ k) 1).
     let a : x.above ≡ (n.significand + 1) * 2 ^ n.place =
-    above_root_unique precision x.above _ (s * 2 ^ k) x.is_above h in
+    above_root_unique precision x.above _ (s * 2 ^ k) 1 x.is_above h in
     let t : x.below + x.above ≡ n.significand * 2 ^ n.place + (n.significand + 1) * 2 ^ n.place = omega arith in
     inr (λ d. midpoint_apart half n.significand n.place s k n.full (omega arith)
-    (ap (λ (z : ℕ). z * z) (sym t) ∙ d)))
+    (ap (λ (z : ℕ). z * z) (sym t) ∙ sym (square_whole (x.below + x.above)) ∙ d)))
     n.is_above
 
 -- both modes to nearest pick the same neighbour of the root of a number on the grid
 pub no_tie : (precision s k pick : ℕ) → 0 < precision → s < 2 ^ precision
-    → IsRootPick precision NearestTiesToEven (s * 2 ^ k) pick
-    → IsRootPick precision NearestTiesToAway (s * 2 ^ k) pick
+    → IsRootPick precision NearestTiesToEven (s * 2 ^ k) 1 pick
+    → IsRootPick precision NearestTiesToAway (s * 2 ^ k) 1 pick
 no_tie precision s k pick p l x = record {
   below = x.below;
   above = x.above;
@@ -184,32 +190,32 @@ no_tie precision s k pick p l x = record {
 }
 
 -- sixteen times a number is not the square of an odd one
-odd_apart : (w half square : ℕ) → 0 < half → w ≡ 2 * half → 4 * (4 * square) ≡ (w - 1 + w) * (w - 1 + w)
+odd_apart : (w half square : ℕ) → 0 < half → w ≡ 2 * half → 4 * (4 * square) ≡ square_of (w - 1 + w) 1
     → ⊥
 odd_apart w half square p d e =
     let v : ℕ = w - 1 + w in
     let a : v + 1 ≡ 4 * half = omega arith in
     let b : (v + 1) * (v + 1) ≡ 4 * half * (4 * half) = ap (λ (x : ℕ). x * x) a in
-    let c : 4 * (4 * square) ≡ v * v = e in
+    let c : 4 * (4 * square) ≡ v * v = e ∙ square_whole v in
     omega arith
 
 -- both modes to nearest agree on whether the root, rounded with an unbounded exponent, is below the smallest normalized
 -- number
 below_normal_agree : (precision square : ℕ) → 0 < precision
-    → root_rounds_below_normal precision NearestTiesToEven square
-    ≡ root_rounds_below_normal precision NearestTiesToAway square
+    → root_rounds_below_normal precision NearestTiesToEven square 1
+    ≡ root_rounds_below_normal precision NearestTiesToAway square 1
 below_normal_agree precision square p =
     let w : ℕ = 2 ^ precision in
-    let n : ℕ = (w - 1 + w) * (w - 1 + w) in
-    ap (λ (b : Bool). leb (4 * square) ((w - 1) * (w - 1)) || (ltb (4 * square) (w * w) && not b))
+    let n : ℕ = square_of (w - 1 + w) 1 in
+    ap (λ (b : Bool). leb (4 * square) (square_of (w - 1) 1) || (ltb (4 * square) (square_of w 1) && not b))
     (both_nearest (4 * (4 * square)) n true
     (odd_apart w (2 ^ (precision - 1)) square (pow_pos (precision - 1)) (sym (twice_half precision p))))
 
 -- both modes to nearest deliver the same value and status for the root
 pub nearest_agree : (format : Format) (quanta : ℕ) (value : Datum) (status : ℕ) → 0 < format.precision
     → IsOnGrid format.precision quanta
-    → IsDeliveredRoot format NearestTiesToEven (quanta * 2 ^ format.scale) value status
-    → IsDeliveredRoot format NearestTiesToAway (quanta * 2 ^ format.scale) value status
+    → IsDeliveredRoot format NearestTiesToEven (quanta * 2 ^ format.scale) 1 value status
+    → IsDeliveredRoot format NearestTiesToAway (quanta * 2 ^ format.scale) 1 value status
 nearest_agree format quanta value status p g d =
     let w : 2 ^ (g.place + format.scale) ≡ 2 ^ g.place * 2 ^ format.scale = pow-add 2 g.place format.scale in
     let q : quanta * 2 ^ format.scale ≡ g.significand * 2 ^ g.place * 2 ^ format.scale =
@@ -217,19 +223,19 @@ nearest_agree format quanta value status p g d =
     let u : g.significand * 2 ^ (g.place + format.scale) ≡ g.significand * (2 ^ g.place * 2 ^ format.scale) =
     ap (λ (x : ℕ). g.significand * x) w in
     let e : g.significand * 2 ^ (g.place + format.scale) ≡ quanta * 2 ^ format.scale = omega arith in
-    let x : IsRootPick format.precision NearestTiesToEven (g.significand * 2 ^ (g.place + format.scale)) d.pick =
-    subst (λ (z : ℕ). IsRootPick format.precision NearestTiesToEven z d.pick) (sym e) d.is_pick in
+    let x : IsRootPick format.precision NearestTiesToEven (g.significand * 2 ^ (g.place + format.scale)) 1 d.pick =
+    subst (λ (z : ℕ). IsRootPick format.precision NearestTiesToEven z 1 d.pick) (sym e) d.is_pick in
     record {
       pick = d.pick;
-      is_pick = subst (λ (z : ℕ). IsRootPick format.precision NearestTiesToAway z d.pick) e
+      is_pick = subst (λ (z : ℕ). IsRootPick format.precision NearestTiesToAway z 1 d.pick) e
           (no_tie format.precision g.significand (g.place + format.scale) d.pick p g.fits x);
       value_is = d.value_is;
       status_is = d.status_is ∙
           ap (λ (b : Bool). if ltb (largest format) d.pick
           then (if raises_overflow format NearestTiesToEven false then overflow_bit + inexact_bit else inexact_bit)
-          else (if eqb (d.pick * d.pick) (quanta * 2 ^ format.scale) then ok_bits
+          else (if eqb (square_of d.pick 1) (quanta * 2 ^ format.scale) then ok_bits
           else (if (if format.tiny_before_rounding
-          then ltb (quanta * 2 ^ format.scale) (smallest_normalized format * smallest_normalized format)
+          then ltb (quanta * 2 ^ format.scale) (square_of (smallest_normalized format) 1)
           else (if format.ieee_flags then b else ltb d.pick (smallest_normalized format)))
           then underflow_bit + inexact_bit else inexact_bit)))
           (below_normal_agree format.precision (quanta * 2 ^ format.scale) p);
@@ -255,5 +261,5 @@ root_nearest format (finite true n) value status p member h =
     status (λ d. d) (λ d. d) h
 root_nearest format (finite false n) value status p member h =
     either_mode format NearestTiesToEven NearestTiesToAway (eqb n 0) (exactly (finite false 0))
-    (rooted (n * 2 ^ format.scale)) value status (λ d. d)
+    (rooted (n * 2 ^ format.scale) 1) value status (λ d. d)
     (λ d. nearest_agree format n value status p member.on_grid d) h

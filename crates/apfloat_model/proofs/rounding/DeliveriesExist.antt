@@ -1,5 +1,6 @@
 -- A result given outright exists, and so does each rounding, in every format of at least one digit.
-use Rattle.std.proofs.Common.{ℕ, ◌<◌, Bool, false, refl, lit<}
+use Rattle.std.proofs.Common.{ℕ, ◌*◌, ◌<◌, Bool, false, refl, lit<}
+use Rattle.std.proofs.Math.Nat.{mul-pos}
 use Rattle.apfloat_model.specs.declared.kinds.Round.{Round}
 use Rattle.apfloat_model.specs.formats.Format.{Format}
 use Rattle.apfloat_model.specs.formats.Datum.{Datum}
@@ -25,8 +26,9 @@ module _ (format : Format) (precise : 0 < format.precision) where
   rounded_exists mode negative amount parts p = delivered_exists format mode negative amount parts precise p
 
   -- a root is rounded like a fraction that agrees with it, and there is one
-  pub delivered_root_exists : (mode : Round) (square : ℕ) → HasAnswer (IsDeliveredRoot format mode square)
-  delivered_root_exists mode square =
+  pub delivered_root_exists : (mode : Round) (square parts : ℕ) → 0 < parts
+      → HasAnswer (IsDeliveredRoot format mode square parts)
+  delivered_root_exists mode square parts p =
       let g = agreeing square 4 (lit< tt) in
-      let r = rounded_exists mode false g.amount g.parts g.agrees.some in
-      (r.0, (r.1.0, root_delivered square g.amount g.parts g.agrees format mode r.0 r.1.0 r.1.1))
+      let r = rounded_exists mode false g.amount (g.parts * parts) (mul-pos g.agrees.some p) in
+      (r.0, (r.1.0, root_delivered square parts g.amount g.parts g.agrees format mode r.0 r.1.0 r.1.1))

@@ -1,6 +1,7 @@
 -- Where a rounding is exact, each mode has the same result.
-use Rattle.std.proofs.Common.{◌≡◌, ℕ, zero, suc, ◌+◌, ◌-◌, ◌*◌, ◌/◌, ◌%◌, ◌^◌, ◌<◌, Bool, true, false, cond, ltb, eqb, sym, refl, ◌∙◌, subst, arith, ◌⊎◌, inl, inr, lit<, ap}
+use Rattle.std.proofs.Common.{◌≡◌, ℕ, zero, suc, ◌+◌, ◌-◌, ◌*◌, ◌/◌, ◌%◌, ◌^◌, ◌<◌, ◌≤◌, Bool, true, false, cond, ltb, eqb, sym, refl, ◌∙◌, subst, arith, ◌⊎◌, inl, inr, lit<, ap}
 use Rattle.std.specs.Prelude.{ℤ, pos, negsuc, ◌+ℤ◌, ◌-ℤ◌, if◌then◌else◌, List}
+use Rattle.std.proofs.Math.Nat.{le_of_mul-le-mul_right}
 use Rattle.std.proofs.lemmas.Nat.{pow_pos}
 use Rattle.std.proofs.lemmas.Bool.{ltb-false, eqb-true}
 use Rattle.apfloat_model.specs.declared.kinds.Round.{Round}
@@ -21,7 +22,7 @@ use Rattle.apfloat_model.specs.arithmetic.Quotients.{quotient, IsQuotient}
 use Rattle.apfloat_model.specs.arithmetic.FusedSums.{fused_sum, IsFusedSum}
 use Rattle.apfloat_model.proofs.general.Choices.{if_case, not_zero, either}
 use Rattle.apfloat_model.proofs.rounding.Laws.{delivered_once, exact_delivered, zero_delivered}
-use Rattle.apfloat_model.specs.rounding.DeliveredRoots.{is_tiny_root, root_status, IsDeliveredRoot}
+use Rattle.apfloat_model.specs.rounding.DeliveredRoots.{square_of, is_tiny_root, root_status, IsDeliveredRoot}
 use Rattle.apfloat_model.specs.rounding.Outcome.{Outcome, settled, rounded, totalled, rooted, Yields, IsSound}
 use Rattle.apfloat_model.proofs.arithmetic.RootSides.{root_le}
 use Rattle.apfloat_model.proofs.rounding.RootsOnce.{below_root_unique, above_root_unique}
@@ -100,36 +101,42 @@ delivered_agrees format negative amount parts p mode other v w s x y =
 answer_agrees : (datum : Datum) (flags : ℕ) → AgreesWhereOk (λ mode. IsAnswer datum flags)
 answer_agrees datum flags mode other v w s x y = (y.value_is ∙ sym x.value_is, y.status_is ∙ sym x.status_is)
 
+-- of two points whose squares are compared with a root, that of the smaller square is smaller
+point_le : (point other parts : ℕ) → 0 < parts → square_of point parts ≤ square_of other parts → point ≤ other
+point_le point other parts some h =
+    le_of_mul-le-mul_right (root_le (point * parts) (other * parts) h) some
+
 -- a root with status OK in one mode has the same value, with status OK, in each mode
-root_agrees : (format : Format) (square : ℕ) → AgreesWhereOk (λ mode. IsDeliveredRoot format mode square)
-root_agrees format square mode other v w s x y =
-    let t = ok_tests (ltb (largest format) x.pick) (eqb (x.pick * x.pick) square) (raises_overflow format mode false)
-    (is_tiny_root format mode square x.pick) (sym x.status_is) in
-    let e : x.pick * x.pick ≡ square = eqb-true (x.pick * x.pick) square t.1 in
+root_agrees : (format : Format) (square parts : ℕ) → 0 < parts
+    → AgreesWhereOk (λ mode. IsDeliveredRoot format mode square parts)
+root_agrees format square parts some mode other v w s x y =
+    let t = ok_tests (ltb (largest format) x.pick) (eqb (square_of x.pick parts) square)
+    (raises_overflow format mode false) (is_tiny_root format mode square parts x.pick) (sym x.status_is) in
+    let e : square_of x.pick parts ≡ square = eqb-true (square_of x.pick parts) square t.1 in
     let g : IsOnGrid format.precision x.pick =
     subst (λ (point : ℕ). IsOnGrid format.precision point) (sym x.is_pick.is)
     (if_case (λ (point : ℕ). IsOnGrid format.precision point)
-    (takes_above mode false (4 * square) ((x.is_pick.below + x.is_pick.above) * (x.is_pick.below + x.is_pick.above))
+    (takes_above mode false (4 * square) (square_of (x.is_pick.below + x.is_pick.above) parts)
     (eqb (x.is_pick.below / (x.is_pick.above - x.is_pick.below) % 2) 1))
     (λ above. x.is_pick.is_above.on_grid) (λ below. x.is_pick.is_below.on_grid)) in
-    let low : y.is_pick.below ≡ x.pick = below_root_unique format.precision _ _ square y.is_pick.is_below
+    let low : y.is_pick.below ≡ x.pick = below_root_unique format.precision _ _ square parts y.is_pick.is_below
     (record {
       on_grid = g;
       not_above = omega (arith, e);
-      greatest = λ point _ l. root_le point x.pick (omega (arith, e, l));
+      greatest = λ point _ l. point_le point x.pick parts some (omega (arith, e, l));
     }) in
-    let high : y.is_pick.above ≡ x.pick = above_root_unique format.precision _ _ square y.is_pick.is_above
+    let high : y.is_pick.above ≡ x.pick = above_root_unique format.precision _ _ square parts y.is_pick.is_above
     (record {
       on_grid = g;
       not_below = omega (arith, e);
-      least = λ point _ l. root_le x.pick point (omega (arith, e, l));
+      least = λ point _ l. point_le x.pick point parts some (omega (arith, e, l));
     }) in
     let same : y.pick ≡ x.pick = y.is_pick.is ∙ either _ _ _ (high ∙ sym low) ∙ high in
     let a : ltb (largest format) x.pick ≡ false = t.0 in
     let value : delivered_value format other false x.pick ≡ delivered_value format mode false x.pick = rw a refl in
-    let status : root_status format other square x.pick ≡ ok_bits = rw (a, t.1) refl in (
+    let status : root_status format other square parts x.pick ≡ ok_bits = rw (a, t.1) refl in (
       y.value_is ∙ ap (λ (p : ℕ). delivered_value format other false p) same ∙ value ∙ sym x.value_is,
-      y.status_is ∙ ap (λ (p : ℕ). root_status format other square p) same ∙ status,
+      y.status_is ∙ ap (λ (p : ℕ). root_status format other square parts p) same ∙ status,
     )
 
 -- ---- every outcome
@@ -139,7 +146,7 @@ pub outcome_agrees : (format : Format) (outcome : Outcome) → IsFixed outcome
 outcome_agrees format (settled datum flags) h = answer_agrees datum flags
 outcome_agrees format (rounded negative amount parts) h = delivered_agrees format negative amount parts h
 outcome_agrees format (totalled left right exact parts) h = absurd h
-outcome_agrees format (rooted square) h = root_agrees format square
+outcome_agrees format (rooted square parts) h = root_agrees format square parts h
 
 pub product_agrees : (format : Format) (x y : Datum) → AgreesWhereOk (λ mode. IsProduct format mode x y)
 product_agrees format x y = outcome_agrees format (product format x y) (product_fixed format x y)
@@ -216,7 +223,7 @@ total_agrees format (settled datum flags) h = agrees_too _ (answer_agrees datum 
 total_agrees format (rounded negative amount parts) h = agrees_too _ (delivered_agrees format negative amount parts h)
 total_agrees format (totalled left right exact parts) h =
     rounded_agrees format (λ mode. zero_sum_sign mode left right) exact parts h
-total_agrees format (rooted square) h = agrees_too _ (root_agrees format square)
+total_agrees format (rooted square parts) h = agrees_too _ (root_agrees format square parts h)
 
 pub sum_agrees : (format : Format) (x y : Datum) → AgreesButForZeros (λ mode. IsSum format mode x y)
 sum_agrees format x y = total_agrees format (sum format x y) (sum_sound format x y)

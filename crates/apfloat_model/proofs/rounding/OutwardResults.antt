@@ -241,7 +241,7 @@ abbrev pub IsNanOrExact : Outcome → Type 0
 IsNanOrExact (settled datum flags) = (is_nan datum ≡ true) ⊎ (flags ≡ ok_bits)
 IsNanOrExact (rounded negative amount parts) = ⊥
 IsNanOrExact (totalled left right exact parts) = ⊥
-IsNanOrExact (rooted square) = ⊥
+IsNanOrExact (rooted square parts) = ⊥
 
 nan_or_exact_if : (format : Format) (test : Bool) (datum : Datum)
     → IsNanOrExact (if test then invalid format else exactly datum)
@@ -274,7 +274,7 @@ on_product_encloses format z (settled datum flags) h =
     (λ mode. Yields format mode (on_product format z (settled datum t)))) (sym e) (sum_encloses format datum z)) h
 on_product_encloses format z (rounded negative amount parts) h = absurd h
 on_product_encloses format z (totalled left right exact parts) h = absurd h
-on_product_encloses format z (rooted square) h = absurd h
+on_product_encloses format z (rooted square parts) h = absurd h
 
 sum_with_product_encloses : (format : Format) (x y z : Datum) → is_finite x && is_finite y ≡ false
     → Encloses IsOk (λ mode. Yields format mode (with_product format x y z))

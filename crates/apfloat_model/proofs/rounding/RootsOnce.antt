@@ -16,33 +16,35 @@ pub answer_once : (datum : Datum) (t : ℕ) → Once (IsAnswer datum t)
 answer_once d t v w r s x y = (x.value_is ∙ sym y.value_is, x.status_is ∙ sym y.status_is)
 
 -- a root has one neighbour below and one above, so it is rounded to one value with one status
-pub below_root_unique : (precision a b square : ℕ) → IsBelowRoot precision a square
-    → IsBelowRoot precision b square → a ≡ b
-below_root_unique precision a b square x y =
+pub below_root_unique : (precision a b square parts : ℕ) → IsBelowRoot precision a square parts
+    → IsBelowRoot precision b square parts → a ≡ b
+below_root_unique precision a b square parts x y =
     let l : a ≤ b = y.greatest a x.on_grid x.not_above in
     let k : b ≤ a = x.greatest b y.on_grid y.not_above in
     omega arith
 
-pub above_root_unique : (precision a b square : ℕ) → IsAboveRoot precision a square
-    → IsAboveRoot precision b square → a ≡ b
-above_root_unique precision a b square x y =
+pub above_root_unique : (precision a b square parts : ℕ) → IsAboveRoot precision a square parts
+    → IsAboveRoot precision b square parts → a ≡ b
+above_root_unique precision a b square parts x y =
     let l : b ≤ a = y.least a x.on_grid x.not_below in
     let k : a ≤ b = x.least b y.on_grid y.not_below in
     omega arith
 
-root_pick_unique : (precision : ℕ) (mode : Round) (square p q : ℕ) → IsRootPick precision mode square p
-    → IsRootPick precision mode square q → p ≡ q
-root_pick_unique precision mode square p q x y =
+root_pick_unique : (precision : ℕ) (mode : Round) (square parts p q : ℕ)
+    → IsRootPick precision mode square parts p → IsRootPick precision mode square parts q → p ≡ q
+root_pick_unique precision mode square parts p q x y =
     x.is ∙
-    ap (λ (b : ℕ). root_between mode b x.above square)
-    (below_root_unique precision x.below y.below square x.is_below y.is_below) ∙
-    ap (λ (a : ℕ). root_between mode y.below a square)
-    (above_root_unique precision x.above y.above square x.is_above y.is_above) ∙
+    ap (λ (b : ℕ). root_between mode b x.above square parts)
+    (below_root_unique precision x.below y.below square parts x.is_below y.is_below) ∙
+    ap (λ (a : ℕ). root_between mode y.below a square parts)
+    (above_root_unique precision x.above y.above square parts x.is_above y.is_above) ∙
     sym y.is
 
-pub delivered_root_once : (format : Format) (mode : Round) (square : ℕ) → Once (IsDeliveredRoot format mode square)
-delivered_root_once format mode square v w s t x y =
-    let e : x.pick ≡ y.pick = root_pick_unique format.precision mode square x.pick y.pick x.is_pick y.is_pick in (
+pub delivered_root_once : (format : Format) (mode : Round) (square parts : ℕ)
+    → Once (IsDeliveredRoot format mode square parts)
+delivered_root_once format mode square parts v w s t x y =
+    let e : x.pick ≡ y.pick =
+    root_pick_unique format.precision mode square parts x.pick y.pick x.is_pick y.is_pick in (
       x.value_is ∙ ap (λ (z : ℕ). delivered_value format mode false z) e ∙ sym y.value_is,
-      x.status_is ∙ ap (λ (z : ℕ). root_status format mode square z) e ∙ sym y.status_is,
+      x.status_is ∙ ap (λ (z : ℕ). root_status format mode square parts z) e ∙ sym y.status_is,
     )

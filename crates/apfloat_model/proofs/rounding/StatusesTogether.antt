@@ -12,7 +12,7 @@ use Rattle.apfloat_model.specs.formats.Nan.{invalid_bit, invalid_if}
 use Rattle.apfloat_model.specs.rounding.Rounding.{ok_bits, overflow_bit, underflow_bit, inexact_bit, raises_overflow, is_tiny, delivered_status, IsDelivered}
 use Rattle.apfloat_model.specs.rounding.Answer.{IsAnswer}
 use Rattle.apfloat_model.specs.rounding.RaisedFlags.{FlagsGoTogether}
-use Rattle.apfloat_model.specs.rounding.DeliveredRoots.{is_tiny_root, root_status}
+use Rattle.apfloat_model.specs.rounding.DeliveredRoots.{square_of, is_tiny_root, root_status, IsDeliveredRoot}
 use Rattle.apfloat_model.specs.arithmetic.Quotients.{div_by_zero_bit}
 use Rattle.apfloat_model.specs.whole_numbers.WholeNumbers.{inexact_unless}
 use Rattle.apfloat_model.proofs.general.Choices.{if_case}
@@ -121,15 +121,20 @@ pub delivered_together : (format : Format) (mode : Round) (negative : Bool) (amo
 delivered_together format mode negative amount parts value status x =
     subst FlagsGoTogether (sym x.status_is) (status_together format mode negative amount parts x.pick)
 
-pub root_status_together : (format : Format) (mode : Round) (square pick : ℕ)
-    → FlagsGoTogether (root_status format mode square pick)
-root_status_together format mode square pick =
+root_status_together : (format : Format) (mode : Round) (square parts pick : ℕ)
+    → FlagsGoTogether (root_status format mode square parts pick)
+root_status_together format mode square parts pick =
     if_case FlagsGoTogether (ltb (largest format) pick)
     (λ past. if_case FlagsGoTogether (raises_overflow format mode false)
     (λ out. inexact_together (overflow_bit + inexact_bit) (lit< tt)) (λ stays. only_inexact_together))
-    (λ within. if_case FlagsGoTogether (eqb (pick * pick) square) (λ exact. ok_together)
-    (λ lost. if_case FlagsGoTogether (is_tiny_root format mode square pick)
+    (λ within. if_case FlagsGoTogether (eqb (square_of pick parts) square) (λ exact. ok_together)
+    (λ lost. if_case FlagsGoTogether (is_tiny_root format mode square parts pick)
     (λ tiny. inexact_together (underflow_bit + inexact_bit) (lit< tt)) (λ normal. only_inexact_together)))
+
+pub delivered_root_together : (format : Format) (mode : Round) (square parts : ℕ)
+    → Together (IsDeliveredRoot format mode square parts)
+delivered_root_together format mode square parts value status x =
+    subst FlagsGoTogether (sym x.status_is) (root_status_together format mode square parts x.pick)
 
 -- a result given outright has such a status
 pub answer_together : (datum : Datum) (flags : ℕ) → FlagsGoTogether flags → Together (IsAnswer datum flags)

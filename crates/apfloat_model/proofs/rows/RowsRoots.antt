@@ -29,44 +29,44 @@ encloses_root precision m c square =
 abbrev picked_root : Round → ℕ → ℕ → ℕ → ℕ
 picked_root mode m c square =
     if eqb square (m * 2 ^ c * (m * 2 ^ c)) then m * 2 ^ c
-    else root_between mode (m * 2 ^ c) ((m + 1) * 2 ^ c) square
+    else root_between mode (m * 2 ^ c) ((m + 1) * 2 ^ c) square 1
 
 module _ (precision m c square : ℕ) (double : 2 ^ precision ≡ 2 * 2 ^ (precision - 1)) (fits : m < 2 ^ precision)
     (full : (c ≡ 0) ⊎ (2 ^ (precision - 1) ≤ m)) (from : m * 2 ^ c * (m * 2 ^ c) ≤ square)
     (to : square < (m + 1) * 2 ^ c * ((m + 1) * 2 ^ c)) where
-  below_is_low : IsBelowRoot precision (m * 2 ^ c) square
+  below_is_low : IsBelowRoot precision (m * 2 ^ c) square 1
   below_is_low = record {
     on_grid = multiple_on_grid precision m c fits;
-    not_above = from;
+    not_above = omega (arith, from);
     greatest = λ other g l.
         ⊎_elim
         (λ (q : m * 2 ^ c < other).
         let k : (m + 1) * 2 ^ c ≤ other = none_between precision (2 ^ (precision - 1)) m c other double full g q in
         let s : (m + 1) * 2 ^ c * ((m + 1) * 2 ^ c) ≤ other * other = square_le _ _ k in
-        absurd (omega arith))
+        absurd (omega (arith, l, s, to)))
         (λ (q : other ≤ m * 2 ^ c). q)
         (cases_lt (m * 2 ^ c) other);
   }
 
-  above_is_low : square ≡ m * 2 ^ c * (m * 2 ^ c) → IsAboveRoot precision (m * 2 ^ c) square
+  above_is_low : square ≡ m * 2 ^ c * (m * 2 ^ c) → IsAboveRoot precision (m * 2 ^ c) square 1
   above_is_low e = record {
     on_grid = multiple_on_grid precision m c fits;
-    not_below = omega arith;
-    least = λ other g l. root_le (m * 2 ^ c) other (omega arith);
+    not_below = omega (arith, e);
+    least = λ other g l. root_le (m * 2 ^ c) other (omega (arith, e, l));
   }
 
-  above_is_high : m * 2 ^ c * (m * 2 ^ c) < square → IsAboveRoot precision ((m + 1) * 2 ^ c) square
+  above_is_high : m * 2 ^ c * (m * 2 ^ c) < square → IsAboveRoot precision ((m + 1) * 2 ^ c) square 1
   above_is_high h = record {
     on_grid = next_on_grid precision (2 ^ (precision - 1)) m c double fits;
-    not_below = omega arith;
+    not_below = omega (arith, to);
     least = λ other g l.
-        let k : m * 2 ^ c < other = root_lt (m * 2 ^ c) other (omega arith) in
+        let k : m * 2 ^ c < other = root_lt (m * 2 ^ c) other (omega (arith, h, l)) in
         none_between precision (2 ^ (precision - 1)) m c other double full g k;
   }
 
   root_is_picked : (mode : Round) (same : Bool) → eqb square (m * 2 ^ c * (m * 2 ^ c)) ≡ same
-      → IsRootPick precision mode square
-      (if same then m * 2 ^ c else root_between mode (m * 2 ^ c) ((m + 1) * 2 ^ c) square)
+      → IsRootPick precision mode square 1
+      (if same then m * 2 ^ c else root_between mode (m * 2 ^ c) ((m + 1) * 2 ^ c) square 1)
   root_is_picked mode true e = record {
     below = m * 2 ^ c;
     above = m * 2 ^ c;
@@ -86,8 +86,8 @@ module _ (precision m c square : ℕ) (double : 2 ^ precision ≡ 2 * 2 ^ (preci
 rooted : {format : Format} {mode : Round} {square : ℕ} {value : Datum} {status : ℕ} (m c : ℕ)
     → encloses_root format.precision m c square ≡ true
     → value ≡ delivered_value format mode false (picked_root mode m c square)
-    → status ≡ root_status format mode square (picked_root mode m c square)
-    → IsDeliveredRoot format mode square value status
+    → status ≡ root_status format mode square 1 (picked_root mode m c square)
+    → IsDeliveredRoot format mode square 1 value status
 rooted {format} {mode} {square} m c e v s =
     let x = and_parts _ _ e in
     let y = and_parts _ _ x.1 in

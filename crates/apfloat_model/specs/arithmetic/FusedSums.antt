@@ -18,7 +18,7 @@ abbrev pub on_product : Format → Datum → Outcome → Outcome
 on_product f z (settled datum flags) = if eqb flags ok_bits then sum f datum z else settled datum flags
 on_product f z (rounded negative amount parts) = rounded negative amount parts
 on_product f z (totalled left right exact parts) = totalled left right exact parts
-on_product f z (rooted square) = rooted square
+on_product f z (rooted square parts) = rooted square parts
 
 -- a fused sum with an infinity or a NaN among its factors
 abbrev pub with_product : Format → Datum → Datum → Datum → Outcome

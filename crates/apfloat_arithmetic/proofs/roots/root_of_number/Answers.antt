@@ -1,9 +1,10 @@
-use Rattle.std.proofs.Common.{◌≡◌, ◌+◌, ◌-◌, ◌*◌, ◌^◌, refl, w32, to_z, of_z, arith, ℤ, pos, ◌+ℤ◌, ◌-ℤ◌}
+use Rattle.std.proofs.Common.{◌≡◌, ℕ, sym, ap, ◌∙◌, lit<, ◌+◌, ◌-◌, ◌*◌, ◌^◌, refl, w32, to_z, of_z, arith, ℤ, pos, ◌+ℤ◌, ◌-ℤ◌}
 use Rattle.std.proofs.lemmas.Nat.{pow_pos}
 use Rattle.std.proofs.lemmas.Int.{to_z-of_z, ints}
 use borrow.Author.Differences.{fits_in}
 use Rattle.apfloat_model.specs.rounding.Flags.{bits_of}
 use Rattle.apfloat_model.specs.rounding.Standing.{up, down}
+use Rattle.apfloat_model.proofs.arithmetic.RootLaws.{square_whole}
 use Rattle.apfloat_arithmetic.proofs.RootStandings.{delivered_of_standing}
 use Rattle.apfloat_rounding.specs.Shapes.{format_at}
 use Rattle.apfloat_rounding.specs.Stored.{quanta_at, datum_at}
@@ -25,10 +26,13 @@ returns-clause-delivered c =
     let v : last ≡ half -ℤ pos (s.precision - 1) = rw u at c.last_exponent-last.ensures.value in
     let unit : ℤ = last +ℤ pos (format_at s).scale in
     delivered_of_standing (format_at s) c.args.round
-    (quanta_at s.min_exp c.args.x.significand c.args.x.exponent * 2 ^ (format_at s).scale)
+    (quanta_at s.min_exp c.args.x.significand c.args.x.exponent * 2 ^ (format_at s).scale) 1
     (c.args.x.significand * 2 ^ (s.precision - 1 + c.halves_of-exponent.result.odd))
     (2 ^ up unit) (2 ^ down unit) c.root_of-root.result.whole c.root_of-root.result.loss
-    (datum_at s c.deliver.result.value) (bits_of c.deliver.result.status) (pow_pos (up unit)) (pow_pos (down unit))
+    (datum_at s c.deliver.result.value) (bits_of c.deliver.result.status) (lit< tt) (pow_pos (up unit))
+    (pow_pos (down unit))
     (root_is s c.args.x.exponent half last c.args.x.significand (s.precision - 1 + c.halves_of-exponent.result.odd)
-    c.halves_of-exponent.result.odd c.requires h refl v)
+    c.halves_of-exponent.result.odd c.requires h refl v ∙
+    ap (λ (x : ℕ). c.args.x.significand * 2 ^ (s.precision - 1 + c.halves_of-exponent.result.odd) * x)
+    (sym (square_whole (2 ^ up unit))))
     c.root_of-root.ensures.stands (rw w at c.deliver.ensures.delivered)

@@ -1,5 +1,4 @@
-use Rattle.round_to_odd.proofs.OwnRoots.{own_root_rounded_once}
-use Rattle.round_to_odd.proofs.RootsAgain.{root_rounded_once}
+use Rattle.round_to_odd.proofs.RootsAgain.{root_rounded_once, own_root_rounded_once}
 use Rattle.round_to_odd.proofs.theorems.rounding_roots_again_is_rounding_once.Goals as goal
 
 pub returns-clause-own : goal.returns-clause-own

@@ -8,7 +8,7 @@ use Rattle.apfloat_model.specs.rounding.Standing.{up, down}
 use Rattle.apfloat_model.proofs.general.Powers.{two_pos}
 use Rattle.apfloat_rounding.specs.Shapes.{format_at}
 use Rattle.apfloat_rounding.specs.Stored.{datum_at}
-use Rattle.apfloat_arithmetic.proofs.other_formats_lemmas.RootDeliveries.{delivered_of_standing}
+use Rattle.apfloat_arithmetic.proofs.RootStandings.{delivered_of_standing}
 use Rattle.apfloat_arithmetic.proofs.other_formats_lemmas.RootExponents.{root_is}
 use Rattle.apfloat_arithmetic.proofs.other_formats.roots.root_of_nonzero.Goals as goal
 
