@@ -321,26 +321,25 @@ fn carried(precision: u32, significand: u128, place: u32) -> Point
     }
 }
 
-/// Whether the point is past the greatest significand at the greatest place.
+/// Whether `significand * 2^place` quanta are past the largest value.
 #[inline(always)]
-fn is_past(precision: u32, point: Point, greatest: u128, span: u32) -> bool
-    requires some { 0 < precision }
-    requires fits { point.significand < 2 ^ precision }
-    requires full { (point.place ≡ 0) ⊎ (2 ^ (precision - 1) ≤ point.significand) }
-    requires greatest_fits { greatest < 2 ^ precision }
-    requires greatest_full { 2 ^ (precision - 1) ≤ greatest }
-    ensures { result ≡ ltb (greatest * 2 ^ span) (point.significand * 2 ^ point.place) }
+pub fn is_past(shape: Shape, significand: u128, place: u32) -> bool
+    requires fits { significand < 2 ^ shape.precision }
+    requires full { (place ≡ 0) ⊎ (2 ^ (shape.precision - 1) ≤ significand) }
+    ensures { result ≡ ltb (largest (format_at shape)) (significand * 2 ^ place) }
 {
-    if point.place == span {
-        point.significand > greatest
+    let span = shape.span();
+    let greatest = shape.greatest_significand();
+    if place == span {
+        significand > greatest
     } else {
-        point.place > span
+        place > span
     }
 }
 
 /// Whether the mode rounds past the largest value, out of the format.
 #[inline(always)]
-fn leads_past(mode: Round, negative: bool) -> bool
+pub fn leads_past(mode: Round, negative: bool) -> bool
     ensures { result ≡ leads_out mode negative }
 {
     match mode {
@@ -553,8 +552,7 @@ fn round(shape: Shape, known: Known, cut: Cut, mode: Round, negative: bool) -> S
         return status.and(value_of(shape, known, negative, picked.significand, cut.place));
     }
     let point = carried(shape.precision, picked.significand, cut.place);
-    let greatest = shape.greatest_significand();
-    if is_past(shape.precision, point, greatest, shape.span()) {
+    if is_past(shape, point.significand, point.place) {
         return overflowed(shape, mode, negative);
     }
     status.and(from_full_quanta(shape, negative, point.significand, point.place))

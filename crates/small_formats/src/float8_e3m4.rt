@@ -13,11 +13,12 @@ ghost use Rattle.apfloat_ieee.specs.FlaggedTypes.{format_of as flagged_format_of
 ghost use Rattle.apfloat_ieee.specs.Types.{format_of};
 ghost use Rattle.small_formats.specs.Float8E3M4.{IsNarrow, e3m4_datum, e3m4_format, narrowed, widened};
 
-use crate::from_value::{leads_out, status_past};
+use crate::from_value::status_past;
 use apfloat_base::{
     Category, ExpInt, Float, FloatConvert, NonfiniteBehavior, Round, Status, StatusAnd,
 };
 use apfloat_ieee::{Flagged, IeeeFloat, Semantics};
+use apfloat_rounding::rounding::leads_past;
 use std::cmp::Ordering;
 use std::marker::Model;
 
@@ -148,7 +149,7 @@ pub fn past(round: Round, negative: bool) -> StatusAnd<Float8E3M4>
     ensures status { bits_of result.status
         ≡ (if leads_out round negative then overflow_bit + inexact_bit else inexact_bit) }
 {
-    let magnitude = if leads_out(round, negative) {
+    let magnitude = if leads_past(round, negative) {
         INFINITY
     } else {
         LARGEST

@@ -20,27 +20,15 @@ use crate::picks::Picked;
 use crate::stored::StoredFloat;
 use apfloat_base::{ExpInt, Flags, Float, Round, Status, StatusAnd};
 use apfloat_ieee::{IeeeFloat, Semantics};
+use apfloat_rounding::rounding::leads_past;
 use apfloat_words::power_of_two;
-
-/// Whether the mode rounds past the largest value, if the pick is past it.
-pub(crate) fn leads_out(mode: Round, negative: bool) -> bool
-    ensures { result ≡ leads_out mode negative }
-{
-    match mode {
-        Round::TowardZero => false,
-        Round::TowardPositive => !negative,
-        Round::TowardNegative => negative,
-        Round::NearestTiesToEven => true,
-        Round::NearestTiesToAway => true,
-    }
-}
 
 /// The status of a pick past the largest number.
 pub(crate) fn status_past(mode: Round, negative: bool) -> Status
     ensures { bits_of result
         ≡ (if leads_out mode negative then overflow_bit + inexact_bit else inexact_bit) }
 {
-    if leads_out(mode, negative) {
+    if leads_past(mode, negative) {
         Status::OVERFLOW.union(Status::INEXACT)
     } else {
         Status::INEXACT

@@ -16,7 +16,7 @@ ghost use Rattle.small_formats.specs.Projections.{IsInfinityOf, IsIntoProjection
 ghost use Rattle.small_formats.specs.Projections.{exponent_bits, largest_index, past_value};
 ghost use Rattle.small_formats.specs.Projections.{projected_datum, projected_format};
 
-use crate::from_value::{leads_out, status_of_nan, status_past, status_within};
+use crate::from_value::{status_of_nan, status_past, status_within};
 use crate::from_value_by::ieee_mode;
 use crate::modes::ConversionRound;
 use crate::picks::{Picked, pick_by};
@@ -25,6 +25,7 @@ use crate::projection::Projection;
 use crate::quanta::in_quanta;
 use apfloat_base::{Category, Flags, Float, Round, Status, StatusAnd};
 use apfloat_ieee::{IeeeFloat, Semantics};
+use apfloat_rounding::rounding::leads_past;
 use apfloat_words::power_of_two;
 
 /// The bits of the exponent.
@@ -55,7 +56,7 @@ fn past_value<F: Projection>(mode: Round, negative: bool) -> Projected<F>
         ≡ (if leads_out mode negative then past_value c negative
         else finite negative (point c.precision (largest_index c))) }
 {
-    if leads_out(mode, negative) {
+    if leads_past(mode, negative) {
         return Projected::past(negative);
     }
     Projected::number(negative, largest_index::<F>())

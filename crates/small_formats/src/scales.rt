@@ -16,7 +16,7 @@ ghost use Rattle.small_formats.specs.ScaleModes.{IsDeliveredScaleBy, IsScaleBy};
 ghost use Rattle.small_formats.specs.Scales.{IsScale, largest_code, nan_code, scale_format, scale_of};
 
 use crate::cuts::DIGITS;
-use crate::from_value::{leads_out, status_of_nan, status_past};
+use crate::from_value::{status_of_nan, status_past};
 use crate::from_value_by::ieee_mode;
 use crate::grid_points::{Point, convert_point};
 use crate::modes::ConversionRound;
@@ -25,6 +25,7 @@ use crate::quanta::in_quanta;
 use apfloat_base::{Category, ExpInt, Flags, Float, Round, Status, StatusAnd};
 use apfloat_ieee::{Flagged, IeeeFloat, Semantics};
 use apfloat_model::Loss;
+use apfloat_rounding::rounding::leads_past;
 use apfloat_words::{is_exact, shift_right};
 use std::marker::Model;
 
@@ -70,7 +71,11 @@ fn past(mode: Round) -> StatusAnd<E8M0FNU>
     ensures status { bits_of result.status
         ≡ (if leads_out mode false then overflow_bit + inexact_bit else inexact_bit) }
 {
-    let code = if leads_out(mode, false) { NAN } else { LARGEST };
+    let code = if leads_past(mode, false) {
+        NAN
+    } else {
+        LARGEST
+    };
     status_past(mode, false).and(E8M0FNU { code })
 }
 

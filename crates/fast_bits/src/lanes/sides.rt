@@ -2,7 +2,6 @@
 
 ghost use Rattle.std.specs.Prelude.{◌≡◌, ℕ, ◌+◌, ◌-◌, ◌*◌, ◌^◌, ◌<◌, ◌≤◌, ◌↔◌, Bool, true, false, if◌then◌else◌, IsTrue};
 ghost use Rattle.apfloat_model.specs.declared.kinds.Round.{Round as Mode};
-ghost use Rattle.apfloat_model.specs.rounding.Rounding.{leads_out};
 ghost use Rattle.fast_bits.specs.lanes.At.{format_at, layout_at};
 ghost use Rattle.fast_bits.specs.lanes.Sides.{IsAddendOf, IsSideOf, LeadsPast};
 ghost use Rattle.fast_bits.specs.lanes.Targets.{IsShortFormat};
@@ -11,20 +10,7 @@ use crate::lanes::constants::{Addend, Side, Target};
 use crate::lanes::plans::{Plan, ShortPlan};
 use crate::lanes::targets::largest_code;
 use apfloat_model::Round;
-
-/// Whether the mode delivers what is past the largest value for numbers of this sign that are.
-#[inline(always)]
-fn leads_past(round: Round, negative: bool) -> bool
-    ensures { result ≡ leads_out round negative }
-{
-    match round {
-        Round::TowardPositive => !negative,
-        Round::TowardNegative => negative,
-        Round::NearestTiesToEven => true,
-        Round::NearestTiesToAway => true,
-        Round::TowardZero => false,
-    }
-}
+use apfloat_rounding::rounding::leads_past;
 
 /// What a directed mode adds, if it rounds away from zero or toward it.
 #[inline(always)]

@@ -1,8 +1,7 @@
 //! The neighbour that random digits choose.
 
-ghost use Rattle.std.specs.Prelude.{◌≡◌, ◌⊎◌, ℕ, ◌+◌, ◌-◌, ◌*◌, ◌^◌, ◌<◌, ◌≤◌, ltb, pos, ◌+ℤ◌, ◌-ℤ◌};
+ghost use Rattle.std.specs.Prelude.{◌≡◌, ℕ, ◌+◌, ◌-◌, ◌*◌, ◌^◌, ◌<◌, ◌≤◌, pos, ◌+ℤ◌, ◌-ℤ◌};
 ghost use Rattle.apfloat_model.specs.declared.kinds.Category.TheVariants.{Normal};
-ghost use Rattle.apfloat_model.specs.formats.Format.{largest};
 ghost use Rattle.apfloat_model.specs.order.Classes.{category_of, quanta_of};
 ghost use Rattle.apfloat_model.specs.rounding.Bounds.{IsWithin};
 ghost use Rattle.apfloat_model.specs.rounding.Standing.{up, down};
@@ -10,10 +9,11 @@ ghost use Rattle.apfloat_ieee.specs.Types.{format_of};
 ghost use Rattle.apfloat_rounding.specs.Shapes.{format_at};
 ghost use Rattle.small_formats.specs.stochastic.Directions.{IsDirection};
 
-use crate::stochastic::cuts::{Kept, cut, rest_reaches_whole};
+use crate::stochastic::cuts::{cut, rest_reaches_whole};
 use crate::{RandomDigits, in_quanta};
 use apfloat_base::ExpInt;
 use apfloat_ieee::{IeeeFloat, Semantics};
+use apfloat_rounding::rounding::is_past;
 use apfloat_rounding::shape::Shape;
 
 /// The constants of a format that rounding reads.
@@ -31,21 +31,6 @@ fn shape_of<T: Semantics>() -> Shape
     }
 }
 
-/// Whether what is kept is past the largest value.
-fn is_past(shape: Shape, kept: Kept) -> bool
-    requires fits { kept.significand < 2 ^ shape.precision }
-    requires full { (kept.place ≡ 0) ⊎ (2 ^ (shape.precision - 1) ≤ kept.significand) }
-    ensures { result ≡ ltb (largest (format_at shape)) (kept.significand * 2 ^ kept.place) }
-{
-    let span = shape.span();
-    let greatest = shape.greatest_significand();
-    if kept.place == span {
-        kept.significand > greatest
-    } else {
-        kept.place > span
-    }
-}
-
 /// Whether random digits round `digits * 2^unit` quanta away from zero.
 fn leads_away(shape: Shape, digits: u128, unit: ExpInt, bits: RandomDigits) -> bool
     requires low { 2 ^ 124 ≤ digits }
@@ -56,7 +41,7 @@ fn leads_away(shape: Shape, digits: u128, unit: ExpInt, bits: RandomDigits) -> b
         → IsDirection (format_at shape) bits.digits bits.random amount parts result }
 {
     let kept = cut(shape.precision, digits, unit);
-    let past = is_past(shape, kept);
+    let past = is_past(shape, kept.significand, kept.place);
     let reaches = rest_reaches_whole(digits, kept.places, bits.digits, bits.random);
     past || reaches
 }

@@ -1,4 +1,4 @@
-use Rattle.std.proofs.Common.{◌≡◌, ℕ, ◌⊎◌, ◌-◌, ◌*◌, ◌%◌, ◌^◌, ◌≤◌, eqb, true, false, ◌∙◌, ap, sym, subst, refl, inl}
+use Rattle.std.proofs.Common.{◌≡◌, ℕ, ◌⊎◌, ◌-◌, ◌*◌, ◌%◌, ◌^◌, ◌≤◌, eqb, ◌∙◌, ap, sym, subst, refl, inl}
 use Rattle.std.proofs.Common.{inr, ⊎_elim}
 use Rattle.std.proofs.Math.Nat.{le_trans}
 use Rattle.std.proofs.lemmas.Bool.{le-ltb}
@@ -9,7 +9,7 @@ use Rattle.apfloat_model.specs.formats.Format.{largest}
 use Rattle.apfloat_rounding.specs.Cuts.{loss_at}
 use Rattle.apfloat_rounding.specs.Shapes.{format_at}
 use Rattle.apfloat_rounding.specs.Stored.{datum_at}
-use Rattle.apfloat_model.proofs.rounding.Deliveries.{past_is, delivered_past}
+use Rattle.apfloat_model.proofs.rounding.Deliveries.{delivered_past}
 use Rattle.apfloat_rounding.proofs.CutRests.{picked_if_moved, delivered_within}
 use Rattle.apfloat_rounding.proofs.rounding.round.Goals.{After-pick_with_status-picked}
 use Rattle.apfloat_rounding.proofs.rounding.round.Goals as goal
@@ -49,8 +49,7 @@ returns-then-is_past-clause-delivered c = λ amount parts u h g.
     (rounds_up c.args.mode c.args.negative loss (eqb (m % 2) 1)) refl
     (c.carried-point.ensures.value ∙ ap (λ (x : ℕ). x * 2 ^ c.args.cut.place) c.pick_with_status-picked.ensures.value)
     u h.0 h.1 in
-    let a = past_is f c.greatest_significand-greatest.result c.span.result p c.is_past.result true
-    c.greatest_significand-greatest.ensures.value c.span.ensures.value c.is_past.ensures c.if-is_past.true in
+    let a = sym c.is_past.ensures ∙ c.if-is_past.true in
     delivered_past f c.args.mode c.args.negative amount parts p _ _ is a c.overflowed.ensures.answer.value_is
     c.overflowed.ensures.answer.status_is
 
@@ -62,8 +61,7 @@ returns-clause-delivered c = λ amount parts u h g.
     let rest = c.args.cut.rest in
     let half = c.args.cut.half in
     let p = c.carried-point.result.significand * 2 ^ c.carried-point.result.place in
-    let a = past_is f c.greatest_significand-greatest.result c.span.result p c.is_past.result false
-    c.greatest_significand-greatest.ensures.value c.span.ensures.value c.is_past.ensures c.if-is_past.false in
+    let a = sym c.is_past.ensures ∙ c.if-is_past.false in
     let s = ap bits_of c.and-2.ensures.status in
     let k = picked_full (goal.at.returns-clause-delivered c).After-pick_with_status-picked in
     let v = c.carried-point.ensures.value in

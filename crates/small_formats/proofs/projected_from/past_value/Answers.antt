@@ -6,12 +6,12 @@ use Rattle.small_formats.specs.Projections.{largest_index, past_value}
 use Rattle.small_formats.proofs.ProjectedValues.{largest_some, number_signed}
 use Rattle.small_formats.proofs.projected_from.past_value.Goals as goal
 
-pub returns-then-leads_out : goal.returns-then-leads_out
-returns-then-leads_out g c =
+pub returns-then-leads_past : goal.returns-then-leads_past
+returns-then-leads_past g c =
     let d = projection_of g.F.Projection in
     c.past.ensures
     ∙ sym (ap (λ (b : Bool). cond b (past_value d c.args.negative)
-    (finite c.args.negative (point d.precision (largest_index d)))) (sym c.leads_out.ensures ∙ c.if-leads_out.true))
+    (finite c.args.negative (point d.precision (largest_index d)))) (sym c.leads_past.ensures ∙ c.if-leads_past.true))
 
 -- the largest number is not zero, so it keeps its sign
 pub returns : goal.returns
@@ -21,4 +21,4 @@ returns g c =
     ∙ number_signed d.precision (largest_index d) c.args.negative g.F.Projection.lawful.precision_low
     (largest_some d g.F.Projection.lawful)
     ∙ sym (ap (λ (b : Bool). cond b (past_value d c.args.negative)
-    (finite c.args.negative (point d.precision (largest_index d)))) (sym c.leads_out.ensures ∙ c.if-leads_out.false))
+    (finite c.args.negative (point d.precision (largest_index d)))) (sym c.leads_past.ensures ∙ c.if-leads_past.false))
