@@ -1,6 +1,8 @@
 pub mod Exponents
 pub mod OddTotals
 pub mod Cases
+pub mod ScaledTotals
+mod OutcomesAgree
 pub mod Once
 pub mod RootDeliveries
 pub mod RootExponents

@@ -1,6 +1,7 @@
 pub mod Extended
 pub mod Operands
 pub mod FormatOf
+pub mod Outcomes
 pub mod RootsOf
 pub mod Theorems
 pub mod RaisedFlags
