@@ -2,7 +2,7 @@ pub mod Exponents
 pub mod OddTotals
 pub mod Cases
 pub mod ScaledTotals
-mod OutcomesAgree
+mod SoundOutcomes
 pub mod Once
 pub mod RootDeliveries
 pub mod RootExponents

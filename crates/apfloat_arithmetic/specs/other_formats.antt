@@ -1,7 +1,6 @@
 pub mod Extended
 pub mod Operands
 pub mod FormatOf
-pub mod Outcomes
 pub mod RootsOf
 pub mod Theorems
 pub mod RaisedFlags
