@@ -1,11 +1,13 @@
-//! Results that need no rounding: zeros and infinities.
+//! Results that need no rounding: zeros, infinities and poles.
 
 ghost use Rattle.std.specs.Prelude.{◌≡◌, ℕ, ◌<◌};
 ghost use Rattle.apfloat_model.specs.declared.kinds.NonfiniteBehavior.TheVariants.{IEEE754};
 ghost use Rattle.apfloat_model.specs.declared.kinds.Round.{Round};
+ghost use Rattle.apfloat_model.specs.formats.Constants.{infinity_of};
 ghost use Rattle.apfloat_model.specs.formats.Datum.{infinite};
 ghost use Rattle.apfloat_model.specs.rounding.Answer.{IsAnswer};
 ghost use Rattle.apfloat_model.specs.rounding.Rounding.{ok_bits, signed_quanta, IsDelivered};
+ghost use Rattle.apfloat_model.specs.arithmetic.Quotients.{div_by_zero_bit};
 ghost use Rattle.apfloat_rounding.specs.Shapes.{format_at};
 ghost use Rattle.apfloat_rounding.specs.Stored.{IsStored, GivesAt};
 
@@ -33,4 +35,13 @@ pub fn exact_infinity(shape: Shape, negative: bool) -> StatusAnd<Unpacked>
     ensures answer { GivesAt shape (IsAnswer (infinite negative) ok_bits) result }
 {
     Status::OK.and(infinity_of(shape, negative))
+}
+
+/// A nonzero number divided by a zero (IEEE 754-2019 7.3).
+pub(crate) fn divided_by_zero(shape: Shape, negative: bool) -> StatusAnd<Unpacked>
+    ensures stored { IsStored shape result.value }
+    ensures answer { GivesAt shape
+        (IsAnswer (infinity_of (format_at shape) negative) div_by_zero_bit) result }
+{
+    Status::DIV_BY_ZERO.and(infinity_of(shape, negative))
 }

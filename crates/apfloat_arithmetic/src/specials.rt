@@ -5,13 +5,11 @@
 ghost use Rattle.std.specs.Prelude.{◌≡◌, ℕ, ◌*◌, ◌<◌, ◌⊎◌, true, Bool};
 ghost use Rattle.apfloat_model.specs.declared.kinds.Category.{Category};
 ghost use Rattle.apfloat_model.specs.declared.kinds.Round.{Round};
-ghost use Rattle.apfloat_model.specs.formats.Constants.{infinity_of};
 ghost use Rattle.apfloat_model.specs.formats.Datum.{finite, infinite};
-ghost use Rattle.apfloat_model.specs.rounding.Answer.{IsAnswer};
 ghost use Rattle.apfloat_model.specs.arithmetic.Exact.{product_sign};
 ghost use Rattle.apfloat_model.specs.arithmetic.Sums.{IsSum};
 ghost use Rattle.apfloat_model.specs.arithmetic.Products.{IsProduct};
-ghost use Rattle.apfloat_model.specs.arithmetic.Quotients.{IsQuotient, div_by_zero_bit};
+ghost use Rattle.apfloat_model.specs.arithmetic.Quotients.{IsQuotient};
 ghost use Rattle.apfloat_model.specs.arithmetic.FusedSums.{IsFusedSum, IsSumWithProduct};
 ghost use Rattle.apfloat_model.specs.arithmetic.Roots.{IsRoot};
 ghost use Rattle.apfloat_model.specs.arithmetic.Remainders.{IsRemainder};
@@ -19,14 +17,14 @@ ghost use Rattle.apfloat_rounding.specs.Shapes.{format_at};
 ghost use Rattle.apfloat_rounding.specs.Stored.{IsStored, IsNormal, datum_at, number_of, GivesAt};
 ghost use Rattle.apfloat_arithmetic.specs.SpecialOperands.{HasSpecials, IsResult};
 
-use crate::exact::{exact_infinity, exact_zero};
+use crate::exact::{divided_by_zero, exact_infinity, exact_zero};
 use crate::products::product_sign;
 use crate::sums::sign_of_zero;
 use crate::wide_products::multiply_numbers_at_every_precision;
 use apfloat_model::{Category, Round, Status, StatusAnd};
 use apfloat_rounding::nans::{invalid, propagated, propagated_left};
 use apfloat_rounding::shape::Shape;
-use apfloat_rounding::unpacked::{Unpacked, infinity_of, remade, zero_of};
+use apfloat_rounding::unpacked::{Unpacked, remade, zero_of};
 
 /// An operation with its operands.
 #[derive(Clone, Copy)]
@@ -153,15 +151,6 @@ fn multiply_specials(shape: Shape, x: Unpacked, y: Unpacked) -> StatusAnd<Unpack
         },
         Category::NaN => propagated_left(shape, x, y),
     }
-}
-
-/// A nonzero number divided by a zero (7.3).
-fn divided_by_zero(shape: Shape, negative: bool) -> StatusAnd<Unpacked>
-    ensures stored { IsStored shape result.value }
-    ensures answer { GivesAt shape
-        (IsAnswer (infinity_of (format_at shape) negative) div_by_zero_bit) result }
-{
-    Status::DIV_BY_ZERO.and(infinity_of(shape, negative))
 }
 
 /// A quotient with special operands.

@@ -1,9 +1,10 @@
 -- Operands by their cases.
-use Rattle.std.proofs.Common.{◌≡◌, ◌⊎◌, ◌<◌, ◌≤◌, ◌^◌, ℕ, Bool, false, eqb, subst, sym, arith, inl, inr}
-use Rattle.std.specs.Bool.{MatchBool}
+use Rattle.std.proofs.Common.{◌≡◌, ◌⊎◌, ◌<◌, ◌≤◌, ◌^◌, ℕ, Bool, false, eqb, subst, sym, arith, inl, inr, if◌then◌else◌}
 use Rattle.std.specs.Prelude.{◌*◌}
 use Rattle.std.proofs.lemmas.Bool.{eq-eqb, ne_eqb}
 use Rattle.apfloat_model.specs.formats.Datum.{Datum, finite}
+use Rattle.apfloat_model.specs.rounding.Outcome.{Outcome, Yields}
+use Rattle.apfloat_model.proofs.general.Choices.{not_zero}
 use Rattle.apfloat_words.specs.declared.terms.Term.{Term}
 use Rattle.apfloat_rounding.specs.declared.shape.Shape.{Shape}
 use Rattle.apfloat_arithmetic.specs.declared.other_formats.operands.Operand.TheVariants.{Number, Infinity}
@@ -30,12 +31,16 @@ of_number P into x (number b m s) h k = subst (λ (z : Bool). P (number z m s)) 
 of_number P into x (infinity b) h k = absurd h
 of_number P into x (not_number s d) h k = absurd h
 
--- a choice by a test for zero
-pub if_zero : (n : ℕ) (P Q : Type 0) → n ≡ 0 → P → MatchBool (eqb n 0) P Q
-if_zero n P Q e p = subst (λ (b : Bool). MatchBool b P Q) (sym (eq-eqb n 0 e)) p
+-- what a choice by a test for zero yields
+pub zero_yields : (g : Format) (mode : Round) (n : ℕ) (one other : Outcome) (value : Datum) (status : ℕ) → n ≡ 0
+    → Yields g mode one value status → Yields g mode (if eqb n 0 then one else other) value status
+zero_yields g mode n one other value status e h =
+    subst (λ (b : Bool). Yields g mode (if b then one else other) value status) (sym (eq-eqb n 0 e)) h
 
-pub unless_zero : (n : ℕ) (P Q : Type 0) → 0 < n → Q → MatchBool (eqb n 0) P Q
-unless_zero n P Q h q = subst (λ (b : Bool). MatchBool b P Q) (sym (ne_eqb n 0 (λ e. omega (arith, e, h)))) q
+pub some_yields : (g : Format) (mode : Round) (n : ℕ) (one other : Outcome) (value : Datum) (status : ℕ) → 0 < n
+    → Yields g mode other value status → Yields g mode (if eqb n 0 then one else other) value status
+some_yields g mode n one other value status some h =
+    subst (λ (b : Bool). Yields g mode (if b then one else other) value status) (sym (not_zero n some)) h
 
 -- a significand that is not zero has all its digits
 pub all_digits : (s : ℕ) → (s ≡ 0) ⊎ (2 ^ 124 ≤ s) → 0 < s → 2 ^ 124 ≤ s

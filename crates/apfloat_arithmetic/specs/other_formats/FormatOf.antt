@@ -1,16 +1,15 @@
 -- Operations that deliver in another format g (IEEE 754-2019 5.4.1, formatOf): the exact result of the operands is
 -- rounded once, in g.
-use Rattle.std.specs.Prelude.{ℕ, ◌+◌, ◌*◌, ◌^◌, Bool, ◌||◌, eqb, ℤ, ◌+ℤ◌, if◌then◌else◌}
-use Rattle.std.specs.Bool.{MatchBool}
+use Rattle.std.specs.Prelude.{ℕ, ◌+◌, ◌*◌, ◌^◌, Bool, ◌||◌, eqb, ℤ, pos, ◌+ℤ◌, ◌*ℤ◌, if◌then◌else◌}
 use Rattle.apfloat_model.specs.declared.kinds.Round.{Round}
 use Rattle.apfloat_model.specs.formats.Format.{Format}
 use Rattle.apfloat_model.specs.formats.Datum.{Datum}
 use Rattle.apfloat_model.specs.formats.Constants.{infinity_of}
-use Rattle.apfloat_model.specs.formats.Nan.{invalid_if, IsInvalid}
+use Rattle.apfloat_model.specs.formats.Nan.{invalid_if}
+use Rattle.apfloat_model.specs.rounding.Outcome.{Outcome, settled, rounded, totalled, exactly, invalid, Yields}
+use Rattle.apfloat_model.specs.rounding.Rounding.{ok_bits, inexact_bit, signed_quanta}
 use Rattle.apfloat_model.specs.rounding.Answer.{IsAnswer}
-use Rattle.apfloat_model.specs.rounding.Rounding.{ok_bits, inexact_bit, signed_quanta, IsDelivered}
-use Rattle.apfloat_model.specs.arithmetic.Exact.{same_sign, product_sign, signed, magnitude, sign_of}
-use Rattle.apfloat_model.specs.arithmetic.Sums.{zero_sum_sign}
+use Rattle.apfloat_model.specs.arithmetic.Exact.{same_sign, product_sign, signed}
 use Rattle.apfloat_model.specs.arithmetic.Quotients.{div_by_zero_bit}
 use Rattle.apfloat_model.specs.arithmetic.Conversions.{has_infinities}
 use Rattle.apfloat_arithmetic.specs.other_formats.Extended.{Extended, number, infinity, not_number, seen, signals, opposite}
@@ -18,79 +17,83 @@ use Rattle.apfloat_arithmetic.specs.other_formats.Extended.{Extended, number, in
 -- ---- results
 
 -- a NaN, as conversion delivers it
+abbrev pub nan_to : Bool → Datum → Outcome
+nan_to signaling given = settled given (invalid_if signaling)
+
+-- an infinity, as conversion delivers it
+abbrev pub infinity_to : Format → Bool → Outcome
+infinity_to g negative =
+    settled (infinity_of g negative) (if has_infinities g.nonfinite then ok_bits else inexact_bit)
+
+-- exact * 2 ^ -places, the total of two numbers with these signs, in quanta of g
+abbrev pub total_to : Format → Bool → Bool → ℤ → ℕ → Outcome
+total_to g left right exact places = totalled left right (exact *ℤ pos (2 ^ g.scale)) (2 ^ places)
+
+-- what the first two yield in every mode
 abbrev pub IsNan : Bool → Datum → Datum → ℕ → Type 0
 IsNan signaling given value status = IsAnswer given (invalid_if signaling) value status
 
--- an infinity, as conversion delivers it
 abbrev pub IsInfinity : Format → Bool → Datum → ℕ → Type 0
 IsInfinity g negative value status =
     IsAnswer (infinity_of g negative) (if has_infinities g.nonfinite then ok_bits else inexact_bit) value status
 
--- exact * 2 ^ -places, rounded once; `of_zero` is the sign of an exact zero
-abbrev pub IsRounded : Format → Round → Bool → ℤ → ℕ → Datum → ℕ → Type 0
-IsRounded g mode of_zero exact places value status =
-    IsDelivered g mode (sign_of of_zero exact) (magnitude exact * 2 ^ g.scale) (2 ^ places) value status
-
 -- ---- operations, on values without a format
 
+abbrev pub sum_of : Format → Extended → Extended → Outcome
+sum_of g (not_number s d) y = nan_to (s || signals y) d
+sum_of g x (not_number t d) = nan_to t d
+sum_of g (infinity b) (infinity c) = if same_sign b c then infinity_to g b else invalid g
+sum_of g (infinity b) (number c n t) = infinity_to g b
+sum_of g (number b m s) (infinity c) = infinity_to g c
+sum_of g (number b m s) (number c n t) = total_to g b c (signed b (m * 2 ^ t) +ℤ signed c (n * 2 ^ s)) (s + t)
+
 abbrev pub IsSumOf : Format → Round → Extended → Extended → Datum → ℕ → Type 0
-IsSumOf g mode (not_number s d) y value status = IsNan (s || signals y) d value status
-IsSumOf g mode (number b m s) (not_number t d) value status = IsNan t d value status
-IsSumOf g mode (infinity b) (not_number t d) value status = IsNan t d value status
-IsSumOf g mode (infinity b) (infinity c) value status =
-    MatchBool (same_sign b c) (IsInfinity g b value status) (IsInvalid g value status)
-IsSumOf g mode (infinity b) (number c n t) value status = IsInfinity g b value status
-IsSumOf g mode (number b m s) (infinity c) value status = IsInfinity g c value status
-IsSumOf g mode (number b m s) (number c n t) value status =
-    IsRounded g mode (zero_sum_sign mode b c) (signed b (m * 2 ^ t) +ℤ signed c (n * 2 ^ s)) (s + t) value status
+IsSumOf g mode x y value status = Yields g mode (sum_of g x y) value status
 
 -- the product, with that sign, of `amount` and an infinity
-abbrev pub IsNumberByInfinity : Format → Bool → ℕ → Datum → ℕ → Type 0
-IsNumberByInfinity g negative amount value status =
-    MatchBool (eqb amount 0) (IsInvalid g value status) (IsInfinity g negative value status)
+abbrev pub number_by_infinity : Format → Bool → ℕ → Outcome
+number_by_infinity g negative amount = if eqb amount 0 then invalid g else infinity_to g negative
+
+abbrev pub product_of : Format → Extended → Extended → Outcome
+product_of g (not_number s d) y = nan_to (s || signals y) d
+product_of g x (not_number t d) = nan_to t d
+product_of g (infinity b) (infinity c) = infinity_to g (product_sign b c)
+product_of g (infinity b) (number c n t) = number_by_infinity g (product_sign b c) n
+product_of g (number b m s) (infinity c) = number_by_infinity g (product_sign b c) m
+product_of g (number b m s) (number c n t) = rounded (product_sign b c) (m * n * 2 ^ g.scale) (2 ^ (s + t))
 
 abbrev pub IsProductOf : Format → Round → Extended → Extended → Datum → ℕ → Type 0
-IsProductOf g mode (not_number s d) y value status = IsNan (s || signals y) d value status
-IsProductOf g mode (number b m s) (not_number t d) value status = IsNan t d value status
-IsProductOf g mode (infinity b) (not_number t d) value status = IsNan t d value status
-IsProductOf g mode (infinity b) (infinity c) value status = IsInfinity g (product_sign b c) value status
-IsProductOf g mode (infinity b) (number c n t) value status = IsNumberByInfinity g (product_sign b c) n value status
-IsProductOf g mode (number b m s) (infinity c) value status = IsNumberByInfinity g (product_sign b c) m value status
-IsProductOf g mode (number b m s) (number c n t) value status =
-    IsDelivered g mode (product_sign b c) (m * n * 2 ^ g.scale) (2 ^ (s + t)) value status
+IsProductOf g mode x y value status = Yields g mode (product_of g x y) value status
+
+abbrev pub quotient_of : Format → Extended → Extended → Outcome
+quotient_of g (not_number s d) y = nan_to (s || signals y) d
+quotient_of g x (not_number t d) = nan_to t d
+quotient_of g (infinity b) (infinity c) = invalid g
+quotient_of g (infinity b) (number c n t) = infinity_to g (product_sign b c)
+quotient_of g (number b m s) (infinity c) = exactly (signed_quanta g.nonfinite (product_sign b c) 0)
+quotient_of g (number b m s) (number c n t) =
+    if eqb n 0
+    then (if eqb m 0 then invalid g else settled (infinity_of g (product_sign b c)) div_by_zero_bit)
+    else rounded (product_sign b c) (m * 2 ^ (t + g.scale)) (n * 2 ^ s)
 
 abbrev pub IsQuotientOf : Format → Round → Extended → Extended → Datum → ℕ → Type 0
-IsQuotientOf g mode (not_number s d) y value status = IsNan (s || signals y) d value status
-IsQuotientOf g mode (number b m s) (not_number t d) value status = IsNan t d value status
-IsQuotientOf g mode (infinity b) (not_number t d) value status = IsNan t d value status
-IsQuotientOf g mode (infinity b) (infinity c) value status = IsInvalid g value status
-IsQuotientOf g mode (infinity b) (number c n t) value status = IsInfinity g (product_sign b c) value status
-IsQuotientOf g mode (number b m s) (infinity c) value status =
-    IsAnswer (signed_quanta g.nonfinite (product_sign b c) 0) ok_bits value status
-IsQuotientOf g mode (number b m s) (number c n t) value status =
-    MatchBool (eqb n 0)
-    (MatchBool (eqb m 0) (IsInvalid g value status)
-    (IsAnswer (infinity_of g (product_sign b c)) div_by_zero_bit value status))
-    (IsDelivered g mode (product_sign b c) (m * 2 ^ (t + g.scale)) (n * 2 ^ s) value status)
+IsQuotientOf g mode x y value status = Yields g mode (quotient_of g x y) value status
 
 -- the product, with that sign, of `amount` and an infinity, plus z
-abbrev pub IsSumWithInfinity : Format → Round → Bool → ℕ → Extended → Datum → ℕ → Type 0
-IsSumWithInfinity g mode negative amount z value status =
-    MatchBool (eqb amount 0) (IsInvalid g value status) (IsSumOf g mode (infinity negative) z value status)
+abbrev pub sum_with_infinity : Format → Bool → ℕ → Extended → Outcome
+sum_with_infinity g negative amount z = if eqb amount 0 then invalid g else sum_of g (infinity negative) z
 
 -- the exact product plus the addend; the product of a zero and an infinity is invalid, whatever the addend
+abbrev pub fused_sum_of : Format → Extended → Extended → Extended → Outcome
+fused_sum_of g (not_number s d) y z = sum_of g (not_number (s || signals y) d) z
+fused_sum_of g x (not_number t d) z = sum_of g (not_number t d) z
+fused_sum_of g (infinity b) (infinity c) z = sum_of g (infinity (product_sign b c)) z
+fused_sum_of g (infinity b) (number c n t) z = sum_with_infinity g (product_sign b c) n z
+fused_sum_of g (number b m s) (infinity c) z = sum_with_infinity g (product_sign b c) m z
+fused_sum_of g (number b m s) (number c n t) z = sum_of g (number (product_sign b c) (m * n) (s + t)) z
+
 abbrev pub IsFusedSumOf : Format → Round → Extended → Extended → Extended → Datum → ℕ → Type 0
-IsFusedSumOf g mode (not_number s d) y z value status = IsSumOf g mode (not_number (s || signals y) d) z value status
-IsFusedSumOf g mode (number b m s) (not_number t d) z value status = IsSumOf g mode (not_number t d) z value status
-IsFusedSumOf g mode (infinity b) (not_number t d) z value status = IsSumOf g mode (not_number t d) z value status
-IsFusedSumOf g mode (infinity b) (infinity c) z value status =
-    IsSumOf g mode (infinity (product_sign b c)) z value status
-IsFusedSumOf g mode (infinity b) (number c n t) z value status =
-    IsSumWithInfinity g mode (product_sign b c) n z value status
-IsFusedSumOf g mode (number b m s) (infinity c) z value status =
-    IsSumWithInfinity g mode (product_sign b c) m z value status
-IsFusedSumOf g mode (number b m s) (number c n t) z value status =
-    IsSumOf g mode (number (product_sign b c) (m * n) (s + t)) z value status
+IsFusedSumOf g mode x y z value status = Yields g mode (fused_sum_of g x y z) value status
 
 -- ---- operations on data of f, h and k, in g
 

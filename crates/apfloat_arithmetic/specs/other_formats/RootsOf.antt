@@ -6,20 +6,16 @@ use Rattle.std.specs.Prelude.{ℕ, ◌*◌, ◌^◌, false, eqb, if◌then◌els
 use Rattle.apfloat_model.specs.declared.kinds.Round.{Round}
 use Rattle.apfloat_model.specs.formats.Format.{Format}
 use Rattle.apfloat_model.specs.formats.Datum.{Datum, finite}
-use Rattle.apfloat_model.specs.formats.Constants.{infinity_of}
-use Rattle.apfloat_model.specs.formats.Nan.{invalid_if}
-use Rattle.apfloat_model.specs.rounding.Outcome.{Outcome, settled, rooted, exactly, invalid, Yields}
-use Rattle.apfloat_model.specs.rounding.Rounding.{ok_bits, inexact_bit, zero_sign}
-use Rattle.apfloat_model.specs.arithmetic.Conversions.{has_infinities}
+use Rattle.apfloat_model.specs.rounding.Outcome.{Outcome, rooted, exactly, invalid, Yields}
+use Rattle.apfloat_model.specs.rounding.Rounding.{zero_sign}
 use Rattle.apfloat_arithmetic.specs.other_formats.Extended.{Extended, number, infinity, not_number, seen}
+use Rattle.apfloat_arithmetic.specs.other_formats.FormatOf.{nan_to, infinity_to}
 
 -- The root of a zero is that zero, with its sign if g has it. The root of amount * 2 ^ -places is that of
 -- amount * 2 ^ places, divided by 2 ^ places.
 abbrev pub root_of : Format → Extended → Outcome
-root_of g (not_number s d) = settled d (invalid_if s)
-root_of g (infinity b) =
-    if b then invalid g
-    else settled (infinity_of g false) (if has_infinities g.nonfinite then ok_bits else inexact_bit)
+root_of g (not_number s d) = nan_to s d
+root_of g (infinity b) = if b then invalid g else infinity_to g false
 root_of g (number b n s) =
     if eqb n 0 then exactly (finite (zero_sign g.nonfinite b) 0)
     else (if b then invalid g else rooted (n * 2 ^ s * (2 ^ g.scale * 2 ^ g.scale)) (2 ^ s))

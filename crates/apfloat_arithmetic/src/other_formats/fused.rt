@@ -2,11 +2,12 @@
 
 ghost use Rattle.std.specs.Prelude.{ℕ};
 ghost use Rattle.apfloat_model.specs.declared.kinds.Round.{Round};
+ghost use Rattle.apfloat_model.specs.rounding.Outcome.{Yields};
 ghost use Rattle.apfloat_rounding.specs.Shapes.{format_at};
 ghost use Rattle.apfloat_rounding.specs.Stored.{IsStored, GivesAt};
 ghost use Rattle.apfloat_arithmetic.specs.other_formats.Extended.{Extended, number};
 ghost use Rattle.apfloat_arithmetic.specs.other_formats.Operands.{IsOperand, IsTerm, IsAmount, StandsFor};
-ghost use Rattle.apfloat_arithmetic.specs.other_formats.FormatOf.{IsFusedSumOf, IsSumWithInfinity};
+ghost use Rattle.apfloat_arithmetic.specs.other_formats.FormatOf.{IsFusedSumOf, sum_with_infinity};
 
 use crate::other_formats::operands::{Operand, signals};
 use crate::other_formats::results::{deliver_total_in, infinity_in, nan_in};
@@ -57,7 +58,8 @@ fn multiply_add_infinity(into: Shape, x: Term, negative: bool, z: Operand) -> St
     ensures stored { IsStored into result.value }
     ensures sum { (m s : ℕ) (mode : Round) (addend : Extended) → IsAmount m s x
         → StandsFor into addend z
-        → GivesAt into (IsSumWithInfinity (format_at into) mode negative m addend) result }
+        → GivesAt into (Yields (format_at into) mode
+        (sum_with_infinity (format_at into) negative m addend)) result }
 {
     if x.significand == 0 {
         invalid(into)

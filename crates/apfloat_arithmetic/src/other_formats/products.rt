@@ -1,11 +1,13 @@
 //! Products.
 
 ghost use Rattle.std.specs.Prelude.{ℕ};
+ghost use Rattle.apfloat_model.specs.declared.kinds.Round.{Round};
+ghost use Rattle.apfloat_model.specs.rounding.Outcome.{Yields};
 ghost use Rattle.apfloat_rounding.specs.Shapes.{format_at};
 ghost use Rattle.apfloat_rounding.specs.Stored.{IsStored, GivesAt};
 ghost use Rattle.apfloat_arithmetic.specs.other_formats.Extended.{Extended, number};
 ghost use Rattle.apfloat_arithmetic.specs.other_formats.Operands.{IsOperand, IsTerm, IsAmount, StandsFor};
-ghost use Rattle.apfloat_arithmetic.specs.other_formats.FormatOf.{IsProductOf, IsNumberByInfinity};
+ghost use Rattle.apfloat_arithmetic.specs.other_formats.FormatOf.{IsProductOf, number_by_infinity};
 
 use crate::other_formats::operands::{Operand, signals};
 use crate::other_formats::results::{deliver_total_in, infinity_in, nan_in};
@@ -35,8 +37,9 @@ fn multiply_numbers(into: Shape, x: Term, y: Term, round: Round) -> StatusAnd<Un
 #[inline(always)]
 fn multiply_by_infinity(into: Shape, x: Term, negative: bool) -> StatusAnd<Unpacked>
     ensures stored { IsStored into result.value }
-    ensures product { (m s : ℕ) → IsAmount m s x
-        → GivesAt into (IsNumberByInfinity (format_at into) negative m) result }
+    ensures product { (mode : Round) (m s : ℕ) → IsAmount m s x
+        → GivesAt into (Yields (format_at into) mode
+        (number_by_infinity (format_at into) negative m)) result }
 {
     if x.significand == 0 {
         invalid(into)

@@ -2,9 +2,6 @@
 
 ghost use Rattle.std.specs.Prelude.{ℕ, ◌<◌, ◌+◌, ◌*◌, ◌^◌};
 ghost use Rattle.apfloat_model.specs.arithmetic.Exact.{product_sign};
-ghost use Rattle.apfloat_model.specs.arithmetic.Quotients.{div_by_zero_bit};
-ghost use Rattle.apfloat_model.specs.formats.Constants.{infinity_of};
-ghost use Rattle.apfloat_model.specs.rounding.Answer.{IsAnswer};
 ghost use Rattle.apfloat_model.specs.rounding.Rounding.{IsDelivered};
 ghost use Rattle.apfloat_rounding.specs.Shapes.{format_at};
 ghost use Rattle.apfloat_rounding.specs.Stored.{IsStored, GivesAt};
@@ -12,16 +9,16 @@ ghost use Rattle.apfloat_arithmetic.specs.other_formats.Extended.{Extended, numb
 ghost use Rattle.apfloat_arithmetic.specs.other_formats.Operands.{IsOperand, IsTerm, IsAmount, StandsFor};
 ghost use Rattle.apfloat_arithmetic.specs.other_formats.FormatOf.{IsQuotientOf};
 
-use crate::exact::exact_zero;
+use crate::exact::{divided_by_zero, exact_zero};
 use crate::other_formats::operands::{Operand, signals};
 use crate::other_formats::results::{infinity_in, nan_in};
 use crate::products::product_sign;
-use apfloat_model::{Round, Status, StatusAnd};
+use apfloat_model::{Round, StatusAnd};
 use apfloat_rounding::exponents::far_lowered;
 use apfloat_rounding::nans::invalid;
 use apfloat_rounding::rounding::deliver;
 use apfloat_rounding::shape::Shape;
-use apfloat_rounding::unpacked::{Unpacked, infinity_of};
+use apfloat_rounding::unpacked::Unpacked;
 use apfloat_words::{Term, divide_u128};
 
 /// How many more digits of a quotient of two significands of 125 digits are computed: it then has 126 or 127.
@@ -48,15 +45,6 @@ fn divide_nonzero(into: Shape, x: Term, y: Term, round: Round) -> StatusAnd<Unpa
         round,
         product_sign(x.negative, y.negative),
     )
-}
-
-/// A nonzero number over zero (IEEE 754-2019 7.3).
-fn divided_by_zero(into: Shape, negative: bool) -> StatusAnd<Unpacked>
-    ensures stored { IsStored into result.value }
-    ensures answer { GivesAt into
-        (IsAnswer (infinity_of (format_at into) negative) div_by_zero_bit) result }
-{
-    Status::DIV_BY_ZERO.and(infinity_of(into, negative))
 }
 
 /// The quotient of two numbers.

@@ -2,11 +2,11 @@
 
 ghost use Rattle.std.specs.Prelude.{ℕ, ℤ};
 ghost use Rattle.apfloat_model.specs.rounding.Bounds.{IsWithin, exponent_bound};
-ghost use Rattle.apfloat_model.specs.arithmetic.Sums.{zero_sum_sign};
+ghost use Rattle.apfloat_model.specs.rounding.Outcome.{Yields};
 ghost use Rattle.apfloat_rounding.specs.Shapes.{format_at};
 ghost use Rattle.apfloat_rounding.specs.Stored.{IsStored, datum_at, GivesAt};
 ghost use Rattle.apfloat_arithmetic.specs.other_formats.Operands.{IsTotalOf};
-ghost use Rattle.apfloat_arithmetic.specs.other_formats.FormatOf.{IsNan, IsInfinity, IsRounded};
+ghost use Rattle.apfloat_arithmetic.specs.other_formats.FormatOf.{IsNan, IsInfinity, total_to};
 
 use crate::sums;
 use apfloat_model::{NonfiniteBehavior, Round, Status, StatusAnd};
@@ -28,8 +28,8 @@ pub(crate) fn deliver_total_in(
     requires { IsWithin exponent_bound total.exponent }
     ensures stored { IsStored into result.value }
     ensures delivered { (exact : ℤ) (places : ℕ) → IsTotalOf exact places total
-        → GivesAt into (IsRounded (format_at into) round (zero_sum_sign round left right) exact
-        places) result }
+        → GivesAt into (Yields (format_at into) round
+        (total_to (format_at into) left right exact places)) result }
 {
     sums::deliver_total(into, total, left, right, round)
 }

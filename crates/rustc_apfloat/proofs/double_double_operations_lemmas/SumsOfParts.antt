@@ -1,11 +1,11 @@
 -- The exact sum of the parts of a pair is the number of the pair, which is delivered in the format of the result.
-use Rattle.std.proofs.Common.{◌≡◌, ℕ, zero, suc, ◌+◌, ◌-◌, ◌*◌, ◌/◌, ◌%◌, ◌^◌, ◌<◌, ◌≤◌, Bool, true, false, not, ◌&&◌, ◌||◌, cond, ltb, leb, eqb}
-use Rattle.std.proofs.Common.{refl, sym, ap, ◌∙◌, subst, ⊎_elim, arith, ℤ, pos, negsuc, ◌+ℤ◌}
-use Rattle.std.specs.Prelude.{◌*ℤ◌, neg_ℤ, if◌then◌else◌}
+use Rattle.std.proofs.Common.{◌≡◌, ℕ, ◌+◌, ◌-◌, ◌*◌, ◌/◌, ◌%◌, ◌^◌, ◌<◌, ◌≤◌, Bool, true, false, not, ◌&&◌, ◌||◌, cond, ltb, leb, eqb}
+use Rattle.std.proofs.Common.{refl, sym, ap, ◌∙◌, subst, ⊎_elim, arith, ℤ, pos, ◌+ℤ◌}
+use Rattle.std.specs.Prelude.{◌*ℤ◌, if◌then◌else◌}
 use Rattle.std.specs.Bool.{MatchBool}
-use Rattle.std.proofs.Math.Nat.{le_of_mul-le-mul_right, mul-le-mul_right, mul-lt-mul_of_pos_right, mul-pos}
+use Rattle.std.proofs.Math.Nat.{le_of_mul-le-mul_right, mul-le-mul_right, mul-lt-mul_of_pos_right}
+use Rattle.std.proofs.Math.Path.{subst₂}
 use Rattle.std.proofs.lemmas.Bool.{cases_lt, le-leb, lt-leb, eq-eqb, ne_eqb, false≢true}
-use Rattle.std.proofs.lemmas.Int.{ints}
 use Rattle.std.proofs.lemmas.Nat.{pow_pos, pow-add}
 use Rattle.apfloat_model.specs.declared.kinds.Round.{Round}
 use Rattle.apfloat_model.specs.formats.Format.{Format, smallest_normalized, largest}
@@ -14,15 +14,16 @@ use Rattle.apfloat_model.specs.order.Classes.{is_finite, is_finite_non_zero, is_
 use Rattle.apfloat_model.specs.order.Order.{number}
 use Rattle.apfloat_model.specs.arithmetic.Exact.{signed, magnitude, sign_of}
 use Rattle.apfloat_model.specs.arithmetic.Sums.{zero_sum_sign}
+use Rattle.apfloat_model.specs.rounding.Outcome.{Yields}
 use Rattle.apfloat_model.specs.rounding.Grid.{IsBelow, IsAbove}
 use Rattle.apfloat_model.specs.rounding.Rounding.{takes_above, IsPick, IsDelivered, ok_bits, overflow_bit, underflow_bit, inexact_bit, rounds_below_normal, is_tiny, raises_overflow, delivered_status}
 use Rattle.apfloat_model.proofs.general.Choices.{ltb_times}
 use Rattle.apfloat_model.proofs.general.Scaled.{less_scaled}
 use Rattle.apfloat_model.proofs.rounding.Picks.{takes_scaled}
-use Rattle.apfloat_arithmetic.specs.other_formats.FormatOf.{IsRounded, IsSumTo}
+use Rattle.apfloat_arithmetic.specs.other_formats.FormatOf.{IsSumTo, total_to}
 use Rattle.apfloat_pair_theory.specs.PairFormats.{double}
 use Rattle.apfloat_pair_theory.specs.Pairs.{Pair}
-use Rattle.apfloat_pair_theory.proofs.numbers.SignedProducts.{sum_times, magnitude-times, signed_times}
+use Rattle.apfloat_pair_theory.proofs.numbers.SignedProducts.{sum_times, magnitude-times, signed_times, sign_times}
 use Rattle.rustc_apfloat.specs.double_double_operations.PairConversions.{IsConvertedAnyway, IsPairTo, IsPairNumberTo}
 
 -- ---- a magnitude as a fraction with fewer parts
@@ -161,48 +162,31 @@ delivered_of f mode negative a b w value status p x = record {
 
 -- ---- the sum of two parts
 
-sign_of_positive : (of_zero : Bool) (n : ℕ) → 0 < n → sign_of of_zero (pos n) ≡ false
-sign_of_positive of_zero zero p = absurd (omega (arith, p))
-sign_of_positive of_zero (suc n) p = refl
-
-sign_of_negative : (of_zero : Bool) (n : ℕ) → 0 < n → sign_of of_zero (neg_ℤ (pos n)) ≡ true
-sign_of_negative of_zero zero p = absurd (omega (arith, p))
-sign_of_negative of_zero (suc n) p = refl
-
-some_times : (n u : ℕ) → 0 < u → 0 < suc n * u
-some_times n u p = mul-pos (omega arith) p
-
-sign_times : (of_zero : Bool) (z : ℤ) (u : ℕ) → 0 < u → sign_of of_zero (z *ℤ pos u) ≡ sign_of of_zero z
-sign_times of_zero (pos zero) u p =
-    let none : (pos 0 *ℤ pos u) ≡ pos 0 = omega (arith, ints) in
-    ap (λ (z : ℤ). sign_of of_zero z) none
-sign_times of_zero (pos (suc n)) u p =
-    ap (λ (z : ℤ). sign_of of_zero z) (sym (signed_times false (suc n) u))
-    ∙ sign_of_positive of_zero (suc n * u) (some_times n u p)
-sign_times of_zero (negsuc n) u p =
-    ap (λ (z : ℤ). sign_of of_zero z) (sym (signed_times true (suc n) u))
-    ∙ sign_of_negative of_zero (suc n * u) (some_times n u p)
-
 -- the sum counted in smaller parts is the sum of the numbers
-rounded_sum : (g : Format) (mode : Round) (of_zero left right : Bool) (m n t : ℕ) (value : Datum) (status : ℕ)
-    → IsRounded g mode of_zero (signed left (m * 2 ^ t) +ℤ signed right (n * 2 ^ t)) (t + t) value status
-    → IsRounded g mode of_zero (signed left m +ℤ signed right n) t value status
-rounded_sum g mode of_zero left right m n t value status h =
+rounded_sum : (g : Format) (mode : Round) (left right : Bool) (m n t : ℕ) (value : Datum) (status : ℕ)
+    → Yields g mode (total_to g left right (signed left (m * 2 ^ t) +ℤ signed right (n * 2 ^ t)) (t + t)) value status
+    → Yields g mode (total_to g left right (signed left m +ℤ signed right n) t) value status
+rounded_sum g mode left right m n t value status h =
+    let of_zero = zero_sum_sign mode left right in
     let exact = signed left m +ℤ signed right n in
     let u = 2 ^ t in
+    let q = 2 ^ g.scale in
+    let given = (exact *ℤ pos u) *ℤ pos q in
+    let total = exact *ℤ pos q in
     let e : (signed left (m * u) +ℤ signed right (n * u)) ≡ (exact *ℤ pos u) =
     ap (λ (z : ℤ). z +ℤ signed right (n * u)) (signed_times left m u)
     ∙ ap (λ (z : ℤ). (signed left m *ℤ pos u) +ℤ z) (signed_times right n u)
     ∙ sym (sum_times (signed left m) (signed right n) (pos u)) in
-    let amount : magnitude (exact *ℤ pos u) * 2 ^ g.scale ≡ magnitude exact * 2 ^ g.scale * u =
-    ap (λ (k : ℕ). k * 2 ^ g.scale) (magnitude-times exact u) ∙ swapped_factors (magnitude exact) u (2 ^ g.scale) in
-    delivered_of g mode (sign_of of_zero exact) (magnitude exact * 2 ^ g.scale) u u value status (pow_pos t)
-    (subst (λ (k : ℕ). IsDelivered g mode (sign_of of_zero exact) (magnitude exact * 2 ^ g.scale * u) k value status)
-    (pow-add 2 t t)
-    (subst (λ (k : ℕ). IsDelivered g mode (sign_of of_zero exact) k (2 ^ (t + t)) value status) amount
-    (subst (λ (b : Bool). IsDelivered g mode b (magnitude (exact *ℤ pos u) * 2 ^ g.scale) (2 ^ (t + t)) value status)
-    (sign_times of_zero exact u (pow_pos t))
-    (subst (λ (z : ℤ). IsRounded g mode of_zero z (t + t) value status) e h))))
+    let sign : sign_of of_zero given ≡ sign_of of_zero total =
+    sign_times of_zero (exact *ℤ pos u) q (pow_pos g.scale) ∙ sign_times of_zero exact u (pow_pos t)
+    ∙ sym (sign_times of_zero exact q (pow_pos g.scale)) in
+    let amount : magnitude given ≡ magnitude total * u =
+    magnitude-times (exact *ℤ pos u) q ∙ ap (λ (k : ℕ). k * q) (magnitude-times exact u)
+    ∙ swapped_factors (magnitude exact) u q ∙ ap (λ (k : ℕ). k * u) (sym (magnitude-times exact q)) in
+    delivered_of g mode (sign_of of_zero total) (magnitude total) u u value status (pow_pos t)
+    (subst (λ (k : ℕ). IsDelivered g mode (sign_of of_zero total) (magnitude total * u) k value status) (pow-add 2 t t)
+    (subst₂ (λ (b : Bool) (k : ℕ). IsDelivered g mode b k (2 ^ (t + t)) value status) sign amount
+    (subst (λ (z : ℤ). Yields g mode (total_to g left right z (t + t)) value status) e h)))
   where
     swapped_factors : (x y z : ℕ) → x * y * z ≡ x * z * y
     swapped_factors x y z = omega arith
@@ -210,10 +194,9 @@ rounded_sum g mode of_zero left right m n t value status h =
 -- the sum of two finite parts in another format
 parts_rounded : (f g : Format) (mode : Round) (high low : Datum) (value : Datum) (status : ℕ)
     → IsSumTo f f g mode high low value status → is_finite high ≡ true → is_finite low ≡ true
-    → IsRounded g mode (zero_sum_sign mode (is_negative high) (is_negative low)) (number high +ℤ number low) f.scale
-    value status
+    → Yields g mode (total_to g (is_negative high) (is_negative low) (number high +ℤ number low) f.scale) value status
 parts_rounded f g mode (finite b m) (finite c n) value status h first second =
-    rounded_sum g mode (zero_sum_sign mode b c) b c m n f.scale value status h
+    rounded_sum g mode b c m n f.scale value status h
 parts_rounded f g mode (finite b m) (infinite c) value status h first second = absurd (false≢true second)
 parts_rounded f g mode (finite b m) (nan c s) value status h first second = absurd (false≢true second)
 parts_rounded f g mode (infinite b) low value status h first second = absurd (false≢true first)

@@ -5,12 +5,12 @@ use Rattle.apfloat_model.specs.declared.kinds.Round.{Round}
 use Rattle.apfloat_model.specs.formats.Format.{Format, largest}
 use Rattle.apfloat_model.specs.formats.Datum.{Datum, finite}
 use Rattle.apfloat_model.specs.formats.Members.{IsFiniteOf}
+use Rattle.apfloat_model.specs.rounding.Outcome.{Yields}
 use Rattle.apfloat_model.specs.rounding.Rounding.{ok_bits}
 use Rattle.apfloat_model.specs.order.Classes.{is_finite, is_finite_non_zero, is_negative}
 use Rattle.apfloat_model.specs.arithmetic.Conversions.{IsConversion}
 use Rattle.apfloat_model.specs.arithmetic.Exact.{signed}
-use Rattle.apfloat_model.specs.arithmetic.Sums.{zero_sum_sign}
-use Rattle.apfloat_arithmetic.specs.other_formats.FormatOf.{IsRounded, IsSumTo}
+use Rattle.apfloat_arithmetic.specs.other_formats.FormatOf.{IsSumTo, total_to}
 use Rattle.apfloat_pair_theory.specs.PairAccuracy.{IsExactPair}
 use Rattle.apfloat_pair_theory.specs.PairFormats.{double, wide}
 use Rattle.apfloat_pair_theory.specs.Pairs.{Pair, pair_number, IsSplitAnswer}
@@ -31,8 +31,7 @@ IsPairTo g mode x value status =
 abbrev pub IsPairNumberTo : Format → Round → Pair → Datum → ℕ → Type 0
 IsPairNumberTo g mode x value status =
     is_finite_non_zero x.high ≡ true → is_finite x.low ≡ true
-    → IsRounded g mode (zero_sum_sign mode (is_negative x.high) (is_negative x.low)) (pair_number x) double.scale value
-    status
+    → Yields g mode (total_to g (is_negative x.high) (is_negative x.low) (pair_number x) double.scale) value status
 
 -- a datum of f, rounded once in the wide format and split, with the flags of that rounding
 abbrev pub IsPairFrom : Format → Round → Datum → Pair → ℕ → Type 0

@@ -1,15 +1,14 @@
 -- Products with a positive number, given in another format.
-use Rattle.std.proofs.Common.{◌≡◌, ℕ, ◌+◌, ◌*◌, ◌^◌, ◌<◌, Bool, false, eqb, sym, refl, ap, ◌∙◌, subst, arith}
-use Rattle.std.specs.Bool.{MatchBool}
+use Rattle.std.proofs.Common.{◌≡◌, ℕ, ◌+◌, ◌*◌, ◌^◌, ◌<◌, Bool, false, eqb, sym, refl, ap, ◌∙◌, subst, arith, if◌then◌else◌}
 use Rattle.std.proofs.lemmas.Bool.{ne_eqb}
 use Rattle.std.proofs.lemmas.Nat.{pow-add, pow_pos}
 use Rattle.apfloat_model.specs.declared.kinds.Round.{Round}
 use Rattle.apfloat_model.specs.arithmetic.Exact.{product_sign}
 use Rattle.apfloat_model.specs.formats.Datum.{Datum}
 use Rattle.apfloat_model.specs.formats.Format.{Format}
-use Rattle.apfloat_model.specs.formats.Nan.{IsInvalid}
+use Rattle.apfloat_model.specs.rounding.Outcome.{invalid, Yields}
 use Rattle.apfloat_arithmetic.specs.other_formats.Extended.{Extended, number, infinity, not_number}
-use Rattle.apfloat_arithmetic.specs.other_formats.FormatOf.{IsInfinity, IsProductOf}
+use Rattle.apfloat_arithmetic.specs.other_formats.FormatOf.{infinity_to, IsProductOf}
 use Rattle.apfloat_model.specs.formats.Datum.{finite}
 use Rattle.apfloat_model.specs.formats.Formats.{half_constants}
 use Rattle.apfloat_model.specs.formats.Lawful.{format_with as library_format}
@@ -50,8 +49,8 @@ pub product_by : (g : Format) (mode : Round) (x : Extended) (n t n' t' : ℕ) (v
     → IsProductOf g mode x (number false n t) value status → IsProductOf g mode x (number false n' t') value status
 product_by g mode (not_number s d) n t n' t' value status some p q e h = h
 product_by g mode (infinity b) n t n' t' value status some p q e h =
-    subst (λ (test : Bool). MatchBool test (IsInvalid g value status)
-    (IsInfinity g (product_sign b false) value status)) (tests_same n n' p q) h
+    subst (λ (test : Bool). Yields g mode (if test then invalid g else infinity_to g (product_sign b false)) value
+    status) (tests_same n n' p q) h
 product_by g mode (number b m s) n t n' t' value status some p q e h =
     delivered_across g mode (product_sign b false) (m * n' * 2 ^ g.scale) (2 ^ (s + t')) (m * n * 2 ^ g.scale)
     (2 ^ (s + t)) value status some (pow_pos (s + t')) (pow_pos (s + t))

@@ -1,15 +1,18 @@
 -- A quotient of the library as an element of a format of 8 bits: saturated, in any fraction that equals it.
 use Rattle.std.proofs.Common.{◌≡◌, ℕ, zero, suc, ◌+◌, ◌*◌, ◌^◌, ◌<◌, Bool, true, false, cond, eqb, ltb, refl, ap}
-use Rattle.std.proofs.Common.{◌∙◌, subst, sym, arith}
+use Rattle.std.proofs.Common.{◌∙◌, subst, sym, arith, if◌then◌else◌}
 use Rattle.std.proofs.Math.Nat.{mul-pos}
-use Rattle.std.proofs.lemmas.Bool.{ne_eqb, MatchBool-at_false}
+use Rattle.std.proofs.lemmas.Bool.{ne_eqb}
 use Rattle.std.proofs.lemmas.Nat.{pow_pos}
 use Rattle.apfloat_model.specs.declared.kinds.NonfiniteBehavior.{NonfiniteBehavior}
 use Rattle.apfloat_model.specs.declared.kinds.Round.{Round}
 use Rattle.apfloat_model.specs.arithmetic.Exact.{product_sign}
+use Rattle.apfloat_model.specs.arithmetic.Quotients.{div_by_zero_bit}
+use Rattle.apfloat_model.specs.formats.Constants.{infinity_of}
 use Rattle.apfloat_model.specs.formats.Datum.{Datum, finite, infinite, nan}
 use Rattle.apfloat_model.specs.formats.Format.{Format, largest, nan_base}
 use Rattle.apfloat_model.specs.order.Classes.{is_finite, is_negative, quanta_of}
+use Rattle.apfloat_model.specs.rounding.Outcome.{settled, rounded, invalid, Yields}
 use Rattle.apfloat_model.specs.rounding.Rounding.{IsDelivered, leads_out, past_largest, signed_quanta, zero_sign}
 use Rattle.apfloat_model.proofs.rounding.Deliveries.{past_not_finite}
 use Rattle.apfloat_arithmetic.specs.other_formats.FormatOf.{IsQuotientTo}
@@ -72,10 +75,11 @@ quotient_number f h g mode (finite b m) y value status number is some q =
     let n : ℕ = quanta_of y in
     let q' = subst (λ (d : Datum). IsQuotientTo f h g mode (finite b m) d value status) is q in
     let off : eqb n 0 ≡ false = ne_eqb n 0 (λ e. omega (arith, e, some)) in
+    let over_zero = if eqb m 0 then invalid g else settled (infinity_of g (product_sign b false)) div_by_zero_bit in
     subst (λ (s : Bool). IsDelivered g mode s (m * 2 ^ (h.scale + g.scale)) (n * 2 ^ f.scale) value status)
     (sign_over_positive b)
-    (MatchBool-at_false _ (IsDelivered g mode (product_sign b false) (m * 2 ^ (h.scale + g.scale)) (n * 2 ^ f.scale)
-    value status) off q')
+    (subst (λ (test : Bool). Yields g mode (if test then over_zero else
+    rounded (product_sign b false) (m * 2 ^ (h.scale + g.scale)) (n * 2 ^ f.scale)) value status) off q')
 quotient_number f h g mode (infinite b) y value status number is some q = cc
 quotient_number f h g mode (nan b s) y value status number is some q = cc
 
