@@ -329,7 +329,7 @@ done_there done input index before =
     ap (λ (b : Bool). if b || ltb (number_of (value_at 4 index input) % 2 ^ 31) (255 * 2 ^ 23)
     then value_at 4 index input else []) (lt-ltb index done before)
 
--- a zero stands for what is no number
+-- a zero stands for what is not a number
 pub zero_there : (index : ℕ) (input : List ℕ)
     → ltb (number_of (value_at 4 index input) % 2 ^ 31) (255 * 2 ^ 23) ≡ false
     → number_from index input index ≡ []

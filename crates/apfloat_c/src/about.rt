@@ -31,7 +31,7 @@ pub extern "C" fn apfloat_version() -> u32
     VERSION
 }
 
-/// The text for a code; any number that is no code has the text for `UNKNOWN_ERROR`.
+/// The text for a code; any other number has the text for `UNKNOWN_ERROR`.
 fn error_text(error: u32) -> &'static str
     ensures text { result.now ≡ error_text error }
     ensures room { length result.now < 64 }

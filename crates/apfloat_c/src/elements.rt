@@ -254,7 +254,8 @@ pub fn elements_apart<C: ElementCalls>(
     elements(calls, width, xs, ys, zs, count, output)
 }
 
-/// The same in the format `S`. The fewest bytes are a constant of it, so that the loop knows how many it reads.
+/// `elements` if a value has the fewest bytes that the format `S` fits in, which are then a constant that the loop over
+/// values knows, and otherwise `elements_apart`.
 #[inline(always)]
 fn elements_by_calls<S: Flagged>(
     calls: FormatCalls<S>,

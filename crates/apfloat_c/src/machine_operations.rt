@@ -1925,7 +1925,7 @@ fn one_word_on_machine(
     )
 }
 
-/// The same as `apfloat_machine`, of an operation on one value that is no word: few formats have it.
+/// The same as `apfloat_machine`, of an operation on one value that does not fit in a word, as in `x87` and `quad`.
 #[inline(always)]
 fn one_value_on_machine(
     machine: u32,
@@ -2208,7 +2208,7 @@ fn converted_word_on_machine(
     any_converted_on_machine(machine, format, mode, to, Halves::of_word(x), answer)
 }
 
-/// The same as `apfloat_machine`, of a conversion of a value that is no word.
+/// The same as `apfloat_machine`, of a conversion of a value that does not fit in a word.
 #[inline(never)]
 fn converted_value_on_machine(
     machine: u32,

@@ -6,21 +6,21 @@
 
 ghost use Rattle.std.specs.Prelude.{◌≡◌, false};
 
-/// is754version1985 (5.7.1): false, since a library is no programming environment.
+/// is754version1985 (5.7.1): false, since a library is not a programming environment.
 pub fn is_754_version_1985() -> bool
     ensures { result ≡ false }
 {
     false
 }
 
-/// is754version2008 (5.7.1): false, since a library is no programming environment.
+/// is754version2008 (5.7.1): false, since a library is not a programming environment.
 pub fn is_754_version_2008() -> bool
     ensures { result ≡ false }
 {
     false
 }
 
-/// is754version2019 (5.7.1): false, since a library is no programming environment.
+/// is754version2019 (5.7.1): false, since a library is not a programming environment.
 pub fn is_754_version_2019() -> bool
     ensures { result ≡ false }
 {

@@ -103,7 +103,7 @@ few_factor k s w t p q e =
     let b : k * 1 ≤ k * t = mul-le-mul_left k q in
     omega (arith, a, b)
 
--- a point with an odd last digit is no even multiple of the last place
+-- a point with an odd last digit is not an even multiple of the last place
 pub not_even : (precision k c n : ℕ) → k % 2 ≡ 1 → (c ≡ 0) ⊎ (2 ^ (precision - 1) ≤ k)
     → IsOnGrid (precision - 1) n → k * 2 ^ c ≡ 2 * n → ⊥
 not_even precision k c n o (inl z) g e =
@@ -150,7 +150,7 @@ exact_agrees digits amount parts point p e = record {
   more = λ n g h. lt_of_mul-lt-mul_right parts (omega (arith, h, e));
 }
 
--- a neighbour that is no such number agrees, if the magnitude is strictly between its neighbours
+-- a neighbour that is not such a number agrees, if the magnitude is strictly between its neighbours
 between_agrees : (digits amount parts below above point : ℕ) → below * parts < amount
     → ((n : ℕ) → IsOnGrid digits n → 2 * n * parts ≤ amount → 2 * n ≤ below)
     → ((n : ℕ) → IsOnGrid digits n → amount ≤ 2 * n * parts → above ≤ 2 * n) → below ≤ point → point ≤ above

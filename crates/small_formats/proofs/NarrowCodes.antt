@@ -273,7 +273,7 @@ sided code l =
     let both = sided_fields x.negative x.biased_exponent x.trailing (code % 256) w.biased_exponent w.trailing rest in
     record { low = both.0; high = both.1 }
 
--- only the greatest exponent is that of what is no number
+-- only infinities and NaNs have the greatest exponent
 pub special_code : (code : ℕ) → code < 512 → is_finite (wide_datum code) ≡ false → 240 ≤ code % 256
 special_code code l other =
     let x = fields_of wide_format wide_layout code in
@@ -362,7 +362,7 @@ past_pick mode b amount parts given flags d more =
     omega (arith, at, most))
     (cases_lt 253952 d.pick)
 
--- what is no number stays none
+-- an infinity or a NaN does not become a number
 pub special_given : (f : Format) (mode : Round) (x given : Datum) (status : ℕ) (loses : Bool) → is_finite x ≡ false
     → IsConversion f wide_format mode x given status loses → is_finite given ≡ false
 special_given f mode (finite b n) given status loses other h = absurd (false≢true (sym other))

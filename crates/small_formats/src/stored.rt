@@ -33,7 +33,7 @@ impl<F: StorageFormat> Model for StoredFloat<F> {
     ghost inverse_ok = { λ x h. refl };
 }
 
-/// 2 to the power of the number of bits below the sign: that many codes have no sign.
+/// How many codes have no sign bit: 2 to the power of the number of bits below it.
 pub(crate) fn unsigned_codes<F: StorageFormat>() -> u8
     ensures { result ≡ 2 ^ (F.BITS - 1) }
 {

@@ -48,7 +48,7 @@ fn stored<F: Projection>(bits: u32, mode: ConversionRound) -> (u16, u8, u128) {
     )
 }
 
-/// 1.0625 is halfway between 1, the code 0x40, and 1.125; -1.25 is no number of a format without a sign.
+/// 1.0625 is halfway between 1, the code 0x40, and 1.125; a format without a sign has no -1.25.
 #[test]
 fn conversions(rt: HostRuntime) {
     let even = ConversionRound::Ieee(Round::NearestTiesToEven);

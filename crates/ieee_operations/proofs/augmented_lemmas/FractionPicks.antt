@@ -22,7 +22,7 @@ use Rattle.ieee_operations.specs.augmented.TiesToZero.{nearer_between, IsTiesToZ
 use Rattle.ieee_operations.proofs.augmented_lemmas.Heads.{half_unit}
 use Rattle.ieee_operations.proofs.augmented_lemmas.Multiples.{takes_low_by, takes_high_by}
 
--- the magnitude is no integral number of quanta
+-- the magnitude is not an integral number of quanta
 pub record IsFractionPick (amount parts : ℕ) : Type 0 where
   pub not_whole : (whole : ℕ) → whole * parts ≡ amount → ⊥
 
@@ -265,7 +265,7 @@ low_pick precision low above amount parts p b a e =
 abbrev pub distance : ℕ → ℕ → ℕ → ℕ
 distance head amount parts = apart amount (head * parts)
 
--- it is no integral number of quanta either
+-- it is not an integral number of quanta either
 pub distance_fraction : (head amount parts : ℕ) → IsFractionPick amount parts
     → IsFractionPick (distance head amount parts) parts
 distance_fraction head amount parts n = record {

@@ -91,7 +91,7 @@ exact_of x y = number x *ℤ number y
 abbrev pub sign_of_product : Datum → Datum → Bool
 sign_of_product x y = sign_of (product_sign (is_negative x) (is_negative y)) (number x *ℤ number y)
 
--- The product is no integral number of quanta, since what its rounding leaves would be exact.
+-- The product is not an integral number of quanta, since what its rounding leaves would be exact.
 no_whole : (f : Format) → 3 ≤ f.precision → (x y near rest : Datum) (i k : ℕ) → IsNonzeroIn f x → IsNonzeroIn f y
     → IsAugmentedNumber f near → IsProduct f NearestTiesToEven x y near i
     → IsFusedSum f NearestTiesToEven x y (negated f.nonfinite near) rest k → (k ≡ ok_bits → ⊥)
@@ -307,7 +307,7 @@ module _ (f : Format) (precise : 3 ≤ f.precision) (wide : f.precision < f.span
       (fraction_exactly f NearestTiesToEven rounded.0 (signed (sign_of_product x y) j) _ (2 ^ f.scale) left k parts_some
       (on_grid_as m g) (subst (λ (i : ℕ). i ≤ largest f) m (omega (arith, b))) w rounded.1).status_is
 
-  -- so if that is not exact, twice the product is no integral number of quanta
+  -- so if that is not exact, twice the product is not an integral number of quanta
   pub not_half_of : (k ≡ ok_bits → ⊥) → (m : ℕ) → 2 * magnitude (exact_of x y) ≡ m * 2 ^ f.scale → ⊥
   not_half_of lost m e =
       let a = t.is_even.is_below.not_above in

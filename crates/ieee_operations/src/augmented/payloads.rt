@@ -29,7 +29,7 @@ pub fn get_payload<S: Flagged>(x: IeeeFloat<S>) -> IeeeFloat<S>
 }
 
 /// setPayload (9.7): the positive quiet NaN with the payload `x`. If `x` is not an integer that a payload of the format
-/// can be, the result is +0; -0 is no such integer.
+/// can be, the result is +0; -0 is not one.
 pub fn set_payload<S: Flagged>(x: IeeeFloat<S>) -> IeeeFloat<S>
     ensures { result ≡ set_payload (format_of S.Flagged) x }
 {
@@ -39,7 +39,7 @@ pub fn set_payload<S: Flagged>(x: IeeeFloat<S>) -> IeeeFloat<S>
     }
 }
 
-/// setPayloadSignaling (9.7): the positive signaling NaN with the payload `x`, as `set_payload`. 0 is no payload of a
+/// setPayloadSignaling (9.7): the positive signaling NaN with the payload `x`, as `set_payload`. 0 is not a payload of a
 /// signaling NaN.
 pub fn set_payload_signaling<S: Flagged>(x: IeeeFloat<S>) -> IeeeFloat<S>
     ensures { result ≡ set_payload_signaling (format_of S.Flagged) x }
