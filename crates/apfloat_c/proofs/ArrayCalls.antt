@@ -19,7 +19,7 @@ use Rattle.apfloat_c.specs.declared.array_calls.KnownConversion.{KnownConversion
 use Rattle.apfloat_c.specs.declared.array_calls.MapCall.{MapCall}
 use Rattle.apfloat_c.specs.declared.array_data.ArrayAnswer.{ArrayAnswer}
 use Rattle.apfloat_c.specs.declared.array_data.ElementCounts.{ElementCounts}
-use Rattle.apfloat_c.specs.KnownCalls.{◌>>=◌, no_such_operation}
+use Rattle.coded_calls.specs.KnownCalls.{◌>>=◌, no_such_operation}
 use Rattle.apfloat_c.specs.ArrayCalls.{bytes_in, conversion_between, conversion_widths, fitting}
 use Rattle.apfloat_c.specs.ArrayCalls.{has_element_operation, if_fitting}
 use Rattle.apfloat_c.specs.ArrayCalls.{known_array_conversion, known_map, lengths_fit, operand_length, operands_fit}

@@ -10,7 +10,7 @@ use Rattle.formats_at_run_time.specs.declared.BuiltInKind.TheVariants.{OfFormat}
 use Rattle.formats_at_run_time.specs.declared.FlaggedKind.{FlaggedKind}
 use Rattle.formats_at_run_time.specs.BuiltIns.{constants_in}
 use Rattle.formats_at_run_time.specs.ValueKinds.{of_format}
-use Rattle.apfloat_c.specs.declared.data.Answer.{Answer}
+use Rattle.coded_calls.specs.declared.data.Answer.{Answer}
 use Rattle.apfloat_c.specs.Decimals.{IsParsed, IsReadInto, decimal_kind, known_reading}
 
 -- its exponents are within those of quad

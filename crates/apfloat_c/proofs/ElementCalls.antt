@@ -12,13 +12,13 @@ use Rattle.apfloat_arrays.specs.Bytes.{number_of}
 use Rattle.apfloat_arrays.proofs.LittleEndian.{fits}
 use Rattle.apfloat_arrays.proofs.Places.{count_push, places_more}
 use Rattle.apfloat_arrays.proofs.WidthBounds.{flagged_room}
-use Rattle.apfloat_c.specs.declared.data.Answer.{Answer}
+use Rattle.coded_calls.specs.declared.data.Answer.{Answer}
 use Rattle.apfloat_c.specs.declared.array_calls.ElementOperation.{ElementOperation}
 use Rattle.apfloat_c.specs.declared.array_calls.ElementOperation.TheVariants.{OfTwo, FusedSum, SquareRoot}
 use Rattle.apfloat_c.specs.declared.array_calls.MapCall.{MapCall}
 use Rattle.apfloat_c.specs.declared.array_data.Element.{Element}
 use Rattle.apfloat_c.specs.declared.array_data.ElementCounts.{ElementCounts}
-use Rattle.apfloat_c.specs.Answers.{IsKindAnswer, whole}
+use Rattle.coded_calls.specs.Answers.{IsKindAnswer, whole}
 use Rattle.apfloat_c.specs.ArrayCalls.{bytes_in}
 use Rattle.apfloat_c.specs.Arrays.{AreElements, IsElement, IsElementAt, became_nan, call_of, counts_of, raised, with_element}
 

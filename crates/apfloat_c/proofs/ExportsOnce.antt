@@ -21,8 +21,8 @@ use Rattle.apfloat_model.proofs.bits.Encodings.{lawful_interchange}
 use Rattle.apfloat_model.proofs.Once.{OnceWith, conversion_once, fused_sum_once, root_once}
 use Rattle.apfloat_pair_theory.proofs.calls.PairsDetermined.{pairs_determined}
 use Rattle.apfloat_pair_theory.proofs.calls.PairsOnce.{wide_answer_once}
-use Rattle.apfloat_c.specs.declared.data.Answer.{Answer}
-use Rattle.apfloat_c.specs.declared.data.Halves.{Halves}
+use Rattle.coded_calls.specs.declared.data.Answer.{Answer}
+use Rattle.coded_calls.specs.declared.data.Halves.{Halves}
 use Rattle.formats_at_run_time.specs.declared.FlaggedKind.{FlaggedKind}
 use Rattle.formats_at_run_time.specs.declared.FlaggedKind.TheVariants.{OfFormat, Pairs}
 use Rattle.formats_at_run_time.specs.FlaggedKinds.{flagged_kind_of}
@@ -30,17 +30,17 @@ use Rattle.formats_at_run_time.specs.Relations.{Relations, in_format, in_pairs}
 use Rattle.formats_at_run_time.specs.ValueKinds.{Kind, of_format, of_pairs, value_of}
 use Rattle.formats_at_run_time.proofs.OfTwoOnce.{of_two_once}
 use Rattle.apfloat_arrays.proofs.scaled_blocks_lemmas.FormatLaws.{HasLaw, format_law}
-use Rattle.apfloat_c.specs.declared.exported_call.ExportedCall.{ExportedCall}
-use Rattle.apfloat_c.specs.declared.exported_call.ExportedCall.TheVariants.{OfTwo, FusedSum, SquareRoot, FromUnsigned}
-use Rattle.apfloat_c.specs.declared.exported_call.ExportedCall.TheVariants.{FromSigned, ToUnsigned, ToSigned}
-use Rattle.apfloat_c.specs.declared.exported_call.ExportedCall.TheVariants.{RoundToIntegral, Scaling, Fraction}
-use Rattle.apfloat_c.specs.declared.exported_call.ExportedCall.TheVariants.{Exponent, NextUp, NextDown, Comparison}
-use Rattle.apfloat_c.specs.declared.exported_call.ExportedCall.TheVariants.{Class, Conversion, Text}
+use Rattle.coded_calls.specs.declared.exported_call.ExportedCall.{ExportedCall}
+use Rattle.coded_calls.specs.declared.exported_call.ExportedCall.TheVariants.{OfTwo, FusedSum, SquareRoot, FromUnsigned}
+use Rattle.coded_calls.specs.declared.exported_call.ExportedCall.TheVariants.{FromSigned, ToUnsigned, ToSigned}
+use Rattle.coded_calls.specs.declared.exported_call.ExportedCall.TheVariants.{RoundToIntegral, Scaling, Fraction}
+use Rattle.coded_calls.specs.declared.exported_call.ExportedCall.TheVariants.{Exponent, NextUp, NextDown, Comparison}
+use Rattle.coded_calls.specs.declared.exported_call.ExportedCall.TheVariants.{Class, Conversion, Text}
 use Rattle.apfloat_c.specs.OneAnswer.{SameAnswer}
-use Rattle.apfloat_c.specs.KnownCalls.{fault_in, known_call, without}
-use Rattle.apfloat_c.specs.Answers.{IsKindAnswer, IsConverted, IsConvertedInto, IsAnswerConverted, IsFractionOf, IsNumberAlone}
-use Rattle.apfloat_c.specs.Answers.{IsReturned, IsSignedAnswer, IsTypeAnswer, IsUnsigned, IsUntold, IsValue, IsValueWritten}
-use Rattle.apfloat_c.specs.Answers.{one_if, whole}
+use Rattle.coded_calls.specs.KnownCalls.{fault_in, known_call, without}
+use Rattle.coded_calls.specs.Answers.{IsKindAnswer, IsConverted, IsConvertedInto, IsAnswerConverted, IsFractionOf}
+use Rattle.coded_calls.specs.Answers.{IsNumberAlone, IsReturned, IsSignedAnswer, IsTypeAnswer, IsUnsigned, IsUntold}
+use Rattle.coded_calls.specs.Answers.{IsValue, IsValueWritten, one_if, whole}
 
 -- at most one result
 abbrev pub OnceAnswer : (Answer → Type 0) → Type 0

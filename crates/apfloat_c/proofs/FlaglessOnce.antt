@@ -8,12 +8,12 @@ use Rattle.apfloat_pair_theory.proofs.calls.PairsDetermined.{pairs_determined}
 use Rattle.formats_at_run_time.specs.BuiltIns.{kind_of}
 use Rattle.formats_at_run_time.specs.Relations.{in_format, in_pairs}
 use Rattle.formats_at_run_time.specs.ValueKinds.{Kind, of_format, of_pairs}
-use Rattle.apfloat_c.specs.declared.flagless_call.FlaglessCall.{FlaglessCall}
-use Rattle.apfloat_c.specs.declared.flagless_call.FlaglessCall.TheVariants.{Negation, AbsoluteValue, SignCopy}
-use Rattle.apfloat_c.specs.declared.flagless_call.FlaglessCall.TheVariants.{LesserNumber, GreaterNumber, Minimum}
-use Rattle.apfloat_c.specs.declared.flagless_call.FlaglessCall.TheVariants.{Maximum, QuietNan, SignalingNan, SignTest}
-use Rattle.apfloat_c.specs.Answers.{whole}
-use Rattle.apfloat_c.specs.FlaglessCalls.{IsFlagless, IsFlaglessAnswer, IsFlaglessKindAnswer, kind_without_rule}
+use Rattle.coded_calls.specs.declared.flagless_call.FlaglessCall.{FlaglessCall}
+use Rattle.coded_calls.specs.declared.flagless_call.FlaglessCall.TheVariants.{Negation, AbsoluteValue, SignCopy}
+use Rattle.coded_calls.specs.declared.flagless_call.FlaglessCall.TheVariants.{LesserNumber, GreaterNumber, Minimum}
+use Rattle.coded_calls.specs.declared.flagless_call.FlaglessCall.TheVariants.{Maximum, QuietNan, SignalingNan, SignTest}
+use Rattle.coded_calls.specs.Answers.{whole}
+use Rattle.coded_calls.specs.FlaglessCalls.{IsFlagless, IsFlaglessAnswer, IsFlaglessKindAnswer, kind_without_rule}
 use Rattle.apfloat_c.specs.OneAnswer.{IsFlaglessReplyOnce}
 use Rattle.apfloat_c.proofs.ExportsOnce.{KindHasLaw, OnceAnswer, format_determined, given_once, unchanged}
 use Rattle.apfloat_c.proofs.ParsedOnce.{built_in_kind_law}

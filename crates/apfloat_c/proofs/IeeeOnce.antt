@@ -18,14 +18,14 @@ use Rattle.formats_at_run_time.specs.BuiltIns.{constants_in}
 use Rattle.formats_at_run_time.specs.FlaggedKinds.{flagged_constants, format_without_rule}
 use Rattle.formats_at_run_time.specs.Relations.{in_format}
 use Rattle.formats_at_run_time.specs.ValueKinds.{value_of}
-use Rattle.apfloat_c.specs.declared.ieee_call.IeeeCall.{IeeeCall}
-use Rattle.apfloat_c.specs.declared.ieee_call.IeeeCall.TheVariants.{Predicated, TotalOrder, ExtremumOf}
-use Rattle.apfloat_c.specs.declared.ieee_call.IeeeCall.TheVariants.{LogB, ScaleB, Integral}
-use Rattle.apfloat_c.specs.declared.ieee_call.InAnotherCall.{InAnotherCall}
-use Rattle.apfloat_c.specs.declared.ieee_call.InAnotherCall.TheVariants.{SumTo, DifferenceTo, ProductTo}
-use Rattle.apfloat_c.specs.declared.ieee_call.InAnotherCall.TheVariants.{QuotientTo, FusedSumTo, RootTo}
-use Rattle.apfloat_c.specs.Answers.{IsValue, one_if}
-use Rattle.apfloat_c.specs.IeeeCalls.{IsExtremumBy, IsIeeeAnswer, IsInAnotherFormat, IsTruth}
+use Rattle.coded_calls.specs.declared.ieee_call.IeeeCall.{IeeeCall}
+use Rattle.coded_calls.specs.declared.ieee_call.IeeeCall.TheVariants.{Predicated, TotalOrder, ExtremumOf}
+use Rattle.coded_calls.specs.declared.ieee_call.IeeeCall.TheVariants.{LogB, ScaleB, Integral}
+use Rattle.coded_calls.specs.declared.ieee_call.InAnotherCall.{InAnotherCall}
+use Rattle.coded_calls.specs.declared.ieee_call.InAnotherCall.TheVariants.{SumTo, DifferenceTo, ProductTo}
+use Rattle.coded_calls.specs.declared.ieee_call.InAnotherCall.TheVariants.{QuotientTo, FusedSumTo, RootTo}
+use Rattle.coded_calls.specs.Answers.{IsValue, one_if}
+use Rattle.coded_calls.specs.IeeeCalls.{IsExtremumBy, IsIeeeAnswer, IsInAnotherFormat, IsTruth}
 use Rattle.apfloat_c.specs.OneAnswer.{IsIeeeReplyOnce, IsInAnotherReplyOnce}
 use Rattle.apfloat_c.proofs.ExportsOnce.{OnceAnswer, format_determined, given_once, unchanged}
 use Rattle.apfloat_arrays.proofs.scaled_blocks_lemmas.FormatLaws.{HasLaw, format_law}

@@ -1,6 +1,3 @@
-pub mod MeaningfulTexts
-pub mod ExponentWords
-pub mod WrittenAnswers
 pub mod ExportsOnce
 pub mod TextsOnce
 pub mod ArrayCalls
@@ -10,13 +7,7 @@ pub mod BlocksOnce
 pub mod ParsedOnce
 pub mod FlaglessOnce
 pub mod IeeeOnce
-pub mod MachineFormats
-pub mod MachineAnswers
-pub mod UsualAnswers
-pub mod KnownRequests
 pub mod MachineOnce
 pub mod OperationTables
 pub mod NormalElements
-pub mod NumberAnswers
 pub mod DecimalReadings
-pub mod EncodedNumbers

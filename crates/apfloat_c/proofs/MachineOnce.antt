@@ -20,14 +20,14 @@ use Rattle.formats_at_run_time.specs.declared.Arithmetic.TheVariants.{NearestRem
 use Rattle.formats_at_run_time.specs.BuiltIns.{constants_in}
 use Rattle.formats_at_run_time.specs.FlaggedKinds.{flagged_constants, format_of_ieee}
 use Rattle.formats_at_run_time.specs.ValueKinds.{value_of}
-use Rattle.apfloat_c.specs.declared.machine_call.MachineCall.{MachineCall}
-use Rattle.apfloat_c.specs.declared.machine_call.MachineCall.TheVariants.{Operation, Conversion}
-use Rattle.apfloat_c.specs.declared.machine_call.MachineFormat.{MachineFormat}
-use Rattle.apfloat_c.specs.declared.machine_call.MachineOperation.{MachineOperation}
-use Rattle.apfloat_c.specs.declared.machine_call.MachineOperation.TheVariants.{OfTwo, FusedSum, SquareRoot}
-use Rattle.apfloat_c.specs.declared.machine_call.MachineOperation.TheVariants.{IntegralExact, Integral, ToUnsigned}
-use Rattle.apfloat_c.specs.declared.machine_call.MachineOperation.TheVariants.{ToSigned, Least, Greatest}
-use Rattle.apfloat_c.specs.MachineCalls.{IsInteger, IsMachineAnswer, IsMachineCallAnswer, IsMachineOfTwo, format_on}
+use Rattle.coded_calls.specs.declared.machine_call.MachineCall.{MachineCall}
+use Rattle.coded_calls.specs.declared.machine_call.MachineCall.TheVariants.{Operation, Conversion}
+use Rattle.coded_calls.specs.declared.machine_call.MachineFormat.{MachineFormat}
+use Rattle.coded_calls.specs.declared.machine_call.MachineOperation.{MachineOperation}
+use Rattle.coded_calls.specs.declared.machine_call.MachineOperation.TheVariants.{OfTwo, FusedSum, SquareRoot}
+use Rattle.coded_calls.specs.declared.machine_call.MachineOperation.TheVariants.{IntegralExact, Integral, ToUnsigned}
+use Rattle.coded_calls.specs.declared.machine_call.MachineOperation.TheVariants.{ToSigned, Least, Greatest}
+use Rattle.coded_calls.specs.MachineCalls.{IsInteger, IsMachineAnswer, IsMachineCallAnswer, IsMachineOfTwo, format_on}
 use Rattle.apfloat_c.specs.OneAnswer.{IsMachineReplyOnce}
 use Rattle.apfloat_c.proofs.ExportsOnce.{OnceAnswer, unchanged}
 use Rattle.apfloat_arrays.proofs.scaled_blocks_lemmas.FormatLaws.{HasLaw, format_law}

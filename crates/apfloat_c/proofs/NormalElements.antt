@@ -24,8 +24,8 @@ use Rattle.fast_bits.specs.Encoded.{IsNumberAnswer}
 use Rattle.apfloat_c.specs.declared.array_calls.ElementOperation.TheVariants.{OfTwo}
 use Rattle.apfloat_c.specs.declared.array_calls.MapCall.{MapCall}
 use Rattle.apfloat_c.specs.declared.array_data.Element.{Element}
-use Rattle.apfloat_c.specs.declared.data.Halves.{Halves}
-use Rattle.apfloat_c.specs.Answers.{IsKindAnswer, whole}
+use Rattle.coded_calls.specs.declared.data.Halves.{Halves}
+use Rattle.coded_calls.specs.Answers.{IsKindAnswer, whole}
 use Rattle.apfloat_c.specs.ArrayCalls.{bytes_in}
 use Rattle.apfloat_c.specs.Arrays.{IsElement, call_of, relation_of_two}
 use Rattle.apfloat_arrays.proofs.WidthBounds.{flagged_room}

@@ -16,7 +16,7 @@ use Rattle.formats_at_run_time.specs.declared.BuiltInKind.TheVariants.{OfFormat 
 use Rattle.formats_at_run_time.specs.BuiltIns.{kind_of}
 use Rattle.formats_at_run_time.specs.Relations.{in_format, in_pairs}
 use Rattle.formats_at_run_time.specs.ValueKinds.{Kind, of_format, of_pairs}
-use Rattle.apfloat_c.specs.declared.data.Answer.{Answer}
+use Rattle.coded_calls.specs.declared.data.Answer.{Answer}
 use Rattle.apfloat_c.specs.Decimals.{IsDecimalAnswer, IsDecimalOutcome, IsReadInto}
 use Rattle.apfloat_c.specs.OneAnswer.{IsParsedOnce, SameAnswer}
 use Rattle.apfloat_c.proofs.ExportsOnce.{KindHasLaw, OnceAnswer, format_determined, unchanged, value_once}

@@ -3,9 +3,9 @@ use Rattle.std.specs.Prelude.{◌≡◌, ℕ, ◌==◌, nat_le, Bool, true, fals
 use Rattle.apfloat_c.specs.declared.decimals.DecimalText.{DecimalText}
 use Rattle.apfloat_c.specs.ArrayCalls.{wrong_length}
 use Rattle.apfloat_c.specs.Decimals.{IsText}
-use Rattle.apfloat_c.specs.KnownCalls.{answered, no_such_operation, refused_text, unknown_format, unknown_mode}
-use Rattle.apfloat_c.specs.KnownCalls.{wrong_width}
-use Rattle.apfloat_c.specs.MachineCalls.{lacking_operation, unknown_machine, wide_operand}
+use Rattle.coded_calls.specs.KnownCalls.{answered, no_such_operation, refused_text, unknown_format, unknown_mode}
+use Rattle.coded_calls.specs.KnownCalls.{wrong_width}
+use Rattle.coded_calls.specs.MachineCalls.{lacking_operation, unknown_machine, wide_operand}
 
 -- the error for a number that no export returns
 abbrev pub unknown_error : ℕ

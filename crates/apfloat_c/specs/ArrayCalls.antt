@@ -26,7 +26,7 @@ use Rattle.apfloat_c.specs.declared.array_calls.ConversionMode.{ConversionMode}
 use Rattle.apfloat_c.specs.declared.array_calls.ElementOperation.{ElementOperation}
 use Rattle.apfloat_c.specs.declared.array_calls.ElementOperation.TheVariants.{OfTwo, FusedSum, SquareRoot}
 use Rattle.apfloat_c.specs.declared.array_calls.MapCall.{MapCall}
-use Rattle.apfloat_c.specs.KnownCalls.{◌>>=◌, no_such_operation, unknown_format, unknown_mode}
+use Rattle.coded_calls.specs.KnownCalls.{◌>>=◌, no_such_operation, unknown_format, unknown_mode}
 
 abbrev pub wrong_length : ℕ
 wrong_length = 6

@@ -23,7 +23,7 @@ use Rattle.apfloat_arrays.specs.Bytes.{number_of}
 use Rattle.apfloat_arrays.specs.Outcomes.{HaveRoom, one_if}
 use Rattle.apfloat_arrays.specs.Values.{IsConvertedBy}
 use Rattle.apfloat_arrays.specs.stored.Arrays.{IsConverted}
-use Rattle.apfloat_c.specs.declared.data.Answer.{Answer}
+use Rattle.coded_calls.specs.declared.data.Answer.{Answer}
 use Rattle.apfloat_c.specs.declared.array_data.ArrayAnswer.{ArrayAnswer}
 use Rattle.apfloat_c.specs.declared.array_data.Element.{Element}
 use Rattle.apfloat_c.specs.declared.array_data.ElementCounts.{ElementCounts}
@@ -32,12 +32,12 @@ use Rattle.apfloat_c.specs.declared.array_calls.ElementOperation.TheVariants.{Of
 use Rattle.apfloat_c.specs.declared.array_calls.KnownConversion.{KnownConversion}
 use Rattle.apfloat_c.specs.declared.array_calls.KnownConversion.TheVariants.{BuiltIn, Storage}
 use Rattle.apfloat_c.specs.declared.array_calls.MapCall.{MapCall}
-use Rattle.apfloat_c.specs.declared.exported_call.ExportedCall.{ExportedCall}
-use Rattle.apfloat_c.specs.declared.exported_call.ExportedCall.TheVariants.{OfTwo as CallOfTwo}
-use Rattle.apfloat_c.specs.declared.exported_call.ExportedCall.TheVariants.{FusedSum as CallFusedSum}
-use Rattle.apfloat_c.specs.declared.exported_call.ExportedCall.TheVariants.{SquareRoot as CallSquareRoot}
-use Rattle.apfloat_c.specs.KnownCalls.{answered}
-use Rattle.apfloat_c.specs.Answers.{IsKindAnswer, whole}
+use Rattle.coded_calls.specs.declared.exported_call.ExportedCall.{ExportedCall}
+use Rattle.coded_calls.specs.declared.exported_call.ExportedCall.TheVariants.{OfTwo as CallOfTwo}
+use Rattle.coded_calls.specs.declared.exported_call.ExportedCall.TheVariants.{FusedSum as CallFusedSum}
+use Rattle.coded_calls.specs.declared.exported_call.ExportedCall.TheVariants.{SquareRoot as CallSquareRoot}
+use Rattle.coded_calls.specs.KnownCalls.{answered}
+use Rattle.coded_calls.specs.Answers.{IsKindAnswer, whole}
 use Rattle.apfloat_c.specs.ArrayCalls.{bytes_in, conversion_widths}
 
 -- ---- counts

@@ -23,8 +23,8 @@ use Rattle.apfloat_arrays.specs.scaled_blocks.Quantized.{IsQuantizedArray, width
 use Rattle.apfloat_c.specs.declared.array_data.ArrayAnswer.{ArrayAnswer}
 use Rattle.apfloat_c.specs.ArrayCalls.{wrong_length}
 use Rattle.apfloat_c.specs.Arrays.{answer_with}
-use Rattle.apfloat_c.specs.KnownCalls.{◌>>=◌, answered, no_such_operation, unknown_format, unknown_mode}
-use Rattle.apfloat_c.specs.MachineCalls.{wide_operand}
+use Rattle.coded_calls.specs.KnownCalls.{◌>>=◌, answered, no_such_operation, unknown_format, unknown_mode}
+use Rattle.coded_calls.specs.MachineCalls.{wide_operand}
 
 -- ---- codes
 

@@ -23,12 +23,12 @@ use Rattle.formats_at_run_time.specs.BuiltIns.{constants_in, kind_of}
 use Rattle.formats_at_run_time.specs.FlaggedKinds.{format_without_rule}
 use Rattle.formats_at_run_time.specs.Relations.{in_format, in_pairs}
 use Rattle.formats_at_run_time.specs.ValueKinds.{Kind, of_format, of_pairs, value_of}
-use Rattle.apfloat_c.specs.declared.data.Answer.{Answer}
+use Rattle.coded_calls.specs.declared.data.Answer.{Answer}
 use Rattle.apfloat_c.specs.declared.decimals.DecimalText.{DecimalText}
 use Rattle.apfloat_c.specs.declared.decimals.Shortest.{Shortest}
 use Rattle.apfloat_c.specs.declared.decimals.Shortest.TheVariants.{Number, Infinity, Nan}
-use Rattle.apfloat_c.specs.Answers.{IsValue}
-use Rattle.apfloat_c.specs.KnownCalls.{◌>>=◌, answered, no_such_operation, refused_text, unknown_format, unknown_mode}
+use Rattle.coded_calls.specs.Answers.{IsValue}
+use Rattle.coded_calls.specs.KnownCalls.{◌>>=◌, answered, no_such_operation, refused_text, unknown_format, unknown_mode}
 
 -- ---- reading
 

@@ -1,11 +1,6 @@
-pub mod KnownCalls
-pub mod Answers
-pub mod FlaglessCalls
 pub mod ArrayCalls
 pub mod Arrays
 pub mod Decimals
-pub mod IeeeCalls
-pub mod MachineCalls
 pub mod About
 pub mod Blocks
 pub mod OneAnswer

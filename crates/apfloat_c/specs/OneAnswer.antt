@@ -10,21 +10,21 @@ use Rattle.apfloat_arrays.specs.declared.scaled_blocks.Quantization.{Quantizatio
 use Rattle.apfloat_c.specs.declared.array_calls.KnownConversion.{KnownConversion}
 use Rattle.apfloat_c.specs.declared.array_calls.MapCall.{MapCall}
 use Rattle.apfloat_c.specs.declared.array_data.ArrayAnswer.{ArrayAnswer}
-use Rattle.apfloat_c.specs.declared.data.Answer.{Answer}
+use Rattle.coded_calls.specs.declared.data.Answer.{Answer}
 use Rattle.apfloat_c.specs.declared.decimals.DecimalText.{DecimalText}
-use Rattle.apfloat_c.specs.declared.exported_call.ExportedCall.{ExportedCall}
-use Rattle.apfloat_c.specs.declared.flagless_call.FlaglessCall.{FlaglessCall}
-use Rattle.apfloat_c.specs.declared.ieee_call.IeeeCall.{IeeeCall}
-use Rattle.apfloat_c.specs.declared.ieee_call.InAnotherCall.{InAnotherCall}
+use Rattle.coded_calls.specs.declared.exported_call.ExportedCall.{ExportedCall}
+use Rattle.coded_calls.specs.declared.flagless_call.FlaglessCall.{FlaglessCall}
+use Rattle.coded_calls.specs.declared.ieee_call.IeeeCall.{IeeeCall}
+use Rattle.coded_calls.specs.declared.ieee_call.InAnotherCall.{InAnotherCall}
 use Rattle.apfloat_c.specs.About.{IsErrorText}
-use Rattle.apfloat_c.specs.Answers.{IsReturned, whole}
+use Rattle.coded_calls.specs.Answers.{IsReturned, whole}
 use Rattle.apfloat_c.specs.Arrays.{IsConvertedArray, IsMappedArray}
 use Rattle.apfloat_c.specs.Blocks.{IsDequantizedCall, IsPackedCall, IsQuantizedCall, IsUnpackedCall}
 use Rattle.apfloat_c.specs.Decimals.{KnownReading, IsParsed, IsShortestWritten}
-use Rattle.apfloat_c.specs.FlaglessCalls.{IsFlaglessReply}
-use Rattle.apfloat_c.specs.IeeeCalls.{IsIeeeReply, IsInAnotherReply}
-use Rattle.apfloat_c.specs.KnownCalls.{known_call}
-use Rattle.apfloat_c.specs.MachineCalls.{IsMachineReply, MachineRequest}
+use Rattle.coded_calls.specs.FlaglessCalls.{IsFlaglessReply}
+use Rattle.coded_calls.specs.IeeeCalls.{IsIeeeReply, IsInAnotherReply}
+use Rattle.coded_calls.specs.KnownCalls.{known_call}
+use Rattle.coded_calls.specs.MachineCalls.{IsMachineReply, MachineRequest}
 
 -- two results with the same number of 128 bits, the same flags, and the same extra number
 pub record SameAnswer (first second : Answer) : Type 0 where

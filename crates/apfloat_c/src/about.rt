@@ -4,9 +4,9 @@ ghost use Rattle.std.specs.Prelude.{◌≡◌, ◌<◌, length};
 ghost use Rattle.apfloat_c.specs.About.{IsErrorText, error_text, version};
 ghost use Rattle.apfloat_c.specs.Decimals.{IsText};
 
-use crate::codes::{ANSWERED, LACKING_OPERATION, UNKNOWN_ERROR};
 use crate::decimals::DecimalText;
 use apfloat_decimals::formatting::CAPACITY;
+use coded_calls::codes::{ANSWERED, LACKING_OPERATION, UNKNOWN_ERROR};
 
 /// The version of the library, as `apfloat_version` returns it.
 const VERSION: u32 = 1_000;

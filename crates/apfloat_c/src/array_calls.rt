@@ -10,9 +10,9 @@ ghost use Rattle.apfloat_c.specs.ArrayCalls.{known_array_conversion, known_map, 
 ghost use Rattle.apfloat_c.specs.ArrayCalls.{operation_coded};
 ghost use Rattle.apfloat_c.specs.Arrays.{IsValueConverted};
 
-use crate::codes::{NO_SUCH_OPERATION, UNKNOWN_FORMAT, UNKNOWN_MODE, WRONG_LENGTH};
 use apfloat_arrays::stored::{Ends, StorageArray, StoredFormat};
 use apfloat_arrays::{ArrayConversion, Counts, Extended, Widths, width};
+use coded_calls::codes::{NO_SUCH_OPERATION, UNKNOWN_FORMAT, UNKNOWN_MODE, WRONG_LENGTH};
 use formats_at_run_time::{Arithmetic, FlaggedFormat, FlaggedKind, mode_coded};
 use rustc_apfloat::Round;
 use small_formats::saturation::{FiniteNan, Overflow};

@@ -8,7 +8,7 @@ use crate::array_calls::{
     ArrayFormat, ConversionMode, array_format_coded, conversion_mode_coded, known_array_conversion,
 };
 use crate::array_data::{ArrayAnswer, ElementCounts};
-use crate::codes::ANSWERED;
+use coded_calls::codes::ANSWERED;
 
 /// Converts each value of an array.
 #[unsafe(no_mangle)]

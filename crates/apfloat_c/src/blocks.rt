@@ -9,10 +9,10 @@ ghost use Rattle.apfloat_c.specs.Blocks.{array_error, element_coded, known_dequa
 ghost use Rattle.apfloat_c.specs.Blocks.{packing_error};
 
 use crate::array_data::{ArrayAnswer, ElementCounts};
-use crate::codes::{
+use apfloat_arrays::scaled_blocks::{ArrayError, Dequantization, Quantization};
+use coded_calls::codes::{
     ANSWERED, NO_SUCH_OPERATION, UNKNOWN_FORMAT, UNKNOWN_MODE, WIDE_OPERAND, WRONG_LENGTH,
 };
-use apfloat_arrays::scaled_blocks::{ArrayError, Dequantization, Quantization};
 use formats_at_run_time::{FlaggedKind, mode_coded};
 use rustc_apfloat::Round;
 use small_formats::blocks::ElementFormat;

@@ -12,17 +12,17 @@ ghost use Rattle.formats_at_run_time.specs.FormatKinds.{IfFormat};
 ghost use Rattle.formats_at_run_time.specs.Modes.{mode_coded};
 ghost use Rattle.formats_at_run_time.specs.Relations.{in_pairs};
 ghost use Rattle.formats_at_run_time.specs.ValueKinds.{of_format, of_pairs};
-ghost use Rattle.apfloat_c.specs.Answers.{IsValueWritten, whole};
+ghost use Rattle.coded_calls.specs.Answers.{IsValueWritten, whole};
 ghost use Rattle.apfloat_c.specs.Decimals.{IsKindText, IsParsed, IsReadInto, IsShortestWritten, IsText};
 ghost use Rattle.apfloat_c.specs.Decimals.{IsValueText, decimal_kind, known_reading, text_format, text_of_shortest};
 
-use crate::answers::with_bits;
-use crate::codes::{ANSWERED, NO_SUCH_OPERATION, REFUSED_TEXT, UNKNOWN_FORMAT, UNKNOWN_MODE};
-use crate::data::{Answer, Halves};
-use crate::encoded_decimals::read_decimal_bits;
 use apfloat_decimals::formatting::{CAPACITY, Line, put_decimal};
 use apfloat_decimals::{Decimal, shortest};
 use apfloat_digits::of_double_doubles::read_decimal_pair_ascii;
+use coded_calls::answers::with_bits;
+use coded_calls::codes::{ANSWERED, NO_SUCH_OPERATION, REFUSED_TEXT, UNKNOWN_FORMAT, UNKNOWN_MODE};
+use coded_calls::data::{Answer, Halves};
+use coded_calls::encoded_decimals::read_decimal_bits;
 use formats_at_run_time::{
     BuiltInKind, FillsInFormat, FlaggedFormat, FlaggedKind, InFormat, mode_coded,
 };

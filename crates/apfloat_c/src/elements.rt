@@ -7,19 +7,19 @@ ghost use Rattle.formats_at_run_time.specs.FlaggedKinds.{flagged_kind_of};
 ghost use Rattle.formats_at_run_time.specs.ValueKinds.{of_format, of_pairs};
 ghost use Rattle.apfloat_arrays.specs.Bytes.{number_of};
 ghost use Rattle.apfloat_c.specs.declared.array_calls.MapCall.{MapCall};
-ghost use Rattle.apfloat_c.specs.Answers.{IsKindAnswer};
+ghost use Rattle.coded_calls.specs.Answers.{IsKindAnswer};
 ghost use Rattle.apfloat_c.specs.ArrayCalls.{bytes_in, has_element_operation};
 ghost use Rattle.apfloat_c.specs.Arrays.{AreElements, IsElement, call_of, is_nan_in};
 
 use crate::array_calls::{ElementOperation, MapCall, bytes_in};
 use crate::array_data::{Element, ElementCounts};
-use crate::data::Answer;
 use crate::normal_elements::{NormalDifference, NormalProduct, NormalSum, normal_elements};
-use crate::operations::{
+use apfloat_arrays::{number_of, write_number};
+use coded_calls::data::Answer;
+use coded_calls::operations::{
     DifferenceCall, FusedSumCall, InType, KindOperation, NearestRemainderCall, ProductCall,
     QuotientCall, SquareRootCall, SumCall, TruncatedRemainderCall,
 };
-use apfloat_arrays::{number_of, write_number};
 use formats_at_run_time::{Arithmetic, FlaggedKind, WritesInFormat};
 use rustc_apfloat::Float;
 use rustc_apfloat::ieee::{Flagged, IeeeFloat};

@@ -5,20 +5,22 @@ ghost use Rattle.std.specs.Int.{cast_signed, w128};
 ghost use Rattle.rustc_apfloat.specs.declared.Round.TheVariants.{NearestTiesToEven};
 ghost use Rattle.formats_at_run_time.specs.declared.Arithmetic.TheVariants.{Sum, Difference, Product, Quotient};
 ghost use Rattle.formats_at_run_time.specs.declared.Arithmetic.TheVariants.{NearestRemainder, TruncatedRemainder};
-ghost use Rattle.apfloat_c.specs.declared.exported_call.ExportedCall.TheVariants.{OfTwo, FusedSum, SquareRoot};
-ghost use Rattle.apfloat_c.specs.declared.exported_call.ExportedCall.TheVariants.{FromUnsigned, FromSigned, ToUnsigned};
-ghost use Rattle.apfloat_c.specs.declared.exported_call.ExportedCall.TheVariants.{ToSigned, RoundToIntegral, Scaling};
-ghost use Rattle.apfloat_c.specs.declared.exported_call.ExportedCall.TheVariants.{Fraction, Exponent, NextUp, NextDown};
-ghost use Rattle.apfloat_c.specs.declared.exported_call.ExportedCall.TheVariants.{Comparison, Class, Conversion, Text};
+ghost use Rattle.coded_calls.specs.declared.exported_call.ExportedCall.TheVariants.{OfTwo, FusedSum, SquareRoot};
+ghost use Rattle.coded_calls.specs.declared.exported_call.ExportedCall.TheVariants.{FromUnsigned, FromSigned};
+ghost use Rattle.coded_calls.specs.declared.exported_call.ExportedCall.TheVariants.{ToUnsigned, ToSigned};
+ghost use Rattle.coded_calls.specs.declared.exported_call.ExportedCall.TheVariants.{RoundToIntegral, Scaling};
+ghost use Rattle.coded_calls.specs.declared.exported_call.ExportedCall.TheVariants.{Fraction, Exponent, NextUp};
+ghost use Rattle.coded_calls.specs.declared.exported_call.ExportedCall.TheVariants.{NextDown, Comparison, Class};
+ghost use Rattle.coded_calls.specs.declared.exported_call.ExportedCall.TheVariants.{Conversion, Text};
 ghost use Rattle.formats_at_run_time.specs.FlaggedKinds.{flagged_kind_coded};
 ghost use Rattle.formats_at_run_time.specs.Modes.{mode_coded};
-ghost use Rattle.apfloat_c.specs.KnownCalls.{known_call};
-ghost use Rattle.apfloat_c.specs.Answers.{IsReturned, whole};
+ghost use Rattle.coded_calls.specs.KnownCalls.{known_call};
+ghost use Rattle.coded_calls.specs.Answers.{IsReturned, whole};
 
-use crate::by_code::{reply, reply_in_kind};
-use crate::codes::NEAREST_EVEN;
-use crate::data::{Answer, Halves};
-use crate::operations::{
+use coded_calls::by_code::{reply, reply_in_kind};
+use coded_calls::codes::NEAREST_EVEN;
+use coded_calls::data::{Answer, Halves};
+use coded_calls::operations::{
     ClassCall, ComparisonCall, ConversionCall, DifferenceCall, ExponentCall, FractionCall,
     FromSignedCall, FromUnsignedCall, FusedSumCall, NearestRemainderCall, NextDownCall, NextUpCall,
     ProductCall, QuotientCall, RoundToIntegralCall, ScalingCall, SquareRootCall, SumCall, TextCall,

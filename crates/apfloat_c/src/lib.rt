@@ -5,30 +5,17 @@
 #![tactic(auto)]
 
 mod about;
-mod answers;
 mod array_calls;
 mod array_data;
 mod arrays;
 mod blocks;
-mod by_code;
-mod coded_formats;
-mod codes;
-mod data;
 mod decimals;
 mod elements;
-mod encoded_decimals;
-mod exported_call;
 mod exports;
-mod flagless;
-mod flagless_call;
-mod ieee_answers;
-mod ieee_call;
-mod machine_call;
-mod machine_operations;
+mod flagless_exports;
+mod ieee_exports;
+mod machine_exports;
 mod maps;
 mod normal_elements;
 mod one_answer;
 mod operation_tables;
-mod operations;
-mod standard_operations;
-mod usual_operands;

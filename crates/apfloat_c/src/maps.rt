@@ -8,7 +8,7 @@ ghost use Rattle.apfloat_c.specs.Arrays.{IsMappedArray};
 
 use crate::array_calls::{bytes_in, known_map, operation_coded};
 use crate::array_data::ArrayAnswer;
-use crate::codes::ANSWERED;
+use coded_calls::codes::ANSWERED;
 use formats_at_run_time::{FlaggedKind, mode_coded};
 
 /// Applies an operation to each element of an array, or to the elements of two or three arrays.

@@ -3,7 +3,7 @@ use Rattle.std.specs.Prelude.{is_some}
 use Rattle.rustc_apfloat.specs.PairFormats.{wide}
 use Rattle.apfloat_model.specs.declared.parse_error.Fault.{Fault}
 use Rattle.apfloat_model.specs.rounding.Flags.{bits_of}
-use Rattle.apfloat_c.proofs.MeaningfulTexts.{read_ascii}
+use Rattle.coded_calls.proofs.MeaningfulTexts.{read_ascii}
 use Rattle.apfloat_c.proofs.decimals.read_pair.Goals as goal
 
 pub returns-in-Ok : goal.returns-in-Ok

@@ -1,9 +1,0 @@
-use Rattle.rustc_apfloat.specs.FlaggedTypes.{constants_of}
-use Rattle.apfloat_c.proofs.NumberAnswers.{value_of_encoded}
-use Rattle.apfloat_c.proofs.answers.difference_in.Goals as goal
-
-pub returns-in-Some : goal.returns-in-Some
-returns-in-Some g c =
-    let value = value_of_encoded (constants_of g.S.Flagged) _ c.in-Some.difference c.with_bits.result
-    c.in-Some.ensures.is_answer c.with_bits.ensures.bits c.with_bits.ensures.status c.with_bits.ensures.number in
-    record { given = value.given; holds = value.holds; is_written = value.is_written }

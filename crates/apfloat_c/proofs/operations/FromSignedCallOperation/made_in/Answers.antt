@@ -1,8 +1,0 @@
-use Rattle.std.proofs.Common.{refl, rules}
-use Rattle.std.specs.Int.{w128}
-use Rattle.std.proofs.lemmas.Int.{to_z-of_z}
-use Rattle.apfloat_c.proofs.operations.FromSignedCallOperation.made_in.Goals as goal
-
-pub returns : goal.returns
-returns g c =
-    let left = rw (to_z-of_z w128 c.args.self.number (search rules)) at c.from_signed.ensures in (refl, left)

@@ -1,8 +1,0 @@
-use Rattle.std.proofs.Common.{refl, rules}
-use Rattle.std.specs.Int.{w32}
-use Rattle.std.proofs.lemmas.Int.{to_z-of_z}
-use Rattle.apfloat_c.proofs.operations.ScalingCallOperation.made_in.Goals as goal
-
-pub returns : goal.returns
-returns g c =
-    let left = rw (to_z-of_z w32 c.args.self.power (search rules)) at c.scaled.ensures in (refl, left)

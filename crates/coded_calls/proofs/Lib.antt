@@ -1,0 +1,9 @@
+pub mod MeaningfulTexts
+pub mod ExponentWords
+pub mod WrittenAnswers
+pub mod MachineFormats
+pub mod MachineAnswers
+pub mod UsualAnswers
+pub mod KnownRequests
+pub mod NumberAnswers
+pub mod EncodedNumbers

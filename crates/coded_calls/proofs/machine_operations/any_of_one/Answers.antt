@@ -1,0 +1,15 @@
+use Rattle.std.proofs.Common.{ℕ, Result, subst}
+use Rattle.formats_at_run_time.specs.FlaggedKinds.{flagged_kind_coded}
+use Rattle.formats_at_run_time.specs.Modes.{mode_coded}
+use Rattle.coded_calls.specs.Answers.{whole}
+use Rattle.coded_calls.specs.declared.machine_call.MachineCall.{MachineCall}
+use Rattle.coded_calls.specs.MachineCalls.{IsMachineReply, known_machine_call, machine_coded}
+use Rattle.coded_calls.proofs.machine_operations.any_of_one.Goals as goal
+
+pub returns : goal.returns
+returns c =
+    subst
+    (λ (call : Result MachineCall ℕ). IsMachineReply (known_machine_call (flagged_kind_coded c.args.format)
+    (mode_coded c.args.mode) call (machine_coded c.args.machine)) c.args.answer.now c.any_on_machine.new.answer
+    c.any_on_machine.result)
+    (c.one_code-code.ensures c.args.to (whole c.args.x) 0 0) c.any_on_machine.ensures

@@ -1,0 +1,19 @@
+use Rattle.coded_calls.proofs.machine_operations.two_of_words.Goals as goal
+
+pub returns-in-Sum : goal.returns-in-Sum
+returns-in-Sum g c = rw (c.in-Sum.is) c.sum_of_words.ensures
+
+pub returns-in-Difference : goal.returns-in-Difference
+returns-in-Difference g c = rw (c.in-Difference.is) c.difference_of_words.ensures
+
+pub returns-in-Product : goal.returns-in-Product
+returns-in-Product g c = rw (c.in-Product.is) c.product_of_words.ensures
+
+pub returns-in-Quotient : goal.returns-in-Quotient
+returns-in-Quotient g c = rw (c.in-Quotient.is) c.quotient_of_words.ensures
+
+pub returns-in-NearestRemainder : goal.returns-in-NearestRemainder
+returns-in-NearestRemainder g c = c.of_two_in.ensures
+
+pub returns-in-TruncatedRemainder : goal.returns-in-TruncatedRemainder
+returns-in-TruncatedRemainder g c = c.of_two_in-in-TruncatedRemainder.ensures

@@ -1,0 +1,7 @@
+use Rattle.coded_calls.proofs.WrittenAnswers.{left_in_pairs}
+use Rattle.coded_calls.proofs.operations.InTypeKindOperation.in_pairs.Goals as goal
+
+pub returns : goal.returns
+returns g c =
+    left_in_pairs c.args.round (g.O.Operation.call c.args.self.operation) c.args.answer.now c.made_in.new.answer
+    c.made_in.result c.made_in.ensures

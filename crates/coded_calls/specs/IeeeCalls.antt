@@ -1,0 +1,188 @@
+-- The operations of IEEE 754-2019 that `Float` lacks, as the exports make them.
+use Rattle.std.specs.Prelude.{◌≡◌, ℕ, ◌==◌, Bool, true, false, if◌then◌else◌, Option, Some, None}
+use Rattle.rustc_apfloat.specs.declared.Round.{Round}
+use Rattle.rustc_apfloat.specs.declared.StatusAnd.{StatusAnd}
+use Rattle.rustc_apfloat.specs.Datum.{Datum}
+use Rattle.rustc_apfloat.specs.Flags.{Gives, bits_of}
+use Rattle.rustc_apfloat.specs.Lawful.{Constants, format_with}
+use Rattle.apfloat_conversions.specs.Scalings.{IsScaled}
+use Rattle.apfloat_arithmetic.specs.other_formats.FormatOf.{IsSumTo, IsDifferenceTo, IsProductTo, IsQuotientTo, IsFusedSumTo}
+use Rattle.apfloat_arithmetic.specs.other_formats.RootsOf.{IsRootTo}
+use Rattle.ieee_operations.specs.declared.extrema.Extremum.{Extremum}
+use Rattle.ieee_operations.specs.declared.extrema.Extremum.TheVariants.{Minimum, Maximum}
+use Rattle.ieee_operations.specs.declared.extrema.Extremum.TheVariants.{MinimumMagnitude, MaximumMagnitude}
+use Rattle.ieee_operations.specs.declared.predicates.OnNan.{OnNan}
+use Rattle.ieee_operations.specs.declared.predicates.OnNan.TheVariants.{Quiet, Signaling}
+use Rattle.ieee_operations.specs.declared.predicates.Predicate.{Predicate}
+use Rattle.ieee_operations.specs.declared.predicates.Predicate.TheVariants.{Equal, NotEqual, Unordered}
+use Rattle.ieee_operations.specs.declared.predicates.Predicate.TheVariants.{Ordered, Greater, GreaterEqual}
+use Rattle.ieee_operations.specs.declared.predicates.Predicate.TheVariants.{NotGreater}
+use Rattle.ieee_operations.specs.declared.predicates.Predicate.TheVariants.{Less, LessEqual, NotLess}
+use Rattle.ieee_operations.specs.declared.predicates.Predicate.TheVariants.{LessUnordered, GreaterUnordered}
+use Rattle.ieee_operations.specs.Comparisons.{IsComparison}
+use Rattle.ieee_operations.specs.Exponents.{IsLogB}
+use Rattle.ieee_operations.specs.Extrema.{IsExtremum, IsExtremumNumber}
+use Rattle.ieee_operations.specs.TotalOrder.{total_cmp}
+use Rattle.ieee_operations.specs.WholeNumbers.{IsRoundedToIntegral}
+use Rattle.formats_at_run_time.specs.declared.FlaggedFormat.{FlaggedFormat}
+use Rattle.formats_at_run_time.specs.declared.FlaggedKind.{FlaggedKind}
+use Rattle.formats_at_run_time.specs.declared.FlaggedKind.TheVariants.{OfFormat, Pairs}
+use Rattle.formats_at_run_time.specs.BuiltIns.{constants_in}
+use Rattle.formats_at_run_time.specs.FlaggedKinds.{flagged_constants, flagged_kind_of, format_without_rule}
+use Rattle.formats_at_run_time.specs.Relations.{in_format}
+use Rattle.formats_at_run_time.specs.ValueKinds.{Kind, of_format, of_pairs, value_of}
+use Rattle.coded_calls.specs.declared.data.Answer.{Answer}
+use Rattle.coded_calls.specs.declared.ieee_call.IeeeCall.{IeeeCall}
+use Rattle.coded_calls.specs.declared.ieee_call.IeeeCall.TheVariants.{Predicated, TotalOrder, ExtremumOf}
+use Rattle.coded_calls.specs.declared.ieee_call.IeeeCall.TheVariants.{LogB, ScaleB, Integral}
+use Rattle.coded_calls.specs.declared.ieee_call.InAnotherCall.{InAnotherCall}
+use Rattle.coded_calls.specs.declared.ieee_call.InAnotherCall.TheVariants.{SumTo, DifferenceTo, ProductTo}
+use Rattle.coded_calls.specs.declared.ieee_call.InAnotherCall.TheVariants.{QuotientTo, FusedSumTo, RootTo}
+use Rattle.coded_calls.specs.Answers.{IsNumberAlone, IsValue, one_if, order_code, whole}
+use Rattle.coded_calls.specs.KnownCalls.{answered, unknown_format, unknown_mode, no_such_operation}
+
+-- ---- codes
+
+abbrev pub predicate_coded : ℕ → Option Predicate
+predicate_coded code =
+    if code == 0 then Some Equal
+    else if code == 1 then Some NotEqual
+    else if code == 2 then Some Greater
+    else if code == 3 then Some GreaterEqual
+    else if code == 4 then Some Less
+    else if code == 5 then Some LessEqual
+    else if code == 6 then Some NotGreater
+    else if code == 7 then Some LessUnordered
+    else if code == 8 then Some NotLess
+    else if code == 9 then Some GreaterUnordered
+    else if code == 10 then Some Unordered
+    else if code == 11 then Some Ordered
+    else None
+
+abbrev pub on_nan_coded : ℕ → Option OnNan
+on_nan_coded code = if code == 0 then Some Quiet else if code == 1 then Some Signaling else None
+
+abbrev pub extremum_coded : ℕ → Option Extremum
+extremum_coded code =
+    if code == 0 then Some Minimum
+    else if code == 1 then Some Maximum
+    else if code == 2 then Some MinimumMagnitude
+    else if code == 3 then Some MaximumMagnitude
+    else None
+
+abbrev pub comparison_call : Option Predicate → Option OnNan → ℕ → ℕ → Option IeeeCall
+comparison_call None on_nan x y = None
+comparison_call (Some predicate) None x y = None
+comparison_call (Some predicate) (Some on_nan) x y = Some (Predicated predicate on_nan x y)
+
+abbrev pub extremum_call : Option Extremum → Bool → ℕ → ℕ → Option IeeeCall
+extremum_call None prefers_number x y = None
+extremum_call (Some which) prefers_number x y = Some (ExtremumOf which prefers_number x y)
+
+abbrev pub operation_coded : ℕ → ℕ → ℕ → ℕ → Option InAnotherCall
+operation_coded code x y z =
+    if code == 0 then Some (SumTo x y)
+    else if code == 1 then Some (DifferenceTo x y)
+    else if code == 2 then Some (ProductTo x y)
+    else if code == 3 then Some (QuotientTo x y)
+    else if code == 4 then Some (FusedSumTo x y z)
+    else if code == 5 then Some (RootTo x)
+    else None
+
+-- ---- results in a format
+
+-- a truth value as a number, with its flags
+pub record IsTruth (Holds : StatusAnd Bool → Type 0) (answer : Answer) : Type 0 where
+  pub given : StatusAnd Bool
+  pub holds : Holds given
+  pub bits_are : whole answer.bits ≡ 0
+  pub status_is : answer.status ≡ bits_of given.status
+  pub number_is : answer.number ≡ one_if given.value
+
+-- a minimum or a maximum; of a NaN and a number the number, if that is preferred
+abbrev pub IsExtremumBy : Bool → Constants → Extremum → Datum → Datum → StatusAnd Datum → Type 0
+IsExtremumBy true c which x y given = Gives (IsExtremumNumber (format_with c) which x y) given
+IsExtremumBy false c which x y given = Gives (IsExtremum (format_with c) which x y) given
+
+abbrev pub IsIeeeAnswer : Constants → Round → IeeeCall → Answer → Type 0
+IsIeeeAnswer c mode (Predicated predicate on_nan x y) answer =
+    IsTruth
+    (λ given. Gives (IsComparison (format_with c) predicate on_nan (value_of c x) (value_of c y)) given) answer
+IsIeeeAnswer c mode (TotalOrder x y) answer =
+    IsNumberAlone (λ n. n ≡ order_code (Some (total_cmp (format_with c) (value_of c x) (value_of c y)))) answer
+IsIeeeAnswer c mode (ExtremumOf which prefers_number x y) answer =
+    IsValue (in_format c) (IsExtremumBy prefers_number c which (value_of c x) (value_of c y)) answer
+IsIeeeAnswer c mode (LogB x) answer =
+    IsValue (in_format c) (λ given. Gives (IsLogB (format_with c) mode (value_of c x)) given) answer
+IsIeeeAnswer c mode (ScaleB x power) answer =
+    IsValue (in_format c) (λ given. Gives (IsScaled (format_with c) mode (value_of c x) power) given) answer
+IsIeeeAnswer c mode (Integral x) answer =
+    IsValue (in_format c) (λ given. Gives (IsRoundedToIntegral (format_with c) mode (value_of c x)) given) answer
+
+-- ---- replies
+
+-- in values of a known kind: the code 0 and the result, or the code of the first error and the previous contents
+abbrev pub IsIeeeReplyIn : Kind → Option Round → Option IeeeCall → Answer → Answer → ℕ → Type 0
+IsIeeeReplyIn kind None call old new code = (code ≡ unknown_mode) × (new ≡ old)
+IsIeeeReplyIn of_pairs (Some mode) call old new code = (code ≡ no_such_operation) × (new ≡ old)
+IsIeeeReplyIn (of_format c) (Some mode) None old new code = (code ≡ no_such_operation) × (new ≡ old)
+IsIeeeReplyIn (of_format c) (Some mode) (Some call) old new code =
+    (code ≡ answered) × IsIeeeAnswer c mode call new
+
+abbrev pub IsIeeeReply : Option FlaggedKind → Option Round → Option IeeeCall → Answer → Answer → ℕ → Type 0
+IsIeeeReply None mode call old new code = (code ≡ unknown_format) × (new ≡ old)
+IsIeeeReply (Some kind) mode call old new code = IsIeeeReplyIn (flagged_kind_of kind) mode call old new code
+
+-- ---- results in another format
+
+-- the result in d of a call on values of c
+abbrev pub IsInAnotherFormat : Constants → Constants → Round → InAnotherCall → Answer → Type 0
+IsInAnotherFormat c d mode (SumTo x y) answer =
+    let f = format_with c in
+    IsValue (in_format d) (λ given. Gives (IsSumTo f f (format_with d) mode (value_of c x) (value_of c y)) given)
+    answer
+IsInAnotherFormat c d mode (DifferenceTo x y) answer =
+    let f = format_with c in
+    IsValue (in_format d)
+    (λ given. Gives (IsDifferenceTo f f (format_with d) mode (value_of c x) (value_of c y)) given) answer
+IsInAnotherFormat c d mode (ProductTo x y) answer =
+    let f = format_with c in
+    IsValue (in_format d) (λ given. Gives (IsProductTo f f (format_with d) mode (value_of c x) (value_of c y)) given)
+    answer
+IsInAnotherFormat c d mode (QuotientTo x y) answer =
+    let f = format_with c in
+    IsValue (in_format d)
+    (λ given. Gives (IsQuotientTo f f (format_with d) mode (value_of c x) (value_of c y)) given) answer
+IsInAnotherFormat c d mode (FusedSumTo x y z) answer =
+    let f = format_with c in
+    IsValue (in_format d)
+    (λ given. Gives (IsFusedSumTo f f f (format_with d) mode (value_of c x) (value_of c y) (value_of c z)) given)
+    answer
+IsInAnotherFormat c d mode (RootTo x) answer =
+    IsValue (in_format d) (λ given. Gives (IsRootTo (format_with c) (format_with d) mode (value_of c x)) given)
+    answer
+
+abbrev pub IsInAnother : Constants → Kind → Round → InAnotherCall → Answer → Type 0
+IsInAnother c of_pairs mode call answer = ⊥
+IsInAnother c (of_format d) mode call answer = IsInAnotherFormat c d mode call answer
+
+abbrev pub IsInAnotherKind : Kind → FlaggedFormat → Round → InAnotherCall → Answer → Type 0
+IsInAnotherKind of_pairs target mode call answer = ⊥
+IsInAnotherKind (of_format c) target mode call answer =
+    IsInAnotherFormat c (flagged_constants target) mode call answer
+
+-- The faults in their order: both formats, the mode, the operation. Operands are read in the format without its rule of
+-- flags.
+abbrev pub IsInAnotherReply : Option FlaggedKind → Option FlaggedKind → Option Round → Option InAnotherCall → Answer
+    → Answer → ℕ → Type 0
+IsInAnotherReply None target mode call old new code = (code ≡ unknown_format) × (new ≡ old)
+IsInAnotherReply (Some kind) None mode call old new code = (code ≡ unknown_format) × (new ≡ old)
+IsInAnotherReply (Some kind) (Some target) None call old new code = (code ≡ unknown_mode) × (new ≡ old)
+IsInAnotherReply (Some kind) (Some target) (Some mode) None old new code = (code ≡ no_such_operation) × (new ≡ old)
+IsInAnotherReply (Some Pairs) (Some target) (Some mode) (Some call) old new code =
+    (code ≡ no_such_operation) × (new ≡ old)
+IsInAnotherReply (Some (OfFormat format)) (Some Pairs) (Some mode) (Some call) old new code =
+    (code ≡ no_such_operation) × (new ≡ old)
+IsInAnotherReply (Some (OfFormat format)) (Some (OfFormat target)) (Some mode) (Some call) old new code =
+    (code ≡ answered)
+    × IsInAnotherFormat (constants_in (format_without_rule format)) (flagged_constants target) mode call new

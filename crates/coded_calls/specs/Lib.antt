@@ -1,0 +1,5 @@
+pub mod KnownCalls
+pub mod Answers
+pub mod FlaglessCalls
+pub mod IeeeCalls
+pub mod MachineCalls

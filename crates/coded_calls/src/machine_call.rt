@@ -1,0 +1,318 @@
+//! The operations of machines, by which the contract of their export names them, and the codes of machines, operations
+//! and rules of minima.
+
+ghost use Rattle.std.specs.Prelude.{◌≡◌, ℕ, IfSome, Some, Ok};
+ghost use Rattle.formats_at_run_time.specs.FlaggedKinds.{flagged_constants, flagged_kind_coded};
+ghost use Rattle.formats_at_run_time.specs.Modes.{mode_coded};
+ghost use Rattle.formats_at_run_time.specs.ValueKinds.{of_format};
+ghost use Rattle.coded_calls.specs.Answers.{whole};
+ghost use Rattle.coded_calls.specs.declared.machine_call.MachineCall.TheVariants.{Operation};
+ghost use Rattle.coded_calls.specs.declared.machine_call.MachineOperation.TheVariants.{OfTwo};
+ghost use Rattle.coded_calls.specs.MachineCalls.{conversion_call, format_on, greatest_by, is_tiny_before, least_by};
+ghost use Rattle.coded_calls.specs.MachineCalls.{machine_call, machine_coded, machine_format, machine_operation};
+ghost use Rattle.coded_calls.specs.MachineCalls.{of_one, operation_call, rule_coded};
+
+use crate::codes::{NO_SUCH_OPERATION, UNKNOWN_FORMAT};
+use apfloat_machines::{Machine, MinimumRule};
+use formats_at_run_time::{
+    Arithmetic, BuiltInKind, FillsInFormat, FlaggedFormat, FlaggedKind, IeeeFormat, mode_coded,
+};
+use rustc_apfloat::Round;
+
+/// The code of conversions to another format.
+const CONVERSION: u32 = 11;
+
+/// What a machine is asked for on values of a format; they are given by their bits.
+#[derive(Clone, Copy)]
+pub enum MachineCall {
+    /// An operation whose result is an integer, or of the same format.
+    Operation(MachineOperation),
+    /// A value in another format.
+    Conversion(u128, MachineFormat),
+}
+
+/// An operation of a machine on values of a format, whose result is an integer, or of the same format.
+#[derive(Clone, Copy)]
+pub enum MachineOperation {
+    /// An operation on two values.
+    OfTwo(Arithmetic, u128, u128),
+    /// The product of the first two values plus the third, rounded once.
+    FusedSum(u128, u128, u128),
+    /// The square root of a value.
+    SquareRoot(u128),
+    /// A value rounded to an integral value, with INEXACT (5.9, roundToIntegralExact).
+    IntegralExact(u128),
+    /// A value rounded to an integral value, without INEXACT (5.9).
+    Integral(u128),
+    /// A value as an integer of that many binary digits.
+    ToUnsigned(u128, u32),
+    /// A value as an integer of that many binary digits, in two's complement.
+    ToSigned(u128, u32),
+    /// The lesser of two values, by a rule.
+    Least(MinimumRule, u128, u128),
+    /// The greater of two values, by a rule.
+    Greatest(MinimumRule, u128, u128),
+}
+
+/// An operation on one value, without the value.
+#[derive(Clone, Copy)]
+pub enum OneOperation {
+    /// The square root.
+    SquareRoot,
+    /// Rounded to an integral value, with INEXACT.
+    IntegralExact,
+    /// Rounded to an integral value, without INEXACT.
+    Integral,
+    /// As an integer.
+    ToUnsigned,
+    /// As an integer in two's complement.
+    ToSigned,
+}
+
+/// A format with a choice of flags, as its code names it.
+#[derive(Clone, Copy)]
+pub struct MachineFormat {
+    /// The format.
+    pub format: IeeeFormat,
+    /// Whether a result is tiny by its exact magnitude, if the code has a rule of flags; otherwise the machine decides.
+    pub tiny_before: Option<bool>,
+}
+
+impl MachineFormat {
+    /// The format of this kind, if it has a choice of flags.
+    #[inline(always)]
+    pub fn of(kind: FlaggedKind) -> Option<MachineFormat>
+        ensures { result ≡ machine_format kind }
+    {
+        match kind {
+            FlaggedKind::Pairs => None,
+            FlaggedKind::OfFormat(FlaggedFormat::BuiltIn(format)) => {
+                match IeeeFormat::of(BuiltInKind::OfFormat(format)) {
+                    None => None,
+                    Some(format) => Some(MachineFormat {
+                        format,
+                        tiny_before: None,
+                    }),
+                }
+            }
+            FlaggedKind::OfFormat(FlaggedFormat::AfterRounding(format)) => Some(MachineFormat {
+                format,
+                tiny_before: Some(false),
+            }),
+            FlaggedKind::OfFormat(FlaggedFormat::BeforeRounding(format)) => Some(MachineFormat {
+                format,
+                tiny_before: Some(true),
+            }),
+        }
+    }
+
+    /// Makes a call that fills a lent place, in the format with its rule of flags on a machine.
+    #[inline(always)]
+    pub fn fill<C: FillsInFormat>(
+        self,
+        machine: Machine,
+        call: C,
+        place: &mut C::Place,
+    ) -> C::Output
+        ensures { C.gives call (of_format (flagged_constants (format_on machine self)))
+            place.old place.new result }
+    {
+        self.on(machine).fill(call, place)
+    }
+
+    /// The format with its rule of flags on a machine.
+    #[inline(always)]
+    fn on(self, machine: Machine) -> FlaggedFormat
+        ensures { result ≡ format_on machine self }
+    {
+        if self.is_tiny_before(machine) {
+            FlaggedFormat::BeforeRounding(self.format)
+        } else {
+            FlaggedFormat::AfterRounding(self.format)
+        }
+    }
+
+    /// Whether a result is tiny by its exact magnitude on a machine.
+    #[inline(always)]
+    fn is_tiny_before(self, machine: Machine) -> bool
+        ensures { result ≡ is_tiny_before machine self.tiny_before }
+    {
+        match self.tiny_before {
+            None => machine.tiny_before_rounding(),
+            Some(tiny_before) => tiny_before,
+        }
+    }
+}
+
+/// The machine of this code, if there is one.
+#[inline(always)]
+pub fn machine_coded(code: u32) -> Option<Machine>
+    ensures { result ≡ machine_coded code }
+{
+    match code {
+        1 => Some(Machine::X86),
+        2 => Some(Machine::X87),
+        3 => Some(Machine::Arm),
+        4 => Some(Machine::ArmDefaultNan),
+        5 => Some(Machine::ArmAlternate),
+        6 => Some(Machine::RiscV),
+        7 => Some(Machine::Power),
+        8 => Some(Machine::S390x),
+        _ => None,
+    }
+}
+
+/// The rule of minima of this code, if there is one.
+#[inline(always)]
+pub fn rule_coded(code: u32) -> Option<MinimumRule>
+    ensures { result ≡ rule_coded code }
+{
+    match code {
+        1 => Some(MinimumRule::Second),
+        2 => Some(MinimumRule::SecondQuietly),
+        3 => Some(MinimumRule::FirstNan),
+        4 => Some(MinimumRule::Number2008),
+        5 => Some(MinimumRule::Number2019),
+        6 => Some(MinimumRule::Propagated),
+        _ => None,
+    }
+}
+
+/// What this code asks for, on as many of the values as it takes, or the error: `to` is the code of the format of a
+/// conversion, the binary digits of an integer, or the code of a rule of minima.
+#[inline(always)]
+pub fn machine_call(code: u32, to: u32, x: u128, y: u128, z: u128) -> Result<MachineCall, u32>
+    ensures { result ≡ machine_call code to x y z }
+{
+    if code == CONVERSION {
+        conversion_call(FlaggedKind::coded(to), x)
+    } else {
+        operation_call(machine_operation(code, to, x, y, z))
+    }
+}
+
+/// The call that makes an operation, if it is known.
+#[inline(always)]
+fn operation_call(operation: Option<MachineOperation>) -> Result<MachineCall, u32>
+    ensures { result ≡ operation_call operation }
+{
+    match operation {
+        None => Err(NO_SUCH_OPERATION),
+        Some(operation) => Ok(MachineCall::Operation(operation)),
+    }
+}
+
+/// The operation of this code, if there is one.
+#[inline(always)]
+fn machine_operation(code: u32, to: u32, x: u128, y: u128, z: u128) -> Option<MachineOperation>
+    ensures { result ≡ machine_operation code to x y z }
+{
+    match code {
+        1 => Some(MachineOperation::OfTwo(Arithmetic::Sum, x, y)),
+        2 => Some(MachineOperation::OfTwo(Arithmetic::Difference, x, y)),
+        3 => Some(MachineOperation::OfTwo(Arithmetic::Product, x, y)),
+        4 => Some(MachineOperation::OfTwo(Arithmetic::Quotient, x, y)),
+        5 => Some(MachineOperation::OfTwo(Arithmetic::NearestRemainder, x, y)),
+        6 => Some(MachineOperation::OfTwo(Arithmetic::TruncatedRemainder, x, y)),
+        7 => Some(MachineOperation::FusedSum(x, y, z)),
+        8 => Some(MachineOperation::SquareRoot(x)),
+        9 => Some(MachineOperation::IntegralExact(x)),
+        10 => Some(MachineOperation::Integral(x)),
+        12 => Some(MachineOperation::ToUnsigned(x, to)),
+        13 => Some(MachineOperation::ToSigned(x, to)),
+        14 => least_by(rule_coded(to), x, y),
+        15 => greatest_by(rule_coded(to), x, y),
+        _ => None,
+    }
+}
+
+/// The code of an operation on one value.
+#[inline(always)]
+pub fn one_code(operation: OneOperation) -> u32
+    ensures { (to x y z : ℕ) → machine_call result to x y z
+        ≡ Ok (Operation (of_one operation to x)) }
+{
+    match operation {
+        OneOperation::SquareRoot => 8,
+        OneOperation::IntegralExact => 9,
+        OneOperation::Integral => 10,
+        OneOperation::ToUnsigned => 12,
+        OneOperation::ToSigned => 13,
+    }
+}
+
+/// The code of an operation on two values.
+#[inline(always)]
+pub fn two_code(arithmetic: Arithmetic) -> u32
+    ensures { (to x y z : ℕ) → machine_call result to x y z
+        ≡ Ok (Operation (OfTwo arithmetic x y)) }
+{
+    match arithmetic {
+        Arithmetic::Sum => 1,
+        Arithmetic::Difference => 2,
+        Arithmetic::Product => 3,
+        Arithmetic::Quotient => 4,
+        Arithmetic::NearestRemainder => 5,
+        Arithmetic::TruncatedRemainder => 6,
+    }
+}
+
+/// The lesser of two values by a rule, if it is known.
+#[inline(always)]
+fn least_by(rule: Option<MinimumRule>, x: u128, y: u128) -> Option<MachineOperation>
+    ensures { result ≡ least_by rule x y }
+{
+    match rule {
+        None => None,
+        Some(rule) => Some(MachineOperation::Least(rule, x, y)),
+    }
+}
+
+/// The greater of two values by a rule, if it is known.
+#[inline(always)]
+fn greatest_by(rule: Option<MinimumRule>, x: u128, y: u128) -> Option<MachineOperation>
+    ensures { result ≡ greatest_by rule x y }
+{
+    match rule {
+        None => None,
+        Some(rule) => Some(MachineOperation::Greatest(rule, x, y)),
+    }
+}
+
+/// The conversion of a value to a kind, which may be unknown.
+#[inline(always)]
+fn conversion_call(target: Option<FlaggedKind>, x: u128) -> Result<MachineCall, u32>
+    ensures { result ≡ conversion_call target x }
+{
+    let Some(target) = target else {
+        return Err(UNKNOWN_FORMAT);
+    };
+    match MachineFormat::of(target) {
+        None => Err(NO_SUCH_OPERATION),
+        Some(target) => Ok(MachineCall::Conversion(x, target)),
+    }
+}
+
+/// On what machine, and in which rounding mode, an operation is asked for.
+#[derive(Clone, Copy)]
+pub struct Setting {
+    /// The machine.
+    pub machine: Machine,
+    /// The rounding mode.
+    pub round: Round,
+}
+
+/// The setting of these codes, if both are known.
+#[inline(always)]
+pub fn known_setting(machine: u32, mode: u32) -> Option<Setting>
+    ensures machine { IfSome result (λ known. machine_coded machine ≡ Some known.machine) }
+    ensures mode { IfSome result (λ known. mode_coded mode ≡ Some known.round) }
+{
+    let Some(machine) = machine_coded(machine) else {
+        return None;
+    };
+    let Some(round) = mode_coded(mode) else {
+        return None;
+    };
+    Some(Setting { machine, round })
+}
