@@ -424,8 +424,8 @@ uint32_t apfloat_convert_array(uint32_t format, uint32_t mode, uint32_t to, cons
 
 /* The same with memory lent to the call: with at least APFLOAT_TABLE_BYTES of it, at least 2^17 values of 16 bits are
  * converted to a format of at most 32 by computing the results for all values once, there, and taking each value's
- * result from these. Without, or for other arrays, it is apfloat_convert_array. What the memory contains afterwards is
- * not said. */
+ * result from these. Without, or for other arrays, it is apfloat_convert_array. What the memory contains after an
+ * answer is not said; an error leaves it unchanged. */
 #define APFLOAT_TABLE_BYTES ((size_t)1 << 19)
 uint32_t apfloat_convert_array_by_table(uint32_t format, uint32_t mode, uint32_t to, const uint8_t *values,
                                         size_t values_length, uint8_t *results, size_t results_length,
@@ -450,8 +450,8 @@ uint32_t apfloat_map_array(uint32_t format, uint32_t mode, uint32_t operation, c
 
 /* The same with memory lent to the call: with at least APFLOAT_TABLE_BYTES of it, an operation on two arrays of at
  * least 2^17 values of 8 bits computes its results for all pairs of values once, there, and takes each element's
- * result from these. Without, or for other arrays, it is apfloat_map_array. What the memory contains afterwards is not
- * said. */
+ * result from these. Without, or for other arrays, it is apfloat_map_array. What the memory contains after an answer is
+ * not said; an error leaves it unchanged. */
 uint32_t apfloat_map_array_by_table(uint32_t format, uint32_t mode, uint32_t operation, const uint8_t *xs,
                                     size_t xs_length, const uint8_t *ys, size_t ys_length, const uint8_t *zs,
                                     size_t zs_length, uint8_t *results, size_t results_length, uint8_t *table,
