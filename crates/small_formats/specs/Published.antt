@@ -36,7 +36,7 @@ pub record IsPublishedElement (e : PublishedElement) (c : StorageConstants) : Ty
 
 -- ---- formats of IEEE P3109
 
--- The smallest positive number is 2 ^ -scale. The numbers and the NaN are described by their codes.
+-- The smallest positive number is 2 ^ -scale. Of the largest one and of the NaN the codes are given too.
 pub record PublishedProjection : Type 0 where
   pub bits : ℕ
   pub precision : ℕ
@@ -48,7 +48,7 @@ pub record PublishedProjection : Type 0 where
   pub largest_code : ℕ
   pub nan_code : ℕ
 
--- 8 bits with a sign and infinities: +infinity has the code after that of the largest number
+-- of 8 bits, with a sign and infinities
 abbrev binary8 : ℕ → ℕ → ℕ → ℕ → PublishedProjection
 binary8 precision bias scale largest =
     record {
