@@ -257,10 +257,10 @@ typedef struct apfloat_text {
 } apfloat_text;
 
 /* The text of the shortest decimal that gives x when it is rounded to nearest, ties to even: of those with as few
- * digits, the nearest to x, and of two as near, the even one. It is written as in 12.5, 0.000001, 1e-7 and 1.5e21: with
- * an exponent unless that of the first digit is from -6 to 20, and otherwise with at least one digit on each side of
- * the dot. A zero is 0.0 or -0.0, an infinity inf or -inf, and every NaN nan. APFLOAT_DOUBLE_PAIR does not have it. On
- * an error, *text is unchanged; the rules for `answer` hold for `text` too. */
+ * digits, the nearest to x, and of two equally near ones the even one. It is written as in 12.5, 0.000001, 1e-7 and
+ * 1.5e21: with an exponent unless that of the first digit is from -6 to 20, and otherwise with at least one digit on
+ * each side of the dot. A zero is 0.0 or -0.0, an infinity inf or -inf, and every NaN nan. APFLOAT_DOUBLE_PAIR does not
+ * have it. On an error, *text is unchanged; the rules for `answer` hold for `text` too. */
 uint32_t apfloat_shortest(uint32_t format, apfloat_halves x, apfloat_text *text);
 
 /* A text for what a function returned, such as "unknown format"; APFLOAT_ANSWERED has one too. For a number that is no
@@ -424,8 +424,8 @@ uint32_t apfloat_convert_array(uint32_t format, uint32_t mode, uint32_t to, cons
 
 /* The same with memory lent to the call: with at least APFLOAT_TABLE_BYTES of it, at least 2^17 values of 16 bits are
  * converted to a format of at most 32 by computing the results for all values once, there, and taking each value's
- * result from these. Without, or for other arrays, it is apfloat_convert_array. What the memory contains afterwards is
- * not said. */
+ * result from these. Without, or for other arrays, it is apfloat_convert_array. What the memory contains after an
+ * answer is not said; an error leaves it unchanged. */
 #define APFLOAT_TABLE_BYTES ((size_t)1 << 19)
 uint32_t apfloat_convert_array_by_table(uint32_t format, uint32_t mode, uint32_t to, const uint8_t *values,
                                         size_t values_length, uint8_t *results, size_t results_length,
@@ -450,8 +450,8 @@ uint32_t apfloat_map_array(uint32_t format, uint32_t mode, uint32_t operation, c
 
 /* The same with memory lent to the call: with at least APFLOAT_TABLE_BYTES of it, an operation on two arrays of at
  * least 2^17 values of 8 bits computes its results for all pairs of values once, there, and takes each element's
- * result from these. Without, or for other arrays, it is apfloat_map_array. What the memory contains afterwards is not
- * said. */
+ * result from these. Without, or for other arrays, it is apfloat_map_array. What the memory contains after an answer is
+ * not said; an error leaves it unchanged. */
 uint32_t apfloat_map_array_by_table(uint32_t format, uint32_t mode, uint32_t operation, const uint8_t *xs,
                                     size_t xs_length, const uint8_t *ys, size_t ys_length, const uint8_t *zs,
                                     size_t zs_length, uint8_t *results, size_t results_length, uint8_t *table,

@@ -1,6 +1,6 @@
 //! The exports that convert arrays, declared for C programs in `include/apfloat.h`.
 
-ghost use Rattle.std.specs.Prelude.{length};
+ghost use Rattle.std.specs.Prelude.{◌≡◌, ◌≢◌, length};
 ghost use Rattle.apfloat_c.specs.ArrayCalls.{array_format_coded, conversion_mode_coded, known_array_conversion};
 ghost use Rattle.apfloat_c.specs.Arrays.{IsConvertedArray};
 
@@ -37,7 +37,8 @@ pub extern "C" fn apfloat_convert_array(
 }
 
 /// The same with memory lent for a table of all results, by which a long array of values of 16 bits is converted to a
-/// format of at most 32 if there are 2^19 bytes. What the memory contains afterwards is not said.
+/// format of at most 32 if there are 2^19 bytes. What the memory contains after an answer is not said; an error leaves
+/// it as it was.
 #[unsafe(no_mangle)]
 pub extern "C" fn apfloat_convert_array_by_table(
     format: u32,
@@ -48,10 +49,11 @@ pub extern "C" fn apfloat_convert_array_by_table(
     table: &mut [u8],
     answer: &mut ArrayAnswer,
 ) -> u32
-    ensures { let known = known_array_conversion (array_format_coded format)
+    ensures written { let known = known_array_conversion (array_format_coded format)
         (conversion_mode_coded mode) (array_format_coded to) (length values.now)
         (length results.old) in
         IsConvertedArray known values.now results.old results.new answer.old answer.new result }
+    ensures lent { result ≢ 0 → table.new ≡ table.old }
 {
     convert_array(
         array_format_coded(format),
@@ -74,9 +76,10 @@ fn convert_array(
     table: &mut [u8],
     answer: &mut ArrayAnswer,
 ) -> u32
-    ensures { let known = known_array_conversion source mode target (length values.now)
+    ensures written { let known = known_array_conversion source mode target (length values.now)
         (length results.old) in
         IsConvertedArray known values.now results.old results.new answer.old answer.new result }
+    ensures lent { result ≢ 0 → table.new ≡ table.old }
 {
     let known = known_array_conversion(source, mode, target, values.len(), results.len());
     match known {

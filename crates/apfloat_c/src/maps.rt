@@ -1,6 +1,6 @@
 //! The exports that apply operations to arrays, declared for C programs in `include/apfloat.h`.
 
-ghost use Rattle.std.specs.Prelude.{ℕ, length};
+ghost use Rattle.std.specs.Prelude.{◌≡◌, ◌≢◌, ℕ, length};
 ghost use Rattle.formats_at_run_time.specs.FlaggedKinds.{flagged_kind_coded};
 ghost use Rattle.formats_at_run_time.specs.Modes.{mode_coded};
 ghost use Rattle.apfloat_c.specs.ArrayCalls.{known_map, operation_coded};
@@ -42,9 +42,9 @@ pub extern "C" fn apfloat_map_array(
     )
 }
 
-/// The same with memory lent for a table of all results, which a long array of sums, differences, products, quotients
-/// or
-/// remainders of values of 8 bits is made by if there are 2^19 bytes. What the memory contains afterwards is not said.
+/// The same with memory lent for a table of all results, by which a long array of sums, differences, products,
+/// quotients or remainders of values of 8 bits is made if there are 2^19 bytes. What the memory contains after an
+/// answer is not said; an error leaves it as it was.
 #[unsafe(no_mangle)]
 pub extern "C" fn apfloat_map_array_by_table(
     format: u32,
@@ -57,11 +57,12 @@ pub extern "C" fn apfloat_map_array_by_table(
     table: &mut [u8],
     answer: &mut ArrayAnswer,
 ) -> u32
-    ensures { let lengths : ℕ × ℕ × ℕ = (length xs.now, length ys.now, length zs.now) in
+    ensures written { let lengths : ℕ × ℕ × ℕ = (length xs.now, length ys.now, length zs.now) in
         let known = known_map (flagged_kind_coded format) (mode_coded mode)
         (operation_coded operation) lengths (length results.old) in
         IsMappedArray known xs.now ys.now zs.now results.old results.new answer.old answer.new
         result }
+    ensures lent { result ≢ 0 → table.new ≡ table.old }
 {
     mapped(format, mode, operation, xs, ys, zs, results, table, answer)
 }
@@ -78,11 +79,12 @@ fn mapped(
     table: &mut [u8],
     answer: &mut ArrayAnswer,
 ) -> u32
-    ensures { let lengths : ℕ × ℕ × ℕ = (length xs.now, length ys.now, length zs.now) in
+    ensures written { let lengths : ℕ × ℕ × ℕ = (length xs.now, length ys.now, length zs.now) in
         let known = known_map (flagged_kind_coded format) (mode_coded mode)
         (operation_coded operation) lengths (length results.old) in
         IsMappedArray known xs.now ys.now zs.now results.old results.new answer.old answer.new
         result }
+    ensures lent { result ≢ 0 → table.new ≡ table.old }
 {
     let known = known_map(
         FlaggedKind::coded(format),

@@ -40,7 +40,10 @@ impl BlockForm {
     }
 
     /// The form of blocks with 32 elements, as in OCP Microscaling Formats 1.0.
-    pub fn standard(element: ElementFormat) -> BlockForm {
+    pub fn standard(element: ElementFormat) -> BlockForm
+        ensures element { result.element ≡ element }
+        ensures length { result.length ≡ 32 }
+    {
         BlockForm {
             element,
             length: BLOCK,

@@ -40,8 +40,8 @@ convert_with-counts-requires c =
           c.widths-widths.ensures.is;
     }
 
-pub returns-in-Ok : goal.returns-in-Ok
-returns-in-Ok c =
+pub returns-in-Ok-clause-written : goal.returns-in-Ok-clause-written
+returns-in-Ok-clause-written c =
     let room = conversion_room c.args.source c.args.mode c.args.target (length c.args.values.now)
     (length c.args.results.now) c.in-Ok.conversion c.widths-widths.result c.widths-widths.ensures.is
     (sym c.known_array_conversion-known.ensures ∙ c.in-Ok.is) in

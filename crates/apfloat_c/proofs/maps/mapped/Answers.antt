@@ -55,8 +55,8 @@ over_with-counted-requires c =
           ∙ ap (λ (w : ℕ). length c.args.xs.now / c.bytes_in-width.result * w) c.bytes_in-width.ensures.is;
     }
 
-pub returns-in-Ok : goal.returns-in-Ok
-returns-in-Ok c =
+pub returns-in-Ok-clause-written : goal.returns-in-Ok-clause-written
+returns-in-Ok-clause-written c =
     let room = map_room c.coded.result c.mode_coded.result (length c.args.xs.now) (length c.args.ys.now)
     (length c.args.zs.now) (length c.args.results.now) c.in-Ok.map c.bytes_in-width.result c.bytes_in-width.ensures.is
     (map_is_known c.coded.result c.mode_coded.result c.operation_coded.result (length c.args.xs.now)
