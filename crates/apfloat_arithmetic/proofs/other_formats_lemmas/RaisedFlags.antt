@@ -12,6 +12,7 @@ raise_together g =
       difference = λ f h mode x y. yields_together g mode _ (sum_sound g (seen f g x) (opposite (seen h g y)));
       product = λ f h mode x y. yields_together g mode _ (product_sound g (seen f g x) (seen h g y));
       quotient = λ f h mode x y. yields_together g mode _ (quotient_sound g (seen f g x) (seen h g y));
-      fused_sum = λ f h k mode x y z. yields_together g mode _ (fused_sum_sound g (seen f g x) (seen h g y) (seen k g z));
+      fused_sum = λ f h k mode x y z.
+          yields_together g mode _ (fused_sum_sound g (seen f g x) (seen h g y) (seen k g z));
       root = λ f mode x. yields_together g mode _ (root_sound g (seen f g x));
     }
