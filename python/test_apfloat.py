@@ -924,7 +924,11 @@ class ArrayTests(unittest.TestCase):
         with self.assertRaises(TypeError):
             apfloat.half.from_bits(1.5)
         with self.assertRaises(ValueError):
-            apfloat.half.array(b'abc')
+            apfloat.half.from_bits(b'abc')
+        for codes in b'ab', bytearray(b'ab'), memoryview(b'ab'):
+            for format in apfloat.half, apfloat.e4m3fn, apfloat.float4_e2m1fn:
+                with self.assertRaisesRegex(TypeError, 'from_bits'):
+                    format.array(codes)
         with self.assertRaises(TypeError):
             apfloat.half.array([None])
         with self.assertRaises(TypeError):
@@ -1316,11 +1320,16 @@ class NumpyTests(unittest.TestCase):
         self.assertEqual(integers(numpy.float32(1) - xs), [0, -1, -2])
         self.assertEqual(integers(numpy.array([3, 2, 1], numpy.float16) % xs), [0, 0, 1])
         self.assertEqual(integers(xs * numpy.array([[1], [2]], numpy.float16)), [[1, 2, 3], [2, 4, 6]])
-        for wrong in numpy.array([1, 2, 3], numpy.float32), numpy.array([1, 2, 3]):
-            with self.assertRaises(TypeError):
-                xs + wrong
         with self.assertRaises(TypeError):
-            apfloat.e4m3fn.array([1, 2, 3]) + numpy.array([1, 2, 3], numpy.uint8)
+            xs + numpy.array([1, 2, 3], numpy.float32)
+        # Integers are numbers, which the format has to have.
+        for dtype in 'u1', 'i1', 'u2', '>i4', 'i8', 'u8':
+            numbers = numpy.array([1, 2, 3], dtype)
+            self.assertEqual(integers(xs + numbers), [2, 4, 6])
+            self.assertEqual(integers(numbers - apfloat.e4m3fn.array([1, 1, 1])), [0, 1, 2])
+        for wrong in numpy.array([1, 2, 17], numpy.uint8), numpy.array([1, 2, 1 << 60]), numpy.array([1, 2, -449]):
+            with self.assertRaisesRegex(ValueError, '1 of 3 values are no values of e4m3fn'):
+                apfloat.e4m3fn.array([1, 2, 3]) + wrong
         with self.assertRaises(ValueError):
             xs + numpy.float32(0.1)
 
