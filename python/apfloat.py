@@ -66,6 +66,8 @@ hashes:
 
 from __future__ import annotations
 
+import array
+import collections
 import contextvars
 import ctypes
 import decimal
@@ -79,15 +81,18 @@ import os
 import re
 import struct
 import sys
-from typing import Any, Callable, Generic, Iterable, Iterator, Self, Sequence, TypeVar, Union, overload
+import types
+from typing import Any, Callable, Generic, Iterable, Iterator, Self, Sequence, TypeVar, Union, cast, overload
+
+__version__ = '0.1.0'
 
 __all__ = [
     'Array', 'Blocks', 'Context', 'DOWNWARD', 'Flags', 'Format', 'Machine', 'Mask', 'NEAREST_AWAY', 'NEAREST_EVEN',
     'Refused', 'Rounding', 'StorageFormat', 'StoredArray', 'TOWARD_ZERO', 'UPWARD', 'Value', 'bfloat', 'bfloat16',
     'context', 'double', 'double_pair', 'e4m3', 'e4m3b11fnuz', 'e4m3fn', 'e4m3fnuz', 'e5m2', 'e5m2fnuz',
     'float4_e2m1fn', 'float6_e2m3fn', 'float6_e3m2fn', 'float8_e3m4', 'float8_e4m3', 'float8_e4m3b11fnuz',
-    'float8_e4m3fn', 'float8_e4m3fnuz', 'float8_e5m2', 'float8_e5m2fnuz', 'float8_e8m0fnu', 'half', 'machine', 'mx',
-    'quad', 'single', 'tf32', 'ue4m3', 'x87',
+    'float8_e4m3fn', 'float8_e4m3fnuz', 'float8_e5m2', 'float8_e5m2fnuz', 'float8_e8m0fnu', 'finfo', 'half',
+    'machine', 'mx', 'quad', 'single', 'tf32', 'ue4m3', 'x87',
 ]
 
 
@@ -178,14 +183,21 @@ def context() -> Context:
 # ---- the shared library
 
 class _Halves(ctypes.Structure):
+    low: int
+    high: int
     _fields_ = [('low', ctypes.c_uint64), ('high', ctypes.c_uint64)]
 
 
 class _Answer(ctypes.Structure):
+    bits: _Halves
+    status: int
+    number: int
     _fields_ = [('bits', _Halves), ('status', ctypes.c_uint32), ('number', ctypes.c_int32)]
 
 
 class _Text(ctypes.Structure):
+    bytes: bytes
+    length: int
     _fields_ = [('bytes', ctypes.c_char * 64), ('length', ctypes.c_uint32)]
 
 
@@ -194,6 +206,7 @@ _COUNTED = ('values', 'inexact', 'underflow', 'overflow', 'div_by_zero', 'invali
 
 
 class _ArrayAnswer(ctypes.Structure):
+    status: int
     _fields_ = [(name, ctypes.c_uint64) for name in _COUNTED] + [
         ('status', ctypes.c_uint32), ('reserved', ctypes.c_uint32)]
 
@@ -375,31 +388,22 @@ class Format:
     def from_bits(self, bits: int) -> Value: ...
 
     @overload
-    def from_bits(self, bits: Any) -> Any: ...
+    def from_bits(self, bits: Iterable[Any]) -> Array: ...
 
     def from_bits(self, bits: Any) -> Any:
-        """The value with these bits; of nested lists or a numpy array of integers, the array with these bits.
+        """The value with these bits; of nested lists or a numpy array of integers, the array with these bits. Bytes are
+        those of the values, the lowest byte of each first.
 
-        >>> half.from_bits([[0x3c00, 0x3c01], [0, 0x7c00]])
-        half.array([['1.0', '1.001'], ['0.0', 'inf']])
+        >>> half.from_bits([[0x3c00, 0x3c01], [0, 0x7c00]]), half.from_bits(bytes([0x00, 0x3c]))
+        (half.array([['1.0', '1.001'], ['0.0', 'inf']]), half.array(['1.0']))
         """
-        if hasattr(bits, '__array_interface__'):
-            if bits.dtype.kind == 'u' and bits.dtype.itemsize == self._bytes and bits.shape:
-                self._check_width(bits)
-                return Array(self, bits.astype(f'<u{self._bytes}').tobytes(), shape=bits.shape)
-            bits = bits.tolist()
-        shape, items = _nested(bits)
-        items = [operator.index(item) for item in items]
-        if any(not 0 <= item < 1 << self.width for item in items):
-            raise ValueError(f'{self.name} has {self.width} bits')
-        if not shape:
-            return Value(self, items[0])
-        return Array(self, self._joined(items), shape=shape)
-
-    def _check_width(self, bits: Any) -> None:
-        """Refuses a numpy array of integers if one of them has a bit above those of the format."""
-        if self.width < 8 * self._bytes and (bits >> self.width).any():
-            raise ValueError(f'{self.name} has {self.width} bits')
+        if not hasattr(bits, '__iter__') or getattr(bits, 'shape', None) == ():
+            code = operator.index(bits)
+            if not 0 <= code < 1 << self.width:
+                raise ValueError(f'{self.name} has {self.width} bits')
+            return Value(self, code)
+        data, shape = _codes(self, bits)
+        return Array(self, data, shape=shape)
 
     @property
     def largest(self) -> Value:
@@ -470,7 +474,7 @@ class Format:
         return self.fromhex(_rounded_to_odd(text.strip()))
 
     def __call__(self, of: Any) -> Value:
-        """The value of a text, an integer, a float or a value, rounded once in the mode of the context.
+        """The value of a text, an integer, a float, a fraction or a value, rounded once in the mode of the context.
 
         A text is a decimal, or what `fromhex` reads.
         """
@@ -490,8 +494,10 @@ class Format:
             else:
                 return self.fromhex(hex(of) + 'p0')
         elif isinstance(of, float):
-            bits = struct.unpack('<Q', struct.pack('<d', of))[0]
+            bits = int.from_bytes(struct.pack('<d', of), 'little')
             return self(double.from_bits(bits)) if self is not double_pair else self.from_bits(bits)
+        elif isinstance(of, fractions.Fraction):
+            return self.fromhex(_odd('-' if of < 0 else '', abs(of.numerator), of.denominator))
         else:
             number = _plain_number(of)
             if number is of:
@@ -509,6 +515,8 @@ class Format:
 
     def _joined(self, values: Iterable[int]) -> bytes:
         """The bytes of values, given by their bits."""
+        if self._bytes in _WORDS:
+            return _packed(_WORDS[self._bytes], values)
         return b''.join(bits.to_bytes(self._bytes, 'little') for bits in values)
 
     def array(self, of: Any, saturate: bool | str = False) -> Array:
@@ -528,27 +536,23 @@ class Format:
         >>> e4m3fn.array([float('-inf'), float('nan')], saturate='finite')
         e4m3fn.array(['-448.0', 'nan'])
 
-        The elements of a numpy array are float16, float32, float64, a type of ml_dtypes or integers. Those that are of
-        the format are taken as they are, without counts. Integers are numbers: `from_bits` takes the bits of values. Of
-        other buffers, the bytes are those of the values:
-
-        >>> half.array(bytes([0x00, 0x3c]))
-        half.array(['1.0'])
+        The elements of a numpy array are float16, float32, float64, a type of ml_dtypes or integers, and those of an
+        `array.array` or a memoryview are numbers too. Those that are of the format are taken as they are, without
+        counts. Integers are numbers, and bytes are refused: `from_bits` takes the bits of values.
         """
-        if hasattr(of, '__array_interface__'):
-            stored = _stored_of(of.dtype)
-            of = stored.array(of) if stored else _of_numpy(of, self)
-        if isinstance(of, StoredArray):
-            return of.to(self, saturate)
-        if isinstance(of, Array):
-            return Array(self, of._data, shape=of.shape) if of.format is self else of.to(self, saturate)
-        if isinstance(of, (bytes, bytearray, memoryview)):
-            return Array(self, bytes(of))
-        shape, items = _nested(of)
-        if items and self is not double_pair and all(type(item) is float for item in items):
-            floats = Array(double, struct.pack(f'<{len(items)}d', *items), shape=shape)
-            return floats if self is double else floats.to(self, saturate)
-        return self._counted(shape, items, saturate)
+        given = _given(of, self)
+        if given is None:
+            shape, items = _nested(of)
+            kinds = set(map(type, items))
+            made = _of_items(items, kinds) if self is not double_pair else None
+            if made is None or self is double and kinds > {float}:
+                return self._counted(shape, items, saturate)
+            given = made.reshape(shape)
+            if kinds != {float}:
+                return given.to(self, saturate)
+        if isinstance(given, Array) and given.format is self and not _has_integers(of):
+            return Array(self, given._data, shape=given.shape)
+        return given.to(self, saturate)
 
     def _counted(self, shape: tuple[int, ...], items: list[Any], saturate: bool | str) -> Array:
         """The array of what the format makes of each item, with counts."""
@@ -591,6 +595,8 @@ def _count(counts: dict[str, int], flags: Flags) -> None:
 
 def _nested(of: Any) -> tuple[tuple[int, ...], list[Any]]:
     """The shape of nested sequences, and their items in order."""
+    if isinstance(of, (list, tuple, range)) and set(map(type, of)) <= _SINGLE_ITEMS:
+        return (len(of),), list(of)
     if isinstance(of, (str, Value)) or not hasattr(of, '__iter__') or getattr(of, 'shape', None) == ():
         return (), [of]
     parts = [_nested(each) for each in of]
@@ -599,6 +605,55 @@ def _nested(of: Any) -> tuple[tuple[int, ...], list[Any]]:
         raise ValueError('the rows have different lengths')
     inner = shapes.pop() if shapes else ()
     return (len(parts), *inner), [item for _, items in parts for item in items]
+
+
+def _packed(code: str, numbers: Iterable[Any]) -> bytes:
+    """Numbers as the bytes of a code of struct, the lowest byte of each first."""
+    made = array.array(code, numbers)
+    if sys.byteorder == 'big':
+        made.byteswap()
+    return made.tobytes()
+
+
+def _unpacked(code: str, data: bytes) -> array.array[Any]:
+    """The numbers of such bytes."""
+    made = array.array(code, data)
+    if sys.byteorder == 'big':
+        made.byteswap()
+    return made
+
+
+def _codes(format: Format | StorageFormat, of: Any) -> tuple[bytes, tuple[int, ...]]:
+    """The bytes and the shape of what `from_bits` takes."""
+    refused, length = f'{format} has {format.width} bits', format._bytes
+    if isinstance(of, (bytes, bytearray, memoryview)):
+        data = bytes(of)
+        if len(data) % length:
+            raise ValueError(f'{len(data)} bytes are no array of {format}, whose values take {length}')
+        shape: tuple[int, ...] = (len(data) // length,)
+        if isinstance(of, memoryview) and of.itemsize == length and of.format != 'c':
+            shape = tuple(of.shape or ())
+    elif hasattr(of, '__array_interface__') and of.dtype.kind in 'iu' and length in _WORDS:
+        if of.size and (of.min() < 0 or int(of.max()) >> format.width):
+            raise ValueError(refused)
+        return of.astype(f'<u{length}').tobytes(), of.shape
+    else:
+        shape, items = _nested(of.tolist() if hasattr(of, '__array_interface__') else of)
+        if length not in _WORDS:
+            items = [operator.index(item) for item in items]
+            if any(not 0 <= item < 1 << format.width for item in items):
+                raise ValueError(refused)
+            return b''.join(item.to_bytes(length, 'little') for item in items), shape
+        try:
+            data = _packed(_WORDS[length], items)
+        except OverflowError:
+            raise ValueError(refused) from None
+    # Of a value's bytes, only the highest ones can have bits above those of the format.
+    for place in range(format.width // 8, length):
+        fitting = max(format.width - 8 * place, 0)
+        if data[place::length].translate(None, bytes(range(1 << fitting))):
+            raise ValueError(refused)
+    return data, shape
 
 
 class StorageFormat:
@@ -614,8 +669,13 @@ class StorageFormat:
     # A value takes a byte.
     _bytes = 1
 
-    def __init__(self, name: str, code: int, width: int) -> None:
+    def __init__(self, name: str, code: int, width: int, precision: int) -> None:
         self.name, self.code, self.width = name, code, width
+        self._precision = precision
+
+    @property
+    def _plain(self) -> StorageFormat:
+        return self
 
     def __repr__(self) -> str:
         return self.name
@@ -627,20 +687,13 @@ class StorageFormat:
         return StoredArray(self, data, counts, shape)
 
     def from_bits(self, bits: Any) -> StoredArray:
-        """The array with these bits, of nested lists or a numpy array of integers.
+        """The array with these bits, of nested lists or a numpy array of integers, or of bytes.
 
         >>> float4_e2m1fn.from_bits([[0, 1], [7, 15]])
         float4_e2m1fn.array([[0.0, 0.5], [6.0, -6.0]])
         """
-        if hasattr(bits, '__array_interface__'):
-            if bits.dtype == 'uint8' and not (self.width < 8 and (bits >> self.width).any()):
-                return StoredArray(self, bits.tobytes(), shape=bits.shape)
-            bits = bits.tolist()
-        shape, items = _nested(bits)
-        items = [operator.index(item) for item in items]
-        if any(not 0 <= item < 1 << self.width for item in items):
-            raise ValueError(f'{self.name} has {self.width} bits')
-        return StoredArray(self, bytes(items), shape=shape)
+        data, shape = _codes(self, bits if hasattr(bits, '__iter__') else [bits])
+        return StoredArray(self, data, shape=shape)
 
     def array(self, of: Any, saturate: bool | str = False) -> StoredArray:
         """An array of the items of nested lists, an array or a numpy array, each rounded once, in the mode of the
@@ -657,31 +710,25 @@ class StorageFormat:
         >>> xs.counts['inexact'], xs.counts['overflow']
         (2, 1)
 
-        Of bytes, the elements are the bits of values, and those of a type of ml_dtypes with the format's name are taken
-        as they are. Integers of numpy are numbers: `from_bits` takes the bits of values.
+        The elements of a type of ml_dtypes with the format's name are taken as they are. Integers are numbers, and bytes
+        are refused: `from_bits` takes the bits of values.
         """
-        if isinstance(of, (bytes, bytearray, memoryview)):
-            return StoredArray(self, bytes(of))
-        if hasattr(of, '__array_interface__'):
-            stored = _stored_of(of.dtype)
-            if stored:
-                of = StoredArray(stored, of.tobytes(), shape=of.shape)
-            else:
-                of = _of_numpy(of, quad)
-        if isinstance(of, StoredArray):
-            return of if of.format is self else of.to(single).to(self, saturate)
-        if not isinstance(of, Array):
+        given = _given(of, quad)
+        if given is None:
             shape, items = _nested(of)
-            if all(type(item) is float for item in items):
-                of = double.array(items).reshape(shape)
-            else:
-                of = _quads(of)
-        if of is NotImplemented:
+            made = _of_items(items, set(map(type, items)))
+            given = _quads(of) if made is None else made.reshape(shape)
+        if given is NotImplemented:
             raise TypeError(f'{self} makes arrays of numbers alone')
-        return of.to(self, saturate)
+        if isinstance(given, StoredArray):
+            return given if given.format is self else given.to(single).to(self, saturate)
+        return given.to(self, saturate)
 
 
 # ---- numpy
+
+# The codes of struct for integers.
+_INTEGER_CODES = 'bBhHiIlLqQ'
 
 # The elements of the types that numpy and ml_dtypes have for formats, by a format's code: numbers, or their bits.
 _ELEMENTS = {1: 'f2', 2: 'f4', 3: 'f8', 5: 'u2', 6: 'u1', 7: 'u1', 8: 'u1', 16: 'u1', 17: 'u1', 18: 'u1'}
@@ -708,19 +755,96 @@ def _stored_of(dtype: Any) -> StorageFormat | None:
     return {each.name: each for each in _STORED}.get(dtype.name)
 
 
+def _given(of: Any, format: Format) -> Array | StoredArray | None:
+    """The values of an array of any kind, in the format of its elements; None if it is no array."""
+    if isinstance(of, (Array, StoredArray)):
+        return of
+    if hasattr(of, '__array_interface__'):
+        stored = _stored_of(of.dtype)
+        return StoredArray(stored, of.tobytes(), shape=of.shape) if stored else _of_numpy(of, format)
+    if isinstance(of, array.array):
+        of = memoryview(of)
+    elif isinstance(of, (bytes, bytearray)) or isinstance(of, memoryview) and of.format in ('B', 'c'):
+        raise TypeError(f'bytes are no numbers: from_bits takes the codes of {format}')
+    if not isinstance(of, memoryview):
+        return None
+    code, shape = str(of.format), tuple(of.shape or ())
+    source = {'e': half, 'f': single, 'd': double}.get(code)
+    if source is None and code not in _INTEGER_CODES:
+        raise TypeError(f'elements of the code {code!r} are no values of {format}')
+    data = of.tobytes()
+    if sys.byteorder == 'big':
+        data = b''.join(data[at:at + of.itemsize][::-1] for at in range(0, len(data), of.itemsize))
+    if source is None:
+        return _of_integers(data, of.itemsize, code.islower(), shape)
+    return Array(format if source is format._plain else source, data, shape=shape)
+
+
+def _has_integers(of: Any) -> bool:
+    """Whether the elements of an array of any kind are integers."""
+    if hasattr(of, '__array_interface__'):
+        return str(of.dtype.kind) in 'iu'
+    code: Any = of.typecode if isinstance(of, array.array) else getattr(of, 'format', None)
+    return isinstance(code, str) and code in _INTEGER_CODES
+
+
 def _of_numpy(of: Any, format: Format) -> Array:
     """The values of a numpy array, in the format of its type, or the given one if its values are the same.
 
-    Integers are values of `quad`, which has all of 64 bits.
+    Integers are values of `double`, or of `quad`, which has all of 64 bits.
     """
     if of.dtype.kind in 'iu':
-        return Array(quad, quad.array(of.tolist())._data, shape=of.shape)
+        if of.dtype.itemsize < 8 or not of.size or -1 << 53 <= int(of.min()) and int(of.max()) <= 1 << 53:
+            return Array(double, of.astype('<f8').tobytes(), shape=of.shape)
+        return _of_integers(of.astype(of.dtype.newbyteorder('<')).tobytes(), 8, of.dtype.kind == 'i', of.shape)
     source = _format_of(of.dtype)
     if source is None:
         raise TypeError(f'elements of {of.dtype} are no values of {format}')
     elements = _ELEMENTS[source.code]
     data = (of.astype('<' + elements, copy=False) if elements[0] == 'f' else of).tobytes()
     return Array(format if source is format._plain else source, data, shape=of.shape)
+
+
+def _of_integers(data: bytes, length: int, signed: bool, shape: tuple[int, ...]) -> Array:
+    """Integers of so many bytes as values of `double` if it has all of them, and otherwise of `quad`."""
+    if signed:
+        # Moved up by half of their range, they have no sign.
+        moved = bytearray(data)
+        moved[length - 1::length] = data[length - 1::length].translate(bytes(byte ^ 0x80 for byte in range(256)))
+        data = bytes(moved)
+    if length < 8:
+        return _from_low_words(data, length, 1 << 8 * length - 1 if signed else 0, shape)
+    words = memoryview(data).cast('I')
+    low, high = [_from_low_words(words[place::2].tobytes(), 4, moved_by, shape)
+                 for place, moved_by in ((0, 0), (1, 1 << 31 if signed else 0))]
+    with Context() as exact:
+        made = high.fma(1 << 32, low)
+    if not exact.inexact:
+        return made
+    with Context():
+        return high.to(quad).fma(1 << 32, low.to(quad))
+
+
+def _from_low_words(data: bytes, length: int, less: int, shape: tuple[int, ...]) -> Array:
+    """Integers of at most 4 bytes without a sign, each less by so much, as values of `double`."""
+    # These are the low digits of a double from 2^52 on.
+    doubles = bytearray(double(1 << 52).bits.to_bytes(8, 'little') * (len(data) // length))
+    for place in range(length):
+        doubles[place::8] = data[place::length]
+    with Context():
+        return Array(double, bytes(doubles), shape=shape) - ((1 << 52) + less)
+
+
+def _of_items(items: list[Any], kinds: set[type]) -> Array | None:
+    """Floats and integers in one row, as values of `double` or `quad`, if these have all of them; their types are given."""
+    if not kinds or not kinds <= {int, bool, float}:
+        return None
+    integers = items if float not in kinds else [item for item in items if type(item) is not float]
+    if not integers or -1 << 53 <= min(integers) and max(integers) <= 1 << 53:
+        return Array(double, _packed('d', items))
+    if float in kinds or min(items) < -1 << 63 or max(items) >= 1 << 63:
+        return None
+    return _of_integers(_packed('q', items), 8, True, (len(items),))
 
 
 def _plain_number(of: Any) -> Any:
@@ -751,11 +875,11 @@ class _Arithmetic(Generic[_Operand]):
         """Another operand that is no value or array of the format, as one that is."""
         raise NotImplementedError
 
-    def _computed(self, name: str, *operands: Any) -> Any:
+    def _computed(self, name: str, *operands: Any) -> Self:
         """The result of an operation on operands of this kind."""
         raise NotImplementedError
 
-    def _floored(self, divisor: Any) -> Any:
+    def _floored(self, divisor: Any) -> Self:
         """What `%` gives for a divisor of this kind."""
         raise NotImplementedError
 
@@ -767,7 +891,7 @@ class _Arithmetic(Generic[_Operand]):
             return other
         return self._converted(other)
 
-    def _with(self, name: str, *others: Any) -> Any:
+    def _with(self, name: str, *others: Any) -> Self:
         """The result of an operation of this and of others."""
         operands = [self._operand(other) for other in others]
         for other, operand in zip(others, operands):
@@ -775,15 +899,19 @@ class _Arithmetic(Generic[_Operand]):
                 raise TypeError(f'{other!r} is no operand of {self.format}')
         return self._computed(name, self, *operands)
 
-    def _left(self, name: str, other: Any) -> Any:
+    def _left(self, name: str, other: Any) -> Self:
         """The result of an operator that has this on its left."""
         right = self._operand(other)
-        return NotImplemented if right is NotImplemented else self._computed(name, self, right)
+        if right is NotImplemented:
+            return NotImplemented
+        return self._computed(name, self, right)
 
-    def _right(self, name: str, other: Any) -> Any:
+    def _right(self, name: str, other: Any) -> Self:
         """The result of an operator that has this on its right, and neither a value nor an array on its left."""
         left = self._operand(other)
-        return NotImplemented if left is NotImplemented else self._computed(name, left, self)
+        if left is NotImplemented:
+            return NotImplemented
+        return self._computed(name, left, self)
 
     def __add__(self, other: _Operand) -> Self:
         return self._left('add', other)
@@ -818,11 +946,15 @@ class _Arithmetic(Generic[_Operand]):
         (double('2.0'), double('-1.0'), half('-2.0'), half('1.0'))
         """
         divisor = self._operand(other)
-        return NotImplemented if divisor is NotImplemented else self._floored(divisor)
+        if divisor is NotImplemented:
+            return NotImplemented
+        return self._floored(divisor)
 
     def __rmod__(self, other: _Operand) -> Self:
-        left = self._operand(other)
-        return NotImplemented if left is NotImplemented else left._floored(self)
+        left: Self = self._operand(other)
+        if left is NotImplemented:
+            return NotImplemented
+        return left._floored(self)
 
     def fma(self, factor: _Operand, addend: _Operand) -> Self:
         """self * factor + addend, rounded once. Pairs of doubles do not have it.
@@ -921,11 +1053,11 @@ class Value(_Arithmetic[Number]):
             raise ValueError(f'{other} is not a value of {self.format}')
         return value
 
-    def _computed(self, name: str, *operands: Value) -> Value:
+    def _computed(self, name: str, *operands: Any) -> Any:
         mode = () if name in _WITHOUT_MODE else (context().mode,)
         return self._made(name, *mode, *[_halves(operand.bits) for operand in operands])
 
-    def _floored(self, divisor: Value) -> Value:
+    def _floored(self, divisor: Any) -> Any:
         rest = self.fmod(divisor)
         if rest.is_nan or rest.is_negative == divisor.is_negative:
             return rest
@@ -955,7 +1087,7 @@ class Value(_Arithmetic[Number]):
         >>> half('0x1.4p1').round_to_integral()
         half('2.0')
         """
-        return self._computed('round_to_integral', self)
+        return self._with('round_to_integral')
 
     def ldexp(self, power: int) -> Value:
         """self times 2 to the power of `power`, rounded once; it raises no flag.
@@ -1009,7 +1141,7 @@ class Value(_Arithmetic[Number]):
 
     def _beside(self, other: Number) -> Value:
         """Another operand, as a value of this format."""
-        operand = self._operand(other)
+        operand: Value = self._operand(other)
         if operand is NotImplemented:
             raise TypeError(f'{other!r} is no operand of {self.format}')
         return operand
@@ -1161,13 +1293,13 @@ class Value(_Arithmetic[Number]):
         if isinstance(other, Value) and other.format is self.format:
             return self._asked('compare', _halves(self.bits), _halves(other.bits)).number
         left, right = _exact_number(self), _exact_number(other)
-        if right is None:
-            return None
-        return _UNORDERED if left != left or right != right else (left > right) - (left < right)
+        return None if right is None else _order(left, right)
 
-    def _is(self, orders: tuple[int, ...], other: Any) -> Any:
+    def _is(self, orders: tuple[int, ...], other: Any) -> bool:
         order = self._order(other)
-        return NotImplemented if order is None else order in orders
+        if order is None:
+            return NotImplemented
+        return order in orders
 
     def __eq__(self, other: object) -> bool:
         return self._is(_EQUAL, other)
@@ -1216,7 +1348,7 @@ class Value(_Arithmetic[Number]):
         0.3333333333333333
         """
         high = self if self.format is double_pair else double(self)
-        return struct.unpack('<d', struct.pack('<Q', high.bits & (1 << 64) - 1))[0]
+        return float(struct.unpack('<d', struct.pack('<Q', high.bits & (1 << 64) - 1))[0])
 
     def _parts(self) -> list[Value]:
         """The high double of a pair, and the low one unless it is +0; any other value alone."""
@@ -1432,15 +1564,31 @@ _OPERATIONS = {'add': 1, 'sub': 2, 'mul': 3, 'div': 4, 'rem': 5, 'mod': 6, 'fma'
 _SATURATIONS = {False: 0, True: 0x100, 'finite': 0x300, 'all': 0x700}
 # The codes of struct for integers of as many bytes.
 _WORDS = {1: 'B', 2: 'H', 4: 'I', 8: 'Q'}
+# In what words an element of so many bytes is moved, and how many they are.
+_WORDS_OF = {1: ('B', 1), 2: ('H', 1), 4: ('I', 1), 8: ('Q', 1), 10: ('H', 5), 16: ('Q', 2)}
+# An array of more elements is shown with `...`.
+_MOST_SHOWN = 1000
 
 
-class _Elements:
+# The kind of an array's elements.
+_Element = TypeVar('_Element')
+
+
+class _Elements(Generic[_Element]):
     """Elements of some bytes each, one after another: along the last axis first, then along the one before it."""
 
-    __slots__ = ('_data', 'shape')
+    __slots__ = ('_stored', 'shape')
 
-    _data: bytes
+    # They are bytes until an element is assigned.
+    _stored: bytes | bytearray
     shape: tuple[int, ...]
+
+    @property
+    def _data(self) -> bytes:
+        """The bytes of the elements, which nothing changes."""
+        if isinstance(self._stored, bytearray):
+            self._stored = bytes(self._stored)
+        return self._stored
 
     @property
     def _width(self) -> int:
@@ -1451,8 +1599,12 @@ class _Elements:
         """The same kind of array with other elements."""
         raise NotImplementedError
 
-    def _element(self, data: bytes) -> Any:
+    def _element(self, data: bytes) -> _Element:
         """The element of these bytes."""
+        raise NotImplementedError
+
+    def _assignable(self, value: Any) -> Self:
+        """What is assigned, as an array like this one."""
         raise NotImplementedError
 
     def _reshaped(self, data: bytes, shape: tuple[int, ...] | None) -> None:
@@ -1460,7 +1612,7 @@ class _Elements:
         count = len(data) // self._width
         if shape is not None and math.prod(shape) != count:
             raise ValueError(f'{count} elements have no shape {shape}')
-        self._data, self.shape = data, (count,) if shape is None else tuple(shape)
+        self._stored, self.shape = data, (count,) if shape is None else tuple(shape)
 
     @property
     def ndim(self) -> int:
@@ -1486,6 +1638,40 @@ class _Elements:
             raise ValueError(f'{self.size} elements have no shape {tuple(shape)}')
         return self._like(self._data, tuple(lengths))
 
+    @property
+    def nbytes(self) -> int:
+        """How many bytes the elements take."""
+        return self.size * self._width
+
+    @property
+    def T(self) -> Self:
+        """The array with its axes in the opposite order.
+
+        >>> half.array([[1, 2, 3], [4, 5, 6]]).T
+        half.array([['1.0', '4.0'], ['2.0', '5.0'], ['3.0', '6.0']])
+        """
+        return self.transpose()
+
+    def transpose(self, *axes: Any) -> Self:
+        """The array with its axes in this order, or in the opposite one if none is given.
+
+        >>> half.array(range(6)).reshape(1, 2, 3).transpose(2, 0, 1).shape
+        (3, 1, 2)
+        """
+        given = axes[0] if len(axes) == 1 and isinstance(axes[0], (tuple, list)) else axes
+        order = [_axis(axis, self.ndim) for axis in given] or list(range(self.ndim))[::-1]
+        if sorted(order) != list(range(self.ndim)):
+            raise ValueError(f'{tuple(given)} is no order of {self.ndim} axes')
+        strides = _strides(self.shape)
+        selected = [(self.shape[axis], strides[axis]) for axis in order]
+        return self._like(_gathered(self._data, self._width, 0, selected), tuple(length for length, _ in selected))
+
+    def _moved(self, axis: int, to: int) -> Self:
+        """The array with one axis at another place."""
+        order = [other for other in range(self.ndim) if other != axis]
+        order.insert(to, axis)
+        return self if order == list(range(self.ndim)) else self.transpose(order)
+
     def __len__(self) -> int:
         if not self.shape:
             raise TypeError('an array without axes has no length')
@@ -1494,33 +1680,112 @@ class _Elements:
     def __iter__(self) -> Iterator[Any]:
         return map(self._element, self._items()) if self.ndim == 1 else (self[at] for at in range(len(self)))
 
+    @overload
+    def __getitem__(self, index: slice | list[Any] | Mask | types.EllipsisType | None) -> Self: ...
+
+    @overload
+    def __getitem__(self, index: int | tuple[Any, ...]) -> _Element | Self: ...
+
     def __getitem__(self, index: Any) -> Any:
         """An element or a part, by an integer or a slice for each axis, or by a mask of the same shape.
 
-        As in numpy, `...` stands for all axes that are not named, and None for a new one of length 1.
+        As in numpy, `...` stands for all axes that are not named, and None for a new one of length 1. For one axis there
+        may be a list of integers. A part is a copy.
 
         >>> xs = half.array([[1, 2, 3], [4, 5, 6]])
         >>> xs[1, 0], xs[0], xs[:, ::2]
         (half('4.0'), half.array(['1.0', '2.0', '3.0']), half.array([['1.0', '3.0'], ['4.0', '6.0']]))
-        >>> xs[xs > 2]
-        half.array(['3.0', '4.0', '5.0', '6.0'])
+        >>> xs[xs > 2], xs[:, [2, 0]]
+        (half.array(['3.0', '4.0', '5.0', '6.0']), half.array([['3.0', '1.0'], ['6.0', '4.0']]))
         """
-        if hasattr(index, '__array_interface__') and index.dtype == bool:
-            index = Mask(index)
-        if isinstance(index, Mask):
-            return self._chosen(index)
+        mask = _mask_of(index)
+        if mask is not None:
+            return self._chosen(mask)
         index = index if isinstance(index, tuple) else (index,)
+        place = _place_of_list(index)
+        if place is not None:
+            return self._taken(index, place)
         offset, axes = _selected(index, self.shape)
-        data = _gathered(self._data, self._width, offset, axes)
+        data = _gathered(self._stored, self._width, offset, axes)
         if not axes and not any(each is Ellipsis for each in index):
             return self._element(data)
         return self._like(data, tuple(length for length, _ in axes))
 
+    def _taken(self, index: tuple[Any, ...], place: int) -> Self:
+        """The part that an index names which has a list at this place."""
+        part: Any = self[(*index[:place], slice(None), *index[place + 1:])]
+        axis = _axis_at(index, place, self.ndim)
+        moved: Self = part._moved(axis, 0)
+        row = math.prod(moved.shape[1:]) * self._width
+        chosen = _places(index[place], moved.shape[0])
+        data = b''.join([moved._data[at * row:(at + 1) * row] for at in chosen])
+        return self._like(data, (len(chosen), *moved.shape[1:]))._moved(0, axis)
+
     def _chosen(self, mask: Mask) -> Self:
+        code, count = _WORDS_OF[self._width]
+        held = self._fitting(mask)
+        if count > 1:
+            held = bytes(itertools.chain.from_iterable(zip(*[held] * count)))
+        chosen = array.array(code, itertools.compress(memoryview(self._data).cast(code), held))
+        return self._like(chosen.tobytes(), (len(chosen) // count,))
+
+    def _fitting(self, mask: Mask) -> bytes:
+        """For each element, whether a mask has it."""
         if mask.shape != self.shape:
             raise IndexError(f'a mask of shape {mask.shape} does not fit an array of shape {self.shape}')
-        items = [item for item, chosen in zip(self._items(), mask._data) if chosen]
-        return self._like(b''.join(items), (len(items),))
+        return mask._data
+
+    def __setitem__(self, index: Any, value: Any) -> None:
+        """Assigns to an element or a part, which is named as for getting it. Other arrays keep what they have.
+
+        What is assigned is stretched to the part, and has to be what an operand of the array has to be: nothing is
+        rounded, and nothing is written if something is refused.
+
+        >>> xs = half.array([[1, 2, 3], [4, 5, 6]])
+        >>> xs[0, 0], xs[:, 1], xs[xs > 4] = 0.5, [7, 8], 0
+        >>> xs
+        half.array([['0.5', '0.0', '3.0'], ['4.0', '0.0', '0.0']])
+        >>> xs[0, 0] = 0.1
+        Traceback (most recent call last):
+        ...
+        ValueError: 0.1 is not a value of half
+        """
+        values = self._assignable(value)
+        mask = _mask_of(index)
+        if mask is not None:
+            chosen = list(itertools.compress(range(self.size), self._fitting(mask)))
+            self._assign(chosen, values._onto((len(chosen),)))
+            return
+        index = index if isinstance(index, tuple) else (index,)
+        place = _place_of_list(index)
+        if place is None:
+            offset, axes = _selected(index, self.shape)
+            shape = tuple(length for length, _ in axes)
+            data, strides = values._onto(shape), [stride for _, stride in axes]
+            _copied(self._width, shape, data, 0, _strides(shape), self._writable(), offset, strides)
+            return
+        # The places of the elements that a list names are a part of all places.
+        places = _Places(self.shape)[index]
+        self._assign(list(_unpacked('Q', places._data)), values._onto(places.shape))
+
+    def _onto(self, shape: tuple[int, ...]) -> bytes:
+        """The bytes of the elements, stretched to a shape."""
+        if _common_shape(shape, self.shape) != shape:
+            raise Refused(6, f'{_error_text(6)}: shapes {shape} and {self.shape}')
+        return self._stretched(shape)._data
+
+    def _writable(self) -> bytearray:
+        if not isinstance(self._stored, bytearray):
+            self._stored = bytearray(self._stored)
+        return self._stored
+
+    def _assign(self, places: list[int], data: bytes) -> None:
+        """Writes elements to these places."""
+        code, count = _WORDS_OF[self._width]
+        target, source = memoryview(self._writable()).cast(code), memoryview(data).cast(code)
+        for word in range(count):
+            at = places if count == 1 else [place * count + word for place in places]
+            collections.deque(map(target.__setitem__, at, source[word::count]), 0)
 
     def _items(self) -> Iterator[bytes]:
         """The bytes of each element."""
@@ -1534,6 +1799,17 @@ class _Elements:
         axes = [(length, stride if held == length else 0) for length, held, stride in zip(shape, own, _strides(own))]
         return self._like(_gathered(self._data, self._width, 0, axes), shape)
 
+    def _shown(self, texts: Callable[[Self], list[Any]]) -> str:
+        """The elements in brackets, with `...` in place of all but three at each end of a long axis of a long array."""
+        if self.size <= _MOST_SHOWN:
+            return repr(self._listed(texts(self)))
+        ends = [list(range(3)) + list(range(length - 3, length)) if length > 6 else list(range(length))
+                for length in self.shape]
+        part: Any = self
+        for axis, places in enumerate(ends):
+            part = part[(slice(None),) * axis + (places,)]
+        return _with_ellipses(_listed(iter(texts(part)), part.shape), [length > 6 for length in self.shape])
+
     def _listed(self, elements: Iterable[Any]) -> Any:
         """One thing for each element, as nested lists of the shape."""
         return _listed(iter(elements), self.shape)
@@ -1543,7 +1819,25 @@ class _Elements:
         return self._listed(map(self._element, self._items()))
 
 
-class Mask(_Elements):
+class _Places(_Elements[int]):
+    """The places of the elements of an array of some shape."""
+
+    __slots__ = ()
+
+    def __init__(self, shape: tuple[int, ...]) -> None:
+        self._reshaped(_packed('Q', range(math.prod(shape))), shape)
+
+    @property
+    def _width(self) -> int:
+        return 8
+
+    def _like(self, data: bytes, shape: tuple[int, ...]) -> Self:
+        made = object.__new__(type(self))
+        made._reshaped(data, shape)
+        return made
+
+
+class Mask(_Elements[bool]):
     """Whether something holds for each element of an array: what a comparison of arrays gives.
 
     >>> xs = half.array([1, 2, 3])
@@ -1558,6 +1852,9 @@ class Mask(_Elements):
 
     def __init__(self, of: Any) -> None:
         """A mask of nested lists, or of an array, of truth values."""
+        if hasattr(of, '__array_interface__') and of.dtype == bool:
+            self._reshaped(of.tobytes(), of.shape)
+            return
         shape, items = _nested(of.tolist() if hasattr(of, 'tolist') else of)
         self._reshaped(bytes(map(bool, items)), getattr(of, 'shape', shape))
 
@@ -1565,13 +1862,21 @@ class Mask(_Elements):
     def _width(self) -> int:
         return 1
 
-    def _like(self, data: bytes, shape: tuple[int, ...]) -> Self:
-        made = object.__new__(type(self))
+    @classmethod
+    def _of_bytes(cls, data: bytes, shape: tuple[int, ...]) -> Self:
+        made = object.__new__(cls)
         made._reshaped(data, shape)
         return made
 
+    def _like(self, data: bytes, shape: tuple[int, ...]) -> Self:
+        return self._of_bytes(data, shape)
+
     def _element(self, data: bytes) -> bool:
         return data != b'\x00'
+
+    def _assignable(self, value: Any) -> Self:
+        made = value if isinstance(value, Mask) else Mask(value)
+        return self._like(made._data, made.shape)
 
     def any(self) -> bool:
         """Whether it holds for any element."""
@@ -1583,21 +1888,24 @@ class Mask(_Elements):
 
     def sum(self) -> int:
         """For how many elements it holds."""
-        return sum(self._data)
+        return self._data.count(1)
 
     def __bool__(self) -> bool:
         if self.size != 1:
             raise ValueError(f'a mask of {self.size} elements is neither true nor false: use any() or all()')
         return self.any()
 
-    def _combined(self, other: Any, operation: Callable[[int, int], int]) -> Any:
-        """What an operation makes of the elements of two masks."""
+    def _combined(self, other: Any, operation: Callable[[int, int], int], then: int = 0) -> Mask:
+        """What an operation makes of the elements of two masks, each of them then joined to the same bit."""
         if isinstance(other, bool) or hasattr(other, '__array_interface__'):
             other = Mask(other)
         if not isinstance(other, Mask):
             return NotImplemented
         shape = _common_shape(self.shape, other.shape)
-        return self._like(bytes(map(operation, self._stretched(shape)._data, other._stretched(shape)._data)), shape)
+        left, right = [int.from_bytes(each._stretched(shape)._data, 'little') for each in (self, other)]
+        size = math.prod(shape)
+        made = operation(left, right) ^ int.from_bytes(bytes([then]) * size, 'little')
+        return self._like(made.to_bytes(size, 'little'), shape)
 
     def __and__(self, other: Any) -> Mask:
         return self._combined(other, operator.and_)
@@ -1611,10 +1919,10 @@ class Mask(_Elements):
     __rand__, __ror__, __rxor__ = __and__, __or__, __xor__
 
     def __eq__(self, other: Any) -> Any:
-        return self._combined(other, operator.eq)
+        return self._combined(other, operator.xor, 1)
 
     def __ne__(self, other: Any) -> Any:
-        return self._combined(other, operator.ne)
+        return self._combined(other, operator.xor)
 
     def __invert__(self) -> Mask:
         return self ^ True
@@ -1625,10 +1933,118 @@ class Mask(_Elements):
         return made.astype(made.dtype if dtype is None else dtype, copy=bool(copy))
 
     def __repr__(self) -> str:
-        return f'Mask({self.tolist()})'
+        return f'Mask({self._shown(lambda part: list(map(part._element, part._items())))})'
 
 
-class Array(_Elements, _Arithmetic[Any]):
+class _Numbers(_Elements[Value]):
+    """What arrays of values and of those of storage formats have."""
+
+    __slots__ = ()
+
+    format: Any
+    counts: Any
+
+    def _exact(self) -> Array:
+        """The same values in a format that has an order."""
+        raise NotImplementedError
+
+    @property
+    def dtype(self) -> Any:
+        """The format."""
+        return self.format
+
+    @overload
+    def max(self, axis: None = None) -> Value: ...
+
+    @overload
+    def max(self, axis: int) -> Value | Self: ...
+
+    def max(self, axis: int | None = None) -> Any:
+        """The greatest value, of all or along an axis: the first NaN if there is one, and -0 is below +0.
+
+        >>> xs = half.array([[1, -2, 3], [4, 0, -6]])
+        >>> xs.max(), xs.min(axis=1), xs.argmax(), xs.argmin(axis=0)
+        (half('4.0'), half.array(['-2.0', '-6.0']), 3, [0, 0, 1])
+        """
+        return self._extreme(True, axis)
+
+    @overload
+    def min(self, axis: None = None) -> Value: ...
+
+    @overload
+    def min(self, axis: int) -> Value | Self: ...
+
+    def min(self, axis: int | None = None) -> Any:
+        """The least value, of all or along an axis: the first NaN if there is one, and -0 is below +0."""
+        return self._extreme(False, axis)
+
+    def argmax(self, axis: int | None = None) -> Any:
+        """The place of the greatest value: in the array as one row, or nested lists of the places along an axis."""
+        return self._place_of_extreme(True, axis)
+
+    def argmin(self, axis: int | None = None) -> Any:
+        """The place of the least value: in the array as one row, or nested lists of the places along an axis."""
+        return self._place_of_extreme(False, axis)
+
+    def _rows(self, axis: int | None) -> tuple[Self, tuple[int, ...]]:
+        """The array in rows along an axis, and the shape of what there is one of for each row."""
+        moved = self if axis is None else self._moved(_axis(axis, self.ndim), self.ndim - 1)
+        shape = () if axis is None else moved.shape[:-1]
+        length = self.size if axis is None else moved.shape[-1]
+        if not length:
+            raise ValueError('no value is the greatest or the least of none')
+        return moved.reshape(math.prod(shape), length), shape
+
+    def _extreme(self, greatest: bool, axis: int | None) -> Any:
+        rows, shape = self._rows(axis)
+        places = _extremes(rows._exact(), greatest)
+        if not shape:
+            return rows[0, places[0]]
+        width, length = self._width, rows.shape[1]
+        starts = ((row * length + place) * width for row, place in enumerate(places))
+        return self._like(b''.join([rows._data[at:at + width] for at in starts]), shape)
+
+    def _place_of_extreme(self, greatest: bool, axis: int | None) -> Any:
+        rows, shape = self._rows(axis)
+        return _listed(iter(_extremes(rows._exact(), greatest)), shape)
+
+    def numbers(self) -> memoryview:
+        """The numbers as a view of a copy in memory, in the shape of the array: in C's float, or in its double if that is
+        needed for the numbers of the format.
+
+        >>> view = e4m3fn.array([[0.5, -1], [2, 448]]).numbers()
+        >>> view.format, view.tolist()
+        ('f', [[0.5, -1.0], [2.0, 448.0]])
+        """
+        target, code = (double, 'd') if _type_of_numbers(self.format._plain) == 'float64' else (single, 'f')
+        data = self._exactly(target)._data
+        if sys.byteorder == 'big':
+            data = _unpacked(_WORDS[target._bytes], data).tobytes()
+        view = memoryview(data)
+        return view.cast(code, self.shape) if self.size and self.shape else view.cast(code)
+
+    def _exactly(self, format: Any) -> Any:
+        """The same values in another format, which has to have all of them."""
+        raise NotImplementedError
+
+    def __array__(self, dtype: Any = None, copy: bool | None = None) -> Any:
+        raise NotImplementedError
+
+    def __dlpack_device__(self) -> tuple[int, int]:
+        """The processor's own memory, for DLPack."""
+        return 1, 0
+
+    def __dlpack__(self, *, stream: Any = None, max_version: Any = None, dl_device: Any = None,
+                   copy: bool | None = None) -> Any:
+        """The numbers for DLPack, as a copy that numpy makes: in the type in which numpy gets them."""
+        if stream is not None or dl_device not in (None, (1, 0)):
+            raise BufferError('the numbers are in the memory of the processor alone')
+        if copy is False:
+            raise BufferError(f'values of {self.format} become numbers by a copy')
+        return self.__array__().__dlpack__()
+
+
+class Array(_Numbers, _Arithmetic[Any]):
     """Values of one format in any number of axes. An operation makes a new array, of the results of its elements.
 
     Each element is rounded once, in the mode of the context, and its flags are added to those of the context. `counts`
@@ -1663,7 +2079,7 @@ class Array(_Elements, _Arithmetic[Any]):
         if len(data) % format._bytes:
             raise ValueError(f'{len(data)} bytes are no array of {format}, whose values take {format._bytes}')
         self.format, self.counts = format, counts
-        self._reshaped(data, shape)
+        self._reshaped(bytes(data), shape)
 
     def __reduce__(self) -> tuple[Any, ...]:
         return Array, (self.format, self._data, self.counts, self.shape)
@@ -1672,16 +2088,28 @@ class Array(_Elements, _Arithmetic[Any]):
     def _width(self) -> int:
         return self.format._bytes
 
-    def _like(self, data: bytes, shape: tuple[int, ...]) -> Array:
-        return Array(self.format, data, shape=shape)
+    def _like(self, data: bytes, shape: tuple[int, ...]) -> Self:
+        return type(self)(self.format, data, shape=shape)
 
     def _element(self, data: bytes) -> Value:
         return Value(self.format, int.from_bytes(data, 'little'))
 
+    def _assignable(self, value: Any) -> Self:
+        operand = self._operand(value)
+        if operand is NotImplemented:
+            raise TypeError(f'{value!r} is no value of {self.format}')
+        return cast(Self, operand)
+
+    def _exact(self) -> Array:
+        if self.format._plain is not x87:
+            return self
+        with Context():
+            return self.to(quad)
+
     def _patterns(self) -> list[int]:
         """The bits of each value."""
         if self._width in _WORDS:
-            return list(struct.unpack(f'<{self.size}{_WORDS[self._width]}', self._data))
+            return list(_unpacked(_WORDS[self._width], self._data))
         return [int.from_bytes(item, 'little') for item in self._items()]
 
     @property
@@ -1739,10 +2167,11 @@ class Array(_Elements, _Arithmetic[Any]):
             return self
         source = self
         if self.format is double_pair:
-            parts = Array(double, self._data).reshape(self.size, 2)
-            if (parts[:, 1] != 0).any():
-                raise ValueError(f'{(parts[:, 1] != 0).sum()} of {self.size} values are no values of {format}')
-            source = parts[:, 0].reshape(self.shape)
+            parts = Array(double, self._data)
+            lows: Mask = parts[1::2] != 0
+            if lows.any():
+                raise ValueError(f'{lows.sum()} of {self.size} values are no values of {format}')
+            source = parts[::2].reshape(self.shape)
         with Context() as exact:
             made = source if source.format is format else source.to(format)
         lost = made.counts['inexact'] if made.counts else 0
@@ -1754,27 +2183,32 @@ class Array(_Elements, _Arithmetic[Any]):
 
     def __repr__(self) -> str:
         """The format and texts, or else bits, that it reads as these values to nearest."""
-        texts = [element._spelled() for element in map(self._element, self._items())]
-        made, listed = 'array', self._listed(texts)
-        if None in texts:
-            made, listed = 'from_bits', self._listed(self._patterns())
+        made, listed = 'array', self._shown(lambda part: [element._spelled() for element in part.reshape(-1)])
+        if 'None' in listed:
+            made, listed = 'from_bits', self._shown(Array._patterns)
         # Nested lists don't say the lengths that come after a 0.
         shape = f'.reshape{self.shape}' if 0 in self.shape[:-1] else ''
-        return f'{self.format}.{made}({listed!r}){shape}'
+        return f'{self.format}.{made}({listed}){shape}'
 
     def _converted(self, other: Any) -> Any:
         if hasattr(other, '__array_interface__') and other.shape != ():
             made = _of_numpy(other, self.format)
-            if made.format is not self.format:
-                raise TypeError(f'elements of {other.dtype} are no values of {self.format}')
-            return made
+            if made.format is self.format:
+                return made
+            if not _has_integers(other):
+                raise TypeError(f'elements of {other.dtype} are no values of {self.format}: convert one of them')
+            return made._exactly(self.format)
         shape, items = _nested(other) if isinstance(other, (list, tuple)) else ((), [other])
+        if len(items) > 1 and self.format is not double_pair:
+            numbers = _of_items(items, set(map(type, items)))
+            if numbers is not None:
+                return numbers.reshape(shape)._exactly(self.format)
         values = [Value(self.format, 0)._operand(item) for item in items]
         if any(value is NotImplemented for value in values):
             return NotImplemented
         return self._like(self.format._joined([value.bits for value in values]), shape)
 
-    def _computed(self, name: str, *operands: Array) -> Array:
+    def _computed(self, name: str, *operands: Any) -> Any:
         shape = _common_shape(*[operand.shape for operand in operands])
         if name == 'copy_sign':
             return self._with_signs(*[operand._stretched(shape) for operand in operands])
@@ -1784,9 +2218,25 @@ class Array(_Elements, _Arithmetic[Any]):
         return _array_call('map_array', self.format.code, context().mode, _OPERATIONS[name], *words, of=self.format,
                            shape=shape, by_table=by_table)
 
-    def _floored(self, divisor: Array) -> Array:
+    def _floored(self, divisor: Any) -> Any:
         format, rest = self.format, self._computed('mod', self, divisor)
-        results, divisors = rest._patterns(), divisor._stretched(rest.shape)._patterns()
+        divisor = divisor._stretched(rest.shape)
+        if format._plain in (x87, double_pair):
+            return self._floored_one_by_one(rest, divisor)
+        place = (format._sign_bit.bit_length() - 1) // 8
+        signs = [int.from_bytes(each._data[place::format._bytes], 'little') for each in (rest, divisor)]
+        bit = format._sign_bit >> 8 * place
+        if not (signs[0] ^ signs[1]) & int.from_bytes(bytes([bit]) * rest.size, 'little'):
+            return rest
+        # To a rest of the other sign the divisor is added. In all other places, 0 is added to 0.
+        kept, rests, divisors = _in_lanes(format, _Lanes.parts_of_rests, rest._data, divisor._data)
+        sums = Array(format, rests, shape=rest.shape) + Array(format, divisors, shape=rest.shape)
+        made = int.from_bytes(kept, 'little') | int.from_bytes(sums._data, 'little')
+        counts = {name: count + sums.counts[name] for name, count in rest.counts.items()} | {'values': rest.size}
+        return Array(format, made.to_bytes(len(kept), 'little'), counts, rest.shape)
+
+    def _floored_one_by_one(self, rest: Array, divisor: Array) -> Array:
+        format, results, divisors = self.format, rest._patterns(), divisor._patterns()
         added = []
         for at, (left, right) in enumerate(zip(results, divisors)):
             if (left ^ right) & format._sign_bit:
@@ -1795,7 +2245,8 @@ class Array(_Elements, _Arithmetic[Any]):
                     results[at] = (-value).bits
                 elif not value.is_nan:
                     added.append(at)
-        sums = format.from_bits([results[at] for at in added]) + format.from_bits([divisors[at] for at in added])
+        sums: Array = (format.from_bits([results[at] for at in added])
+                       + format.from_bits([divisors[at] for at in added]))
         for at, bits in zip(added, sums._patterns()):
             results[at] = bits
         counts = {name: count + sums.counts[name] for name, count in rest.counts.items()} | {'values': rest.size}
@@ -1822,14 +2273,19 @@ class Array(_Elements, _Arithmetic[Any]):
 
     def _mapped(self, operation: Callable[[Value], Value]) -> Array:
         """What an operation that raises no flags makes of each value."""
+        if self._width == 1:
+            return self._like(self._data.translate(_table(operation, self.format)), self.shape)
         values = (operation(Value(self.format, bits)).bits for bits in self._patterns())
         return self._like(self.format._joined(values), self.shape)
 
     def _with_signs(self, values: Array, signs: Array) -> Array:
         """The values with the signs of another array of their shape."""
         format = self.format
-        if format._plain in (*_WITHOUT_NEGATIVE_ZERO, x87, double_pair):
-            # Some of their values have no sign, or are written with other bits.
+        if format in _WITHOUT_NEGATIVE_ZERO:
+            made, = _in_lanes(format, _Lanes.with_signs, values._data, signs._data)
+            return values._like(made, values.shape)
+        if format._plain in (x87, double_pair):
+            # Some of their values are written with other bits.
             each = (Value(format, value).copy_sign(Value(format, sign)).bits
                     for value, sign in zip(values._patterns(), signs._patterns()))
             return values._like(format._joined(each), values.shape)
@@ -1837,31 +2293,42 @@ class Array(_Elements, _Arithmetic[Any]):
                         for array, bits in ((values, format._sign_bit - 1), (signs, format._sign_bit))]
         return values._like((kept | copied).to_bytes(len(values._data), 'little'), values.shape)
 
-    def _compared(self, orders: tuple[int, ...], other: Any) -> Any:
+    def _compared(self, orders: tuple[int, ...], other: Any) -> Mask:
         if hasattr(other, '__array_interface__') and other.shape != ():
             other = _of_numpy(other, self.format)
         elif isinstance(other, (list, tuple)):
             other = _quads(other)
         if isinstance(other, Array):
             shape = _common_shape(self.shape, other.shape)
-            found = _orders(self._stretched(shape), other._stretched(shape))
-        elif _exact_number(_plain_number(other)) is not None:
-            shape, found = self.shape, _orders(self, self._constant(_plain_number(other)))
-        else:
+            left, right = self._stretched(shape), other._stretched(shape)
+            if double_pair in (left.format, right.format):
+                return Mask._of_bytes(bytes(order in orders for order in _orders(left, right)), shape)
+            left, right = _alike(left, right)
+            found = _in_lanes(left.format, functools.partial(_Lanes.compared, orders=orders), left._data, right._data)
+            return Mask._of_bytes(_truths(left.format, *found), shape)
+        number = _plain_number(other)
+        if _exact_number(number) is None:
             return NotImplemented
-        return Mask([])._like(bytes(order in orders for order in found), shape)
+        if self.format is double_pair:
+            return Mask._of_bytes(bytes(order in orders for order in _orders(self, number)), self.shape)
+        return Mask._of_bytes(self._exact()._beside(orders, _exact_number(number)), self.shape)
 
-    def _constant(self, number: Any) -> Any:
-        """An array of this shape that has the number in each element; the number itself if the format lacks it."""
-        value = number
-        if isinstance(number, (int, float)):
-            with Context() as exact:
-                value = self.format(number)
-            if exact.flags or value != number:
-                return number
-        if not isinstance(value, Value) or value.format is not self.format:
-            return number
-        return self._like(self.format._joined([value.bits]) * self.size, self.shape)
+    def _beside(self, orders: tuple[int, ...], number: Any) -> bytes:
+        """For each value, whether its order beside an exact number is one of these."""
+        if self._width == 1:
+            floats = _unpacked('d', _every(self.format._plain)._data)
+            return self._data.translate(bytes(_order(each, number) in orders for each in floats))
+        if number != number:
+            return bytes([_UNORDERED in orders]) * self.size
+        with Context(DOWNWARD):
+            below = self.format(number)
+        if below != number:
+            # What is at or below the next value below is less, and all else is greater.
+            orders = tuple(order for order in orders if order not in _EQUAL)
+            if _LESS[0] in orders:
+                orders += _EQUAL
+        compared = functools.partial(_Lanes.compared_with, bits=below.bits, orders=orders)
+        return _truths(self.format, *_in_lanes(self.format, compared, self._data))
 
     def __eq__(self, other: Any) -> Any:
         return self._compared(_EQUAL, other)
@@ -1914,7 +2381,7 @@ class Array(_Elements, _Arithmetic[Any]):
         return numpy.asarray(self.to(_stored_of(dtype) or _named(dtype), saturate), of)
 
 
-class StoredArray(_Elements):
+class StoredArray(_Numbers):
     """Values of a storage format in any number of axes. Its elements are given as values of `single`.
 
     >>> xs = float4_e2m1fn.array([[1, 0.7], [-5, 1000]])
@@ -1932,7 +2399,7 @@ class StoredArray(_Elements):
         # The bits above those of the format are ignored.
         mask = (1 << format.width) - 1
         self.format, self.counts = format, counts
-        self._reshaped(bytes(code & mask for code in data) if mask < 255 else data, shape)
+        self._reshaped(data.translate(bytes(code & mask for code in range(256))) if mask < 255 else bytes(data), shape)
 
     def __reduce__(self) -> tuple[Any, ...]:
         return StoredArray, (self.format, self._data, self.counts, self.shape)
@@ -1941,12 +2408,23 @@ class StoredArray(_Elements):
     def _width(self) -> int:
         return 1
 
-    def _like(self, data: bytes, shape: tuple[int, ...]) -> StoredArray:
-        return StoredArray(self.format, data, shape=shape)
+    def _like(self, data: bytes, shape: tuple[int, ...]) -> Self:
+        return type(self)(self.format, data, shape=shape)
+
+    def _assignable(self, value: Any) -> Self:
+        return cast(Self, self.format.array(value) if isinstance(value, StoredArray) and value.format is self.format
+                    else _held_exactly(value, self.format))
+
+    def _exact(self) -> Array:
+        with Context():
+            return self.to(single)
+
+    def _exactly(self, format: Any) -> Any:
+        return self._exact()._exactly(format)
 
     def _element(self, data: bytes) -> Value:
         with Context():
-            return StoredArray(self.format, data).to(single)[0]
+            return single.from_bits(int.from_bytes(StoredArray(self.format, data).to(single)._data, 'little'))
 
     @property
     def bits(self) -> Any:
@@ -1979,13 +2457,11 @@ class StoredArray(_Elements):
 
     def __repr__(self) -> str:
         """The format and numbers, or else bits, that it makes these values of."""
-        with Context():
-            numbers = [float(value) for value in self.to(single).reshape(-1)]
-        made, listed = 'array', self._listed(numbers)
-        if not all(map(math.isfinite, numbers)):
-            made, listed = 'from_bits', self._listed(self._data)
+        made, listed = 'array', self._shown(lambda part: list(_unpacked('f', part._exact()._data)))
+        if 'nan' in listed or 'inf' in listed:
+            made, listed = 'from_bits', self._shown(lambda part: list(part._data))
         shape = f'.reshape{self.shape}' if 0 in self.shape[:-1] else ''
-        return f'{self.format}.{made}({listed!r}){shape}'
+        return f'{self.format}.{made}({listed}){shape}'
 
     def to(self, format: Format, saturate: bool | str = False) -> Array:
         """The values in another format, rounded once. `single` has each number of a storage format.
@@ -1993,7 +2469,8 @@ class StoredArray(_Elements):
         >>> float8_e8m0fnu.from_bits([0, 127, 254, 255]).to(bfloat)
         bfloat.array(['5.9e-39', '1.0', '1.7e38', 'nan'])
         """
-        return _converted_to(self, format, saturate)
+        made: Array = _converted_to(self, format, saturate)
+        return made
 
     def astype(self, of: Any, saturate: bool | str = False) -> Any:
         """The values in another format, as `to` makes them; for a type of numpy, as a numpy array of that type."""
@@ -2022,14 +2499,27 @@ def _saturation(saturate: bool | str) -> int:
 
 
 def _quads(of: Any) -> Any:
-    """Nested lists of numbers as values of `quad`, which has all floats and values of most formats."""
+    """Nested lists of numbers as values of `quad`, which has all floats and values of most formats, or of `double`."""
     shape, items = _nested(of)
+    numbers = _of_items(items, set(map(type, items)))
+    if numbers is not None:
+        return numbers.reshape(shape)
     if any(_exact_number(_plain_number(item)) is None for item in items):
         return NotImplemented
     with Context() as exact:
         made = quad.array(items).reshape(shape)
     if exact.inexact:
         raise ValueError(f'not all of {of} are values of {quad}')
+    return made
+
+
+def _held_exactly(of: Any, format: StorageFormat) -> StoredArray:
+    """Numbers in a storage format, which has to have all of them."""
+    with Context():
+        made = format.array(of)
+    lost = made.counts['inexact'] + made.counts['invalid_op'] if made.counts else 0
+    if lost:
+        raise ValueError(f'{lost} of {made.size} values are no values of {format}')
     return made
 
 
@@ -2056,33 +2546,90 @@ def _array_call(name: str, *arguments: Any, of: Any, shape: tuple[int, ...], by_
     return of._made(room.raw[:length], {name: getattr(answer, name) for name in _COUNTED}, shape)
 
 
+class finfo:
+    """The limits of a format, of an array's or of one that a name of ml_dtypes names, as `numpy.finfo` calls them.
+
+    They are values of the format, and of `single` those of a storage format. `eps` is the distance from 1 to the next
+    number of as many digits, `resolution` the power of ten at or above it that is nearest.
+
+    >>> limits = finfo(half)
+    >>> limits.bits, limits.max, limits.eps, limits.resolution
+    (16, half('65504.0'), half('0.000977'), half('0.001'))
+    >>> finfo(float4_e2m1fn)
+    finfo(float4_e2m1fn, bits=4, eps=0.5, max=6.0, min=-6.0, smallest_normal=1.0, smallest_subnormal=0.5, resolution=1.0)
+    """
+
+    dtype: Any
+    bits: int
+    eps: Value
+    max: Value
+    min: Value
+    smallest_normal: Value
+    smallest_subnormal: Value
+    tiny: Value
+    resolution: Value
+
+    def __init__(self, of: Any) -> None:
+        named = globals().get(of) if isinstance(of, str) else getattr(of, 'format', of)
+        if not isinstance(named, (Format, StorageFormat)):
+            raise TypeError(f'{of!r} is no format')
+        self.dtype, self.bits = named, named.width
+        precision = named._precision
+        self.resolution = (named if isinstance(named, Format) else single)(f'1e-{int((precision - 1) * math.log10(2))}')
+        if isinstance(named, Format):
+            self.eps, self.max, self.min = named.epsilon, named.largest, -named.largest
+            self.smallest_normal, self.smallest_subnormal = named.smallest_normal, named.smallest
+        else:
+            self.eps = single(1).ldexp(1 - precision)
+            every = named.from_bits(range(1 << named.width))
+            numbers = [value for value in every if value.is_finite]
+            self.max, self.min = max(numbers), min(numbers)
+            # Without a zero, the smallest number is a power of two, as all are.
+            self.smallest_subnormal = min(value for value in numbers if value > 0)
+            self.smallest_normal = self.smallest_subnormal.ldexp(precision - 1)
+        self.tiny = self.smallest_normal
+
+    def __repr__(self) -> str:
+        names = 'eps', 'max', 'min', 'smallest_normal', 'smallest_subnormal', 'resolution'
+        return f'finfo({self.dtype}, bits={self.bits}, {", ".join(f"{name}={getattr(self, name)}" for name in names)})'
+
+
 # ---- blocks with a common scale
 
 class Blocks:
     """An array in blocks of elements with a common scale, as `mx.quantize` makes it.
 
-    `scales` are values of `float8_e8m0fnu`, one for each block of the last axis, and `codes` values of the element
-    format in the shape of the array. `counts` says how many roundings raised each flag, and how many values are in
-    blocks whose scale is a NaN.
+    `scales` are values of `float8_e8m0fnu`, one for each block, and `codes` values of the element format. `shape` is that
+    of the array; along `axis`, where the blocks lie, `codes` may be longer, by the zeros that fill the last block.
+    `counts` says how many roundings raised each flag, and how many values are in blocks whose scale is a NaN.
     """
 
-    __slots__ = ('scales', 'codes', 'block', 'counts')
+    __slots__ = ('scales', 'codes', 'block', 'counts', 'axis', 'shape')
 
     scales: StoredArray
     codes: Array | StoredArray
     block: int
     counts: dict[str, int]
+    axis: int
+    shape: tuple[int, ...]
 
-    def __init__(self, scales: StoredArray, codes: Array | StoredArray, block: int, counts: dict[str, int]) -> None:
+    def __init__(self, scales: StoredArray, codes: Array | StoredArray, block: int, counts: dict[str, int],
+                 axis: int = -1, shape: tuple[int, ...] | None = None) -> None:
         self.scales, self.codes, self.block, self.counts = scales, codes, block, counts
+        self.axis, self.shape = axis, codes.shape if shape is None else shape
 
     def __repr__(self) -> str:
-        return f'<{self.codes.format} of shape {self.codes.shape} in blocks of {self.block}>'
+        axis = '' if self.axis in (-1, len(self.shape) - 1) else f' along axis {self.axis}'
+        return f'<{self.codes.format} of shape {self.shape} in blocks of {self.block}{axis}>'
 
     def dequantize(self, format: Format | None = None) -> Array:
         """The values, each the product of an element and its scale, rounded once to the format, `single` if none is
         given."""
-        return mx.dequantize(self.scales, self.codes, self.block, format)
+        made = mx.dequantize(self.scales, self.codes, self.block, format, self.axis)
+        if made.shape != self.shape:
+            part = made[tuple(slice(length) for length in self.shape)]
+            made = Array(made.format, bytes(cast(Array, part)), made.counts, self.shape)
+        return made
 
     def packed(self) -> bytes:
         """The codes packed: of 4 bits two in a byte, of 6 bits four in three bytes, and those of 8 bits as they are."""
@@ -2102,47 +2649,69 @@ class mx:
     """
 
     @staticmethod
-    def quantize(of: Any, element: Any = 'e4m3', block: int = 32) -> Blocks:
-        """An array in blocks of so many values of its last axis, rounded in the mode of the context.
+    def quantize(of: Any, element: Any = 'e4m3', block: int = 32, axis: int = -1, pad: bool = False) -> Blocks:
+        """An array in blocks of so many values of an axis, the last one if no other is named, rounded in the mode of the
+        context.
 
         The element format is `float8_e5m2`, `float8_e4m3fn`, `float6_e3m2fn`, `float6_e2m3fn` or `float4_e2m1fn`, or
-        its name, which may be as short as 'e2m1'. The array is an `Array`, a numpy array, or nested lists of numbers,
-        which are rounded to `double`. Flags are added to those of the context.
+        its name, which may be as short as 'e2m1'; here e4m3 is that of the OCP, `float8_e4m3fn`. The array is an `Array`,
+        a numpy array, or nested lists of numbers, which are rounded to `double`. Flags are added to those of the context.
+        A length that the blocks do not divide is refused; with `pad`, zeros fill the last block.
 
         >>> mx.quantize([0.5] * 64, 'e4m3').scales
         float8_e8m0fnu.array([0.001953125, 0.001953125])
+        >>> made = mx.quantize([[1.0, 8], [2, -16], [3, 32]], float4_e2m1fn, block=2, axis=0, pad=True)
+        >>> made.scales, made.dequantize()[2]
+        (float8_e8m0fnu.array([[0.5, 4.0], [0.5, 8.0]]), single.array(['3.0', '32.0']))
         """
         values, elements = _values_of(of), _element_of(element)
-        data, shape = bytes(values), values.shape
+        place = _axis(axis, values.ndim)
+        given, moved = values.shape, values._moved(place, values.ndim - 1)
+        lacking = -moved.shape[-1] % block if pad and block > 0 else 0
+        if lacking:
+            moved = _with_zeros(moved, lacking)
+        data, shape = bytes(moved), moved.shape
         blocks = _blocked(shape, block)
         count, size = math.prod(blocks), math.prod(shape)
         scales, codes = ctypes.create_string_buffer(max(count, 1)), ctypes.create_string_buffer(max(size, 1))
         counts = _block_call('quantize_blocks', values.format.code, context().mode, elements.code, block, data,
                              len(data), scales, count, codes, size)
-        return Blocks(StoredArray(float8_e8m0fnu, scales.raw[:count], shape=blocks),
-                      elements._made(codes.raw[:size], counts, shape), block, counts)
+        made = scales.raw[:count]
+        if lacking:
+            # What fills the blocks is not counted: zeros, of which those with a NaN beside them count as NaNs.
+            counts['values'] -= lacking * math.prod(shape[:-1])
+            counts['nans'] -= lacking * made[blocks[-1] - 1::blocks[-1]].count(255)
+        last = values.ndim - 1
+        return Blocks(StoredArray(float8_e8m0fnu, made, shape=blocks)._moved(last, place),
+                      elements._made(codes.raw[:size], counts, shape)._moved(last, place), block, counts, place, given)
 
     @staticmethod
-    def dequantize(scales: Any, codes: Any, block: int = 32, format: Format | None = None) -> Array:
-        """The values of blocks: each code times the scale of its block, rounded once to the format, `single` if none is
-        given, in the mode of the context.
+    def dequantize(scales: Any, codes: Any, block: int = 32, format: Format | None = None, axis: int = -1) -> Array:
+        """The values of blocks along an axis: each code times the scale of its block, rounded once to the format,
+        `single` if none is given, in the mode of the context.
 
-        Scales are an array of `float8_e8m0fnu`, or their codes as bytes or a numpy array of uint8, and codes an array of
-        an element format.
+        Scales are an array of `float8_e8m0fnu`, or their codes as bytes or a numpy array of uint8, in the order in which
+        the blocks lie in the array, and codes an array of an element format.
         """
         target = single if format is None else format
-        elements = _element_of(codes.format)
+        if not isinstance(codes, (Array, StoredArray)) or codes.format not in _ELEMENT_FORMATS.values():
+            raise TypeError(f'codes are an array of an element format: {", ".join(map(repr, _ELEMENT_FORMATS.values()))}')
+        place, last = _axis(axis, codes.ndim), codes.ndim - 1
+        moved = codes._moved(place, last)
+        blocks = _blocked(moved.shape, block)
+        count, lying = math.prod(blocks), [*blocks[:-1]]
+        lying.insert(place, blocks[-1])
         are_codes = isinstance(scales, (bytes, bytearray)) or getattr(scales, 'dtype', None) == 'uint8'
-        by = bytes(scales if are_codes else float8_e8m0fnu.array(scales))
-        count = math.prod(_blocked(codes.shape, block))
-        if len(by) != count:
-            raise ValueError(f'{len(by)} scales for {count} blocks')
-        data = bytes(codes)
+        held = float8_e8m0fnu.from_bits(scales) if are_codes else float8_e8m0fnu.array(scales)
+        if held.size != count:
+            raise ValueError(f'{held.size} scales for {count} blocks')
+        by, data = bytes(held.reshape(lying)._moved(place, last)), bytes(moved)
         length = len(data) * target._bytes
         room = ctypes.create_string_buffer(max(length, 1))
-        counts = _block_call('dequantize_blocks', elements.code, context().mode, target.code, block, by, count, data,
+        counts = _block_call('dequantize_blocks', codes.format.code, context().mode, target.code, block, by, count, data,
                              len(data), room, length)
-        return target._made(room.raw[:length], counts, codes.shape)
+        made = target._made(room.raw[:length], counts, moved.shape)
+        return made if place == last else Array(target, bytes(made._moved(last, place)), counts, codes.shape)
 
     @staticmethod
     def pack(codes: Any) -> bytes:
@@ -2163,26 +2732,30 @@ class mx:
         elements = _element_of(element)
         count = len(packed) * 8 // elements.width
         data = _repacked('unpack_codes', elements, packed, count)
-        kind = StoredArray if isinstance(elements, StorageFormat) else Array
-        return kind(elements, data, shape=(count,) if shape is None else shape)
+        made: Array | StoredArray = elements._made(data, None, (count,) if shape is None else shape)
+        return made
 
 
 def _element_of(of: Any) -> Any:
     """The element format that is given, or that has this name."""
-    made: dict[str, Any] = {
-        'e5m2': e5m2, 'e4m3': e4m3fn, 'e3m2': float6_e3m2fn, 'e2m3': float6_e2m3fn, 'e2m1': float4_e2m1fn,
-    }
-    for short, format in made.items():
-        if of is format or isinstance(of, str) and of in (short, short + 'fn', format.name, _NAMES_IN_BLOCKS[short]):
+    # The format of the OCP is meant by e4m3, as by its name.
+    if of is e4m3:
+        return e4m3fn
+    for short, format in _ELEMENT_FORMATS.items():
+        names = short, short + 'fn', format.name, 'float8_' + short, 'float8_' + format.name
+        if of is format or isinstance(of, str) and of in names:
             return format
-    raise ValueError(f'{of!r} is no element format: {", ".join(made)} are')
+    raise ValueError(f'{of!r} is no element format: {", ".join(_ELEMENT_FORMATS)} are')
 
 
-# The names of ml_dtypes.
-_NAMES_IN_BLOCKS = {
-    'e5m2': 'float8_e5m2', 'e4m3': 'float8_e4m3fn', 'e3m2': 'float6_e3m2fn', 'e2m3': 'float6_e2m3fn',
-    'e2m1': 'float4_e2m1fn',
-}
+def _with_zeros(values: Array, count: int) -> Array:
+    """An array with so many zeros at the end of each row."""
+    *outer, length = values.shape
+    width = values.format._bytes
+    shape = (*outer, length + count)
+    target = bytearray(math.prod(shape) * width)
+    _copied(width, values.shape, values._data, 0, _strides(values.shape), target, 0, _strides(shape))
+    return Array(values.format, bytes(target), shape=shape)
 
 
 def _values_of(of: Any) -> Array:
@@ -2199,7 +2772,7 @@ def _values_of(of: Any) -> Array:
 def _blocked(shape: tuple[int, ...], block: int) -> tuple[int, ...]:
     """The shape of the scales."""
     if not shape or block < 1 or shape[-1] % block:
-        raise ValueError(f'shape {shape} is not in blocks of {block}')
+        raise ValueError(f'shape {shape} is not in blocks of {block} along its last axis: pad=True fills the last block')
     return (*shape[:-1], shape[-1] // block)
 
 
@@ -2268,7 +2841,7 @@ def _selected(index: tuple[Any, ...], shape: tuple[int, ...]) -> tuple[int, list
     return offset, axes
 
 
-def _gathered(data: bytes, width: int, offset: int, axes: list[tuple[int, int]]) -> bytes:
+def _gathered(data: bytes | bytearray, width: int, offset: int, axes: list[tuple[int, int]]) -> bytes:
     """The bytes of the elements of axes of these lengths and strides, the last axis first, from an offset on."""
     count = 1
     for length, stride in reversed(axes):
@@ -2276,16 +2849,94 @@ def _gathered(data: bytes, width: int, offset: int, axes: list[tuple[int, int]])
             break
         count *= length
     else:
-        return data[offset * width:(offset + count) * width]
-    (length, stride), *inner = axes
-    if stride == 0:
-        return _gathered(data, width, offset, inner) * length
-    end = offset + length * stride
-    if not inner and width in _WORDS:
-        return memoryview(data).cast(_WORDS[width])[offset:end if end >= 0 else None:stride].tobytes()
-    if not inner:
-        return b''.join(data[at * width:(at + 1) * width] for at in range(offset, end, stride))
-    return b''.join(_gathered(data, width, offset + at * stride, inner) for at in range(length))
+        return bytes(data[offset * width:(offset + count) * width])
+    shape = tuple(length for length, _ in axes)
+    target = bytearray(math.prod(shape) * width)
+    _copied(width, shape, data, offset, [stride for _, stride in axes], target, 0, _strides(shape))
+    return bytes(target)
+
+
+def _copied(width: int, shape: tuple[int, ...], source: bytes | bytearray, start: int, strides: list[int],
+            target: bytearray, place: int, steps: list[int]) -> None:
+    """Copies elements of so many bytes between two buffers, in the order of a shape. Said of both are where the first one
+    is, and for each axis how many elements its next index is away."""
+    if 0 in shape:
+        return
+    # The longest axis is copied at once, each time.
+    axes = sorted(zip(shape, strides, steps)) or [(1, 1, 1)]
+    (length, stride, step), starts = axes[-1], [(start, place)]
+    for others, outer, further in axes[:-1]:
+        starts = [(at + n * outer, to + n * further) for at, to in starts for n in range(others)]
+    code, count = _WORDS_OF[width]
+    read, written = memoryview(source).cast(code), memoryview(target).cast(code)
+    for word in range(count):
+        for at, to in starts:
+            if stride:
+                taken = read[_span(at * count + word, length, stride * count)]
+            else:
+                taken = memoryview(read[at * count + word:at * count + word + 1].tobytes() * length).cast(code)
+            written[_span(to * count + word, length, step * count)] = taken
+
+
+def _span(first: int, length: int, stride: int) -> slice:
+    """So many places from the first one on, each a stride from the one before it."""
+    end = first + length * stride
+    return slice(first, end if end >= 0 else None, stride)
+
+
+def _axis(axis: Any, ndim: int) -> int:
+    """An axis by its number, which may be counted from the last one on, as -1."""
+    number = operator.index(axis)
+    if not -ndim <= number < ndim:
+        raise ValueError(f'{number} is no axis of {ndim}')
+    return number % ndim
+
+
+def _mask_of(index: Any) -> Mask | None:
+    """The mask that an index is, if it is one."""
+    if isinstance(index, Mask):
+        return index
+    if hasattr(index, '__array_interface__') and index.dtype == bool and index.shape != ():
+        return Mask(index)
+    first = index
+    while isinstance(first, list) and first:
+        first = first[0]
+    if not isinstance(first, bool) or first is index:
+        return None
+    if set(map(type, _nested(index)[1])) != {bool}:
+        raise IndexError('a mask has truth values alone')
+    return Mask(index)
+
+
+def _place_of_list(index: tuple[Any, ...]) -> int | None:
+    """Where an index for each axis has its list, if it has one."""
+    places = [at for at, part in enumerate(index) if isinstance(part, (list, range))
+              or hasattr(part, '__array_interface__') and part.shape != ()]
+    if len(places) > 1:
+        raise IndexError('only one axis takes a list of indices')
+    return places[0] if places else None
+
+
+def _places(of: Any, length: int) -> list[int]:
+    """The places that a list of indices names on an axis of this length."""
+    items = of.tolist() if hasattr(of, 'tolist') else list(of)
+    if items and set(map(type, items)) == {bool}:
+        if len(items) != length:
+            raise IndexError(f'{len(items)} truth values for an axis of length {length}')
+        return list(itertools.compress(range(length), items))
+    if any(isinstance(item, (bool, list)) for item in items):
+        raise IndexError('a list of indices has integers alone')
+    chosen = [operator.index(item) for item in items]
+    if chosen and not -length <= min(chosen) <= max(chosen) < length:
+        wrong = next(at for at in chosen if not -length <= at < length)
+        raise IndexError(f'{wrong} is no index of an axis of length {length}')
+    return [at + length if at < 0 else at for at in chosen]
+
+
+def _axis_at(index: tuple[Any, ...], place: int, ndim: int) -> int:
+    """The axis of a part of an array that the index at this place chooses on."""
+    named = sum(part is not None and part is not Ellipsis for part in index)
+    return sum(ndim - named if part is Ellipsis else part is None or isinstance(part, slice) for part in index[:place])
 
 
 def _listed(elements: Iterator[Any], shape: tuple[int, ...]) -> Any:
@@ -2297,6 +2948,170 @@ def _listed(elements: Iterator[Any], shape: tuple[int, ...]) -> Any:
     return [_listed(elements, shape[1:]) for _ in range(shape[0])]
 
 
+def _with_ellipses(listed: Any, cuts: list[bool]) -> str:
+    """Nested lists as a text, with `...` in the middle of those on the axes that are cut."""
+    if not cuts:
+        return repr(listed)
+    parts = [_with_ellipses(part, cuts[1:]) for part in listed]
+    if cuts[0]:
+        parts.insert(3, '...')
+    return f'[{", ".join(parts)}]'
+
+
+# ---- all values of an array at once
+
+# The values of so many bytes are taken at once, few enough for the cache of a processor.
+_AT_ONCE = 1 << 15
+
+
+class _Lanes:
+    """Masks for so many values of a format in one integer, in which each value has the bits of its bytes.
+
+    Python's operations on such an integer are operations on all of the values, as long as none carries into the next.
+    What holds for a value is said by the bit of its sign.
+    """
+
+    def __init__(self, format: Format, count: int) -> None:
+        ones = self.ones = int.from_bytes((1).to_bytes(format._bytes, 'little') * count, 'little')
+        self.sign, self.rest = ones * format._sign_bit, ones * (format._sign_bit - 1)
+        self.place = format._sign_bit.bit_length() - 1
+        # The least NaN without its sign. The formats without -0 have their only NaN there.
+        infinity = (1 << format._exponent_bits) - 1 << format._precision - 1
+        self.least_nan = ones * (0x7f if format is e4m3fn else infinity + 1)
+        self.has_negative_zero = format not in _WITHOUT_NEGATIVE_ZERO
+
+    def nonzero(self, x: int) -> int:
+        """Which values are not zero, with any sign."""
+        return ((x & self.rest) + self.rest) & self.sign
+
+    def nans(self, x: int) -> int:
+        """Which values are NaNs."""
+        if not self.has_negative_zero:
+            return x & self.sign & ~self.nonzero(x)
+        return ((x & self.rest | self.sign) - self.least_nan) & self.sign
+
+    def spread(self, which: int) -> int:
+        """All bits of some values."""
+        return (which << 1) - (which >> self.place)
+
+    def keys(self, x: int) -> int:
+        """Integers without a sign that have the order of the values, in which zeros are equal."""
+        sign, size = x & self.sign, x & self.rest
+        return self.sign + size - ((size & sign - (sign >> self.place)) << 1)
+
+    def at_least(self, x: int, y: int) -> int:
+        """Which integers without a sign are at least those of the other ones."""
+        return (x & ~y | ~(x ^ y) & ((x | self.sign) - (y & self.rest))) & self.sign
+
+    def compared(self, x: int, y: int, orders: tuple[int, ...]) -> tuple[int, ...]:
+        """The values that have one of these orders beside the other ones."""
+        nans = self.nans(x) | self.nans(y)
+        x, y = self.keys(x), self.keys(y)
+        up, down = self.at_least(x, y), self.at_least(y, x)
+        found = 0
+        for order, holds in (_LESS[0], ~up), (_EQUAL[0], up & down), (_GREATER[0], ~down):
+            if order in orders:
+                found |= holds
+        found &= self.sign & ~nans
+        return (found | nans if _UNORDERED in orders else found,)
+
+    def compared_with(self, x: int, bits: int, orders: tuple[int, ...]) -> tuple[int, ...]:
+        """The values that have one of these orders beside the one with these bits."""
+        return self.compared(x, self.ones * bits, orders)
+
+    def ordered(self, x: int) -> tuple[int, ...]:
+        """Which values are NaNs, and keys with -0 below +0."""
+        return self.nans(x), self.keys(x) - ((x & self.sign) >> self.place)
+
+    def parts_of_rests(self, x: int, y: int) -> tuple[int, ...]:
+        """The rests that stay, and those to which the divisor is added, and these divisors: those of the other sign."""
+        differs, nonzero = (x ^ y) & self.sign, self.nonzero(x)
+        added = self.spread(differs & nonzero & ~self.nans(x))
+        kept = x & ~added
+        # A zero has the sign of the divisor.
+        return kept ^ differs & ~nonzero if self.has_negative_zero else kept, x & added, y & added
+
+    def with_signs(self, x: int, y: int) -> tuple[int, ...]:
+        """The values with the signs of others; zeros and NaNs, which have none, as they are."""
+        nonzero = self.nonzero(x)
+        return (x & ~(self.sign & nonzero) | y & self.nonzero(y) & nonzero,)
+
+
+_lanes = functools.lru_cache(maxsize=16)(_Lanes)
+
+
+def _in_lanes(format: Format, operation: Callable[..., tuple[int, ...]], *arrays: bytes) -> list[bytes]:
+    """What an operation of `_Lanes` makes of the values of arrays of one length."""
+    made: list[list[bytes]] = []
+    step = _AT_ONCE // format._bytes * format._bytes
+    for at in range(0, len(arrays[0]) or 1, step):
+        parts = [each[at:at + step] for each in arrays]
+        length = len(parts[0])
+        results = operation(_lanes(format._plain, length // format._bytes),
+                            *[int.from_bytes(part, 'little') for part in parts])
+        made.append([result.to_bytes(length, 'little') for result in results])
+    return [b''.join(column) for column in zip(*made)]
+
+
+def _truths(format: Format, signs: bytes) -> bytes:
+    """A byte for each value that says whether the bit of its sign is set."""
+    place = format._sign_bit.bit_length() - 1
+    return signs[place // 8::format._bytes].translate(bytes([0]) + bytes([1]) * 255)
+
+
+def _alike(left: Array, right: Array) -> tuple[Array, Array]:
+    """The values of two arrays in one format that has them all."""
+    plain = left.format._plain
+    if plain is right.format._plain and plain is not x87:
+        return left, right
+    formats = {plain, right.format._plain}
+    common = quad if formats & {quad, x87} else double if double in formats else single
+    with Context():
+        return left.to(common), right.to(common)
+
+
+@functools.lru_cache(maxsize=None)
+def _table(operation: Callable[[Value], Value], format: Format) -> bytes:
+    """What an operation makes of each value of 8 bits."""
+    return bytes(operation(Value(format, bits)).bits for bits in range(256))
+
+
+@functools.lru_cache(maxsize=None)
+def _every(format: Format) -> Array:
+    """All values of a format of 8 bits, in `double`."""
+    with Context():
+        return format.from_bits(range(256)).to(double)
+
+
+def _order(left: Any, right: Any) -> int:
+    """The order of two numbers of Python."""
+    if left != left or right != right:
+        return _UNORDERED
+    return int(left > right) - int(left < right)
+
+
+def _extremes(rows: Array, greatest: bool) -> list[int]:
+    """The place of the greatest or the least value in each row of an array, or of its first NaN."""
+    count, length = rows.shape
+    keys: Any
+    if rows.format is double_pair:
+        numbers = [(_exact_number(value), not value.is_negative) for value in rows.reshape(-1)]
+        keys, nans = numbers, bytes(number != number for number, _ in numbers)
+    else:
+        found, ordered = _in_lanes(rows.format, _Lanes.ordered, rows._data)
+        nans, (code, words) = _truths(rows.format, found), _WORDS_OF[rows._width]
+        keys = _unpacked(code, ordered)
+        if words == 2:
+            keys = list(zip(keys[1::2], keys[::2]))
+    picked, places = max if greatest else min, []
+    for first in range(0, count * length, length):
+        place = nans.find(1, first, first + length)
+        if place < 0:
+            place = keys.index(picked(keys[first:first + length]), first, first + length)
+        places.append(place - first)
+    return places
+
+
 # ---- orders and texts
 
 # What a comparison finds: less, equal, greater; the last is the order of a NaN and anything else.
@@ -2305,25 +3120,8 @@ _LESS, _EQUAL, _GREATER, _UNORDERED = (-1,), (0,), (1,), 2
 
 def _orders(left: Array, right: Any) -> Iterable[int | None]:
     """The orders of the values of an array and those of another one of its shape, or a number, as `Value._order`."""
-    if isinstance(right, Array) and left.format is right.format:
-        return _orders_of_bits(left.format, left._patterns(), right._patterns())
     numbers = map(right._element, right._items()) if isinstance(right, Array) else itertools.repeat(right)
     return (first._order(second) for first, second in zip(map(left._element, left._items()), numbers))
-
-
-def _orders_of_bits(format: Format, lefts: Iterable[int], rights: Iterable[int]) -> Iterator[int]:
-    """The orders of values of one format, given by their bits."""
-    answer, compare = _Answer(), _functions.apfloat_compare
-
-    def order(left: int, right: int) -> int:
-        compare(format.code, _halves(left), _halves(right), ctypes.byref(answer))
-        return answer.number
-
-    found: Callable[[int, int], int] = order
-    if format.width == 8:
-        # There are few pairs.
-        found = functools.cache(order)
-    return map(found, lefts, rights)
 
 
 _HEXADECIMAL = re.compile('(-?)0x([01])(?:[.]([0-9a-f]+))?p([+-][0-9]+)')
@@ -2355,8 +3153,11 @@ def _rounded_to_odd(text: str) -> str:
     if cut:
         # One digit stands for those that are cut off: no midpoint lies between the two numbers.
         digits, power = digits[:_MOST_DIGITS] + ('1' if cut.strip('0') else '0'), power + len(cut) - 1
-    numerator = int(decimal.Decimal(digits)) * 10**max(power, 0)
-    denominator = 10**max(-power, 0)
+    return _odd(sign, int(decimal.Decimal(digits)) * 10**max(power, 0), 10**max(-power, 0))
+
+
+def _odd(sign: str, numerator: int, denominator: int) -> str:
+    """A fraction as a hexadecimal text of 120 binary digits or more, rounded to odd."""
     shift = 120 - numerator.bit_length() + denominator.bit_length()
     odd, rest = divmod(numerator << max(shift, 0), denominator << max(-shift, 0))
     return f'{sign}{odd | (rest != 0):#x}p{-shift}'
@@ -2427,16 +3228,24 @@ e4m3b11fnuz = Format('e4m3b11fnuz', 18, 8, 4, 4)
 tf32 = Format('tf32', 19, 19, 11, 8)
 
 # Storage formats have the names of ml_dtypes, which lacks the last one.
-float4_e2m1fn = StorageFormat('float4_e2m1fn', 32, 4)
-float6_e2m3fn = StorageFormat('float6_e2m3fn', 33, 6)
-float6_e3m2fn = StorageFormat('float6_e3m2fn', 34, 6)
-float8_e3m4 = StorageFormat('float8_e3m4', 35, 8)
-float8_e8m0fnu = StorageFormat('float8_e8m0fnu', 48, 8)
-ue4m3 = StorageFormat('ue4m3', 49, 7)
+float4_e2m1fn = StorageFormat('float4_e2m1fn', 32, 4, 2)
+float6_e2m3fn = StorageFormat('float6_e2m3fn', 33, 6, 4)
+float6_e3m2fn = StorageFormat('float6_e3m2fn', 34, 6, 3)
+float8_e3m4 = StorageFormat('float8_e3m4', 35, 8, 5)
+float8_e8m0fnu = StorageFormat('float8_e8m0fnu', 48, 8, 1)
+ue4m3 = StorageFormat('ue4m3', 49, 7, 4)
 _STORED = (float4_e2m1fn, float6_e2m3fn, float6_e3m2fn, float8_e3m4, float8_e8m0fnu, ue4m3)
+
+# The items that a list may have in place of a row.
+_SINGLE_ITEMS = {int, bool, float, str, Value}
 
 # The formats without -0, whose NaN is there.
 _WITHOUT_NEGATIVE_ZERO = (e4m3fnuz, e5m2fnuz, e4m3b11fnuz)
+
+# The formats of elements in blocks, by their shortest names.
+_ELEMENT_FORMATS: dict[str, Any] = {
+    'e5m2': e5m2, 'e4m3': e4m3fn, 'e3m2': float6_e3m2fn, 'e2m3': float6_e2m3fn, 'e2m1': float4_e2m1fn,
+}
 
 # The names that ml_dtypes has for these formats.
 bfloat16, float8_e5m2, float8_e4m3fn, float8_e4m3fnuz = bfloat, e5m2, e4m3fn, e4m3fnuz

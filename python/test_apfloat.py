@@ -3,6 +3,7 @@
 Those with numpy are skipped where it is missing. python/test runs them all.
 """
 
+import array
 import base64
 import collections
 import copy
@@ -924,7 +925,11 @@ class ArrayTests(unittest.TestCase):
         with self.assertRaises(TypeError):
             apfloat.half.from_bits(1.5)
         with self.assertRaises(ValueError):
-            apfloat.half.array(b'abc')
+            apfloat.half.from_bits(b'abc')
+        for codes in b'ab', bytearray(b'ab'), memoryview(b'ab'):
+            for format in apfloat.half, apfloat.e4m3fn, apfloat.float4_e2m1fn:
+                with self.assertRaisesRegex(TypeError, 'from_bits'):
+                    format.array(codes)
         with self.assertRaises(TypeError):
             apfloat.half.array([None])
         with self.assertRaises(TypeError):
@@ -952,11 +957,260 @@ class ArrayTests(unittest.TestCase):
         self.assertIs(apfloat.float8_e4m3b11fnuz, apfloat.e4m3b11fnuz)
 
 
+class TensorTests(unittest.TestCase):
+    """What long arrays are made of, asked and changed by."""
+
+    def test_integers(self):
+        draw = random.Random(11)
+        for code in 'bBhHiIlLqQ':
+            bits = 8 * array.array(code).itemsize
+            least, past = (-1 << bits - 1, 1 << bits - 1) if code.islower() else (0, 1 << bits)
+            numbers = [least, past - 1, 0, 1, past // 2, past // 3]
+            numbers += [draw.randrange(least, past) >> draw.randrange(bits) for _ in range(40)]
+            for items in numbers, [number for number in numbers if abs(number) <= 1 << 53]:
+                made = array.array(code, items)
+                for format in FORMATS:
+                    for mode in MODES[:2] if code in 'bHiq' else MODES[:1]:
+                        with Context(mode) as context:
+                            found = format.array(made)
+                        expected = [rounded(format, Fraction(item), mode) for item in items]
+                        wanted = [number for number, _ in expected]
+                        self.assertEqual([number_of(value) for value in found], wanted, (code, format, mode))
+                        self.assertEqual(found.counts['inexact'], sum(bool(flags) for _, flags in expected))
+                        self.assertEqual(context.flags, functools.reduce(operator.or_, [each for _, each in expected]))
+                        self.assertFalse(any(value.is_negative for value, item in zip(found, items) if item == 0))
+                if bits < 64:
+                    view = memoryview(array.array(code, items[:6])).cast('B').cast(code, [2, 3])
+                    if code != 'B':
+                        self.assertEqual(integers(apfloat.double.array(view)), [items[:3], items[3:6]])
+                self.assertEqual(integers(apfloat.quad.array(list(items))), items)
+                self.assertEqual(integers(apfloat.quad.array([items, items])), [items, items])
+        self.assertEqual(integers(apfloat.quad.array([1 << 64, -1 << 100])), [1 << 64, -1 << 100])
+        self.assertEqual(apfloat.double.array([0.5, 1 << 60, True]).tolist(), [0.5, 1 << 60, 1])
+        self.assertEqual(apfloat.half.array([0.5, 3, True]).tolist(), [0.5, 3, 1])
+        self.assertEqual(apfloat.float4_e2m1fn.array(array.array('h', [1, -6, 100])).tolist(), [1, -6, 6])
+        self.assertEqual(apfloat.half.array(array.array('f', [0.1, 2])).tolist(), [apfloat.half(0.1), 2])
+        self.assertIsNone(apfloat.double.array(array.array('d', [0.1])).counts)
+        self.assertEqual(apfloat.half(Fraction(-1, 3)), apfloat.half(-1) / 3)
+        with self.assertRaises(TypeError):
+            apfloat.half.array(array.array('u', 'ab'))
+
+    def test_operands_of_integers(self):
+        xs = apfloat.e4m3fn.array([1, 2, 3])
+        self.assertEqual(integers(xs + [1, 2, 3]), [2, 4, 6])
+        with self.assertRaisesRegex(ValueError, '1 of 3 values are no values of e4m3fn'):
+            xs + [1, 2, 17]
+
+    def test_codes(self):
+        for format in FORMATS + StoredTests.STORED_FORMATS:
+            length = format._bytes
+            codes = [code & (1 << format.width) - 1 for code in (0, 1, 2, 5, 0x31, (1 << format.width) - 1)]
+            data = b''.join(code.to_bytes(length, 'little') for code in codes)
+            for given in codes, tuple(codes), data, bytearray(data), memoryview(data):
+                self.assertEqual(bytes(format.from_bits(given)), data)
+            self.assertEqual(format.from_bits([codes[:3], codes[3:]]).shape, (2, 3))
+            for wrong in [1 << format.width], [-1], [0.5], ['1']:
+                with self.assertRaises((ValueError, TypeError)):
+                    format.from_bits(wrong)
+            if format.width < 8 * length:
+                with self.assertRaisesRegex(ValueError, 'bits'):
+                    format.from_bits((1 << format.width).to_bytes(length, 'little'))
+        view = memoryview(array.array('H', [0x3c00, 0x4000])).cast('B').cast('H', [2, 1])
+        self.assertEqual(integers(apfloat.half.from_bits(view)), [[1], [2]])
+
+    def test_orders_of_all_formats(self):
+        draw = random.Random(12)
+        comparisons = [operator.eq, operator.ne, operator.lt, operator.le, operator.gt, operator.ge]
+        for left, right in [(format, format) for format in FORMATS] + [
+                (apfloat.half, apfloat.bfloat), (apfloat.tf32, apfloat.e4m3fn), (apfloat.double, apfloat.x87),
+                (apfloat.single, apfloat.double), (apfloat.half.ieee, apfloat.half), (apfloat.x87, apfloat.quad)]:
+            texts = ['0', '-0', '1', '-1', '1.5', 'inf', '-inf', 'nan', '0.001', '-0.001']
+            with Context():
+                xs, ys = [format.array(texts + [str(draw.uniform(-3, 3)) for _ in range(10)])
+                          for format in (left, right)]
+                lows = [format.from_bits([1, format(-1).bits - format(1).bits | 1]) for format in (left, right)]
+            columns = [list(array) + list(low) for array, low in zip((xs, ys), lows)]
+            xs, ys = [format.from_bits([value.bits for value in column])
+                      for format, column in zip((left, right), columns)]
+            for compare in comparisons:
+                found = compare(xs[:, None], ys).tolist()
+                self.assertEqual(found, [[compare(x, y) for y in columns[1]] for x in columns[0]], (left, right))
+        for format in FORMATS + [apfloat.double_pair]:
+            with Context():
+                xs = format.array(['0', '-0', '1', '-1', '1.5', 'inf', '-inf', 'nan', '0.001', '3'])
+                below = format(1).next_down()
+            near = Fraction(*below.as_integer_ratio()) / 2 + Fraction(1, 2)
+            for compare, other in itertools.product(comparisons, [
+                    0, 1, near, -near, 10**6000, -10**6000, math.inf, math.nan, Fraction(1, 10**6000), 0.001]):
+                self.assertEqual(compare(xs, other).tolist(), [compare(x, other) for x in xs], (format, other))
+        # Longer than what is taken at once.
+        xs = apfloat.half.from_bits([place & 0xffff for place in range(70_000)])
+        wanted = [number is not None and number > Fraction(1, 3) for number in
+                  (number_of_bits(apfloat.half, bits) for bits in range(1 << 16))]
+        wanted[0x7c00] = True
+        self.assertEqual((xs > Fraction(1, 3)).tolist(), wanted + wanted[:70_000 - 65536])
+
+    def test_order_of_axes(self):
+        for format in apfloat.half, apfloat.x87, apfloat.quad, apfloat.e4m3fn:
+            numbers = [[[n * 6 + m * 3 + k for k in range(3)] for m in range(2)] for n in range(2)]
+            xs = format.array(numbers)
+            self.assertEqual(integers(xs.T), [[[numbers[n][m][k] for n in range(2)] for m in range(2)] for k in range(3)])
+            for given in (1, 2, 0), ((1, 2, 0),), (-2, -1, 0):
+                self.assertEqual(integers(xs.transpose(*given)),
+                                 [[[numbers[n][m][k] for n in range(2)] for k in range(3)] for m in range(2)])
+        self.assertEqual(apfloat.half.array([]).reshape(0, 3).T.shape, (3, 0))
+        self.assertEqual((xs > 3).T.shape, (3, 2, 2))
+        for wrong in (0,), (0, 0, 1), (0, 1, 3), ('a', 1, 2):
+            with self.assertRaises((ValueError, TypeError)):
+                xs.transpose(*wrong)
+
+    def test_lists_of_indices(self):
+        numbers = [[n * 4 + k for k in range(4)] for n in range(3)]
+        for format in apfloat.half, apfloat.x87, apfloat.e4m3fn, apfloat.quad:
+            xs = format.array(numbers)
+            self.assertEqual(integers(xs[[2, 0, 2]]), [numbers[2], numbers[0], numbers[2]])
+            self.assertEqual(integers(xs[:, [3, -4]]), [[row[3], row[0]] for row in numbers])
+            self.assertEqual(integers(xs[1, [3, 1]]), [7, 5])
+            self.assertEqual(integers(xs[[0, 1], ::2]), [row[::2] for row in numbers[:2]])
+            self.assertEqual(integers(xs[..., range(2)]), [row[:2] for row in numbers])
+            self.assertEqual(integers(xs[:, [True, False, True, False]]), [row[::2] for row in numbers])
+            self.assertEqual(xs[[]].shape, (0, 4))
+            mask = [[(n + k) % 2 == 0 for k in range(4)] for n in range(3)]
+            self.assertEqual(integers(xs[mask]), [numbers[n][k] for n in range(3) for k in range(4) if mask[n][k]])
+            self.assertEqual(integers(xs[Mask(mask)]), integers(xs[mask]))
+        for wrong in [3], [-4], [0.5], ['a'], [[0, 1]], [0, True], ([0], [1]), (0, [4]), [[True], [False]]:
+            with self.assertRaises((IndexError, TypeError)):
+                xs[wrong]
+
+    def test_assignment(self):
+        for format in apfloat.half, apfloat.x87, apfloat.e4m3fn, apfloat.quad, apfloat.double_pair:
+            xs = format.array([[1, 2, 3], [4, 5, 6]])
+            kept, part = xs.reshape(-1), xs[0]
+            xs[0, 0] = 7
+            xs[1] = [8, 9, 10]
+            xs[:, -1] = format(11)
+            self.assertEqual(integers(xs), [[7, 2, 11], [8, 9, 11]])
+            xs[:, ::-2] = [[1, 2]]
+            self.assertEqual(integers(xs), [[2, 2, 1], [2, 9, 1]])
+            xs[xs == 2] = [3, 4, 5]
+            self.assertEqual(integers(xs), [[3, 4, 1], [5, 9, 1]])
+            xs[xs > 4] = 0
+            xs[:, [2, 0]] = xs[:, [0, 2]]
+            self.assertEqual(integers(xs), [[1, 4, 3], [1, 0, 0]])
+            xs[...] = xs[0]
+            xs[[1, 1]] = [[1, 1, 1], [2, 2, 2]]
+            self.assertEqual(integers(xs), [[1, 4, 3], [2, 2, 2]])
+            self.assertEqual((integers(kept), integers(part)), ([1, 2, 3, 4, 5, 6], [1, 2, 3]))
+            before = bytes(xs)
+            for index, wrong in [(0, [1, 2]), ((0, 5), 1), (0, apfloat.single(1)), (0, 'text'), ([0, 2], 1),
+                                 (xs == 2, [1, 2]), ((0, 0), 10**50 + 1), (0, [1, 2, 10**50 + 1]), (5, 1), (0, None)]:
+                with self.assertRaises((ValueError, TypeError, IndexError)):
+                    xs[index] = wrong
+                self.assertEqual(bytes(xs), before)
+        mask = Mask([False, False, True])
+        mask[0] = True
+        mask[1:] = [False, True]
+        self.assertEqual(mask.tolist(), [True, False, True])
+        codes = apfloat.float4_e2m1fn.array([1, 2, 3])
+        codes[0], codes[1:] = codes[2], apfloat.single.array([0.5, -6])
+        self.assertEqual(codes.tolist(), [3, 0.5, -6])
+        for wrong in 7, 0.1, math.nan, 'a', [1, 2], apfloat.single(5):
+            with self.assertRaises((ValueError, TypeError)):
+                codes[0] = wrong
+        self.assertEqual(codes.tolist(), [3, 0.5, -6])
+
+    def test_extremes(self):
+        draw = random.Random(13)
+        for format in FORMATS + [apfloat.double_pair]:
+            with Context():
+                xs = format.array([[draw.randint(-30, 30) / 8 for _ in range(5)] for _ in range(4)])
+            rows = [list(row) for row in xs]
+            for name, pick in ('max', max), ('min', min):
+                place = [row.index(pick(row)) for row in rows]
+                flat = [value for row in rows for value in row]
+                self.assertEqual(getattr(xs, name)(), pick(flat))
+                self.assertEqual(getattr(xs, 'arg' + name)(), flat.index(pick(flat)))
+                for axis in 1, -1:
+                    self.assertEqual(getattr(xs, name)(axis=axis).tolist(), list(map(pick, rows)))
+                    self.assertEqual(getattr(xs, 'arg' + name)(axis), place)
+                self.assertEqual(getattr(xs, name)(0).tolist(), [pick(column) for column in zip(*rows)])
+                self.assertEqual(getattr(xs[0], name)(0), pick(rows[0]))
+            with Context():
+                xs = format.array(['1', 'nan', '2'])
+            self.assertTrue(xs.max().is_nan and xs.min().is_nan)
+            self.assertEqual((xs.argmax(), xs.argmin()), (1, 1))
+        zeros = apfloat.half.array([0.0, -0.0, 0.0])
+        self.assertEqual((zeros.argmax(), zeros.argmin(), zeros.min().is_negative), (0, 1, True))
+        codes = apfloat.float4_e2m1fn.array([[1, -6], [0.5, 4]])
+        self.assertEqual((codes.max(), codes.argmin(), codes.max(0).tolist()), (4, 1, [1, 4]))
+        for wrong in apfloat.half.array([]), apfloat.half.array([]).reshape(2, 0):
+            with self.assertRaisesRegex(ValueError, 'of none'):
+                wrong.max()
+        for axis in 2, -3:
+            with self.assertRaisesRegex(ValueError, 'no axis of 2'):
+                codes.max(axis)
+
+    def test_names(self):
+        xs = apfloat.half.array([[1, 2, 3], [4, 5, 6]])
+        self.assertEqual((xs.dtype, xs.nbytes), (apfloat.half, 12))
+        self.assertEqual((apfloat.float4_e2m1fn.array([1, 2]).nbytes, (xs > 1).nbytes), (2, 6))
+        self.assertEqual(xs.numbers().tolist(), [[1, 2, 3], [4, 5, 6]])
+        self.assertEqual((xs.numbers().format, apfloat.double.array([0.1]).numbers().tolist()), ('f', [0.1]))
+        self.assertEqual(apfloat.float4_e2m1fn.array([0.5, -6]).numbers().tolist(), [0.5, -6])
+        with self.assertRaisesRegex(ValueError, 'double'):
+            apfloat.quad.array(['0.1']).numbers()
+        with open(os.path.join(HERE, '..', 'include', 'apfloat.h'), encoding='utf-8') as header, \
+                open(os.path.join(HERE, 'pyproject.toml'), encoding='utf-8') as project:
+            self.assertIn(f'#define APFLOAT_VERSION "{apfloat.__version__}"', header.read())
+            self.assertIn(f'version = "{apfloat.__version__}"', project.read())
+        # There are no sums that are not exact.
+        for name in 'sum', 'mean', '__matmul__':
+            self.assertFalse(hasattr(xs, name))
+
+    def test_limits(self):
+        for format in FORMATS:
+            digits, least, _ = LIMITS[format.name]
+            limits = apfloat.finfo(format)
+            wanted = [largest_of(format), -largest_of(format), Fraction(2)**least, Fraction(2)**least,
+                      Fraction(2)**(least + 1 - digits), Fraction(2)**(1 - digits)]
+            found = [limits.max, limits.min, limits.smallest_normal, limits.tiny, limits.smallest_subnormal, limits.eps]
+            self.assertEqual(list(map(number_of, found)), wanted)
+            self.assertEqual((limits.bits, limits.dtype), (format.width, format))
+        self.assertEqual([apfloat.finfo(name).resolution for name in ('half', 'single', 'double', 'bfloat16', 'e5m2')],
+                         [apfloat.half('0.001'), apfloat.single('1e-6'), 1e-15, apfloat.bfloat('0.01'), 1])
+        stored = {'float4_e2m1fn': (4, 6, -6, 1, 0.5, 0.5), 'float6_e2m3fn': (6, 7.5, -7.5, 1, 0.125, 0.125),
+                  'float6_e3m2fn': (6, 28, -28, 0.25, 0.0625, 0.25), 'float8_e3m4': (8, 15.5, -15.5, 0.25, 2**-6, 2**-4),
+                  'float8_e8m0fnu': (8, 2.0**127, 2**-127, 2**-127, 2**-127, 1), 'ue4m3': (7, 448, 0, 2**-6, 2**-9, 0.125)}
+        for name, wanted in stored.items():
+            limits = apfloat.finfo(getattr(apfloat, name).from_bits([0]))
+            self.assertEqual((limits.bits, limits.max, limits.min, limits.smallest_normal, limits.smallest_subnormal,
+                              limits.eps), wanted)
+        for wrong in 'float', 'Context', 1, None:
+            with self.assertRaisesRegex(TypeError, 'no format'):
+                apfloat.finfo(wrong)
+
+    def test_long_arrays_are_cut(self):
+        xs = apfloat.half.array(list(range(1000)))
+        self.assertEqual(integers(eval(repr(xs), vars(apfloat))), list(range(1000)))
+        xs = apfloat.half.array(list(range(1001)))
+        self.assertEqual(repr(xs), "half.array(['0.0', '1.0', '2.0', ..., '998.0', '999.0', '1000.0'])")
+        with self.assertRaises(TypeError):
+            eval(repr(xs), vars(apfloat))
+        self.assertEqual(repr(xs > 1), 'Mask([False, False, True, ..., True, True, True])')
+        wide = apfloat.e5m2.array([n % 4 for n in range(2000)]).reshape(2, 1000)
+        self.assertEqual(repr(wide), "e5m2.array([['0.0', '1.0', '2.0', ..., '1.0', '2.0', '3.0'], "
+                                     "['0.0', '1.0', '2.0', ..., '1.0', '2.0', '3.0']])")
+        codes = apfloat.float4_e2m1fn.from_bits([[1] * 2] * 700)
+        self.assertEqual(repr(codes), 'float4_e2m1fn.array([[0.5, 0.5], [0.5, 0.5], [0.5, 0.5], ..., [0.5, 0.5], '
+                                      '[0.5, 0.5], [0.5, 0.5]])')
+
+
 class StoredTests(unittest.TestCase):
     """Arrays of storage formats."""
 
     STORED = (apfloat.float4_e2m1fn, apfloat.float6_e2m3fn, apfloat.float6_e3m2fn, apfloat.float8_e3m4,
               apfloat.float8_e8m0fnu, apfloat.ue4m3)
+    STORED_FORMATS = list(STORED)
 
     def test_each_code_comes_back(self):
         for format in self.STORED:
@@ -1107,6 +1361,46 @@ class BlockTests(unittest.TestCase):
                 ('e2m1', 'e2m1fn', 'float4_e2m1fn', apfloat.float4_e2m1fn):
             for name in names:
                 self.assertIs(apfloat.mx.quantize([1.0], name, 1).codes.format, names[-1])
+        # What is meant by the word is meant by the format of this name.
+        self.assertIs(apfloat.mx.quantize([1.0], apfloat.e4m3, 1).codes.format, apfloat.e4m3fn)
+
+    def test_axes(self):
+        drawn = random.Random(14)
+        xs = apfloat.single.array([[[drawn.uniform(-9, 9) for _ in range(8)] for _ in range(4)] for _ in range(6)])
+        for axis, block in (0, 3), (1, 2), (2, 4), (-1, 4), (-3, 2):
+            place = axis % 3
+            made = apfloat.mx.quantize(xs, 'e2m1', block, axis)
+            order = [other for other in range(3) if other != place] + [place]
+            last = apfloat.mx.quantize(xs.transpose(order), 'e2m1', block)
+            self.assertEqual(bytes(made.codes.transpose(order)), bytes(last.codes))
+            self.assertEqual(bytes(made.scales.transpose(order)), bytes(last.scales))
+            self.assertEqual((made.codes.shape, made.counts), (xs.shape, last.counts))
+            back = made.dequantize(apfloat.half)
+            self.assertEqual(bytes(back.transpose(order)), bytes(last.dequantize(apfloat.half)))
+            again = apfloat.mx.dequantize(bytes(made.scales), made.codes, block, apfloat.half, axis)
+            self.assertEqual((bytes(again), again.shape), (bytes(back), xs.shape))
+        with self.assertRaisesRegex(ValueError, '3 is no axis of 3'):
+            apfloat.mx.quantize(xs, 'e2m1', 2, 3)
+
+    def test_padding(self):
+        numbers = [[1.0, 2, 3, 4, 5], [8, 16, 32, 64, math.inf]]
+        for axis in 1, 0:
+            given = numbers if axis else [list(column) for column in zip(*numbers)]
+            with self.assertRaisesRegex(ValueError, 'pad=True'):
+                apfloat.mx.quantize(given, 'e5m2', 4, axis)
+            made = apfloat.mx.quantize(given, 'e5m2', 4, axis, pad=True)
+            filled = apfloat.mx.quantize([row + [0.0] * 3 for row in numbers], 'e5m2', 4)
+            codes, scales = (made.codes, made.scales) if axis else (made.codes.T, made.scales.T)
+            self.assertEqual((bytes(codes), bytes(scales)), (bytes(filled.codes), bytes(filled.scales)))
+            self.assertEqual(made.counts, filled.counts | {'values': 10, 'nans': 1})
+            back = made.dequantize() if axis else made.dequantize().T
+            self.assertEqual((back.shape, back[0].tolist(), back[1, 4].is_nan), ((2, 5), numbers[0], True))
+        # With nothing to fill, it is the same as without.
+        made = apfloat.mx.quantize([1.0] * 32, 'e4m3', pad=True)
+        self.assertEqual((made.shape, made.codes.shape, made.counts['values']), ((32,), (32,), 32))
+        for block in 0, -1:
+            with self.assertRaises(ValueError):
+                apfloat.mx.quantize([1.0], 'e4m3', block, pad=True)
 
     def test_nans(self):
         with Context() as context:
@@ -1128,6 +1422,9 @@ class BlockTests(unittest.TestCase):
             apfloat.mx.quantize(apfloat.double_pair.array([1]), 'e2m1', 1)
         with self.assertRaises(apfloat.Refused):
             apfloat.mx.pack(apfloat.float4_e2m1fn.from_bits([1]))
+        for codes in apfloat.e4m3.array([1, 2]), apfloat.single.array([1, 2]), [1, 2], b'12':
+            with self.assertRaisesRegex(TypeError, 'element format'):
+                apfloat.mx.dequantize(b'1', codes, 2)
 
 
 def integers(xs):
@@ -1316,11 +1613,16 @@ class NumpyTests(unittest.TestCase):
         self.assertEqual(integers(numpy.float32(1) - xs), [0, -1, -2])
         self.assertEqual(integers(numpy.array([3, 2, 1], numpy.float16) % xs), [0, 0, 1])
         self.assertEqual(integers(xs * numpy.array([[1], [2]], numpy.float16)), [[1, 2, 3], [2, 4, 6]])
-        for wrong in numpy.array([1, 2, 3], numpy.float32), numpy.array([1, 2, 3]):
-            with self.assertRaises(TypeError):
-                xs + wrong
         with self.assertRaises(TypeError):
-            apfloat.e4m3fn.array([1, 2, 3]) + numpy.array([1, 2, 3], numpy.uint8)
+            xs + numpy.array([1, 2, 3], numpy.float32)
+        # Integers are numbers, which the format has to have.
+        for dtype in 'u1', 'i1', 'u2', '>i4', 'i8', 'u8':
+            numbers = numpy.array([1, 2, 3], dtype)
+            self.assertEqual(integers(xs + numbers), [2, 4, 6])
+            self.assertEqual(integers(numbers - apfloat.e4m3fn.array([1, 1, 1])), [0, 1, 2])
+        for wrong in numpy.array([1, 2, 17], numpy.uint8), numpy.array([1, 2, 1 << 60]), numpy.array([1, 2, -449]):
+            with self.assertRaisesRegex(ValueError, '1 of 3 values are no values of e4m3fn'):
+                apfloat.e4m3fn.array([1, 2, 3]) + wrong
         with self.assertRaises(ValueError):
             xs + numpy.float32(0.1)
 
@@ -1358,6 +1660,42 @@ class NumpyTests(unittest.TestCase):
                 else:
                     self.assertEqual(part.shape, wanted.shape)
                     self.assertEqual(integers(part), wanted.astype(int).tolist())
+
+    def test_indices_and_assignment(self):
+        draw = random.Random(15)
+        for format, dtype in (apfloat.half, 'f2'), (apfloat.x87, 'f8'), (apfloat.e4m3fn, 'f2'):
+            for _ in range(100):
+                made = numpy.array([draw.randint(-8, 8) for _ in range(24)], dtype).reshape(2, 3, 4)
+                xs = format.array(made.tolist())
+                order = draw.sample(range(3), 3)
+                self.assertEqual(numpy.asarray(xs.transpose(order)).tolist(), made.transpose(order).tolist())
+                axis = draw.randrange(3)
+                chosen = [draw.randrange(-made.shape[axis], made.shape[axis]) for _ in range(3)]
+                index = [draw.choice([slice(None), slice(None, None, -1), slice(1)]) for _ in range(3)]
+                index[axis] = draw.choice([chosen, numpy.array(chosen), slice(None, None, 2)])
+                self.assertEqual(numpy.asarray(xs[tuple(index)]).tolist(), made[tuple(index)].tolist())
+                value = draw.choice([5, numpy.arange(made[tuple(index)].shape[-1]).tolist()])
+                xs[tuple(index)], made[tuple(index)] = value, value
+                self.assertEqual(numpy.asarray(xs).tolist(), made.tolist())
+                mask = made > draw.randint(-8, 8)
+                self.assertEqual(numpy.asarray(xs[mask]).tolist(), made[mask].tolist())
+                xs[mask], made[mask] = 7, 7
+                self.assertEqual(numpy.asarray(xs).tolist(), made.tolist())
+                for name in 'max', 'min', 'argmax', 'argmin':
+                    found, wanted = getattr(xs, name)(axis), getattr(made, name)(axis)
+                    self.assertEqual(found.tolist() if name[0] == 'm' else found, wanted.tolist())
+
+    def test_dlpack(self):
+        for xs, wanted in [(apfloat.e4m3fn.array([[0.5, -1], [2, 448]]), 'f2'), (apfloat.bfloat.array([1, 2]), 'f4'),
+                           (apfloat.double.array([[0.1]]), 'f8'), (apfloat.float4_e2m1fn.array([0.5, -6]), 'f2')]:
+            self.assertEqual(xs.__dlpack_device__(), (1, 0))
+            taken = numpy.from_dlpack(xs)
+            self.assertEqual((taken.dtype, taken.tolist()), (numpy.dtype(wanted), numpy.asarray(xs).tolist()))
+        for wrong in {'stream': 1}, {'dl_device': (2, 0)}, {'copy': False}:
+            with self.assertRaises(BufferError):
+                xs.__dlpack__(**wrong)
+        with self.assertRaises(ValueError):
+            numpy.from_dlpack(apfloat.quad.array(['0.1']))
 
     @unittest.skipUnless(ml_dtypes, 'there is no ml_dtypes')
     def test_ml_dtypes(self):
