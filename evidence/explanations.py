@@ -45,8 +45,8 @@ REASONS = {
     Mode.AWAY: "The nearer one is taken,",
 }
 TIES = {
-    Mode.EVEN: "Of two as near, the even one is taken,",
-    Mode.AWAY: "Of two as near, the greater magnitude is taken,",
+    Mode.EVEN: "Ties go to the neighbour with an even last digit,",
+    Mode.AWAY: "Ties go to the neighbour of greater magnitude,",
 }
 # What a machine takes of several NaNs, the sign of its default NaN, whether tininess is detected before rounding, the
 # order in a fused sum, and whether the default takes the place of a quiet and of a signaling NaN that is added to an

@@ -23,7 +23,7 @@ use core::fmt;
 
 /// The two results of an augmented operation (IEEE 754-2019 9.5).
 pub struct Augmented<S: Semantics> {
-    /// The exact result, rounded to nearest; of two values as near, the one of lower magnitude.
+    /// The exact result, rounded to nearest; of two values equally near, the one of lower magnitude.
     pub head: IeeeFloat<S>,
     /// What the head leaves of the exact result.
     pub tail: IeeeFloat<S>,

@@ -324,8 +324,8 @@ fn write_pick(round: Round, between: &Between, out: &mut impl Write) -> io::Resu
 /// Why a neighbour is picked.
 fn reason_of(round: Round, side: Side) -> &'static str {
     match (round, side) {
-        (Round::NearestTiesToEven, Side::Middle) => "Of two as near, the even one is taken,",
-        (Round::NearestTiesToAway, Side::Middle) => "Of two as near, the greater magnitude is taken,",
+        (Round::NearestTiesToEven, Side::Middle) => "Ties go to the neighbour with an even last digit,",
+        (Round::NearestTiesToAway, Side::Middle) => "Ties go to the neighbour of greater magnitude,",
         (Round::NearestTiesToEven | Round::NearestTiesToAway, _) => "The nearer one is taken,",
         (Round::TowardPositive, _) => "The mode takes the upper neighbour,",
         (Round::TowardNegative, _) => "The mode takes the lower neighbour,",
