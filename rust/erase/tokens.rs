@@ -34,7 +34,7 @@ pub(crate) struct Token<'a> {
 }
 
 /// The characters beyond ASCII that a clause may have.
-const LOGIC: &str = "◌≡≢≤×→↔λℕℤ∷⊎⊤⊥«»";
+const LOGIC: &str = "◌≡≢≤×→↔λℕℤ∷⊎⊤⊥«»⟦⟧";
 
 /// The words after which the text is one of the logic, until it is over.
 const CLAUSES: [&str; 2] = ["requires", "ensures"];

@@ -22,6 +22,7 @@ pub mod ProjectionLawTest
 pub mod ProjectionTypes
 pub mod ProjectionModes
 pub mod ProjectionModeLaws
+pub mod Published
 pub mod Quotients
 pub mod stochastic
 pub mod packing

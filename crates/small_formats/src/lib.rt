@@ -9,6 +9,8 @@
 //! `from_value_by` has two more modes, to odd and with random digits (`modes`); `from_quotient` rounds the quotient of
 //! two values (`quotients`).
 //!
+//! `published` states what the documents that define the named ones say of them.
+//!
 //! A conversion from any format is rounded once (`picks`): the digits of the value are cut at the last one that the
 //! format keeps there (`cuts`), and the mode moves them or not.
 //!
@@ -31,6 +33,7 @@ mod projected;
 mod projected_from;
 mod projected_to;
 mod projection;
+mod published;
 mod quanta;
 mod quotients;
 pub mod saturation;
@@ -47,6 +50,10 @@ pub use modes::{ConversionRound, NanResult, RandomDigits, RandomError};
 pub use named::{E2M1FN, E2M3FN, E3M2FN};
 pub use projected::Projected;
 pub use projection::{Binary8P1UF, Binary8P3, Binary8P4, Binary8P5, Projection};
+pub use published::{
+    block_lengths_are_published, e3m4_is_that_of_llvm, elements_are_those_of_ocp,
+    projections_are_those_of_p3109, scales_are_those_of_ocp, unsigned_scales_are_those_of_nvfp4,
+};
 pub use quanta::{InQuanta, in_quanta};
 pub use scales::E8M0FNU;
 pub use stored::StoredFloat;

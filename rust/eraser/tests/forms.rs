@@ -310,6 +310,7 @@ fn clauses_of_unknown_forms_are_refused() {
     is_refused("fn f() ensures { a -- b\n } {}\n", 1, "a comment in a clause");
     is_refused("fn f() ensures { (a ] } {}\n", 1, "closes no bracket");
     becomes("fn f() ensures { \"a\\n\" } {}\n", "fn f()  {}\n");
+    becomes("fn f() ensures { a ⟦<P as Q>⟧ } {}\n", "fn f()  {}\n");
     is_refused("fn f() ensures { \"a\\t\" } {}\n", 1, "a string of an unknown form");
     is_refused("fn f() ensures { a\n", 1, "without its end");
     is_refused("fn f() {\n    let g = |x: u8| requires { x < 2 } { x };\n}\n", 2, "outside the head of a function");
