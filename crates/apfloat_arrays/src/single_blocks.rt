@@ -20,7 +20,7 @@ use crate::singles::convert_last;
 use crate::specials::{BLOCK, LONG};
 use crate::widths::{Widths, bytes_of};
 use crate::{short_singles, singles};
-use fast_bits::lanes::{Plan, ShortPlan, plan_of, short_plan_of};
+use fast_bits::lanes::{Plan, ShortPlan, plan_of, short_format_plan};
 use rustc_apfloat::Round;
 use rustc_apfloat::ieee::Flagged;
 use small_formats::saturation::Overflow;
@@ -108,7 +108,7 @@ impl SinglesPlan for ShortPlan {
 
     #[inline(always)]
     fn plan_to<T: Flagged>(saturating: bool, round: Round) -> ShortPlan {
-        short_plan_of(target_of::<T>(), saturating, round)
+        short_format_plan(target_of::<T>(), saturating, round)
     }
 }
 

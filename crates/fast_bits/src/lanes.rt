@@ -23,4 +23,4 @@ pub use halves::{is_finite_half, upper_half};
 pub use lanes::{Lane, convert_single, is_finite};
 pub use plans::{Plan, ShortPlan};
 pub use short_lanes::convert_half;
-pub use sides::{delivers_past, plan_of, short_plan_of};
+pub use sides::{delivers_past, plan_of, short_format_plan};

@@ -25,7 +25,7 @@ pub struct Plan {
     ghost negative_is: { IsSideOf 16 saturates (format_at target) round true negative },
 }
 
-/// A conversion of the upper sixteen bits of singles: to a format of at most eight bits.
+/// A conversion of the upper sixteen bits of singles: to a short format, for which these are enough.
 #[derive(Clone, Copy)]
 pub struct ShortPlan {
     /// The format.

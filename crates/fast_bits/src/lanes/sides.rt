@@ -87,9 +87,10 @@ pub fn plan_of(target: Target, saturates: bool, round: Round) -> Plan
     }
 }
 
-/// The same for a format of at most eight bits.
+/// What is done with each upper half of a single, where the target is a short format: one of at most eight bits and six
+/// digits, with a least normal number far above denormal singles, so that sixteen bits of a single are enough.
 #[inline(always)]
-pub fn short_plan_of(target: Target, saturates: bool, round: Round) -> ShortPlan
+pub fn short_format_plan(target: Target, saturates: bool, round: Round) -> ShortPlan
     requires short { IsShortFormat (layout_at target) target.precision target.min_exp }
     ensures target { result.target ≡ target }
     ensures saturates { result.saturates ≡ saturates }
