@@ -74,6 +74,8 @@ QUAD_PRODUCT = call(
     "wide_mul_r", "quad", "even", f"{quad('3fff', '1')} {quad('3fff', '3')}", quad("3fff", "4"), "INEXACT", "-"
 )
 TO_HALF = call("convert_r", "single>half", "even", "33000001", "0001", "UNDERFLOW|INEXACT", "loses_info=true")
+ABOVE_ONE = call("round_to_integral", "half", "up", "3c01", "4000", "INEXACT", "-")
+LONG_ABOVE_ONE = call("round_to_integral", "quad", "up", quad("3fff", "1"), quad("4"), "INEXACT", "-")
 STEPS = call("c_fmod_steps", "half", "-", "7bff 0001", "0000", "OK", "steps=11 bound=40")
 
 # The crate, the edit and its row, for each mistake.
@@ -87,6 +89,13 @@ MISTAKES = {
         ("apfloat_rounding", "-kernel", JUST_ABOVE_TIE),
         ("apfloat_rounding", "-low-word", LONG_INTEGER),
         ("apfloat_rounding", "-denormal", LONG_DENORMAL),
+        ("apfloat_rounding", "-short", "half mul up 3c01 3c01\t3c03 INEXACT"),
+        ("apfloat_rounding", "-long", "double mul up 3ff0000000000001 3ff0000000000001\t3ff0000000000003 INEXACT"),
+        ("apfloat_rounding", "-sum", "half add up 3c00 0c01\t3c01 INEXACT"),
+        ("apfloat_rounding", "-quotient", "half div up 3c00 3c01\t3bff INEXACT"),
+        ("apfloat_rounding", "-below", "half mul up 3c01 0003\t0004 UNDERFLOW|INEXACT"),
+        ("apfloat_conversions", "-whole", ABOVE_ONE),
+        ("apfloat_conversions", "-long-whole", LONG_ABOVE_ONE),
     ],
     "overflow-always-infinity": [
         ("apfloat_rounding", "", "e4m3fn int zero 480\t7e INEXACT"),
@@ -118,7 +127,8 @@ MISTAKES = {
             "apfloat_rounding",
             "",
             call("convert_r", "single>e4m3fn", "up", "c3f00000", "fe", "INEXACT", "loses_info=true"),
-        )
+        ),
+        ("apfloat_rounding", "", call("add_r", "e5m2fnuz", "up", "ff ff", "ff", "INEXACT", "-")),
     ],
     "text-refuses-everything": [("apfloat_conversions", "", "half parse even 0x1.ffep+15\t7c00 OVERFLOW|INEXACT")],
     "text-reads-32-digits": [("apfloat_conversions", "", JUST_ABOVE_TIE)],
@@ -158,6 +168,7 @@ MISTAKES = {
         ("apfloat_rounding", "", THIRD),
         ("apfloat_rounding", "-below", HALF_QUANTUM),
         ("apfloat_rounding", "-rest", HALF_QUANTUM),
+        ("apfloat_conversions", "-integral-value", ABOVE_ONE),
         ("apfloat_arithmetic", "-sum", PAST_LARGEST),
         ("apfloat_arithmetic", "-product", HALF_QUANTUM),
         ("apfloat_arithmetic", "-wide-product", QUAD_PRODUCT),
