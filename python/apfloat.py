@@ -595,7 +595,7 @@ def _count(counts: dict[str, int], flags: Flags) -> None:
 
 def _nested(of: Any) -> tuple[tuple[int, ...], list[Any]]:
     """The shape of nested sequences, and their items in order."""
-    if isinstance(of, (list, tuple, range)) and set(map(type, of)) <= _SINGLE_ITEMS:
+    if isinstance(of, (list, tuple, range, array.array)) and set(map(type, of)) <= _SINGLE_ITEMS:
         return (len(of),), list(of)
     if isinstance(of, (str, Value)) or not hasattr(of, '__iter__') or getattr(of, 'shape', None) == ():
         return (), [of]
@@ -710,8 +710,8 @@ class StorageFormat:
         >>> xs.counts['inexact'], xs.counts['overflow']
         (2, 1)
 
-        The elements of a type of ml_dtypes with the format's name are taken as they are. Integers are numbers, and bytes
-        are refused: `from_bits` takes the bits of values.
+        The elements of a type of ml_dtypes with the format's name are taken as they are. Integers are numbers, and
+        bytes are refused: `from_bits` takes the bits of values.
         """
         given = _given(of, quad)
         if given is None:
@@ -728,7 +728,7 @@ class StorageFormat:
 # ---- numpy
 
 # The codes of struct for integers.
-_INTEGER_CODES = 'bBhHiIlLqQ'
+_INTEGER_CODES = frozenset('bBhHiIlLqQ')
 
 # The elements of the types that numpy and ml_dtypes have for formats, by a format's code: numbers, or their bits.
 _ELEMENTS = {1: 'f2', 2: 'f4', 3: 'f8', 5: 'u2', 6: 'u1', 7: 'u1', 8: 'u1', 16: 'u1', 17: 'u1', 18: 'u1'}
@@ -836,7 +836,7 @@ def _from_low_words(data: bytes, length: int, less: int, shape: tuple[int, ...])
 
 
 def _of_items(items: list[Any], kinds: set[type]) -> Array | None:
-    """Floats and integers in one row, as values of `double` or `quad`, if these have all of them; their types are given."""
+    """Floats and integers in a row, whose types are given, as values of `double` or `quad`, if these have them all."""
     if not kinds or not kinds <= {int, bool, float}:
         return None
     integers = items if float not in kinds else [item for item in items if type(item) is not float]
@@ -1689,8 +1689,8 @@ class _Elements(Generic[_Element]):
     def __getitem__(self, index: Any) -> Any:
         """An element or a part, by an integer or a slice for each axis, or by a mask of the same shape.
 
-        As in numpy, `...` stands for all axes that are not named, and None for a new one of length 1. For one axis there
-        may be a list of integers. A part is a copy.
+        As in numpy, `...` stands for all axes that are not named, and None for a new one of length 1. For one axis
+        there may be a list of integers. A part is a copy.
 
         >>> xs = half.array([[1, 2, 3], [4, 5, 6]])
         >>> xs[1, 0], xs[0], xs[:, ::2]
@@ -2009,8 +2009,8 @@ class _Numbers(_Elements[Value]):
         return _listed(iter(_extremes(rows._exact(), greatest)), shape)
 
     def numbers(self) -> memoryview:
-        """The numbers as a view of a copy in memory, in the shape of the array: in C's float, or in its double if that is
-        needed for the numbers of the format.
+        """The numbers as a view of a copy in memory, in the shape of the array: in C's float, or in its double if that
+        is needed for the numbers of the format.
 
         >>> view = e4m3fn.array([[0.5, -1], [2, 448]]).numbers()
         >>> view.format, view.tolist()
@@ -2552,11 +2552,10 @@ class finfo:
     They are values of the format, and of `single` those of a storage format. `eps` is the distance from 1 to the next
     number of as many digits, `resolution` the power of ten at or above it that is nearest.
 
-    >>> limits = finfo(half)
-    >>> limits.bits, limits.max, limits.eps, limits.resolution
-    (16, half('65504.0'), half('0.000977'), half('0.001'))
-    >>> finfo(float4_e2m1fn)
-    finfo(float4_e2m1fn, bits=4, eps=0.5, max=6.0, min=-6.0, smallest_normal=1.0, smallest_subnormal=0.5, resolution=1.0)
+    >>> finfo(float4_e2m1fn).max, finfo('float8_e5m2').eps, finfo(half).resolution
+    (single('6.0'), e5m2('0.25'), half('0.001'))
+    >>> finfo(half)
+    finfo(half, bits=16, eps=0.000977, max=65504.0, min=-65504.0, smallest_normal=0.00006104, smallest_subnormal=6e-8)
     """
 
     dtype: Any
@@ -2590,7 +2589,7 @@ class finfo:
         self.tiny = self.smallest_normal
 
     def __repr__(self) -> str:
-        names = 'eps', 'max', 'min', 'smallest_normal', 'smallest_subnormal', 'resolution'
+        names = 'eps', 'max', 'min', 'smallest_normal', 'smallest_subnormal'
         return f'finfo({self.dtype}, bits={self.bits}, {", ".join(f"{name}={getattr(self, name)}" for name in names)})'
 
 
@@ -2599,8 +2598,8 @@ class finfo:
 class Blocks:
     """An array in blocks of elements with a common scale, as `mx.quantize` makes it.
 
-    `scales` are values of `float8_e8m0fnu`, one for each block, and `codes` values of the element format. `shape` is that
-    of the array; along `axis`, where the blocks lie, `codes` may be longer, by the zeros that fill the last block.
+    `scales` are values of `float8_e8m0fnu`, one for each block, and `codes` values of the element format. `shape` is
+    that of the array; along `axis`, where the blocks lie, `codes` may be longer, by the zeros that fill the last block.
     `counts` says how many roundings raised each flag, and how many values are in blocks whose scale is a NaN.
     """
 
@@ -2650,13 +2649,13 @@ class mx:
 
     @staticmethod
     def quantize(of: Any, element: Any = 'e4m3', block: int = 32, axis: int = -1, pad: bool = False) -> Blocks:
-        """An array in blocks of so many values of an axis, the last one if no other is named, rounded in the mode of the
-        context.
+        """An array in blocks of so many values of an axis, the last one if no other is named, rounded in the mode of
+        the context.
 
         The element format is `float8_e5m2`, `float8_e4m3fn`, `float6_e3m2fn`, `float6_e2m3fn` or `float4_e2m1fn`, or
-        its name, which may be as short as 'e2m1'; here e4m3 is that of the OCP, `float8_e4m3fn`. The array is an `Array`,
-        a numpy array, or nested lists of numbers, which are rounded to `double`. Flags are added to those of the context.
-        A length that the blocks do not divide is refused; with `pad`, zeros fill the last block.
+        its name, which may be as short as 'e2m1'; here e4m3 is that of the OCP, `float8_e4m3fn`. The array is an
+        `Array`, a numpy array, or nested lists of numbers, which are rounded to `double`. Flags are added to those of
+        the context. A length that the blocks do not divide is refused; with `pad`, zeros fill the last block.
 
         >>> mx.quantize([0.5] * 64, 'e4m3').scales
         float8_e8m0fnu.array([0.001953125, 0.001953125])
@@ -2690,12 +2689,13 @@ class mx:
         """The values of blocks along an axis: each code times the scale of its block, rounded once to the format,
         `single` if none is given, in the mode of the context.
 
-        Scales are an array of `float8_e8m0fnu`, or their codes as bytes or a numpy array of uint8, in the order in which
-        the blocks lie in the array, and codes an array of an element format.
+        Scales are an array of `float8_e8m0fnu`, or their codes as bytes or a numpy array of uint8, in the order in
+        which the blocks lie in the array, and codes an array of an element format.
         """
         target = single if format is None else format
         if not isinstance(codes, (Array, StoredArray)) or codes.format not in _ELEMENT_FORMATS.values():
-            raise TypeError(f'codes are an array of an element format: {", ".join(map(repr, _ELEMENT_FORMATS.values()))}')
+            formats = ', '.join(map(repr, _ELEMENT_FORMATS.values()))
+            raise TypeError(f'codes are an array of an element format: {formats}')
         place, last = _axis(axis, codes.ndim), codes.ndim - 1
         moved = codes._moved(place, last)
         blocks = _blocked(moved.shape, block)
@@ -2708,8 +2708,8 @@ class mx:
         by, data = bytes(held.reshape(lying)._moved(place, last)), bytes(moved)
         length = len(data) * target._bytes
         room = ctypes.create_string_buffer(max(length, 1))
-        counts = _block_call('dequantize_blocks', codes.format.code, context().mode, target.code, block, by, count, data,
-                             len(data), room, length)
+        counts = _block_call('dequantize_blocks', codes.format.code, context().mode, target.code, block, by, count,
+                             data, len(data), room, length)
         made = target._made(room.raw[:length], counts, moved.shape)
         return made if place == last else Array(target, bytes(made._moved(last, place)), counts, codes.shape)
 
@@ -2772,7 +2772,7 @@ def _values_of(of: Any) -> Array:
 def _blocked(shape: tuple[int, ...], block: int) -> tuple[int, ...]:
     """The shape of the scales."""
     if not shape or block < 1 or shape[-1] % block:
-        raise ValueError(f'shape {shape} is not in blocks of {block} along its last axis: pad=True fills the last block')
+        raise ValueError(f'shape {shape} is not in blocks of {block}: pad=True fills the last block of an axis')
     return (*shape[:-1], shape[-1] // block)
 
 
@@ -2858,8 +2858,8 @@ def _gathered(data: bytes | bytearray, width: int, offset: int, axes: list[tuple
 
 def _copied(width: int, shape: tuple[int, ...], source: bytes | bytearray, start: int, strides: list[int],
             target: bytearray, place: int, steps: list[int]) -> None:
-    """Copies elements of so many bytes between two buffers, in the order of a shape. Said of both are where the first one
-    is, and for each axis how many elements its next index is away."""
+    """Copies elements of so many bytes between two buffers, in the order of a shape. Said of both are where the first
+    one is, and for each axis how many elements its next index is away."""
     if 0 in shape:
         return
     # The longest axis is copied at once, each time.

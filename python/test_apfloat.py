@@ -1054,7 +1054,8 @@ class TensorTests(unittest.TestCase):
         for format in apfloat.half, apfloat.x87, apfloat.quad, apfloat.e4m3fn:
             numbers = [[[n * 6 + m * 3 + k for k in range(3)] for m in range(2)] for n in range(2)]
             xs = format.array(numbers)
-            self.assertEqual(integers(xs.T), [[[numbers[n][m][k] for n in range(2)] for m in range(2)] for k in range(3)])
+            self.assertEqual(integers(xs.T),
+                             [[[numbers[n][m][k] for n in range(2)] for m in range(2)] for k in range(3)])
             for given in (1, 2, 0), ((1, 2, 0),), (-2, -1, 0):
                 self.assertEqual(integers(xs.transpose(*given)),
                                  [[[numbers[n][m][k] for n in range(2)] for k in range(3)] for m in range(2)])
@@ -1179,8 +1180,10 @@ class TensorTests(unittest.TestCase):
         self.assertEqual([apfloat.finfo(name).resolution for name in ('half', 'single', 'double', 'bfloat16', 'e5m2')],
                          [apfloat.half('0.001'), apfloat.single('1e-6'), 1e-15, apfloat.bfloat('0.01'), 1])
         stored = {'float4_e2m1fn': (4, 6, -6, 1, 0.5, 0.5), 'float6_e2m3fn': (6, 7.5, -7.5, 1, 0.125, 0.125),
-                  'float6_e3m2fn': (6, 28, -28, 0.25, 0.0625, 0.25), 'float8_e3m4': (8, 15.5, -15.5, 0.25, 2**-6, 2**-4),
-                  'float8_e8m0fnu': (8, 2.0**127, 2**-127, 2**-127, 2**-127, 1), 'ue4m3': (7, 448, 0, 2**-6, 2**-9, 0.125)}
+                  'float6_e3m2fn': (6, 28, -28, 0.25, 0.0625, 0.25),
+                  'float8_e3m4': (8, 15.5, -15.5, 0.25, 2**-6, 2**-4),
+                  'float8_e8m0fnu': (8, 2.0**127, 2**-127, 2**-127, 2**-127, 1),
+                  'ue4m3': (7, 448, 0, 2**-6, 2**-9, 0.125)}
         for name, wanted in stored.items():
             limits = apfloat.finfo(getattr(apfloat, name).from_bits([0]))
             self.assertEqual((limits.bits, limits.max, limits.min, limits.smallest_normal, limits.smallest_subnormal,
@@ -1434,6 +1437,32 @@ def integers(xs):
     return integers(xs.tolist()) if isinstance(xs, Array) else int(xs)
 
 
+class TypeTests(unittest.TestCase):
+    """What mypy finds out."""
+
+    @unittest.skipUnless(shutil.which('mypy'), 'there is no mypy')
+    def test_types(self):
+        known = {
+            'xs[0]': 'Value | Array', 'xs[0, 1]': 'Value | Array', 'xs[1:]': 'Array', 'xs[[0, 1]]': 'Array',
+            'xs[xs > 1]': 'Array', 'xs > 1': 'Mask', '(xs > 1)[0]': 'bool | Mask', 'xs + 1': 'Array', 'xs.T': 'Array',
+            'xs.max()': 'Value', 'xs.numbers()': 'memoryview', 'half(1) * 2': 'Value', 'half(1) < 2': 'bool',
+            'half.from_bits(1)': 'Value', 'half.from_bits([1])': 'Array', 'stored.array([1])[:1]': 'StoredArray',
+            'stored.array([1]).to(half)': 'Array', 'mx.quantize([1]).dequantize()': 'Array', 'finfo(half).max': 'Value',
+        }
+        lines = ['from typing import assert_type', 'from apfloat import *',
+                 'from apfloat import float4_e2m1fn as stored', 'xs = half.array([[1, 2], [3, 4]])',
+                 *[f'assert_type({text}, {kind})' for text, kind in known.items()]]
+        with tempfile.TemporaryDirectory() as folder:
+            shutil.copy(apfloat.__file__, os.path.join(folder, 'apfloat.py'))
+            path = os.path.join(folder, 'typed.py')
+            with open(path, 'w', encoding='utf-8') as file:
+                file.write('\n'.join(lines) + '\n')
+            done = subprocess.run(['mypy', '--strict', '--python-version', '3.11', '--ignore-missing-imports',
+                                   '--cache-dir', folder, 'typed.py'],
+                                  cwd=folder, capture_output=True, text=True, check=False)
+        self.assertEqual(done.returncode, 0, done.stdout)
+
+
 class LibraryTests(unittest.TestCase):
     """How the shared library is found."""
 
@@ -1505,6 +1534,48 @@ class WheelTests(unittest.TestCase):
             self.assertEqual(done.returncode, 1)
             self.assertIn(said, done.stderr)
             self.assertNotIn('Traceback', done.stderr)
+
+    def checkout(self, folder, age):
+        """A checkout with a built library that is so many seconds older than the text, and the call for the library."""
+        for name in 'rust/apfloat/Cargo.toml', 'Cargo.toml', 'crates/any/src/lib.rt', 'target/release/{}':
+            path = os.path.join(folder, name.format({'darwin': 'libapfloat.dylib'}.get(sys.platform, 'libapfloat.so')))
+            os.makedirs(os.path.dirname(path), exist_ok=True)
+            with open(path, 'wb'):
+                pass
+            os.utime(path, (10**9 - age, 10**9 - age) if 'release' in path else (10**9, 10**9))
+        crate = os.path.join(folder, 'rust', 'apfloat', 'Cargo.toml')
+        return (f'import pathlib; backend.CRATE = pathlib.Path({crate!r}); backend.BETWEEN = 0.2; '
+                'print(backend.library())')
+
+    def test_built_library(self):
+        with tempfile.TemporaryDirectory() as folder:
+            done = self.run_backend(self.checkout(folder, -1))
+            self.assertEqual(done.returncode, 0, done.stderr)
+            self.assertEqual(os.path.dirname(done.stdout), os.path.join(folder, 'target/release'))
+            self.assertIn('apfloat: taking', done.stderr)
+            # One that is older than the text is not taken.
+            done = self.run_backend(self.checkout(folder, 1))
+            self.assertEqual(done.returncode, 1)
+            self.assertIn('there is no cargo', done.stderr)
+
+    def test_progress(self):
+        with tempfile.TemporaryDirectory() as folder:
+            call = self.checkout(folder, 1)
+            cargo = os.path.join(folder, 'cargo')
+            with open(cargo, 'w', encoding='utf-8') as file:
+                file.write('#!/bin/sh\nsleep 1\n'
+                           'echo \'{"filenames": ["/at/libapfloat.so", "/at/libapfloat.dylib"]}\'\n')
+            os.chmod(cargo, 0o755)
+            done = self.run_backend(call, PATH=f'{folder}:/usr/bin:/bin')
+            self.assertEqual((done.returncode, os.path.dirname(done.stdout)), (0, '/at'), done.stderr)
+            self.assertIn('apfloat: cargo builds', done.stderr)
+            self.assertIn('apfloat: cargo has been compiling for', done.stderr)
+            self.assertIn('apfloat: cargo took', done.stderr)
+            with open(cargo, 'w', encoding='utf-8') as file:
+                file.write('#!/bin/sh\nexit 1\n')
+            done = self.run_backend(call, PATH=f'{folder}:/usr/bin:/bin')
+            self.assertEqual(done.returncode, 1)
+            self.assertIn('cargo failed', done.stderr)
 
 
 @unittest.skipUnless(numpy, 'there is no numpy')
