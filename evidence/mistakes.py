@@ -117,7 +117,10 @@ MISTAKES = {
         ("apfloat_arithmetic", "-zeros", "half add even 8000 0000\t0000 OK"),
         ("apfloat_arithmetic", "-zero-product", "half fma down 0000 3c00 8000\t8000 OK"),
     ],
-    "remainder-rounds-quotient": [("apfloat_arithmetic", "", "half rem even 7bff 4200\tbc00 OK")],
+    "remainder-rounds-quotient": [
+        ("apfloat_arithmetic", "", "half rem even 7bff 4200\tbc00 OK"),
+        ("apfloat_arithmetic", "-truncated", "half mod even 7bff 0003\t0002 OK"),
+    ],
     "conversion-drops-or-rounds-twice": [
         ("apfloat_conversions", "", TO_HALF),
         ("apfloat_conversions", "-rounding", TO_HALF),
