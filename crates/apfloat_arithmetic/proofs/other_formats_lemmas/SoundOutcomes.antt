@@ -1,5 +1,5 @@
 -- Every outcome of an operation that delivers in another format is sound.
-use Rattle.std.proofs.Common.{ℕ, ◌||◌, ◌+◌, ◌*◌, Bool, eqb}
+use Rattle.std.proofs.Common.{ℕ, ◌||◌, ◌+◌, ◌*◌, Bool, false, eqb}
 use Rattle.std.proofs.Math.Nat.{mul-pos}
 use Rattle.std.proofs.lemmas.Nat.{pow_pos}
 use Rattle.apfloat_model.specs.formats.Format.{Format}
