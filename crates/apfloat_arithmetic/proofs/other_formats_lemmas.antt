@@ -6,3 +6,4 @@ mod SoundOutcomes
 pub mod Once
 pub mod RootExponents
 pub mod RaisedFlags
+pub mod RootsAgree
