@@ -6,4 +6,3 @@ mod SoundOutcomes
 pub mod Once
 pub mod RootExponents
 pub mod RaisedFlags
-pub mod RootsAgree
