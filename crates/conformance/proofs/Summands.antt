@@ -14,7 +14,7 @@ use Rattle.rustc_apfloat.specs.Members.{IsMember}
 use Rattle.rustc_apfloat.specs.Order.{number}
 use Rattle.rustc_apfloat.specs.PairFormats.{double}
 use Rattle.rustc_apfloat.specs.Pairs.{Pair, alone, pair_of, pair_number}
-use Rattle.rustc_apfloat.specs.PairAccuracy.{sum_reach, IsSingle, IsExactPair, IsClosePair, IsErrorFreeSum, IsAccurateSum}
+use Rattle.rustc_apfloat.specs.PairAccuracy.{sum_reach, HasZeroLow, IsExactPair, IsClosePair, IsErrorFreeSum, IsAccurateSum}
 use Rattle.apfloat_pair_theory.proofs.numbers.Signed.{magnitude_le, first_most}
 use Rattle.apfloat_pair_theory.proofs.numbers.SignedProducts.{times_one}
 use Rattle.apfloat_pair_theory.proofs.pairs.LawOperands.{magnitude_quanta, normalised_low, double_alone}
@@ -31,7 +31,7 @@ pub alone_of_bits : (x : Datum) (bits : ℕ) → bits < 2 ^ 64
 alone_of_bits x bits h e = rw (mod-eq_of_lt h, div-eq_of_lt h, e) refl
 
 -- a summand with low part +0 is a single double
-single : (reach : ℕ) (x : Datum) → IsPlainSummand reach x → IsSingle (alone x)
+single : (reach : ℕ) (x : Datum) → IsPlainSummand reach x → HasZeroLow (alone x)
 single reach x s = record { is_finite = s.is_finite; low_is = refl }
 
 -- ---- two doubles
