@@ -5,6 +5,7 @@
 use rustc_apfloat::comparisons::{self, Class, Extremum, OnNan, Predicate};
 use rustc_apfloat::conversion_modes::{ConversionRound, RandomDigits, RandomError, convert_by};
 use rustc_apfloat::ieee::*;
+use rustc_apfloat::more::IeeeMore;
 use rustc_apfloat::storage_formats::{E2M1FN, E3M2FN, E8M0FNU, Float8E3M4, StoredFloat, UE4M3};
 use rustc_apfloat::{Category, Float, IEK_INF, IEK_NAN, IEK_ZERO, Round, Status, StatusAnd};
 use std::cmp::Ordering;

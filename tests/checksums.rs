@@ -2,6 +2,7 @@
 //! flags. The operands come from the same generator.
 
 use rustc_apfloat::ieee::*;
+use rustc_apfloat::more::FloatMore;
 use rustc_apfloat::ppc::DoubleDouble;
 use rustc_apfloat::{Float, FloatConvert, Round, Status, StatusAnd};
 

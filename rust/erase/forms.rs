@@ -75,6 +75,9 @@ pub(crate) const NUMBERS: [&str; 10] = ["i8", "i16", "i32", "i64", "isize", "u8"
 /// The macros that are the same in both languages, and those that the library's crates export.
 pub(crate) const MACROS: [&str; 5] = ["bitflag_items", "matches", "unpack", "unreachable", "write"];
 
+/// Those of them that the library's crates export.
+pub(crate) const OF_LIBRARY: [&str; 2] = ["bitflag_items", "unpack"];
+
 /// Those that programs use beside them.
 pub(crate) const MACROS_OF_PROGRAMS: [&str; 1] = ["writeln"];
 

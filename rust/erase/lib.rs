@@ -5,6 +5,7 @@
 #![forbid(unsafe_code)]
 
 mod forms;
+mod lines;
 mod refusal;
 mod tokens;
 mod walk;

@@ -1,9 +1,10 @@
 //! One file: its tokens, each kept, left out or replaced.
 
 use super::forms::{
-    ATTRIBUTES, Attribute, DERIVED, FMT, MACROS, MACROS_OF_PROGRAMS, MODEL, NUMBERS, PROVED, REFUSED, STD,
+    ATTRIBUTES, Attribute, DERIVED, FMT, MACROS, MACROS_OF_PROGRAMS, MODEL, NUMBERS, OF_LIBRARY, PROVED, REFUSED, STD,
     STD_OF_PROGRAMS, WORDS_OF_PROGRAMS,
 };
+use super::lines::Lines;
 use super::refusal::Fault;
 use super::tokens::{Kind, Token, tokens};
 use std::collections::HashMap;
@@ -11,7 +12,7 @@ use std::collections::HashMap;
 /// A file without its contracts.
 #[derive(Debug, PartialEq, Eq)]
 pub(crate) struct Erased {
-    /// The text, of as many lines as the file.
+    /// The text. A line of which nothing is left is left out too.
     pub text: String,
     /// The modules that it declares in files of their own.
     pub modules: Vec<String>,
@@ -63,7 +64,6 @@ pub(crate) fn erase(text: &str, place: &Place<'_>) -> Result<Erased, Fault> {
         defined: Vec::new(),
         takers: Vec::new(),
         exports: false,
-        opening: 0,
     };
     let mut at = 0;
     while at < walk.seen.len() {
@@ -72,11 +72,16 @@ pub(crate) fn erase(text: &str, place: &Place<'_>) -> Result<Erased, Fault> {
     if walk.within.len() != 1 {
         return Fault::new(tokens.last().map_or(0, |token| token.line), "a bracket without its end");
     }
-    let mut out = String::with_capacity(text.len());
+    let mut lines = Lines::new(text.len());
     for (i, token) in tokens.iter().enumerate() {
-        out.push_str(walk.replaced.get(&i).map_or(token.text, |new| new));
+        match walk.replaced.get(&i) {
+            Some(new) if new.is_empty() => lines.leave_out(),
+            Some(new) => lines.write(new),
+            None if token.kind == Kind::Space => lines.space(token.text),
+            None => lines.write(token.text),
+        }
     }
-    Ok(Erased { text: out, modules: walk.modules, macros: walk.macros })
+    Ok(Erased { text: lines.text(), modules: walk.modules, macros: walk.macros })
 }
 
 struct Walk<'a, 'p> {
@@ -98,8 +103,6 @@ struct Walk<'a, 'p> {
     takers: Vec<&'a str>,
     /// Whether `#[macro_export]` stands before the item.
     exports: bool,
-    /// The place after the last `#![..]`.
-    opening: usize,
 }
 
 impl<'a> Walk<'a, '_> {
@@ -129,16 +132,15 @@ impl<'a> Walk<'a, '_> {
         Fault::new(line, why)
     }
 
-    /// Leaves out what stands from one place up to another, but for the ends of its lines.
+    /// Leaves out what stands from one place up to another.
     fn leave_out(&mut self, from: usize, to: usize) {
         for i in self.seen[from]..=self.seen[to - 1] {
-            self.blank(i);
+            self.replaced.insert(i, String::new());
         }
     }
 
-    fn blank(&mut self, i: usize) {
-        let lines = self.tokens[i].text.matches('\n').count();
-        self.replaced.insert(i, "\n".repeat(lines));
+    fn is_left_out(&self, i: usize) -> bool {
+        self.replaced.get(&i).is_some_and(String::is_empty)
     }
 
     fn replace(&mut self, at: usize, new: impl Into<String>) {
@@ -153,6 +155,9 @@ impl<'a> Walk<'a, '_> {
 
     /// The place after the bracket that opens at a place.
     fn after_bracket(&self, at: usize) -> Result<usize, Fault> {
+        if !matches!(self.text(at), "(" | "[" | "{") {
+            return self.fault(at, "no bracket where one has to open");
+        }
         let (mut depth, mut end) = (0usize, at);
         loop {
             match self.text(end) {
@@ -204,15 +209,25 @@ impl<'a> Walk<'a, '_> {
         matches!(self.before(first), "" | ";" | "{" | "}" | "," | "]").then_some(first)
     }
 
-    /// Leaves out the doc comments that stand right before a place.
-    fn leave_out_docs(&mut self, at: usize) {
-        let mut i = self.seen[at];
-        while i > 0 {
-            i -= 1;
+    /// The place where the item begins that has its first word, or its `pub`, at a place, if no attribute that stays
+    /// is before it.
+    fn beginning_alone(&self, at: usize) -> Option<usize> {
+        let first = self.beginning(at)?;
+        (self.before(first) != "]" || self.is_left_out(self.seen[first - 1])).then_some(first)
+    }
+
+    /// Leaves out the item that begins at a place, with its docs, up to another place.
+    fn leave_out_with_docs(&mut self, first: usize, end: usize) {
+        self.leave_out(first, end);
+        for i in (0..self.seen[first]).rev() {
             let token = self.tokens[i];
             match token.kind {
                 Kind::Space => {}
-                Kind::Comment if token.text.starts_with("///") && !token.text.starts_with("////") => self.blank(i),
+                Kind::Comment if documents(token.text) => {
+                    self.replaced.insert(i, String::new());
+                }
+                Kind::Comment => {}
+                _ if self.is_left_out(i) => {}
                 _ => break,
             }
         }
@@ -259,16 +274,41 @@ impl<'a> Walk<'a, '_> {
                     self.item = "";
                 }
             }
-            ".." => {
-                let counts =
-                    matches!(self.kind(at.wrapping_sub(1)), Some(Kind::Number | Kind::Word)) || self.before(at) == ")";
-                if self.innermost() == Within::Code && counts && matches!(self.text(at + 1), ")" | "{") {
-                    return self.fault(at, "a range without an end, which ends elsewhere in Rust");
-                }
-            }
+            ".." => self.range(at)?,
             _ => {}
         }
         Ok(at + 1)
+    }
+
+    /// `..`: what begins somewhere has to end, but as an index, where it is a slice. Without a beginning, it stands for
+    /// the rest of a pattern.
+    fn range(&self, at: usize) -> Result<(), Fault> {
+        let begins = !matches!(self.before(at), "" | "(" | "[" | "{" | "," | ";" | "@" | "=" | "=>" | "|" | "&");
+        let ends = match self.text(at + 1) {
+            "]" => self.is_index(at),
+            after => !matches!(after, ")" | "{" | "}" | "," | ";" | "." | "?" | "=>" | "|" | "if" | ""),
+        };
+        if begins && !ends {
+            return self.fault(at, "a range without an end, which ends elsewhere in Rust");
+        }
+        Ok(())
+    }
+
+    /// Whether the innermost brackets around a place are square, and have an index.
+    fn is_index(&self, at: usize) -> bool {
+        let (mut depth, mut open) = (1usize, at);
+        while depth > 0 && open > 0 {
+            open -= 1;
+            match self.text(open) {
+                "(" | "[" | "{" => depth -= 1,
+                ")" | "]" | "}" => depth += 1,
+                _ => {}
+            }
+        }
+        let of = self.before(open);
+        let is_keyword = matches!(of, "in" | "if" | "while" | "match" | "return" | "break" | "else" | "let" | "mut");
+        let is_value = open > 0 && self.is_word(open - 1) && !is_keyword || matches!(of, ")" | "]" | "?");
+        depth == 0 && self.text(open) == "[" && is_value
     }
 
     /// What a brace begins.
@@ -402,8 +442,8 @@ impl<'a> Walk<'a, '_> {
     /// among fields, each with a `pub` or without: left out, with its doc comment.
     fn ghost(&mut self, at: usize) -> Result<usize, Fault> {
         let within = self.innermost();
-        let first = match self.beginning(at) {
-            Some(first) if self.signature.is_none() && (self.before(first) != "]" || first == self.opening) => first,
+        let first = match self.beginning_alone(at) {
+            Some(first) if self.signature.is_none() => first,
             _ => return self.fault(at, "`ghost` in an unknown place"),
         };
         let mut end = at + 2;
@@ -418,8 +458,7 @@ impl<'a> Walk<'a, '_> {
             (Within::Fields, "}") => {}
             _ => return self.fault(at, "`ghost` of an unknown form"),
         }
-        self.leave_out(first, end);
-        self.leave_out_docs(first);
+        self.leave_out_with_docs(first, end);
         Ok(end)
     }
 
@@ -429,6 +468,9 @@ impl<'a> Walk<'a, '_> {
         if self.text(name) != "Model" {
             // The type parameters may name crates.
             return Ok(at + 1);
+        }
+        if self.beginning_alone(at) != Some(at) {
+            return self.fault(at, "`impl Model` in an unknown place");
         }
         let mut open = name;
         while self.text(open) != "{" {
@@ -447,8 +489,8 @@ impl<'a> Walk<'a, '_> {
             member = self.ghost(member)?;
         }
         self.within.pop();
-        self.leave_out(at, end);
-        self.leave_out_docs(at);
+        self.leave_out_with_docs(at, end);
+        self.item = "";
         Ok(end)
     }
 
@@ -456,9 +498,10 @@ impl<'a> Walk<'a, '_> {
     fn invocation(&mut self, at: usize) -> Result<usize, Fault> {
         let word = self.text(at);
         if let Some((_, rust)) = PROVED.iter().find(|(proved, _)| *proved == word) {
-            // `const _: () = prove!(..);` is tested whenever Rust compiles it.
+            // `const _: () = prove!(..);` is tested whenever Rust compiles it. The path makes each the one of Rust.
             let in_constant = at >= 6 && self.joined(at - 6, at) == "const_:()=";
-            self.replace(at, if in_constant { rust.trim_start_matches("debug_") } else { rust });
+            let name = if in_constant { rust.trim_start_matches("debug_") } else { rust };
+            self.replace(at, format!("::core::{name}"));
             return Ok(at + 2);
         }
         if word == "macro_rules" {
@@ -466,6 +509,11 @@ impl<'a> Walk<'a, '_> {
                 return self.fault(at, "`macro_rules!` of an unknown form");
             }
             let name = self.text(at + 2);
+            let is_of_both =
+                MACROS.contains(&name) && !OF_LIBRARY.contains(&name) || MACROS_OF_PROGRAMS.contains(&name);
+            if is_of_both || name == word || PROVED.iter().any(|(proved, _)| *proved == name) {
+                return self.fault(at, format!("another macro `{name}!`"));
+            }
             let end = self.after_bracket(at + 3)?;
             if self.uses_a_parameter(at + 3, end)? {
                 self.takers.push(name);
@@ -512,8 +560,10 @@ impl<'a> Walk<'a, '_> {
     fn rules(&mut self, from: usize, to: usize) -> Result<(), Fault> {
         let mut at = from;
         while at < to {
-            if matches!(self.text(at), "ghost" | "requires" | "ensures") {
-                return self.fault(at, "a clause in a macro");
+            match self.text(at) {
+                "ghost" | "requires" | "ensures" => return self.fault(at, "a clause in a macro"),
+                ".." => self.range(at)?,
+                _ => {}
             }
             if !self.is_word(at) {
                 at += 1;
@@ -531,10 +581,13 @@ impl<'a> Walk<'a, '_> {
     /// A word that may begin a path: those into the crates and `std` are of the one crate and of `core` from here on.
     fn path(&mut self, at: usize) -> Result<usize, Fault> {
         let word = self.text(at);
+        let begins = self.text(at + 1) == "::";
+        if begins && matches!(word, "core" | "alloc") || self.before(at) == "::" && word == "std" {
+            return self.fault(at, format!("`{word}` in an unknown place"));
+        }
         if matches!(self.before(at), "." | "::") {
             return Ok(at + 1);
         }
-        let begins = self.text(at + 1) == "::";
         match word {
             "std" if begins => {
                 let mut path = String::from("std");
@@ -546,7 +599,7 @@ impl<'a> Walk<'a, '_> {
                 if !STD.contains(&path.as_str()) || path == MODEL {
                     return self.fault(at, format!("`{path}` is not known to be the same in Rust"));
                 }
-                self.replace(at, "core");
+                self.replace(at, "::core");
                 return Ok(end);
             }
             "crate" if begins => {
@@ -572,9 +625,13 @@ impl<'a> Walk<'a, '_> {
         while !matches!(self.text(end), ";" | "") {
             end += 1;
         }
+        if end == self.seen.len() {
+            return self.fault(at, "`use` without its semicolon");
+        }
         self.item = "";
         let first = self.text(at + 1);
         match first {
+            "std" if self.joined(at + 1, end) == MODEL => return self.leave_out_item(at, end + 1),
             "std" => self.import_std(at, end)?,
             "crate" if self.text(at + 2) == "::" => {
                 self.replace(at + 1, format!("{}::{}", self.place.root, self.place.name));
@@ -596,12 +653,10 @@ impl<'a> Walk<'a, '_> {
     /// Leaves out an item from its `pub` on.
     fn leave_out_item(&mut self, at: usize, end: usize) -> Result<usize, Fault> {
         self.item = "";
-        let first = match self.beginning(at) {
-            Some(first) if self.before(first) != "]" || first == self.opening => first,
-            _ => return self.fault(at, "an item of a module that is left out, in an unknown place"),
+        let Some(first) = self.beginning_alone(at) else {
+            return self.fault(at, "an item that is left out, in an unknown place");
         };
-        self.leave_out(first, end);
-        self.leave_out_docs(first);
+        self.leave_out_with_docs(first, end);
         Ok(end)
     }
 
@@ -609,14 +664,8 @@ impl<'a> Walk<'a, '_> {
     fn import_std(&mut self, at: usize, end: usize) -> Result<(), Fault> {
         let open = (at..end).find(|&i| self.text(i) == "{").unwrap_or(end);
         let base = self.joined(at + 1, open);
-        if open == end {
-            if base == MODEL {
-                self.leave_out(at, end + 1);
-                return Ok(());
-            }
-            if !self.is_in_std(&base) {
-                return self.fault(at, format!("`{base}` is not known to be the same in Rust"));
-            }
+        if open == end && !self.is_in_std(&base) {
+            return self.fault(at, format!("`{base}` is not known to be the same in Rust"));
         }
         for i in open + 1..end {
             match self.text(i) {
@@ -632,7 +681,7 @@ impl<'a> Walk<'a, '_> {
             }
         }
         if !self.place.of_program {
-            self.replace(at + 1, "core");
+            self.replace(at + 1, "::core");
         }
         Ok(())
     }
@@ -657,9 +706,6 @@ impl<'a> Walk<'a, '_> {
         match known {
             Some((_, Attribute::Goes)) => {
                 self.leave_out(at, end);
-                if inner {
-                    self.opening = end;
-                }
             }
             Some(_) if inner => return self.fault(at, format!("the attribute `#![{text}]`")),
             Some((_, Attribute::Stays)) => {}
@@ -684,7 +730,7 @@ impl<'a> Walk<'a, '_> {
                 if !is_module {
                     return self.fault(at, "`#[cfg(test)]` before anything but `mod name;`");
                 }
-                self.leave_out(at, end + 3);
+                self.leave_out_with_docs(at, end + 3);
                 return Ok(end + 3);
             }
             None => return self.fault(at, format!("the attribute `#[{text}]`")),
@@ -804,8 +850,17 @@ impl<'a> Walk<'a, '_> {
         self.leave_out(at, end);
         self.append(
             close,
-            &format!(" {head} Copy for {of} {{}} {head} Clone for {of} {{ fn clone(&self) -> Self {{ *self }} }}"),
+            &format!(
+                " {head} ::core::marker::Copy for {of} {{}} \
+                 {head} ::core::clone::Clone for {of} {{ fn clone(&self) -> Self {{ *self }} }}"
+            ),
         );
         Ok(())
     }
+}
+
+/// Whether a comment documents what follows it.
+fn documents(comment: &str) -> bool {
+    let is_line = comment.starts_with("///") && !comment.starts_with("////");
+    is_line || comment.starts_with("/**") && !comment.starts_with("/***") && comment != "/**/"
 }

@@ -25,6 +25,7 @@ pub mod rustc_apfloat {
 
     pub mod double_double_operations {
         use rustc_apfloat::ieee::{IeeeFloat, Semantics};
+        use rustc_apfloat::more::PairMore;
         use rustc_apfloat::ppc::DoubleDouble;
         use rustc_apfloat::{Float, Round, StatusAnd};
 
@@ -53,6 +54,7 @@ pub mod rustc_apfloat {
 
 pub mod apfloat_decimals {
     use rustc_apfloat::ieee::{IeeeFloat, Semantics};
+    use rustc_apfloat::more::{FloatMore, IeeeMore};
     use rustc_apfloat::{Float, ParseError, Round, StatusAnd};
 
     pub use rustc_apfloat::Decimal;
@@ -79,6 +81,7 @@ pub mod apfloat_digits {
     pub use rustc_apfloat::hex_digits as hexadecimal;
 
     pub mod of_double_doubles {
+        use rustc_apfloat::more::FloatMore;
         use rustc_apfloat::ppc::DoubleDouble;
         use rustc_apfloat::{Decimal, Float, ParseError, Round, StatusAnd};
 
@@ -103,6 +106,7 @@ pub use ::rustc_apfloat::odd as round_to_odd;
 /// Formats by their words.
 pub mod formats_at_run_time {
     use rustc_apfloat::ieee::*;
+    use rustc_apfloat::more::FloatMore;
     use rustc_apfloat::ppc::DoubleDouble;
     use rustc_apfloat::{Float, Round, StatusAnd};
 
@@ -119,31 +123,9 @@ pub mod formats_at_run_time {
     }
 
     /// Types with square roots.
-    pub trait ValueType: Float {
-        fn sqrt_r(self, round: Round) -> StatusAnd<Self>;
+    pub trait ValueType: FloatMore {}
 
-        fn sqrt(self) -> StatusAnd<Self>;
-    }
-
-    impl<S: Semantics> ValueType for IeeeFloat<S> {
-        fn sqrt_r(self, round: Round) -> StatusAnd<Self> {
-            self.sqrt_r(round)
-        }
-
-        fn sqrt(self) -> StatusAnd<Self> {
-            self.sqrt()
-        }
-    }
-
-    impl ValueType for DoubleDouble {
-        fn sqrt_r(self, round: Round) -> StatusAnd<Self> {
-            self.sqrt_r(round)
-        }
-
-        fn sqrt(self) -> StatusAnd<Self> {
-            self.sqrt()
-        }
-    }
+    impl<F: FloatMore> ValueType for F {}
 
     macro_rules! built_in_formats {
         ($($name:ident $format:ident $word:literal,)*) => {

@@ -3,7 +3,8 @@
 use crate::erased::formats_at_run_time::InFormat;
 use crate::lines::{CallInFormat, FormatOfCall, Operand, Operands, RowFormat, value_of};
 use rustc_apfloat::ieee::{IeeeFloat, Semantics};
-use rustc_apfloat::{Float, FloatConvert, Round, StatusAnd};
+use rustc_apfloat::more::IeeeMore;
+use rustc_apfloat::{ExpInt, Float, FloatConvert, Round, StatusAnd};
 use std::marker::PhantomData;
 
 pub fn zero<F: Float>() -> F {
@@ -38,6 +39,14 @@ pub fn wide_fused_sum<S: Semantics>(
     round: Round,
 ) -> StatusAnd<IeeeFloat<S>> {
     x.mul_add_r(y, z, round)
+}
+
+pub fn times_power<S: Semantics>(x: IeeeFloat<S>, power: ExpInt, round: Round) -> StatusAnd<IeeeFloat<S>> {
+    x.scale_b(power, round)
+}
+
+pub fn remainder_in_steps<S: Semantics>(x: IeeeFloat<S>, y: IeeeFloat<S>) -> (StatusAnd<IeeeFloat<S>>, u32) {
+    x.c_fmod_steps(y)
 }
 
 /// A value with its format: the crate has no such type, so it is an operand, which each call reads.

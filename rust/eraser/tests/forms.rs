@@ -8,7 +8,7 @@ fn becomes(text: &str, expected: &str) {
     match erase_text(text, "apfloat_base") {
         Ok(erased) => {
             assert_eq!(erased, expected);
-            assert_eq!(erased.lines().count(), text.lines().count(), "lines move");
+            assert!(!erased.contains("\n\n\n"), "a run of blank lines");
         }
         Err(refusal) => panic!("{refusal}"),
     }
@@ -73,7 +73,7 @@ fn code_stays() {
     stays("pub(super) fn f() {}\ntrait T { fn g(&self) -> u8; }\n");
     becomes(
         "pub const fn f(x: u8) -> u8\n    ensures { result ≡ x }\n{\n    x\n}\n",
-        "pub const fn f(x: u8) -> u8\n    \n{\n    x\n}\n",
+        "pub const fn f(x: u8) -> u8\n{\n    x\n}\n",
     );
     stays(
         "fn f(g: fn(u8) -> u8) -> u8 {
@@ -91,12 +91,12 @@ type T = u8;
 fn clauses_are_left_out() {
     becomes(
         "fn f(x: u8) -> u8\n    requires { x < 2 }\n    ensures name { result ≡ x + 1 }\n{\n    x + 1\n}\n",
-        "fn f(x: u8) -> u8\n    \n    \n{\n    x + 1\n}\n",
+        "fn f(x: u8) -> u8\n{\n    x + 1\n}\n",
     );
-    becomes("fn f()\n    ensures* { (n : ℕ) → λ x. { [\"}\"] } }\n{}\n", "fn f()\n    \n{}\n");
+    becomes("fn f()\n    ensures* { (n : ℕ) → λ x. { [\"}\"] } }\n{}\n", "fn f()\n{}\n");
     becomes(
         "trait T {\n    fn f(self) -> bool\n        ensures { result ≡ (a\n            × b) };\n}\n",
-        "trait T {\n    fn f(self) -> bool\n        \n;\n}\n",
+        "trait T {\n    fn f(self) -> bool\n        ;\n}\n",
     );
 }
 
@@ -104,9 +104,9 @@ fn clauses_are_left_out() {
 fn ghost_items_are_left_out() {
     becomes(
         "ghost use Rattle.std.specs.Prelude.{◌≡◌, [], ◌∷◌};\nuse crate::a;\n",
-        "\nuse crate::erased::apfloat_base::a;\n",
+        "use crate::erased::apfloat_base::a;\n",
     );
-    becomes("#![tactic(auto)]\n\nghost use A.{b};\n", "\n\n\n");
+    becomes("#![tactic(auto)]\n\nghost use A.{b};\n", "");
     becomes(
         "trait T {
     /// What it adds.
@@ -116,38 +116,71 @@ fn ghost_items_are_left_out() {
     fn f();
 }
 ",
-        "trait T {\n    \n    \n\n    \n    fn f();\n}\n",
+        "trait T {\n    fn f();\n}\n",
     );
-    becomes("impl T for U {\n    ghost adds = { λ x.\n        x };\n}\n", "impl T for U {\n    \n\n}\n");
+    becomes("impl T for U {\n    ghost adds = { λ x.\n        x };\n}\n", "impl T for U {\n}\n");
     becomes(
         "pub struct P {\n    value: u8,\n    pub ghost small: { value ≤ 100 },\n}\n",
-        "pub struct P {\n    value: u8,\n    \n}\n",
+        "pub struct P {\n    value: u8,\n}\n",
     );
-    becomes("struct P { value: u8, ghost small: { value ≤ 100 } }\n", "struct P { value: u8,  }\n");
+    becomes("struct P { value: u8, ghost small: { value ≤ 100 } }\n", "struct P { value: u8, }\n");
+}
+
+#[test]
+fn docs_go_with_what_they_document() {
+    let kept = "/// Kept.\nfn f() {}\n";
+    for (before, after) in [
+        ("/// Gone.\nghost a = { 1 };\n", ""),
+        ("/// Gone,\n// and why.\n/// Gone.\npub ghost a = { 1 };\n", "// and why.\n"),
+        ("/** Gone. */\nghost use A.{b};\n", ""),
+        ("/* Stays. */ /** Gone. */\n#[tactic(auto)]\nghost a = { 1 };\n", "/* Stays. */\n"),
+        ("/// Gone.\n#[tactic(auto)]\nimpl Model for P {\n    /// Gone.\n    ghost Value = { ℕ };\n}\n", ""),
+        ("/// Gone.\npub use std::marker::Model;\n", ""),
+        ("/// Gone.\n#[cfg(test)]\nmod tests;\n", ""),
+        ("//! Stays.\n\n/// Gone.\nghost a = { 1 };\n", "//! Stays.\n\n"),
+        ("//// Stays.\nghost a = { 1 };\n", "//// Stays.\n"),
+    ] {
+        becomes(&format!("{before}{kept}"), &format!("{after}{kept}"));
+    }
+    becomes(
+        "struct P {\n    /// Gone.\n    ghost a: { b },\n    /// Kept.\n    x: u8,\n}\n",
+        "struct P {\n    /// Kept.\n    x: u8,\n}\n",
+    );
+}
+
+#[test]
+fn blank_lines_stand_alone() {
+    becomes(
+        "\n\nuse crate::a;\n\nghost use A.{b};\n\n\n// c\n\nfn f()\n    ensures { a }\n\n{\n}\n\n",
+        "use crate::erased::apfloat_base::a;\n\n// c\n\nfn f()\n\n{\n}\n",
+    );
+    becomes("trait T {\n    ghost a: { b };\n\n    fn f();\n\n    ghost c: { d };\n}\n", "trait T {\n    fn f();\n}\n");
+    let text = "const A: &str = \"a  \n\n\n  b\";\n\n/* c  \n\n\n d */\nfn f() {}";
+    assert_eq!(erase_text(text, "apfloat_base").unwrap(), text);
 }
 
 #[test]
 fn models_are_left_out() {
     becomes(
         "use std::marker::Model;\n\n/// What is seen.\nimpl<S: Bound> Model for P<S> {\n    ghost Value = { ℕ };\n}\n",
-        "\n\n\n\n\n\n",
+        "",
     );
-    becomes("use std::marker::{Model, PhantomData};\n", "use core::marker::{ PhantomData};\n");
+    becomes("use std::marker::{Model, PhantomData};\n", "use ::core::marker::{ PhantomData};\n");
 }
 
 #[test]
 fn attributes_are_known() {
-    becomes("#[tactic(auto, using(a, b))]\nfn f() {}\n", "\nfn f() {}\n");
-    becomes("#[derive(Drop)]\nstruct P;\n", "\nstruct P;\n");
+    becomes("#[tactic(auto, using(a, b))]\nfn f() {}\n", "fn f() {}\n");
+    becomes("#[derive(Drop)]\nstruct P;\n", "struct P;\n");
     becomes("#[derive(Debug, Drop)]\nstruct P;\n", "#[derive(Debug)]\nstruct P;\n");
     stays("#[derive(Clone, Copy, PartialEq, Eq, PartialOrd, Ord, Debug, Default)]\nstruct P;\n");
-    becomes("#[cfg(test)]\nmod tests;\nfn f() {}\n", "\n\nfn f() {}\n");
+    becomes("#[cfg(test)]\nmod tests;\nfn f() {}\n", "fn f() {}\n");
     becomes(
         "#[derive_where(Clone, Copy)]\npub struct P<S: Bound> {\n    marker: PhantomData<S>,\n}\n",
-        "
-pub struct P<S: Bound> {
+        "pub struct P<S: Bound> {
     marker: PhantomData<S>,
-} impl<S: Bound> Copy for P<S> {} impl<S: Bound> Clone for P<S> { fn clone(&self) -> Self { *self } }
+} impl<S: Bound> ::core::marker::Copy for P<S> {} impl<S: Bound> ::core::clone::Clone for P<S> { \
+         fn clone(&self) -> Self { *self } }
 ",
     );
 }
@@ -160,10 +193,10 @@ struct P<'a, S: Bound> {
     s: &'a S,
 }
 ",
-        "
-struct P<'a, S: Bound> {
+        "struct P<'a, S: Bound> {
     s: &'a S,
-} impl<'a, S: Bound> Copy for P<'a, S> {} impl<'a, S: Bound> Clone for P<'a, S> { fn clone(&self) -> Self { *self } }
+} impl<'a, S: Bound> ::core::marker::Copy for P<'a, S> {} impl<'a, S: Bound> ::core::clone::Clone for P<'a, S> { \
+         fn clone(&self) -> Self { *self } }
 ",
     );
 }
@@ -183,10 +216,7 @@ pub extern \"C\" fn f(x: u32, y: P, b: &[u8], r: &mut [u8], a: &mut P) -> u32
 fn f() {}
 ",
         "/// A sum.
-
-pub  fn f(x: u32, y: P, b: &[u8], r: &mut [u8], a: &mut P) -> u32
-    
-    
+pub fn f(x: u32, y: P, b: &[u8], r: &mut [u8], a: &mut P) -> u32
 {
     if x == 0 { 0 } else { 1 }
 } crate::erased::export! { fn f ( x : u32 , y : P , b : & [ u8 ] , r : & mut [ u8 ] , a : & mut P ) -> u32 }
@@ -195,8 +225,7 @@ fn f() {}
     );
     becomes(
         "#[unsafe(no_mangle)]\npub extern \"C\" fn f(\n    x: u8,\n) -> u32 {\n    g(x)\n}\n",
-        "
-pub  fn f(
+        "pub fn f(
     x: u8,
 ) -> u32 {
     g(x)
@@ -228,10 +257,10 @@ fn functions_for_c_of_unknown_forms_are_refused() {
 fn modules_of_streams_are_left_out() {
     let text = "mod array;\nmod conversion;\n\npub use array::A;\npub use conversion::{B, C};\nuse array::D;\n";
     let erased = erase_text(text, "apfloat_arrays").unwrap();
-    assert_eq!(erased, "mod array;\n\n\npub use array::A;\n\nuse array::D;\n");
+    assert_eq!(erased, "mod array;\n\npub use array::A;\nuse array::D;\n");
     stays(text);
     let refusal = erase_text("#[inline]\nmod conversion;\nfn f() {}\n", "apfloat_arrays").unwrap_err();
-    assert!(refusal.why.contains("a module that is left out, in an unknown place"), "{refusal}");
+    assert!(refusal.why.contains("an item that is left out, in an unknown place"), "{refusal}");
 }
 
 #[test]
@@ -243,17 +272,17 @@ fn paths_are_of_one_crate() {
         "fn f() { apfloat_model::g(crate::h()) }\n",
         "fn f() { crate::erased::apfloat_model::g(crate::erased::apfloat_base::h()) }\n",
     );
-    becomes("use std::ops::{Add, Neg};\nuse std::fmt;\n", "use core::ops::{Add, Neg};\nuse core::fmt;\n");
-    becomes("fn f(s: &[u8]) { std::str::from_utf8(s) }\n", "fn f(s: &[u8]) { core::str::from_utf8(s) }\n");
+    becomes("use std::ops::{Add, Neg};\nuse std::fmt;\n", "use ::core::ops::{Add, Neg};\nuse ::core::fmt;\n");
+    becomes("fn f(s: &[u8]) { std::str::from_utf8(s) }\n", "fn f(s: &[u8]) { ::core::str::from_utf8(s) }\n");
     stays("mod a;\npub use a::b;\nuse super::c;\n");
 }
 
 #[test]
 fn functions_are_rewritten() {
-    becomes("trait T {\n    final fn f() {}\n}\n", "trait T {\n     fn f() {}\n}\n");
+    becomes("trait T {\n    final fn f() {}\n}\n", "trait T {\n    fn f() {}\n}\n");
     becomes(
         "trait T: Copy {\n    /// The same.\n    #[inline]\n    final fn f(self) -> Self\n        ensures { result ≡ self }\n    {\n        self\n    }\n}\n",
-        "trait T: Copy {\n    /// The same.\n    #[inline]\n     fn f(self) -> Self\n        \n    {\n        self\n    }\n}\n",
+        "trait T: Copy {\n    /// The same.\n    #[inline]\n    fn f(self) -> Self\n    {\n        self\n    }\n}\n",
     );
     becomes(
         "impl fmt::Display for P {
@@ -269,21 +298,24 @@ fn functions_are_rewritten() {
 }
 ",
     );
-    becomes("fn f(x: u8) { prove!(x > 0); }\n", "fn f(x: u8) { debug_assert!(x > 0); }\n");
-    becomes("const _: () = prove_eq!(A, B);\n", "const _: () = assert_eq!(A, B);\n");
+    becomes("fn f(x: u8) { prove!(x > 0); }\n", "fn f(x: u8) { ::core::debug_assert!(x > 0); }\n");
+    becomes("const _: () = prove_eq!(A, B);\n", "const _: () = ::core::assert_eq!(A, B);\n");
 }
 
 #[test]
 fn macros_are_known() {
     becomes(
         "#[macro_export]\nmacro_rules! unpack {\n    ($e:expr) => { $crate::f($e) };\n}\n",
-        "
-macro_rules! unpack {
+        "macro_rules! unpack {
     ($e:expr) => { $crate::erased::apfloat_base::f($e) };
 } pub(crate) use unpack;
 ",
     );
     stays("fn f(b: u8) -> bool { matches!(b, b'0'..=b'9') }\n");
+    becomes(
+        "macro_rules! debug_assert { () => {} }\nfn f() { prove!(a); debug_assert!() }\n",
+        "macro_rules! debug_assert { () => {} }\nfn f() { ::core::debug_assert!(a); debug_assert!() }\n",
+    );
     stays("macro_rules! one {\n    () => { 1 };\n}\nfn f() -> u8 { one!() }\n");
     stays("fn f() -> u8 { unreachable!() }\n");
     stays(
@@ -309,8 +341,8 @@ fn clauses_of_unknown_forms_are_refused() {
     is_refused("fn f() ensures { a // b\n } {}\n", 1, "a comment in a clause");
     is_refused("fn f() ensures { a -- b\n } {}\n", 1, "a comment in a clause");
     is_refused("fn f() ensures { (a ] } {}\n", 1, "closes no bracket");
-    becomes("fn f() ensures { \"a\\n\" } {}\n", "fn f()  {}\n");
-    becomes("fn f() ensures { a ⟦<P as Q>⟧ } {}\n", "fn f()  {}\n");
+    becomes("fn f() ensures { \"a\\n\" } {}\n", "fn f() {}\n");
+    becomes("fn f() ensures { a ⟦<P as Q>⟧ } {}\n", "fn f() {}\n");
     is_refused("fn f() ensures { \"a\\t\" } {}\n", 1, "a string of an unknown form");
     is_refused("fn f() ensures { a\n", 1, "without its end");
     is_refused("fn f() {\n    let g = |x: u8| requires { x < 2 } { x };\n}\n", 2, "outside the head of a function");
@@ -367,12 +399,20 @@ fn paths_that_are_unknown_are_refused() {
     is_refused("use anyhow::Error;\n", 1, "no crate and no module");
     is_refused("use super::*;\n", 1, "`use` of an unknown form");
     is_refused("fn f(apfloat_model: u8) {}\n", 1, "the name of a crate, in an unknown place");
+    is_refused("fn f() { ::std::process::exit(1) }\n", 1, "`std` in an unknown place");
+    is_refused("fn f() { core::mem::swap(a, b) }\n", 1, "`core` in an unknown place");
+    is_refused("use std::marker::Model", 1, "without its semicolon");
 }
 
 #[test]
 fn macros_that_are_unknown_are_refused() {
     is_refused("fn f() { println!(\"\") }\n", 1, "the macro `println!`");
     is_refused("fn f() { assert!(true) }\n", 1, "the macro `assert!`");
+    is_refused("macro_rules! prove { () => {} }\nfn f() { prove!() }\n", 1, "another macro `prove!`");
+    is_refused("macro_rules! matches { () => {} }\n", 1, "another macro `matches!`");
+    is_refused("macro_rules! writeln { () => {} }\n", 1, "another macro `writeln!`");
+    is_refused("fn f() { matches!) }\n", 1, "no bracket where one has to open");
+    is_refused("macro_rules! m { () => { for i in 0.. {} } }\n", 1, "a range without an end");
     is_refused("macro_rules! m ( () => {} );\n", 1, "`macro_rules!` of an unknown form");
     is_refused("macro_rules! m { () => { x.clone() } }\n", 1, "`clone`");
     is_refused("macro_rules! m { () => { println!() } }\n", 1, "the macro `println!`");
@@ -403,6 +443,23 @@ fn texts_that_are_no_tokens_are_refused() {
 fn ranges_without_an_end_are_refused() {
     is_refused("fn f() {\n    for i in 0.. {\n    }\n}\n", 2, "a range without an end");
     is_refused("fn f() { g((250..)) }\n", 1, "a range without an end");
+    for text in [
+        "for i in a[0].. {}",
+        "for c in 'a'.. {}",
+        "for i in {3}.. {}",
+        "for i in g()?.. {}",
+        "let r = 0..;",
+        "let r = P { a: 0.. };",
+        "g(0.., 1);",
+        "for r in [0..] {}",
+        "if let [0..] = a {}",
+        "match b { 5.. => {} _ => {} }",
+        "match b { 5.. | 3 => {} _ => {} }",
+    ] {
+        is_refused(&format!("fn f() {{\n    {text}\n}}\n"), 2, "a range without an end");
+    }
+    stays("fn f(a: &[u8]) { g(&a[1..], &a[..1], &a[..], a.b()[h(1)..], a[0][1..]) }\n");
+    stays("fn f(a: &[u8]) { match a { [.., b] | [b, ..] | [b, .., 1..=2] => {} P { x, .. } => {} } }\n");
     stays("fn f(x: Option<u8>) { let Some(..) = x else { return; }; }\n");
 }
 
@@ -415,7 +472,7 @@ fn a_refusal_names_the_file_and_the_line() {
 #[test]
 fn ends_of_lines_may_be_those_of_windows() {
     let erased = erase_text("fn f()\r\n    ensures { 1 }\r\n{}\r\n", "apfloat_base").unwrap();
-    assert_eq!(erased, "fn f()\n    \n{}\n");
+    assert_eq!(erased, "fn f()\n{}\n");
     is_refused("fn f() {}\r", 1, "the character '\\r'");
 }
 

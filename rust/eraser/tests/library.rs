@@ -15,22 +15,26 @@ fn compare(source: &Path, erased: &Path) -> usize {
         let name = Path::new(path.file_name().unwrap()).with_extension("rt");
         let text = fs::read_to_string(&path).unwrap();
         let original = fs::read_to_string(source.join(&name)).unwrap();
-        let added = text.lines().filter(|line| line.starts_with("pub(crate) use self::")).count();
-        assert_eq!(text.lines().count() - added, original.lines().count(), "{}", path.display());
-        for (number, (line, from)) in text.lines().zip(original.lines()).enumerate() {
-            // What is left of a line is what it had, but for paths and the few forms that are rewritten.
-            let same = line.trim() == from.trim().trim_start_matches("final ") || matches!(line.trim(), "" | ";");
-            let same = same || line.trim().replace("pub  fn", "pub extern \"C\" fn") == from.trim();
+        assert!(!text.contains("\n\n\n"), "{}: a run of blank lines", path.display());
+        // What is left of a line is what it had, but for paths and the few forms that are rewritten, and in order.
+        let mut left = original.lines();
+        for (number, line) in text.lines().enumerate() {
             let rewritten = [
                 "export! { fn ",
                 "crate::erased::",
-                "core::",
-                " Copy for ",
+                "::core::",
                 "fn fmt(&self",
                 "pub(crate) use ",
-                "= assert!(",
+                "pub fn ",
+                "#[derive(",
             ];
-            let known = same || rewritten.iter().any(|form| line.contains(form)) || from.contains("derive(");
+            let is_same = |from: &str| {
+                let from = from.trim().trim_start_matches("final ");
+                from == line.trim()
+                    || matches!(line.trim(), ";" | "")
+                    || from.starts_with(&format!("{} ensures", line.trim()))
+            };
+            let known = rewritten.iter().any(|form| line.contains(form)) || left.any(is_same);
             assert!(known, "{}:{}: {line}", path.display(), number + 1);
             assert!(line.contains("//") || !["ghost ", "requires ", "ensures "].iter().any(|word| line.contains(word)));
         }

@@ -16,7 +16,7 @@
 //! assert_eq!((code(153), code(154)), (0x38, 0x39));
 //! ```
 
-use crate::erased::{small_formats::stochastic as library, small_formats};
+use crate::erased::{small_formats, small_formats::stochastic as library};
 use crate::ieee::{IeeeFloat, PlainS, Semantics};
 use crate::status::answered;
 use crate::{Round, StatusAnd};

@@ -1,7 +1,7 @@
 //! The traits of floating-point types, and their implementation by the library's.
 
 use crate::doubles::AsDouble;
-use crate::{Category, ExpInt, ParseError, Round, Status, StatusAnd};
+use crate::{Category, ExpInt, ParseError, Round, StatusAnd, widths};
 use core::cmp::Ordering;
 use core::fmt;
 use core::ops::{Add, AddAssign, Div, DivAssign, Mul, MulAssign, Neg, Rem, RemAssign, Sub, SubAssign};
@@ -134,41 +134,36 @@ pub trait Float:
     /// end of the range, and a NaN gives 0, both with `INVALID_OP`. `is_exact` says whether the whole number equals the
     /// value; for -0 it is false.
     ///
+    /// At a width that is not from 2 to 128, the answer is that of the crate `rustc_apfloat`, whose arithmetic wraps
+    /// there. That of a negative value at width 1 is right: -1 or 0.
+    ///
     /// # Panics
     ///
-    /// Unless the width is from 2 to 128.
+    /// With debug assertions, at other widths: a negative value unless the width is from 1 to 128, and another value
+    /// unless it is from 2 to 129.
     fn to_i128_r(self, width: usize, round: Round, is_exact: &mut bool) -> StatusAnd<i128> {
-        assert!((2..=128).contains(&width), "no signed integer has a width of {width}");
-        if !self.is_negative() {
-            return self.to_u128_r(width - 1, round, is_exact).map(|magnitude| magnitude as i128);
-        }
-        let magnitude = (-self).to_u128_r(width, -round, is_exact);
-        if magnitude.value > 1 << (width - 1) {
-            *is_exact = false;
-            return Status::INVALID_OP.and(-1 << (width - 1));
-        }
-        *is_exact &= !self.is_zero();
-        magnitude.map(|magnitude| magnitude.wrapping_neg() as i128)
+        widths::signed(self, width, round, is_exact)
     }
     /// `to_i128_r`, toward zero.
     ///
     /// # Panics
     ///
-    /// Unless the width is from 2 to 128.
+    /// As `to_i128_r`.
     fn to_i128(self, width: usize) -> StatusAnd<i128> {
         self.to_i128_r(width, Round::TowardZero, &mut true)
     }
-    /// The value rounded to an unsigned whole number of `width` digits, as `to_i128_r`.
+    /// The value rounded to an unsigned whole number of `width` digits, as `to_i128_r`. At a width that is not from 1
+    /// to 128, the answer is that of the crate `rustc_apfloat`.
     ///
     /// # Panics
     ///
-    /// Unless the width is from 1 to 128.
+    /// With debug assertions, at other widths, unless the value is negative and above -2^128.
     fn to_u128_r(self, width: usize, round: Round, is_exact: &mut bool) -> StatusAnd<u128>;
     /// `to_u128_r`, toward zero.
     ///
     /// # Panics
     ///
-    /// Unless the width is from 1 to 128.
+    /// As `to_u128_r`.
     fn to_u128(self, width: usize) -> StatusAnd<u128> {
         self.to_u128_r(width, Round::TowardZero, &mut true)
     }
@@ -401,14 +396,18 @@ macro_rules! by_the_library {
 
         #[inline]
         fn to_i128_r(self, width: usize, round: Round, is_exact: &mut bool) -> StatusAnd<i128> {
-            assert!((2..=128).contains(&width), "no signed integer has a width of {width}");
-            answered(self.inner().to_i128_r(width, round, is_exact))
+            match width {
+                2..=128 => answered(self.inner().to_i128_r(width, round, is_exact)),
+                _ => widths::signed(self, width, round, is_exact),
+            }
         }
 
         #[inline]
         fn to_u128_r(self, width: usize, round: Round, is_exact: &mut bool) -> StatusAnd<u128> {
-            assert!((1..=128).contains(&width), "no integer has a width of {width}");
-            answered(self.inner().to_u128_r(width, round, is_exact))
+            match width {
+                1..=128 => answered(self.inner().to_u128_r(width, round, is_exact)),
+                _ => widths::unsigned(self, width, round, is_exact),
+            }
         }
 
         #[inline]

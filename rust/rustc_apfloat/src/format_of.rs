@@ -3,14 +3,15 @@
 //! none.
 //!
 //! The target, which may be narrower or wider, comes first among the type parameters; each operand may have a format of
-//! its own. The methods `add_to`, `sub_to`, `mul_to`, `div_to`, `sqrt_to` and `mul_add_to` of [`IeeeFloat`] take
-//! operands of one format.
+//! its own. The methods `add_to`, `sub_to`, `mul_to`, `div_to`, `sqrt_to` and `mul_add_to` of
+//! [`IeeeMore`](crate::more::IeeeMore) take operands of one format.
 //!
 //! A NaN is quieted and converted to the target, with `INVALID_OP` if an operand is signaling. An infinity in a target
 //! without infinities raises `INEXACT`.
 //!
 //! ```
 //! use rustc_apfloat::ieee::{Double, Half, HalfS, Single};
+//! use rustc_apfloat::more::IeeeMore;
 //! use rustc_apfloat::{Float, Round, Status, format_of};
 //!
 //! let (one, small) = (Double::from_u128(1).value, "0x1.001p-11".parse::<Double>().unwrap());
@@ -39,43 +40,4 @@ library_calls! {
     /// `x * y + z` in the format `T`, fused.
     fn multiply_add<T, S, R, Q>(x: IeeeFloat<S>, y: IeeeFloat<R>, z: IeeeFloat<Q>, round: Round)
         -> StatusAnd<IeeeFloat<T>>;
-}
-
-impl<S: Semantics> IeeeFloat<S> {
-    /// `self + rhs` in the format `T`, rounded once (IEEE 754-2019 5.4.1, formatOf-addition). The crate `rustc_apfloat`
-    /// has no such call.
-    #[inline]
-    pub fn add_to<T: Semantics>(self, rhs: Self, round: Round) -> StatusAnd<IeeeFloat<T>> {
-        add(self, rhs, round)
-    }
-
-    /// `self - rhs` in the format `T`, rounded once (formatOf-subtraction), as `add_to`.
-    #[inline]
-    pub fn sub_to<T: Semantics>(self, rhs: Self, round: Round) -> StatusAnd<IeeeFloat<T>> {
-        subtract(self, rhs, round)
-    }
-
-    /// `self * rhs` in the format `T`, rounded once (formatOf-multiplication), as `add_to`.
-    #[inline]
-    pub fn mul_to<T: Semantics>(self, rhs: Self, round: Round) -> StatusAnd<IeeeFloat<T>> {
-        multiply(self, rhs, round)
-    }
-
-    /// `self / rhs` in the format `T`, rounded once (formatOf-division), as `add_to`.
-    #[inline]
-    pub fn div_to<T: Semantics>(self, rhs: Self, round: Round) -> StatusAnd<IeeeFloat<T>> {
-        divide(self, rhs, round)
-    }
-
-    /// The square root in the format `T`, rounded once (formatOf-squareRoot), as `add_to`.
-    #[inline]
-    pub fn sqrt_to<T: Semantics>(self, round: Round) -> StatusAnd<IeeeFloat<T>> {
-        square_root(self, round)
-    }
-
-    /// `self * multiplicand + addend` in the format `T`, rounded once (formatOf-fusedMultiplyAdd), as `add_to`.
-    #[inline]
-    pub fn mul_add_to<T: Semantics>(self, multiplicand: Self, addend: Self, round: Round) -> StatusAnd<IeeeFloat<T>> {
-        multiply_add(self, multiplicand, addend, round)
-    }
 }

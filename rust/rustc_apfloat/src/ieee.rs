@@ -5,10 +5,11 @@ use crate::doubles::{self, AsDouble};
 use crate::erased::apfloat_base::{self, Float as _, FloatConvert as _};
 use crate::erased::apfloat_rounding::unpacked::Unpacked;
 use crate::erased::{apfloat_decimals, apfloat_ieee, rustc_apfloat::double_double_operations};
-use crate::far;
 use crate::law::Constants;
+use crate::more::{FloatMore, IeeeMore};
 use crate::status::answered;
 use crate::{Category, Decimal, ExpInt, Float, FloatConvert, ParseError, Round, StatusAnd};
+use crate::{far, format_of, widths};
 use core::cmp::Ordering;
 use core::fmt;
 use core::marker::PhantomData;
@@ -160,11 +161,17 @@ impl<S: Semantics> LawOfFormat<S> {
     const HAS_SHORTEST: () = assert!(S::PRECISION <= 113, "PRECISION is more than 113");
 }
 
+/// Does not compile for a format outside the law. Whatever makes a value of the format calls it; the error is told for
+/// each function that has the constant, so only this one has it.
+const fn obey_the_law<S: Semantics>() {
+    let () = LawOfFormat::<S>::HOLDS;
+}
+
 /// The format `S` as the library knows formats, with the flags of the built-in ones.
-pub struct PlainS<S>(PhantomData<S>);
+pub(crate) struct PlainS<S>(PhantomData<S>);
 
 /// The format `S` as the library knows formats, with its rule of flags.
-pub struct FlaggedS<S>(PhantomData<S>);
+pub(crate) struct FlaggedS<S>(PhantomData<S>);
 
 macro_rules! library_formats {
     ($($name:ident: $trait:path { $($more:tt)* })*) => {$(
@@ -179,10 +186,7 @@ macro_rules! library_formats {
         impl<S: Semantics> $trait for $name<S> {
             const BITS: usize = S::BITS;
             const EXP_BITS: usize = S::EXP_BITS;
-            const PRECISION: usize = {
-                let () = LawOfFormat::<S>::HOLDS;
-                S::PRECISION
-            };
+            const PRECISION: usize = S::PRECISION;
             const NONFINITE_BEHAVIOR: NonfiniteBehavior = S::NONFINITE_BEHAVIOR;
             const MAX_EXP: ExpInt = S::MAX_EXP;
             const IEEE_MAX_EXP: ExpInt = S::IEEE_MAX_EXP;
@@ -312,7 +316,7 @@ impl<S> IeeeFloat<S> {
 
 impl<S: Semantics> IeeeFloat<S> {
     pub(crate) const fn made(significand: u128, exponent: ExpInt, category: Category) -> Self {
-        let () = LawOfFormat::<S>::HOLDS;
+        obey_the_law::<S>();
         Self::from_unpacked(Unpacked { significand, exponent, category, negative: false })
     }
 
@@ -323,6 +327,7 @@ impl<S: Semantics> IeeeFloat<S> {
 
     #[inline]
     pub(crate) fn of(inner: Inner<S>) -> Self {
+        obey_the_law::<S>();
         Self::from_unpacked(inner.unpacked())
     }
 
@@ -382,8 +387,14 @@ impl<S: Semantics> IeeeFloat<S> {
         }
     }
 
+    /// The significand of a value that is not denormal, its integer bit included.
+    pub(crate) fn significand(self) -> u128 {
+        self.value.significand
+    }
+
     #[inline]
     pub(crate) fn of_plain(plain: apfloat_ieee::IeeeFloat<PlainS<S>>) -> Self {
+        obey_the_law::<S>();
         Self::from_unpacked(plain.unpacked())
     }
 
@@ -398,63 +409,74 @@ impl<S: Semantics> IeeeFloat<S> {
         let () = LawOfFormat::<S>::IS_WRITTEN;
         self.plain()
     }
+}
 
-    /// The shortest decimal that gives the value when it is rounded to nearest, ties to even, and of those the nearest;
-    /// infinities and NaNs have none. It does not compile in a format of more digits or farther exponents than `Quad`.
-    ///
-    /// The crate `rustc_apfloat` has no such call.
-    pub fn shortest(self) -> Option<Decimal> {
+impl<S: Semantics> FloatMore for IeeeFloat<S> {
+    #[inline]
+    fn sqrt_r(self, round: Round) -> StatusAnd<Self> {
+        Self::answered(self.inner().sqrt_r(round))
+    }
+
+    #[inline]
+    fn sqrt(self) -> StatusAnd<Self> {
+        Self::answered(self.inner().sqrt())
+    }
+
+    fn shortest(self) -> Option<Decimal> {
         let () = LawOfFormat::<S>::HAS_SHORTEST;
         apfloat_decimals::shortest(self.written())
     }
+}
 
-    /// The decimal that equals the value, if its digits are below 2^128; infinities and NaNs have none.
-    ///
-    /// The crate `rustc_apfloat` has no such call.
-    pub fn exact_decimal(self) -> Option<Decimal> {
+impl<S: Semantics> IeeeMore for IeeeFloat<S> {
+    fn exact_decimal(self) -> Option<Decimal> {
         apfloat_decimals::exact(self.plain())
     }
 
-    /// The value rounded to `count` decimal digits, and whether that is the value itself; infinities and NaNs have
-    /// none. It does not compile in a format of farther exponents than `Quad`.
-    ///
-    /// The crate `rustc_apfloat` has no such call.
-    ///
-    /// # Panics
-    ///
-    /// Unless the count is from 1 to 36.
-    pub fn rounded_decimal(self, count: u32, round: Round) -> Option<(Decimal, bool)> {
+    fn rounded_decimal(self, count: u32, round: Round) -> Option<(Decimal, bool)> {
         assert!((1..=36).contains(&count), "a value is rounded to 1 to 36 digits, and not to {count}");
         apfloat_decimals::rounded(self.written(), count, round)
     }
 
-    /// The square root, rounded once. The crate `rustc_apfloat` has none.
     #[inline]
-    pub fn sqrt_r(self, round: Round) -> StatusAnd<Self> {
-        Self::answered(self.inner().sqrt_r(round))
-    }
-
-    /// `sqrt_r`, to nearest, ties to even.
-    #[inline]
-    pub fn sqrt(self) -> StatusAnd<Self> {
-        Self::answered(self.inner().sqrt())
-    }
-
-    /// The value times 2 to the power of `places`, rounded once, with exactly the flags of that rounding (IEEE 754-2019
-    /// 5.3.3, scaleB); a NaN is quieted, with `INVALID_OP` if it was signaling. The value is that of `scalbn_r`, which
-    /// returns no status. The crate `rustc_apfloat` has no such call.
-    #[inline]
-    pub fn scale_b(self, places: ExpInt, round: Round) -> StatusAnd<Self> {
+    fn scale_b(self, places: ExpInt, round: Round) -> StatusAnd<Self> {
         Self::answered(self.inner().scale_b(places, round))
     }
 
-    /// The remainder that `c_fmod` returns, and how many ones there are among the binary digits of the quotient
-    /// truncated toward zero: the subtractions that long division takes to find it. The time grows with that number, as
-    /// that of `c_fmod` does not. The crate `rustc_apfloat` has no such call.
     #[inline]
-    pub fn c_fmod_steps(self, rhs: Self) -> (StatusAnd<Self>, u32) {
+    fn c_fmod_steps(self, rhs: Self) -> (StatusAnd<Self>, u32) {
         let (remainder, steps) = self.inner().c_fmod_steps(rhs.inner());
         (Self::answered(remainder), steps)
+    }
+
+    #[inline]
+    fn add_to<T: Semantics>(self, rhs: Self, round: Round) -> StatusAnd<IeeeFloat<T>> {
+        format_of::add(self, rhs, round)
+    }
+
+    #[inline]
+    fn sub_to<T: Semantics>(self, rhs: Self, round: Round) -> StatusAnd<IeeeFloat<T>> {
+        format_of::subtract(self, rhs, round)
+    }
+
+    #[inline]
+    fn mul_to<T: Semantics>(self, rhs: Self, round: Round) -> StatusAnd<IeeeFloat<T>> {
+        format_of::multiply(self, rhs, round)
+    }
+
+    #[inline]
+    fn div_to<T: Semantics>(self, rhs: Self, round: Round) -> StatusAnd<IeeeFloat<T>> {
+        format_of::divide(self, rhs, round)
+    }
+
+    #[inline]
+    fn sqrt_to<T: Semantics>(self, round: Round) -> StatusAnd<IeeeFloat<T>> {
+        format_of::square_root(self, round)
+    }
+
+    #[inline]
+    fn mul_add_to<T: Semantics>(self, multiplicand: Self, addend: Self, round: Round) -> StatusAnd<IeeeFloat<T>> {
+        format_of::multiply_add(self, multiplicand, addend, round)
     }
 }
 
@@ -536,6 +558,7 @@ impl<S: Semantics> Float for IeeeFloat<S> {
     const SMALLEST: Self =
         Self::made(1 << (S::PRECISION - 1), S::MIN_EXP - (S::PRECISION as ExpInt - 1), Category::Normal);
     const AS_DOUBLE: Option<AsDouble<Self>> = if Constants::of::<S>().are_those_of_double() {
+        obey_the_law::<S>();
         Some(AsDouble { to: |x| Double::from_unpacked(x.value), of: |x| Self::from_unpacked(x.value) })
     } else {
         None

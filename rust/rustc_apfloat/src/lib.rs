@@ -32,11 +32,12 @@ mod erased;
 mod far;
 mod law;
 mod status;
+mod widths;
 
 pub mod ieee;
 pub mod ppc;
 
-// Beyond the crate `rustc_apfloat`, a module for each crate of the library.
+// Beyond the crate `rustc_apfloat`: traits that are imported by name, and a module for each crate of the library.
 pub mod augmented;
 pub mod comparisons;
 pub mod conversion_modes;
@@ -44,6 +45,7 @@ pub mod decimal_digits;
 pub mod format_of;
 pub mod hex_digits;
 pub mod machines;
+pub mod more;
 pub mod odd;
 pub mod storage_formats;
 

@@ -3,8 +3,11 @@
 use crate::composed::{self, Composed};
 use crate::doubles::{AsDouble, Inner};
 use crate::erased::apfloat_base::Float as _;
-use crate::erased::{apfloat_ieee, rustc_apfloat::double_doubles, apfloat_digits::of_double_doubles, rustc_apfloat::double_double_operations};
+use crate::erased::apfloat_digits::of_double_doubles;
+use crate::erased::apfloat_ieee;
+use crate::erased::rustc_apfloat::{double_double_operations, double_doubles};
 use crate::ieee::{Double, IeeeFloat, Semantics};
+use crate::more::{FloatMore, PairMore};
 use crate::status::answered;
 use crate::{Category, Decimal, ExpInt, Float, FloatConvert, ParseError, Round, StatusAnd};
 use core::cmp::Ordering;
@@ -105,38 +108,26 @@ impl<F> DoubleFloat<F> {
     }
 }
 
-impl DoubleDouble {
-    /// The square root in the wide format of 106 digits, split. The sum of the parts is first rounded to nearest there,
-    /// as in every call that is made in the wide format: that of 1 + 2^-200 is 1 in every mode, with OK. The crate
-    /// `rustc_apfloat` has none.
+impl FloatMore for DoubleDouble {
     #[inline]
-    pub fn sqrt_r(self, round: Round) -> StatusAnd<Self> {
+    fn sqrt_r(self, round: Round) -> StatusAnd<Self> {
         AsDouble::ITSELF.answer(AsDouble::ITSELF.inner(self).sqrt_r(round))
     }
 
-    /// `sqrt_r`, to nearest, ties to even.
-    #[inline]
-    pub fn sqrt(self) -> StatusAnd<Self> {
-        self.sqrt_r(Round::NearestTiesToEven)
+    fn shortest(self) -> Option<Decimal> {
+        of_double_doubles::shortest_of_pair(AsDouble::ITSELF.inner(self))
     }
+}
 
-    /// The exact sum of the parts in the format `S`, rounded once. A high part that is zero, infinite or a NaN is
-    /// converted alone. The crate `rustc_apfloat` has no such call.
+impl PairMore for DoubleDouble {
     #[inline]
-    pub fn to_format<S: Semantics>(self, round: Round) -> StatusAnd<IeeeFloat<S>> {
+    fn to_format<S: Semantics>(self, round: Round) -> StatusAnd<IeeeFloat<S>> {
         IeeeFloat::of_pair(AsDouble::ITSELF.inner(self), round)
     }
 
-    /// A value of the format `S`, rounded once to 106 digits, and split. The crate `rustc_apfloat` has no such call.
     #[inline]
-    pub fn from_format<S: Semantics>(x: IeeeFloat<S>, round: Round) -> StatusAnd<Self> {
+    fn from_format<S: Semantics>(x: IeeeFloat<S>, round: Round) -> StatusAnd<Self> {
         AsDouble::ITSELF.answer(x.to_pair(round))
-    }
-
-    /// The shortest decimal that `from_str` reads as the pair. None for an infinity, a NaN, and a pair that no decimal
-    /// is read as, since it is not the split of a value of 106 digits. The crate `rustc_apfloat` has no such call.
-    pub fn shortest(self) -> Option<Decimal> {
-        of_double_doubles::shortest_of_pair(AsDouble::ITSELF.inner(self))
     }
 }
 
@@ -294,19 +285,21 @@ where
 
     #[inline]
     fn to_i128_r(self, width: usize, round: Round, is_exact: &mut bool) -> StatusAnd<i128> {
-        assert!((2..=128).contains(&width), "no signed integer has a width of {width}");
         match F::AS_DOUBLE {
-            Some(double) => answered(double.inner(self).to_i128_r(width, round, is_exact)),
-            None => Composed::new(self).to_i128_r(width, round, is_exact),
+            Some(double) if (2..=128).contains(&width) => {
+                answered(double.inner(self).to_i128_r(width, round, is_exact))
+            }
+            _ => Composed::new(self).to_i128_r(width, round, is_exact),
         }
     }
 
     #[inline]
     fn to_u128_r(self, width: usize, round: Round, is_exact: &mut bool) -> StatusAnd<u128> {
-        assert!((1..=128).contains(&width), "no integer has a width of {width}");
         match F::AS_DOUBLE {
-            Some(double) => answered(double.inner(self).to_u128_r(width, round, is_exact)),
-            None => Composed::new(self).to_u128_r(width, round, is_exact),
+            Some(double) if (1..=128).contains(&width) => {
+                answered(double.inner(self).to_u128_r(width, round, is_exact))
+            }
+            _ => Composed::new(self).to_u128_r(width, round, is_exact),
         }
     }
 

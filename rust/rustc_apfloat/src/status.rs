@@ -185,20 +185,28 @@ impl IntoIterator for Status {
 }
 
 impl fmt::Debug for Status {
-    /// `Status(OVERFLOW | INEXACT)`, `Status(0x0)`.
+    /// `Status(OVERFLOW | INEXACT)`, `Status(0x0)`; with `#`, the flags have a line of their own.
     fn fmt(&self, f: &mut fmt::Formatter<'_>) -> fmt::Result {
-        f.write_str("Status(")?;
-        if self.is_empty() {
+        f.debug_tuple("Status").field(&Names(*self)).finish()
+    }
+}
+
+/// The names of the flags of a set.
+struct Names(Status);
+
+impl fmt::Debug for Names {
+    fn fmt(&self, f: &mut fmt::Formatter<'_>) -> fmt::Result {
+        if self.0.is_empty() {
             f.write_str("0x0")?;
         }
-        for (i, flag) in self.iter().enumerate() {
+        for (i, flag) in self.0.iter().enumerate() {
             f.write_str(if i == 0 { "" } else { " | " })?;
             match NAMES.iter().find(|(_, known)| *known == flag) {
                 Some((name, _)) => f.write_str(name)?,
                 None => write!(f, "{:#x}", flag.0)?,
             }
         }
-        f.write_str(")")
+        Ok(())
     }
 }
 

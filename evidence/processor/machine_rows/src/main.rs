@@ -10,13 +10,12 @@
 //! each operation agree; the status is 1 if one differs.
 
 use rustc_apfloat::comparisons::{OnNan, Predicate, compare, round_to_integral_in};
-use rustc_apfloat::ieee::{
-    DoubleS, HalfS, IeeeFlags, IeeeFloat, Semantics, SingleS, X87DoubleExtendedS,
-};
+use rustc_apfloat::ieee::{DoubleS, HalfS, IeeeFlags, IeeeFloat, Semantics, SingleS, X87DoubleExtendedS};
 use rustc_apfloat::machines::{
     Flush, Machine, MinimumRule, flushed, greatest, has_denormal, least, settled, settled_conversion, settled_fused,
     settled_signed, settled_unary, settled_unsigned, without_denormal,
 };
+use rustc_apfloat::more::FloatMore;
 use rustc_apfloat::{Float, FloatConvert, Round, Status, StatusAnd};
 use std::arch::asm;
 
@@ -26,8 +25,7 @@ type Double = IeeeFloat<IeeeFlags<DoubleS>>;
 type Extended = IeeeFloat<IeeeFlags<X87DoubleExtendedS>>;
 
 /// In the order of the rounding control of MXCSR and of the control word of x87.
-const MODES: [Round; 4] =
-    [Round::NearestTiesToEven, Round::TowardNegative, Round::TowardPositive, Round::TowardZero];
+const MODES: [Round; 4] = [Round::NearestTiesToEven, Round::TowardNegative, Round::TowardPositive, Round::TowardZero];
 
 // Flags of MXCSR and of the status word of x87.
 const INVALID: u32 = 1;
@@ -561,10 +559,17 @@ fn unit(tally: &mut Tally, draw: &mut Draw, count: u64) {
                 let b = draw.extended(Some(a));
                 let (left, right) = (Register::of(a), Register::of(b));
                 let mut result = Register::of(0);
-                let flags = x87!(control,
-                    concat!("fld tbyte ptr [{left}]\n fld tbyte ptr [{right}]\n ", $instruction,
-                    "\n fstp tbyte ptr [{result}]"),
-                    left = &left, right = &right, result = &mut result);
+                let flags = x87!(
+                    control,
+                    concat!(
+                        "fld tbyte ptr [{left}]\n fld tbyte ptr [{right}]\n ",
+                        $instruction,
+                        "\n fstp tbyte ptr [{result}]"
+                    ),
+                    left = &left,
+                    right = &right,
+                    result = &mut result
+                );
                 let here = Outcome { value: result.bits(), flags };
                 let ($x, $y) = (Extended::from_bits(a), Extended::from_bits(b));
                 let answer = settled(Machine::X87, $x, $y, $library);
@@ -584,9 +589,12 @@ fn unit(tally: &mut Tally, draw: &mut Draw, count: u64) {
                 let a = draw.extended(None);
                 let given = Register::of(a);
                 let mut result = Register::of(0);
-                let flags = x87!(control,
+                let flags = x87!(
+                    control,
                     concat!("fld tbyte ptr [{given}]\n ", $instruction, "\n fstp tbyte ptr [{result}]"),
-                    given = &given, result = &mut result);
+                    given = &given,
+                    result = &mut result
+                );
                 let here = Outcome { value: result.bits(), flags };
                 let $x = Extended::from_bits(a);
                 let answer = settled_unary(Machine::X87, $x, $library);
@@ -609,8 +617,12 @@ fn unit(tally: &mut Tally, draw: &mut Draw, count: u64) {
                 });
                 let given = Register::of(a);
                 let mut result = Register::of(0);
-                let flags = x87!(control, concat!("fld tbyte ptr [{given}]\n ", $instruction, " [{result}]"),
-                    given = &given, result = &mut result);
+                let flags = x87!(
+                    control,
+                    concat!("fld tbyte ptr [{given}]\n ", $instruction, " [{result}]"),
+                    given = &given,
+                    result = &mut result
+                );
                 let here = Outcome { value: result.bits() & $mask, flags };
                 let x = Extended::from_bits(a);
                 let mut loses_info = false;
@@ -630,8 +642,12 @@ fn unit(tally: &mut Tally, draw: &mut Draw, count: u64) {
                 let a = draw.$draws(None);
                 let given = Register::of(a);
                 let mut result = Register::of(0);
-                let flags = x87!(control, concat!($instruction, " [{given}]\n fstp tbyte ptr [{result}]"),
-                    given = &given, result = &mut result);
+                let flags = x87!(
+                    control,
+                    concat!($instruction, " [{given}]\n fstp tbyte ptr [{result}]"),
+                    given = &given,
+                    result = &mut result
+                );
                 let here = Outcome { value: result.bits(), flags };
                 let x = $Type::from_bits(a);
                 let mut loses_info = false;
@@ -654,8 +670,12 @@ fn unit(tally: &mut Tally, draw: &mut Draw, count: u64) {
                 });
                 let given = Register::of(a);
                 let mut whole: $whole = 0;
-                let flags = x87!(control, concat!("fld tbyte ptr [{given}]\n ", $instruction, " [{whole}]"),
-                    given = &given, whole = &mut whole);
+                let flags = x87!(
+                    control,
+                    concat!("fld tbyte ptr [{given}]\n ", $instruction, " [{whole}]"),
+                    given = &given,
+                    whole = &mut whole
+                );
                 let here = Outcome { value: whole as i128 as u128, flags };
                 let round: fn(Round) -> Round = $round;
                 let x = Extended::from_bits(a);

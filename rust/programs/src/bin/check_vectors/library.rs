@@ -2,7 +2,7 @@
 //! through that crate by the other modules here, over a module of this name of its own.
 
 use crate::erased::rustc_apfloat::ieee::{Flagged, IeeeFloat};
-use crate::erased::rustc_apfloat::{Float, Round, StatusAnd};
+use crate::erased::rustc_apfloat::{ExpInt, Float, Round, StatusAnd};
 use crate::lines::{CallInFormat, Operand, RowFormat, value_of};
 
 pub use crate::erased::apfloat_ieee::AnyFloat;
@@ -45,6 +45,16 @@ pub fn wide_fused_sum<S: Flagged>(
     round: Round,
 ) -> StatusAnd<IeeeFloat<S>> {
     x.wide_mul_add_r(y, z, round)
+}
+
+/// A value times a power of two, with its status.
+pub fn times_power<S: Flagged>(x: IeeeFloat<S>, power: ExpInt, round: Round) -> StatusAnd<IeeeFloat<S>> {
+    x.scale_b(power, round)
+}
+
+/// A remainder, and how many steps long division takes to it.
+pub fn remainder_in_steps<S: Flagged>(x: IeeeFloat<S>, y: IeeeFloat<S>) -> (StatusAnd<IeeeFloat<S>>, u32) {
+    x.c_fmod_steps(y)
 }
 
 /// The value of an operand in a format, with that format.

@@ -7,7 +7,7 @@ use crate::calls::pairs;
 use crate::erased::rustc_apfloat::ieee::{Flagged, IeeeFloat};
 use crate::erased::rustc_apfloat::ppc::{DoubleDouble, FallbackS};
 use crate::erased::rustc_apfloat::{FUSED_LIMIT, Float, Round, StatusAnd};
-use crate::library::{AnyFloat, any_value, wide_fused_sum, wide_product};
+use crate::library::{AnyFloat, any_value, remainder_in_steps, wide_fused_sum, wide_product};
 use crate::lines::{
     Answered, Call, CallFault, CallInFormat, ConversionCall, ExtraField, FormatCall, Formats, Operands, Quanta,
     Request, Returned, RowAnswer, RowFormat, value_of,
@@ -157,7 +157,7 @@ fn remainder_steps<S: Flagged>(request: Request) -> Answered {
     let Some((x, y)) = two_values_in::<S>(request.operands) else {
         return Err(CallFault::Operand);
     };
-    let (answer, taken) = x.c_fmod_steps(y);
+    let (answer, taken) = remainder_in_steps(x, y);
     let bound = x.ilogb().saturating_sub(y.ilogb()).saturating_add(1).max(0);
     let columns = rounded_in(answer, request.stated);
     Ok(columns.with(ExtraField::Steps(taken, bound)))

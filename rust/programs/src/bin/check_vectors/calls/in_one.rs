@@ -8,6 +8,7 @@ use crate::erased::ieee_operations::{
 };
 use crate::erased::rustc_apfloat::ieee::{Flagged, IeeeFloat};
 use crate::erased::rustc_apfloat::{Round, StatusAnd};
+use crate::library::times_power;
 use crate::lines::{
     Answered, CallFault, CallInFormat, GeneralCall, Operand, OperationCall, OrderCall, Request, RowAnswer, RowFormat,
     ToIntegerCall, ValueField, mask, shown,
@@ -126,7 +127,7 @@ fn scaled<S: Flagged>(request: Request) -> Answered {
         return Err(CallFault::Operands);
     };
     match value_in::<S>(request.operands.first) {
-        Some(x) => Ok(rounded_in(x.scale_b(power, request.round), request.stated)),
+        Some(x) => Ok(rounded_in(times_power(x, power, request.round), request.stated)),
         None => Err(CallFault::Operand),
     }
 }
