@@ -1821,7 +1821,7 @@ constexpr std::uint64_t whole_of(const value<F> &x) noexcept {
         if ((number & ((UINT64_C(1) << -exponent) - 1)) != 0) return full_below;
         number >>= -exponent;
     } else if (number != 0) {
-        if (exponent > 53 || number >= full_below >> exponent) return full_below;
+        if (exponent > 53 || number > (full_below - 1) >> exponent) return full_below;
         number <<= exponent;
     }
     return number < full_below ? number : full_below;

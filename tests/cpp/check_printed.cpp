@@ -140,7 +140,7 @@ void check_flags() {
     out << value<e4m3fn>::from_bits(0x7e) << ' ' << -std::numeric_limits<value<binary16>>::max() << ' '
         << shortest_text(std::numeric_limits<value<binary16>>::max()).view() << ' ' << single(16777216.0f) << ' '
         << single(1e20f) << ' ' << value<bfloat16>::from_bits(0x5a0e) << ' ' << value<bfloat16>::from_bits(0x5a0f);
-    check(out.str(), "448.0 -65504.0 65500.0 16777216.0 100000000000000000000.0 9992361673228288.0 1.01e16",
+    check(out.str(), "448.0 -65504.0 65500.0 16777216.0 100000000000000000000.0 9992361673228288.0 10060000000000000.0",
           "whole numbers");
 }
 
