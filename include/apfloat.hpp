@@ -594,7 +594,8 @@ constexpr apfloat_halves next_magnitude(apfloat_halves bits) noexcept {
         return halves_of(F::has_infinity ? F::constants.infinity : F::constants.quiet_nan);
     bits = plus_one(bits);
     if constexpr (std::is_same_v<typename F::plain, x87>) {
-        if (bits.low == 0) return {top_bit, bits.high + 1};
+        // All digits were ones: the carry has moved the exponent.
+        if (bits.low == 0) return {top_bit, bits.high};
         if (bits.low == top_bit && bits.high == 0) bits.high = 1;
     }
     return bits;
