@@ -12,25 +12,30 @@
 //   af::unflagged<af::binary64> z = 2;        // operators to nearest even, whose flags are dropped
 //   std::cout << z * z + 1 << '\n';
 //
-// Every result is computed by the library for C, so programs link libapfloat_c.a. Nothing is global: a rounding mode is
-// an argument, a part of a type, or that of a `gather`, and flags are returned, or joined to a `gather`. What a format
-// does not have does not compile. A text or a length that the library refuses is returned as an `errc`, and of all that
-// is here only `expected::value()` throws it. A `rounding` that is no enumerator is returned as an `errc` too where an
-// error can be returned, and ends the program with a message elsewhere.
+// What is rounded is computed by the library for C, so programs link libapfloat_c.a; only the digits that `<<` writes
+// by the precision of a stream are computed here. Nothing is global: a rounding mode is an argument, a part of a type,
+// or that of a `gather`, and flags are returned, or joined to a `gather`. What a format does not have does not compile.
+// A text or a length that the library refuses is returned as an `errc`, and of all that is here only
+// `expected::value()` throws it. A `rounding` that is no enumerator is returned as an `errc` too where an error can be
+// returned, and ends the program with a message elsewhere.
 //
-// Bits, signs, flags and constants are `constexpr`, since they need no call. docs/CPP.md is an
-// introduction.
+// What needs no rounding is found from the bits alone, and is `constexpr`: signs, classes, order, minima and maxima,
+// NaNs and neighbours, of all formats but pairs of doubles. docs/CPP.md is an introduction.
 #ifndef APFLOAT_HPP
 #define APFLOAT_HPP
 
 #include "apfloat.h"
 
+#include <array>
+#include <cmath>
 #include <cstddef>
 #include <cstdint>
 #include <cstdio>
 #include <cstdlib>
 #include <cstring>
 #include <functional>
+#include <ios>
+#include <istream>
 #include <limits>
 #include <optional>
 #include <ostream>
@@ -83,28 +88,28 @@ enum class flag : std::uint32_t {
 class flags {
 public:
     constexpr flags() = default;
-    constexpr flags(flag one) : code_(static_cast<std::uint32_t>(one)) {}
+    constexpr flags(flag one) noexcept : code_(static_cast<std::uint32_t>(one)) {}
 
     /// The flags of a sum of APFLOAT_INVALID_OP .. APFLOAT_INEXACT.
-    static constexpr flags of_code(std::uint32_t code) {
+    static constexpr flags of_code(std::uint32_t code) noexcept {
         flags made;
         made.code_ = code;
         return made;
     }
-    constexpr std::uint32_t code() const { return code_; }
+    constexpr std::uint32_t code() const noexcept { return code_; }
 
-    constexpr bool none() const { return code_ == 0; }
-    constexpr bool any() const { return code_ != 0; }
-    constexpr bool has(flag one) const { return (code_ & static_cast<std::uint32_t>(one)) != 0; }
+    constexpr bool none() const noexcept { return code_ == 0; }
+    constexpr bool any() const noexcept { return code_ != 0; }
+    constexpr bool has(flag one) const noexcept { return (code_ & static_cast<std::uint32_t>(one)) != 0; }
 
-    constexpr flags &operator|=(flags more) {
+    constexpr flags &operator|=(flags more) noexcept {
         code_ |= more.code_;
         return *this;
     }
-    friend constexpr flags operator|(flags x, flags y) { return x |= y; }
-    friend constexpr flags operator&(flags x, flags y) { return of_code(x.code_ & y.code_); }
-    friend constexpr bool operator==(flags x, flags y) { return x.code_ == y.code_; }
-    friend constexpr bool operator!=(flags x, flags y) { return x.code_ != y.code_; }
+    friend constexpr flags operator|(flags x, flags y) noexcept { return x |= y; }
+    friend constexpr flags operator&(flags x, flags y) noexcept { return of_code(x.code_ & y.code_); }
+    friend constexpr bool operator==(flags x, flags y) noexcept { return x.code_ == y.code_; }
+    friend constexpr bool operator!=(flags x, flags y) noexcept { return x.code_ != y.code_; }
 
     /// Writes the names of the flags, as in OVERFLOW|INEXACT, or OK for none.
     friend std::ostream &operator<<(std::ostream &out, flags raised) { return out << raised.names(); }
@@ -126,7 +131,7 @@ private:
     std::uint32_t code_ = 0;
 };
 
-constexpr flags operator|(flag x, flag y) { return flags(x) | flags(y); }
+constexpr flags operator|(flag x, flag y) noexcept { return flags(x) | flags(y); }
 
 /// Why the library refuses a call: the codes of apfloat.h.
 enum class errc : std::uint32_t {
@@ -142,7 +147,7 @@ enum class errc : std::uint32_t {
 };
 
 /// An error in words: those of apfloat_error_text.
-constexpr const char *message(errc error) {
+constexpr const char *message(errc error) noexcept {
     switch (error) {
     case errc::unknown_format: return "unknown format";
     case errc::unknown_mode: return "unknown rounding mode";
@@ -160,11 +165,11 @@ constexpr const char *message(errc error) {
 namespace detail {
 
 // Ends the program: the caller broke a condition, and no error can be returned.
-[[noreturn]] inline void refuse(const char *why) {
+[[noreturn]] inline void refuse(const char *why) noexcept {
     std::fprintf(stderr, "apfloat: %s\n", why);
     std::abort();
 }
-[[noreturn]] inline void refuse(errc error) { refuse(message(error)); }
+[[noreturn]] inline void refuse(errc error) noexcept { refuse(message(error)); }
 
 } // namespace detail
 
@@ -185,17 +190,17 @@ template <class T>
 class [[nodiscard]] expected {
 public:
     constexpr expected(T result) : result_(std::move(result)) {}
-    constexpr expected(errc error) : error_(error), has_value_(false) {}
+    constexpr expected(errc error) noexcept : error_(error), has_value_(false) {}
 
-    constexpr bool has_value() const { return has_value_; }
-    constexpr explicit operator bool() const { return has_value_; }
+    constexpr bool has_value() const noexcept { return has_value_; }
+    constexpr explicit operator bool() const noexcept { return has_value_; }
 
     /// The result. Without one, the program ends with a message.
-    constexpr const T &operator*() const {
+    constexpr const T &operator*() const noexcept {
         if (!has_value_) detail::refuse(error_);
         return result_;
     }
-    constexpr const T *operator->() const { return &**this; }
+    constexpr const T *operator->() const noexcept { return &**this; }
 
     /// The result. Without one, `apfloat::error` is thrown.
     constexpr const T &value() const {
@@ -207,7 +212,7 @@ public:
     constexpr T value_or(T other) const { return has_value_ ? result_ : other; }
 
     /// Why there is no result. With one, the program ends with a message.
-    constexpr errc error() const {
+    constexpr errc error() const noexcept {
         if (has_value_) detail::refuse("the error of a result was asked for, which has none");
         return error_;
     }
@@ -393,13 +398,13 @@ struct ieee_tiny_before : F {
 
 namespace detail {
 
-constexpr apfloat_halves halves_of(std::uint64_t bits) { return {bits, 0}; }
-constexpr apfloat_halves halves_of(bits80 bits) { return {bits.low, bits.high}; }
-constexpr apfloat_halves halves_of(bits128 bits) { return bits; }
+constexpr apfloat_halves halves_of(std::uint64_t bits) noexcept { return {bits, 0}; }
+constexpr apfloat_halves halves_of(bits80 bits) noexcept { return {bits.low, bits.high}; }
+constexpr apfloat_halves halves_of(bits128 bits) noexcept { return bits; }
 
 // The lowest bits of two words, as many as `Bits` has.
 template <class Bits>
-constexpr Bits bits_of(apfloat_halves halves) {
+constexpr Bits bits_of(apfloat_halves halves) noexcept {
     if constexpr (std::is_same_v<Bits, bits128>)
         return halves;
     else if constexpr (std::is_same_v<Bits, bits80>)
@@ -408,10 +413,10 @@ constexpr Bits bits_of(apfloat_halves halves) {
         return static_cast<Bits>(halves.low);
 }
 
-constexpr bool is_equal(apfloat_halves x, apfloat_halves y) { return x.low == y.low && x.high == y.high; }
+constexpr bool is_equal(apfloat_halves x, apfloat_halves y) noexcept { return x.low == y.low && x.high == y.high; }
 
 template <class To, class From>
-constexpr To bit_cast(const From &from) {
+constexpr To bit_cast(const From &from) noexcept {
     static_assert(sizeof(To) == sizeof(From), "a float has 32 bits and a double 64");
 #if defined(__cpp_lib_bit_cast)
     return std::bit_cast<To>(from);
@@ -435,7 +440,7 @@ inline constexpr std::uint64_t top_bit = UINT64_C(1) << 63;
 
 // The bit that is the sign of a value; of a pair, the sign of its high double.
 template <class F>
-constexpr apfloat_halves sign_of() {
+constexpr apfloat_halves sign_of() noexcept {
     if constexpr (F::is_pair || F::width == 64)
         return {top_bit, 0};
     else if constexpr (F::width < 64)
@@ -444,8 +449,8 @@ constexpr apfloat_halves sign_of() {
         return {0, UINT64_C(1) << (F::width - 65)};
 }
 
-constexpr bool is_zero_double(std::uint64_t bits) { return (bits & ~top_bit) == 0; }
-constexpr bool is_finite_double(std::uint64_t bits) {
+constexpr bool is_zero_double(std::uint64_t bits) noexcept { return (bits & ~top_bit) == 0; }
+constexpr bool is_finite_double(std::uint64_t bits) noexcept {
     return (bits & binary64::constants.infinity) != binary64::constants.infinity;
 }
 
@@ -453,7 +458,7 @@ constexpr bool is_finite_double(std::uint64_t bits) {
 // the pseudo-denormals, whose exponent is that of the smallest normal number, and those without an integer bit that
 // are no denormals, which are NaNs.
 template <class F>
-constexpr apfloat_halves written(apfloat_halves bits) {
+constexpr apfloat_halves written(apfloat_halves bits) noexcept {
     if constexpr (std::is_same_v<typename F::plain, x87>) {
         const bool has_integer_bit = bits.low & top_bit, has_exponent = bits.high & 0x7fff;
         if (has_integer_bit && !has_exponent) bits.high |= 1;
@@ -463,7 +468,7 @@ constexpr apfloat_halves written(apfloat_halves bits) {
 }
 
 template <class F>
-constexpr bool is_negative(apfloat_halves bits) {
+constexpr bool is_negative(apfloat_halves bits) noexcept {
     constexpr auto sign = sign_of<F>();
     // A format without -0 has its NaN there, and it has no sign.
     if constexpr (!F::has_negative_zero)
@@ -472,7 +477,7 @@ constexpr bool is_negative(apfloat_halves bits) {
 }
 
 template <class F>
-constexpr apfloat_halves negated(apfloat_halves bits) {
+constexpr apfloat_halves negated(apfloat_halves bits) noexcept {
     constexpr auto sign = sign_of<F>();
     bits = written<F>(bits);
     if constexpr (!F::has_negative_zero)
@@ -483,9 +488,140 @@ constexpr apfloat_halves negated(apfloat_halves bits) {
     return {bits.low ^ sign.low, bits.high ^ sign.high};
 }
 
+// ---- classes and order by bits, of all formats but pairs
+
+constexpr bool is_below(apfloat_halves x, apfloat_halves y) noexcept {
+    return x.high != y.high ? x.high < y.high : x.low < y.low;
+}
+
+// The bits without the sign, as an integer that grows with the magnitude. A NaN without a sign is the greatest.
+template <class F>
+constexpr apfloat_halves magnitude(apfloat_halves bits) noexcept {
+    if constexpr (!F::has_negative_zero)
+        if (bits.low == F::constants.quiet_nan) return bits;
+    constexpr auto sign = sign_of<F>();
+    bits = written<F>(bits);
+    return {bits.low & ~sign.low, bits.high & ~sign.high};
+}
+
+template <class F>
+constexpr bool is_infinite(apfloat_halves bits) noexcept {
+    return F::has_infinity && is_equal(magnitude<F>(bits), halves_of(F::constants.infinity));
+}
+template <class F>
+constexpr bool is_nan(apfloat_halves bits) noexcept {
+    return is_below(halves_of(F::constants.largest), magnitude<F>(bits)) && !is_infinite<F>(bits);
+}
+template <class F>
+constexpr bool is_zero(apfloat_halves bits) noexcept {
+    return is_equal(magnitude<F>(bits), {0, 0});
+}
+
+constexpr apfloat_halves power_of_two(int exponent) noexcept {
+    return exponent < 64 ? apfloat_halves{UINT64_C(1) << exponent, 0}
+                         : apfloat_halves{0, UINT64_C(1) << (exponent - 64)};
+}
+constexpr apfloat_halves joined(apfloat_halves x, apfloat_halves y) noexcept {
+    return {x.low | y.low, x.high | y.high};
+}
+constexpr apfloat_halves common(apfloat_halves x, apfloat_halves y) noexcept {
+    return {x.low & y.low, x.high & y.high};
+}
+constexpr apfloat_halves less_one(apfloat_halves x) noexcept { return {x.low - 1, x.high - (x.low == 0)}; }
+constexpr apfloat_halves plus_one(apfloat_halves x) noexcept {
+    return {x.low + 1, x.high + (x.low == UINT64_MAX)};
+}
+
+// The bits that are set in quiet NaNs, and not all of them in signaling ones: in an x87 the one before the point too.
+template <class F>
+constexpr apfloat_halves quiet_bits() noexcept {
+    const auto bit = power_of_two(F::precision - 2);
+    return std::is_same_v<typename F::plain, x87> ? joined(bit, {top_bit, 0}) : bit;
+}
+// All bits that the payload of a NaN has room for.
+template <class F>
+constexpr apfloat_halves payload_bits() noexcept {
+    return less_one(power_of_two(F::precision - 2));
+}
+template <class F>
+constexpr bool is_signaling(apfloat_halves bits) noexcept {
+    constexpr auto quiet = quiet_bits<F>();
+    return F::has_signaling_nan && is_nan<F>(bits) && !is_equal(common(bits, quiet), quiet);
+}
+// The quiet NaN of a NaN.
+template <class F>
+constexpr apfloat_halves quieted(apfloat_halves bits) noexcept {
+    bits = written<F>(bits);
+    return F::has_signaling_nan ? joined(bits, power_of_two(F::precision - 2)) : bits;
+}
+
+template <class F>
+constexpr std::int32_t class_of(apfloat_halves bits) noexcept {
+    if (is_nan<F>(bits)) return is_signaling<F>(bits) ? APFLOAT_SIGNALING_NAN : APFLOAT_QUIET_NAN;
+    const bool negative = is_negative<F>(bits);
+    if (is_infinite<F>(bits)) return negative ? APFLOAT_NEGATIVE_INFINITY : APFLOAT_POSITIVE_INFINITY;
+    if (is_zero<F>(bits)) return negative ? APFLOAT_NEGATIVE_ZERO : APFLOAT_POSITIVE_ZERO;
+    if (is_below(magnitude<F>(bits), halves_of(F::constants.smallest_normal)))
+        return negative ? APFLOAT_NEGATIVE_SUBNORMAL : APFLOAT_POSITIVE_SUBNORMAL;
+    return negative ? APFLOAT_NEGATIVE_NORMAL : APFLOAT_POSITIVE_NORMAL;
+}
+
+// The order of the magnitudes, and of signed ones.
+template <class F>
+constexpr std::int32_t order_of_magnitudes(apfloat_halves x, apfloat_halves y) noexcept {
+    // A NaN of the x87 without an integer bit is above infinity too.
+    if (is_infinite<F>(x) && is_nan<F>(y)) return APFLOAT_LESS;
+    if (is_nan<F>(x) && is_infinite<F>(y)) return APFLOAT_GREATER;
+    if (is_below(magnitude<F>(x), magnitude<F>(y))) return APFLOAT_LESS;
+    return is_below(magnitude<F>(y), magnitude<F>(x)) ? APFLOAT_GREATER : APFLOAT_EQUAL;
+}
+template <class F>
+constexpr std::int32_t total_order_of(apfloat_halves x, apfloat_halves y) noexcept {
+    const bool negative = is_negative<F>(x);
+    if (negative != is_negative<F>(y)) return negative ? APFLOAT_LESS : APFLOAT_GREATER;
+    return negative ? order_of_magnitudes<F>(y, x) : order_of_magnitudes<F>(x, y);
+}
+template <class F>
+constexpr std::int32_t order_of(apfloat_halves x, apfloat_halves y) noexcept {
+    if (is_nan<F>(x) || is_nan<F>(y)) return APFLOAT_UNORDERED;
+    return is_zero<F>(x) && is_zero<F>(y) ? APFLOAT_EQUAL : total_order_of<F>(x, y);
+}
+
+// The next magnitude above one that is finite. An x87 has a bit before the point, which its patterns may lack.
+template <class F>
+constexpr apfloat_halves next_magnitude(apfloat_halves bits) noexcept {
+    if (is_equal(bits, halves_of(F::constants.largest)))
+        return halves_of(F::has_infinity ? F::constants.infinity : F::constants.quiet_nan);
+    bits = plus_one(bits);
+    if constexpr (std::is_same_v<typename F::plain, x87>) {
+        // All digits were ones: the carry has moved the exponent.
+        if (bits.low == 0) return {top_bit, bits.high};
+        if (bits.low == top_bit && bits.high == 0) bits.high = 1;
+    }
+    return bits;
+}
+template <class F>
+constexpr apfloat_halves previous_magnitude(apfloat_halves bits) noexcept {
+    if constexpr (std::is_same_v<typename F::plain, x87>) {
+        if (bits.low == top_bit && bits.high == 1) return {top_bit - 1, 0};
+        if (bits.low == top_bit) return {UINT64_MAX, bits.high - 1};
+    }
+    if (is_equal(bits, halves_of(F::constants.infinity))) return halves_of(F::constants.largest);
+    return less_one(bits);
+}
+
+// The least value above one that is no NaN.
+template <class F>
+constexpr apfloat_halves next_up_of(apfloat_halves bits) noexcept {
+    const auto found = magnitude<F>(bits);
+    if (is_zero<F>(bits)) return halves_of(F::constants.smallest);
+    if (!is_negative<F>(bits)) return is_infinite<F>(bits) ? found : next_magnitude<F>(found);
+    return negated<F>(previous_magnitude<F>(found));
+}
+
 // Two words that are the same for values that compare equal.
 template <class F>
-constexpr apfloat_halves same_for_equals(apfloat_halves bits) {
+constexpr apfloat_halves same_for_equals(apfloat_halves bits) noexcept {
     if constexpr (F::is_pair)
         return {is_zero_double(bits.low) ? 0 : bits.low, is_zero_double(bits.high) ? 0 : bits.high};
     constexpr auto sign = sign_of<F>();
@@ -496,14 +632,14 @@ constexpr apfloat_halves same_for_equals(apfloat_halves bits) {
 
 // Makes a call of the library that is never refused, unless a mode is none of the enumerators.
 template <class... Parameters, class... Arguments>
-apfloat_answer answer_of(std::uint32_t (*call)(Parameters...), Arguments... arguments) {
+apfloat_answer answer_of(std::uint32_t (*call)(Parameters...), Arguments... arguments) noexcept {
     apfloat_answer answer = {{0, 0}, 0, 0};
     const std::uint32_t code = call(arguments..., &answer);
     if (code != APFLOAT_ANSWERED) refuse(static_cast<errc>(code));
     return answer;
 }
 
-constexpr std::uint32_t code_of(rounding mode) { return static_cast<std::uint32_t>(mode); }
+constexpr std::uint32_t code_of(rounding mode) noexcept { return static_cast<std::uint32_t>(mode); }
 
 } // namespace detail
 
@@ -517,6 +653,10 @@ enum class order : std::int32_t {
     unordered = APFLOAT_UNORDERED
 };
 
+template <class T>
+struct result;
+class gather;
+
 /// A value of a format, stored as its bits. It has no operators that round: see `add` and the like, `gather` and
 /// `unflagged`. Without an argument it is +0.
 template <class F>
@@ -529,52 +669,62 @@ public:
 
     /// The value of a float for a format of binary32, and of a double for one of binary64, with the same bits.
     template <class Host, std::enable_if_t<std::is_same_v<Host, typename F::host>, int> = 0>
-    constexpr value(Host x) : bits_(detail::bit_cast<bits_type>(x)) {
+    constexpr value(Host x) noexcept : bits_(detail::bit_cast<bits_type>(x)) {
         static_assert(std::numeric_limits<Host>::is_iec559, "float and double are formats of IEEE 754");
     }
+
+    /// The value of a text, as `parse` reads it.
+    static expected<result<value>> from_text(std::string_view text,
+                                             rounding mode = rounding::nearest_even) noexcept;
+    static expected<value> from_text(std::string_view text, gather &with) noexcept;
+
+    /// The value of a double, rounded once: exact in a format that has every double. The double is the high one of a
+    /// pair.
+    static result<value> from_double(double x, rounding mode = rounding::nearest_even) noexcept;
+    static value from_double(double x, gather &with) noexcept;
 
     /// The same value in a format that differs in the rule for flags only.
     template <class G, std::enable_if_t<!std::is_same_v<F, G> && std::is_same_v<typename F::plain, typename G::plain>,
                                         int> = 0>
-    constexpr explicit value(value<G> x) : bits_(x.bits()) {}
+    constexpr explicit value(value<G> x) noexcept : bits_(x.bits()) {}
 
     /// The value with these bits. Those of `tf32` are the lowest 19, and the others are ignored.
-    static constexpr value from_bits(bits_type bits) {
+    static constexpr value from_bits(bits_type bits) noexcept {
         value made;
         if constexpr (std::is_same_v<typename F::plain, tf32>) bits &= 0x7ffff;
         made.bits_ = bits;
         return made;
     }
-    constexpr bits_type bits() const { return bits_; }
+    constexpr bits_type bits() const noexcept { return bits_; }
 
     /// The value whose bits are the lowest of two words; nothing if a bit above them is set.
-    static constexpr std::optional<value> from_halves(apfloat_halves halves) {
+    static constexpr std::optional<value> from_halves(apfloat_halves halves) noexcept {
         const auto made = from_lowest(halves);
         if (!detail::is_equal(made.halves(), halves)) return std::nullopt;
         return made;
     }
     /// The same, whatever the bits above them are, as in C.
-    static constexpr value from_lowest(apfloat_halves halves) {
+    static constexpr value from_lowest(apfloat_halves halves) noexcept {
         return from_bits(detail::bits_of<bits_type>(halves));
     }
-    constexpr apfloat_halves halves() const { return detail::halves_of(bits_); }
+    constexpr apfloat_halves halves() const noexcept { return detail::halves_of(bits_); }
 
     /// The float or double with the same bits.
     template <class Host, std::enable_if_t<std::is_same_v<Host, typename F::host>, int> = 0>
-    constexpr explicit operator Host() const {
+    constexpr explicit operator Host() const noexcept {
         return detail::bit_cast<Host>(bits_);
     }
 
     /// Whether the sign is that of negative values, also of a zero or a NaN.
-    constexpr bool sign_bit() const { return detail::is_negative<F>(halves()); }
+    constexpr bool sign_bit() const noexcept { return detail::is_negative<F>(halves()); }
 
     /// The value with the opposite sign, also of a zero or a NaN (IEEE 754-2019 5.5.1). The zero and the NaN of a
     /// format without -0 have no sign.
-    constexpr value operator-() const { return from_lowest(detail::negated<F>(halves())); }
-    constexpr value operator+() const { return *this; }
+    constexpr value operator-() const noexcept { return from_lowest(detail::negated<F>(halves())); }
+    constexpr value operator+() const noexcept { return *this; }
 
 #if defined(APFLOAT_HAS_THREE_WAY_COMPARISON)
-    friend std::partial_ordering operator<=>(const value &x, const value &y) {
+    friend constexpr std::partial_ordering operator<=>(const value &x, const value &y) noexcept {
         switch (compare(x, y)) {
         case order::less: return std::partial_ordering::less;
         case order::equal: return std::partial_ordering::equivalent;
@@ -584,14 +734,14 @@ public:
         return std::partial_ordering::unordered;
     }
 #else
-    friend bool operator!=(const value &x, const value &y) { return compare(x, y) != order::equal; }
-    friend bool operator<(const value &x, const value &y) { return compare(x, y) == order::less; }
-    friend bool operator>(const value &x, const value &y) { return compare(x, y) == order::greater; }
-    friend bool operator<=(const value &x, const value &y) { return x < y || x == y; }
-    friend bool operator>=(const value &x, const value &y) { return x > y || x == y; }
+    friend constexpr bool operator!=(const value &x, const value &y) noexcept { return compare(x, y) != order::equal; }
+    friend constexpr bool operator<(const value &x, const value &y) noexcept { return compare(x, y) == order::less; }
+    friend constexpr bool operator>(const value &x, const value &y) noexcept { return compare(x, y) == order::greater; }
+    friend constexpr bool operator<=(const value &x, const value &y) noexcept { return x < y || x == y; }
+    friend constexpr bool operator>=(const value &x, const value &y) noexcept { return x > y || x == y; }
 #endif
     /// Zeros of either sign are equal, and a NaN is equal to nothing. No comparison raises a flag.
-    friend bool operator==(const value &x, const value &y) { return compare(x, y) == order::equal; }
+    friend constexpr bool operator==(const value &x, const value &y) noexcept { return compare(x, y) == order::equal; }
 
 private:
     bits_type bits_{};
@@ -599,31 +749,38 @@ private:
 
 /// The order of two values. No flag is raised, not even by a signaling NaN.
 template <class F>
-order compare(const value<F> &x, const value<F> &y) {
-    return static_cast<order>(detail::answer_of(apfloat_compare, F::code, x.halves(), y.halves()).number);
+constexpr order compare(const value<F> &x, const value<F> &y) noexcept {
+    if constexpr (F::is_pair)
+        return static_cast<order>(detail::answer_of(apfloat_compare, F::code, x.halves(), y.halves()).number);
+    else
+        return static_cast<order>(detail::order_of<F>(x.halves(), y.halves()));
 }
 
 // ---- parts of a pair
 
 /// The pair with these doubles, as they are.
-constexpr value<double_pair> pair_of(const value<binary64> &high, const value<binary64> &low = {}) {
+constexpr value<double_pair> pair_of(const value<binary64> &high, const value<binary64> &low = {}) noexcept {
     return value<double_pair>::from_bits({high.bits(), low.bits()});
 }
-constexpr value<binary64> high_of(const value<double_pair> &x) { return value<binary64>::from_bits(x.bits().low); }
-constexpr value<binary64> low_of(const value<double_pair> &x) { return value<binary64>::from_bits(x.bits().high); }
+constexpr value<binary64> high_of(const value<double_pair> &x) noexcept {
+    return value<binary64>::from_bits(x.bits().low);
+}
+constexpr value<binary64> low_of(const value<double_pair> &x) noexcept {
+    return value<binary64>::from_bits(x.bits().high);
+}
 
 // ---- signs
 
 /// The value without its sign (IEEE 754-2019 5.5.1).
 template <class F>
-constexpr value<F> abs(const value<F> &x) {
+constexpr value<F> abs(const value<F> &x) noexcept {
     const auto negated = -x;
     return x.sign_bit() ? negated : -negated;
 }
 
 /// `x` with the sign of `y` (IEEE 754-2019 5.5.1).
 template <class F>
-constexpr value<F> copy_sign(const value<F> &x, const value<F> &y) {
+constexpr value<F> copy_sign(const value<F> &x, const value<F> &y) noexcept {
     const auto negated = -x;
     return x.sign_bit() == y.sign_bit() ? -negated : negated;
 }
@@ -635,8 +792,14 @@ constexpr value<F> copy_sign(const value<F> &x, const value<F> &y) {
 namespace detail {
 
 template <class F>
-value<F> value_of(const apfloat_answer &answer) {
+value<F> value_of(const apfloat_answer &answer) noexcept {
     return value<F>::from_lowest(answer.bits);
+}
+
+// A value as the library writes it.
+template <class F>
+constexpr value<F> as_written(const value<F> &x) noexcept {
+    return value<F>::from_lowest(written<F>(x.halves()));
 }
 
 } // namespace detail
@@ -644,38 +807,74 @@ value<F> value_of(const apfloat_answer &answer) {
 /// The lesser of two values (IEEE 754-2008 5.3.1, minNum, but with a signaling NaN taken as a quiet one), like
 /// std::fmin: y if x is a NaN, x if y is one, and x if the two are equal, as zeros of opposite signs are.
 template <class F>
-value<F> min(const value<F> &x, const value<F> &y) {
-    return detail::value_of<F>(detail::answer_of(apfloat_min, F::code, x.halves(), y.halves()));
+constexpr value<F> min(const value<F> &x, const value<F> &y) noexcept {
+    if constexpr (F::is_pair)
+        return detail::value_of<F>(detail::answer_of(apfloat_min, F::code, x.halves(), y.halves()));
+    else
+        return detail::as_written(is_nan(x) || y < x ? y : x);
 }
 /// The greater of two values (maxNum), in the same way.
 template <class F>
-value<F> max(const value<F> &x, const value<F> &y) {
-    return detail::value_of<F>(detail::answer_of(apfloat_max, F::code, x.halves(), y.halves()));
+constexpr value<F> max(const value<F> &x, const value<F> &y) noexcept {
+    if constexpr (F::is_pair)
+        return detail::value_of<F>(detail::answer_of(apfloat_max, F::code, x.halves(), y.halves()));
+    else
+        return detail::as_written(is_nan(x) || x < y ? y : x);
 }
+namespace detail {
+
+// Whether a number is not above another, with -0 below +0.
+template <class F>
+constexpr bool is_in_order(const value<F> &x, const value<F> &y) noexcept {
+    return total_order_of<F>(x.halves(), y.halves()) != APFLOAT_GREATER;
+}
+
+} // namespace detail
+
 /// The lesser of two values (IEEE 754-2019 9.6, minimum, but without a flag): the first NaN, unchanged, if there is
 /// one; -0 is below +0.
 template <class F>
-value<F> minimum(const value<F> &x, const value<F> &y) {
-    return detail::value_of<F>(detail::answer_of(apfloat_minimum, F::code, x.halves(), y.halves()));
+constexpr value<F> minimum(const value<F> &x, const value<F> &y) noexcept {
+    if constexpr (F::is_pair)
+        return detail::value_of<F>(detail::answer_of(apfloat_minimum, F::code, x.halves(), y.halves()));
+    else
+        return detail::as_written(is_nan(x) || (!is_nan(y) && detail::is_in_order(x, y)) ? x : y);
 }
 /// The greater of two values (maximum), in the same way.
 template <class F>
-value<F> maximum(const value<F> &x, const value<F> &y) {
-    return detail::value_of<F>(detail::answer_of(apfloat_maximum, F::code, x.halves(), y.halves()));
+constexpr value<F> maximum(const value<F> &x, const value<F> &y) noexcept {
+    if constexpr (F::is_pair)
+        return detail::value_of<F>(detail::answer_of(apfloat_maximum, F::code, x.halves(), y.halves()));
+    else
+        return detail::as_written(is_nan(x) || (!is_nan(y) && detail::is_in_order(y, x)) ? x : y);
 }
 
 /// The quiet NaN with this payload, of which the bits that the format has room for are taken (IEEE 754-2019 6.2.1).
 template <class F>
-value<F> quiet_nan(apfloat_halves payload = {0, 0}, bool negative = false) {
-    const std::uint32_t sign = negative;
-    return detail::value_of<F>(detail::answer_of(apfloat_qnan, F::code, sign, payload));
+constexpr value<F> quiet_nan(apfloat_halves payload = {0, 0}, bool negative = false) noexcept {
+    if constexpr (F::is_pair) {
+        return pair_of(quiet_nan<binary64>(payload, negative));
+    } else {
+        auto bits = detail::halves_of(F::constants.quiet_nan);
+        if (F::has_signaling_nan)
+            bits = detail::joined(bits, detail::common(payload, detail::payload_bits<F>()));
+        return value<F>::from_lowest(negative ? detail::negated<F>(bits) : bits);
+    }
 }
 /// The signaling NaN with this payload; with the highest bit of a payload if it would be 0. Formats with one NaN have a
 /// quiet one.
 template <class F>
-value<F> signaling_nan(apfloat_halves payload = {0, 0}, bool negative = false) {
-    const std::uint32_t sign = negative;
-    return detail::value_of<F>(detail::answer_of(apfloat_snan, F::code, sign, payload));
+constexpr value<F> signaling_nan(apfloat_halves payload = {0, 0}, bool negative = false) noexcept {
+    if constexpr (F::is_pair) {
+        return pair_of(signaling_nan<binary64>(payload, negative));
+    } else if constexpr (!F::has_signaling_nan) {
+        return quiet_nan<F>(payload, negative);
+    } else {
+        const auto kept = detail::common(payload, detail::payload_bits<F>());
+        auto bits = detail::halves_of(F::constants.signaling_nan);
+        if (!detail::is_equal(kept, {0, 0})) bits = detail::joined(detail::halves_of(F::constants.infinity), kept);
+        return value<F>::from_lowest(negative ? detail::negated<F>(bits) : bits);
+    }
 }
 
 // ---- classes
@@ -695,41 +894,44 @@ enum class number_class : std::int32_t {
 };
 
 template <class F>
-number_class classify(const value<F> &x) {
-    return static_cast<number_class>(detail::answer_of(apfloat_classify, F::code, x.halves()).number);
+constexpr number_class classify(const value<F> &x) noexcept {
+    if constexpr (F::is_pair)
+        return static_cast<number_class>(detail::answer_of(apfloat_classify, F::code, x.halves()).number);
+    else
+        return static_cast<number_class>(detail::class_of<F>(x.halves()));
 }
 
 template <class F>
-bool is_nan(const value<F> &x) {
+constexpr bool is_nan(const value<F> &x) noexcept {
     const auto found = classify(x);
     return found == number_class::signaling_nan || found == number_class::quiet_nan;
 }
 template <class F>
-bool is_signaling(const value<F> &x) {
+constexpr bool is_signaling(const value<F> &x) noexcept {
     return classify(x) == number_class::signaling_nan;
 }
 template <class F>
-bool is_infinite(const value<F> &x) {
+constexpr bool is_infinite(const value<F> &x) noexcept {
     const auto found = classify(x);
     return found == number_class::negative_infinity || found == number_class::positive_infinity;
 }
 template <class F>
-bool is_finite(const value<F> &x) {
+constexpr bool is_finite(const value<F> &x) noexcept {
     const auto found = classify(x);
     return found >= number_class::negative_normal && found <= number_class::positive_normal;
 }
 template <class F>
-bool is_zero(const value<F> &x) {
+constexpr bool is_zero(const value<F> &x) noexcept {
     const auto found = classify(x);
     return found == number_class::negative_zero || found == number_class::positive_zero;
 }
 template <class F>
-bool is_normal(const value<F> &x) {
+constexpr bool is_normal(const value<F> &x) noexcept {
     const auto found = classify(x);
     return found == number_class::negative_normal || found == number_class::positive_normal;
 }
 template <class F>
-bool is_subnormal(const value<F> &x) {
+constexpr bool is_subnormal(const value<F> &x) noexcept {
     const auto found = classify(x);
     return found == number_class::negative_subnormal || found == number_class::positive_subnormal;
 }
@@ -775,20 +977,20 @@ class unflagged;
 /// A rounding mode, and the flags of all that was computed with it: an object of the caller, passed by reference.
 class gather {
 public:
-    explicit gather(rounding mode = rounding::nearest_even) : mode_(mode) {}
+    explicit gather(rounding mode = rounding::nearest_even) noexcept : mode_(mode) {}
     // The flags of a copy would not reach the original.
     gather(const gather &) = delete;
     gather &operator=(const gather &) = delete;
 
-    rounding mode() const { return mode_; }
+    rounding mode() const noexcept { return mode_; }
     /// The flags raised since the beginning, or since they were cleared.
-    flags raised() const { return raised_; }
-    void clear() { raised_ = flags(); }
-    void raise(flags more) { raised_ |= more; }
+    flags raised() const noexcept { return raised_; }
+    void clear() noexcept { raised_ = flags(); }
+    void raise(flags more) noexcept { raised_ |= more; }
 
     /// The value of a result of any mode, whose flags are joined to these.
     template <class T>
-    T operator()(const result<T> &computed) {
+    T operator()(const result<T> &computed) noexcept {
         raise(computed.status);
         return computed.value;
     }
@@ -803,7 +1005,7 @@ public:
 
     /// The value as an operand whose operators round in this mode and join their flags to these.
     template <class F>
-    gathered<F> operator()(const value<F> &x) {
+    gathered<F> operator()(const value<F> &x) noexcept {
         return gathered<F>(x, *this);
     }
 
@@ -815,7 +1017,7 @@ private:
 namespace detail {
 
 template <class F>
-result<value<F>> result_of(const apfloat_answer &answer) {
+result<value<F>> result_of(const apfloat_answer &answer) noexcept {
     return {value<F>::from_lowest(answer.bits), flags::of_code(answer.status)};
 }
 
@@ -828,151 +1030,170 @@ result<value<F>> result_of(const apfloat_answer &answer) {
 
 /// x + y
 template <class F>
-result<value<F>> add(const value<F> &x, const value<F> &y, rounding mode = rounding::nearest_even) {
+result<value<F>> add(const value<F> &x, const value<F> &y, rounding mode = rounding::nearest_even) noexcept {
     return detail::result_of<F>(
         detail::answer_of(apfloat_add, F::code, detail::code_of(mode), x.halves(), y.halves()));
 }
 template <class F>
-value<F> add(const value<F> &x, const value<F> &y, gather &with) {
+value<F> add(const value<F> &x, const value<F> &y, gather &with) noexcept {
     return with(add(x, y, with.mode()));
 }
 
 /// x - y
 template <class F>
-result<value<F>> sub(const value<F> &x, const value<F> &y, rounding mode = rounding::nearest_even) {
+result<value<F>> sub(const value<F> &x, const value<F> &y, rounding mode = rounding::nearest_even) noexcept {
     return detail::result_of<F>(
         detail::answer_of(apfloat_sub, F::code, detail::code_of(mode), x.halves(), y.halves()));
 }
 template <class F>
-value<F> sub(const value<F> &x, const value<F> &y, gather &with) {
+value<F> sub(const value<F> &x, const value<F> &y, gather &with) noexcept {
     return with(sub(x, y, with.mode()));
 }
 
 /// x * y
 template <class F>
-result<value<F>> mul(const value<F> &x, const value<F> &y, rounding mode = rounding::nearest_even) {
+result<value<F>> mul(const value<F> &x, const value<F> &y, rounding mode = rounding::nearest_even) noexcept {
     return detail::result_of<F>(
         detail::answer_of(apfloat_mul, F::code, detail::code_of(mode), x.halves(), y.halves()));
 }
 template <class F>
-value<F> mul(const value<F> &x, const value<F> &y, gather &with) {
+value<F> mul(const value<F> &x, const value<F> &y, gather &with) noexcept {
     return with(mul(x, y, with.mode()));
 }
 
 /// x / y
 template <class F>
-result<value<F>> div(const value<F> &x, const value<F> &y, rounding mode = rounding::nearest_even) {
+result<value<F>> div(const value<F> &x, const value<F> &y, rounding mode = rounding::nearest_even) noexcept {
     return detail::result_of<F>(
         detail::answer_of(apfloat_div, F::code, detail::code_of(mode), x.halves(), y.halves()));
 }
 template <class F>
-value<F> div(const value<F> &x, const value<F> &y, gather &with) {
+value<F> div(const value<F> &x, const value<F> &y, gather &with) noexcept {
     return with(div(x, y, with.mode()));
 }
 
 /// x * y + z, rounded once.
 template <class F>
 result<value<F>> fma(const value<F> &x, const value<F> &y, const value<F> &z,
-                     rounding mode = rounding::nearest_even) {
+                     rounding mode = rounding::nearest_even) noexcept {
     static_assert(!F::is_pair, "pairs of doubles have no fused sum");
     return detail::result_of<F>(
         detail::answer_of(apfloat_fma, F::code, detail::code_of(mode), x.halves(), y.halves(), z.halves()));
 }
 template <class F>
-value<F> fma(const value<F> &x, const value<F> &y, const value<F> &z, gather &with) {
+value<F> fma(const value<F> &x, const value<F> &y, const value<F> &z, gather &with) noexcept {
     return with(fma(x, y, z, with.mode()));
 }
 
 /// The square root.
 template <class F>
-result<value<F>> sqrt(const value<F> &x, rounding mode = rounding::nearest_even) {
+result<value<F>> sqrt(const value<F> &x, rounding mode = rounding::nearest_even) noexcept {
     return detail::result_of<F>(detail::answer_of(apfloat_sqrt, F::code, detail::code_of(mode), x.halves()));
 }
 template <class F>
-value<F> sqrt(const value<F> &x, gather &with) {
+value<F> sqrt(const value<F> &x, gather &with) noexcept {
     return with(sqrt(x, with.mode()));
 }
 
 /// The remainder of x by y, with the quotient rounded to the nearest integer, like std::remainder. It is exact.
 template <class F>
-result<value<F>> rem(const value<F> &x, const value<F> &y) {
+result<value<F>> rem(const value<F> &x, const value<F> &y) noexcept {
     return detail::result_of<F>(detail::answer_of(apfloat_rem, F::code, x.halves(), y.halves()));
 }
 template <class F>
-value<F> rem(const value<F> &x, const value<F> &y, gather &with) {
+value<F> rem(const value<F> &x, const value<F> &y, gather &with) noexcept {
     return with(rem(x, y));
 }
 
 /// The remainder of x by y, with the quotient truncated toward zero, like std::fmod. It is exact.
 template <class F>
-result<value<F>> mod(const value<F> &x, const value<F> &y) {
+result<value<F>> mod(const value<F> &x, const value<F> &y) noexcept {
     return detail::result_of<F>(detail::answer_of(apfloat_mod, F::code, x.halves(), y.halves()));
 }
 template <class F>
-value<F> mod(const value<F> &x, const value<F> &y, gather &with) {
+value<F> mod(const value<F> &x, const value<F> &y, gather &with) noexcept {
     return with(mod(x, y));
 }
 
 /// The value rounded to an integral value.
 template <class F>
-result<value<F>> round_to_integral(const value<F> &x, rounding mode) {
+result<value<F>> round_to_integral(const value<F> &x, rounding mode) noexcept {
     return detail::result_of<F>(
         detail::answer_of(apfloat_round_to_integral, F::code, detail::code_of(mode), x.halves()));
 }
 template <class F>
-value<F> round_to_integral(const value<F> &x, gather &with) {
+value<F> round_to_integral(const value<F> &x, gather &with) noexcept {
     return with(round_to_integral(x, with.mode()));
 }
 
 /// x times 2 to the power of `power`, rounded once. The library reports no flags of it.
 template <class F>
-result<value<F>> scalbn(const value<F> &x, std::int32_t power, rounding mode = rounding::nearest_even) {
+result<value<F>> scalbn(const value<F> &x, std::int32_t power, rounding mode = rounding::nearest_even) noexcept {
     return detail::result_of<F>(
         detail::answer_of(apfloat_scalbn, F::code, detail::code_of(mode), x.halves(), power));
 }
 template <class F>
-value<F> scalbn(const value<F> &x, std::int32_t power, gather &with) {
+value<F> scalbn(const value<F> &x, std::int32_t power, gather &with) noexcept {
     return with(scalbn(x, power, with.mode()));
 }
 
 /// The exponent of the highest binary digit; INT32_MAX for an infinity, INT32_MIN for a NaN and -INT32_MAX for a zero.
 template <class F>
-std::int32_t ilogb(const value<F> &x) {
+std::int32_t ilogb(const value<F> &x) noexcept {
     return detail::answer_of(apfloat_ilogb, F::code, x.halves()).number;
 }
 
 /// The fraction and the exponent, which is 0 for a zero, INT32_MAX for an infinity and INT32_MIN for a NaN. Only pairs
 /// of doubles use the mode, for their low part.
 template <class F>
-fraction<value<F>> frexp(const value<F> &x, rounding mode = rounding::nearest_even) {
+fraction<value<F>> frexp(const value<F> &x, rounding mode = rounding::nearest_even) noexcept {
     const auto answer = detail::answer_of(apfloat_frexp, F::code, detail::code_of(mode), x.halves());
     const auto made = detail::result_of<F>(answer);
     return {made.value, made.status, answer.number};
 }
 /// The fraction and the exponent alone: const auto [fraction, exponent] = frexp(x, flags);
 template <class F>
-[[nodiscard]] std::pair<value<F>, int> frexp(const value<F> &x, gather &with) {
+[[nodiscard]] std::pair<value<F>, int> frexp(const value<F> &x, gather &with) noexcept {
     const auto made = frexp(x, with.mode());
     with.raise(made.status);
     return {made.value, made.exponent};
 }
 
-/// The least value above x.
+namespace detail {
+
 template <class F>
-result<value<F>> next_up(const value<F> &x) {
-    return detail::result_of<F>(detail::answer_of(apfloat_next_up, F::code, x.halves()));
+constexpr result<value<F>> next_of(const value<F> &x) noexcept {
+    if (!is_nan(x)) return {value<F>::from_lowest(next_up_of<F>(x.halves())), {}};
+    if (!is_signaling(x)) return {as_written(x), {}};
+    // The library drops the payload.
+    return {quiet_nan<F>({0, 0}, x.sign_bit()), flag::invalid_op};
+}
+
+} // namespace detail
+
+/// The least value above x. Like `next_down`, it raises a flag for a signaling NaN alone.
+template <class F>
+constexpr result<value<F>> next_up(const value<F> &x) noexcept {
+    if constexpr (F::is_pair)
+        return detail::result_of<F>(detail::answer_of(apfloat_next_up, F::code, x.halves()));
+    else
+        return detail::next_of(x);
 }
 template <class F>
-value<F> next_up(const value<F> &x, gather &with) {
+value<F> next_up(const value<F> &x, gather &with) noexcept {
     return with(next_up(x));
 }
 /// The greatest value below x.
 template <class F>
-result<value<F>> next_down(const value<F> &x) {
-    return detail::result_of<F>(detail::answer_of(apfloat_next_down, F::code, x.halves()));
+constexpr result<value<F>> next_down(const value<F> &x) noexcept {
+    if constexpr (F::is_pair)
+        return detail::result_of<F>(detail::answer_of(apfloat_next_down, F::code, x.halves()));
+    else
+        if (is_nan(x)) return detail::next_of(x);
+    return {-detail::next_of(-x).value, {}};
 }
 template <class F>
-value<F> next_down(const value<F> &x, gather &with) {
+value<F> next_down(const value<F> &x, gather &with) noexcept {
     return with(next_down(x));
 }
 
@@ -996,21 +1217,43 @@ enum class predicate : std::uint32_t {
 /// The NaNs that make a comparison an invalid operation: signaling ones, or all.
 enum class on_nan : std::uint32_t { quiet = APFLOAT_QUIET, signaling = APFLOAT_SIGNALING };
 
+namespace detail {
+
+constexpr bool holds(predicate asked, order found) noexcept {
+    switch (asked) {
+    case predicate::equal: return found == order::equal;
+    case predicate::not_equal: return found != order::equal;
+    case predicate::greater: return found == order::greater;
+    case predicate::greater_equal: return found == order::greater || found == order::equal;
+    case predicate::less: return found == order::less;
+    case predicate::less_equal: return found == order::less || found == order::equal;
+    case predicate::not_greater: return found != order::greater;
+    case predicate::less_unordered: return found == order::less || found == order::unordered;
+    case predicate::not_less: return found != order::less;
+    case predicate::greater_unordered: return found == order::greater || found == order::unordered;
+    case predicate::unordered: return found == order::unordered;
+    case predicate::ordered: return found != order::unordered;
+    }
+    refuse(errc::no_such_operation);
+}
+
+} // namespace detail
+
 /// Whether a predicate holds; the only flag is that of an invalid operation.
 template <class F>
-result<bool> holds(predicate asked, on_nan invalid, const value<F> &x, const value<F> &y) {
+constexpr result<bool> holds(predicate asked, on_nan invalid, const value<F> &x, const value<F> &y) noexcept {
     static_assert(!F::is_pair, "pairs of doubles do not have this operation");
-    const auto answer =
-        detail::answer_of(apfloat_compare_predicate, F::code, static_cast<std::uint32_t>(asked),
-                          static_cast<std::uint32_t>(invalid), x.halves(), y.halves());
-    return {answer.number == 1, flags::of_code(answer.status)};
+    const auto found = compare(x, y);
+    const bool is_invalid = invalid == on_nan::signaling ? found == order::unordered
+                                                         : is_signaling(x) || is_signaling(y);
+    return {detail::holds(asked, found), is_invalid ? flags(flag::invalid_op) : flags()};
 }
 
 /// The order in the total order (IEEE 754-2019 5.10), which is never `unordered`.
 template <class F>
-order total_order(const value<F> &x, const value<F> &y) {
+constexpr order total_order(const value<F> &x, const value<F> &y) noexcept {
     static_assert(!F::is_pair, "pairs of doubles do not have this operation");
-    return static_cast<order>(detail::answer_of(apfloat_total_order, F::code, x.halves(), y.halves()).number);
+    return static_cast<order>(detail::total_order_of<F>(x.halves(), y.halves()));
 }
 
 /// A minimum or a maximum (IEEE 754-2019 9.6).
@@ -1021,33 +1264,59 @@ enum class extremum : std::uint32_t {
     maximum_magnitude = APFLOAT_MAXIMUM_MAGNITUDE
 };
 
+namespace detail {
+
+template <class F>
+constexpr value<F> chosen(extremum which, const value<F> &x, const value<F> &y) noexcept {
+    switch (which) {
+    case extremum::minimum: return minimum(x, y);
+    case extremum::maximum: return maximum(x, y);
+    case extremum::minimum_magnitude:
+    case extremum::maximum_magnitude: break;
+    default: refuse(errc::no_such_operation);
+    }
+    const bool is_least = which == extremum::minimum_magnitude;
+    const auto found = order_of_magnitudes<F>(x.halves(), y.halves());
+    if (found == APFLOAT_EQUAL) return is_least ? minimum(x, y) : maximum(x, y);
+    return as_written((found == APFLOAT_LESS) == is_least ? x : y);
+}
+
+template <class F>
+constexpr result<value<F>> extreme(extremum which, bool prefers_number, const value<F> &x,
+                                   const value<F> &y) noexcept {
+    static_assert(!F::is_pair, "pairs of doubles do not have this operation");
+    const bool is_invalid = is_signaling<F>(x.halves()) || is_signaling<F>(y.halves());
+    const flags raised = is_invalid ? flags(flag::invalid_op) : flags();
+    const bool is_number = !is_nan(x) && !is_nan(y), is_none = is_nan(x) && is_nan(y);
+    const auto found = chosen(which, is_number ? x : y, y);
+    if (is_number) return {found, raised};
+    if (prefers_number && !is_none) return {as_written(is_nan(x) ? y : x), raised};
+    return {value<F>::from_lowest(quieted<F>((is_nan(x) ? x : y).halves())), raised};
+}
+
+} // namespace detail
+
 /// The minimum or maximum, with its flag; a quiet NaN if an operand is a NaN.
 template <class F>
-result<value<F>> extremum_of(extremum which, const value<F> &x, const value<F> &y) {
-    static_assert(!F::is_pair, "pairs of doubles do not have this operation");
-    const std::uint32_t prefers_number = 0;
-    return detail::result_of<F>(detail::answer_of(apfloat_extremum, F::code, static_cast<std::uint32_t>(which),
-                                                  prefers_number, x.halves(), y.halves()));
+constexpr result<value<F>> extremum_of(extremum which, const value<F> &x, const value<F> &y) noexcept {
+    return detail::extreme(which, false, x, y);
 }
 /// The same, but of a NaN and a number the number.
 template <class F>
-result<value<F>> extremum_number_of(extremum which, const value<F> &x, const value<F> &y) {
-    static_assert(!F::is_pair, "pairs of doubles do not have this operation");
-    const std::uint32_t prefers_number = 1;
-    return detail::result_of<F>(detail::answer_of(apfloat_extremum, F::code, static_cast<std::uint32_t>(which),
-                                                  prefers_number, x.halves(), y.halves()));
+constexpr result<value<F>> extremum_number_of(extremum which, const value<F> &x, const value<F> &y) noexcept {
+    return detail::extreme(which, true, x, y);
 }
 
 /// The exponent of the highest binary digit as a value (IEEE 754-2019 5.3.3, logB), rounded once.
 template <class F>
-result<value<F>> log_b(const value<F> &x, rounding mode = rounding::nearest_even) {
+result<value<F>> log_b(const value<F> &x, rounding mode = rounding::nearest_even) noexcept {
     static_assert(!F::is_pair, "pairs of doubles do not have this operation");
     return detail::result_of<F>(detail::answer_of(apfloat_log_b, F::code, detail::code_of(mode), x.halves()));
 }
 
 /// x times 2 to the power of `power`, rounded once, with its flags (IEEE 754-2019 5.3.3, scaleB).
 template <class F>
-result<value<F>> scale_b(const value<F> &x, std::int32_t power, rounding mode = rounding::nearest_even) {
+result<value<F>> scale_b(const value<F> &x, std::int32_t power, rounding mode = rounding::nearest_even) noexcept {
     static_assert(!F::is_pair, "pairs of doubles do not have this operation");
     return detail::result_of<F>(
         detail::answer_of(apfloat_scale_b, F::code, detail::code_of(mode), x.halves(), power));
@@ -1055,7 +1324,7 @@ result<value<F>> scale_b(const value<F> &x, std::int32_t power, rounding mode = 
 
 /// The value rounded to an integral value, without the flag of inexact results (IEEE 754-2019 5.9).
 template <class F>
-result<value<F>> integral(const value<F> &x, rounding mode) {
+result<value<F>> integral(const value<F> &x, rounding mode) noexcept {
     static_assert(!F::is_pair, "pairs of doubles do not have this operation");
     return detail::result_of<F>(detail::answer_of(apfloat_integral, F::code, detail::code_of(mode), x.halves()));
 }
@@ -1064,7 +1333,7 @@ namespace detail {
 
 template <class T, class F>
 result<value<T>> to_format(std::uint32_t operation, rounding mode, const value<F> &x, const value<F> &y = {},
-                           const value<F> &z = {}) {
+                           const value<F> &z = {}) noexcept {
     static_assert(!T::is_pair && !F::is_pair, "pairs of doubles do not have this operation");
     return result_of<T>(answer_of(apfloat_to_format, operation, F::code, code_of(mode), T::code, x.halves(),
                                   y.halves(), z.halves()));
@@ -1075,43 +1344,183 @@ result<value<T>> to_format(std::uint32_t operation, rounding mode, const value<F
 /// x + y in the format T, rounded once (IEEE 754-2019 5.4.1, formatOf), and the like:
 /// add_to<binary32>(x, y, rounding::nearest_even).
 template <class T, class F>
-result<value<T>> add_to(const value<F> &x, const value<F> &y, rounding mode = rounding::nearest_even) {
+result<value<T>> add_to(const value<F> &x, const value<F> &y, rounding mode = rounding::nearest_even) noexcept {
     return detail::to_format<T>(APFLOAT_SUM_TO, mode, x, y);
 }
 template <class T, class F>
-result<value<T>> sub_to(const value<F> &x, const value<F> &y, rounding mode = rounding::nearest_even) {
+result<value<T>> sub_to(const value<F> &x, const value<F> &y, rounding mode = rounding::nearest_even) noexcept {
     return detail::to_format<T>(APFLOAT_DIFFERENCE_TO, mode, x, y);
 }
 template <class T, class F>
-result<value<T>> mul_to(const value<F> &x, const value<F> &y, rounding mode = rounding::nearest_even) {
+result<value<T>> mul_to(const value<F> &x, const value<F> &y, rounding mode = rounding::nearest_even) noexcept {
     return detail::to_format<T>(APFLOAT_PRODUCT_TO, mode, x, y);
 }
 template <class T, class F>
-result<value<T>> div_to(const value<F> &x, const value<F> &y, rounding mode = rounding::nearest_even) {
+result<value<T>> div_to(const value<F> &x, const value<F> &y, rounding mode = rounding::nearest_even) noexcept {
     return detail::to_format<T>(APFLOAT_QUOTIENT_TO, mode, x, y);
 }
 template <class T, class F>
 result<value<T>> fma_to(const value<F> &x, const value<F> &y, const value<F> &z,
-                        rounding mode = rounding::nearest_even) {
+                        rounding mode = rounding::nearest_even) noexcept {
     return detail::to_format<T>(APFLOAT_FUSED_SUM_TO, mode, x, y, z);
 }
 template <class T, class F>
-result<value<T>> sqrt_to(const value<F> &x, rounding mode = rounding::nearest_even) {
+result<value<T>> sqrt_to(const value<F> &x, rounding mode = rounding::nearest_even) noexcept {
     return detail::to_format<T>(APFLOAT_ROOT_TO, mode, x);
+}
+
+// ---- names of <cmath>, found by argument
+//
+// `fma`, `sqrt`, `scalbn`, `ilogb` and `frexp` are above. On a `value`, what can raise a flag returns a `result`; on an
+// operand of a `gather` and on `unflagged` values, the same names return such a value.
+
+template <class F>
+constexpr bool isnan(const value<F> &x) noexcept {
+    return is_nan(x);
+}
+template <class F>
+constexpr bool isinf(const value<F> &x) noexcept {
+    return is_infinite(x);
+}
+template <class F>
+constexpr bool isfinite(const value<F> &x) noexcept {
+    return is_finite(x);
+}
+template <class F>
+constexpr bool isnormal(const value<F> &x) noexcept {
+    return is_normal(x);
+}
+template <class F>
+constexpr bool signbit(const value<F> &x) noexcept {
+    return x.sign_bit();
+}
+/// FP_NAN, FP_INFINITE, FP_ZERO, FP_SUBNORMAL or FP_NORMAL.
+template <class F>
+constexpr int fpclassify(const value<F> &x) noexcept {
+    if (is_nan(x)) return FP_NAN;
+    if (is_infinite(x)) return FP_INFINITE;
+    if (is_zero(x)) return FP_ZERO;
+    return is_subnormal(x) ? FP_SUBNORMAL : FP_NORMAL;
+}
+
+template <class F>
+constexpr value<F> fabs(const value<F> &x) noexcept {
+    return abs(x);
+}
+template <class F>
+constexpr value<F> copysign(const value<F> &x, const value<F> &y) noexcept {
+    return copy_sign(x, y);
+}
+template <class F>
+constexpr value<F> fmin(const value<F> &x, const value<F> &y) noexcept {
+    return min(x, y);
+}
+template <class F>
+constexpr value<F> fmax(const value<F> &x, const value<F> &y) noexcept {
+    return max(x, y);
+}
+
+template <class F>
+result<value<F>> fmod(const value<F> &x, const value<F> &y) noexcept {
+    return mod(x, y);
+}
+template <class F>
+result<value<F>> remainder(const value<F> &x, const value<F> &y) noexcept {
+    return rem(x, y);
+}
+
+/// The value rounded to an integral value, with the flag of inexact results, and without it.
+template <class F>
+result<value<F>> rint(const value<F> &x, rounding mode) noexcept {
+    return round_to_integral(x, mode);
+}
+template <class F>
+value<F> rint(const value<F> &x, gather &with) noexcept {
+    return round_to_integral(x, with);
+}
+template <class F>
+result<value<F>> nearbyint(const value<F> &x, rounding mode) noexcept {
+    const auto made = round_to_integral(x, mode);
+    return {made.value, made.status & flag::invalid_op};
+}
+template <class F>
+value<F> nearbyint(const value<F> &x, gather &with) noexcept {
+    return with(nearbyint(x, with.mode()));
+}
+/// The integral value below, above, toward zero, and the nearest one, with ties away from zero; without the flag of
+/// inexact results.
+template <class F>
+result<value<F>> floor(const value<F> &x) noexcept {
+    return nearbyint(x, rounding::downward);
+}
+template <class F>
+result<value<F>> ceil(const value<F> &x) noexcept {
+    return nearbyint(x, rounding::upward);
+}
+template <class F>
+result<value<F>> trunc(const value<F> &x) noexcept {
+    return nearbyint(x, rounding::toward_zero);
+}
+template <class F>
+result<value<F>> round(const value<F> &x) noexcept {
+    return nearbyint(x, rounding::nearest_away);
+}
+
+/// x times 2 to the power of `power`, rounded once, with its flags, unless it is a pair.
+template <class F>
+result<value<F>> ldexp(const value<F> &x, std::int32_t power, rounding mode = rounding::nearest_even) noexcept {
+    if constexpr (F::is_pair)
+        return scalbn(x, power, mode);
+    else
+        return scale_b(x, power, mode);
+}
+template <class F>
+value<F> ldexp(const value<F> &x, std::int32_t power, gather &with) noexcept {
+    return with(ldexp(x, power, with.mode()));
+}
+/// The fraction, and its exponent by a pointer.
+template <class F>
+result<value<F>> frexp(const value<F> &x, int *exponent, rounding mode = rounding::nearest_even) noexcept {
+    const auto made = frexp(x, mode);
+    *exponent = made.exponent;
+    return {made.value, made.status};
+}
+/// The exponent of the highest binary digit as a value, rounded once, which pairs of doubles do not have.
+template <class F>
+result<value<F>> logb(const value<F> &x, rounding mode = rounding::nearest_even) noexcept {
+    return log_b(x, mode);
+}
+template <class F>
+value<F> logb(const value<F> &x, gather &with) noexcept {
+    return with(log_b(x, with.mode()));
+}
+
+/// The value next to x on the side of y, and y if the two are equal. Unlike C's, it raises a flag for a signaling NaN
+/// alone.
+template <class F>
+constexpr result<value<F>> nextafter(const value<F> &x, const value<F> &y) noexcept {
+    switch (compare(x, y)) {
+    case order::less: return next_up(x);
+    case order::equal: return {y, {}};
+    case order::greater: return next_down(x);
+    case order::unordered: break;
+    }
+    const auto made = next_up(is_nan(x) ? x : y);
+    return {made.value, is_signaling(y) ? flags(flag::invalid_op) : made.status};
 }
 
 // ---- conversions
 
 /// The value in another format, rounded once: convert<binary16>(x). The rule of the format `To` decides the flags.
 template <class To, class From>
-conversion<value<To>> convert(const value<From> &x, rounding mode = rounding::nearest_even) {
+conversion<value<To>> convert(const value<From> &x, rounding mode = rounding::nearest_even) noexcept {
     static_assert(!To::is_pair && !From::is_pair, "there is no conversion from or to pairs of doubles");
     const auto answer = detail::answer_of(apfloat_convert, From::code, detail::code_of(mode), To::code, x.halves());
     const auto made = detail::result_of<To>(answer);
     return {made.value, made.status, answer.number != 0};
 }
 template <class To, class From>
-value<To> convert(const value<From> &x, gather &with) {
+value<To> convert(const value<From> &x, gather &with) noexcept {
     const auto made = convert<To>(x, with.mode());
     with.raise(made.status);
     return made.value;
@@ -1136,7 +1545,7 @@ template <class I>
 inline constexpr bool is_signed = static_cast<I>(-1) < static_cast<I>(0);
 
 template <class I>
-constexpr apfloat_halves halves_of_integer(I n) {
+constexpr apfloat_halves halves_of_integer(I n) noexcept {
     const std::uint64_t low = static_cast<std::uint64_t>(n);
     if constexpr (is_128<I>)
         return {low, static_cast<std::uint64_t>(n >> 64)};
@@ -1147,7 +1556,7 @@ constexpr apfloat_halves halves_of_integer(I n) {
 }
 
 template <class I>
-constexpr I integer_of(apfloat_halves halves) {
+constexpr I integer_of(apfloat_halves halves) noexcept {
 #if defined(__SIZEOF_INT128__)
     if constexpr (is_128<I>) return static_cast<I>(static_cast<unsigned128>(halves.high) << 64 | halves.low);
 #endif
@@ -1158,27 +1567,27 @@ constexpr I integer_of(apfloat_halves halves) {
 
 /// The value of an integer, rounded once: from_integer<binary16>(70000).
 template <class F, class I, std::enable_if_t<detail::is_integer<I>, int> = 0>
-result<value<F>> from_integer(I n, rounding mode = rounding::nearest_even) {
+result<value<F>> from_integer(I n, rounding mode = rounding::nearest_even) noexcept {
     const auto call = detail::is_signed<I> ? apfloat_from_i128 : apfloat_from_u128;
     return detail::result_of<F>(
         detail::answer_of(call, F::code, detail::code_of(mode), detail::halves_of_integer(n)));
 }
 template <class F, class I, std::enable_if_t<detail::is_integer<I>, int> = 0>
-value<F> from_integer(I n, gather &with) {
+value<F> from_integer(I n, gather &with) noexcept {
     return with(from_integer<F>(n, with.mode()));
 }
 
 /// The value rounded to an integer: to_integer<int>(x, rounding::toward_zero). A value out of range gives the nearer
 /// end of the range, and a NaN gives 0, both with invalid_op.
 template <class I, class F, std::enable_if_t<detail::is_integer<I>, int> = 0>
-integer<I> to_integer(const value<F> &x, rounding mode) {
+integer<I> to_integer(const value<F> &x, rounding mode) noexcept {
     const auto call = detail::is_signed<I> ? apfloat_to_i128 : apfloat_to_u128;
     const std::uint32_t width = 8 * sizeof(I);
     const auto answer = detail::answer_of(call, F::code, detail::code_of(mode), x.halves(), width);
     return {detail::integer_of<I>(answer.bits), flags::of_code(answer.status), answer.number != 0};
 }
 template <class I, class F, std::enable_if_t<detail::is_integer<I>, int> = 0>
-I to_integer(const value<F> &x, gather &with) {
+I to_integer(const value<F> &x, gather &with) noexcept {
     const auto made = to_integer<I>(x, with.mode());
     with.raise(made.status);
     return made.value;
@@ -1226,7 +1635,7 @@ namespace detail {
 
 template <class F>
 expected<apfloat_answer> delivered(machine on, std::uint32_t operation, rounding mode, std::uint32_t to,
-                                   const value<F> &x, const value<F> &y, const value<F> &z) {
+                                   const value<F> &x, const value<F> &y, const value<F> &z) noexcept {
     static_assert(F::has_ieee_flags, "machines have the formats with a choice of flags");
     apfloat_answer answer = {{0, 0}, 0, 0};
     const std::uint32_t code = apfloat_machine(static_cast<std::uint32_t>(on), operation, F::code, code_of(mode), to,
@@ -1236,7 +1645,7 @@ expected<apfloat_answer> delivered(machine on, std::uint32_t operation, rounding
 }
 
 template <class F>
-expected<result<value<F>>> as_value(const expected<apfloat_answer> &answer) {
+expected<result<value<F>>> as_value(const expected<apfloat_answer> &answer) noexcept {
     if (!answer) return answer.error();
     return result_of<F>(*answer);
 }
@@ -1247,33 +1656,33 @@ expected<result<value<F>>> as_value(const expected<apfloat_answer> &answer) {
 /// that the operation does not take are ignored. The error is lacking_operation if the machine does not have it.
 template <class F>
 expected<result<value<F>>> on_machine(machine on, machine_operation operation, rounding mode, const value<F> &x,
-                                      const value<F> &y = {}, const value<F> &z = {}) {
+                                      const value<F> &y = {}, const value<F> &z = {}) noexcept {
     const std::uint32_t to = 0;
     return detail::as_value<F>(detail::delivered(on, static_cast<std::uint32_t>(operation), mode, to, x, y, z));
 }
 
 /// The value in another format, as a machine converts it.
 template <class To, class F>
-expected<result<value<To>>> convert_on(machine on, const value<F> &x, rounding mode = rounding::nearest_even) {
+expected<result<value<To>>> convert_on(machine on, const value<F> &x, rounding mode = rounding::nearest_even) noexcept {
     static_assert(To::has_ieee_flags, "machines have the formats with a choice of flags");
     return detail::as_value<To>(detail::delivered(on, APFLOAT_CONVERT, mode, To::code, x, x, x));
 }
 
 /// The lesser and the greater of two values of a machine, by a rule.
 template <class F>
-expected<result<value<F>>> least_on(machine on, minimum_rule rule, const value<F> &x, const value<F> &y) {
+expected<result<value<F>>> least_on(machine on, minimum_rule rule, const value<F> &x, const value<F> &y) noexcept {
     return detail::as_value<F>(detail::delivered(on, APFLOAT_LEAST, rounding::nearest_even,
                                                  static_cast<std::uint32_t>(rule), x, y, y));
 }
 template <class F>
-expected<result<value<F>>> greatest_on(machine on, minimum_rule rule, const value<F> &x, const value<F> &y) {
+expected<result<value<F>>> greatest_on(machine on, minimum_rule rule, const value<F> &x, const value<F> &y) noexcept {
     return detail::as_value<F>(detail::delivered(on, APFLOAT_GREATEST, rounding::nearest_even,
                                                  static_cast<std::uint32_t>(rule), x, y, y));
 }
 
 /// The value rounded to an integer, as a machine does it.
 template <class I, class F, std::enable_if_t<detail::is_integer<I>, int> = 0>
-expected<result<I>> to_integer_on(machine on, const value<F> &x, rounding mode) {
+expected<result<I>> to_integer_on(machine on, const value<F> &x, rounding mode) noexcept {
     const std::uint32_t operation = detail::is_signed<I> ? APFLOAT_TO_I128 : APFLOAT_TO_U128;
     const auto answer = detail::delivered(on, operation, mode, std::uint32_t{8 * sizeof(I)}, x, x, x);
     if (!answer) return answer.error();
@@ -1285,17 +1694,18 @@ expected<result<I>> to_integer_on(machine on, const value<F> &x, rounding mode) 
 /// The value of a text, rounded once: a decimal, such as -0.1 or 1e-7, or what `parse_hexadecimal` reads. The formats
 /// with the flags of IEEE 754-2019 read no decimals.
 template <class F>
-expected<result<value<F>>> parse(std::string_view text, rounding mode = rounding::nearest_even);
+expected<result<value<F>>> parse(std::string_view text, rounding mode = rounding::nearest_even) noexcept;
 
 /// The value of a text, rounded once: a hexadecimal number such as 0x1.8p-1, an infinity or a NaN, in the words that
 /// apfloat.h lists at apfloat_parse. Decimals are refused.
 template <class F>
-expected<result<value<F>>> parse_hexadecimal(std::string_view text, rounding mode = rounding::nearest_even);
+expected<result<value<F>>> parse_hexadecimal(std::string_view text,
+                                             rounding mode = rounding::nearest_even) noexcept;
 
 namespace detail {
 
 template <class F>
-expected<result<value<F>>> read(decltype(apfloat_parse) *call, std::string_view text, rounding mode) {
+expected<result<value<F>>> read(decltype(apfloat_parse) *call, std::string_view text, rounding mode) noexcept {
     // The library takes no null pointer, not even for an empty text.
     const char *bytes = text.empty() ? "" : text.data();
     apfloat_answer answer = {{0, 0}, 0, 0};
@@ -1307,7 +1717,7 @@ expected<result<value<F>>> read(decltype(apfloat_parse) *call, std::string_view 
 
 // The value of what was read, whose flags are joined to those of a gather. An error has none.
 template <class F>
-expected<value<F>> joined(const expected<result<value<F>>> &read, gather &with) {
+expected<value<F>> joined(const expected<result<value<F>>> &read, gather &with) noexcept {
     if (!read) return read.error();
     return with(*read);
 }
@@ -1315,56 +1725,152 @@ expected<value<F>> joined(const expected<result<value<F>>> &read, gather &with) 
 } // namespace detail
 
 template <class F>
-expected<result<value<F>>> parse(std::string_view text, rounding mode) {
+expected<result<value<F>>> parse(std::string_view text, rounding mode) noexcept {
     return detail::read<F>(F::reads_decimals ? apfloat_parse_decimal : apfloat_parse, text, mode);
 }
 /// The value alone; its flags are joined to those of the gather. An error joins none.
 template <class F>
-expected<value<F>> parse(std::string_view text, gather &with) {
+expected<value<F>> parse(std::string_view text, gather &with) noexcept {
     return detail::joined(parse<F>(text, with.mode()), with);
 }
 
 template <class F>
-expected<result<value<F>>> parse_hexadecimal(std::string_view text, rounding mode) {
+expected<result<value<F>>> parse_hexadecimal(std::string_view text, rounding mode) noexcept {
     return detail::read<F>(apfloat_parse, text, mode);
 }
 /// The value alone; its flags are joined to those of the gather. An error joins none.
 template <class F>
-expected<value<F>> parse_hexadecimal(std::string_view text, gather &with) {
+expected<value<F>> parse_hexadecimal(std::string_view text, gather &with) noexcept {
     return detail::joined(parse_hexadecimal<F>(text, with.mode()), with);
+}
+
+template <class F>
+expected<result<value<F>>> value<F>::from_text(std::string_view text, rounding mode) noexcept {
+    return parse<F>(text, mode);
+}
+template <class F>
+expected<value<F>> value<F>::from_text(std::string_view text, gather &with) noexcept {
+    return parse<F>(text, with);
+}
+template <class F>
+result<value<F>> value<F>::from_double(double x, rounding mode) noexcept {
+    const value<binary64> given(x);
+    if constexpr (F::is_pair) {
+        return {pair_of(given), {}};
+    } else if constexpr (std::is_same_v<typename F::plain, binary64>) {
+        return {value(value<typename F::plain>(given)), {}};
+    } else {
+        const auto made = convert<F>(given, mode);
+        return {made.value, made.status};
+    }
+}
+template <class F>
+value<F> value<F>::from_double(double x, gather &with) noexcept {
+    return with(from_double(x, with.mode()));
 }
 
 /// A text of less than 64 bytes, without an allocation.
 class text {
 public:
-    constexpr explicit text(const apfloat_text &of) : text_(of) {}
+    constexpr text() = default;
+    constexpr explicit text(const apfloat_text &of) noexcept : text_(of) {}
 
-    constexpr std::size_t size() const { return text_.length; }
-    constexpr const char *c_str() const { return text_.bytes; }
-    constexpr std::string_view view() const { return {text_.bytes, text_.length}; }
-    constexpr operator std::string_view() const { return view(); }
+    constexpr std::size_t size() const noexcept { return text_.length; }
+    constexpr const char *c_str() const noexcept { return text_.bytes; }
+    constexpr std::string_view view() const noexcept { return {text_.bytes, text_.length}; }
+    constexpr operator std::string_view() const noexcept { return view(); }
     friend std::ostream &operator<<(std::ostream &out, const text &written) { return out << written.view(); }
 
 private:
-    apfloat_text text_;
+    apfloat_text text_ = {{0}, 0};
 };
 
-/// The shortest decimal that gives x when it is rounded to nearest, ties to even, written as apfloat.h says at
-/// apfloat_shortest. Of a pair of doubles, that of the high double and, if the low one is not zero, that of the low one
-/// too, as in 0.3333333333333333 + 1.8503717077085944e-17, which `parse` does not read.
+namespace detail {
+
+// The number of a finite value without its sign: an integer times a power of two.
+struct scaled {
+    apfloat_halves significand;
+    int exponent;
+};
+
 template <class F>
-text to_text(const value<F> &x) {
-    apfloat_text written = {{0}, 0};
-    if constexpr (F::is_pair) {
-        std::string joined(to_text(high_of(x)).view());
-        if (!is_zero(low_of(x))) joined.append(" + ").append(to_text(low_of(x)).view());
-        joined.copy(written.bytes, sizeof written.bytes - 1);
-        written.length = static_cast<std::uint32_t>(joined.size());
-    } else {
-        const std::uint32_t code = apfloat_shortest(F::code, x.halves(), &written);
-        if (code != APFLOAT_ANSWERED) detail::refuse(static_cast<errc>(code));
+constexpr scaled scaled_of(const value<F> &x) noexcept {
+    static_assert(!F::is_pair, "a pair is a sum of two numbers");
+    constexpr int trailing = F::precision - 1;
+    const auto bits = magnitude<F>(x.halves());
+    std::uint64_t exponent = bits.high;
+    apfloat_halves significand = {bits.low, 0};
+    if constexpr (!std::is_same_v<typename F::plain, x87>) {
+        exponent = trailing < 64 ? bits.low >> trailing % 64 : bits.high >> trailing % 64;
+        significand = common(bits, less_one(power_of_two(trailing)));
+        if (exponent != 0) significand = joined(significand, power_of_two(trailing));
     }
+    const int above_least = exponent == 0 ? 0 : static_cast<int>(exponent) - 1;
+    return {significand, above_least + F::min_exponent - trailing};
+}
+
+// The first whole number that is not written in full.
+inline constexpr std::uint64_t full_below = UINT64_C(10000000000000000);
+
+// A finite value as a whole number, without its sign; `full_below` if it is none, or not below that.
+template <class F>
+constexpr std::uint64_t whole_of(const value<F> &x) noexcept {
+    const auto [significand, exponent] = scaled_of(x);
+    std::uint64_t number = significand.low;
+    if (significand.high != 0 || exponent <= -64) return full_below;
+    if (exponent < 0) {
+        if ((number & ((UINT64_C(1) << -exponent) - 1)) != 0) return full_below;
+        number >>= -exponent;
+    } else if (number != 0) {
+        if (exponent > 53 || number > (full_below - 1) >> exponent) return full_below;
+        number <<= exponent;
+    }
+    return number < full_below ? number : full_below;
+}
+
+} // namespace detail
+
+/// The shortest decimal that gives x when it is rounded to nearest, ties to even, written as apfloat.h says at
+/// apfloat_shortest: 65504 of `binary16` is 65500.0. Pairs of doubles have none.
+template <class F>
+text shortest_text(const value<F> &x) noexcept {
+    static_assert(!F::is_pair, "pairs of doubles have no shortest decimal");
+    apfloat_text written = {{0}, 0};
+    const std::uint32_t code = apfloat_shortest(F::code, x.halves(), &written);
+    if (code != APFLOAT_ANSWERED) detail::refuse(static_cast<errc>(code));
     return text(written);
+}
+
+/// A text that reads back as x: a whole number below 10^16 in full, as in 65504.0, and any other number as its shortest
+/// decimal. Of a pair of doubles, that of the high double and, if the low one is not zero, that of the low one too, as
+/// in 0.3333333333333333 + 1.8503717077085944e-17, which `parse` does not read.
+template <class F>
+text to_text(const value<F> &x) noexcept {
+    if constexpr (F::is_pair) {
+        const auto high = to_text(high_of(x)), low = to_text(low_of(x));
+        if (is_zero(low_of(x))) return high;
+        apfloat_text written = {{0}, 0};
+        for (const auto part : {high.view(), std::string_view(" + "), low.view()})
+            for (const char letter : part) written.bytes[written.length++] = letter;
+        return text(written);
+    } else {
+        // With 53 digits and more, the shortest decimal of such a number has all of its digits.
+        if constexpr (F::precision < 53) {
+            std::uint64_t number = is_finite(x) ? detail::whole_of(x) : detail::full_below;
+            if (number != detail::full_below) {
+                char digits[20] = {};
+                int count = 0;
+                for (; count == 0 || number != 0; number /= 10) digits[count++] = static_cast<char>('0' + number % 10);
+                apfloat_text written = {{0}, 0};
+                if (x.sign_bit()) written.bytes[written.length++] = '-';
+                while (count > 0) written.bytes[written.length++] = digits[--count];
+                written.bytes[written.length++] = '.';
+                written.bytes[written.length++] = '0';
+                return text(written);
+            }
+        }
+        return shortest_text(x);
+    }
 }
 
 template <class F>
@@ -1372,59 +1878,447 @@ std::string to_string(const value<F> &x) {
     return std::string(to_text(x).view());
 }
 
-/// Writes what `to_text` returns, with the width, the fill and the alignment of the stream.
+// ---- streams
+
+namespace detail {
+
+// A number without its sign as binary digits: words of 32, the lowest first, `point` of them after the point. Numbers
+// of every format have room.
+struct wide {
+    static constexpr int words_of_all = 524;
+    std::array<std::uint32_t, words_of_all> words{};
+    int point = 0;
+
+    // Adds a number whose lowest bit has this place, if it overlaps no other.
+    void put(apfloat_halves bits, int place) noexcept {
+        for (int i = 0; i < 4; i++) {
+            const std::uint64_t half = i < 2 ? bits.low : bits.high;
+            const std::uint64_t shifted = (half >> (i % 2 * 32) & UINT32_MAX) << place % 32;
+            auto *at = &words[static_cast<std::size_t>(place / 32 + i)];
+            at[0] |= static_cast<std::uint32_t>(shifted);
+            at[1] |= static_cast<std::uint32_t>(shifted >> 32);
+        }
+    }
+    bool bit(int place) const noexcept {
+        return place >= 0 && (words[static_cast<std::size_t>(place / 32)] >> place % 32 & 1) != 0;
+    }
+    // The places of the lowest and of the highest bit. Without one, the highest is -1.
+    int lowest() const noexcept {
+        int place = 0;
+        while (place < words_of_all * 32 && !bit(place)) place += words[static_cast<std::size_t>(place / 32)] ? 1 : 32;
+        return place;
+    }
+    int highest() const noexcept {
+        int place = words_of_all * 32 - 1;
+        while (place >= 0 && !bit(place)) place -= words[static_cast<std::size_t>(place / 32)] ? 1 : 32;
+        return place;
+    }
+};
+
+// The number of a finite value, and whether it is below zero, or a zero with a minus sign.
+template <class F>
+std::pair<wide, bool> wide_of(const value<F> &x) noexcept {
+    wide made;
+    if constexpr (F::is_pair) {
+        const auto high = high_of(x), low = low_of(x);
+        wide less;
+        made.point = less.point = 34; // 1074 binary digits of doubles after the point
+        const auto more_part = scaled_of(high), less_part = scaled_of(low);
+        made.put(more_part.significand, more_part.exponent + 34 * 32);
+        less.put(less_part.significand, less_part.exponent + 34 * 32);
+        bool negative = high.sign_bit();
+        const bool subtracts = negative != low.sign_bit();
+        if (made.words != less.words && abs(high) < abs(low)) {
+            std::swap(made, less);
+            negative = low.sign_bit();
+        }
+        std::uint64_t carry = 0;
+        for (std::size_t i = 0; i < made.words.size(); i++) {
+            const std::uint64_t part = less.words[i] + carry;
+            const std::uint64_t sum = subtracts ? made.words[i] - part : made.words[i] + part;
+            made.words[i] = static_cast<std::uint32_t>(sum);
+            carry = subtracts ? sum >> 63 : sum >> 32;
+        }
+        return {made, negative};
+    } else {
+        const auto [significand, exponent] = scaled_of(x);
+        made.point = exponent < 0 ? (31 - exponent) / 32 : 0;
+        made.put(significand, exponent + 32 * made.point);
+        return {made, x.sign_bit()};
+    }
+}
+
+// Decimal digits of a number that is not 0, from the first one that is not: 0.d1 d2 .. times 10 to the power of
+// `point`. `has_more` says whether the number is above what the digits are.
+struct decimal {
+    std::string digits;
+    std::ptrdiff_t point = 0;
+    bool has_more = false;
+
+    // At least `count` digits, or all that there are: `count` after the point if `after_point`, else from the first.
+    decimal(wide number, std::ptrdiff_t count, bool after_point) {
+        constexpr std::uint64_t billion = 1000000000;
+        auto &words = number.words;
+        const auto first = static_cast<std::size_t>(number.point);
+        std::size_t top = words.size();
+        const auto drop_zeros = [&] {
+            while (top > first && words[top - 1] == 0) top--;
+        };
+        drop_zeros();
+        while (top > first) {
+            std::uint64_t rest = 0;
+            for (std::size_t i = top; i-- > first;) {
+                rest = rest << 32 | words[i];
+                words[i] = static_cast<std::uint32_t>(rest / billion);
+                rest %= billion;
+            }
+            for (int i = 0; i < 9; i++, rest /= 10) digits.push_back(static_cast<char>('0' + rest % 10));
+            drop_zeros();
+        }
+        digits.erase(digits.find_last_not_of('0') + 1);
+        digits.assign(digits.rbegin(), digits.rend());
+        point = static_cast<std::ptrdiff_t>(digits.size());
+
+        std::size_t low = 0;
+        const auto has_fraction = [&] {
+            while (low < first && words[low] == 0) low++;
+            return low < first;
+        };
+        while (has_fraction() && static_cast<std::ptrdiff_t>(digits.size()) < (after_point ? point + count : count)) {
+            std::uint64_t group = 0;
+            for (std::size_t i = low; i < first; i++) {
+                group += words[i] * billion;
+                words[i] = static_cast<std::uint32_t>(group);
+                group >>= 32;
+            }
+            for (std::uint64_t unit = billion / 10; unit != 0; unit /= 10) {
+                const auto digit = static_cast<char>('0' + group / unit % 10);
+                if (digits.empty() && digit == '0') point--;
+                else digits.push_back(digit);
+            }
+        }
+        has_more = has_fraction();
+    }
+
+    // Rounds to as many digits, to nearest, ties to even. No digits are a zero.
+    void round_to(std::ptrdiff_t count) {
+        const auto size = static_cast<std::ptrdiff_t>(digits.size());
+        if (count >= size) return digits.append(static_cast<std::size_t>(count - size), '0'), void();
+        if (count < 0) return digits.clear();
+        const auto kept = static_cast<std::size_t>(count);
+        const bool is_odd = kept > 0 && (digits[kept - 1] - '0') % 2 != 0;
+        const bool is_above = has_more || digits.find_first_not_of('0', kept + 1) != std::string::npos;
+        const bool goes_up = digits[kept] > '5' || (digits[kept] == '5' && (is_above || is_odd));
+        digits.resize(kept);
+        if (!goes_up) return;
+        auto at = digits.rbegin();
+        for (; at != digits.rend() && *at == '9'; ++at) *at = '0';
+        if (at != digits.rend()) return ++*at, void();
+        digits.insert(digits.begin(), '1');
+        point++;
+    }
+};
+
+// Digits with a point, and as many after it.
+inline std::string with_point(const decimal &of, std::ptrdiff_t places, bool shows_point) {
+    const auto whole = static_cast<std::size_t>(of.point > 0 && !of.digits.empty() ? of.point : 0);
+    std::string written = whole == 0 ? "0" : of.digits.substr(0, whole);
+    if (places > 0 || shows_point) written.push_back('.');
+    const auto end = written.size() + static_cast<std::size_t>(places);
+    if (!of.digits.empty() && of.point < 0) written.append(static_cast<std::size_t>(-of.point), '0');
+    if (!of.digits.empty()) written.append(of.digits, whole, std::string::npos);
+    written.resize(end, '0');
+    return written;
+}
+
+inline std::string with_exponent(const decimal &of, bool shows_point) {
+    std::string written = of.digits.substr(0, 1);
+    if (of.digits.size() > 1 || shows_point) written.push_back('.');
+    written.append(of.digits, 1, std::string::npos);
+    const auto exponent = of.point - 1;
+    written.append(exponent < 0 ? "e-" : "e+");
+    const auto number = std::to_string(exponent < 0 ? -exponent : exponent);
+    if (number.size() < 2) written.push_back('0');
+    return written + number;
+}
+
+// Hexadecimal digits from the one with the place `first`, which is 0 or 1, without zeros at the end.
+inline std::string hexadecimal(const wide &number, int first, int exponent, bool shows_point) {
+    std::string written = number.bit(first) ? "0x1" : "0x0";
+    const int lowest = number.lowest();
+    if (lowest < first || shows_point) written.push_back('.');
+    for (int place = first; place > lowest; place -= 4) {
+        int digit = 0;
+        for (int i = 1; i <= 4; i++) digit = digit * 2 + number.bit(place - i);
+        written.push_back("0123456789abcdef"[digit]);
+    }
+    return written + (exponent < 0 ? "p-" : "p+") + std::to_string(exponent < 0 ? -exponent : exponent);
+}
+
+// What std::printf writes for the flags of a stream, without a sign.
+template <class F>
+std::string written_by(std::ios_base::fmtflags asked, std::streamsize precision, const wide &number) {
+    const auto style = asked & std::ios_base::floatfield;
+    const bool shows_point = (asked & std::ios_base::showpoint) != 0;
+    const int highest = number.highest();
+    const bool is_number = highest >= 0;
+    if (style == (std::ios_base::fixed | std::ios_base::scientific)) {
+        if (!is_number) return shows_point ? "0x0.p+0" : "0x0p+0";
+        // Below the normal numbers the first digit is 0.
+        const int found = highest - 32 * number.point;
+        const int exponent = found < F::min_exponent && !F::is_pair ? F::min_exponent : found;
+        return hexadecimal(number, exponent + 32 * number.point, exponent, shows_point);
+    }
+    std::ptrdiff_t places = precision < 0 ? 6 : static_cast<std::ptrdiff_t>(precision);
+    if (style == std::ios_base::fixed) {
+        decimal found(number, places + 1, true);
+        found.round_to(is_number ? found.point + places : 0);
+        return with_point(found, places, shows_point);
+    }
+    const bool is_general = style != std::ios_base::scientific;
+    if (!is_general) places++;
+    if (places == 0) places = 1;
+    decimal found(number, places + 1, false);
+    if (!is_number) found.point = 1;
+    found.round_to(places);
+    found.digits.resize(static_cast<std::size_t>(places));
+    if (!is_general) return with_exponent(found, shows_point);
+    if (!shows_point) found.digits.resize(is_number ? found.digits.find_last_not_of('0') + 1 : 1);
+    const auto size = static_cast<std::ptrdiff_t>(found.digits.size());
+    if (found.point < -3 || found.point > places) return with_exponent(found, shows_point);
+    if (size < found.point) found.round_to(found.point);
+    return with_point(found, size > found.point ? size - found.point : 0, shows_point);
+}
+
+// What a stream with these flags writes for a value, before it fills it up to its width.
+template <class F>
+std::string written_by(std::ios_base::fmtflags asked, std::streamsize precision, const value<F> &x) {
+    bool is_counted = is_finite(x);
+    if constexpr (F::is_pair) is_counted = is_finite(high_of(x)) && is_finite(low_of(x));
+    std::string written;
+    if (!is_counted || ((asked & std::ios_base::floatfield) == 0 && precision == 6)) {
+        written = to_text(x).view();
+    } else {
+        const auto [number, negative] = wide_of(x);
+        written = (negative ? "-" : "") + written_by<F>(asked, precision, number);
+    }
+    if ((asked & std::ios_base::showpos) != 0 && written[0] != '-') written.insert(0, 1, '+');
+    if ((asked & std::ios_base::uppercase) != 0)
+        for (char &letter : written)
+            if (letter >= 'a' && letter <= 'z') letter = static_cast<char>(letter - 'a' + 'A');
+    return written;
+}
+
+constexpr bool is_digit(char letter, bool hexadecimal) noexcept {
+    return (letter >= '0' && letter <= '9') ||
+           (hexadecimal && ((letter >= 'a' && letter <= 'f') || (letter >= 'A' && letter <= 'F')));
+}
+
+// Whether a letter goes on with the text of a number.
+inline bool goes_on(const std::string &read, char letter) {
+    const bool is_signed = !read.empty() && (read[0] == '-' || read[0] == '+');
+    const auto body = std::string_view(read).substr(is_signed ? 1 : 0);
+    const auto is_one_of = [&](const char *letters) { return std::strchr(letters, letter) != nullptr; };
+    if (letter == '\0') return false;
+    const bool is_plain_digit = letter >= '0' && letter <= '9';
+    const bool is_letter = (letter >= 'a' && letter <= 'z') || (letter >= 'A' && letter <= 'Z');
+    if (body.empty()) return is_plain_digit || is_one_of(".iInNsS") || (!is_signed && is_one_of("+-"));
+    // A word, such as inf, or nan(0x7).
+    if (std::strchr("iInNsS", body[0]) != nullptr)
+        return body.back() != ')' && (is_plain_digit || is_letter || is_one_of("()"));
+    const bool hexadecimal = body.size() > 1 && (body[1] == 'x' || body[1] == 'X');
+    const auto exponent = body.find_first_of(hexadecimal ? "pP" : "eE");
+    if (exponent != std::string_view::npos)
+        return is_plain_digit || (exponent + 1 == body.size() && is_one_of("+-"));
+    if (is_plain_digit || (letter == '.' && body.find('.') == std::string_view::npos)) return true;
+    if (hexadecimal) return is_digit(letter, true) || is_one_of("pP");
+    return is_one_of("eE") || (body == "0" && is_one_of("xX"));
+}
+
+template <class F>
+value<F> read_from(std::istream &in, rounding mode) {
+    const std::istream::sentry ready(in);
+    if (!ready) return {};
+    using traits = std::istream::traits_type;
+    auto state = std::ios_base::goodbit;
+    std::string read;
+    for (auto next = in.rdbuf()->sgetc();; next = in.rdbuf()->snextc()) {
+        if (traits::eq_int_type(next, traits::eof())) {
+            state |= std::ios_base::eofbit;
+            break;
+        }
+        const char letter = traits::to_char_type(next);
+        if (!goes_on(read, letter)) break;
+        read.push_back(letter);
+    }
+    const auto found = parse<typename F::plain>(read, mode);
+    if (!found) state |= std::ios_base::failbit;
+    if (state != std::ios_base::goodbit) in.setstate(state);
+    return found ? value<F>::from_bits(found->value.bits()) : value<F>();
+}
+
+} // namespace detail
+
+/// Writes what `to_text` returns, or, with `fixed`, `scientific`, `hexfloat` or a precision that is not 6, what
+/// std::printf would write of such a value: the digits of the exact value, rounded once to nearest, ties to even. The
+/// other flags of the stream count too, but not its locale.
 template <class F>
 std::ostream &operator<<(std::ostream &out, const value<F> &x) {
-    return out << to_text(x);
+    auto written = detail::written_by(out.flags(), out.precision(), x);
+    const auto size = static_cast<std::streamsize>(written.size());
+    if ((out.flags() & std::ios_base::adjustfield) == std::ios_base::internal && size < out.width()) {
+        const bool is_signed = written[0] == '-' || written[0] == '+', is_prefixed = written.find_first_of("xX") == 1;
+        const std::size_t at = is_signed ? 1 : is_prefixed ? 2 : 0;
+        written.insert(at, static_cast<std::size_t>(out.width() - size), out.fill());
+    }
+    return out << written;
+}
+
+/// Reads a text as `parse` does, rounded to nearest, ties to even, and drops the flags. It reads no further than a
+/// number goes; a text that is none sets failbit, and x to +0.
+template <class F>
+std::istream &operator>>(std::istream &in, value<F> &x) {
+    x = detail::read_from<F>(in, rounding::nearest_even);
+    return in;
+}
+/// The same, rounded in the mode of the type.
+template <class F, rounding Mode>
+std::istream &operator>>(std::istream &in, unflagged<F, Mode> &x) {
+    x = detail::read_from<F>(in, Mode);
+    return in;
 }
 
 // ---- operators
 
 /// A value whose operators round in the mode of a `gather` and join their flags to it: flags(x) + y. If both operands
-/// have one, the left operand's counts. The gather has to outlive it.
+/// have one, the left operand's counts. It is an operand only as long as it has no name, since a named one could
+/// outlive the gather: after `auto y = flags(a) * b`, `y` is a value, and `flags(y)` the operand again.
 template <class F>
 class gathered : public value<F> {
 public:
-    gathered(const value<F> &x, gather &with) : value<F>(x), with_(&with) {}
+    gathered(const value<F> &x, gather &with) noexcept : value<F>(x), with_(&with) {}
+    gathered(gathered &&) = default;
+    gathered &operator=(gathered &&) = delete;
 
-    friend gathered operator+(const gathered &x, const gathered &y) { return x.computed(add(x, y, *x.with_)); }
-    friend gathered operator+(const gathered &x, const value<F> &y) { return x.computed(add(x, y, *x.with_)); }
-    friend gathered operator+(const value<F> &x, const gathered &y) { return y.computed(add(x, y, *y.with_)); }
+    friend gathered operator+(gathered &&x, gathered &&y) noexcept { return x.computed(add(x, y, *x.with_)); }
+    friend gathered operator+(gathered &&x, const value<F> &y) noexcept { return x.computed(add(x, y, *x.with_)); }
+    friend gathered operator+(const value<F> &x, gathered &&y) noexcept { return y.computed(add(x, y, *y.with_)); }
 
-    friend gathered operator-(const gathered &x, const gathered &y) { return x.computed(sub(x, y, *x.with_)); }
-    friend gathered operator-(const gathered &x, const value<F> &y) { return x.computed(sub(x, y, *x.with_)); }
-    friend gathered operator-(const value<F> &x, const gathered &y) { return y.computed(sub(x, y, *y.with_)); }
+    friend gathered operator-(gathered &&x, gathered &&y) noexcept { return x.computed(sub(x, y, *x.with_)); }
+    friend gathered operator-(gathered &&x, const value<F> &y) noexcept { return x.computed(sub(x, y, *x.with_)); }
+    friend gathered operator-(const value<F> &x, gathered &&y) noexcept { return y.computed(sub(x, y, *y.with_)); }
 
-    friend gathered operator*(const gathered &x, const gathered &y) { return x.computed(mul(x, y, *x.with_)); }
-    friend gathered operator*(const gathered &x, const value<F> &y) { return x.computed(mul(x, y, *x.with_)); }
-    friend gathered operator*(const value<F> &x, const gathered &y) { return y.computed(mul(x, y, *y.with_)); }
+    friend gathered operator*(gathered &&x, gathered &&y) noexcept { return x.computed(mul(x, y, *x.with_)); }
+    friend gathered operator*(gathered &&x, const value<F> &y) noexcept { return x.computed(mul(x, y, *x.with_)); }
+    friend gathered operator*(const value<F> &x, gathered &&y) noexcept { return y.computed(mul(x, y, *y.with_)); }
 
-    friend gathered operator/(const gathered &x, const gathered &y) { return x.computed(div(x, y, *x.with_)); }
-    friend gathered operator/(const gathered &x, const value<F> &y) { return x.computed(div(x, y, *x.with_)); }
-    friend gathered operator/(const value<F> &x, const gathered &y) { return y.computed(div(x, y, *y.with_)); }
+    friend gathered operator/(gathered &&x, gathered &&y) noexcept { return x.computed(div(x, y, *x.with_)); }
+    friend gathered operator/(gathered &&x, const value<F> &y) noexcept { return x.computed(div(x, y, *x.with_)); }
+    friend gathered operator/(const value<F> &x, gathered &&y) noexcept { return y.computed(div(x, y, *y.with_)); }
 
-    gathered &operator+=(const value<F> &y) { return *this = *this + y; }
-    gathered &operator-=(const value<F> &y) { return *this = *this - y; }
-    gathered &operator*=(const value<F> &y) { return *this = *this * y; }
-    gathered &operator/=(const value<F> &y) { return *this = *this / y; }
+    gathered operator-() &&noexcept { return computed(value<F>::operator-()); }
+    gathered operator+() &&noexcept { return computed(*this); }
+    constexpr value<F> operator-() const &noexcept { return value<F>::operator-(); }
+    constexpr value<F> operator+() const &noexcept { return *this; }
 
-    template <rounding Mode>
-    gathered &operator+=(const unflagged<F, Mode> &y) = delete;
-    template <rounding Mode>
-    gathered &operator-=(const unflagged<F, Mode> &y) = delete;
-    template <rounding Mode>
-    gathered &operator*=(const unflagged<F, Mode> &y) = delete;
-    template <rounding Mode>
-    gathered &operator/=(const unflagged<F, Mode> &y) = delete;
-
-    gathered operator-() const { return computed(value<F>::operator-()); }
-    gathered operator+() const { return *this; }
+    friend gathered sqrt(gathered &&x) noexcept { return x.computed(sqrt(x, *x.with_)); }
+    friend gathered fma(gathered &&x, const value<F> &y, const value<F> &z) noexcept {
+        return x.computed(fma(x, y, z, *x.with_));
+    }
+    friend gathered fmod(gathered &&x, const value<F> &y) noexcept { return x.computed(mod(x, y, *x.with_)); }
+    friend gathered remainder(gathered &&x, const value<F> &y) noexcept { return x.computed(rem(x, y, *x.with_)); }
+    friend gathered rint(gathered &&x) noexcept { return x.computed(rint(x, *x.with_)); }
+    friend gathered nearbyint(gathered &&x) noexcept { return x.computed(nearbyint(x, *x.with_)); }
+    friend gathered floor(gathered &&x) noexcept { return x.computed((*x.with_)(floor(x))); }
+    friend gathered ceil(gathered &&x) noexcept { return x.computed((*x.with_)(ceil(x))); }
+    friend gathered trunc(gathered &&x) noexcept { return x.computed((*x.with_)(trunc(x))); }
+    friend gathered round(gathered &&x) noexcept { return x.computed((*x.with_)(round(x))); }
 
 private:
-    gathered computed(const value<F> &x) const { return gathered(x, *with_); }
+    gathered computed(const value<F> &x) const noexcept { return gathered(x, *with_); }
 
     gather *with_;
 };
+
+namespace detail {
+
+template <class X>
+using plain_of = std::remove_cv_t<std::remove_reference_t<X>>;
+
+template <class X>
+struct is_value : std::false_type {};
+template <class F>
+struct is_value<value<F>> : std::true_type {};
+template <class X>
+struct is_gathered : std::false_type {};
+template <class F>
+struct is_gathered<gathered<F>> : std::true_type {};
+template <class X>
+struct is_unflagged : std::false_type {};
+template <class F, rounding Mode>
+struct is_unflagged<unflagged<F, Mode>> : std::true_type {};
+
+// Of the type that a reference of any kind has deduced: values, and the operands of a gather that have a name.
+template <class X>
+inline constexpr bool has_no_mode =
+    is_value<plain_of<X>>::value || (is_gathered<plain_of<X>>::value && !is_gathered<X>::value);
+
+template <class X, class Y>
+inline constexpr bool have_no_mode = (has_no_mode<X> && (has_no_mode<Y> || std::is_arithmetic_v<plain_of<Y>>)) ||
+                                     (has_no_mode<Y> && std::is_arithmetic_v<plain_of<X>>);
+
+template <class X, class Y>
+inline constexpr bool have_two_modes = (is_gathered<plain_of<X>>::value && is_unflagged<plain_of<Y>>::value) ||
+                                       (is_unflagged<plain_of<X>>::value && is_gathered<plain_of<Y>>::value);
+
+// Their names are in the first line of what compilers say that have no other message.
+struct use_unflagged_or_a_gather {};
+struct unflagged_or_a_gather_but_not_both {};
+
+} // namespace detail
+
+// Uses that do not compile, each with a message.
+#define APFLOAT_NO_MODE \
+    "a value has no operators that round: write unflagged<F>(x), or flags(x) of a gather, or add(x, y, mode)"
+#define APFLOAT_TWO_MODES "an operand of a gather and one that is unflagged: which of the two counts?"
+#if __cplusplus > 202302L && defined(__cpp_deleted_function)
+#define APFLOAT_REFUSES(message)
+#define APFLOAT_REFUSED(message) = delete (message)
+#elif defined(__clang__)
+#define APFLOAT_REFUSES(message) __attribute__((unavailable(message)))
+#define APFLOAT_REFUSED(message)
+#else
+#define APFLOAT_REFUSES(message)
+#define APFLOAT_REFUSED(message) = delete
+#endif
+
+#define APFLOAT_REFUSED_OPERATOR(sign)                                                                            \
+    template <class X, class Y, std::enable_if_t<detail::have_no_mode<X, Y>, int> = 0>                            \
+    APFLOAT_REFUSES(APFLOAT_NO_MODE)                                                                              \
+    detail::use_unflagged_or_a_gather operator sign(X &&, Y &&) APFLOAT_REFUSED(APFLOAT_NO_MODE);                 \
+    template <class X, class Y, std::enable_if_t<detail::have_two_modes<X, Y>, int> = 0>                          \
+    APFLOAT_REFUSES(APFLOAT_TWO_MODES)                                                                            \
+    detail::unflagged_or_a_gather_but_not_both operator sign(X &&, Y &&) APFLOAT_REFUSED(APFLOAT_TWO_MODES);      \
+    template <class X, class Y, std::enable_if_t<detail::have_no_mode<X &, Y>, int> = 0>                          \
+    APFLOAT_REFUSES(APFLOAT_NO_MODE)                                                                              \
+    detail::use_unflagged_or_a_gather operator sign##=(X &, Y &&) APFLOAT_REFUSED(APFLOAT_NO_MODE);               \
+    template <class X, class Y, std::enable_if_t<detail::have_two_modes<X &, Y>, int> = 0>                        \
+    APFLOAT_REFUSES(APFLOAT_TWO_MODES)                                                                            \
+    detail::unflagged_or_a_gather_but_not_both operator sign##=(X &, Y &&) APFLOAT_REFUSED(APFLOAT_TWO_MODES);    \
+    /* A value changes by the operand of a gather: sum += flags(x). */                                            \
+    template <class X, class F, std::enable_if_t<std::is_same_v<X, value<F>>, int> = 0>                           \
+    X &operator sign##=(X &x, gathered<F> &&y) noexcept {                                                         \
+        return x = x sign static_cast<gathered<F> &&>(y);                                                         \
+    }
+APFLOAT_REFUSED_OPERATOR(+)
+APFLOAT_REFUSED_OPERATOR(-)
+APFLOAT_REFUSED_OPERATOR(*)
+APFLOAT_REFUSED_OPERATOR(/)
+#undef APFLOAT_REFUSED_OPERATOR
+#undef APFLOAT_REFUSED
+#undef APFLOAT_REFUSES
+#undef APFLOAT_TWO_MODES
+#undef APFLOAT_NO_MODE
 
 /// A value whose operators round in one mode and drop all flags. Integers become values in the same way, and so do
 /// those that it is compared with.
@@ -1432,115 +2326,127 @@ template <class F, rounding Mode>
 class unflagged : public value<F> {
 public:
     constexpr unflagged() = default;
-    constexpr unflagged(const value<F> &x) : value<F>(x) {}
+    constexpr unflagged(const value<F> &x) noexcept : value<F>(x) {}
     template <class Host, std::enable_if_t<std::is_same_v<Host, typename F::host>, int> = 0>
-    constexpr unflagged(Host x) : value<F>(x) {}
+    constexpr unflagged(Host x) noexcept : value<F>(x) {}
     template <class I, std::enable_if_t<detail::is_integer<I>, int> = 0>
-    unflagged(I n) : value<F>(from_integer<F>(n, Mode).value) {}
+    unflagged(I n) noexcept : value<F>(from_integer<F>(n, Mode).value) {}
 
-    friend unflagged operator+(const unflagged &x, const unflagged &y) { return add(x, y, Mode).value; }
-    friend unflagged operator-(const unflagged &x, const unflagged &y) { return sub(x, y, Mode).value; }
-    friend unflagged operator*(const unflagged &x, const unflagged &y) { return mul(x, y, Mode).value; }
-    friend unflagged operator/(const unflagged &x, const unflagged &y) { return div(x, y, Mode).value; }
+    friend unflagged operator+(const unflagged &x, const unflagged &y) noexcept { return add(x, y, Mode).value; }
+    friend unflagged operator-(const unflagged &x, const unflagged &y) noexcept { return sub(x, y, Mode).value; }
+    friend unflagged operator*(const unflagged &x, const unflagged &y) noexcept { return mul(x, y, Mode).value; }
+    friend unflagged operator/(const unflagged &x, const unflagged &y) noexcept { return div(x, y, Mode).value; }
 
-    unflagged &operator+=(const unflagged &y) { return *this = *this + y; }
-    unflagged &operator-=(const unflagged &y) { return *this = *this - y; }
-    unflagged &operator*=(const unflagged &y) { return *this = *this * y; }
-    unflagged &operator/=(const unflagged &y) { return *this = *this / y; }
+    unflagged &operator+=(const unflagged &y) noexcept { return *this = *this + y; }
+    unflagged &operator-=(const unflagged &y) noexcept { return *this = *this - y; }
+    unflagged &operator*=(const unflagged &y) noexcept { return *this = *this * y; }
+    unflagged &operator/=(const unflagged &y) noexcept { return *this = *this / y; }
+    unflagged &operator++() noexcept { return *this += 1; }
+    unflagged &operator--() noexcept { return *this -= 1; }
+    unflagged operator++(int) noexcept { return std::exchange(*this, *this + 1); }
+    unflagged operator--(int) noexcept { return std::exchange(*this, *this - 1); }
 
-    unflagged &operator+=(const gathered<F> &y) = delete;
-    unflagged &operator-=(const gathered<F> &y) = delete;
-    unflagged &operator*=(const gathered<F> &y) = delete;
-    unflagged &operator/=(const gathered<F> &y) = delete;
-
-    constexpr unflagged operator-() const { return value<F>::operator-(); }
-    constexpr unflagged operator+() const { return *this; }
+    constexpr unflagged operator-() const noexcept { return value<F>::operator-(); }
+    constexpr unflagged operator+() const noexcept { return *this; }
 
     template <class I, std::enable_if_t<detail::is_integer<I>, int> = 0>
-    friend bool operator==(const unflagged &x, I n) {
+    friend bool operator==(const unflagged &x, I n) noexcept {
         return x.compared(n) == order::equal;
     }
 #if defined(APFLOAT_HAS_THREE_WAY_COMPARISON)
     template <class I, std::enable_if_t<detail::is_integer<I>, int> = 0>
-    friend std::partial_ordering operator<=>(const unflagged &x, I n) {
+    friend std::partial_ordering operator<=>(const unflagged &x, I n) noexcept {
         return static_cast<const value<F> &>(x) <=> static_cast<const value<F> &>(unflagged(n));
     }
 #else
     template <class I, std::enable_if_t<detail::is_integer<I>, int> = 0>
-    friend bool operator!=(const unflagged &x, I n) {
+    friend bool operator!=(const unflagged &x, I n) noexcept {
         return x.compared(n) != order::equal;
     }
     template <class I, std::enable_if_t<detail::is_integer<I>, int> = 0>
-    friend bool operator<(const unflagged &x, I n) {
+    friend bool operator<(const unflagged &x, I n) noexcept {
         return x.compared(n) == order::less;
     }
     template <class I, std::enable_if_t<detail::is_integer<I>, int> = 0>
-    friend bool operator>(const unflagged &x, I n) {
+    friend bool operator>(const unflagged &x, I n) noexcept {
         return x.compared(n) == order::greater;
     }
     template <class I, std::enable_if_t<detail::is_integer<I>, int> = 0>
-    friend bool operator<=(const unflagged &x, I n) {
+    friend bool operator<=(const unflagged &x, I n) noexcept {
         return x < n || x == n;
     }
     template <class I, std::enable_if_t<detail::is_integer<I>, int> = 0>
-    friend bool operator>=(const unflagged &x, I n) {
+    friend bool operator>=(const unflagged &x, I n) noexcept {
         return x > n || x == n;
     }
     template <class I, std::enable_if_t<detail::is_integer<I>, int> = 0>
-    friend bool operator==(I n, const unflagged &x) {
+    friend bool operator==(I n, const unflagged &x) noexcept {
         return x == n;
     }
     template <class I, std::enable_if_t<detail::is_integer<I>, int> = 0>
-    friend bool operator!=(I n, const unflagged &x) {
+    friend bool operator!=(I n, const unflagged &x) noexcept {
         return x != n;
     }
     template <class I, std::enable_if_t<detail::is_integer<I>, int> = 0>
-    friend bool operator<(I n, const unflagged &x) {
+    friend bool operator<(I n, const unflagged &x) noexcept {
         return x > n;
     }
     template <class I, std::enable_if_t<detail::is_integer<I>, int> = 0>
-    friend bool operator>(I n, const unflagged &x) {
+    friend bool operator>(I n, const unflagged &x) noexcept {
         return x < n;
     }
     template <class I, std::enable_if_t<detail::is_integer<I>, int> = 0>
-    friend bool operator<=(I n, const unflagged &x) {
+    friend bool operator<=(I n, const unflagged &x) noexcept {
         return x >= n;
     }
     template <class I, std::enable_if_t<detail::is_integer<I>, int> = 0>
-    friend bool operator>=(I n, const unflagged &x) {
+    friend bool operator>=(I n, const unflagged &x) noexcept {
         return x <= n;
     }
 #endif
 
-    friend unflagged sqrt(const unflagged &x) { return apfloat::sqrt<F>(x, Mode).value; }
-    friend unflagged fma(const unflagged &x, const unflagged &y, const unflagged &z) {
+    friend unflagged sqrt(const unflagged &x) noexcept { return apfloat::sqrt<F>(x, Mode).value; }
+    friend unflagged fma(const unflagged &x, const unflagged &y, const unflagged &z) noexcept {
         return apfloat::fma<F>(x, y, z, Mode).value;
+    }
+
+    friend unflagged fmod(const unflagged &x, const unflagged &y) noexcept { return mod<F>(x, y).value; }
+    friend unflagged remainder(const unflagged &x, const unflagged &y) noexcept { return rem<F>(x, y).value; }
+    friend unflagged floor(const unflagged &x) noexcept { return apfloat::floor<F>(x).value; }
+    friend unflagged ceil(const unflagged &x) noexcept { return apfloat::ceil<F>(x).value; }
+    friend unflagged trunc(const unflagged &x) noexcept { return apfloat::trunc<F>(x).value; }
+    friend unflagged round(const unflagged &x) noexcept { return apfloat::round<F>(x).value; }
+    friend unflagged rint(const unflagged &x) noexcept { return apfloat::rint<F>(x, Mode).value; }
+    friend unflagged nearbyint(const unflagged &x) noexcept { return apfloat::nearbyint<F>(x, Mode).value; }
+    friend unflagged scalbn(const unflagged &x, std::int32_t power) noexcept {
+        return apfloat::scalbn<F>(x, power, Mode).value;
+    }
+    friend unflagged ldexp(const unflagged &x, std::int32_t power) noexcept { return scalbn(x, power); }
+    friend unflagged frexp(const unflagged &x, int *exponent) noexcept {
+        return apfloat::frexp<F>(x, exponent, Mode).value;
+    }
+    friend unflagged logb(const unflagged &x) noexcept { return apfloat::logb<F>(x, Mode).value; }
+    friend constexpr unflagged nextafter(const unflagged &x, const unflagged &y) noexcept {
+        return apfloat::nextafter<F>(x, y).value;
+    }
+    friend constexpr unflagged abs(const unflagged &x) noexcept { return apfloat::abs<F>(x); }
+    friend constexpr unflagged fabs(const unflagged &x) noexcept { return apfloat::abs<F>(x); }
+    friend constexpr unflagged copysign(const unflagged &x, const unflagged &y) noexcept {
+        return copy_sign<F>(x, y);
+    }
+    friend constexpr unflagged fmin(const unflagged &x, const unflagged &y) noexcept {
+        return apfloat::min<F>(x, y);
+    }
+    friend constexpr unflagged fmax(const unflagged &x, const unflagged &y) noexcept {
+        return apfloat::max<F>(x, y);
     }
 
 private:
     template <class I>
-    order compared(I n) const {
+    order compared(I n) const noexcept {
         return compare<F>(*this, unflagged(n));
     }
 };
-
-// With one operand of a gather and one that drops its flags, it is open which of them counts.
-template <class F, rounding Mode>
-gathered<F> operator+(const gathered<F> &x, const unflagged<F, Mode> &y) = delete;
-template <class F, rounding Mode>
-gathered<F> operator+(const unflagged<F, Mode> &x, const gathered<F> &y) = delete;
-template <class F, rounding Mode>
-gathered<F> operator-(const gathered<F> &x, const unflagged<F, Mode> &y) = delete;
-template <class F, rounding Mode>
-gathered<F> operator-(const unflagged<F, Mode> &x, const gathered<F> &y) = delete;
-template <class F, rounding Mode>
-gathered<F> operator*(const gathered<F> &x, const unflagged<F, Mode> &y) = delete;
-template <class F, rounding Mode>
-gathered<F> operator*(const unflagged<F, Mode> &x, const gathered<F> &y) = delete;
-template <class F, rounding Mode>
-gathered<F> operator/(const gathered<F> &x, const unflagged<F, Mode> &y) = delete;
-template <class F, rounding Mode>
-gathered<F> operator/(const unflagged<F, Mode> &x, const gathered<F> &y) = delete;
 
 // ---- arrays
 
@@ -1576,7 +2482,7 @@ namespace detail {
 
 // Values as the bytes of an array, which are not null, not even if there are none.
 template <class F>
-const std::uint8_t *bytes_of(const value<F> *values) {
+const std::uint8_t *bytes_of(const value<F> *values) noexcept {
     // Three bytes are four in an array.
     constexpr int bytes = (F::width + 7) / 8;
     static_assert(sizeof(value<F>) == (bytes == 3 ? 4 : bytes),
@@ -1586,18 +2492,18 @@ const std::uint8_t *bytes_of(const value<F> *values) {
 }
 
 template <class F>
-std::uint8_t *bytes_of(value<F> *values) {
+std::uint8_t *bytes_of(value<F> *values) noexcept {
     // Nothing is written to an array that is empty.
     return const_cast<std::uint8_t *>(bytes_of(static_cast<const value<F> *>(values)));
 }
 
 // The bytes of an array are those of a value's bits, the lowest first.
-inline bool has_lowest_byte_first() {
+inline bool has_lowest_byte_first() noexcept {
     const std::uint16_t one = 1;
     return *reinterpret_cast<const std::uint8_t *>(&one) == 1;
 }
 
-inline expected<array_counts> counts_of(std::uint32_t code, const apfloat_array_answer &answer) {
+inline expected<array_counts> counts_of(std::uint32_t code, const apfloat_array_answer &answer) noexcept {
     if (code != APFLOAT_ANSWERED) return static_cast<errc>(code);
     return array_counts{answer.values,      answer.inexact,    answer.underflow, answer.overflow,
                         answer.div_by_zero, answer.invalid_op, answer.nans,      flags::of_code(answer.status)};
@@ -1649,12 +2555,12 @@ public:
     constexpr stored() = default;
 
     /// The value with these bits; those above the width of the format are ignored.
-    static constexpr stored from_bits(std::uint8_t bits) {
+    static constexpr stored from_bits(std::uint8_t bits) noexcept {
         stored made;
         made.bits_ = static_cast<std::uint8_t>(bits & ((1u << F::width) - 1));
         return made;
     }
-    constexpr std::uint8_t bits() const { return bits_; }
+    constexpr std::uint8_t bits() const noexcept { return bits_; }
 
 private:
     std::uint8_t bits_ = 0;
@@ -1663,20 +2569,20 @@ private:
 namespace detail {
 
 template <class F>
-const std::uint8_t *bytes_of(const stored<F> *values) {
+const std::uint8_t *bytes_of(const stored<F> *values) noexcept {
     static_assert(sizeof(stored<F>) == 1, "a value of a storage format is a byte");
     static constexpr std::uint8_t none = 0;
     return values == nullptr ? &none : reinterpret_cast<const std::uint8_t *>(values);
 }
 
 template <class F>
-std::uint8_t *bytes_of(stored<F> *values) {
+std::uint8_t *bytes_of(stored<F> *values) noexcept {
     return const_cast<std::uint8_t *>(bytes_of(static_cast<const stored<F> *>(values)));
 }
 
 template <class From, class To>
 expected<array_counts> convert_values(const From *values, std::size_t count, To *results, rounding mode,
-                                      overflowing large) {
+                                      overflowing large) noexcept {
     if (!has_lowest_byte_first()) return errc::no_such_operation;
     const bool is_missing = count != 0 && (values == nullptr || results == nullptr);
     const std::size_t present = is_missing ? 0 : count;
@@ -1697,7 +2603,7 @@ template <class To, class From,
           std::enable_if_t<!detail::is_storage<To>::value && !detail::is_storage<From>::value, int> = 0>
 expected<array_counts> convert_array(const value<From> *values, std::size_t count, value<To> *results,
                                      rounding mode = rounding::nearest_even,
-                                     overflowing large = overflowing::rounds) {
+                                     overflowing large = overflowing::rounds) noexcept {
     static_assert(!To::is_pair && !From::is_pair, "there is no conversion from or to pairs of doubles");
     return detail::convert_values(values, count, results, mode, large);
 }
@@ -1706,7 +2612,7 @@ expected<array_counts> convert_array(const value<From> *values, std::size_t coun
 template <class To, class From, std::enable_if_t<detail::is_storage<To>::value, int> = 0>
 expected<array_counts> convert_array(const value<From> *values, std::size_t count, stored<To> *results,
                                      rounding mode = rounding::nearest_even,
-                                     overflowing large = overflowing::rounds) {
+                                     overflowing large = overflowing::rounds) noexcept {
     static_assert(!From::is_pair, "there is no conversion from pairs of doubles");
     return detail::convert_values(values, count, results, mode, large);
 }
@@ -1715,7 +2621,7 @@ expected<array_counts> convert_array(const value<From> *values, std::size_t coun
 template <class To, class From, std::enable_if_t<detail::is_storage<From>::value, int> = 0>
 expected<array_counts> convert_array(const stored<From> *values, std::size_t count, value<To> *results,
                                      rounding mode = rounding::nearest_even,
-                                     overflowing large = overflowing::rounds) {
+                                     overflowing large = overflowing::rounds) noexcept {
     static_assert(!To::is_pair, "there is no conversion to pairs of doubles");
     return detail::convert_values(values, count, results, mode, large);
 }
@@ -1727,7 +2633,7 @@ template <class To, class From>
 expected<array_counts> convert_array_by_table(const value<From> *values, std::size_t count, value<To> *results,
                                               unsigned char *table, std::size_t table_length,
                                               rounding mode = rounding::nearest_even,
-                                              overflowing large = overflowing::rounds) {
+                                              overflowing large = overflowing::rounds) noexcept {
     static_assert(sizeof(value<From>) == 2, "a table is for values of 16 bits");
     static_assert(sizeof(value<To>) <= 4, "a table has results of at most 32 bits");
     if (!detail::has_lowest_byte_first()) return errc::no_such_operation;
@@ -1747,7 +2653,7 @@ template <class F>
 expected<array_counts> map_array(array_operation operation, std::size_t count, value<F> *results, rounding mode,
                                  const typename detail::not_deduced<value<F>>::type *xs,
                                  const typename detail::not_deduced<value<F>>::type *ys = nullptr,
-                                 const typename detail::not_deduced<value<F>>::type *zs = nullptr) {
+                                 const typename detail::not_deduced<value<F>>::type *zs = nullptr) noexcept {
     if (!detail::has_lowest_byte_first()) return errc::no_such_operation;
     const bool is_missing = count != 0 && (xs == nullptr || results == nullptr);
     const std::size_t present = is_missing ? 0 : count * sizeof(value<F>);
@@ -1768,7 +2674,7 @@ template <class F>
 expected<array_counts> map_array_by_table(array_operation operation, std::size_t count, value<F> *results,
                                           rounding mode, const typename detail::not_deduced<value<F>>::type *xs,
                                           const typename detail::not_deduced<value<F>>::type *ys,
-                                          unsigned char *table, std::size_t table_length) {
+                                          unsigned char *table, std::size_t table_length) noexcept {
     static_assert(sizeof(value<F>) == 1, "a table is for values of 8 bits");
     if (xs == nullptr || ys == nullptr || results == nullptr) return errc::wrong_length;
     apfloat_array_answer answer = {0, 0, 0, 0, 0, 0, 0, 0, 0};
@@ -1797,7 +2703,9 @@ struct is_element<e2m3fn> : std::true_type {};
 template <>
 struct is_element<e2m1fn> : std::true_type {};
 
-inline std::size_t blocks_of(std::size_t count, std::size_t length) { return length == 0 ? 0 : count / length; }
+inline std::size_t blocks_of(std::size_t count, std::size_t length) noexcept {
+    return length == 0 ? 0 : count / length;
+}
 
 } // namespace detail
 
@@ -1808,7 +2716,7 @@ inline std::size_t blocks_of(std::size_t count, std::size_t length) { return len
 template <class From, class Code>
 expected<array_counts> quantize_blocks(const value<From> *values, std::size_t count, std::size_t length,
                                        stored<e8m0fnu> *scales, Code *codes,
-                                       rounding mode = rounding::nearest_even) {
+                                       rounding mode = rounding::nearest_even) noexcept {
     static_assert(!From::is_pair, "there are no blocks of pairs of doubles");
     static_assert(detail::is_element<typename Code::format>::value, "this is no format of elements in blocks");
     if (!detail::has_lowest_byte_first()) return errc::no_such_operation;
@@ -1827,7 +2735,7 @@ expected<array_counts> quantize_blocks(const value<From> *values, std::size_t co
 template <class To, class Code>
 expected<array_counts> dequantize_blocks(const stored<e8m0fnu> *scales, const Code *codes, std::size_t count,
                                          std::size_t length, value<To> *results,
-                                         rounding mode = rounding::nearest_even) {
+                                         rounding mode = rounding::nearest_even) noexcept {
     static_assert(!To::is_pair, "there are no blocks of pairs of doubles");
     static_assert(detail::is_element<typename Code::format>::value, "this is no format of elements in blocks");
     if (!detail::has_lowest_byte_first()) return errc::no_such_operation;
@@ -1842,18 +2750,208 @@ expected<array_counts> dequantize_blocks(const stored<e8m0fnu> *scales, const Co
     return detail::counts_of(code, answer);
 }
 
+// ---- formats that are chosen when the program runs
+
+/// A format by its code in apfloat.h, with a rule of flags or without.
+enum class format_code : std::uint32_t {};
+
+template <class F>
+inline constexpr format_code format_code_of = format_code{F::code};
+
+namespace detail {
+
+// Calls a function with a null pointer to the format that has a code, or returns another answer.
+template <class Function, class Answer>
+Answer with_format(std::uint32_t code, Function function, Answer otherwise) {
+    switch (code & ~(APFLOAT_IEEE_FLAGS | APFLOAT_TINY_BEFORE_ROUNDING)) {
+    case binary16::code: return function(static_cast<binary16 *>(nullptr));
+    case bfloat16::code: return function(static_cast<bfloat16 *>(nullptr));
+    case binary32::code: return function(static_cast<binary32 *>(nullptr));
+    case binary64::code: return function(static_cast<binary64 *>(nullptr));
+    case binary128::code: return function(static_cast<binary128 *>(nullptr));
+    case x87::code: return function(static_cast<x87 *>(nullptr));
+    case e5m2::code: return function(static_cast<e5m2 *>(nullptr));
+    case e4m3fn::code: return function(static_cast<e4m3fn *>(nullptr));
+    case e4m3fnuz::code: return function(static_cast<e4m3fnuz *>(nullptr));
+    case e4m3::code: return function(static_cast<e4m3 *>(nullptr));
+    case e5m2fnuz::code: return function(static_cast<e5m2fnuz *>(nullptr));
+    case e4m3b11fnuz::code: return function(static_cast<e4m3b11fnuz *>(nullptr));
+    case tf32::code: return function(static_cast<tf32 *>(nullptr));
+    case double_pair::code: return function(static_cast<double_pair *>(nullptr));
+    }
+    return otherwise;
+}
+
+} // namespace detail
+
+/// The format of a name: that of its type here, or half, single, double, quad, bfloat or dd; then +ieee for the flags
+/// of IEEE 754-2019, and +before for tininess that is detected before rounding.
+inline expected<format_code> format_of_name(std::string_view name) noexcept {
+    constexpr std::pair<std::string_view, std::uint32_t> all[] = {
+        {"half", binary16::code},         {"binary16", binary16::code},
+        {"bfloat", bfloat16::code},       {"bfloat16", bfloat16::code},
+        {"single", binary32::code},       {"binary32", binary32::code},
+        {"double", binary64::code},       {"binary64", binary64::code},
+        {"quad", binary128::code},        {"binary128", binary128::code},
+        {"x87", x87::code},               {"e5m2", e5m2::code},
+        {"e4m3fn", e4m3fn::code},         {"e4m3fnuz", e4m3fnuz::code},
+        {"e4m3", e4m3::code},             {"e5m2fnuz", e5m2fnuz::code},
+        {"tf32", tf32::code},             {"e4m3b11fnuz", e4m3b11fnuz::code},
+        {"double_pair", double_pair::code}, {"dd", double_pair::code}};
+    const auto end = name.find('+') < name.size() ? name.find('+') : name.size();
+    const auto rule = name.substr(end);
+    std::uint32_t more = APFLOAT_IEEE_FLAGS | APFLOAT_TINY_BEFORE_ROUNDING;
+    if (rule.empty()) more = 0;
+    else if (rule == "+ieee") more = APFLOAT_IEEE_FLAGS;
+    else if (rule != "+ieee+before") return errc::unknown_format;
+    for (const auto &[known, code] : all) {
+        if (known != name.substr(0, end)) continue;
+        const auto has_choice = [](auto *format) { return std::remove_pointer_t<decltype(format)>::has_ieee_flags; };
+        if (more != 0 && !detail::with_format(code, has_choice, false)) return errc::unknown_format;
+        return format_code{code | more};
+    }
+    return errc::unknown_format;
+}
+
+/// A value of any format, with the code of that. Without an argument it has none, and every operation on it returns
+/// unknown_format.
+class any_value {
+public:
+    constexpr any_value() = default;
+    template <class F>
+    constexpr explicit any_value(const value<F> &x) noexcept : format_(format_code_of<F>), bits_(x.halves()) {}
+
+    /// The value with these bits. The error is unknown_format, or wide_operand if a bit above those of the format is
+    /// set.
+    static expected<any_value> from_bits(format_code format, apfloat_halves bits) noexcept {
+        apfloat_answer answer = {{0, 0}, 0, 0};
+        const auto code = static_cast<std::uint32_t>(format);
+        if (apfloat_is_negative(code, bits, &answer) != APFLOAT_ANSWERED) return errc::unknown_format;
+        const auto is_in = [&](auto *of) {
+            return value<std::remove_pointer_t<decltype(of)>>::from_halves(bits).has_value();
+        };
+        if (!detail::with_format(code, is_in, false)) return errc::wide_operand;
+        return any_value(format, bits);
+    }
+    static expected<result<any_value>> from_text(format_code format, std::string_view text,
+                                                 rounding mode = rounding::nearest_even) noexcept;
+
+    constexpr format_code format() const noexcept { return format_; }
+    constexpr apfloat_halves bits() const noexcept { return bits_; }
+
+    /// The value, if it is of the format F.
+    template <class F>
+    constexpr std::optional<value<F>> as() const noexcept {
+        if (format_ != format_code_of<F>) return std::nullopt;
+        return value<F>::from_lowest(bits_);
+    }
+
+private:
+    friend struct any_call;
+    constexpr any_value(format_code format, apfloat_halves bits) noexcept : format_(format), bits_(bits) {}
+
+    format_code format_{};
+    apfloat_halves bits_{};
+};
+
+/// What the operations below are made of.
+struct any_call {
+    static constexpr std::uint32_t code_of(const any_value &x) noexcept {
+        return static_cast<std::uint32_t>(x.format());
+    }
+    template <class... Parameters, class... Arguments>
+    static expected<apfloat_answer> answer(std::uint32_t (*call)(Parameters...), Arguments... arguments) noexcept {
+        apfloat_answer made = {{0, 0}, 0, 0};
+        const std::uint32_t code = call(arguments..., &made);
+        if (code != APFLOAT_ANSWERED) return static_cast<errc>(code);
+        return made;
+    }
+    static expected<result<any_value>> result_in(format_code format, const expected<apfloat_answer> &found) noexcept {
+        if (!found) return found.error();
+        return result<any_value>{any_value(format, found->bits), flags::of_code(found->status)};
+    }
+    template <class Call>
+    static expected<result<any_value>> of_two(Call *call, rounding mode, const any_value &x,
+                                              const any_value &y) noexcept {
+        if (x.format() != y.format()) return errc::no_such_operation;
+        return result_in(x.format(), answer(call, code_of(x), detail::code_of(mode), x.bits(), y.bits()));
+    }
+};
+
+/// The operations of the library on values of any format. Those on operands of different formats are no_such_operation.
+inline expected<result<any_value>> add(const any_value &x, const any_value &y,
+                                       rounding mode = rounding::nearest_even) noexcept {
+    return any_call::of_two(apfloat_add, mode, x, y);
+}
+inline expected<result<any_value>> sub(const any_value &x, const any_value &y,
+                                       rounding mode = rounding::nearest_even) noexcept {
+    return any_call::of_two(apfloat_sub, mode, x, y);
+}
+inline expected<result<any_value>> mul(const any_value &x, const any_value &y,
+                                       rounding mode = rounding::nearest_even) noexcept {
+    return any_call::of_two(apfloat_mul, mode, x, y);
+}
+inline expected<result<any_value>> div(const any_value &x, const any_value &y,
+                                       rounding mode = rounding::nearest_even) noexcept {
+    return any_call::of_two(apfloat_div, mode, x, y);
+}
+inline expected<result<any_value>> fma(const any_value &x, const any_value &y, const any_value &z,
+                                       rounding mode = rounding::nearest_even) noexcept {
+    if (x.format() != y.format() || x.format() != z.format()) return errc::no_such_operation;
+    return any_call::result_in(x.format(), any_call::answer(apfloat_fma, any_call::code_of(x), detail::code_of(mode),
+                                                            x.bits(), y.bits(), z.bits()));
+}
+inline expected<result<any_value>> sqrt(const any_value &x, rounding mode = rounding::nearest_even) noexcept {
+    return any_call::result_in(
+        x.format(), any_call::answer(apfloat_sqrt, any_call::code_of(x), detail::code_of(mode), x.bits()));
+}
+
+/// The value in another format, rounded once.
+inline expected<conversion<any_value>> convert(const any_value &x, format_code to,
+                                               rounding mode = rounding::nearest_even) noexcept {
+    const auto found = any_call::answer(apfloat_convert, any_call::code_of(x), detail::code_of(mode),
+                                        static_cast<std::uint32_t>(to), x.bits());
+    const auto made = any_call::result_in(to, found);
+    if (!made) return made.error();
+    return conversion<any_value>{made->value, made->status, found->number != 0};
+}
+
+inline expected<order> compare(const any_value &x, const any_value &y) noexcept {
+    if (x.format() != y.format()) return errc::no_such_operation;
+    const auto found = any_call::answer(apfloat_compare, any_call::code_of(x), x.bits(), y.bits());
+    if (!found) return found.error();
+    return static_cast<order>(found->number);
+}
+
+/// The value of a text, as `parse<F>` reads it.
+inline expected<result<any_value>> parse(format_code format, std::string_view text,
+                                         rounding mode = rounding::nearest_even) noexcept {
+    const auto code = static_cast<std::uint32_t>(format);
+    const auto call = (code & APFLOAT_IEEE_FLAGS) != 0 ? apfloat_parse : apfloat_parse_decimal;
+    const char *bytes = text.empty() ? "" : text.data();
+    return any_call::result_in(format, any_call::answer(call, code, detail::code_of(mode),
+                                                        reinterpret_cast<const std::uint8_t *>(bytes), text.size()));
+}
+inline expected<result<any_value>> any_value::from_text(format_code format, std::string_view text,
+                                                        rounding mode) noexcept {
+    return parse(format, text, mode);
+}
+
+/// The text of the value, as `to_text` of a `value` writes it.
+inline expected<text> to_text(const any_value &x) noexcept {
+    const auto written = [&](auto *format) -> expected<text> {
+        return to_text(value<std::remove_pointer_t<decltype(format)>>::from_lowest(x.bits()));
+    };
+    return detail::with_format(any_call::code_of(x), written, expected<text>(errc::unknown_format));
+}
+
 // ---- literals
 
 namespace detail {
 
-constexpr bool is_digit(char letter, bool hexadecimal) {
-    return (letter >= '0' && letter <= '9') ||
-           (hexadecimal && ((letter >= 'a' && letter <= 'f') || (letter >= 'A' && letter <= 'F')));
-}
-
 // Whether the library reads a literal as the number that it is in C++: a decimal, or a hexadecimal number with an
 // exponent. Binary, octal and hexadecimal integers are none.
-constexpr bool is_readable(const char *literal, std::size_t length) {
+constexpr bool is_readable(const char *literal, std::size_t length) noexcept {
     const bool hexadecimal = length > 1 && literal[0] == '0' && (literal[1] == 'x' || literal[1] == 'X');
     std::size_t at = hexadecimal ? 2 : 0, digits = 0;
     bool has_dot = false;
@@ -1878,14 +2976,14 @@ template <char... Letters>
 struct unmarked {
     char letters[sizeof...(Letters)] = {};
     std::size_t length = 0;
-    constexpr unmarked() {
+    constexpr unmarked() noexcept {
         for (const char letter : {Letters...})
             if (letter != '\'') letters[length++] = letter;
     }
 };
 
 template <class F, char... Letters>
-value<F> literal() {
+value<F> literal() noexcept {
     static constexpr unmarked<Letters...> written;
     static_assert(is_readable(written.letters, written.length),
                   "a literal is a decimal such as 0.1 or 1e-7, or hexadecimal with an exponent, such as 0x1.8p-1");
@@ -1900,59 +2998,59 @@ value<F> literal() {
 namespace literals {
 
 template <char... Letters>
-value<binary16> operator""_binary16() {
+value<binary16> operator""_binary16() noexcept {
     return detail::literal<binary16, Letters...>();
 }
 template <char... Letters>
-value<bfloat16> operator""_bfloat16() {
+value<bfloat16> operator""_bfloat16() noexcept {
     return detail::literal<bfloat16, Letters...>();
 }
 template <char... Letters>
-value<binary32> operator""_binary32() {
+value<binary32> operator""_binary32() noexcept {
     return detail::literal<binary32, Letters...>();
 }
 template <char... Letters>
-value<binary64> operator""_binary64() {
+value<binary64> operator""_binary64() noexcept {
     return detail::literal<binary64, Letters...>();
 }
 template <char... Letters>
-value<binary128> operator""_binary128() {
+value<binary128> operator""_binary128() noexcept {
     return detail::literal<binary128, Letters...>();
 }
 template <char... Letters>
-value<x87> operator""_x87() {
+value<x87> operator""_x87() noexcept {
     return detail::literal<x87, Letters...>();
 }
 template <char... Letters>
-value<e5m2> operator""_e5m2() {
+value<e5m2> operator""_e5m2() noexcept {
     return detail::literal<e5m2, Letters...>();
 }
 template <char... Letters>
-value<e4m3fn> operator""_e4m3fn() {
+value<e4m3fn> operator""_e4m3fn() noexcept {
     return detail::literal<e4m3fn, Letters...>();
 }
 template <char... Letters>
-value<e4m3fnuz> operator""_e4m3fnuz() {
+value<e4m3fnuz> operator""_e4m3fnuz() noexcept {
     return detail::literal<e4m3fnuz, Letters...>();
 }
 template <char... Letters>
-value<e4m3> operator""_e4m3() {
+value<e4m3> operator""_e4m3() noexcept {
     return detail::literal<e4m3, Letters...>();
 }
 template <char... Letters>
-value<e5m2fnuz> operator""_e5m2fnuz() {
+value<e5m2fnuz> operator""_e5m2fnuz() noexcept {
     return detail::literal<e5m2fnuz, Letters...>();
 }
 template <char... Letters>
-value<e4m3b11fnuz> operator""_e4m3b11fnuz() {
+value<e4m3b11fnuz> operator""_e4m3b11fnuz() noexcept {
     return detail::literal<e4m3b11fnuz, Letters...>();
 }
 template <char... Letters>
-value<tf32> operator""_tf32() {
+value<tf32> operator""_tf32() noexcept {
     return detail::literal<tf32, Letters...>();
 }
 template <char... Letters>
-value<double_pair> operator""_double_pair() {
+value<double_pair> operator""_double_pair() noexcept {
     return detail::literal<double_pair, Letters...>();
 }
 

@@ -47,6 +47,43 @@ static_assert(!std::is_convertible_v<number, double> && !std::is_convertible_v<h
 static_assert((flag::inexact | flag::overflow).has(flag::overflow) && flags().none());
 static_assert(value<ieee<binary64>>(number(1.5)).bits() == number(1.5).bits());
 
+// What needs no rounding, while the program is compiled.
+static_assert(number(1.0) < number(2.0) && number(-0.0) == number(0.0) && number(1.0) != number(2.0));
+static_assert(compare(half::from_bits(0x7e00), half()) == order::unordered && is_nan(quiet_nan<e4m3fnuz>()));
+static_assert(classify(single(0x1p-149f)) == number_class::positive_subnormal && is_finite(extended()));
+static_assert(next_up(number(1.0)).value.bits() == UINT64_C(0x3ff0000000000001) && next_down(half()).value.sign_bit());
+static_assert(next_up(signaling_nan<binary64>()).status == flag::invalid_op && is_signaling(signaling_nan<x87>()));
+static_assert(min(number(1.0), number(2.0)) == number(1.0) && maximum(number(-0.0), number(0.0)).bits() == 0);
+static_assert(extremum_number_of(extremum::maximum, number(1.0), quiet_nan<binary64>()).value == number(1.0));
+static_assert(total_order(number(-0.0), number(0.0)) == order::less);
+static_assert(holds(predicate::less, on_nan::signaling, number(1.0), number(2.0)).value);
+static_assert(isnan(quiet_nan<binary16>()) && isfinite(half()) && !isinf(half()) && !isnormal(half()));
+static_assert(fpclassify(half()) == FP_ZERO && fpclassify(number(1.0)) == FP_NORMAL && signbit(number(-1.0)));
+static_assert(fmin(number(1.0), number(2.0)) == fabs(number(-1.0)) && fmax(number(1.0), number(2.0)) == number(2.0));
+static_assert(copysign(number(1.0), number(-0.0)) == nextafter(number(-1.0), number(-1.0)).value);
+static_assert(nextafter(number(1.0), number(0.0)).value < number(1.0));
+static_assert(any_value(number(1.0)).as<binary64>() == number(1.0) && !any_value(number(1.0)).as<ieee<binary64>>());
+#if defined(APFLOAT_HAS_THREE_WAY_COMPARISON)
+static_assert((number(1.0) <=> number(2.0)) < 0);
+#endif
+
+// The calls take no memory.
+static_assert(noexcept(add(number(), number())) && noexcept(number() < number()) && noexcept(sqrt(quad())));
+static_assert(noexcept(convert<binary16>(number())) && noexcept(from_integer<binary16>(1)));
+static_assert(noexcept(fma(half(), half(), half())) && noexcept(floor(number())) && noexcept(-number()));
+static_assert(noexcept(parse<binary64>("1")) && noexcept(number::from_text("1")) && noexcept(to_text(number())));
+static_assert(noexcept(unflagged<binary64>(1) + 2) && noexcept(add(any_value(), any_value())));
+
+// Whether operands can be added.
+template <class X, class Y, class = void>
+struct adds : std::false_type {};
+template <class X, class Y>
+struct adds<X, Y, std::void_t<decltype(std::declval<X>() + std::declval<Y>())>> : std::true_type {};
+static_assert(!adds<number, number>::value && !adds<number, int>::value && !adds<number, half>::value);
+static_assert(adds<unflagged<binary64>, number>::value && adds<int, unflagged<binary64>>::value);
+static_assert(adds<gathered<binary64>, number &>::value && adds<number, gathered<binary64>>::value);
+static_assert(!adds<gathered<binary64> &, number>::value && !adds<gathered<binary64>, unflagged<binary64>>::value);
+
 template <class F>
 constexpr bool agrees_with_host() {
     using host = std::numeric_limits<typename F::host>;
@@ -482,6 +519,76 @@ void check_missing_arrays() {
           errc::no_such_operation);
 }
 
+// What is named as in <cmath>.
+void check_names_of_cmath() {
+    const number x(-2.5), two(2.0);
+    CHECK(floor(x).value == number(-3.0) && ceil(x).value == number(-2.0) && floor(x).status.none());
+    CHECK(trunc(x).value == number(-2.0) && round(x).value == number(-3.0));
+    CHECK(nearbyint(x, rounding::nearest_even).value == number(-2.0));
+    CHECK(rint(x, rounding::upward).status == flag::inexact);
+    CHECK(fmod(x, two).value == number(-0.5) && remainder(x, two).value == number(-0.5));
+    CHECK(ldexp(x, 2000).status == (flag::overflow | flag::inexact) && logb(x).value == number(1.0));
+    int exponent = 0;
+    CHECK(frexp(x, &exponent).value == number(-0.625) && exponent == 2);
+    const auto invalid = std::numeric_limits<number>::signaling_NaN();
+    CHECK(nextafter(two, invalid).status == flag::invalid_op && floor(invalid).status == flag::invalid_op);
+    CHECK(floor(pair_of(x)).value == pair_of(number(-3.0)) && ldexp(pair_of(x), 1).value == pair_of(number(-5.0)));
+
+    gather flags(rounding::upward);
+    number sum;
+    sum += flags(two) * two;
+    CHECK(sum == number(4.0) && sqrt(flags(two)) + two > number(3.41) && flags.raised() == flag::inexact);
+    CHECK(fma(flags(two), two, two) == number(6.0) && rint(flags(x)) == number(-2.0));
+    CHECK(-floor(flags(x)) == number(3.0));
+    // What has a name is a value: the gather is given again.
+    const auto product = flags(two) * x;
+    CHECK(flags(product) + two == number(-3.0) && -product == number(5.0) && product + flags(two) == number(-3.0));
+
+    unflagged<binary64> z = 2;
+    CHECK(z++ == 2 && ++z == 4 && z-- == 4 && --z == 2);
+    z = floor(z / 3) + fmax(z, fabs(-z)) * nextafter(z, z) + remainder(z, 3) + ldexp(z, 1);
+    CHECK(z == 7 && frexp(z, &exponent) * 8 == 7 && exponent == 3 && nearbyint(z / 2) == 4 && logb(z) + 1 == 3);
+}
+
+void check_construction() {
+    CHECK(half::from_text("0.1")->value == 0.1_binary16 && !half::from_text("one"));
+    CHECK(half::from_double(0.1).status == flag::inexact && quad::from_double(0.1).status.none());
+    CHECK(half::from_double(0.1, rounding::upward).value == next_up(half::from_double(0.1).value).value);
+    CHECK(quad::from_double(0.1).value == convert<binary128>(number(0.1)).value);
+    CHECK(pair::from_double(0.1).value == pair_of(number(0.1)) && number::from_double(0.1).value == number(0.1));
+    CHECK(value<ieee<binary64>>::from_double(0.5).value.bits() == number(0.5).bits());
+    gather flags(rounding::upward);
+    CHECK(half::from_double(1e-9, flags) == std::numeric_limits<half>::denorm_min());
+    CHECK(flags.raised() == (flag::underflow | flag::inexact) && *single::from_text("0.5", flags) == single(0.5f));
+}
+
+void check_any_values() {
+    const auto format = format_of_name("half").value();
+    CHECK(format == format_code_of<binary16> && format_of_name("binary16").value() == format);
+    CHECK(format_of_name("double+ieee+before").value() == format_code_of<ieee_tiny_before<binary64>>);
+    CHECK(!format_of_name("e4m3fn+ieee") && !format_of_name("") && !format_of_name("half+"));
+    const auto tenth = parse(format, "0.1");
+    CHECK(tenth && tenth->status == flag::inexact && tenth->value.bits().low == 0x2e66);
+    const any_value x = tenth->value, three(from_integer<binary16>(3).value);
+    CHECK(add(x, three)->value.as<binary16>() == add(0.1_binary16, 3_binary16).value);
+    const auto mode = rounding::upward;
+    CHECK(sub(x, three, mode)->value.as<binary16>() == sub(0.1_binary16, 3_binary16, mode).value);
+    CHECK(mul(x, three)->value.as<binary16>() == mul(0.1_binary16, 3_binary16).value);
+    CHECK(div(three, x)->status == flag::inexact && sqrt(three)->value.as<binary16>() == sqrt(3_binary16).value);
+    CHECK(fma(x, three, x)->value.as<binary16>() == fma(0.1_binary16, 3_binary16, 0.1_binary16).value);
+    CHECK(*compare(x, three) == order::less && to_text(x)->view() == "0.1");
+    const auto narrow = convert(any_value(number(1e-9)), format);
+    CHECK(narrow && narrow->loses_info && narrow->value.format() == format);
+    CHECK(to_text(any_value(std::numeric_limits<half>::max()))->view() == "65504.0");
+    CHECK(add(x, any_value(number(1.0))).error() == errc::no_such_operation);
+    CHECK(add(any_value(), any_value()).error() == errc::unknown_format && !to_text(any_value()));
+    CHECK(fma(any_value(pair()), any_value(pair()), any_value(pair())).error() == errc::no_such_operation);
+    CHECK(any_value::from_bits(format, {0x10000, 0}).error() == errc::wide_operand);
+    CHECK(any_value::from_bits(format_code{99}, {0, 0}).error() == errc::unknown_format);
+    CHECK(any_value::from_text(format, "x").error() == errc::refused_text);
+    CHECK(sqrt(x, static_cast<rounding>(9)).error() == errc::unknown_mode);
+}
+
 // What machines deliver, as the tables of docs/MACHINES.md have it.
 void check_machines() {
     const auto quiet = single::from_bits(0x7fc00001), signaling = single::from_bits(0x7f800003), one = single(1.0f);
@@ -562,6 +669,9 @@ int main(int count, char **) {
     check_missing_arrays();
     check_machines();
     check_operations();
+    check_names_of_cmath();
+    check_construction();
+    check_any_values();
     std::cout << checks - failures << " checks hold, " << failures << " fail\n";
     return failures == 0 ? 0 : 1;
 }

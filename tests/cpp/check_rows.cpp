@@ -86,36 +86,36 @@ struct sum {
     template <class X, class Mode>
     static auto call(const X &x, const X &y, Mode &&mode) { return add(x, y, mode); }
     template <class X, class Y>
-    static auto apply(const X &x, const Y &y) { return x + y; }
+    static auto apply(X &&x, Y &&y) { return std::forward<X>(x) + std::forward<Y>(y); }
     template <class X, class Y>
-    static void assign(X &x, const Y &y) { x += y; }
+    static void assign(X &x, Y &&y) { x += std::forward<Y>(y); }
 };
 
 struct difference {
     template <class X, class Mode>
     static auto call(const X &x, const X &y, Mode &&mode) { return sub(x, y, mode); }
     template <class X, class Y>
-    static auto apply(const X &x, const Y &y) { return x - y; }
+    static auto apply(X &&x, Y &&y) { return std::forward<X>(x) - std::forward<Y>(y); }
     template <class X, class Y>
-    static void assign(X &x, const Y &y) { x -= y; }
+    static void assign(X &x, Y &&y) { x -= std::forward<Y>(y); }
 };
 
 struct product {
     template <class X, class Mode>
     static auto call(const X &x, const X &y, Mode &&mode) { return mul(x, y, mode); }
     template <class X, class Y>
-    static auto apply(const X &x, const Y &y) { return x * y; }
+    static auto apply(X &&x, Y &&y) { return std::forward<X>(x) * std::forward<Y>(y); }
     template <class X, class Y>
-    static void assign(X &x, const Y &y) { x *= y; }
+    static void assign(X &x, Y &&y) { x *= std::forward<Y>(y); }
 };
 
 struct quotient {
     template <class X, class Mode>
     static auto call(const X &x, const X &y, Mode &&mode) { return div(x, y, mode); }
     template <class X, class Y>
-    static auto apply(const X &x, const Y &y) { return x / y; }
+    static auto apply(X &&x, Y &&y) { return std::forward<X>(x) / std::forward<Y>(y); }
     template <class X, class Y>
-    static void assign(X &x, const Y &y) { x /= y; }
+    static void assign(X &x, Y &&y) { x /= std::forward<Y>(y); }
 };
 
 template <class Operation, class F>
@@ -123,13 +123,13 @@ bool gathered_agree(const row &r, const value<F> &x, const value<F> &y) {
     gather by_left(r.mode), by_right(r.mode), by_both(r.mode), in_place(r.mode);
     const value<F> results[] = {Operation::apply(by_left(x), y), Operation::apply(x, by_right(y)),
                                 Operation::apply(by_both(x), by_both(y))};
-    auto changed = in_place(x);
-    Operation::assign(changed, y);
+    value<F> changed = x;
+    Operation::assign(changed, in_place(y));
     for (const auto &found : results)
         if (!is_value(found, r)) return false;
     for (const gather *flags : {&by_left, &by_right, &by_both, &in_place})
         if (!is_status(flags->raised(), r)) return false;
-    return is_value<F>(changed, r);
+    return is_value(changed, r);
 }
 
 template <class Operation, class F>
@@ -449,12 +449,17 @@ verdict check_decimal(const row &r) {
 // A row has no text of an infinity or a NaN.
 template <class F>
 verdict check_shortest(const row &r) {
-    if (r.value == "None") return verdict::skipped;
+    if (F::is_pair || r.value == "None") return verdict::skipped;
     const auto x = operand<F>(r, 0);
     std::ostringstream written;
     written << x;
-    return of(to_text(x).view() == r.value && to_text(x).c_str() == r.value && to_string(x) == r.value &&
-              written.str() == r.value);
+    const std::string found = to_text(x).c_str();
+    // A whole number that is written in full is exactly what it says.
+    const auto read = parse<typename F::plain>(found);
+    const bool is_in_full = F::precision < 53 && read && read->status.none() && detail::is_equal(read->value.halves(), x.halves());
+    if constexpr (!F::is_pair)
+        if (shortest_text(x).view() != r.value) return verdict::differs;
+    return of((found == r.value || is_in_full) && to_string(x) == found && written.str() == found);
 }
 
 // ---- rows

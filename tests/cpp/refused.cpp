@@ -1,4 +1,5 @@
-// Each CASE above 0 is a use that does not compile; tests/cpp/run tries them.
+// Each CASE above 0 is a use that does not compile; tests/cpp/run tries them. The words after "says" are in the first
+// error.
 #include "apfloat.hpp"
 
 using namespace apfloat;
@@ -8,7 +9,7 @@ using pair = value<double_pair>;
 
 void use(number x, number y, pair p, value<binary16> h) {
     (void)x, (void)y, (void)p, (void)h;
-#if CASE == 1
+#if CASE == 1 // says unflagged gather
     (void)(x + y); // which mode, and where to with the flags
 #elif CASE == 2
     (void)fma(p, p, p);
@@ -44,17 +45,17 @@ void use(number x, number y, pair p, value<binary16> h) {
     float narrow = static_cast<float>(x);
 #elif CASE == 16
     (void)(x == h);
-#elif CASE == 17
+#elif CASE == 17 // says unflagged gather
     gather flags;
     (void)(flags(x) + unflagged<binary64>(y)); // whether the flags are joined or dropped
-#elif CASE == 18
+#elif CASE == 18 // says unflagged gather
     gather flags;
     (void)(unflagged<binary64, rounding::upward>(x) / flags(y)); // and in which mode
-#elif CASE == 19
+#elif CASE == 19 // says unflagged gather
     gather flags;
     auto joins = flags(x);
     joins *= unflagged<binary64>(y);
-#elif CASE == 20
+#elif CASE == 20 // says unflagged gather
     gather flags;
     unflagged<binary64> drops(x);
     drops -= flags(y);
@@ -75,5 +76,52 @@ void use(number x, number y, pair p, value<binary16> h) {
     (void)log_b(p);
 #elif CASE == 27
     (void)add_to<binary64>(p, p);
+#elif CASE == 28 // says unflagged gather
+    (void)(x - y);
+#elif CASE == 29 // says unflagged gather
+    (void)(x * 2);
+#elif CASE == 30 // says unflagged gather
+    (void)(0.5 / x);
+#elif CASE == 31 // says unflagged gather
+    (void)(x + h); // and in which format
+#elif CASE == 32 // says unflagged gather
+    x += y;
+#elif CASE == 33 // says unflagged gather
+    x -= 1;
+#elif CASE == 34 // says unflagged gather
+    x *= y;
+#elif CASE == 35 // says unflagged gather
+    x /= h;
+#elif CASE == 36 // says unflagged gather
+    gather flags;
+    auto z = flags(x) * y; // could outlive the gather
+    (void)(z + y);
+#elif CASE == 37 // says unflagged gather
+    gather flags;
+    const auto z = flags(x) - y;
+    (void)(x / z);
+#elif CASE == 38 // says unflagged gather
+    gather flags;
+    auto z = flags(x) / y;
+    z += x;
+#elif CASE == 39
+    gather flags;
+    auto z = flags(x) * y;
+    auto copy = z;
+#elif CASE == 40
+    (void)(any_value(x) + any_value(y));
+#elif CASE == 41
+    any_value any = x;
+#elif CASE == 42
+    (void)value<binary64>::from_double(1);
+    number z = value<binary64>::from_double(1.0); // where to with the flags
+#elif CASE == 43
+    (void)total_order(p, p);
+#elif CASE == 44
+    (void)shortest_text(p);
+#elif CASE == 45
+    (void)logb(p);
+#elif CASE == 46
+    number z = floor(x); // a signaling NaN has a flag
 #endif
 }
