@@ -83,7 +83,8 @@ block_places_once conversion source target count input bytes other counts others
 
 converted_once : (conversion : KnownConversion) (count : ℕ) (given old first second : List ℕ)
     (after also : ArrayAnswer) → IsLeftIn old first → IsLeftIn old second
-    → AreValuesConverted conversion count given old first after → AreValuesConverted conversion count given old second also
+    → AreValuesConverted conversion count given old first after
+    → AreValuesConverted conversion count given old second also
     → (first ≡ second) × (after ≡ also)
 converted_once conversion count given old first second after also a b x y =
     let all = count * (conversion_widths conversion).target in

@@ -1,10 +1,10 @@
-//! Calls by a code for the format and one for the rounding mode, which write a struct of numbers: what the library for C
-//! exports for single values, in Rust.
+//! Calls by a code for the format and one for the rounding mode, which write a struct of numbers: what the library for
+//! C exports for single values, in Rust.
 //!
-//! Each call returns 0, or the code of the first error and leaves the answer unchanged; it requires nothing of codes and
-//! bits. None looks into a value: each makes a public call of the library, or one from bits to bits. Arrays, blocks and
-//! storage formats do not belong here, and no export can: all that needs them stands above, so that these calls are
-//! proved beside them.
+//! Each call returns 0, or the code of the first error and leaves the answer unchanged; it requires nothing of codes
+//! and bits. None looks into a value: each makes a public call of the library, or one from bits to bits. Arrays,
+//! blocks and storage formats do not belong here, and no export can: all that needs them stands above, so that these
+//! calls are proved beside them.
 #![tactic(auto)]
 
 pub mod answers;

@@ -164,7 +164,8 @@ total_kept precision m digits top place last half up down amount parts some shor
       rest_is = refl;
       place_is = place_is;
     } in
-    let there : IsKeptNumber precision (top / 2 ^ (64 - precision)) (top % 2 ^ (64 - precision)) half place amount parts =
+    let there : IsKeptNumber precision (top / 2 ^ (64 - precision)) (top % 2 ^ (64 - precision)) half place amount
+    parts =
     record {
       full =
           top_cut_full 64 precision m digits top place (top % 2 ^ (64 - precision)) half up down split;

@@ -51,8 +51,8 @@ code_is half code l =
     (cases_lt code half)
 
 -- no two codes mean one number
-pub code_once : (c : StorageConstants) (code other : ℕ) (x : Datum) → IsLawfulStorage c → code < 2 ^ c.bits → other < 2 ^ c.bits
-    → datum_of c code ≡ x → datum_of c other ≡ x → code ≡ other
+pub code_once : (c : StorageConstants) (code other : ℕ) (x : Datum) → IsLawfulStorage c → code < 2 ^ c.bits
+    → other < 2 ^ c.bits → datum_of c code ≡ x → datum_of c other ≡ x → code ≡ other
 code_once c code other x law l k e f =
     let low = law.precision_low in
     let above = law.exponent in

@@ -68,7 +68,8 @@ largest_at p half exponents codes some h two e =
     let full : 2 ^ (p - 1) ≤ 2 ^ p - 1 = omega (arith, double, one) in
     ap (λ (n : ℕ). point p n) index ∙ at_index p (2 ^ p - 1) d some (omega (arith, double, one)) (inr full)
 
-pub largest_point : (c : StorageConstants) → IsLawfulStorage c → point c.precision (largest_index c) ≡ largest (format_with c)
+pub largest_point : (c : StorageConstants) → IsLawfulStorage c
+    → point c.precision (largest_index c) ≡ largest (format_with c)
 largest_point c law =
     let low = law.precision_low in
     let above = law.exponent in
@@ -141,8 +142,8 @@ within_delivered c mode negative amount parts index code status exact law same l
     (tiny_is c.precision index some) in
     record { value_is = rw within value; status_is = rw within told }
 
-pub saturated : (c : StorageConstants) (mode : Round) (negative : Bool) (amount parts index code status : ℕ) (exact : Bool)
-    → IsPickedAt c.precision mode negative amount parts index exact
+pub saturated : (c : StorageConstants) (mode : Round) (negative : Bool) (amount parts index code status : ℕ)
+    (exact : Bool) → IsPickedAt c.precision mode negative amount parts index exact
     → IsPointDelivered c mode negative amount parts index code status
     → IsSaturated c mode negative amount parts code status
 saturated c mode negative amount parts index code status exact x d =

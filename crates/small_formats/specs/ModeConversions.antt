@@ -14,15 +14,15 @@ use Rattle.small_formats.specs.Modes.{IsPickBy, ieee_mode}
 use Rattle.small_formats.specs.Storage.{StorageConstants, format_with}
 
 -- as `IsSaturated`
-pub record IsSaturatedBy (c : StorageConstants) (mode : ConversionRound) (negative : Bool) (amount parts code status : ℕ)
-    : Type 0 where
+pub record IsSaturatedBy (c : StorageConstants) (mode : ConversionRound) (negative : Bool)
+    (amount parts code status : ℕ) : Type 0 where
   pub pick : ℕ
   pub is_pick : IsPickBy c.precision mode negative amount parts pick
   pub value_is : datum_of c code ≡ saturated_value (format_with c) negative pick
   pub status_is : status ≡ delivered_status (format_with c) (ieee_mode mode) negative amount parts pick
 
-pub record IsStoredBy (c : StorageConstants) (f : Format) (mode : ConversionRound) (negative : Bool) (quanta code status : ℕ)
-    (loses_info : Bool) : Type 0 where
+pub record IsStoredBy (c : StorageConstants) (f : Format) (mode : ConversionRound) (negative : Bool)
+    (quanta code status : ℕ) (loses_info : Bool) : Type 0 where
   pub is_rounded : IsSaturatedBy c mode negative (quanta * 2 ^ (format_with c).scale) (2 ^ f.scale) code status
   pub loses_is : loses_info ≡ not (eqb status ok_bits)
 

@@ -145,7 +145,8 @@ one_rounded : (f : Format) (mode : Round) (negative : Bool) (q places fraction o
 one_rounded f mode negative q places fraction other exponent place exact lost x y =
     let same : y.first ≡ x.first = one_first f q y.first x.first y.is_first x.is_first in
     let picked = subst (λ (z : ℤ).
-    IsHexCarried places (whole_pick mode negative (units f q places z) (unit f places z)) z other place) same y.picked in
+    IsHexCarried places (whole_pick mode negative (units f q places z) (unit f places z)) z other place) same
+    y.picked in
     let told = subst (λ (z : ℤ).
     lost ≡ eqb (whole_pick mode negative (units f q places z) (unit f places z) * unit f places z)
     (units f q places z)) same y.exact_is in

@@ -73,7 +73,8 @@ delivered_member mode b amount parts value status x f =
     (λ e. ltb-false (largest wide) x.pick e)
     (sym (ap is_finite x.value_is) ∙ f))
 
-meant_member : (mode : Round) (meaning : TextMeaning) (value : Datum) (status : ℕ) → IsMeant wide mode meaning value status
+meant_member : (mode : Round) (meaning : TextMeaning) (value : Datum) (status : ℕ)
+    → IsMeant wide mode meaning value status
     → is_finite value ≡ true → IsMember wide value
 meant_member mode (infinity b) value status x f = absurd (false≢true (sym (ap is_finite x.value_is) ∙ f))
 meant_member mode (not_a_number b s p) value status x f = absurd (false≢true (sym (ap is_finite x.value_is) ∙ f))

@@ -266,7 +266,8 @@ body_means text body p b h =
     (begun_of body b)
 
 -- a nonempty text without a fault has a meaning
-text_means : (text : List ℕ) → is_empty text ≡ false → fault_of text ≡ None → (meaning : TextMeaning) × Means text meaning
+text_means : (text : List ℕ) → is_empty text ≡ false → fault_of text ≡ None
+    → (meaning : TextMeaning) × Means text meaning
 text_means text n h =
     let body = after_mark text in
     let special = special_of text in

@@ -29,7 +29,8 @@ use Rattle.ieee_operations.proofs.augmented_lemmas.Numbers.{signed_number, withi
 use Rattle.ieee_operations.proofs.augmented_lemmas.Rests.{as_nearest, rest_in_format}
 
 -- the sum toward zero is a number of the format
-pub short_in : (f : Format) → 3 ≤ f.precision → (x y short : Datum) (j : ℕ) → IsAugmentedNumber f x → IsAugmentedNumber f y
+pub short_in : (f : Format) → 3 ≤ f.precision → (x y short : Datum) (j : ℕ) → IsAugmentedNumber f x
+    → IsAugmentedNumber f y
     → IsSum f TowardZero x y short j → IsAugmentedNumber f short
 short_in f h x y short j nx ny sum =
     let v = number x +ℤ number y in
@@ -69,7 +70,8 @@ finish f h x y nx ny p t l value rest head tail status e r hd tl o =
 
 -- the sum toward zero is the head: it leaves exactly the opposite of what the sum to nearest leaves
 pub head_is_short : (f : Format) → 3 ≤ f.precision → (x y near short rest left other : Datum) (i j rest_status : ℕ)
-    → IsAugmentedNumber f x → IsAugmentedNumber f y → IsSum f NearestTiesToEven x y near i → IsSum f TowardZero x y short j
+    → IsAugmentedNumber f x → IsAugmentedNumber f y → IsSum f NearestTiesToEven x y near i
+    → IsSum f TowardZero x y short j
     → IsAugmentedNumber f near
     → (rest_status ≡ ok_bits → HasNumber ((number x +ℤ number y) -ℤ number near) rest)
     → (IsNearestTo f.precision (number x +ℤ number y) (number near) → rest_status ≡ ok_bits)
@@ -91,7 +93,8 @@ head_is_short f h x y near short rest left other i j rest_status nx ny sum short
 -- the sum to nearest is the head
 pub head_is_near : (f : Format) → 3 ≤ f.precision → (x y near short rest left other : Datum)
     (i j rest_status left_status : ℕ)
-    → IsAugmentedNumber f x → IsAugmentedNumber f y → IsSum f NearestTiesToEven x y near i → IsSum f TowardZero x y short j
+    → IsAugmentedNumber f x → IsAugmentedNumber f y → IsSum f NearestTiesToEven x y near i
+    → IsSum f TowardZero x y short j
     → IsAugmentedNumber f near
     → (rest_status ≡ ok_bits → HasNumber ((number x +ℤ number y) -ℤ number near) rest)
     → (IsNearestTo f.precision (number x +ℤ number y) (number near) → rest_status ≡ ok_bits)
@@ -115,7 +118,8 @@ head_is_near f h x y near short rest left other i j rest_status left_status nx n
 -- the largest value is the head: the sum is halfway past it
 pub head_is_largest : (f : Format) → 3 ≤ f.precision → 1 ≤ f.span → (x y near short left magnitude_of_left unit : Datum)
     (i j : ℕ)
-    → IsAugmentedNumber f x → IsAugmentedNumber f y → IsSum f NearestTiesToEven x y near i → IsSum f TowardZero x y short j
+    → IsAugmentedNumber f x → IsAugmentedNumber f y → IsSum f NearestTiesToEven x y near i
+    → IsSum f TowardZero x y short j
     → is_finite near ≡ false
     → HasNumber ((number x +ℤ number y) -ℤ number short) left → magnitude_of_left ≡ abs f left
     → unit ≡ finite false (half_unit f) → is_equal magnitude_of_left unit ≡ true
@@ -141,7 +145,8 @@ head_is_largest f h k x y near short left magnitude_of_left unit i j nx ny sum s
 -- the head is past the largest value
 pub head_is_past : (f : Format) → 3 ≤ f.precision → 1 ≤ f.span → (x y near short left magnitude_of_left unit : Datum)
     (i j left_status : ℕ)
-    → IsAugmentedNumber f x → IsAugmentedNumber f y → IsSum f NearestTiesToEven x y near i → IsSum f TowardZero x y short j
+    → IsAugmentedNumber f x → IsAugmentedNumber f y → IsSum f NearestTiesToEven x y near i
+    → IsSum f TowardZero x y short j
     → is_finite near ≡ false
     → (left_status ≡ ok_bits → HasNumber ((number x +ℤ number y) -ℤ number short) left)
     → (IsNearestTo f.precision (number x +ℤ number y) (number short) → left_status ≡ ok_bits)

@@ -99,7 +99,8 @@ first_exact f x head first status p q h o =
 
 -- of a nearest sum, the first is exact
 pub first_of_nearest : (f : Format) → 3 ≤ f.precision → (x y head first : Datum) (status : ℕ)
-    → IsAugmentedNumber f x → IsAugmentedNumber f y → IsAugmentedNumber f head → magnitude (number y) ≤ magnitude (number x)
+    → IsAugmentedNumber f x → IsAugmentedNumber f y → IsAugmentedNumber f head
+    → magnitude (number y) ≤ magnitude (number x)
     → IsNearestTo f.precision (number x +ℤ number y) (number head)
     → IsDifference f NearestTiesToEven head x first status → status ≡ ok_bits
 first_of_nearest f h x y head first status p q r l n d =

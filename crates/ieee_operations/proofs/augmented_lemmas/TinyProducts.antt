@@ -502,7 +502,8 @@ module _ (f : Format) (precise : 3 ≤ f.precision) (wide : f.precision < f.span
   near_side =
       pick_cases f.precision (sign_of_product x y) (magnitude (exact_of x y)) (2 ^ f.scale) t.even t.is_even
 
-  pub head_is_near_tie : IsAugmentedNumber f near → k ≡ ok_bits → (magnitude (number left) ≡ 1 → ⊥) → (head tail : Datum)
+  pub head_is_near_tie : IsAugmentedNumber f near → k ≡ ok_bits → (magnitude (number left) ≡ 1 → ⊥)
+      → (head tail : Datum)
       (status last : ℕ) → head ≡ near → IsFusedSum f TowardZero x y (negated f.nonfinite near) tail last
       → status ≡ underflow_bit + inexact_bit → IsAugmentedProduct f x y head tail status
   head_is_near_tie nn ok other head tail status last hd fused o =

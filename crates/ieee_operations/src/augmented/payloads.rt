@@ -39,8 +39,8 @@ pub fn set_payload<S: Flagged>(x: IeeeFloat<S>) -> IeeeFloat<S>
     }
 }
 
-/// setPayloadSignaling (9.7): the positive signaling NaN with the payload `x`, as `set_payload`. 0 is not a payload of a
-/// signaling NaN.
+/// setPayloadSignaling (9.7): the positive signaling NaN with the payload `x`, as `set_payload`. The
+/// payload of a signaling NaN is not 0.
 pub fn set_payload_signaling<S: Flagged>(x: IeeeFloat<S>) -> IeeeFloat<S>
     ensures { result ≡ set_payload_signaling (format_of S.Flagged) x }
 {

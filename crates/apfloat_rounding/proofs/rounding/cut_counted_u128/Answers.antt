@@ -23,7 +23,8 @@ returns-clause-cut c = λ amount parts p h.
     let place = c.full_place.result in
     let places = c.args.digits - c.args.precision in
     let e = to_z-of_z w32 unit (fits_in w32 unit (omega (arith, ints, c.requires.within))) in
-    let i : IsSplitRest precision s c.args.digits place (s % 2 ^ places) (2 ^ (places - 1)) (up unit) (down unit) = record {
+    let i : IsSplitRest precision s c.args.digits place (s % 2 ^ places) (2 ^ (places - 1)) (up unit) (down unit) =
+    record {
       some = c.requires.some;
       long = c.requires.long;
       fits = c.requires.fits;

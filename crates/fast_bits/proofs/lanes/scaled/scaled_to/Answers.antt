@@ -40,7 +40,8 @@ returns-clause-reached c =
     (λ i. c.from.ensures i * c.from-2.ensures i % 65536) in
     let place = c.args.magnitude / 2 ^ 7 - 1 in
     subst
-    (λ (n : ℕ). IsReachedLane (format_at t) (kept * 2 ^ 16 + n) (m * 2 ^ place * 2 ^ (format_at t).scale) (2 ^ 149)) rest
+    (λ (n : ℕ). IsReachedLane (format_at t) (kept * 2 ^ 16 + n) (m * 2 ^ place * 2 ^ (format_at t).scale) (2 ^ 149))
+    rest
     (subst
     (λ (n : ℕ). IsReachedLane (format_at t) (kept * 2 ^ 16 + c.from.result * c.from-2.result % 65536)
     (m * 2 ^ n * 2 ^ (format_at t).scale) (2 ^ 149)) c.place_of-place.ensures (steps c.before).reached)
