@@ -133,7 +133,10 @@ MISTAKES = {
         ),
         ("apfloat_rounding", "", call("add_r", "e5m2fnuz", "up", "ff ff", "ff", "INEXACT", "-")),
     ],
-    "text-refuses-everything": [("apfloat_conversions", "", "half parse even 0x1.ffep+15\t7c00 OVERFLOW|INEXACT")],
+    "text-refuses-everything": [
+        ("apfloat_conversions", "", "half parse even 0x1.ffep+15\t7c00 OVERFLOW|INEXACT"),
+        ("apfloat_decimals", "-decimal", call("read_decimal", "half", "even", "1", "3c00", "OK", "-")),
+    ],
     "text-reads-32-digits": [("apfloat_conversions", "", JUST_ABOVE_TIE)],
     "text-one-refusal-for-all": [
         ("apfloat_conversions", "", "single parse even 0x1\trefused: Hex strings require an exponent")

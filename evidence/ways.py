@@ -532,11 +532,35 @@ def contract_and_body(path, line):
     return head[head.find("ensures"):] if "ensures" in head else "", body.split("\n}")[0]
 
 
+# What the eraser of the copy does with what it leaves out, so that all lines keep their numbers.
+KEPT_LINES = [
+    ("rust/erase/walk.rs", "Some(new) if new.is_empty() => lines.leave_out(),", """Some(new) if new.is_empty() => {
+                lines.leave_out();
+                lines.space(&"\\n".repeat(token.text.matches('\\n').count()));
+            }"""),
+    ("rust/erase/lines.rs", "if self.line.trim().is_empty() {", """if self.line.trim().is_empty() {
+            self.text.push('\\n');
+            return;
+        }
+        if false {"""),
+    ("rust/erase/lines.rs", "let is_open = !self.line.trim().is_empty();", """if self.line.is_empty() {
+            return self.text;
+        }
+        let is_open = !self.line.trim().is_empty();"""),
+]
+
+
 def made():
-    """The copy, in which no function asks to be part of its callers."""
+    """The copy, in which no function asks to be part of its callers, and erased lines keep their numbers."""
     for source in (*TOP.glob("rust/**/*"), TOP / "Cargo.toml", TOP / "Cargo.lock", *TOP.glob("crates/*/src/**/*.rt")):
         if source.is_file() and "target" not in source.parts[len(TOP.parts):]:
-            write(COPY / source.relative_to(TOP), never_inline(source.read_text(encoding="utf-8")))
+            text, name = never_inline(source.read_text(encoding="utf-8")), str(source.relative_to(TOP))
+            for file, old, changed in KEPT_LINES:
+                if file == name:
+                    if text.count(old) != 1:
+                        sys.exit(f"ways.py: the eraser has no one line: {old}")
+                    text = text.replace(old, changed)
+            write(COPY / name, text)
 
 
 def never_inline(text):
@@ -558,6 +582,12 @@ def built():
     ran = subprocess.run(command, cwd=COPY, env=environment, capture_output=True, text=True, check=False)
     if ran.returncode:
         sys.exit(f"ways.py: cargo failed:\n{ran.stderr}")
+    for source in COPY.glob("crates/*/src/**/*.rt"):
+        crate, _, *path = source.relative_to(COPY / "crates").parts
+        for erased in COPY.glob(f"target/debug/build/programs-*/out/{crate}/{Path(*path).with_suffix('.rs')}"):
+            # A crate's root has more lines at its end.
+            if erased.read_text(encoding="utf-8").count("\n") < source.read_text(encoding="utf-8").count("\n"):
+                sys.exit(f"ways.py: the eraser leaves out lines of {'/'.join((crate, *path))}")
     return COPY / "target" / "debug" / "check_vectors"
 
 
