@@ -56,20 +56,19 @@ ROWS = (
     ('formats chosen at run time', 'BuiltInFormat', 'AnyFloat', 'APFLOAT_HALF', 'any_value', 'Format', 'half'),
 )
 
-# Why a row has an empty cell, as long as it has one.
+# Why C, and with it C++ and Python, or the programs have an empty cell in a row.
 REASONS = {
-    'decimals with these flags': 'C has the plain ones, rows one rule',
-    'digits of any count': 'C has the shortest decimal',
-    'hexadecimal output': 'C has the bits',
-    'pairs as other formats': 'the caller has both doubles',
-    'augmented operations': 'an answer in C is one value',
-    'payloads as values': 'elsewhere they are integers',
-    'storage formats': 'arrays have them',
-    'blocks of NVFP4': 'no array in C has the scale of a tensor',
-    'formats of P3109': 'no code in C says which four constants',
-    'rounding to odd': 'no code in C is that mode',
-    'random digits': 'no call in C takes them',
-    "a format's constants": '`docs/FORMATS.md` has them',
+    'decimals with these flags': {'C': 'C has the plain ones', 'Programs': 'rows lack them'},
+    'digits of any count': {'C': 'C has the shortest decimal'},
+    'hexadecimal output': {'C': 'C has the bits'},
+    'pairs as other formats': {'C': 'the caller has both doubles'},
+    'augmented operations': {'C': 'an answer in C is one value'},
+    'payloads as values': {'C': 'elsewhere they are integers'},
+    'blocks of NVFP4': {'C': 'no array has the scale of a tensor'},
+    'formats of P3109': {'C': 'four constants have no code'},
+    'rounding to odd': {'C': 'no code in C is that mode'},
+    'random digits': {'C': 'no call in C takes them'},
+    "a format's constants": {'C': 'C lacks them', 'Programs': '`docs/FORMATS.md` has them'},
 }
 
 
@@ -94,11 +93,22 @@ def table():
     empty = []
     for row, names in zip(ROWS, zip(*cells[1:])):
         yield '|'.join(['', f' {row[0]} ', *[f' `{name}` ' if name else ' ' for name in names], ''])
-        if not all(names):
-            empty.append(row[0])
+        lacking = [way for way, name in zip(ways, names) if not name]
+        if lacking:
+            empty.append(f'{row[0]}, {", ".join(reasons(row[0], lacking))}')
     if empty:
         yield ''
-        yield f'Empty cells: {"; ".join(f"{name}, {REASONS[name]}" for name in empty)}.'
+        yield f'Empty cells: {"; ".join(empty)}.'
+
+
+def reasons(row, lacking):
+    """Why these ways lack what the row is about."""
+    if 'C' in lacking:
+        yield REASONS[row]['C']
+    elif lacking != ['Programs']:
+        yield f'{" and ".join(way for way in lacking if way != "Programs")} by the functions of C alone'
+    if 'Programs' in lacking:
+        yield REASONS[row]['Programs']
 
 
 def main(words):
