@@ -1704,10 +1704,32 @@ expected<result<value<F>>> parse_hexadecimal(std::string_view text,
 
 namespace detail {
 
+constexpr bool is_spelled(std::string_view text, std::string_view word) noexcept {
+    if (text.size() != word.size()) return false;
+    for (std::size_t at = 0; at < word.size(); ++at) {
+        if (text[at] != word[at] && text[at] != word[at] - 'a' + 'A') return false;
+    }
+    return true;
+}
+
+// A text as the library reads it: `inf`, `infinity`, `nan` and `snan` may be in any case and have any sign
+// (IEEE 754-2019 5.12.1). No text of it is null, not even an empty one.
+constexpr std::string_view spelled(std::string_view text) noexcept {
+    if (text.empty()) return "";
+    const bool negative = text[0] == '-';
+    const std::string_view word = text.substr(negative || text[0] == '+' ? 1 : 0);
+    if (is_spelled(word, "inf") || is_spelled(word, "infinity")) return negative ? "-inf" : "inf";
+    if (is_spelled(word, "nan")) return negative ? "-nan" : "nan";
+    if (is_spelled(word, "snan")) return negative ? "-snan" : "snan";
+    // With a payload.
+    const bool is_nan = is_spelled(word.substr(0, 3), "nan") || is_spelled(word.substr(0, 4), "snan");
+    return is_nan && text[0] == '+' ? word : text;
+}
+
 template <class F>
-expected<result<value<F>>> read(decltype(apfloat_parse) *call, std::string_view text, rounding mode) noexcept {
-    // The library takes no null pointer, not even for an empty text.
-    const char *bytes = text.empty() ? "" : text.data();
+expected<result<value<F>>> read(decltype(apfloat_parse) *call, std::string_view given, rounding mode) noexcept {
+    const std::string_view text = spelled(given);
+    const char *bytes = text.data();
     apfloat_answer answer = {{0, 0}, 0, 0};
     const std::uint32_t code =
         call(F::code, code_of(mode), reinterpret_cast<const std::uint8_t *>(bytes), text.size(), &answer);
@@ -2928,9 +2950,9 @@ inline expected<result<any_value>> parse(format_code format, std::string_view te
                                          rounding mode = rounding::nearest_even) noexcept {
     const auto code = static_cast<std::uint32_t>(format);
     const auto call = (code & APFLOAT_IEEE_FLAGS) != 0 ? apfloat_parse : apfloat_parse_decimal;
-    const char *bytes = text.empty() ? "" : text.data();
+    const std::string_view read = detail::spelled(text);
     return any_call::result_in(format, any_call::answer(call, code, detail::code_of(mode),
-                                                        reinterpret_cast<const std::uint8_t *>(bytes), text.size()));
+                                                        reinterpret_cast<const std::uint8_t *>(read.data()), read.size()));
 }
 inline expected<result<any_value>> any_value::from_text(format_code format, std::string_view text,
                                                         rounding mode) noexcept {

@@ -453,15 +453,15 @@ class Format:
     def fromhex(self, text: str) -> Value:
         """The value of a hexadecimal text, an infinity or a NaN, rounded once, like float.fromhex.
 
-        An infinity is written inf, INFINITY or Inf, and not Infinity, as apfloat.h says at apfloat_parse.
+        The words `inf`, `infinity`, `nan` and `snan` may be in any case and have any sign (IEEE 754-2019 5.12.1).
 
-        >>> single.fromhex('0x1.8p-1'), single.fromhex('-inf')
+        >>> single.fromhex('0x1.8p-1'), single.fromhex('-Infinity')
         (single('0.75'), single('-inf'))
         """
         return self._read('parse', text)
 
     def _read(self, name: str, text: str) -> Value:
-        encoded = text.strip().encode()
+        encoded = _spelled_for_c(text.strip()).encode()
         return Value(self, _whole(_call(name, self.code, context().mode, encoded, len(encoded)).bits))
 
     def _fromdecimal(self, text: str) -> Value:
@@ -584,6 +584,15 @@ class Format:
         if given.is_nan and nans:
             return self.largest, Flags.INVALID_OP
         return value, flags
+
+
+def _spelled_for_c(text: str) -> str:
+    """The text as apfloat_parse reads it, which knows some spellings of infinities and NaNs alone."""
+    word = re.fullmatch(r'(?ai)([+-]?)(?:(inf)(?:inity)?|(s?nan)([(]?(?:0x[0-9a-f]*|[0-9]*)[)]?))', text)
+    if not word:
+        return text
+    sign, infinity, nan, payload = word.groups()
+    return sign.strip('+') + (infinity or nan + payload).lower()
 
 
 def _count(counts: dict[str, int], flags: Flags) -> None:

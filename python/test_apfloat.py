@@ -428,9 +428,12 @@ class TextTests(unittest.TestCase):
                 format(apfloat.half(1), wrong)
 
     def test_infinities(self):
-        for text in 'inf', 'INFINITY', '+Inf', '-inf', '-INFINITY', '-Inf':
+        for text in 'inf', 'INFINITY', '+Inf', '-inf', '-INFINITY', '-Inf', 'Infinity', '+infinity', '-iNF':
             self.assertEqual(apfloat.half(text).bits, 0xfc00 if text[0] == '-' else 0x7c00)
-        for text in 'Infinity', 'infinity', '-Infinity':
+            self.assertEqual(apfloat.half.ieee(text).bits, 0xfc00 if text[0] == '-' else 0x7c00)
+        for text, bits in ('+nan', 0x7e00), ('-NaN', 0xfe00), ('SNAN', 0x7d00), ('+NAN(0X7)', 0x7e07):
+            self.assertEqual(apfloat.half(text).bits, bits)
+        for text in 'Infinit', '+-inf', 'na', '', 'ınf':
             with self.assertRaises(apfloat.Refused):
                 apfloat.half(text)
 

@@ -91,7 +91,7 @@ fn stored_rows() {
 
 #[test]
 fn rows_of_files() {
-    // What only the library has: blocks, formats of IEEE P3109, and storage formats with other modes.
+    // Blocks, formats of IEEE P3109, and storage formats with other modes: `small_values.rs` checks them.
     const OF_THE_LIBRARY: [&str; 3] = ["blocks", "conversion_modes", "projections"];
     let files = fs::read_dir(folder()).unwrap().map(|entry| entry.unwrap().path());
     for file in files.filter(|file| file.extension().is_some_and(|extension| extension == "tsv")) {

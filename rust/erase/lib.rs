@@ -33,10 +33,13 @@ pub const LIBRARY: &[&str] = &[
     "round_to_odd",
     "apfloat_machines",
     "small_formats",
+    "fast_bits",
+    "formats_at_run_time",
+    "apfloat_arrays",
 ];
 
 /// The crates that the library for C has above those.
-pub const FOR_C: &[&str] = &["fast_bits", "formats_at_run_time", "apfloat_arrays", "coded_calls", "apfloat_c"];
+pub const FOR_C: &[&str] = &["coded_calls", "apfloat_c"];
 
 /// The crates that the program `vectors` is made of, lowest first: the last one is the program but for its `main`.
 pub const VECTORS: &[&str] = &[

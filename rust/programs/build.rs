@@ -7,13 +7,10 @@ mod erase;
 use std::path::Path;
 use std::process::exit;
 
-/// What the programs use of the crates that the library for C has above the library.
-const ABOVE: [&str; 3] = ["fast_bits", "formats_at_run_time", "apfloat_arrays"];
-
 fn main() {
     // Cargo runs this in the folder of the package.
     let crates = Path::new("../../crates");
-    let names: Vec<&str> = [erase::LIBRARY, &ABOVE, &["commands"]].concat();
+    let names: Vec<&str> = [erase::LIBRARY, &["commands"]].concat();
     println!("cargo::rerun-if-changed=../erase");
     println!("cargo::rerun-if-changed=build.rs");
     for name in &names {

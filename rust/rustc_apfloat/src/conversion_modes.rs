@@ -1,5 +1,5 @@
 //! Conversions to every format by two more modes than those of IEEE 754: to odd, and with random digits
-//! (stochastic rounding). `docs/FORMATS.md` of the repository says what they do; the crate `rustc_apfloat` has
+//! (stochastic rounding); and conversions that saturate. `docs/FORMATS.md` of the repository says what they do; the crate `rustc_apfloat` has
 //! none of this.
 //!
 //! ```
@@ -17,11 +17,12 @@
 //! ```
 
 use crate::erased::{small_formats, small_formats::stochastic as library};
-use crate::ieee::{IeeeFloat, PlainS, Semantics};
+use crate::ieee::{FlaggedS, IeeeFloat, PlainS, Semantics};
 use crate::status::answered;
 use crate::{Round, StatusAnd};
 
-pub use small_formats::RandomError;
+pub use small_formats::saturation::{FiniteNan, Overflow};
+pub use small_formats::{NanResult, RandomError};
 
 /// Random binary digits for one conversion, handed in by the caller.
 #[derive(Clone, Copy, Debug)]
@@ -52,7 +53,7 @@ pub enum ConversionRound {
 }
 
 impl ConversionRound {
-    fn given(self) -> small_formats::ConversionRound {
+    pub(crate) fn given(self) -> small_formats::ConversionRound {
         match self {
             Self::Ieee(round) => small_formats::ConversionRound::Ieee(round),
             Self::ToOdd => small_formats::ConversionRound::ToOdd,
@@ -71,4 +72,18 @@ pub fn convert_by<S: Semantics, T: Semantics>(
 ) -> StatusAnd<IeeeFloat<T>> {
     const { assert!(!T::IEEE_FLAGS, "no conversion in these modes has the flags of IEEE 754-2019") };
     answered(library::convert_by::<PlainS<S>, PlainS<T>>(x.plain(), mode.given(), loses_info)).map(IeeeFloat::of_plain)
+}
+
+/// A value in another format, rounded once, where `overflow` says what becomes of a number past the largest one, and of
+/// an infinity and a NaN where only finite values are wanted. The flags are those of the rounding, except that an
+/// infinity made finite has `INEXACT`, and a NaN made finite `INVALID_OP`.
+pub fn convert_saturating<S: Semantics, T: Semantics>(
+    x: IeeeFloat<S>,
+    overflow: Overflow,
+    round: Round,
+    loses_info: &mut bool,
+) -> StatusAnd<IeeeFloat<T>> {
+    let answer =
+        small_formats::saturation::convert_by::<FlaggedS<S>, FlaggedS<T>>(overflow, round, x.inner(), loses_info);
+    answered(answer).map(IeeeFloat::of)
 }

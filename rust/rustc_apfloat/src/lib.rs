@@ -38,7 +38,9 @@ pub mod ieee;
 pub mod ppc;
 
 // Beyond the crate `rustc_apfloat`: traits that are imported by name, and a module for each crate of the library.
+pub mod arrays;
 pub mod augmented;
+pub mod blocks;
 pub mod comparisons;
 pub mod conversion_modes;
 pub mod decimal_digits;
@@ -47,6 +49,8 @@ pub mod hex_digits;
 pub mod machines;
 pub mod more;
 pub mod odd;
+pub mod p3109;
+pub mod run_time;
 pub mod storage_formats;
 
 pub use erased::apfloat_decimals::{Decimal, DecimalError};

@@ -20,6 +20,7 @@
 //! assert_eq!((six.to_string().as_str(), loses_info), ("6", false));
 //! ```
 
+use crate::conversion_modes::{ConversionRound, NanResult};
 use crate::erased::small_formats as library;
 use crate::ieee::{FlaggedS, IeeeFloat, Semantics};
 use crate::status::answered;
@@ -216,6 +217,58 @@ impl Float8E3M4 {
     }
 }
 
+/// A format that has the numbers of every storage format, and digits enough to write them. It has no bits.
+pub struct NumberS;
+
+impl Semantics for NumberS {
+    const BITS: usize = 0;
+    const EXP_BITS: usize = 0;
+    const PRECISION: usize = 53;
+    const MIN_EXP: ExpInt = -(1 << 20);
+    const MAX_EXP: ExpInt = 1 << 20;
+}
+
+impl<F: StorageFormat> StoredFloat<F> {
+    /// A value of any format, rounded once in a mode of conversions, with the flags of that rounding; `nans` says what a
+    /// NaN becomes. Past the largest number the result is that number in each mode, to odd with `INEXACT` alone. The
+    /// rest is as in `from_value`.
+    pub fn from_value_by<S: Semantics>(
+        x: IeeeFloat<S>,
+        mode: ConversionRound,
+        nans: NanResult,
+        loses_info: &mut bool,
+    ) -> StatusAnd<Self> {
+        answered(library::StoredFloat::from_value_by(x.plain(), mode.given(), nans, loses_info)).map(StoredFloat)
+    }
+}
+
+/// The conversions by more modes of those that have a NaN: the type, and the library's function.
+macro_rules! stored_by {
+    ($($(#[$attribute:meta])* $name:ident: $function:path;)*) => {$(
+        impl $name {
+            /// A value of any format, rounded once in a mode of conversions, with the flags of that rounding. The rest
+            /// is as in `from_value`.
+            $(#[$attribute])*
+            pub fn from_value_by<S: Semantics>(
+                x: IeeeFloat<S>,
+                mode: ConversionRound,
+                loses_info: &mut bool,
+            ) -> StatusAnd<Self> {
+                answered($function(x.plain(), mode.given(), loses_info)).map($name)
+            }
+        }
+    )*};
+}
+
+stored_by! {
+    /// Past the largest scale the result is the NaN for random digits, and that scale to odd.
+    E8M0FNU: library::E8M0FNU::from_value_by;
+    /// Past the largest number the result is the NaN for random digits, and that number to odd.
+    UE4M3: library::stochastic::unsigned_by;
+    /// Past 15.5 the result is the infinity for random digits, and 15.5 to odd.
+    Float8E3M4: library::stochastic::e3m4_by;
+}
+
 /// The calls that all of them have: their types, with the words on codes and on conversions.
 macro_rules! stored {
     ($(
@@ -249,6 +302,35 @@ macro_rules! stored {
             #[inline]
             pub fn convert_r<T: Semantics>(self, round: Round, loses_info: &mut bool) -> StatusAnd<IeeeFloat<T>> {
                 answered(self.0.convert_r::<FlaggedS<T>>(round, loses_info)).map(IeeeFloat::of)
+            }
+        }
+
+        impl $(<$format: StorageFormat>)? $name $(<$format>)? {
+            /// The value in a format that has it, with all calls of [`Float`](crate::Float) but those of bits.
+            #[inline]
+            pub fn number(self) -> IeeeFloat<NumberS> {
+                self.convert_r(Round::NearestTiesToEven, &mut false).value
+            }
+        }
+
+        impl $(<$format: StorageFormat>)? PartialEq for $name $(<$format>)? {
+            #[inline]
+            fn eq(&self, other: &Self) -> bool {
+                self.number() == other.number()
+            }
+        }
+
+        impl $(<$format: StorageFormat>)? PartialOrd for $name $(<$format>)? {
+            #[inline]
+            fn partial_cmp(&self, other: &Self) -> Option<Ordering> {
+                self.number().partial_cmp(&other.number())
+            }
+        }
+
+        impl $(<$format: StorageFormat>)? fmt::Display for $name $(<$format>)? {
+            /// The decimal of the value, as one of `NumberS` is written.
+            fn fmt(&self, f: &mut fmt::Formatter<'_>) -> fmt::Result {
+                fmt::Display::fmt(&self.number(), f)
             }
         }
 

@@ -1,6 +1,6 @@
 //! Explains a computation: `explain FORMAT OP MODE A [B [C]]` shows the operands, the two neighbours of the exact
 //! result, its place between them, which of them the mode picks, and the flags; `explain FORMAT A` shows a value. With
-//! `--machine NAME` the result and the flags are those of a machine.
+//! `--machine NAME` the result and the flags are those of a machine, and `--svg FILE` draws it all into a file.
 //!
 //! `HELP` explains the arguments.
 //!
@@ -17,6 +17,7 @@ mod on_machine;
 mod picture;
 mod question;
 mod run;
+mod svg;
 #[path = "../../words.rs"]
 mod words;
 

@@ -64,6 +64,11 @@ fn write_operands(widths: Widths, count: usize, explanation: &Explanation, out: 
 /// Writes an operand: its value, and how its word was read.
 fn write_operand(widths: Widths, name: &str, operand: &Operand, out: &mut impl Write) -> io::Result<()> {
     write_shown(widths, name, &operand.value, out)?;
+    write_reading(operand, out)
+}
+
+/// Writes how the word of an operand was read.
+pub fn write_reading(operand: &Operand, out: &mut impl Write) -> io::Result<()> {
     match operand.reading {
         Reading::Only => {}
         Reading::Bits => writeln!(out, "        read as bits; a number has a dot or ends in d")?,
@@ -76,7 +81,7 @@ fn write_operand(widths: Widths, name: &str, operand: &Operand, out: &mut impl W
 }
 
 /// The name of an operation.
-fn name_of(operation: Operation) -> &'static str {
+pub fn name_of(operation: Operation) -> &'static str {
     match operation {
         Operation::Value => "value",
         Operation::OfTwo(Arithmetic::Sum) => "sum A + B",
@@ -94,7 +99,7 @@ fn name_of(operation: Operation) -> &'static str {
 }
 
 /// The rule of a rounding mode.
-fn rule_of(round: Round) -> &'static str {
+pub fn rule_of(round: Round) -> &'static str {
     match round {
         Round::NearestTiesToEven => "to nearest, ties to even",
         Round::TowardPositive => "toward positive",
@@ -124,7 +129,7 @@ fn write_head(widths: Widths, name: &str, shown: &Shown, out: &mut impl Write) -
 }
 
 /// Writes the shortest decimal of a number, or the word for another value.
-fn write_decimal(shown: &Shown, out: &mut impl Write) -> io::Result<()> {
+pub fn write_decimal(shown: &Shown, out: &mut impl Write) -> io::Result<()> {
     match shown.decimal {
         Some(decimal) => write!(out, "{decimal}"),
         None => write!(out, "{}{}", sign_of(shown), word_of(shown.meaning)),
@@ -146,7 +151,7 @@ fn word_of(meaning: Meaning) -> &'static str {
 }
 
 /// Writes the lowest `count` digits of a number, in base 2 or 16.
-fn write_digits(number: u128, count: u32, width: u32, out: &mut impl Write) -> io::Result<()> {
+pub fn write_digits(number: u128, count: u32, width: u32, out: &mut impl Write) -> io::Result<()> {
     for place in 0..count {
         let below = (count - 1 - place).saturating_mul(width);
         let digit = number.checked_shr(below).unwrap_or(0) % (1 << width.min(4));
@@ -167,7 +172,7 @@ fn write_fields(widths: Widths, bits: u128, out: &mut impl Write) -> io::Result<
 }
 
 /// Writes what a value is exactly.
-fn write_meaning(shown: &Shown, out: &mut impl Write) -> io::Result<()> {
+pub fn write_meaning(shown: &Shown, out: &mut impl Write) -> io::Result<()> {
     let sign = sign_of(shown);
     match shown.meaning {
         Meaning::Zero => write!(out, "{sign}0"),
@@ -237,7 +242,7 @@ fn write_place(widths: Widths, round: Round, place: &Place, in_colour: bool, out
 }
 
 /// Writes an exact result, or its first binary digits if it has more than 125.
-fn write_exact(exact: &Exact, out: &mut impl Write) -> io::Result<()> {
+pub fn write_exact(exact: &Exact, out: &mut impl Write) -> io::Result<()> {
     let sign = if exact.negative { "-" } else { "" };
     let more = if exact.is_cut { "a little more than " } else { "" };
     match exact.digits {
@@ -310,7 +315,7 @@ fn write_point(grid: Grid, code: u8, index: u8, negative: bool, out: &mut impl W
 }
 
 /// Writes which neighbour is the result, and why.
-fn write_pick(round: Round, between: &Between, out: &mut impl Write) -> io::Result<()> {
+pub fn write_pick(round: Round, between: &Between, out: &mut impl Write) -> io::Result<()> {
     let place = match between.side {
         Side::Lower => "below the middle",
         Side::Middle => "exactly in the middle",
@@ -334,7 +339,7 @@ fn reason_of(round: Round, side: Side) -> &'static str {
 }
 
 /// Writes the flags, each with the clause of IEEE 754-2019 that defines it.
-fn write_flags(status: Status, in_colour: bool, out: &mut impl Write) -> io::Result<()> {
+pub fn write_flags(status: Status, in_colour: bool, out: &mut impl Write) -> io::Result<()> {
     if status.is_empty() {
         return writeln!(out, "flags   none");
     }

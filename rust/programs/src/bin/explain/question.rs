@@ -7,8 +7,8 @@ use crate::grid::Element;
 
 /// The help; `packaging/manual` makes the man page and the completions of it.
 pub const HELP: &str = "\
-usage: explain [--machine NAME] FORMAT OP MODE A [B [C]]
-       explain [--machine NAME] FORMAT A
+usage: explain [--machine NAME] [--svg FILE] FORMAT OP MODE A [B [C]]
+       explain [--machine NAME] [--svg FILE] FORMAT A
        explain --help | --version
 
 Shows how an operation in the format FORMAT gets its result, or what the value
@@ -37,6 +37,7 @@ a word could have been either, the output says how it was read.
                 flags: x86 x87 arm arm_default_nan arm_alternate risc_v power
                 s390x; in half single double quad bfloat e5m2 x87. A value is
                 the same on each machine
+--svg FILE      draws it into FILE, in SVG, and writes nothing else
 
 --help, -h  writes this text
 --version   writes the name and the version of the program
@@ -48,6 +49,7 @@ not enough memory for them, and 1 if a write fails.
     explain double add even 0.1 0.2
     explain half 3c00
     explain --machine arm single add even 7fc00001 ff800002
+    explain --svg sum.svg double add even 0.1 0.2
 ";
 
 /// The words of the operations.
@@ -55,7 +57,7 @@ pub static OPERATIONS: &[&str] =
     &["add", "sub", "mul", "div", "rem", "mod", "fma", "sqrt", "e2m1fn", "e2m3fn", "e3m2fn"];
 
 /// The options.
-pub static OPTIONS: &[&str] = &["--help", "-h", "--machine", "--version"];
+pub static OPTIONS: &[&str] = &["--help", "-h", "--machine", "--svg", "--version"];
 
 /// The words of the machines.
 pub static MACHINES: &[&str] = &["x86", "x87", "arm", "arm_default_nan", "arm_alternate", "risc_v", "power", "s390x"];
@@ -127,6 +129,8 @@ impl Operation {
 pub struct Question<'a> {
     /// The machine and its word, if the result is to be that of a machine.
     pub machine: Option<(Machine, &'a str)>,
+    /// The file that it is drawn into.
+    pub svg: Option<&'a str>,
     /// The word of the format.
     pub format_word: &'a str,
     /// The format.
@@ -165,23 +169,31 @@ pub enum Fault<'a> {
 impl<'a> Question<'a> {
     /// The question that these words ask, or the first fault.
     pub fn named(words: &'a [String]) -> Result<Question<'a>, Fault<'a>> {
-        let [word, rest @ ..] = words else {
-            return Err(Fault::TooFew);
-        };
-        if word != "--machine" {
-            return if word.starts_with('-') { Err(Fault::Option(word)) } else { Question::asked(None, words) };
-        }
-        let [name, rest @ ..] = rest else {
-            return Err(Fault::TooFew);
-        };
-        match machine_named(name) {
-            Some(machine) => Question::asked(Some((machine, name)), rest),
-            None => Err(Fault::Machine(name)),
+        let (mut machine, mut svg, mut rest) = (None, None, words);
+        loop {
+            let (option, after) = rest.split_first().ok_or(Fault::TooFew)?;
+            if !option.starts_with('-') {
+                return Question::asked(machine, svg, rest);
+            }
+            if !matches!(option.as_str(), "--machine" | "--svg") {
+                return Err(Fault::Option(option));
+            }
+            let (name, after) = after.split_first().ok_or(Fault::TooFew)?;
+            if option == "--svg" {
+                svg = Some(name.as_str());
+            } else {
+                machine = Some((machine_named(name).ok_or(Fault::Machine(name))?, name.as_str()));
+            }
+            rest = after;
         }
     }
 
     /// The question that the words after the options ask, or the first fault.
-    fn asked(machine: Option<(Machine, &'a str)>, words: &'a [String]) -> Result<Question<'a>, Fault<'a>> {
+    fn asked(
+        machine: Option<(Machine, &'a str)>,
+        svg: Option<&'a str>,
+        words: &'a [String],
+    ) -> Result<Question<'a>, Fault<'a>> {
         if words.len() < 2 || words.len() == 3 {
             return Err(Fault::TooFew);
         }
@@ -192,6 +204,7 @@ impl<'a> Question<'a> {
         if words.len() == 2 {
             return Ok(Question {
                 machine,
+                svg,
                 format_word,
                 format,
                 operation: Operation::Value,
@@ -217,7 +230,7 @@ impl<'a> Question<'a> {
         if operands.len() > operation.operand_count() {
             return Err(Fault::TooMany);
         }
-        Ok(Question { machine, format_word, format, operation, round, operands })
+        Ok(Question { machine, svg, format_word, format, operation, round, operands })
     }
 }
 

@@ -2,9 +2,12 @@
 
 use crate::compute::Computation;
 use crate::erased::commands::{About, FORMATS, MODES, WrongWord, suggested, write_fault};
+use crate::explanation::Explanation;
 use crate::picture::write_explanation;
 use crate::question::{Fault, HELP, MACHINES, OPERATIONS, OPTIONS, Question};
-use std::io::{self, ErrorKind, Write};
+use crate::svg::write_svg;
+use std::fs::File;
+use std::io::{self, BufWriter, ErrorKind, Write};
 
 const PROGRAM: &str = "explain";
 
@@ -49,11 +52,26 @@ fn answer(words: &[String], in_colour: bool, out: &mut impl Write, err: &mut imp
     };
     let computation = Computation { question };
     match question.format.run(computation) {
-        Ok(explanation) => {
-            write_explanation(question, &explanation, in_colour, out)?;
-            Ok(0)
-        }
+        Ok(explanation) => match question.svg {
+            Some(name) => draw(question, &explanation, name, err),
+            None => write_explanation(question, &explanation, in_colour, out).map(|()| 0),
+        },
         Err(word) => refuse(Fault::Value(word), err),
+    }
+}
+
+/// Draws an explanation into a file.
+fn draw(question: Question, explanation: &Explanation, name: &str, err: &mut impl Write) -> io::Result<u8> {
+    let drawn = File::create(name).map(BufWriter::new).and_then(|mut file| {
+        write_svg(question, explanation, &mut file)?;
+        file.flush()
+    });
+    match drawn {
+        Ok(()) => Ok(0),
+        Err(error) => {
+            writeln!(err, "explain: {name}: {error}")?;
+            Ok(FAILED)
+        }
     }
 }
 
