@@ -332,6 +332,62 @@ uint32_t apfloat_integral(uint32_t format, uint32_t mode, apfloat_halves x, apfl
 uint32_t apfloat_to_format(uint32_t operation, uint32_t format, uint32_t mode, uint32_t target, apfloat_halves x,
                            apfloat_halves y, apfloat_halves z, apfloat_answer *answer);
 
+/* ---- digits and formats
+ *
+ * Texts and digits of values, and what a format is. */
+
+/* The value of a text as apfloat_parse_decimal reads it, also in formats with APFLOAT_IEEE_FLAGS: 1e39 toward zero as an
+ * APFLOAT_SINGLE with it raises APFLOAT_OVERFLOW. */
+uint32_t apfloat_read_decimal(uint32_t format, uint32_t mode, const uint8_t *text, size_t length,
+                              apfloat_answer *answer);
+
+/* The decimal digits of x, rounded once to as many as there is room for: all of `digits` is written, in ASCII, the first
+ * digit not 0, zeros at the end too. The number is d.ddd.. times 10 to the power of `number`; its sign is that of x.
+ * APFLOAT_INEXACT is raised if it is not x. `bits` is how many digits were written: of a zero, an infinity or a NaN
+ * none, and *digits is unchanged. APFLOAT_WRONG_LENGTH says that there is no room for a digit. What is said of `results`
+ * below holds of `digits` and `text`. APFLOAT_DOUBLE_PAIR has none of these functions. */
+uint32_t apfloat_write_digits(uint32_t format, uint32_t mode, apfloat_halves x, uint8_t *digits, size_t length,
+                              apfloat_answer *answer);
+
+/* `bits` is how many decimal digits x has, from the first one to the last one that is not 0, so many that
+ * apfloat_write_digits writes them without rounding: at most 767 in APFLOAT_DOUBLE, 11563 in APFLOAT_QUAD; 0 for a zero,
+ * an infinity and a NaN. */
+uint32_t apfloat_digit_count(uint32_t format, apfloat_halves x, apfloat_answer *answer);
+
+/* The hexadecimal text of x at the start of `text`, without a zero after it: -0x1.8p-1, 0x1p-1074, 0x0p0, inf, snan and,
+ * with a payload, nan0x2a. The first digit is 1, of subnormal numbers too. `bits` is its length, at most 45, and
+ * APFLOAT_WRONG_LENGTH says that it has no room. apfloat_parse reads it back. The bytes after it are unchanged. */
+uint32_t apfloat_write_hex(uint32_t format, apfloat_halves x, uint8_t *text, size_t length, apfloat_answer *answer);
+
+/* The same with `places` digits after the dot, to which the number is rounded once, with the flags of that, and without
+ * payloads. APFLOAT_WRONG_LENGTH also says that `places` is above 31. */
+uint32_t apfloat_write_hex_rounded(uint32_t format, uint32_t mode, uint32_t places, apfloat_halves x, uint8_t *text,
+                                   size_t length, apfloat_answer *answer);
+
+/* Which NaNs a format has. */
+#define APFLOAT_NANS_WITH_PAYLOADS UINT32_C(0) /* quiet and signaling ones */
+#define APFLOAT_NAN_OF_EACH_SIGN UINT32_C(1)   /* one alone */
+#define APFLOAT_NAN_FOR_NEGATIVE_ZERO UINT32_C(2) /* one alone, whose bits are those of -0 elsewhere */
+
+/* What a format is. */
+typedef struct apfloat_facts {
+    apfloat_halves largest;         /* the bits of the largest number */
+    apfloat_halves smallest_normal; /* of the smallest normal number */
+    apfloat_halves smallest;        /* of the smallest number above zero */
+    uint32_t bits;                  /* the width of a value */
+    uint32_t bytes;                 /* that a value takes in an array */
+    uint32_t precision;             /* the binary digits of a normal number, with the first one */
+    int32_t least_exponent;         /* of the smallest normal number */
+    int32_t greatest_exponent;      /* of the largest number */
+    uint32_t decimal_digits;        /* with so many, each number is read back as it was */
+    uint32_t has_infinities;        /* 1 or 0 */
+    uint32_t nans;                  /* one of the above */
+} apfloat_facts;
+
+/* The rule of flags of the code makes no difference. APFLOAT_DOUBLE_PAIR is no format. On an error, *facts is unchanged;
+ * the rules for `answer` hold for `facts` too. */
+uint32_t apfloat_format_facts(uint32_t format, apfloat_facts *facts);
+
 /* ---- machines
  *
  * What a processor delivers where IEEE 754 leaves a choice or is not followed: the NaN, its sign and its payload, the

@@ -1744,6 +1744,18 @@ expected<value<F>> parse_hexadecimal(std::string_view text, gather &with) noexce
     return detail::joined(parse_hexadecimal<F>(text, with.mode()), with);
 }
 
+/// The value of a text, rounded once: a decimal, in every format, also with the flags of IEEE 754-2019, or what
+/// `parse_hexadecimal` reads.
+template <class F>
+expected<result<value<F>>> read_decimal(std::string_view text, rounding mode = rounding::nearest_even) noexcept {
+    return detail::read<F>(apfloat_read_decimal, text, mode);
+}
+/// The value alone; its flags are joined to those of the gather. An error joins none.
+template <class F>
+expected<value<F>> read_decimal(std::string_view text, gather &with) noexcept {
+    return detail::joined(read_decimal<F>(text, with.mode()), with);
+}
+
 template <class F>
 expected<result<value<F>>> value<F>::from_text(std::string_view text, rounding mode) noexcept {
     return parse<F>(text, mode);
@@ -1839,6 +1851,66 @@ text shortest_text(const value<F> &x) noexcept {
     const std::uint32_t code = apfloat_shortest(F::code, x.halves(), &written);
     if (code != APFLOAT_ANSWERED) detail::refuse(static_cast<errc>(code));
     return text(written);
+}
+
+// ---- digits of any count
+
+/// Digits that were written: how many, and the exponent of ten of the first one.
+struct written_digits {
+    std::size_t count;
+    int exponent;
+};
+
+/// Writes the decimal digits of x, rounded once to as many as there is room for, which is at least one: all of the room
+/// is written, the first digit is not 0, and the sign is that of x. Of a zero, an infinity or a NaN none are written.
+template <class F>
+result<written_digits> write_digits(const value<F> &x, char *digits, std::size_t room,
+                                    rounding mode = rounding::nearest_even) noexcept {
+    static_assert(!F::is_pair, "pairs of doubles have no digits of any count");
+    const auto answer = detail::answer_of(apfloat_write_digits, F::code, detail::code_of(mode), x.halves(),
+                                          reinterpret_cast<std::uint8_t *>(digits), room);
+    return {{static_cast<std::size_t>(answer.bits.low), answer.number}, flags::of_code(answer.status)};
+}
+
+/// How many decimal digits x has, at most 11563: with so many, `write_digits` does not round. Of a zero, an infinity and
+/// a NaN it is 0.
+template <class F>
+std::size_t digit_count(const value<F> &x) noexcept {
+    static_assert(!F::is_pair, "pairs of doubles have no digits of any count");
+    return static_cast<std::size_t>(detail::answer_of(apfloat_digit_count, F::code, x.halves()).bits.low);
+}
+
+/// The hexadecimal text of x, as in -0x1.8p-1, inf and nan0x2a, which `parse_hexadecimal` reads back.
+template <class F>
+text hexadecimal_text(const value<F> &x) noexcept {
+    static_assert(!F::is_pair, "pairs of doubles have no hexadecimal text");
+    apfloat_text written = {{0}, 0};
+    const auto answer = detail::answer_of(apfloat_write_hex, F::code, x.halves(),
+                                          reinterpret_cast<std::uint8_t *>(written.bytes), sizeof written.bytes);
+    written.length = static_cast<std::uint32_t>(answer.bits.low);
+    return text(written);
+}
+
+/// The same, rounded once to so many digits after the dot, at most 31, and without the payload of a NaN.
+template <class F>
+result<text> hexadecimal_text(const value<F> &x, unsigned places, rounding mode = rounding::nearest_even) noexcept {
+    static_assert(!F::is_pair, "pairs of doubles have no hexadecimal text");
+    apfloat_text written = {{0}, 0};
+    const auto answer =
+        detail::answer_of(apfloat_write_hex_rounded, F::code, detail::code_of(mode), std::uint32_t{places}, x.halves(),
+                          reinterpret_cast<std::uint8_t *>(written.bytes), sizeof written.bytes);
+    written.length = static_cast<std::uint32_t>(answer.bits.low);
+    return {text(written), flags::of_code(answer.status)};
+}
+
+/// What a format is, as apfloat.h says at apfloat_facts.
+template <class F>
+apfloat_facts facts_of() noexcept {
+    static_assert(!F::is_pair, "pairs of doubles are no format");
+    apfloat_facts facts = {{0, 0}, {0, 0}, {0, 0}, 0, 0, 0, 0, 0, 0, 0, 0};
+    const std::uint32_t code = apfloat_format_facts(F::code, &facts);
+    if (code != APFLOAT_ANSWERED) detail::refuse(static_cast<errc>(code));
+    return facts;
 }
 
 /// A text that reads back as x: a whole number below 10^16 in full, as in 65504.0, and any other number as its shortest

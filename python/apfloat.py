@@ -230,7 +230,10 @@ def _parameters() -> dict[str, list[Any]]:
         **dict.fromkeys(('compare_predicate', 'extremum'), [code, code, code, _Halves, _Halves, answer]),
         'to_format': [code, code, code, code, _Halves, _Halves, _Halves, answer],
         'machine': [code, code, code, code, code, _Halves, _Halves, _Halves, answer],
-        **dict.fromkeys(('parse', 'parse_decimal'), [code, code, *text, answer]),
+        **dict.fromkeys(('parse', 'read_decimal'), [code, code, *text, answer]),
+        'write_digits': [code, code, _Halves, *array, answer],
+        'digit_count': [code, _Halves, answer],
+        'write_hex_rounded': [code, code, code, _Halves, *array, answer],
         'shortest': [code, _Halves, ctypes.POINTER(_Text)],
         'error_text': [code, ctypes.POINTER(_Text)],
         'convert_array': [code, code, code, *array * 2, ctypes.POINTER(_ArrayAnswer)],
@@ -466,12 +469,7 @@ class Format:
 
     def _fromdecimal(self, text: str) -> Value:
         """The value of a decimal or of any text that `fromhex` reads, rounded once."""
-        if not self.code & _IEEE_FLAGS:
-            return self._read('parse_decimal', text)
-        # The library reads decimals with the plain flags alone. It decides here whether the text has a meaning.
-        with Context(context().mode):
-            self._plain._read('parse_decimal', text)
-        return self.fromhex(_rounded_to_odd(text.strip()))
+        return self._read('read_decimal', text)
 
     def __call__(self, of: Any) -> Value:
         """The value of a text, an integer, a float, a fraction or a value, rounded once in the mode of the context.
@@ -1357,13 +1355,39 @@ class Value(_Arithmetic[Number]):
         high, low = double.from_bits(self.bits & (1 << 64) - 1), double.from_bits(self.bits >> 64)
         return [high, low] if low.bits else [high]
 
-    def hex(self) -> str:
-        """The value as a hexadecimal text that its format reads exactly.
+    def hex(self, places: int | None = None) -> str:
+        """The value as a hexadecimal text that its format reads exactly, or rounded once to so many digits after the
+        dot, at most 31, without the payload of a NaN.
 
         >>> single(1).hex(), half('-inf').hex(), half.from_bits(0x7e01).hex()
         ('0x1p+0', '-inf', 'nan(0x1)')
+        >>> with Context() as context:
+        ...     double(0.1).hex(3), context
+        ('0x1.99ap-4', Context(mode=NEAREST_EVEN, flags=INEXACT))
         """
-        return ' + '.join(_hexadecimal(part) for part in self._parts())
+        if places is None:
+            return ' + '.join(_hexadecimal(part) for part in self._parts())
+        text = ctypes.create_string_buffer(_HEXADECIMAL_ROOM)
+        answer = _call('write_hex_rounded', self.format.code, context().mode, operator.index(places),
+                       _halves(self.bits), text, len(text))
+        return text.raw[:_whole(answer.bits)].decode()
+
+    def digits(self, count: int | None = None) -> tuple[str, int]:
+        """The decimal digits of a number, all or rounded once to so many, and the exponent of ten of the first one.
+
+        A zero, an infinity and a NaN have none.
+
+        >>> half('0.1').digits(), quad('-1e-4900').digits(3), single(0).digits()
+        (('999755859375', -2), ('100', -4900), ('', 0))
+        """
+        known, bits = self.format.code, _halves(self.bits)
+        if count is None:
+            count = _whole(_answered('digit_count', known, bits).bits)
+        elif operator.index(count) < 1:
+            raise ValueError(f'{count} digits')
+        text = ctypes.create_string_buffer(count)
+        answer = _call('write_digits', known, context().mode, bits, text, count)
+        return text.raw[:_whole(answer.bits)].decode(), answer.number
 
     def as_integer_ratio(self) -> tuple[int, int]:
         """A number as a quotient of two integers in lowest terms.
@@ -3124,36 +3148,11 @@ def _orders(left: Array, right: Any) -> Iterable[int | None]:
     return (first._order(second) for first, second in zip(map(left._element, left._items()), numbers))
 
 
+# No hexadecimal text that the library writes is longer.
+_HEXADECIMAL_ROOM = 45
 _HEXADECIMAL = re.compile('(-?)0x([01])(?:[.]([0-9a-f]+))?p([+-][0-9]+)')
-_DECIMAL = re.compile('([+-]?)([0-9]*)[.]?([0-9]*)(?:[eE]([+-]?)([0-9]+))?')
-# The midpoints between values of `quad` have at most 11,564 decimal digits, and all its values are in this range.
-_MOST_DIGITS, _GREATEST_POWER = 12_000, 5_000
-
-
-def _rounded_to_odd(text: str) -> str:
-    """A decimal text as a hexadecimal one of 120 binary digits or more, rounded to odd; other texts as they are.
-
-    The last digit is 1 if the decimal is not exactly the number. So rounding it to fewer digits, at most 118, gives
-    what rounding the decimal gives, with the same flags.
-    """
-    matched = _DECIMAL.fullmatch(text)
-    if not matched:
-        return text
-    sign, whole, fraction, exponent_sign, exponent = matched.groups(default='')
-    sign = sign.replace('+', '')
-    digits = (whole + fraction).lstrip('0')
-    if not digits:
-        return f'{sign}0x0p0'
-    # No text has so many digits that they bring an exponent of more than 20 digits back into range.
-    power = int(exponent_sign + (exponent.lstrip('0')[:21] or '0')) - len(fraction)
-    above = len(digits) + power
-    if abs(above) > _GREATEST_POWER:
-        return f'{sign}0x1p{99999 if above > 0 else -99999}'
-    cut = digits[_MOST_DIGITS:]
-    if cut:
-        # One digit stands for those that are cut off: no midpoint lies between the two numbers.
-        digits, power = digits[:_MOST_DIGITS] + ('1' if cut.strip('0') else '0'), power + len(cut) - 1
-    return _odd(sign, int(decimal.Decimal(digits)) * 10**max(power, 0), 10**max(-power, 0))
+# The values of `quad` have at most 11,563 decimal digits.
+_MOST_DIGITS = 12_000
 
 
 def _odd(sign: str, numerator: int, denominator: int) -> str:

@@ -609,6 +609,27 @@ void check_machines() {
 }
 
 // The operations of IEEE 754-2019; their rows are checked in C and Python.
+void check_digits() {
+    const auto read = read_decimal<ieee<binary32>>("1e39", rounding::toward_zero);
+    CHECK(read && read->value.bits() == 0x7f7fffff && read->status == (flag::overflow | flag::inexact));
+    CHECK(read_decimal<binary64>("0.1")->value == number(0.1) && !read_decimal<ieee<binary32>>("1e"));
+    char digits[] = "#####";
+    auto written = write_digits(number(0.1), digits, 5);
+    CHECK(std::string_view(digits) == "10000" && written.value.count == 5 && written.value.exponent == -1);
+    CHECK(written.status == flag::inexact);
+    written = write_digits(number(-0.0), digits, 5);
+    CHECK(written.value.count == 0 && written.value.exponent == 0 && written.status.none());
+    // 0.1 as a double has the digits 1000000000000000055511151231257827021181583404541015625.
+    CHECK(digit_count(number(0.1)) == 55 && digit_count(number(0.0)) == 0);
+    CHECK(hexadecimal_text(number(-0.75)).view() == "-0x1.8p-1");
+    CHECK(hexadecimal_text(value<binary16>::from_bits(0x7e01)).view() == "nan0x1");
+    CHECK(hexadecimal_text(number(0.1), 3).value.view() == "0x1.99ap-4");
+    CHECK(hexadecimal_text(number(0.1), 3).status == flag::inexact);
+    const auto facts = facts_of<binary64>();
+    CHECK(facts.decimal_digits == 17 && facts.greatest_exponent == 1023 && facts.nans == APFLOAT_NANS_WITH_PAYLOADS);
+    CHECK(facts.largest.low == UINT64_C(0x7fefffffffffffff) && facts.smallest.low == 1 && facts.bytes == 8);
+}
+
 void check_operations() {
     const auto quiet = single::from_bits(0x7fc00001), signaling = single::from_bits(0x7f800003), one = single(1.0f);
     const auto is_less = holds(predicate::less, on_nan::quiet, quiet, one);
@@ -662,6 +683,7 @@ int main(int count, char **) {
     check_errors();
     check_literals();
     check_texts();
+    check_digits();
     check_hashes();
     check_arrays();
     check_stored_arrays();

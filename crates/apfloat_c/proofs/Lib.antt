@@ -11,3 +11,6 @@ pub mod MachineOnce
 pub mod OperationTables
 pub mod NormalElements
 pub mod DecimalReadings
+pub mod FlaggedReadings
+pub mod FactsOnce
+pub mod DigitsOnce

@@ -103,9 +103,9 @@ fn decimal_kind(kind: FlaggedKind) -> Option<BuiltInKind>
 
 /// A text to be read.
 #[derive(Clone, Copy)]
-struct DecimalReading<'a> {
-    round: Round,
-    text: &'a [u8],
+pub(crate) struct DecimalReading<'a> {
+    pub round: Round,
+    pub text: &'a [u8],
 }
 
 impl FillsInFormat for DecimalReading<'_> {
@@ -152,7 +152,7 @@ fn has_quad_exponents<S: Flagged>() -> bool
 }
 
 /// Reads a text as a pair of doubles.
-fn read_pair(answer: &mut Answer, round: Round, text: &[u8]) -> u32
+pub(crate) fn read_pair(answer: &mut Answer, round: Round, text: &[u8]) -> u32
     ensures { IsReadInto of_pairs round text.now answer.old answer.new result }
 {
     match read_decimal_pair_ascii(text, round) {

@@ -1,0 +1,189 @@
+/* Calls for digits, decimals with flags and formats from C, for the rows of tests/c/texts, which evidence/text_rows.py
+ * computes, and compares each field of what is left. A row has tabs between its columns:
+ *
+ *   facts        FORMAT  LARGEST  SMALLEST_NORMAL  SMALLEST, and the other fields in their order
+ *   read         FORMAT  MODE  TEXT  BITS  FLAGS, or ParseError and the flags -
+ *   count        FORMAT  BITS  COUNT
+ *   digits       FORMAT  MODE  COUNT  BITS  DIGITS, or - if there are none, EXPONENT  FLAGS
+ *   hex          FORMAT  BITS  TEXT
+ *   hex_rounded  FORMAT  MODE  PLACES  BITS  TEXT  FLAGS
+ *
+ * The program prints each row that differs, and how many agree. By hand, at the top of the repository, after `rt lib` in
+ * crates/apfloat_c:
+ *
+ *   cc -std=c99 -Wall -Wextra -O2 -Iinclude tests/c/check_texts.c crates/apfloat_c/out/libapfloat_c.a -o check
+ *   ./check < tests/c/texts */
+#include "apfloat.h"
+#include "rows.h"
+
+#include <stdbool.h>
+#include <stdio.h>
+#include <stdlib.h>
+#include <string.h>
+
+enum { COLUMNS = 13, LINE = 1 << 12, ROOM = 1 << 10 };
+
+/* Bytes that no call left as they are. */
+static uint8_t room[ROOM];
+
+/* Whether the room has this text, and nothing after it. */
+static bool has_room(const char *text) {
+    size_t length = strlen(text);
+    for (size_t i = length; i < ROOM; i++)
+        if (room[i] != '#') return false;
+    return memcmp(room, text, length) == 0;
+}
+
+static bool is_unchanged(const apfloat_answer *answer) {
+    return memcmp(answer, &before, sizeof before) == 0 && has_room("");
+}
+
+/* Whether an answer has a count, flags and an exponent. */
+static bool is_counted(const apfloat_answer *answer, uint64_t count, uint32_t status, long number) {
+    return answer->bits.low == count && answer->bits.high == 0 && answer->status == status && answer->number == number;
+}
+
+static bool has_bits(apfloat_halves given, const char *word) {
+    apfloat_halves bits;
+    return read_integer(word, 16, &bits) && bits.low == given.low && bits.high == given.high;
+}
+
+static bool are_facts(char *columns[]) {
+    apfloat_facts facts;
+    memset(&facts, 0xa5, sizeof facts);
+    if (apfloat_format_facts(format_of(columns[1]), &facts) != APFLOAT_ANSWERED) return false;
+    const long fields[] = {facts.bits,           facts.bytes,          facts.precision, facts.least_exponent,
+                           facts.greatest_exponent, facts.decimal_digits, facts.has_infinities, facts.nans};
+    for (size_t i = 0; i < COUNT(fields); i++)
+        if (fields[i] != atol(columns[5 + i])) return false;
+    return has_bits(facts.largest, columns[2]) && has_bits(facts.smallest_normal, columns[3]) &&
+           has_bits(facts.smallest, columns[4]);
+}
+
+static bool is_read(char *columns[]) {
+    apfloat_answer answer = before;
+    uint32_t format = format_of(columns[1]), mode = code_of(modes, COUNT(modes), columns[2]), status;
+    uint32_t code = apfloat_read_decimal(format, mode, (const uint8_t *)columns[3], strlen(columns[3]), &answer);
+    if (strcmp(columns[4], "ParseError") == 0)
+        return code == APFLOAT_REFUSED_TEXT && memcmp(&answer, &before, sizeof answer) == 0;
+    return code == APFLOAT_ANSWERED && has_bits(answer.bits, columns[4]) && read_flags(columns[5], &status) &&
+           answer.status == status && answer.number == 0;
+}
+
+static bool is_count(char *columns[]) {
+    apfloat_answer answer = before;
+    apfloat_halves x;
+    return read_integer(columns[2], 16, &x) &&
+           apfloat_digit_count(format_of(columns[1]), x, &answer) == APFLOAT_ANSWERED &&
+           is_counted(&answer, strtoull(columns[3], NULL, 10), 0, 0);
+}
+
+static bool are_digits(char *columns[]) {
+    apfloat_answer answer = before;
+    apfloat_halves x;
+    uint32_t format = format_of(columns[1]), mode = code_of(modes, COUNT(modes), columns[2]), status;
+    size_t count = strtoull(columns[3], NULL, 10);
+    const char *digits = strcmp(columns[5], "-") == 0 ? "" : columns[5];
+    if (!read_integer(columns[4], 16, &x) || !read_flags(columns[7], &status)) return false;
+    if (apfloat_write_digits(format, mode, x, room, count, &answer) != APFLOAT_ANSWERED) return false;
+    if (!has_room(digits) || !is_counted(&answer, strlen(digits), status, atol(columns[6]))) return false;
+    /* Without room, nothing is written. */
+    memset(room, '#', ROOM);
+    answer = before;
+    return *digits == '\0' || (apfloat_write_digits(format, mode, x, room, 0, &answer) == APFLOAT_WRONG_LENGTH &&
+                               is_unchanged(&answer));
+}
+
+static bool is_hex(char *columns[]) {
+    apfloat_answer answer = before;
+    apfloat_halves x;
+    uint32_t format = format_of(columns[1]);
+    size_t length = strlen(columns[3]);
+    if (!read_integer(columns[2], 16, &x)) return false;
+    if (apfloat_write_hex(format, x, room, length - 1, &answer) != APFLOAT_WRONG_LENGTH) return false;
+    if (!is_unchanged(&answer)) return false;
+    return apfloat_write_hex(format, x, room, ROOM, &answer) == APFLOAT_ANSWERED && has_room(columns[3]) &&
+           is_counted(&answer, length, 0, 0);
+}
+
+static bool is_hex_rounded(char *columns[]) {
+    apfloat_answer answer = before;
+    apfloat_halves x;
+    uint32_t format = format_of(columns[1]), mode = code_of(modes, COUNT(modes), columns[2]), status;
+    uint32_t places = (uint32_t)strtoul(columns[3], NULL, 10);
+    size_t length = strlen(columns[5]);
+    if (!read_integer(columns[4], 16, &x) || !read_flags(columns[6], &status)) return false;
+    if (apfloat_write_hex_rounded(format, mode, places, x, room, length - 1, &answer) != APFLOAT_WRONG_LENGTH ||
+        apfloat_write_hex_rounded(format, mode, 32, x, room, ROOM, &answer) != APFLOAT_WRONG_LENGTH ||
+        !is_unchanged(&answer))
+        return false;
+    return apfloat_write_hex_rounded(format, mode, places, x, room, length, &answer) == APFLOAT_ANSWERED &&
+           has_room(columns[5]) && is_counted(&answer, length, status, 0);
+}
+
+/* The errors that no row has, each of which leaves what was there before. */
+static unsigned refusals(void) {
+    const apfloat_halves one = {1, 0};
+    const uint8_t text[] = {'1', '.', '5'};
+    const uint32_t pairs = APFLOAT_DOUBLE_PAIR, single = APFLOAT_SINGLE;
+    apfloat_answer answer = before;
+    apfloat_facts facts, unchanged;
+    memset(&facts, 0xa5, sizeof facts);
+    unchanged = facts;
+    memset(room, '#', ROOM);
+    const uint32_t codes[][2] = {
+        {apfloat_read_decimal(0, 5, text, 3, &answer), APFLOAT_UNKNOWN_FORMAT},
+        {apfloat_read_decimal(pairs | APFLOAT_IEEE_FLAGS, 0, text, 3, &answer), APFLOAT_UNKNOWN_FORMAT},
+        {apfloat_read_decimal(single | APFLOAT_IEEE_FLAGS, 5, text, 3, &answer), APFLOAT_UNKNOWN_MODE},
+        {apfloat_read_decimal(single | APFLOAT_IEEE_FLAGS, 0, text, 0, &answer), APFLOAT_REFUSED_TEXT},
+        {apfloat_write_digits(0, 5, one, room, 3, &answer), APFLOAT_UNKNOWN_FORMAT},
+        {apfloat_write_digits(pairs, 5, one, room, 3, &answer), APFLOAT_UNKNOWN_MODE},
+        {apfloat_write_digits(pairs, 0, one, room, 3, &answer), APFLOAT_NO_SUCH_OPERATION},
+        {apfloat_digit_count(0, one, &answer), APFLOAT_UNKNOWN_FORMAT},
+        {apfloat_digit_count(pairs, one, &answer), APFLOAT_NO_SUCH_OPERATION},
+        {apfloat_write_hex(0, one, room, ROOM, &answer), APFLOAT_UNKNOWN_FORMAT},
+        {apfloat_write_hex(pairs, one, room, ROOM, &answer), APFLOAT_NO_SUCH_OPERATION},
+        {apfloat_write_hex_rounded(0, 5, 2, one, room, ROOM, &answer), APFLOAT_UNKNOWN_FORMAT},
+        {apfloat_write_hex_rounded(pairs, 5, 2, one, room, ROOM, &answer), APFLOAT_UNKNOWN_MODE},
+        {apfloat_write_hex_rounded(pairs, 0, 2, one, room, ROOM, &answer), APFLOAT_NO_SUCH_OPERATION},
+        {apfloat_format_facts(0, &facts), APFLOAT_UNKNOWN_FORMAT},
+        {apfloat_format_facts(pairs, &facts), APFLOAT_NO_SUCH_OPERATION}};
+    unsigned count = 0;
+    for (size_t i = 0; i < COUNT(codes); i++)
+        if (codes[i][0] == codes[i][1] && is_unchanged(&answer) && memcmp(&facts, &unchanged, sizeof facts) == 0)
+            count++;
+    return count;
+}
+
+/* The kinds of rows. */
+static struct {
+    const char *name;
+    size_t columns;
+    bool (*agrees)(char *columns[]);
+    unsigned count;
+} kinds[] = {{"facts", 13, are_facts, 0}, {"read", 6, is_read, 0}, {"count", 4, is_count, 0},
+             {"digits", 8, are_digits, 0}, {"hex", 4, is_hex, 0},  {"hex_rounded", 7, is_hex_rounded, 0}};
+
+/* Counts a row, if it agrees. */
+static bool agrees(char *columns[], size_t count) {
+    memset(room, '#', ROOM);
+    for (size_t i = 0; i < COUNT(kinds); i++)
+        if (strcmp(columns[0], kinds[i].name) == 0 && count == kinds[i].columns && kinds[i].agrees(columns)) {
+            kinds[i].count++;
+            return true;
+        }
+    return false;
+}
+
+int main(void) {
+    static char line[LINE], copy[LINE];
+    while (fgets(line, sizeof line, stdin)) {
+        line[strcspn(line, "\n")] = '\0';
+        strcpy(copy, line);
+        char *columns[COLUMNS];
+        if (!agrees(columns, split(copy, columns, COLUMNS))) printf("differs: %s\n", line);
+    }
+    for (size_t i = 0; i < COUNT(kinds); i++) printf("%s: %u rows agree\n", kinds[i].name, kinds[i].count);
+    printf("%u errors agree\n", refusals());
+    return 0;
+}
