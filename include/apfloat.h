@@ -332,9 +332,9 @@ uint32_t apfloat_integral(uint32_t format, uint32_t mode, apfloat_halves x, apfl
 uint32_t apfloat_to_format(uint32_t operation, uint32_t format, uint32_t mode, uint32_t target, apfloat_halves x,
                            apfloat_halves y, apfloat_halves z, apfloat_answer *answer);
 
-/* ---- digits and formats
+/* ---- digits, pairs of doubles and formats
  *
- * Texts and digits of values, and what a format is. */
+ * Texts and digits of values, conversions and fused sums of pairs, and what a format is. */
 
 /* The value of a text as apfloat_parse_decimal reads it, also in formats with APFLOAT_IEEE_FLAGS: 1e39 toward zero as an
  * APFLOAT_SINGLE with it raises APFLOAT_OVERFLOW. */
@@ -363,6 +363,21 @@ uint32_t apfloat_write_hex(uint32_t format, apfloat_halves x, uint8_t *text, siz
  * payloads. APFLOAT_WRONG_LENGTH also says that `places` is above 31. */
 uint32_t apfloat_write_hex_rounded(uint32_t format, uint32_t mode, uint32_t places, apfloat_halves x, uint8_t *text,
                                    size_t length, apfloat_answer *answer);
+
+/* Pairs of doubles, APFLOAT_DOUBLE_PAIR. In the modes and with the errors of apfloat_convert: a pair in `format`, that is
+ * the exact sum of its parts, rounded once (if the high part is a zero, an infinity or a NaN, it is converted alone); and
+ * a value of `format` as a pair, rounded once to 106 binary digits, and split into two doubles. */
+uint32_t apfloat_pair_to_format(uint32_t format, uint32_t mode, apfloat_halves x, apfloat_answer *answer);
+uint32_t apfloat_pair_from_format(uint32_t format, uint32_t mode, apfloat_halves x, apfloat_answer *answer);
+
+/* x * y + z of pairs of doubles: the sums of the parts are first rounded to 106 binary digits, then the exact result is,
+ * once, and split. */
+uint32_t apfloat_pair_fma(uint32_t mode, apfloat_halves x, apfloat_halves y, apfloat_halves z, apfloat_answer *answer);
+
+/* The text of the shortest decimal that apfloat_read_decimal reads as the pair x, in its form that of apfloat_shortest:
+ * of those with as few digits, the nearest to the sum of the parts. APFLOAT_NO_SUCH_OPERATION says that no decimal is
+ * read as it, since its parts are too far apart, or overlap. On an error, *text is unchanged. */
+uint32_t apfloat_pair_shortest(apfloat_halves x, apfloat_text *text);
 
 /* Which NaNs a format has. */
 #define APFLOAT_NANS_WITH_PAYLOADS UINT32_C(0) /* quiet and signaling ones */

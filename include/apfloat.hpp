@@ -362,8 +362,8 @@ struct tf32 : detail::binary<tf32, APFLOAT_TF32, std::uint32_t, 19, 11, -126, 12
                                                                0x3fe00, 0x3fd00, 0x1d400, 0x1f800};
 };
 
-/// Pairs of doubles, IBM's extended double, whose results are not rounded once (apfloat.h says how they are made). The
-/// library for C has no fused sum, no conversion to or from a format, and no shortest decimal of them, and what
+/// Pairs of doubles, IBM's extended double, whose results are not rounded once (apfloat.h says how they are made). Their
+/// fused sums, conversions and shortest decimals have names of their own, `pair_fma` and so on, and what
 /// std::numeric_limits says of them is not all that it says of the other formats.
 struct double_pair : detail::binary<double_pair, APFLOAT_DOUBLE_PAIR, bits128, 128, 106, -969, 1023> {
     static constexpr bool is_pair = true, has_ieee_flags = false;
@@ -379,8 +379,8 @@ struct double_pair : detail::binary<double_pair, APFLOAT_DOUBLE_PAIR, bits128, 1
 };
 
 /// A format whose roundings raise the flags of IEEE 754-2019 7.4 and 7.5, with tininess detected after rounding, as
-/// x86 and RISC-V do. The values and their bits are those of the format; apfloat.h has the rule of the others. These
-/// formats read no decimal texts, only hexadecimal ones.
+/// x86 and RISC-V do. The values and their bits are those of the format; apfloat.h has the rule of the others. Their
+/// decimals are read by `read_decimal`, not by `parse`.
 template <class F>
 struct ieee : F {
     static_assert(F::has_ieee_flags && !F::raises_ieee_flags, "this format has no choice of flags");
@@ -1692,7 +1692,7 @@ expected<result<I>> to_integer_on(machine on, const value<F> &x, rounding mode) 
 // ---- texts
 
 /// The value of a text, rounded once: a decimal, such as -0.1 or 1e-7, or what `parse_hexadecimal` reads. The formats
-/// with the flags of IEEE 754-2019 read no decimals.
+/// with the flags of IEEE 754-2019 read no decimals here.
 template <class F>
 expected<result<value<F>>> parse(std::string_view text, rounding mode = rounding::nearest_even) noexcept;
 
@@ -1911,6 +1911,40 @@ apfloat_facts facts_of() noexcept {
     const std::uint32_t code = apfloat_format_facts(F::code, &facts);
     if (code != APFLOAT_ANSWERED) detail::refuse(static_cast<errc>(code));
     return facts;
+}
+
+// ---- pairs of doubles and formats
+
+/// The exact sum of the parts of a pair, rounded once to a format. A high part that is a zero, an infinity or a NaN is
+/// converted alone.
+template <class F>
+result<value<F>> pair_to_format(const value<double_pair> &x, rounding mode = rounding::nearest_even) noexcept {
+    static_assert(!F::is_pair, "a pair is converted to a format");
+    return detail::result_of<F>(
+        detail::answer_of(apfloat_pair_to_format, F::code, detail::code_of(mode), x.halves()));
+}
+
+/// A value of a format, rounded once to 106 binary digits, and split into two doubles.
+template <class F>
+result<value<double_pair>> pair_from_format(const value<F> &x, rounding mode = rounding::nearest_even) noexcept {
+    static_assert(!F::is_pair, "a pair is made of a value of a format");
+    return detail::result_of<double_pair>(
+        detail::answer_of(apfloat_pair_from_format, F::code, detail::code_of(mode), x.halves()));
+}
+
+/// x * y + z: the sums of the parts are first rounded to 106 binary digits, then the exact result is, once, and split.
+inline result<value<double_pair>> pair_fma(const value<double_pair> &x, const value<double_pair> &y,
+                                           const value<double_pair> &z,
+                                           rounding mode = rounding::nearest_even) noexcept {
+    return detail::result_of<double_pair>(
+        detail::answer_of(apfloat_pair_fma, detail::code_of(mode), x.halves(), y.halves(), z.halves()));
+}
+
+/// The shortest decimal that is read as the pair, to nearest, ties to even; nothing if no decimal is.
+inline std::optional<text> shortest_text_of_pair(const value<double_pair> &x) noexcept {
+    apfloat_text written = {{0}, 0};
+    if (apfloat_pair_shortest(x.halves(), &written) != APFLOAT_ANSWERED) return std::nullopt;
+    return text(written);
 }
 
 /// A text that reads back as x: a whole number below 10^16 in full, as in 65504.0, and any other number as its shortest

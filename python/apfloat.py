@@ -234,6 +234,9 @@ def _parameters() -> dict[str, list[Any]]:
         'write_digits': [code, code, _Halves, *array, answer],
         'digit_count': [code, _Halves, answer],
         'write_hex_rounded': [code, code, code, _Halves, *array, answer],
+        **dict.fromkeys(('pair_to_format', 'pair_from_format'), [code, code, _Halves, answer]),
+        'pair_fma': [code, _Halves, _Halves, _Halves, answer],
+        'pair_shortest': [_Halves, ctypes.POINTER(_Text)],
         'shortest': [code, _Halves, ctypes.POINTER(_Text)],
         'error_text': [code, ctypes.POINTER(_Text)],
         'convert_array': [code, code, code, *array * 2, ctypes.POINTER(_ArrayAnswer)],
@@ -407,6 +410,16 @@ class Format:
             return Value(self, code)
         data, shape = _codes(self, bits)
         return Array(self, data, shape=shape)
+
+    def from_pair(self, pair: Value) -> Value:
+        """The exact sum of the parts of a pair of doubles, rounded once.
+
+        >>> half.from_pair(double_pair(1) / 3), quad.from_pair(double_pair(1)).hex()
+        (half('0.3333'), '0x1p+0')
+        """
+        if pair.format is not double_pair:
+            raise ValueError(f'{pair.format.name} is no pair')
+        return Value(self, _whole(_call('pair_to_format', self.code, context().mode, _halves(pair.bits)).bits))
 
     @property
     def largest(self) -> Value:
@@ -955,7 +968,7 @@ class _Arithmetic(Generic[_Operand]):
         return left._floored(self)
 
     def fma(self, factor: _Operand, addend: _Operand) -> Self:
-        """self * factor + addend, rounded once. Pairs of doubles do not have it.
+        """self * factor + addend, rounded once. Pairs of doubles do not have it, but `pair_fma`.
 
         >>> half.from_bits(0x3c01).fma(half.from_bits(0x3c01), half.from_bits(0xbc02))
         half('9.5e-7')
@@ -1371,6 +1384,38 @@ class Value(_Arithmetic[Number]):
         answer = _call('write_hex_rounded', self.format.code, context().mode, operator.index(places),
                        _halves(self.bits), text, len(text))
         return text.raw[:_whole(answer.bits)].decode()
+
+    def as_pair(self) -> Value:
+        """The value as a pair of doubles, rounded once to 106 binary digits, and split.
+
+        >>> quad('0.1').as_pair()
+        double_pair('0.1 + -5.551115123125783e-18')
+        """
+        answer = _call('pair_from_format', self.format.code, context().mode, _halves(self.bits))
+        return Value(double_pair, _whole(answer.bits))
+
+    def pair_fma(self, factor: Value, addend: Value) -> Value:
+        """self * factor + addend of pairs of doubles: their sums are first rounded to 106 binary digits, then the exact
+        result is, once, and split.
+
+        >>> double_pair(3).pair_fma(double_pair(1) / 3, double_pair(-1))
+        double_pair('0.0')
+        """
+        if any(value.format is not double_pair for value in (self, factor, addend)):
+            raise ValueError('pair_fma takes pairs of doubles')
+        operands = [_halves(value.bits) for value in (self, factor, addend)]
+        return Value(double_pair, _whole(_call('pair_fma', context().mode, *operands).bits))
+
+    def shortest_of_pair(self) -> str | None:
+        """The shortest decimal that is read as a pair of doubles; None if no decimal is.
+
+        >>> double_pair('0.1').shortest_of_pair()
+        '0.1'
+        """
+        text = _Text()
+        if self.format is not double_pair:
+            raise ValueError(f'{self.format.name} is no pair')
+        return None if _functions.apfloat_pair_shortest(_halves(self.bits), ctypes.byref(text)) else text.bytes.decode()
 
     def digits(self, count: int | None = None) -> tuple[str, int]:
         """The decimal digits of a number, all or rounded once to so many, and the exponent of ten of the first one.

@@ -368,6 +368,23 @@ class TextTests(unittest.TestCase):
         with self.assertRaises(ValueError):
             apfloat.half(1).digits(0)
 
+    def test_pairs_and_formats(self):
+        draw = random.Random(10)
+        for _ in range(100):
+            high = draw.uniform(-1, 1) * 2.0**draw.randint(-100, 100)
+            pair = apfloat.double_pair(high) + apfloat.double_pair(math.ulp(high) * draw.uniform(-0.4, 0.4))
+            number = Fraction(*pair.as_integer_ratio())
+            for format in apfloat.half, apfloat.single, apfloat.quad, apfloat.x87.ieee:
+                for mode in MODES:
+                    with Context(mode) as context:
+                        value = format.from_pair(pair)
+                    wanted, flags = rounded(format, number, mode)
+                    self.assertEqual((number_of(value), context.flags), (wanted, flags))
+            self.assertEqual(apfloat.quad.from_pair(pair).as_pair().bits, pair.bits)
+            self.assertEqual(apfloat.double_pair(pair.shortest_of_pair()).bits, pair.bits)
+        with self.assertRaises(ValueError):
+            apfloat.half.from_pair(apfloat.half(1))
+
     def test_hexadecimal_places(self):
         draw = random.Random(9)
         for _ in range(100):

@@ -8,11 +8,18 @@
  *   hex          FORMAT  BITS  TEXT
  *   hex_rounded  FORMAT  MODE  PLACES  BITS  TEXT  FLAGS
  *
+ * and those of tests/rows/pair_operations.tsv are calls on pairs of doubles:
+ *
+ *   convert_r    dd>FORMAT or FORMAT>dd  MODE  BITS  BITS  FLAGS  -
+ *   mul_add_r    dd  MODE  BITS BITS BITS  BITS  FLAGS  -
+ *   shortest     dd  -  BITS  TEXT, or None  -  -
+ *   read_decimal dd  MODE  TEXT  BITS  -  -
+ *
  * The program prints each row that differs, and how many agree. By hand, at the top of the repository, after `rt lib` in
  * crates/apfloat_c:
  *
  *   cc -std=c99 -Wall -Wextra -O2 -Iinclude tests/c/check_texts.c crates/apfloat_c/out/libapfloat_c.a -o check
- *   ./check < tests/c/texts */
+ *   cat tests/c/texts tests/rows/pair_operations.tsv | ./check */
 #include "apfloat.h"
 #include "rows.h"
 
@@ -121,6 +128,63 @@ static bool is_hex_rounded(char *columns[]) {
            has_room(columns[5]) && is_counted(&answer, length, status, 0);
 }
 
+static bool is_converted(char *columns[]) {
+    apfloat_answer answer = before;
+    apfloat_halves x;
+    uint32_t mode = code_of(modes, COUNT(modes), columns[2]), status, code;
+    char *to = strchr(columns[1], '>');
+    if (!to || !read_integer(columns[3], 16, &x) || !read_flags(columns[5], &status)) return false;
+    *to++ = '\0';
+    if (strcmp(to, "dd") == 0)
+        code = apfloat_pair_from_format(format_of(columns[1]), mode, x, &answer);
+    else
+        code = apfloat_pair_to_format(format_of(to), mode, x, &answer);
+    return code == APFLOAT_ANSWERED && has_bits(answer.bits, columns[4]) && answer.status == status &&
+           answer.number == 0;
+}
+
+static bool is_fused_sum(char *columns[]) {
+    apfloat_answer answer = before;
+    apfloat_halves operands[3];
+    uint32_t mode = code_of(modes, COUNT(modes), columns[2]), status;
+    char *word = strtok(columns[3], " ");
+    for (size_t i = 0; i < COUNT(operands); i++, word = strtok(NULL, " "))
+        if (!word || !read_integer(word, 16, &operands[i])) return false;
+    return read_flags(columns[5], &status) &&
+           apfloat_pair_fma(mode, operands[0], operands[1], operands[2], &answer) == APFLOAT_ANSWERED &&
+           has_bits(answer.bits, columns[4]) && answer.status == status && answer.number == 0;
+}
+
+/* Infinities and NaNs have a text, but no decimal. */
+static bool is_shortest(char *columns[]) {
+    apfloat_text text, expected;
+    apfloat_halves x;
+    apfloat_answer class;
+    memset(&text, 'x', sizeof text);
+    expected = text;
+    if (!read_integer(columns[3], 16, &x)) return false;
+    apfloat_classify(APFLOAT_DOUBLE_PAIR, x, &class);
+    uint32_t code = apfloat_pair_shortest(x, &text);
+    const char *word = columns[4];
+    if (strcmp(word, "None") == 0) {
+        if (class.number == APFLOAT_QUIET_NAN || class.number == APFLOAT_SIGNALING_NAN) word = "nan";
+        if (class.number == APFLOAT_NEGATIVE_INFINITY) word = "-inf";
+        if (class.number == APFLOAT_POSITIVE_INFINITY) word = "inf";
+        if (word == columns[4]) return code == APFLOAT_NO_SUCH_OPERATION && memcmp(&text, &expected, sizeof text) == 0;
+    }
+    memset(&expected, 0, sizeof expected);
+    expected.length = (uint32_t)strlen(word);
+    memcpy(expected.bytes, word, expected.length);
+    return code == APFLOAT_ANSWERED && memcmp(&text, &expected, sizeof text) == 0;
+}
+
+static bool is_pair_read(char *columns[]) {
+    apfloat_answer answer = before;
+    uint32_t mode = code_of(modes, COUNT(modes), columns[2]);
+    return apfloat_read_decimal(APFLOAT_DOUBLE_PAIR, mode, (const uint8_t *)columns[3], strlen(columns[3]),
+                                &answer) == APFLOAT_ANSWERED && has_bits(answer.bits, columns[4]);
+}
+
 /* The errors that no row has, each of which leaves what was there before. */
 static unsigned refusals(void) {
     const apfloat_halves one = {1, 0};
@@ -146,6 +210,13 @@ static unsigned refusals(void) {
         {apfloat_write_hex_rounded(0, 5, 2, one, room, ROOM, &answer), APFLOAT_UNKNOWN_FORMAT},
         {apfloat_write_hex_rounded(pairs, 5, 2, one, room, ROOM, &answer), APFLOAT_UNKNOWN_MODE},
         {apfloat_write_hex_rounded(pairs, 0, 2, one, room, ROOM, &answer), APFLOAT_NO_SUCH_OPERATION},
+        {apfloat_pair_to_format(0, 5, one, &answer), APFLOAT_UNKNOWN_FORMAT},
+        {apfloat_pair_to_format(pairs, 5, one, &answer), APFLOAT_UNKNOWN_MODE},
+        {apfloat_pair_to_format(pairs, 0, one, &answer), APFLOAT_NO_SUCH_OPERATION},
+        {apfloat_pair_from_format(0, 5, one, &answer), APFLOAT_UNKNOWN_FORMAT},
+        {apfloat_pair_from_format(pairs, 5, one, &answer), APFLOAT_UNKNOWN_MODE},
+        {apfloat_pair_from_format(pairs, 0, one, &answer), APFLOAT_NO_SUCH_OPERATION},
+        {apfloat_pair_fma(5, one, one, one, &answer), APFLOAT_UNKNOWN_MODE},
         {apfloat_format_facts(0, &facts), APFLOAT_UNKNOWN_FORMAT},
         {apfloat_format_facts(pairs, &facts), APFLOAT_NO_SUCH_OPERATION}};
     unsigned count = 0;
@@ -162,7 +233,9 @@ static struct {
     bool (*agrees)(char *columns[]);
     unsigned count;
 } kinds[] = {{"facts", 13, are_facts, 0}, {"read", 6, is_read, 0}, {"count", 4, is_count, 0},
-             {"digits", 8, are_digits, 0}, {"hex", 4, is_hex, 0},  {"hex_rounded", 7, is_hex_rounded, 0}};
+             {"digits", 8, are_digits, 0}, {"hex", 4, is_hex, 0},  {"hex_rounded", 7, is_hex_rounded, 0},
+             {"convert_r", 7, is_converted, 0}, {"mul_add_r", 7, is_fused_sum, 0},
+             {"shortest", 7, is_shortest, 0}, {"read_decimal", 7, is_pair_read, 0}};
 
 /* Counts a row, if it agrees. */
 static bool agrees(char *columns[], size_t count) {
@@ -179,6 +252,7 @@ int main(void) {
     static char line[LINE], copy[LINE];
     while (fgets(line, sizeof line, stdin)) {
         line[strcspn(line, "\n")] = '\0';
+        if (*line == '#') continue;
         strcpy(copy, line);
         char *columns[COLUMNS];
         if (!agrees(columns, split(copy, columns, COLUMNS))) printf("differs: %s\n", line);

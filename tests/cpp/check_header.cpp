@@ -630,6 +630,20 @@ void check_digits() {
     CHECK(facts.largest.low == UINT64_C(0x7fefffffffffffff) && facts.smallest.low == 1 && facts.bytes == 8);
 }
 
+void check_pairs_and_formats() {
+    // 1 + 2^-60 is no double; its square is 1 + 2^-59 + 2^-120.
+    const auto near_one = pair_of(number(1.0), number(0x1p-60));
+    CHECK(pair_to_format<binary64>(near_one).value == number(1.0));
+    CHECK(pair_to_format<binary64>(near_one).status == flag::inexact);
+    CHECK(pair_to_format<binary64>(near_one, rounding::upward).value == number(0x1.0000000000001p0));
+    const auto quad_one = pair_to_format<binary128>(near_one);
+    CHECK(quad_one.status.none() && pair_from_format(quad_one.value).value == near_one);
+    const auto rest = pair_fma(near_one, near_one, pair_of(number(-1.0)));
+    CHECK(rest.status.none() && high_of(rest.value) == number(0x1p-59) && low_of(rest.value) == number(0x1p-120));
+    CHECK(shortest_text_of_pair(read_decimal<double_pair>("0.1")->value)->view() == "0.1");
+    CHECK(!shortest_text_of_pair(pair_of(number(1.0), number(0x1p-200))));
+}
+
 void check_operations() {
     const auto quiet = single::from_bits(0x7fc00001), signaling = single::from_bits(0x7f800003), one = single(1.0f);
     const auto is_less = holds(predicate::less, on_nan::quiet, quiet, one);
@@ -684,6 +698,7 @@ int main(int count, char **) {
     check_literals();
     check_texts();
     check_digits();
+    check_pairs_and_formats();
     check_hashes();
     check_arrays();
     check_stored_arrays();

@@ -14,3 +14,4 @@ pub mod DecimalReadings
 pub mod FlaggedReadings
 pub mod FactsOnce
 pub mod DigitsOnce
+pub mod PairsOnce

@@ -8,3 +8,4 @@ pub mod OperationTables
 pub mod Readings
 pub mod Facts
 pub mod Digits
+pub mod Pairs

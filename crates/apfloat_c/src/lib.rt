@@ -21,4 +21,5 @@ mod maps;
 mod normal_elements;
 mod one_answer;
 mod operation_tables;
+mod pairs;
 mod readings;
