@@ -379,6 +379,26 @@ uint32_t apfloat_pair_fma(uint32_t mode, apfloat_halves x, apfloat_halves y, apf
  * read as it, since its parts are too far apart, or overlap. On an error, *text is unchanged. */
 uint32_t apfloat_pair_shortest(apfloat_halves x, apfloat_text *text);
 
+/* ---- augmented operations, and payloads of NaNs (IEEE 754-2019 9.5, 9.7)
+ *
+ * Pairs of doubles do not have them. The rule of flags of the code makes no difference. */
+
+/* The sum, the difference or the product of x and y, for the operation APFLOAT_ADD, APFLOAT_SUB or APFLOAT_MUL: the exact
+ * result rounded to nearest, ties toward zero, in `bits`, and in *tail what that leaves of it. Together they are exact,
+ * unless the first one is past the largest value, and so both are the infinity, or the NaN in its place, with
+ * APFLOAT_OVERFLOW and APFLOAT_INEXACT, or a product has digits below the smallest number, and so the tail is rounded in
+ * the same way, with APFLOAT_UNDERFLOW and APFLOAT_INEXACT. If x or y is an infinity or a NaN, both are the result of the
+ * operation, with its flags. On an error, *tail is unchanged too; nothing else reads or writes it during the call. */
+uint32_t apfloat_augmented(uint32_t operation, uint32_t format, apfloat_halves x, apfloat_halves y,
+                           apfloat_halves *tail, apfloat_answer *answer);
+
+/* The payload of the NaN x as an integral value, -1 if x is no NaN; and the positive NaN, quiet or signaling, with the
+ * payload x, or +0 if x is no integer that can be one (a signaling NaN has a payload other than 0). No flag is raised. */
+#define APFLOAT_GET_PAYLOAD UINT32_C(0)
+#define APFLOAT_SET_PAYLOAD UINT32_C(1)
+#define APFLOAT_SET_PAYLOAD_SIGNALING UINT32_C(2)
+uint32_t apfloat_payload(uint32_t operation, uint32_t format, apfloat_halves x, apfloat_answer *answer);
+
 /* Which NaNs a format has. */
 #define APFLOAT_NANS_WITH_PAYLOADS UINT32_C(0) /* quiet and signaling ones */
 #define APFLOAT_NAN_OF_EACH_SIGN UINT32_C(1)   /* one alone */

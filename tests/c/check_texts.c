@@ -15,11 +15,16 @@
  *   shortest     dd  -  BITS  TEXT, or None  -  -
  *   read_decimal dd  MODE  TEXT  BITS  -  -
  *
+ * Those of tests/rows/augmented.tsv, and some of tests/rows/stored, are augmented operations, and payloads of NaNs:
+ *
+ *   augmented_add, augmented_subtract or augmented_multiply  FORMAT  -  BITS BITS  BITS BITS  FLAGS  -
+ *   get_payload, set_payload or set_payload_signaling        FORMAT  -  BITS  BITS  -  -
+ *
  * The program prints each row that differs, and how many agree. By hand, at the top of the repository, after `rt lib` in
  * crates/apfloat_c:
  *
  *   cc -std=c99 -Wall -Wextra -O2 -Iinclude tests/c/check_texts.c crates/apfloat_c/out/libapfloat_c.a -o check
- *   cat tests/c/texts tests/rows/pair_operations.tsv | ./check */
+ *   cat tests/c/texts tests/rows/pair_operations.tsv tests/rows/augmented.tsv | ./check */
 #include "apfloat.h"
 #include "rows.h"
 
@@ -185,12 +190,48 @@ static bool is_pair_read(char *columns[]) {
                                 &answer) == APFLOAT_ANSWERED && has_bits(answer.bits, columns[4]);
 }
 
+/* Two words as bits. */
+static bool are_two(char *words, apfloat_halves bits[2]) {
+    char *second = strchr(words, ' ');
+    if (!second) return false;
+    *second++ = '\0';
+    return read_integer(words, 16, &bits[0]) && read_integer(second, 16, &bits[1]);
+}
+
+static bool is_augmented(char *columns[], uint32_t operation) {
+    apfloat_answer answer = before;
+    apfloat_halves operands[2], results[2], tail = before.bits;
+    uint32_t status;
+    return are_two(columns[3], operands) && are_two(columns[4], results) && read_flags(columns[5], &status) &&
+           apfloat_augmented(operation, format_of(columns[1]), operands[0], operands[1], &tail, &answer) ==
+               APFLOAT_ANSWERED &&
+           memcmp(&answer.bits, &results[0], sizeof tail) == 0 && memcmp(&tail, &results[1], sizeof tail) == 0 &&
+           answer.status == status && answer.number == 0;
+}
+
+static bool is_sum(char *columns[]) { return is_augmented(columns, APFLOAT_ADD); }
+static bool is_difference(char *columns[]) { return is_augmented(columns, APFLOAT_SUB); }
+static bool is_product(char *columns[]) { return is_augmented(columns, APFLOAT_MUL); }
+
+static bool is_payload(char *columns[], uint32_t operation) {
+    apfloat_answer answer = before;
+    apfloat_halves x;
+    return read_integer(columns[3], 16, &x) &&
+           apfloat_payload(operation, format_of(columns[1]), x, &answer) == APFLOAT_ANSWERED &&
+           has_bits(answer.bits, columns[4]) && answer.status == 0 && answer.number == 0;
+}
+
+static bool is_got(char *columns[]) { return is_payload(columns, APFLOAT_GET_PAYLOAD); }
+static bool is_set(char *columns[]) { return is_payload(columns, APFLOAT_SET_PAYLOAD); }
+static bool is_set_signaling(char *columns[]) { return is_payload(columns, APFLOAT_SET_PAYLOAD_SIGNALING); }
+
 /* The errors that no row has, each of which leaves what was there before. */
 static unsigned refusals(void) {
     const apfloat_halves one = {1, 0};
     const uint8_t text[] = {'1', '.', '5'};
     const uint32_t pairs = APFLOAT_DOUBLE_PAIR, single = APFLOAT_SINGLE;
     apfloat_answer answer = before;
+    apfloat_halves tail = one;
     apfloat_facts facts, unchanged;
     memset(&facts, 0xa5, sizeof facts);
     unchanged = facts;
@@ -217,11 +258,18 @@ static unsigned refusals(void) {
         {apfloat_pair_from_format(pairs, 5, one, &answer), APFLOAT_UNKNOWN_MODE},
         {apfloat_pair_from_format(pairs, 0, one, &answer), APFLOAT_NO_SUCH_OPERATION},
         {apfloat_pair_fma(5, one, one, one, &answer), APFLOAT_UNKNOWN_MODE},
+        {apfloat_augmented(4, 0, one, one, &tail, &answer), APFLOAT_UNKNOWN_FORMAT},
+        {apfloat_augmented(1, pairs, one, one, &tail, &answer), APFLOAT_NO_SUCH_OPERATION},
+        {apfloat_augmented(4, single, one, one, &tail, &answer), APFLOAT_NO_SUCH_OPERATION},
+        {apfloat_payload(3, 0, one, &answer), APFLOAT_UNKNOWN_FORMAT},
+        {apfloat_payload(0, pairs, one, &answer), APFLOAT_NO_SUCH_OPERATION},
+        {apfloat_payload(3, single, one, &answer), APFLOAT_NO_SUCH_OPERATION},
         {apfloat_format_facts(0, &facts), APFLOAT_UNKNOWN_FORMAT},
         {apfloat_format_facts(pairs, &facts), APFLOAT_NO_SUCH_OPERATION}};
     unsigned count = 0;
     for (size_t i = 0; i < COUNT(codes); i++)
-        if (codes[i][0] == codes[i][1] && is_unchanged(&answer) && memcmp(&facts, &unchanged, sizeof facts) == 0)
+        if (codes[i][0] == codes[i][1] && is_unchanged(&answer) && memcmp(&tail, &one, sizeof one) == 0 &&
+            memcmp(&facts, &unchanged, sizeof facts) == 0)
             count++;
     return count;
 }
@@ -235,7 +283,10 @@ static struct {
 } kinds[] = {{"facts", 13, are_facts, 0}, {"read", 6, is_read, 0}, {"count", 4, is_count, 0},
              {"digits", 8, are_digits, 0}, {"hex", 4, is_hex, 0},  {"hex_rounded", 7, is_hex_rounded, 0},
              {"convert_r", 7, is_converted, 0}, {"mul_add_r", 7, is_fused_sum, 0},
-             {"shortest", 7, is_shortest, 0}, {"read_decimal", 7, is_pair_read, 0}};
+             {"shortest", 7, is_shortest, 0}, {"read_decimal", 7, is_pair_read, 0},
+             {"augmented_add", 7, is_sum, 0}, {"augmented_subtract", 7, is_difference, 0},
+             {"augmented_multiply", 7, is_product, 0}, {"get_payload", 7, is_got, 0},
+             {"set_payload", 7, is_set, 0}, {"set_payload_signaling", 7, is_set_signaling, 0}};
 
 /* Counts a row, if it agrees. */
 static bool agrees(char *columns[], size_t count) {

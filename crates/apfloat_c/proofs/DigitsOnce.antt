@@ -1,5 +1,5 @@
 -- Digits and hexadecimal texts are written in one way: one code, the same bytes, and one result.
-use Rattle.std.proofs.Common.{◌≡◌, ℕ, ℤ, ◌<◌, ◌≤◌, List, length, Option, Result, Ok, Err, refl, sym, ap, ◌∙◌, subst, arith}
+use Rattle.std.proofs.Common.{◌≡◌, ℕ, ℤ, List, length, Option, Result, Ok, Err, refl, sym, ap, ◌∙◌, subst, arith}
 use Rattle.rustc_apfloat.specs.declared.StatusAnd.{StatusAnd}
 use Rattle.rustc_apfloat.specs.declared.Round.{Round}
 use Rattle.rustc_apfloat.specs.Datum.{Datum}
@@ -20,8 +20,8 @@ use Rattle.formats_at_run_time.specs.declared.BuiltInFormat.{BuiltInFormat}
 use Rattle.formats_at_run_time.specs.BuiltIns.{constants_in}
 use Rattle.formats_at_run_time.specs.ValueKinds.{value_of}
 use Rattle.coded_calls.specs.declared.data.Answer.{Answer}
-use Rattle.apfloat_c.specs.Digits.{AreDigitsLeft, AreDigitsWrittenOnce, IsCountGivenOnce, IsCounted, IsHexLeft}
-use Rattle.apfloat_c.specs.Digits.{IsHexPutOnce, IsHexTold, IsRoundedHexLeft, IsRoundedHexPutOnce}
+use Rattle.apfloat_c.specs.Digits.{AreDigitsLeft, AreDigitsWrittenOnce, IsCountGivenOnce, IsCounted}
+use Rattle.apfloat_c.specs.Digits.{IsHexPutOnce, IsHexTold, IsRoundedHexPutOnce}
 use Rattle.apfloat_c.specs.Digits.{IsRoundedHexTold, IsWritingTold, count_told}
 use Rattle.apfloat_c.specs.OneAnswer.{SameAnswer}
 use Rattle.apfloat_c.proofs.ExportsOnce.{unchanged}

@@ -15,3 +15,4 @@ pub mod FlaggedReadings
 pub mod FactsOnce
 pub mod DigitsOnce
 pub mod PairsOnce
+pub mod AugmentedOnce

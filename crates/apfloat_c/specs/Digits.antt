@@ -3,7 +3,7 @@ use Rattle.std.specs.Prelude.{◌≡◌, ℕ, ℤ, pos, List, length, Option, So
 use Rattle.rustc_apfloat.specs.declared.Round.{Round}
 use Rattle.rustc_apfloat.specs.declared.StatusAnd.{StatusAnd}
 use Rattle.rustc_apfloat.specs.Flags.{bits_of}
-use Rattle.rustc_apfloat.specs.Lawful.{Constants, format_with}
+use Rattle.rustc_apfloat.specs.Lawful.{format_with}
 use Rattle.apfloat_digits.specs.declared.decimal.written.Written.{Written}
 use Rattle.apfloat_digits.specs.declared.decimal.written.Written.TheVariants.{Digits, WithoutDigits, NoRoom}
 use Rattle.apfloat_digits.specs.declared.hexadecimal.written.HexError.{HexError}

@@ -9,3 +9,4 @@ pub mod Readings
 pub mod Facts
 pub mod Digits
 pub mod Pairs
+pub mod Augmented

@@ -6,7 +6,7 @@ use Rattle.rustc_apfloat.specs.Predicates.{is_infinite_category}
 use Rattle.rustc_apfloat.specs.declared.Round.{Round}
 use Rattle.rustc_apfloat.specs.declared.StatusAnd.{StatusAnd}
 use Rattle.rustc_apfloat.specs.Flags.{Gives}
-use Rattle.rustc_apfloat.specs.Lawful.{Constants, format_with}
+use Rattle.rustc_apfloat.specs.Lawful.{format_with}
 use Rattle.rustc_apfloat.specs.Pairs.{Pair}
 use Rattle.rustc_apfloat.specs.double_double_operations.PairConversions.{IsPairFrom, IsPairTo}
 use Rattle.rustc_apfloat.specs.double_double_operations.PairFusedSums.{IsPairFusedSum}

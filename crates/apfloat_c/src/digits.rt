@@ -1,6 +1,5 @@
 //! Decimal digits of any count and hexadecimal texts of values, written into the caller's buffer.
 
-ghost use Rattle.std.specs.Prelude.{◌≡◌, List, ℕ};
 ghost use Rattle.rustc_apfloat.specs.Lawful.{format_with};
 ghost use Rattle.apfloat_decimals.specs.Decimals.{HasQuadExponents};
 ghost use Rattle.formats_at_run_time.specs.FlaggedKinds.{flagged_kind_coded};

@@ -8,6 +8,7 @@ mod about;
 mod array_calls;
 mod array_data;
 mod arrays;
+mod augmented;
 mod blocks;
 mod decimals;
 mod digits;

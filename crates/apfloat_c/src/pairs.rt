@@ -1,6 +1,5 @@
 //! Conversions of pairs of doubles from and to formats, and their fused sum, for C programs.
 
-ghost use Rattle.std.specs.Prelude.{◌≡◌};
 ghost use Rattle.formats_at_run_time.specs.FlaggedKinds.{flagged_kind_coded};
 ghost use Rattle.formats_at_run_time.specs.Modes.{mode_coded};
 ghost use Rattle.coded_calls.specs.Answers.{whole};
