@@ -1913,6 +1913,64 @@ apfloat_facts facts_of() noexcept {
     return facts;
 }
 
+// ---- augmented operations, and payloads of NaNs
+
+/// The two results of an augmented operation (IEEE 754-2019 9.5): the exact result rounded to nearest, ties toward zero,
+/// and what that leaves of it.
+template <class F>
+struct augmented {
+    value<F> head, tail;
+};
+
+namespace detail {
+
+template <class F>
+result<augmented<F>> augmented_of(std::uint32_t operation, const value<F> &x, const value<F> &y) noexcept {
+    static_assert(!F::is_pair, "pairs of doubles have no augmented operations");
+    apfloat_halves tail = {0, 0};
+    apfloat_answer answer = {{0, 0}, 0, 0};
+    const std::uint32_t code = apfloat_augmented(operation, F::code, x.halves(), y.halves(), &tail, &answer);
+    if (code != APFLOAT_ANSWERED) refuse(static_cast<errc>(code));
+    return {{value<F>::from_lowest(answer.bits), value<F>::from_lowest(tail)}, flags::of_code(answer.status)};
+}
+
+template <class F>
+value<F> payload_of(std::uint32_t operation, const value<F> &x) noexcept {
+    static_assert(!F::is_pair, "pairs of doubles have no payloads as values");
+    return value<F>::from_lowest(answer_of(apfloat_payload, operation, F::code, x.halves()).bits);
+}
+
+} // namespace detail
+
+/// The augmented sum, difference and product, with the flags that apfloat.h describes at apfloat_augmented.
+template <class F>
+result<augmented<F>> augmented_add(const value<F> &x, const value<F> &y) noexcept {
+    return detail::augmented_of(APFLOAT_ADD, x, y);
+}
+template <class F>
+result<augmented<F>> augmented_subtract(const value<F> &x, const value<F> &y) noexcept {
+    return detail::augmented_of(APFLOAT_SUB, x, y);
+}
+template <class F>
+result<augmented<F>> augmented_multiply(const value<F> &x, const value<F> &y) noexcept {
+    return detail::augmented_of(APFLOAT_MUL, x, y);
+}
+
+/// The payload of a NaN as an integral value, and -1 of any other value (IEEE 754-2019 9.7).
+template <class F>
+value<F> get_payload(const value<F> &x) noexcept {
+    return detail::payload_of(APFLOAT_GET_PAYLOAD, x);
+}
+/// The positive quiet NaN and the positive signaling NaN with the payload x, or +0 if x is no payload.
+template <class F>
+value<F> set_payload(const value<F> &x) noexcept {
+    return detail::payload_of(APFLOAT_SET_PAYLOAD, x);
+}
+template <class F>
+value<F> set_payload_signaling(const value<F> &x) noexcept {
+    return detail::payload_of(APFLOAT_SET_PAYLOAD_SIGNALING, x);
+}
+
 // ---- pairs of doubles and formats
 
 /// The exact sum of the parts of a pair, rounded once to a format. A high part that is a zero, an infinity or a NaN is

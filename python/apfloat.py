@@ -237,6 +237,8 @@ def _parameters() -> dict[str, list[Any]]:
         **dict.fromkeys(('pair_to_format', 'pair_from_format'), [code, code, _Halves, answer]),
         'pair_fma': [code, _Halves, _Halves, _Halves, answer],
         'pair_shortest': [_Halves, ctypes.POINTER(_Text)],
+        'augmented': [code, code, _Halves, _Halves, ctypes.POINTER(_Halves), answer],
+        'payload': [code, code, _Halves, answer],
         'shortest': [code, _Halves, ctypes.POINTER(_Text)],
         'error_text': [code, ctypes.POINTER(_Text)],
         'convert_array': [code, code, code, *array * 2, ctypes.POINTER(_ArrayAnswer)],
@@ -1384,6 +1386,41 @@ class Value(_Arithmetic[Number]):
         answer = _call('write_hex_rounded', self.format.code, context().mode, operator.index(places),
                        _halves(self.bits), text, len(text))
         return text.raw[:_whole(answer.bits)].decode()
+
+    def augmented_add(self, other: Value) -> tuple[Value, Value]:
+        """The sum, rounded to nearest, ties toward zero, and what that leaves of it (IEEE 754-2019 9.5).
+
+        >>> head, tail = double(1).augmented_add(double(2**-53))
+        >>> head.hex(), tail.hex()
+        ('0x1p+0', '0x1p-53')
+        """
+        return self._augmented(1, other)
+
+    def augmented_subtract(self, other: Value) -> tuple[Value, Value]:
+        """The difference and what its rounding leaves, as `augmented_add`."""
+        return self._augmented(2, other)
+
+    def augmented_multiply(self, other: Value) -> tuple[Value, Value]:
+        """The product and what its rounding leaves, as `augmented_add`."""
+        return self._augmented(3, other)
+
+    def _augmented(self, operation: int, other: Value) -> tuple[Value, Value]:
+        if other.format is not self.format:
+            raise ValueError(f'{other.format.name} is not {self.format.name}')
+        tail = _Halves()
+        head = _call('augmented', operation, self.format.code, _halves(self.bits), _halves(other.bits),
+                     ctypes.byref(tail))
+        return Value(self.format, _whole(head.bits)), Value(self.format, _whole(tail))
+
+    @property
+    def payload(self) -> int:
+        """The payload of a NaN, and -1 of any other value (IEEE 754-2019 9.7).
+
+        >>> half('nan(0x12)').payload, half(1).payload
+        (18, -1)
+        """
+        got = _answered('payload', 0, self.format.code, _halves(self.bits))
+        return int(Value(self.format, _whole(got.bits)))
 
     def as_pair(self) -> Value:
         """The value as a pair of doubles, rounded once to 106 binary digits, and split.

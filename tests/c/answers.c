@@ -199,6 +199,7 @@ static const char *const names[] = {
     "abs",       "copy_sign", "min",  "max",      "minimum", "maximum", "qnan",  "snan",          "error_text",
     "version",   "compare_predicate", "total_order", "extremum", "log_b", "scale_b", "integral", "to_format",
     "machine",   "read_decimal", "write_digits", "digit_count", "write_hex", "write_hex_rounded", "format_facts",
+    "pair_to_format", "pair_from_format", "pair_fma", "pair_shortest", "augmented", "payload",
     "convert_array", "map_array", "quantize_blocks", "dequantize_blocks", "pack_codes", "unpack_codes"};
 #define KINDS (sizeof names / sizeof names[0])
 
@@ -387,9 +388,21 @@ static void call(size_t kind) {
         add_bytes(&facts, sizeof facts);
         break;
     }
-    case 50:
-    case 51: call_on_arrays((uint32_t)kind - 50); break;
-    default: call_on_blocks((uint32_t)kind - 52); break;
+    case 50: CALL(apfloat_pair_to_format, format, mode, x); break;
+    case 51: CALL(apfloat_pair_from_format, format, mode, x); break;
+    case 52: CALL(apfloat_pair_fma, mode, x, y, z); break;
+    case 53:
+        memset(&written, 0xa5, sizeof written);
+        note_text(apfloat_pair_shortest(draw_value(APFLOAT_DOUBLE_PAIR, x), &written), &written);
+        break;
+    case 54:
+        CALL(apfloat_augmented, below(5), format, x, y, &number);
+        add_bytes(&number, sizeof number);
+        break;
+    case 55: CALL(apfloat_payload, below(4), format, x); break;
+    case 56:
+    case 57: call_on_arrays((uint32_t)kind - 56); break;
+    default: call_on_blocks((uint32_t)kind - 58); break;
     }
 }
 

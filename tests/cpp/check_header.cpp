@@ -644,6 +644,20 @@ void check_pairs_and_formats() {
     CHECK(!shortest_text_of_pair(pair_of(number(1.0), number(0x1p-200))));
 }
 
+void check_augmented() {
+    const auto sum = augmented_add(number(1.0), number(0x1p-53));
+    CHECK(sum.status.none() && sum.value.head == number(1.0) && sum.value.tail == number(0x1p-53));
+    const auto rest = augmented_subtract(number(1.0), number(0x1p-60));
+    CHECK(rest.value.head == number(1.0) && rest.value.tail == number(-0x1p-60));
+    const auto square = augmented_multiply(number(0x1.0000000000001p0), number(0x1.0000000000001p0));
+    CHECK(square.value.head == number(0x1.0000000000002p0) && square.value.tail == number(0x1p-104));
+    const auto past = augmented_add(half::from_bits(0x7bff), half::from_bits(0x7bff));
+    CHECK(is_infinite(past.value.tail) && past.status == (flag::overflow | flag::inexact));
+    CHECK(get_payload(half::from_bits(0x7e07)).bits() == 0x4700 && get_payload(number(2.0)) == number(-1.0));
+    CHECK(set_payload(half::from_bits(0x4700)).bits() == 0x7e07 && set_payload(number(0.5)) == number(0.0));
+    CHECK(set_payload_signaling(half::from_bits(0x4700)).bits() == 0x7c07);
+}
+
 void check_operations() {
     const auto quiet = single::from_bits(0x7fc00001), signaling = single::from_bits(0x7f800003), one = single(1.0f);
     const auto is_less = holds(predicate::less, on_nan::quiet, quiet, one);
@@ -699,6 +713,7 @@ int main(int count, char **) {
     check_texts();
     check_digits();
     check_pairs_and_formats();
+    check_augmented();
     check_hashes();
     check_arrays();
     check_stored_arrays();
