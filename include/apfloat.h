@@ -388,7 +388,8 @@ uint32_t apfloat_pair_shortest(apfloat_halves x, apfloat_text *text);
  * unless the first one is past the largest value, and so both are the infinity, or the NaN in its place, with
  * APFLOAT_OVERFLOW and APFLOAT_INEXACT, or a product has digits below the smallest number, and so the tail is rounded in
  * the same way, with APFLOAT_UNDERFLOW and APFLOAT_INEXACT. If x or y is an infinity or a NaN, both are the result of the
- * operation, with its flags. On an error, *tail is unchanged too; nothing else reads or writes it during the call. */
+ * operation, with its flags. On an error, *tail is unchanged too. The rules for `answer` hold for `tail`, and the two do
+ * not overlap. */
 uint32_t apfloat_augmented(uint32_t operation, uint32_t format, apfloat_halves x, apfloat_halves y,
                            apfloat_halves *tail, apfloat_answer *answer);
 
