@@ -76,7 +76,8 @@ def reading(choices, known):
         value, flags = read(known, literal, mode)
     except ParseError:
         return f"read\t{known.name}\t{mode.value}\t{literal}\tParseError\t-"
-    return f"read\t{known.name}\t{mode.value}\t{literal}\t{word(known, bits.encoded(known, value))}\t{status.names(flags)}"
+    pattern = bits.encoded(known, value)
+    return f"read\t{known.name}\t{mode.value}\t{literal}\t{word(known, pattern)}\t{status.names(flags)}"
 
 
 def has_digits(x):
@@ -99,11 +100,12 @@ def length(choices, known):
 
 def written(known, mode, pattern, x, count):
     """A row of the digits of a value, the exponent of the first one, and the flags."""
+    row = f"digits\t{known.name}\t{mode.value}\t{count}\t{word(known, pattern)}"
     if not has_digits(x):
-        return f"digits\t{known.name}\t{mode.value}\t{count}\t{word(known, pattern)}\t-\t0\tOK"
+        return f"{row}\t-\t0\tOK"
     (digits, place), is_exact = decimals.rounded(known, x, count, mode)
     flags = status.names(OK if is_exact else INEXACT)
-    return f"digits\t{known.name}\t{mode.value}\t{count}\t{word(known, pattern)}\t{digits}\t{place + count - 1}\t{flags}"
+    return f"{row}\t{digits}\t{place + count - 1}\t{flags}"
 
 
 def full_text(known, x):

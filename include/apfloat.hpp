@@ -362,8 +362,8 @@ struct tf32 : detail::binary<tf32, APFLOAT_TF32, std::uint32_t, 19, 11, -126, 12
                                                                0x3fe00, 0x3fd00, 0x1d400, 0x1f800};
 };
 
-/// Pairs of doubles, IBM's extended double, whose results are not rounded once (apfloat.h says how they are made). Their
-/// fused sums, conversions and shortest decimals have names of their own, `pair_fma` and so on, and what
+/// Pairs of doubles, IBM's extended double, whose results are not rounded once (apfloat.h says how they are made).
+/// Their fused sums, conversions and shortest decimals have names of their own, `pair_fma` and so on, and what
 /// std::numeric_limits says of them is not all that it says of the other formats.
 struct double_pair : detail::binary<double_pair, APFLOAT_DOUBLE_PAIR, bits128, 128, 106, -969, 1023> {
     static constexpr bool is_pair = true, has_ieee_flags = false;
@@ -1872,8 +1872,8 @@ result<written_digits> write_digits(const value<F> &x, char *digits, std::size_t
     return {{static_cast<std::size_t>(answer.bits.low), answer.number}, flags::of_code(answer.status)};
 }
 
-/// How many decimal digits x has, at most 11563: with so many, `write_digits` does not round. Of a zero, an infinity and
-/// a NaN it is 0.
+/// How many decimal digits x has, at most 11563: with so many, `write_digits` does not round. Of a zero, an infinity
+/// and a NaN it is 0.
 template <class F>
 std::size_t digit_count(const value<F> &x) noexcept {
     static_assert(!F::is_pair, "pairs of doubles have no digits of any count");
@@ -1915,8 +1915,8 @@ apfloat_facts facts_of() noexcept {
 
 // ---- augmented operations, and payloads of NaNs
 
-/// The two results of an augmented operation (IEEE 754-2019 9.5): the exact result rounded to nearest, ties toward zero,
-/// and what that leaves of it.
+/// The two results of an augmented operation (IEEE 754-2019 9.5): the exact result rounded to nearest, ties toward
+/// zero, and what that leaves of it.
 template <class F>
 struct augmented {
     value<F> head, tail;

@@ -1435,8 +1435,8 @@ class Value(_Arithmetic[Number]):
         """self * factor + addend of pairs of doubles: their sums are first rounded to 106 binary digits, then the exact
         result is, once, and split.
 
-        >>> double_pair(3).pair_fma(double_pair(1) / 3, double_pair(-1))
-        double_pair('0.0')
+        >>> double_pair(3).pair_fma(double_pair(1) / 3, double_pair(-1)).hex()
+        '0x1p-107'
         """
         if any(value.format is not double_pair for value in (self, factor, addend)):
             raise ValueError('pair_fma takes pairs of doubles')

@@ -372,7 +372,7 @@ class TextTests(unittest.TestCase):
         draw = random.Random(10)
         for _ in range(100):
             high = draw.uniform(-1, 1) * 2.0**draw.randint(-100, 100)
-            pair = apfloat.double_pair(high) + apfloat.double_pair(math.ulp(high) * draw.uniform(-0.4, 0.4))
+            pair = apfloat.double_pair(high) + apfloat.double_pair(math.ulp(high) * draw.randint(-100, 100) / 256)
             number = Fraction(*pair.as_integer_ratio())
             for format in apfloat.half, apfloat.single, apfloat.quad, apfloat.x87.ieee:
                 for mode in MODES:

@@ -20,8 +20,8 @@
  *   augmented_add, augmented_subtract or augmented_multiply  FORMAT  -  BITS BITS  BITS BITS  FLAGS  -
  *   get_payload, set_payload or set_payload_signaling        FORMAT  -  BITS  BITS  -  -
  *
- * The program prints each row that differs, and how many agree. By hand, at the top of the repository, after `rt lib` in
- * crates/apfloat_c:
+ * The program prints each row that differs, and how many agree. By hand, at the top of the repository, after `rt lib`
+ * in crates/apfloat_c:
  *
  *   cc -std=c99 -Wall -Wextra -O2 -Iinclude tests/c/check_texts.c crates/apfloat_c/out/libapfloat_c.a -o check
  *   cat tests/c/texts tests/rows/pair_operations.tsv tests/rows/augmented.tsv | ./check */
