@@ -138,7 +138,7 @@ uint32_t apfloat_sub(uint32_t format, uint32_t mode, apfloat_halves x, apfloat_h
 uint32_t apfloat_mul(uint32_t format, uint32_t mode, apfloat_halves x, apfloat_halves y, apfloat_answer *answer);
 uint32_t apfloat_div(uint32_t format, uint32_t mode, apfloat_halves x, apfloat_halves y, apfloat_answer *answer);
 
-/* x * y + z, rounded once. APFLOAT_DOUBLE_PAIR does not have it. */
+/* x * y + z, rounded once. APFLOAT_DOUBLE_PAIR does not have it, but apfloat_pair_fma. */
 uint32_t apfloat_fma(uint32_t format, uint32_t mode, apfloat_halves x, apfloat_halves y, apfloat_halves z,
                      apfloat_answer *answer);
 
@@ -152,7 +152,7 @@ uint32_t apfloat_rem(uint32_t format, apfloat_halves x, apfloat_halves y, apfloa
 uint32_t apfloat_mod(uint32_t format, apfloat_halves x, apfloat_halves y, apfloat_answer *answer);
 
 /* The value of `format` in the format `to`, rounded once; `number` is 1 if information was lost, else 0. There is no
- * conversion from or to APFLOAT_DOUBLE_PAIR. */
+ * conversion from or to APFLOAT_DOUBLE_PAIR here; see apfloat_pair_to_format. */
 uint32_t apfloat_convert(uint32_t format, uint32_t mode, uint32_t to, apfloat_halves x, apfloat_answer *answer);
 
 /* The value of an integer, rounded once. */
@@ -246,7 +246,7 @@ uint32_t apfloat_parse(uint32_t format, uint32_t mode, const uint8_t *text, size
 /* The same, and of a decimal number such as -0.1 or 1e-7 the value that it spells, rounded once, whatever its length
  * and its exponent: digits with at most one dot, after an optional sign, and an exponent after e or E if there is one,
  * with an optional sign (IEEE 754-2019 5.12.2). A pair of doubles is the value of 106 binary digits, split into two
- * doubles. Formats with APFLOAT_IEEE_FLAGS do not have it. */
+ * doubles. Formats with APFLOAT_IEEE_FLAGS do not have it, but apfloat_read_decimal. */
 uint32_t apfloat_parse_decimal(uint32_t format, uint32_t mode, const uint8_t *text, size_t length,
                                apfloat_answer *answer);
 
@@ -260,7 +260,7 @@ typedef struct apfloat_text {
  * digits, the nearest to x, and of two equally near ones the even one. It is written as in 12.5, 0.000001, 1e-7 and
  * 1.5e21: with an exponent unless that of the first digit is from -6 to 20, and otherwise with at least one digit on
  * each side of the dot. A zero is 0.0 or -0.0, an infinity inf or -inf, and every NaN nan. APFLOAT_DOUBLE_PAIR does not
- * have it. On an error, *text is unchanged; the rules for `answer` hold for `text` too. */
+ * have it, but apfloat_pair_shortest. On an error, *text is unchanged; the rules for `answer` hold for `text` too. */
 uint32_t apfloat_shortest(uint32_t format, apfloat_halves x, apfloat_text *text);
 
 /* A text for what a function returned, such as "unknown format"; APFLOAT_ANSWERED has one too. For a number that is no
