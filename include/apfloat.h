@@ -138,7 +138,7 @@ uint32_t apfloat_sub(uint32_t format, uint32_t mode, apfloat_halves x, apfloat_h
 uint32_t apfloat_mul(uint32_t format, uint32_t mode, apfloat_halves x, apfloat_halves y, apfloat_answer *answer);
 uint32_t apfloat_div(uint32_t format, uint32_t mode, apfloat_halves x, apfloat_halves y, apfloat_answer *answer);
 
-/* x * y + z, rounded once. APFLOAT_DOUBLE_PAIR does not have it. */
+/* x * y + z, rounded once. APFLOAT_DOUBLE_PAIR does not have it, but apfloat_pair_fma. */
 uint32_t apfloat_fma(uint32_t format, uint32_t mode, apfloat_halves x, apfloat_halves y, apfloat_halves z,
                      apfloat_answer *answer);
 
@@ -152,7 +152,7 @@ uint32_t apfloat_rem(uint32_t format, apfloat_halves x, apfloat_halves y, apfloa
 uint32_t apfloat_mod(uint32_t format, apfloat_halves x, apfloat_halves y, apfloat_answer *answer);
 
 /* The value of `format` in the format `to`, rounded once; `number` is 1 if information was lost, else 0. There is no
- * conversion from or to APFLOAT_DOUBLE_PAIR. */
+ * conversion from or to APFLOAT_DOUBLE_PAIR here; see apfloat_pair_to_format. */
 uint32_t apfloat_convert(uint32_t format, uint32_t mode, uint32_t to, apfloat_halves x, apfloat_answer *answer);
 
 /* The value of an integer, rounded once. */
@@ -246,7 +246,7 @@ uint32_t apfloat_parse(uint32_t format, uint32_t mode, const uint8_t *text, size
 /* The same, and of a decimal number such as -0.1 or 1e-7 the value that it spells, rounded once, whatever its length
  * and its exponent: digits with at most one dot, after an optional sign, and an exponent after e or E if there is one,
  * with an optional sign (IEEE 754-2019 5.12.2). A pair of doubles is the value of 106 binary digits, split into two
- * doubles. Formats with APFLOAT_IEEE_FLAGS do not have it. */
+ * doubles. Formats with APFLOAT_IEEE_FLAGS do not have it, but apfloat_read_decimal. */
 uint32_t apfloat_parse_decimal(uint32_t format, uint32_t mode, const uint8_t *text, size_t length,
                                apfloat_answer *answer);
 
@@ -260,7 +260,7 @@ typedef struct apfloat_text {
  * digits, the nearest to x, and of two equally near ones the even one. It is written as in 12.5, 0.000001, 1e-7 and
  * 1.5e21: with an exponent unless that of the first digit is from -6 to 20, and otherwise with at least one digit on
  * each side of the dot. A zero is 0.0 or -0.0, an infinity inf or -inf, and every NaN nan. APFLOAT_DOUBLE_PAIR does not
- * have it. On an error, *text is unchanged; the rules for `answer` hold for `text` too. */
+ * have it, but apfloat_pair_shortest. On an error, *text is unchanged; the rules for `answer` hold for `text` too. */
 uint32_t apfloat_shortest(uint32_t format, apfloat_halves x, apfloat_text *text);
 
 /* A text for what a function returned, such as "unknown format"; APFLOAT_ANSWERED has one too. For a number that is no
@@ -331,6 +331,101 @@ uint32_t apfloat_integral(uint32_t format, uint32_t mode, apfloat_halves x, apfl
 #define APFLOAT_ROOT_TO UINT32_C(5)
 uint32_t apfloat_to_format(uint32_t operation, uint32_t format, uint32_t mode, uint32_t target, apfloat_halves x,
                            apfloat_halves y, apfloat_halves z, apfloat_answer *answer);
+
+/* ---- digits, pairs of doubles and formats
+ *
+ * Texts and digits of values, conversions and fused sums of pairs, and what a format is. */
+
+/* The value of a text as apfloat_parse_decimal reads it, also in formats with APFLOAT_IEEE_FLAGS: 1e39 toward zero
+ * as an APFLOAT_SINGLE with it raises APFLOAT_OVERFLOW. */
+uint32_t apfloat_read_decimal(uint32_t format, uint32_t mode, const uint8_t *text, size_t length,
+                              apfloat_answer *answer);
+
+/* The decimal digits of x, rounded once to as many as there is room for: all of `digits` is written, in ASCII, the
+ * first digit not 0, zeros at the end too. The number is d.ddd.. times 10 to the power of `number`; its sign is that
+ * of x. APFLOAT_INEXACT is raised if it is not x. `bits` is how many digits were written: of a zero, an infinity or
+ * a NaN none, and *digits is unchanged. APFLOAT_WRONG_LENGTH says that there is no room for a digit. What is said of
+ * `results` below holds of `digits` and `text`. APFLOAT_DOUBLE_PAIR has none of these functions. */
+uint32_t apfloat_write_digits(uint32_t format, uint32_t mode, apfloat_halves x, uint8_t *digits, size_t length,
+                              apfloat_answer *answer);
+
+/* `bits` is how many decimal digits x has, from the first one to the last one that is not 0, so many that
+ * apfloat_write_digits writes them without rounding: at most 767 in APFLOAT_DOUBLE, 11563 in APFLOAT_QUAD; 0 for a
+ * zero, an infinity and a NaN. */
+uint32_t apfloat_digit_count(uint32_t format, apfloat_halves x, apfloat_answer *answer);
+
+/* The hexadecimal text of x at the start of `text`, without a zero after it: -0x1.8p-1, 0x1p-1074, 0x0p0, inf, snan
+ * and, with a payload, nan0x2a. The first digit is 1, of subnormal numbers too. `bits` is its length, at most 45,
+ * and APFLOAT_WRONG_LENGTH says that it has no room. apfloat_parse reads a number and an infinity back as it is. The
+ * bytes after it are unchanged. */
+uint32_t apfloat_write_hex(uint32_t format, apfloat_halves x, uint8_t *text, size_t length, apfloat_answer *answer);
+
+/* The same with `places` digits after the dot, to which the number is rounded once, with the flags of that, and
+ * without payloads. APFLOAT_WRONG_LENGTH also says that `places` is above 31. */
+uint32_t apfloat_write_hex_rounded(uint32_t format, uint32_t mode, uint32_t places, apfloat_halves x, uint8_t *text,
+                                   size_t length, apfloat_answer *answer);
+
+/* Pairs of doubles, APFLOAT_DOUBLE_PAIR. In the modes and with the errors of apfloat_convert: a pair in `format`,
+ * that is the exact sum of its parts, rounded once (if the high part is a zero, an infinity or a NaN, it is
+ * converted alone); and a value of `format` as a pair, rounded once to 106 binary digits, and split into two
+ * doubles. */
+uint32_t apfloat_pair_to_format(uint32_t format, uint32_t mode, apfloat_halves x, apfloat_answer *answer);
+uint32_t apfloat_pair_from_format(uint32_t format, uint32_t mode, apfloat_halves x, apfloat_answer *answer);
+
+/* x * y + z of pairs of doubles: the sums of the parts are first rounded to 106 binary digits, then the exact result
+ * is, once, and split. */
+uint32_t apfloat_pair_fma(uint32_t mode, apfloat_halves x, apfloat_halves y, apfloat_halves z, apfloat_answer *answer);
+
+/* The text of the shortest decimal that apfloat_read_decimal reads as the pair x, in its form that of
+ * apfloat_shortest: of those with as few digits, the nearest to the sum of the parts. APFLOAT_NO_SUCH_OPERATION says
+ * that no decimal is read as it, since its parts are too far apart, or overlap. On an error, *text is unchanged. */
+uint32_t apfloat_pair_shortest(apfloat_halves x, apfloat_text *text);
+
+/* Which NaNs a format has. */
+#define APFLOAT_NANS_WITH_PAYLOADS UINT32_C(0) /* quiet and signaling ones */
+#define APFLOAT_NAN_OF_EACH_SIGN UINT32_C(1)   /* one alone */
+#define APFLOAT_NAN_FOR_NEGATIVE_ZERO UINT32_C(2) /* one alone, whose bits are those of -0 elsewhere */
+
+/* What a format is. */
+typedef struct apfloat_facts {
+    apfloat_halves largest;         /* the bits of the largest number */
+    apfloat_halves smallest_normal; /* of the smallest normal number */
+    apfloat_halves smallest;        /* of the smallest number above zero */
+    uint32_t bits;                  /* the width of a value */
+    uint32_t bytes;                 /* that a value takes in an array */
+    uint32_t precision;             /* the binary digits of a normal number, with the first one */
+    int32_t least_exponent;         /* of the smallest normal number */
+    int32_t greatest_exponent;      /* of the largest number */
+    uint32_t decimal_digits;        /* with so many, each number is read back as it was */
+    uint32_t has_infinities;        /* 1 or 0 */
+    uint32_t nans;                  /* one of the above */
+} apfloat_facts;
+
+/* The rule of flags of the code makes no difference. APFLOAT_DOUBLE_PAIR is no format. On an error, *facts is
+ * unchanged; the rules for `answer` hold for `facts` too. */
+uint32_t apfloat_format_facts(uint32_t format, apfloat_facts *facts);
+
+/* ---- augmented operations, and payloads of NaNs (IEEE 754-2019 9.5, 9.7)
+ *
+ * Pairs of doubles do not have them. The rule of flags of the code makes no difference. */
+
+/* The sum, the difference or the product of x and y, for the operation APFLOAT_ADD, APFLOAT_SUB or APFLOAT_MUL: the
+ * exact result rounded to nearest, ties toward zero, in `bits`, and in *tail what that leaves of it. Together they
+ * are exact, unless the first one is past the largest value, and so both are the infinity, or the NaN in its place,
+ * with APFLOAT_OVERFLOW and APFLOAT_INEXACT, or a product has digits below the smallest number, and so the tail is
+ * rounded in the same way, with APFLOAT_UNDERFLOW and APFLOAT_INEXACT. If x or y is an infinity or a NaN, both are
+ * the result of the operation, with its flags. On an error, *tail is unchanged too. The rules for `answer` hold for
+ * `tail`, and the two do not overlap. */
+uint32_t apfloat_augmented(uint32_t operation, uint32_t format, apfloat_halves x, apfloat_halves y,
+                           apfloat_halves *tail, apfloat_answer *answer);
+
+/* The payload of the NaN x as an integral value, -1 if x is no NaN; and the positive NaN, quiet or signaling, with
+ * the payload x, or +0 if x is no integer that can be one (a signaling NaN has a payload other than 0). No flag is
+ * raised. */
+#define APFLOAT_GET_PAYLOAD UINT32_C(0)
+#define APFLOAT_SET_PAYLOAD UINT32_C(1)
+#define APFLOAT_SET_PAYLOAD_SIGNALING UINT32_C(2)
+uint32_t apfloat_payload(uint32_t operation, uint32_t format, apfloat_halves x, apfloat_answer *answer);
 
 /* ---- machines
  *

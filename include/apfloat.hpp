@@ -362,8 +362,8 @@ struct tf32 : detail::binary<tf32, APFLOAT_TF32, std::uint32_t, 19, 11, -126, 12
                                                                0x3fe00, 0x3fd00, 0x1d400, 0x1f800};
 };
 
-/// Pairs of doubles, IBM's extended double, whose results are not rounded once (apfloat.h says how they are made). The
-/// library for C has no fused sum, no conversion to or from a format, and no shortest decimal of them, and what
+/// Pairs of doubles, IBM's extended double, whose results are not rounded once (apfloat.h says how they are made).
+/// Their fused sums, conversions and shortest decimals have names of their own, `pair_fma` and so on, and what
 /// std::numeric_limits says of them is not all that it says of the other formats.
 struct double_pair : detail::binary<double_pair, APFLOAT_DOUBLE_PAIR, bits128, 128, 106, -969, 1023> {
     static constexpr bool is_pair = true, has_ieee_flags = false;
@@ -379,8 +379,8 @@ struct double_pair : detail::binary<double_pair, APFLOAT_DOUBLE_PAIR, bits128, 1
 };
 
 /// A format whose roundings raise the flags of IEEE 754-2019 7.4 and 7.5, with tininess detected after rounding, as
-/// x86 and RISC-V do. The values and their bits are those of the format; apfloat.h has the rule of the others. These
-/// formats read no decimal texts, only hexadecimal ones.
+/// x86 and RISC-V do. The values and their bits are those of the format; apfloat.h has the rule of the others. Their
+/// decimals are read by `read_decimal`, not by `parse`.
 template <class F>
 struct ieee : F {
     static_assert(F::has_ieee_flags && !F::raises_ieee_flags, "this format has no choice of flags");
@@ -1692,7 +1692,7 @@ expected<result<I>> to_integer_on(machine on, const value<F> &x, rounding mode) 
 // ---- texts
 
 /// The value of a text, rounded once: a decimal, such as -0.1 or 1e-7, or what `parse_hexadecimal` reads. The formats
-/// with the flags of IEEE 754-2019 read no decimals.
+/// with the flags of IEEE 754-2019 read no decimals here.
 template <class F>
 expected<result<value<F>>> parse(std::string_view text, rounding mode = rounding::nearest_even) noexcept;
 
@@ -1764,6 +1764,18 @@ expected<result<value<F>>> parse_hexadecimal(std::string_view text, rounding mod
 template <class F>
 expected<value<F>> parse_hexadecimal(std::string_view text, gather &with) noexcept {
     return detail::joined(parse_hexadecimal<F>(text, with.mode()), with);
+}
+
+/// The value of a text, rounded once: a decimal, in every format, also with the flags of IEEE 754-2019, or what
+/// `parse_hexadecimal` reads.
+template <class F>
+expected<result<value<F>>> read_decimal(std::string_view text, rounding mode = rounding::nearest_even) noexcept {
+    return detail::read<F>(apfloat_read_decimal, text, mode);
+}
+/// The value alone; its flags are joined to those of the gather. An error joins none.
+template <class F>
+expected<value<F>> read_decimal(std::string_view text, gather &with) noexcept {
+    return detail::joined(read_decimal<F>(text, with.mode()), with);
 }
 
 template <class F>
@@ -1860,6 +1872,158 @@ text shortest_text(const value<F> &x) noexcept {
     apfloat_text written = {{0}, 0};
     const std::uint32_t code = apfloat_shortest(F::code, x.halves(), &written);
     if (code != APFLOAT_ANSWERED) detail::refuse(static_cast<errc>(code));
+    return text(written);
+}
+
+// ---- digits of any count
+
+/// Digits that were written: how many, and the exponent of ten of the first one.
+struct written_digits {
+    std::size_t count;
+    int exponent;
+};
+
+/// Writes the decimal digits of x, rounded once to as many as there is room for, which is at least one: all of the room
+/// is written, the first digit is not 0, and the sign is that of x. Of a zero, an infinity or a NaN none are written.
+template <class F>
+result<written_digits> write_digits(const value<F> &x, char *digits, std::size_t room,
+                                    rounding mode = rounding::nearest_even) noexcept {
+    static_assert(!F::is_pair, "pairs of doubles have no digits of any count");
+    const auto answer = detail::answer_of(apfloat_write_digits, F::code, detail::code_of(mode), x.halves(),
+                                          reinterpret_cast<std::uint8_t *>(digits), room);
+    return {{static_cast<std::size_t>(answer.bits.low), answer.number}, flags::of_code(answer.status)};
+}
+
+/// How many decimal digits x has, at most 11563: with so many, `write_digits` does not round. Of a zero, an infinity
+/// and a NaN it is 0.
+template <class F>
+std::size_t digit_count(const value<F> &x) noexcept {
+    static_assert(!F::is_pair, "pairs of doubles have no digits of any count");
+    return static_cast<std::size_t>(detail::answer_of(apfloat_digit_count, F::code, x.halves()).bits.low);
+}
+
+/// The hexadecimal text of x, as in -0x1.8p-1, inf and nan0x2a, which `parse_hexadecimal` reads back.
+template <class F>
+text hexadecimal_text(const value<F> &x) noexcept {
+    static_assert(!F::is_pair, "pairs of doubles have no hexadecimal text");
+    apfloat_text written = {{0}, 0};
+    const auto answer = detail::answer_of(apfloat_write_hex, F::code, x.halves(),
+                                          reinterpret_cast<std::uint8_t *>(written.bytes), sizeof written.bytes);
+    written.length = static_cast<std::uint32_t>(answer.bits.low);
+    return text(written);
+}
+
+/// The same, rounded once to so many digits after the dot, at most 31, and without the payload of a NaN.
+template <class F>
+result<text> hexadecimal_text(const value<F> &x, unsigned places, rounding mode = rounding::nearest_even) noexcept {
+    static_assert(!F::is_pair, "pairs of doubles have no hexadecimal text");
+    apfloat_text written = {{0}, 0};
+    const auto answer =
+        detail::answer_of(apfloat_write_hex_rounded, F::code, detail::code_of(mode), std::uint32_t{places}, x.halves(),
+                          reinterpret_cast<std::uint8_t *>(written.bytes), sizeof written.bytes);
+    written.length = static_cast<std::uint32_t>(answer.bits.low);
+    return {text(written), flags::of_code(answer.status)};
+}
+
+/// What a format is, as apfloat.h says at apfloat_facts.
+template <class F>
+apfloat_facts facts_of() noexcept {
+    static_assert(!F::is_pair, "pairs of doubles are no format");
+    apfloat_facts facts = {{0, 0}, {0, 0}, {0, 0}, 0, 0, 0, 0, 0, 0, 0, 0};
+    const std::uint32_t code = apfloat_format_facts(F::code, &facts);
+    if (code != APFLOAT_ANSWERED) detail::refuse(static_cast<errc>(code));
+    return facts;
+}
+
+// ---- augmented operations, and payloads of NaNs
+
+/// The two results of an augmented operation (IEEE 754-2019 9.5): the exact result rounded to nearest, ties toward
+/// zero, and what that leaves of it.
+template <class F>
+struct augmented {
+    value<F> head, tail;
+};
+
+namespace detail {
+
+template <class F>
+result<augmented<F>> augmented_of(std::uint32_t operation, const value<F> &x, const value<F> &y) noexcept {
+    static_assert(!F::is_pair, "pairs of doubles have no augmented operations");
+    apfloat_halves tail = {0, 0};
+    apfloat_answer answer = {{0, 0}, 0, 0};
+    const std::uint32_t code = apfloat_augmented(operation, F::code, x.halves(), y.halves(), &tail, &answer);
+    if (code != APFLOAT_ANSWERED) refuse(static_cast<errc>(code));
+    return {{value<F>::from_lowest(answer.bits), value<F>::from_lowest(tail)}, flags::of_code(answer.status)};
+}
+
+template <class F>
+value<F> payload_of(std::uint32_t operation, const value<F> &x) noexcept {
+    static_assert(!F::is_pair, "pairs of doubles have no payloads as values");
+    return value<F>::from_lowest(answer_of(apfloat_payload, operation, F::code, x.halves()).bits);
+}
+
+} // namespace detail
+
+/// The augmented sum, difference and product, with the flags that apfloat.h describes at apfloat_augmented.
+template <class F>
+result<augmented<F>> augmented_add(const value<F> &x, const value<F> &y) noexcept {
+    return detail::augmented_of(APFLOAT_ADD, x, y);
+}
+template <class F>
+result<augmented<F>> augmented_subtract(const value<F> &x, const value<F> &y) noexcept {
+    return detail::augmented_of(APFLOAT_SUB, x, y);
+}
+template <class F>
+result<augmented<F>> augmented_multiply(const value<F> &x, const value<F> &y) noexcept {
+    return detail::augmented_of(APFLOAT_MUL, x, y);
+}
+
+/// The payload of a NaN as an integral value, and -1 of any other value (IEEE 754-2019 9.7).
+template <class F>
+value<F> get_payload(const value<F> &x) noexcept {
+    return detail::payload_of(APFLOAT_GET_PAYLOAD, x);
+}
+/// The positive quiet NaN and the positive signaling NaN with the payload x, or +0 if x is no payload.
+template <class F>
+value<F> set_payload(const value<F> &x) noexcept {
+    return detail::payload_of(APFLOAT_SET_PAYLOAD, x);
+}
+template <class F>
+value<F> set_payload_signaling(const value<F> &x) noexcept {
+    return detail::payload_of(APFLOAT_SET_PAYLOAD_SIGNALING, x);
+}
+
+// ---- pairs of doubles and formats
+
+/// The exact sum of the parts of a pair, rounded once to a format. A high part that is a zero, an infinity or a NaN is
+/// converted alone.
+template <class F>
+result<value<F>> pair_to_format(const value<double_pair> &x, rounding mode = rounding::nearest_even) noexcept {
+    static_assert(!F::is_pair, "a pair is converted to a format");
+    return detail::result_of<F>(
+        detail::answer_of(apfloat_pair_to_format, F::code, detail::code_of(mode), x.halves()));
+}
+
+/// A value of a format, rounded once to 106 binary digits, and split into two doubles.
+template <class F>
+result<value<double_pair>> pair_from_format(const value<F> &x, rounding mode = rounding::nearest_even) noexcept {
+    static_assert(!F::is_pair, "a pair is made of a value of a format");
+    return detail::result_of<double_pair>(
+        detail::answer_of(apfloat_pair_from_format, F::code, detail::code_of(mode), x.halves()));
+}
+
+/// x * y + z: the sums of the parts are first rounded to 106 binary digits, then the exact result is, once, and split.
+inline result<value<double_pair>> pair_fma(const value<double_pair> &x, const value<double_pair> &y,
+                                           const value<double_pair> &z,
+                                           rounding mode = rounding::nearest_even) noexcept {
+    return detail::result_of<double_pair>(
+        detail::answer_of(apfloat_pair_fma, detail::code_of(mode), x.halves(), y.halves(), z.halves()));
+}
+
+/// The shortest decimal that is read as the pair, to nearest, ties to even; nothing if no decimal is.
+inline std::optional<text> shortest_text_of_pair(const value<double_pair> &x) noexcept {
+    apfloat_text written = {{0}, 0};
+    if (apfloat_pair_shortest(x.halves(), &written) != APFLOAT_ANSWERED) return std::nullopt;
     return text(written);
 }
 

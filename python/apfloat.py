@@ -230,7 +230,15 @@ def _parameters() -> dict[str, list[Any]]:
         **dict.fromkeys(('compare_predicate', 'extremum'), [code, code, code, _Halves, _Halves, answer]),
         'to_format': [code, code, code, code, _Halves, _Halves, _Halves, answer],
         'machine': [code, code, code, code, code, _Halves, _Halves, _Halves, answer],
-        **dict.fromkeys(('parse', 'parse_decimal'), [code, code, *text, answer]),
+        **dict.fromkeys(('parse', 'read_decimal'), [code, code, *text, answer]),
+        'write_digits': [code, code, _Halves, *array, answer],
+        'digit_count': [code, _Halves, answer],
+        'write_hex_rounded': [code, code, code, _Halves, *array, answer],
+        **dict.fromkeys(('pair_to_format', 'pair_from_format'), [code, code, _Halves, answer]),
+        'pair_fma': [code, _Halves, _Halves, _Halves, answer],
+        'pair_shortest': [_Halves, ctypes.POINTER(_Text)],
+        'augmented': [code, code, _Halves, _Halves, ctypes.POINTER(_Halves), answer],
+        'payload': [code, code, _Halves, answer],
         'shortest': [code, _Halves, ctypes.POINTER(_Text)],
         'error_text': [code, ctypes.POINTER(_Text)],
         'convert_array': [code, code, code, *array * 2, ctypes.POINTER(_ArrayAnswer)],
@@ -405,6 +413,16 @@ class Format:
         data, shape = _codes(self, bits)
         return Array(self, data, shape=shape)
 
+    def from_pair(self, pair: Value) -> Value:
+        """The exact sum of the parts of a pair of doubles, rounded once.
+
+        >>> half.from_pair(double_pair(1) / 3), quad.from_pair(double_pair(1)).hex()
+        (half('0.3333'), '0x1p+0')
+        """
+        if pair.format is not double_pair:
+            raise ValueError(f'{pair.format.name} is no pair')
+        return Value(self, _whole(_call('pair_to_format', self.code, context().mode, _halves(pair.bits)).bits))
+
     @property
     def largest(self) -> Value:
         """The largest number.
@@ -466,12 +484,7 @@ class Format:
 
     def _fromdecimal(self, text: str) -> Value:
         """The value of a decimal or of any text that `fromhex` reads, rounded once."""
-        if not self.code & _IEEE_FLAGS:
-            return self._read('parse_decimal', text)
-        # The library reads decimals with the plain flags alone. It decides here whether the text has a meaning.
-        with Context(context().mode):
-            self._plain._read('parse_decimal', text)
-        return self.fromhex(_rounded_to_odd(text.strip()))
+        return self._read('read_decimal', text)
 
     def __call__(self, of: Any) -> Value:
         """The value of a text, an integer, a float, a fraction or a value, rounded once in the mode of the context.
@@ -966,7 +979,7 @@ class _Arithmetic(Generic[_Operand]):
         return left._floored(self)
 
     def fma(self, factor: _Operand, addend: _Operand) -> Self:
-        """self * factor + addend, rounded once. Pairs of doubles do not have it.
+        """self * factor + addend, rounded once. Pairs of doubles do not have it, but `pair_fma`.
 
         >>> half.from_bits(0x3c01).fma(half.from_bits(0x3c01), half.from_bits(0xbc02))
         half('9.5e-7')
@@ -1366,13 +1379,106 @@ class Value(_Arithmetic[Number]):
         high, low = double.from_bits(self.bits & (1 << 64) - 1), double.from_bits(self.bits >> 64)
         return [high, low] if low.bits else [high]
 
-    def hex(self) -> str:
-        """The value as a hexadecimal text that its format reads exactly.
+    def hex(self, places: int | None = None) -> str:
+        """The value as a hexadecimal text that its format reads exactly, or rounded once to so many digits after the
+        dot, at most 31, without the payload of a NaN.
 
         >>> single(1).hex(), half('-inf').hex(), half.from_bits(0x7e01).hex()
         ('0x1p+0', '-inf', 'nan(0x1)')
+        >>> with Context() as context:
+        ...     double(0.1).hex(3), context
+        ('0x1.99ap-4', Context(mode=NEAREST_EVEN, flags=INEXACT))
         """
-        return ' + '.join(_hexadecimal(part) for part in self._parts())
+        if places is None:
+            return ' + '.join(_hexadecimal(part) for part in self._parts())
+        text = ctypes.create_string_buffer(_HEXADECIMAL_ROOM)
+        answer = _call('write_hex_rounded', self.format.code, context().mode, operator.index(places),
+                       _halves(self.bits), text, len(text))
+        return text.raw[:_whole(answer.bits)].decode()
+
+    def augmented_add(self, other: Value) -> tuple[Value, Value]:
+        """The sum, rounded to nearest, ties toward zero, and what that leaves of it (IEEE 754-2019 9.5).
+
+        >>> head, tail = double(1).augmented_add(double(2**-53))
+        >>> head.hex(), tail.hex()
+        ('0x1p+0', '0x1p-53')
+        """
+        return self._augmented(1, other)
+
+    def augmented_subtract(self, other: Value) -> tuple[Value, Value]:
+        """The difference and what its rounding leaves, as `augmented_add`."""
+        return self._augmented(2, other)
+
+    def augmented_multiply(self, other: Value) -> tuple[Value, Value]:
+        """The product and what its rounding leaves, as `augmented_add`."""
+        return self._augmented(3, other)
+
+    def _augmented(self, operation: int, other: Value) -> tuple[Value, Value]:
+        if other.format is not self.format:
+            raise ValueError(f'{other.format.name} is not {self.format.name}')
+        tail = _Halves()
+        head = _call('augmented', operation, self.format.code, _halves(self.bits), _halves(other.bits),
+                     ctypes.byref(tail))
+        return Value(self.format, _whole(head.bits)), Value(self.format, _whole(tail))
+
+    @property
+    def payload(self) -> int:
+        """The payload of a NaN, and -1 of any other value (IEEE 754-2019 9.7).
+
+        >>> half('nan(0x12)').payload, half(1).payload
+        (18, -1)
+        """
+        got = _answered('payload', 0, self.format.code, _halves(self.bits))
+        return int(Value(self.format, _whole(got.bits)))
+
+    def as_pair(self) -> Value:
+        """The value as a pair of doubles, rounded once to 106 binary digits, and split.
+
+        >>> quad('0.1').as_pair()
+        double_pair('0.1 + -5.551115123125783e-18')
+        """
+        answer = _call('pair_from_format', self.format.code, context().mode, _halves(self.bits))
+        return Value(double_pair, _whole(answer.bits))
+
+    def pair_fma(self, factor: Value, addend: Value) -> Value:
+        """self * factor + addend of pairs of doubles: their sums are first rounded to 106 binary digits, then the exact
+        result is, once, and split.
+
+        >>> double_pair(3).pair_fma(double_pair(1) / 3, double_pair(-1)).hex()
+        '0x1p-107'
+        """
+        if any(value.format is not double_pair for value in (self, factor, addend)):
+            raise ValueError('pair_fma takes pairs of doubles')
+        operands = [_halves(value.bits) for value in (self, factor, addend)]
+        return Value(double_pair, _whole(_call('pair_fma', context().mode, *operands).bits))
+
+    def shortest_of_pair(self) -> str | None:
+        """The shortest decimal that is read as a pair of doubles; None if no decimal is.
+
+        >>> double_pair('0.1').shortest_of_pair()
+        '0.1'
+        """
+        text = _Text()
+        if self.format is not double_pair:
+            raise ValueError(f'{self.format.name} is no pair')
+        return None if _functions.apfloat_pair_shortest(_halves(self.bits), ctypes.byref(text)) else text.bytes.decode()
+
+    def digits(self, count: int | None = None) -> tuple[str, int]:
+        """The decimal digits of a number, all or rounded once to so many, and the exponent of ten of the first one.
+
+        A zero, an infinity and a NaN have none.
+
+        >>> half('0.1').digits(), quad('-1e-4900').digits(3), single(0).digits()
+        (('999755859375', -2), ('100', -4900), ('', 0))
+        """
+        known, bits = self.format.code, _halves(self.bits)
+        if count is None:
+            count = _whole(_answered('digit_count', known, bits).bits)
+        elif operator.index(count) < 1:
+            raise ValueError(f'{count} digits')
+        text = ctypes.create_string_buffer(count)
+        answer = _call('write_digits', known, context().mode, bits, text, count)
+        return text.raw[:_whole(answer.bits)].decode(), answer.number
 
     def as_integer_ratio(self) -> tuple[int, int]:
         """A number as a quotient of two integers in lowest terms.
@@ -3133,36 +3239,11 @@ def _orders(left: Array, right: Any) -> Iterable[int | None]:
     return (first._order(second) for first, second in zip(map(left._element, left._items()), numbers))
 
 
+# No hexadecimal text that the library writes is longer.
+_HEXADECIMAL_ROOM = 45
 _HEXADECIMAL = re.compile('(-?)0x([01])(?:[.]([0-9a-f]+))?p([+-][0-9]+)')
-_DECIMAL = re.compile('([+-]?)([0-9]*)[.]?([0-9]*)(?:[eE]([+-]?)([0-9]+))?')
-# The midpoints between values of `quad` have at most 11,564 decimal digits, and all its values are in this range.
-_MOST_DIGITS, _GREATEST_POWER = 12_000, 5_000
-
-
-def _rounded_to_odd(text: str) -> str:
-    """A decimal text as a hexadecimal one of 120 binary digits or more, rounded to odd; other texts as they are.
-
-    The last digit is 1 if the decimal is not exactly the number. So rounding it to fewer digits, at most 118, gives
-    what rounding the decimal gives, with the same flags.
-    """
-    matched = _DECIMAL.fullmatch(text)
-    if not matched:
-        return text
-    sign, whole, fraction, exponent_sign, exponent = matched.groups(default='')
-    sign = sign.replace('+', '')
-    digits = (whole + fraction).lstrip('0')
-    if not digits:
-        return f'{sign}0x0p0'
-    # No text has so many digits that they bring an exponent of more than 20 digits back into range.
-    power = int(exponent_sign + (exponent.lstrip('0')[:21] or '0')) - len(fraction)
-    above = len(digits) + power
-    if abs(above) > _GREATEST_POWER:
-        return f'{sign}0x1p{99999 if above > 0 else -99999}'
-    cut = digits[_MOST_DIGITS:]
-    if cut:
-        # One digit stands for those that are cut off: no midpoint lies between the two numbers.
-        digits, power = digits[:_MOST_DIGITS] + ('1' if cut.strip('0') else '0'), power + len(cut) - 1
-    return _odd(sign, int(decimal.Decimal(digits)) * 10**max(power, 0), 10**max(-power, 0))
+# The values of `quad` have at most 11,563 decimal digits.
+_MOST_DIGITS = 12_000
 
 
 def _odd(sign: str, numerator: int, denominator: int) -> str:

@@ -344,6 +344,58 @@ class TextTests(unittest.TestCase):
         self.assertEqual(apfloat.half.ieee('-inf').bits, 0xfc00)
         self.assertEqual(apfloat.half.ieee('0x1.8p0').bits, 0x3e00)
 
+    def test_digits(self):
+        draw = random.Random(8)
+        for format in FORMATS:
+            if format is apfloat.double_pair:
+                continue
+            for _ in range(40):
+                value = format.from_bits(draw.getrandbits(format.width))
+                number = number_of(value)
+                if not value.is_finite or not number:
+                    self.assertEqual(value.digits(), ('', 0))
+                    continue
+                with decimal.localcontext(decimal.Context(prec=12_000, Emax=20_000, Emin=-20_000)):
+                    exact = decimal.Decimal(abs(number).numerator) / decimal.Decimal(abs(number).denominator)
+                text, exponent = value.digits()
+                self.assertEqual((text, exponent), (''.join(map(str, exact.normalize(
+                    decimal.Context(prec=12_000, Emax=20_000, Emin=-20_000)).as_tuple().digits)), exact.adjusted()))
+                count = draw.randint(1, 40)
+                with Context(apfloat.TOWARD_ZERO) as context:
+                    cut = value.digits(count)
+                self.assertEqual(cut, (text[:count].ljust(count, '0'), exponent))
+                self.assertEqual(context.flags, Flags.INEXACT if text[count:] else Flags.OK)
+        with self.assertRaises(ValueError):
+            apfloat.half(1).digits(0)
+
+    def test_pairs_and_formats(self):
+        draw = random.Random(10)
+        for _ in range(100):
+            high = draw.uniform(-1, 1) * 2.0**draw.randint(-100, 100)
+            pair = apfloat.double_pair(high) + apfloat.double_pair(math.ulp(high) * draw.randint(-100, 100) / 256)
+            number = Fraction(*pair.as_integer_ratio())
+            for format in apfloat.half, apfloat.single, apfloat.quad, apfloat.x87.ieee:
+                for mode in MODES:
+                    with Context(mode) as context:
+                        value = format.from_pair(pair)
+                    wanted, flags = rounded(format, number, mode)
+                    self.assertEqual((number_of(value), context.flags), (wanted, flags))
+            self.assertEqual(apfloat.quad.from_pair(pair).as_pair().bits, pair.bits)
+            self.assertEqual(apfloat.double_pair(pair.shortest_of_pair()).bits, pair.bits)
+        with self.assertRaises(ValueError):
+            apfloat.half.from_pair(apfloat.half(1))
+
+    def test_hexadecimal_places(self):
+        draw = random.Random(9)
+        for _ in range(100):
+            number = draw.uniform(-1, 1) * 2.0**draw.randint(-900, 900)
+            value = apfloat.double(number)
+            with Context() as context:
+                self.assertEqual(float.fromhex(value.hex(13)), number)
+            self.assertEqual(context.flags, Flags.OK)
+        with self.assertRaises(apfloat.Refused):
+            apfloat.half(1).hex(32)
+
     def test_whole_numbers_are_shown_in_full(self):
         draw = random.Random(6)
         for format in FORMATS:

@@ -198,7 +198,9 @@ static const char *const names[] = {
     "next_down", "compare", "classify", "parse",  "parse_decimal", "shortest", "is_negative",   "neg",
     "abs",       "copy_sign", "min",  "max",      "minimum", "maximum", "qnan",  "snan",          "error_text",
     "version",   "compare_predicate", "total_order", "extremum", "log_b", "scale_b", "integral", "to_format",
-    "machine",   "convert_array", "map_array", "quantize_blocks", "dequantize_blocks", "pack_codes", "unpack_codes"};
+    "machine",   "read_decimal", "write_digits", "digit_count", "write_hex", "write_hex_rounded", "format_facts",
+    "pair_to_format", "pair_from_format", "pair_fma", "pair_shortest", "augmented", "payload",
+    "convert_array", "map_array", "quantize_blocks", "dequantize_blocks", "pack_codes", "unpack_codes"};
 #define KINDS (sizeof names / sizeof names[0])
 
 static void call_on_arrays(uint32_t kind) {
@@ -281,6 +283,19 @@ static void call_on_blocks(uint32_t kind) {
     add_bytes(packed, sizeof packed);
 }
 
+static void call_on_digits(uint32_t kind, uint32_t format, uint32_t mode, apfloat_halves x) {
+    uint8_t bytes[64];
+    size_t length = below(sizeof bytes + 1);
+    memset(bytes, 0x5a, sizeof bytes);
+    switch (kind) {
+    case 0: CALL(apfloat_write_digits, format, mode, x, bytes, length); break;
+    case 1: CALL(apfloat_digit_count, format, x); break;
+    case 2: CALL(apfloat_write_hex, format, x, bytes, length); break;
+    default: CALL(apfloat_write_hex_rounded, format, mode, below(34), x, bytes, length); break;
+    }
+    add_bytes(bytes, sizeof bytes);
+}
+
 static void call(size_t kind) {
     uint32_t format = draw_format(), mode = draw_mode(), to = draw_format(), width = below(140);
     uint32_t magnitude = (uint32_t)draw() >> below(32);
@@ -358,8 +373,36 @@ static void call(size_t kind) {
         break;
     }
     case 44:
-    case 45: call_on_arrays((uint32_t)kind - 44); break;
-    default: call_on_blocks((uint32_t)kind - 46); break;
+        length = draw_text(text, below(4) ? 10 : 16);
+        CALL(apfloat_read_decimal, format, mode, (const uint8_t *)text, length);
+        break;
+    case 45:
+    case 46:
+    case 47:
+    case 48: call_on_digits((uint32_t)kind - 45, format, mode, x); break;
+    case 49: {
+        apfloat_facts facts;
+        memset(&facts, 0xa5, sizeof facts);
+        uint32_t code = apfloat_format_facts(format, &facts);
+        add_bytes(&code, sizeof code);
+        add_bytes(&facts, sizeof facts);
+        break;
+    }
+    case 50: CALL(apfloat_pair_to_format, format, mode, x); break;
+    case 51: CALL(apfloat_pair_from_format, format, mode, x); break;
+    case 52: CALL(apfloat_pair_fma, mode, x, y, z); break;
+    case 53:
+        memset(&written, 0xa5, sizeof written);
+        note_text(apfloat_pair_shortest(draw_value(APFLOAT_DOUBLE_PAIR, x), &written), &written);
+        break;
+    case 54:
+        CALL(apfloat_augmented, below(5), format, x, y, &number);
+        add_bytes(&number, sizeof number);
+        break;
+    case 55: CALL(apfloat_payload, below(4), format, x); break;
+    case 56:
+    case 57: call_on_arrays((uint32_t)kind - 56); break;
+    default: call_on_blocks((uint32_t)kind - 58); break;
     }
 }
 

@@ -619,6 +619,55 @@ void check_machines() {
 }
 
 // The operations of IEEE 754-2019; their rows are checked in C and Python.
+void check_digits() {
+    const auto read = read_decimal<ieee<binary32>>("1e39", rounding::toward_zero);
+    CHECK(read && read->value.bits() == 0x7f7fffff && read->status == (flag::overflow | flag::inexact));
+    CHECK(read_decimal<binary64>("0.1")->value == number(0.1) && !read_decimal<ieee<binary32>>("1e"));
+    char digits[] = "#####";
+    auto written = write_digits(number(0.1), digits, 5);
+    CHECK(std::string_view(digits) == "10000" && written.value.count == 5 && written.value.exponent == -1);
+    CHECK(written.status == flag::inexact);
+    written = write_digits(number(-0.0), digits, 5);
+    CHECK(written.value.count == 0 && written.value.exponent == 0 && written.status.none());
+    // 0.1 as a double has the digits 1000000000000000055511151231257827021181583404541015625.
+    CHECK(digit_count(number(0.1)) == 55 && digit_count(number(0.0)) == 0);
+    CHECK(hexadecimal_text(number(-0.75)).view() == "-0x1.8p-1");
+    CHECK(hexadecimal_text(value<binary16>::from_bits(0x7e01)).view() == "nan0x1");
+    CHECK(hexadecimal_text(number(0.1), 3).value.view() == "0x1.99ap-4");
+    CHECK(hexadecimal_text(number(0.1), 3).status == flag::inexact);
+    const auto facts = facts_of<binary64>();
+    CHECK(facts.decimal_digits == 17 && facts.greatest_exponent == 1023 && facts.nans == APFLOAT_NANS_WITH_PAYLOADS);
+    CHECK(facts.largest.low == UINT64_C(0x7fefffffffffffff) && facts.smallest.low == 1 && facts.bytes == 8);
+}
+
+void check_pairs_and_formats() {
+    // 1 + 2^-60 is no double; its square is 1 + 2^-59 + 2^-120.
+    const auto near_one = pair_of(number(1.0), number(0x1p-60));
+    CHECK(pair_to_format<binary64>(near_one).value == number(1.0));
+    CHECK(pair_to_format<binary64>(near_one).status == flag::inexact);
+    CHECK(pair_to_format<binary64>(near_one, rounding::upward).value == number(0x1.0000000000001p0));
+    const auto quad_one = pair_to_format<binary128>(near_one);
+    CHECK(quad_one.status.none() && pair_from_format(quad_one.value).value == near_one);
+    const auto rest = pair_fma(near_one, near_one, pair_of(number(-1.0)));
+    CHECK(rest.status.none() && high_of(rest.value) == number(0x1p-59) && low_of(rest.value) == number(0x1p-120));
+    CHECK(shortest_text_of_pair(read_decimal<double_pair>("0.1")->value)->view() == "0.1");
+    CHECK(!shortest_text_of_pair(pair_of(number(1.0), number(0x1p-200))));
+}
+
+void check_augmented() {
+    const auto sum = augmented_add(number(1.0), number(0x1p-53));
+    CHECK(sum.status.none() && sum.value.head == number(1.0) && sum.value.tail == number(0x1p-53));
+    const auto rest = augmented_subtract(number(1.0), number(0x1p-60));
+    CHECK(rest.value.head == number(1.0) && rest.value.tail == number(-0x1p-60));
+    const auto square = augmented_multiply(number(0x1.0000000000001p0), number(0x1.0000000000001p0));
+    CHECK(square.value.head == number(0x1.0000000000002p0) && square.value.tail == number(0x1p-104));
+    const auto past = augmented_add(half::from_bits(0x7bff), half::from_bits(0x7bff));
+    CHECK(is_infinite(past.value.tail) && past.status == (flag::overflow | flag::inexact));
+    CHECK(get_payload(half::from_bits(0x7e07)).bits() == 0x4700 && get_payload(number(2.0)) == number(-1.0));
+    CHECK(set_payload(half::from_bits(0x4700)).bits() == 0x7e07 && set_payload(number(0.5)) == number(0.0));
+    CHECK(set_payload_signaling(half::from_bits(0x4700)).bits() == 0x7c07);
+}
+
 void check_operations() {
     const auto quiet = single::from_bits(0x7fc00001), signaling = single::from_bits(0x7f800003), one = single(1.0f);
     const auto is_less = holds(predicate::less, on_nan::quiet, quiet, one);
@@ -672,6 +721,9 @@ int main(int count, char **) {
     check_errors();
     check_literals();
     check_texts();
+    check_digits();
+    check_pairs_and_formats();
+    check_augmented();
     check_hashes();
     check_arrays();
     check_stored_arrays();

@@ -11,3 +11,8 @@ pub mod MachineOnce
 pub mod OperationTables
 pub mod NormalElements
 pub mod DecimalReadings
+pub mod FlaggedReadings
+pub mod FactsOnce
+pub mod DigitsOnce
+pub mod PairsOnce
+pub mod AugmentedOnce

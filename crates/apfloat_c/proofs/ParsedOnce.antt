@@ -55,7 +55,7 @@ read_answer_once : (kind : Kind) → KindHasLaw kind → (mode : Round) (text : 
     → SameAnswer first second
 read_answer_once kind has mode text a b x y = decimal_answer_once kind has mode text a b x.1 y.1
 
-read_into_once : (kind : Kind) → KindHasLaw kind → (mode : Round) (text : List ℕ) (old first second : Answer)
+pub read_into_once : (kind : Kind) → KindHasLaw kind → (mode : Round) (text : List ℕ) (old first second : Answer)
     (code other : ℕ) → IsReadInto kind mode text old first code → IsReadInto kind mode text old second other
     → (code ≡ other) × SameAnswer first second
 read_into_once kind has mode text old a b code other (inl x) (inl y) =

@@ -47,7 +47,7 @@ one_text f (infinite negative) a b some x y = x ∙ sym y
 one_text f (nan negative significand) a b some x y = x ∙ sym y
 
 -- a text fills the struct in one way
-one_struct : (written other : List ℕ) (first second : DecimalText) → written ≡ other
+pub one_struct : (written other : List ℕ) (first second : DecimalText) → written ≡ other
     → IsText written first → IsText other second → first ≡ second
 one_struct written other a b same x y =
     let filled = λ (text : List ℕ). text ++ replicate (64 - length text) 0 in

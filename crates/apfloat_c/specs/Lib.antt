@@ -5,3 +5,8 @@ pub mod About
 pub mod Blocks
 pub mod OneAnswer
 pub mod OperationTables
+pub mod Readings
+pub mod Facts
+pub mod Digits
+pub mod Pairs
+pub mod Augmented

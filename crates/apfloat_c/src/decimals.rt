@@ -103,9 +103,9 @@ fn decimal_kind(kind: FlaggedKind) -> Option<BuiltInKind>
 
 /// A text to be read.
 #[derive(Clone, Copy)]
-struct DecimalReading<'a> {
-    round: Round,
-    text: &'a [u8],
+pub(crate) struct DecimalReading<'a> {
+    pub round: Round,
+    pub text: &'a [u8],
 }
 
 impl FillsInFormat for DecimalReading<'_> {
@@ -152,7 +152,7 @@ fn has_quad_exponents<S: Flagged>() -> bool
 }
 
 /// Reads a text as a pair of doubles.
-fn read_pair(answer: &mut Answer, round: Round, text: &[u8]) -> u32
+pub(crate) fn read_pair(answer: &mut Answer, round: Round, text: &[u8]) -> u32
     ensures { IsReadInto of_pairs round text.now answer.old answer.new result }
 {
     match read_decimal_pair_ascii(text, round) {
@@ -165,7 +165,7 @@ fn read_pair(answer: &mut Answer, round: Round, text: &[u8]) -> u32
 }
 
 /// A pair with its flags.
-fn pair_in_bits(read: StatusAnd<DoubleDouble>) -> Answer
+pub(crate) fn pair_in_bits(read: StatusAnd<DoubleDouble>) -> Answer
     ensures { IsValueWritten in_pairs read (pos 0) result }
 {
     Answer::of(read.value.to_bits(), read.status, 0)
@@ -191,7 +191,7 @@ impl InFormat for Writing {
 
 /// What is written of a value.
 #[derive(Clone, Copy)]
-enum Shortest {
+pub(crate) enum Shortest {
     /// The shortest decimal of a number.
     Number(Decimal),
     /// An infinity, which may be negative.
@@ -212,7 +212,7 @@ fn shortest_of<S: Semantics>(x: IeeeFloat<S>) -> Shortest
 }
 
 /// Writes a text, that of a number in place: a copy right after it was written would wait for its bytes.
-fn write(found: Shortest, text: &mut DecimalText)
+pub(crate) fn write(found: Shortest, text: &mut DecimalText)
     ensures { IsText (text_of_shortest found) text.new }
 {
     match found {

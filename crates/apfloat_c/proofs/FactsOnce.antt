@@ -1,0 +1,81 @@
+-- A format has one description.
+use Rattle.std.proofs.Common.{◌≡◌, ℕ, ◌-◌, ◌^◌, ◌<◌, ◌≤◌, Ok, Err, refl, sym, ◌∙◌, subst, arith, lit<, ⊎_elim}
+use Rattle.std.proofs.Math.Nat.{pow-le-pow_right}
+use Rattle.std.proofs.lemmas.Bool.{cases_lt}
+use Rattle.rustc_apfloat.specs.declared.Round.TheVariants.{NearestTiesToEven}
+use Rattle.rustc_apfloat.specs.Datum.{Datum}
+use Rattle.coded_calls.specs.declared.data.Halves.{Halves}
+use Rattle.coded_calls.specs.Answers.{whole}
+use Rattle.formats_at_run_time.specs.declared.BuiltInFormat.{BuiltInFormat}
+use Rattle.formats_at_run_time.specs.BuiltIns.{constants_in}
+use Rattle.apfloat_arrays.proofs.scaled_blocks_lemmas.FormatLaws.{built_in_law}
+use Rattle.apfloat_c.specs.declared.facts.Facts.{Facts}
+use Rattle.apfloat_c.specs.Facts.{AreFactsOnce, IsDigitCountToReadBack, IsEncoding, SameFacts}
+use Rattle.apfloat_c.proofs.ExportsOnce.{format_determined}
+
+-- a datum has one encoding
+encoding_once : (format : BuiltInFormat) (datum : Datum) (first second : Halves)
+    → IsEncoding (constants_in format) first datum → IsEncoding (constants_in format) second datum
+    → whole first ≡ whole second
+encoding_once format datum a b x y =
+    let has = built_in_law format in
+    (format_determined (constants_in format) has NearestTiesToEven).bits has.wide datum (whole a) (whole b) x y
+
+-- no fewer digits are enough
+count_at_most : (precision first second : ℕ) → IsDigitCountToReadBack precision first
+    → IsDigitCountToReadBack precision second → first ≤ second
+count_at_most precision a b x y =
+    ⊎_elim
+    (λ (l : b < a).
+    let some = y.some in
+    let enough = y.enough in
+    let least = x.least in
+    let next : b - 1 ≤ a - 2 = omega (arith, l, some) in
+    let power : 10 ^ (b - 1) ≤ 10 ^ (a - 2) = pow-le-pow_right (lit< tt) next in
+    absurd (omega (arith, power, enough, least)))
+    (λ (h : a ≤ b). h)
+    (cases_lt b a)
+
+count_once : (precision first second : ℕ) → IsDigitCountToReadBack precision first
+    → IsDigitCountToReadBack precision second → first ≡ second
+count_once precision a b x y =
+    let most = count_at_most precision a b x y in
+    let least = count_at_most precision b a y x in
+    omega (arith, most, least)
+
+same_facts : (facts : Facts) → SameFacts facts facts
+same_facts facts =
+    record {
+      largest = refl;
+      smallest_normal = refl;
+      smallest = refl;
+      bits = refl;
+      bytes = refl;
+      precision = refl;
+      least_exponent = refl;
+      greatest_exponent = refl;
+      decimal_digits = refl;
+      has_infinities = refl;
+      nans = refl;
+    }
+
+pub facts_once : AreFactsOnce
+facts_once (Err error) old a b code other x y =
+    (x.0 ∙ sym y.0, subst (λ (facts : Facts). SameFacts a facts) (x.1 ∙ sym y.1) (same_facts a))
+facts_once (Ok format) old a b code other x y = (
+  x.0 ∙ sym y.0,
+  record {
+    largest = encoding_once format _ a.largest b.largest x.1.largest y.1.largest;
+    smallest_normal = encoding_once format _ a.smallest_normal b.smallest_normal x.1.smallest_normal
+        y.1.smallest_normal;
+    smallest = encoding_once format _ a.smallest b.smallest x.1.smallest y.1.smallest;
+    bits = x.1.bits ∙ sym y.1.bits;
+    bytes = x.1.bytes ∙ sym y.1.bytes;
+    precision = x.1.precision ∙ sym y.1.precision;
+    least_exponent = x.1.least_exponent ∙ sym y.1.least_exponent;
+    greatest_exponent = x.1.greatest_exponent ∙ sym y.1.greatest_exponent;
+    decimal_digits = count_once _ a.decimal_digits b.decimal_digits x.1.decimal_digits y.1.decimal_digits;
+    has_infinities = x.1.has_infinities ∙ sym y.1.has_infinities;
+    nans = x.1.nans ∙ sym y.1.nans;
+  },
+)
