@@ -1,7 +1,7 @@
 // Lines that an AArch64 processor, or an emulator of one, computes: ARM SEED COUNT
 //
-// Draws operands and controls (the mode, FZ, FZ16, DN) from a seed, and writes for each operation COUNT lines: its name,
-// FPCR, the operands, the result, and FPSR. `machine_rows arm` compares them with the library:
+// Draws operands and controls (the mode, FZ, FZ16, DN) from a seed, and writes for each operation COUNT lines: its
+// name, FPCR, the operands, the result, and FPSR. `machine_rows arm` compares them with the library:
 //
 //     aarch64-linux-gnu-gcc -O1 -march=armv8.6-a+fp16+bf16 -static -o ARM evidence/processor/arm.c
 //     qemu-aarch64 -cpu max ARM 1 100000 | (cd evidence/processor/machine_rows && cargo run --release -- arm)
@@ -66,7 +66,8 @@ static uint64_t control(void) {
 #define ON_ONE(NAME, TEXT) STEP(NAME##_h, TEXT " h0, h1") STEP(NAME##_s, TEXT " s0, s1") STEP(NAME##_d, TEXT " d0, d1")
 #define TO_INTEGER(NAME, TEXT)                                                                                         \
     STEP(NAME##_h, TEXT " w0, h1") STEP(NAME##_s, TEXT " w0, s1") STEP(NAME##_d, TEXT " w0, d1")
-#define COMPARED(NAME, TEXT) STEP(NAME##_h, TEXT " h1, h2") STEP(NAME##_s, TEXT " s1, s2") STEP(NAME##_d, TEXT " d1, d2")
+#define COMPARED(NAME, TEXT)                                                                                           \
+    STEP(NAME##_h, TEXT " h1, h2") STEP(NAME##_s, TEXT " s1, s2") STEP(NAME##_d, TEXT " d1, d2")
 ON_TWO(fadd, "fadd")
 ON_TWO(fsub, "fsub")
 ON_TWO(fmul, "fmul")

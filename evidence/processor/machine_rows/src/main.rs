@@ -348,7 +348,12 @@ macro_rules! sse_operations {
                 });
             };
         }
-        integral!("to integral", concat!("rounds", $suffix, " {whole}, {given}, 4"), |c| c.round, Float::round_to_integral);
+        integral!(
+            "to integral",
+            concat!("rounds", $suffix, " {whole}, {given}, 4"),
+            |c| c.round,
+            Float::round_to_integral
+        );
         integral!(
             "floor without INEXACT",
             concat!("rounds", $suffix, " {whole}, {given}, 9"),
