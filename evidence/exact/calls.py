@@ -301,6 +301,8 @@ def answered_in_fewer_digits(operation, kind_word, mode, operands):
 def answered_on_machine(call, kind_word, mode, operands):
     """A call on a machine, as in `single@x86` and `double>single@power`."""
     source_word, _, target_word = kind_word.rpartition(">")
+    if not machines.is_given(source_word, target_word):
+        raise ValueError(f"no machine gives {kind_word}")
     form, machine, flushes = machines.on_machine(target_word)
     kind = _KINDS[form.name]
     if source_word:

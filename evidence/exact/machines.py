@@ -49,6 +49,10 @@ MACHINES = {
     "risc_v": Machine("default", False, False, "ABC", True, True, True, "greatest", "greatest", False, False, None),
     "power": Machine("first", False, True, "ACB", False, False, True, "least", "zero", False, False, None),
     "s390x": Machine("signaling", False, True, "ABC", True, True, True, "least", "zero", False, True, None),
+    "arm_alternate_default_nan": Machine(
+        "default", True, False, "ABC", True, True, False, "zero", "zero", False, False, X86_FLUSH
+    ),
+    "mips_2008": Machine("signaling", False, False, "CAB", False, False, True, "zero", None, False, False, None),
 }
 
 RULES = ("second", "second_quietly", "first_nan", "number_2008", "number_2019", "propagated")
@@ -60,7 +64,18 @@ def on_machine(word):
     name_of_machine, _, option = rest.partition("+")
     machine = MACHINES[name_of_machine]
     form = with_ieee_flags(FORMATS[name])[machine.tiny_before_rounding]
+    if option == "ftz" and machine.flushed is None:
+        raise ValueError(f"{name_of_machine} does not flush")
     return form, machine, option == "ftz"
+
+
+def is_given(source, word):
+    """Whether a machine gives such rows, of a word such as `half@x86+ftz`, in which `source` is converted, if any."""
+    target, _, rest = word.partition("@")
+    machine, _, option = rest.partition("+")
+    if (source, target, machine) == ("single", "bfloat", "x86"):
+        return False
+    return not (option == "ftz" and target == "half" and (source or machine == "x86"))
 
 
 def default_nan(form, machine):

@@ -4,7 +4,13 @@
 //     s390x-linux-gnu-gcc -O1 -march=z14 -static -nostdlib -ffreestanding -o RUN evidence/processor/emulated.c
 //     qemu-s390x RUN | python3 evidence/processor/emulated.py
 //
-// The same for aarch64, riscv64 and powerpc64le (with -mcpu=power9). Values are doubles, since POWER computes in them.
+// The same for aarch64, riscv64 and powerpc64le (with -mcpu=power9), and for MIPS by clang, with
+//
+//     clang --target=mips64el-linux-gnuabi64 -mcpu=mips64r6 -mnan=2008 -O1 -ffreestanding -nostdlib -static -fno-pic \
+//         -mno-abicalls -G0 -mxgot -fuse-ld=lld -Wl,-e,_start -o RUN evidence/processor/emulated.c
+//     qemu-mips64el -cpu I6400 RUN | python3 evidence/processor/emulated.py
+//
+// Values are doubles, since POWER computes in them.
 typedef unsigned long long u64;
 typedef unsigned u32;
 
@@ -301,6 +307,75 @@ static u32 to_single(double x) {
     __builtin_memcpy(&bits, &r, 4);
     return bits;
 }
+
+#elif defined(__mips__)
+static long write_out(const char *text, long length) {
+    register long v0 __asm__("$2") = 5001, a0 __asm__("$4") = 1, a2 __asm__("$6") = length, a3 __asm__("$7");
+    register const char *a1 __asm__("$5") = text;
+    __asm__ volatile("syscall" : "+r"(v0), "=r"(a3) : "r"(a0), "r"(a1), "r"(a2) : "memory", "$1", "$3", "$8", "$9",
+                     "$10", "$11", "$12", "$13", "$14", "$15", "$24", "$25");
+    return v0;
+}
+static void stop(void) {
+    register long v0 __asm__("$2") = 5058, a0 __asm__("$4") = 0;
+    __asm__ volatile("syscall" : : "r"(v0), "r"(a0));
+}
+static void read_flags(void) {
+    u32 s;
+    __asm__ volatile("cfc1 %0, $31" : "=r"(s));
+    raised = (s >> 6 & 1) | (s >> 5 & 1) << 1 | (s >> 4 & 1) << 2 | (s >> 3 & 1) << 3 | (s >> 2 & 1) << 4;
+}
+#define BEGIN __asm__ volatile("ctc1 $zero, $31")
+#define TWO(NAME) __asm__ volatile(NAME " %0, %1, %2" : "=f"(r) : "f"(x), "f"(y))
+static double of_two(int call, double x, double y) {
+    double r = 0;
+    BEGIN;
+    switch (call) {
+    case 0: TWO("add.d"); break;
+    case 1: TWO("mul.d"); break;
+    case 2: TWO("min.d"); break;
+    case 3:
+        // max.d $f0, $f2, $f4; clang 14 makes mina.d of it.
+        __asm__ volatile("mov.d $f2, %1\n\tmov.d $f4, %2\n\t.word 0x4624101e\n\tmov.d %0, $f0"
+                         : "=f"(r)
+                         : "f"(x), "f"(y)
+                         : "$f0", "$f2", "$f4");
+        break;
+    }
+    read_flags();
+    return r;
+}
+static const char *const CALLS[] = {"add", "mul", "min:Number2008", "max:Number2008"};
+enum { CALL_COUNT = 4, MACHINE_COUNT = 1 };
+static const char *const MACHINES[] = {"Mips2008"};
+static void choose(int machine) { (void)machine; }
+static double fused(double x, double y, double z) {
+    double r = z;
+    BEGIN;
+    __asm__ volatile("maddf.d %0, %1, %2" : "+f"(r) : "f"(x), "f"(y));
+    read_flags();
+    return r;
+}
+static u32 word_of(float r) {
+    u32 bits;
+    __builtin_memcpy(&bits, &r, 4);
+    return bits;
+}
+static u32 to_signed(double x) {
+    float r;
+    BEGIN;
+    __asm__ volatile("cvt.w.d %0, %1" : "=f"(r) : "f"(x));
+    read_flags();
+    return word_of(r);
+}
+#define HAS_NO_UNSIGNED
+static u32 to_single(double x) {
+    float r;
+    BEGIN;
+    __asm__ volatile("cvt.s.d %0, %1" : "=f"(r) : "f"(x));
+    read_flags();
+    return word_of(r);
+}
 #endif
 
 // ---- lines: a machine, a call, operands, the result and the flags, as the library counts them
@@ -349,8 +424,10 @@ static const u64 NUMBERS[] = {0x41e0000000000000, 0xc1e0000000000000, 0xc1e00000
 static void integers(const char *machine, u64 bits) {
     u64 r = to_signed(of_bits(bits));
     put_text(machine), put_text("signed"), put_bits(bits), end_line(r);
+#ifndef HAS_NO_UNSIGNED
     r = to_unsigned(of_bits(bits));
     put_text(machine), put_text("unsigned"), put_bits(bits), end_line(r);
+#endif
 }
 
 void run(void) {
@@ -387,6 +464,8 @@ __asm__(".globl _start\n_start:\n\t.option push\n\t.option norelax\n\tla gp, __g
 __asm__(".globl _start\n_start:\n\tbl run\n");
 #elif defined(__powerpc64__)
 __asm__(".globl _start\n_start:\n\tlis 2,.TOC.@ha\n\taddi 2,2,.TOC.@l\n\tbl run\n\tnop\n");
+#elif defined(__mips__)
+__asm__(".globl _start\n_start:\n\tjal run\n\tnop\n");
 #elif defined(__s390x__)
 __asm__(".globl _start\n_start:\n\taghi 15,-160\n\tbrasl 14,run\n");
 #endif

@@ -22,6 +22,7 @@ RULES = {
     "RiscV": ("default", 0, "xyz", True, True, True),
     "Power": ("first", 0, "xzy", False, False, True),
     "S390x": ("signaling", 0, "xyz", True, True, True),
+    "Mips2008": ("signaling", 0, "zxy", False, False, True),
 }
 # The integer of a NaN, signed and unsigned.
 OF_NAN = {
@@ -30,6 +31,7 @@ OF_NAN = {
     "RiscV": (2**31 - 1, 2**32 - 1),
     "Power": (-(2**31), 0),
     "S390x": (-(2**31), 0),
+    "Mips2008": (0, 0),
 }
 
 

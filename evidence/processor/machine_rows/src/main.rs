@@ -8,6 +8,10 @@
 //! the range or of a digit. SSE takes turns with FTZ and DAZ. The processor has to have FMA, F16C and SSE4; without
 //! AVX-512 there are no unsigned integers. Prints each difference, at most ten of an operation, and how many rows of
 //! each operation agree; the status is 1 if one differs.
+//!
+//! `cargo run --release -- arm` compares the lines of `evidence/processor/arm.c` on standard input.
+
+mod arm;
 
 use rustc_apfloat::comparisons::{OnNan, Predicate, compare, round_to_integral_in};
 use rustc_apfloat::ieee::{DoubleS, HalfS, IeeeFlags, IeeeFloat, Semantics, SingleS, X87DoubleExtendedS};
@@ -326,13 +330,13 @@ macro_rules! sse_operations {
             (here, ours, format!("{:x} {a:x} {b:x} {c:x}", control.word))
         });
         macro_rules! integral {
-            ($call:literal, $immediate:literal, $round:expr, $rounded:expr) => {
+            ($call:literal, $steps:expr, $round:expr, $rounded:expr) => {
                 tally.rows(concat!($name, " ", $call), count, || {
                     let control = Control::drawn(draw);
                     let a = draw.$draws(None);
                     let given = <$bits>::from_bits(a as _);
                     let mut whole = given;
-                    let flags = sse!(control.word, concat!("rounds", $suffix, " {whole}, {given}, ", $immediate),
+                    let flags = sse!(control.word, $steps,
                         whole = inout(xmm_reg) whole, given = in(xmm_reg) given,);
                     let here = Outcome { value: whole.to_bits().into(), flags };
                     let x = control.operand($Type::from_bits(a));
@@ -344,8 +348,26 @@ macro_rules! sse_operations {
                 });
             };
         }
-        integral!("to integral", "4", |c| c.round, |x, round| x.round_to_integral(round));
-        integral!("floor without INEXACT", "9", |_| Round::TowardNegative, round_to_integral_in);
+        integral!(
+            "to integral",
+            concat!("rounds", $suffix, " {whole}, {given}, 4"),
+            |c| c.round,
+            Float::round_to_integral
+        );
+        integral!(
+            "floor without INEXACT",
+            concat!("rounds", $suffix, " {whole}, {given}, 9"),
+            |_| Round::TowardNegative,
+            round_to_integral_in
+        );
+        if is_x86_feature_detected!("avx512f") {
+            integral!(
+                "to integral by VRNDSCALE",
+                concat!("vrndscales", $suffix, " {whole}, {whole}, {given}, 4"),
+                |c| c.round,
+                Float::round_to_integral
+            );
+        }
         macro_rules! integer {
             ($call:literal, $instruction:expr, $register:literal, $width:literal, $whole:ident, $round:expr) => {
                 tally.rows(concat!($name, " ", $call), count, || {
@@ -694,17 +716,27 @@ fn unit(tally: &mut Tally, draw: &mut Draw, count: u64) {
 }
 
 fn main() {
-    let mut arguments = std::env::args().skip(1).map(|word| word.parse().expect("a number"));
-    let seed = arguments.next().unwrap_or(1);
-    let count = arguments.next().unwrap_or(1_000_000);
-    let mut draw = Draw(seed);
+    let words: Vec<String> = std::env::args().skip(1).collect();
     let mut tally = Tally { differing: 0 };
-    sse_operations!(&mut tally, &mut draw, count, Single, single, converted_single, "s", f32, "single");
-    sse_operations!(&mut tally, &mut draw, count, Double, double, converted_double, "d", f64, "double");
-    conversions(&mut tally, &mut draw, count);
-    unit(&mut tally, &mut draw, count);
+    if words == ["arm"] {
+        arm::compare_lines(std::io::stdin().lock(), &mut tally);
+    } else {
+        compare_processor(&words, &mut tally);
+    }
     if tally.differing != 0 {
         println!("{} rows differ", tally.differing);
         std::process::exit(1);
     }
+}
+
+/// Compares the processor at hand: the words are the seed and the count.
+fn compare_processor(words: &[String], tally: &mut Tally) {
+    let mut numbers = words.iter().map(|word| word.parse().expect("a number"));
+    let seed = numbers.next().unwrap_or(1);
+    let count = numbers.next().unwrap_or(1_000_000);
+    let mut draw = Draw(seed);
+    sse_operations!(tally, &mut draw, count, Single, single, converted_single, "s", f32, "single");
+    sse_operations!(tally, &mut draw, count, Double, double, converted_double, "d", f64, "double");
+    conversions(tally, &mut draw, count);
+    unit(tally, &mut draw, count);
 }

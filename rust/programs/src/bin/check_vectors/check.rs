@@ -32,14 +32,12 @@ pub struct Task {
     pub first: Option<u64>,
     /// Whether a long check says how far it has come.
     pub shows_progress: bool,
-    /// Whether lines of other programs are skipped if the library has no such call.
-    pub skips_unknown: bool,
 }
 
 impl Task {
-    /// The check of rows to the end, which writes those that differ.
-    pub fn rows() -> Task {
-        Task { lines: Lines::Rows, is_summary: false, first: None, shows_progress: false, skips_unknown: false }
+    /// The check of lines to the end, which writes those that differ.
+    pub fn of(lines: Lines) -> Task {
+        Task { lines, is_summary: false, first: None, shows_progress: false }
     }
 
     /// The same check, which says how far it has come if that is shown.

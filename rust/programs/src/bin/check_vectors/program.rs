@@ -43,10 +43,12 @@ and _roundToInt, may end in _r_ROUND or _rx_ROUND, where ROUND is near_even,
 near_maxMag, minMag, min or max, and _roundToInt in _x: x compares the inexact
 flag too.
 
-After --testfloat FUNCTION may follow -rnear_even -rmax -rmin -rminMag
+With --testfloat FUNCTION may stand -rnear_even -rmax -rmin -rminMag
 -rnear_maxMag -rodd -precision32 -precision64 -precision80 -tininessafter
--tininessbefore -notexact -exact --any-nan, and after --fpgen -tininessafter
--tininessbefore. After --, the name of FILE may begin with -.
+-tininessbefore -notexact -exact -checkNaNs --any-nan, and with --fpgen
+-tininessafter -tininessbefore, before or after it. Of a NaN only that it is
+quiet is compared, with -checkNaNs all bits, with --any-nan nothing. After --,
+the name of FILE may begin with -.
 
 Empty lines and comments, which begin with #, are skipped. The program writes
 each row that differs and each malformed line with its number, and at the end
@@ -72,7 +74,9 @@ static OPTIONS_OF_TESTFLOAT: &[&str] = &[
     "--summary",
     "--first",
     "--skip-unknown",
+    "--testfloat",
     "--any-nan",
+    "-checkNaNs",
     "-rnear_even",
     "-rmax",
     "-rmin",
@@ -89,7 +93,8 @@ static OPTIONS_OF_TESTFLOAT: &[&str] = &[
 ];
 
 /// The same before one of FPgen's lines.
-static OPTIONS_OF_FPGEN: &[&str] = &["--summary", "--first", "--skip-unknown", "-tininessafter", "-tininessbefore"];
+static OPTIONS_OF_FPGEN: &[&str] =
+    &["--summary", "--first", "--skip-unknown", "--fpgen", "-tininessafter", "-tininessbefore"];
 
 /// Runs the program with the words of the command line. If `err` is a terminal, it is told how far a long check has
 /// come. Returns the exit status.
@@ -124,13 +129,46 @@ impl Job<'_> {
     }
 }
 
-/// What the options before a file ask for, and the words after them.
+/// What the options before a file ask for, and the words after them. An option of lines may stand before the one that
+/// says of which program they are.
 fn task_of(words: &[String]) -> Result<(Task, &[String]), WrongWord<'_>> {
-    let (mut task, mut left) = (Task::rows(), words);
+    let (mut task, mut left) = (Task::of(lines_of(words)?), words);
     while let Some((changed, others)) = next_option(task, left)? {
         (task, left) = (changed, others);
     }
     Ok((task, left))
+}
+
+/// The kind of lines that the options before a file ask for.
+fn lines_of(words: &[String]) -> Result<Lines, WrongWord<'_>> {
+    let skips_unknown = options(words).any(|(option, _)| option == "--skip-unknown");
+    let mut lines = Lines::Rows;
+    for (option, others) in options(words) {
+        match option {
+            "--testfloat" => lines = testfloat(skips_unknown, option, others)?,
+            "--fpgen" => lines = Lines::Fpgen(Fpgen::new().skipping(skips_unknown)),
+            _ => {}
+        }
+    }
+    Ok(lines)
+}
+
+/// The options before a file, each with the words after it.
+fn options(words: &[String]) -> impl Iterator<Item = (&str, &[String])> {
+    let mut left = words;
+    std::iter::from_fn(move || {
+        let (option, others) = left.split_first()?;
+        if option == "--" || option == "-" || !option.starts_with('-') {
+            return None;
+        }
+        left = if takes_word(option) { others.get(1..).unwrap_or_default() } else { others };
+        Some((option.as_str(), others))
+    })
+}
+
+/// Whether the word after an option belongs to it.
+fn takes_word(option: &str) -> bool {
+    matches!(option, "--first" | "--testfloat")
 }
 
 /// The task with the next option and the words after it, if an option is next.
@@ -140,10 +178,9 @@ fn next_option(task: Task, words: &[String]) -> Result<Option<(Task, &[String])>
     };
     let (task, others) = match option.as_str() {
         "--summary" => (Task { is_summary: true, ..task }, others),
-        "--skip-unknown" => (Task { skips_unknown: true, ..task }, others),
         "--first" => limited(task, option, others)?,
-        "--testfloat" => on_testfloat(task, option, others)?,
-        "--fpgen" => (Task { lines: Lines::Fpgen(Fpgen::new().skipping(task.skips_unknown)), ..task }, others),
+        "--testfloat" => (task, others.get(1..).unwrap_or_default()),
+        "--fpgen" | "--skip-unknown" => (task, others),
         word => match task.lines.with(word) {
             Some(lines) => (Task { lines, ..task }, others),
             None => return Ok(None),
@@ -159,15 +196,14 @@ fn limited<'a>(task: Task, option: &'a str, words: &'a [String]) -> Result<(Task
     Ok((Task { first: Some(first), ..task }, others))
 }
 
-/// The task on lines of the function of TestFloat that the word after the option names.
-fn on_testfloat<'a>(task: Task, option: &'a str, words: &'a [String]) -> Result<(Task, &'a [String]), WrongWord<'a>> {
-    let (name, others) = words.split_first().ok_or(wrong("a word is missing after", option))?;
-    let lines = match TestFloat::named(name) {
-        Some(function) => Lines::TestFloat(function),
-        None if task.skips_unknown => Lines::Unknown,
-        None => return Err(wrong("no such function of TestFloat", name)),
-    };
-    Ok((Task { lines, ..task }, others))
+/// The lines of the function of TestFloat that the word after the option names.
+fn testfloat<'a>(skips_unknown: bool, option: &'a str, others: &'a [String]) -> Result<Lines, WrongWord<'a>> {
+    let name = others.first().ok_or(wrong("a word is missing after", option))?;
+    match TestFloat::named(name) {
+        Some(function) => Ok(Lines::TestFloat(function)),
+        None if skips_unknown => Ok(Lines::Unknown),
+        None => Err(wrong("no such function of TestFloat", name)),
+    }
 }
 
 /// A word that is wrong, and which no list of words corrects.

@@ -7,7 +7,7 @@ use crate::lines::call_row::CallRow;
 use crate::lines::every::EVERY;
 use crate::lines::form::Form;
 use crate::lines::formats::Formats;
-use crate::lines::machine_format::{MACHINE_WORDS, unflushed, unknown_machine};
+use crate::lines::machine_format::{MACHINE_WORDS, not_given, unknown_machine};
 use crate::lines::operands::Operand;
 use crate::lines::operations::OperationCall;
 use crate::lines::row_error::{RowError, bits_error};
@@ -48,9 +48,9 @@ impl<'a> CallRow<'a> {
 
 /// The error for a word that names no formats.
 fn format_error(formats: &str) -> RowError<'_> {
-    match (unknown_machine(formats), unflushed(formats)) {
+    match (unknown_machine(formats), not_given(formats)) {
         (Some(word), _) => RowError::Word("no machine", word, MACHINE_WORDS),
-        (None, Some(instead)) => RowError::Word("no flushing", formats, instead),
+        (None, Some((fault, instead))) => RowError::Word(fault, formats, instead),
         (None, None) => RowError::Word("no format", formats, "one that docs/PROGRAMS.md lists, or SOURCE>TARGET"),
     }
 }

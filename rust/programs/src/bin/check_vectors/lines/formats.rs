@@ -3,7 +3,7 @@
 use crate::erased::formats_at_run_time::{BuiltInFormat, FlaggedFormat};
 use crate::lines::call::Call;
 use crate::lines::fewer_digits::FewerDigits;
-use crate::lines::machine_format::{MachineFormat, unflushed};
+use crate::lines::machine_format::{MachineFormat, not_given};
 use crate::lines::row_format::RowFormat;
 use crate::lines::storage::StorageName;
 
@@ -58,7 +58,7 @@ impl Formats {
     /// The formats of this word.
     pub fn named(word: &str) -> Option<Formats> {
         if let Some((formats, machine)) = word.split_once('@') {
-            return if unflushed(word).is_none() { Formats::on_machine(formats, machine) } else { None };
+            return if not_given(word).is_none() { Formats::on_machine(formats, machine) } else { None };
         }
         match word.split_once('>') {
             None if word == "dd" => Some(Formats::Pairs),

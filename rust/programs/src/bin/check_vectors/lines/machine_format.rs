@@ -18,7 +18,7 @@ pub struct MachineFormat {
     pub flush: Option<Flush>,
 }
 
-/// The machines by their words. The last four are other spellings.
+/// The machines by their words. The last six are other spellings.
 static MACHINES: &[(&str, Machine)] = &[
     ("x86", Machine::X86),
     ("x87", Machine::X87),
@@ -28,14 +28,19 @@ static MACHINES: &[(&str, Machine)] = &[
     ("risc_v", Machine::RiscV),
     ("power", Machine::Power),
     ("s390x", Machine::S390x),
+    ("arm_alternate_default_nan", Machine::ArmAlternateDefaultNan),
+    ("mips_2008", Machine::Mips2008),
     ("arm-default-nan", Machine::ArmDefaultNan),
     ("arm-alternate", Machine::ArmAlternate),
+    ("arm-alternate-default-nan", Machine::ArmAlternateDefaultNan),
+    ("mips-2008", Machine::Mips2008),
     ("risc-v", Machine::RiscV),
     ("riscv", Machine::RiscV),
 ];
 
 /// The words of machines, for messages.
-pub const MACHINE_WORDS: &str = "x86, x87, arm, arm_default_nan, arm_alternate, risc_v, power or s390x";
+pub const MACHINE_WORDS: &str =
+    "x86, x87, arm, arm_default_nan, arm_alternate, arm_alternate_default_nan, risc_v, power, s390x or mips_2008";
 
 /// The word of the machine that formats name, if it is the word of none.
 pub fn unknown_machine(formats: &str) -> Option<&str> {
@@ -47,17 +52,20 @@ pub fn unknown_machine(formats: &str) -> Option<&str> {
     }
 }
 
-/// What stands in place of formats whose results the machine does not flush although they end in `+ftz`: x86 has no FTZ
-/// of half, and FZ16 of Arm is of arithmetic in half, not of conversions.
-pub fn unflushed(formats: &str) -> Option<&'static str> {
+/// What is wrong with formats whose rows the machine cannot give, and what stands in their place. x86 has no FTZ of half,
+/// FZ16 of Arm is of arithmetic in half, not of conversions, and x86 converts single to bfloat without modes and flags.
+pub fn not_given(formats: &str) -> Option<(&'static str, &'static str)> {
     let (formats, word) = formats.split_once('@')?;
-    let machine = found(MACHINES, word.strip_suffix("+ftz")?)?;
+    let (name, option) = word.split_once('+').unwrap_or((word, ""));
+    let machine = found(MACHINES, name)?;
     let (source, target) = formats.split_once('>').unwrap_or(("", formats));
-    match machine {
-        Machine::X86 if target == "half" => Some("no `+ftz`, since x86 does not flush half"),
-        _ if target == "half" && !source.is_empty() => {
-            Some("no `+ftz`, since no machine flushes what it converts to half")
+    match (machine, source, target, option) {
+        (Machine::X86, "single", "bfloat", _) => {
+            Some(("no conversion", "no `bfloat`, since VCVTNEPS2BF16 has no modes and raises no flags"))
         }
+        (Machine::X86, _, "half", "ftz") => Some(("no flushing", "no `+ftz`, since x86 does not flush half")),
+        (_, "", _, _) => None,
+        (_, _, "half", "ftz") => Some(("no flushing", "no `+ftz`, since no machine flushes what it converts to half")),
         _ => None,
     }
 }

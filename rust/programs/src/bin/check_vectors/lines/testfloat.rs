@@ -106,7 +106,18 @@ static ODD_CALLS: &[(&str, &str)] = &[
 static CALLS_TO_FEWER_DIGITS: &[(&str, &str)] =
     &[("add_r", "add_to"), ("sub_r", "sub_to"), ("wide_mul_r", "mul_to"), ("div_r", "div_to"), ("sqrt_r", "sqrt_to")];
 
-/// The function of TestFloat that the lines of a file test, and how it rounds.
+/// How far the NaNs of lines are compared.
+#[derive(Clone, Copy)]
+enum NanCheck {
+    /// A NaN agrees with any other.
+    Any,
+    /// A NaN that a line states has to be quiet. TestFloat's own verifier compares them so far unless it is told more.
+    Quiet,
+    /// All bits.
+    Bits,
+}
+
+/// The function of TestFloat that the lines of a file test, how it rounds, and what is compared.
 #[derive(Clone, Copy)]
 pub struct TestFloat {
     call: &'static str,
@@ -118,14 +129,15 @@ pub struct TestFloat {
     result: Kind,
     tiny_before_rounding: bool,
     is_exact: bool,
-    any_nan: bool,
+    nan_check: NanCheck,
     // The format in which an x87 rounds to fewer digits, if it does.
     fewer_digits: Option<&'static str>,
 }
 
 impl TestFloat {
     /// The function of this name, with TestFloat's defaults: rounding to nearest, ties to even, tininess detected after
-    /// rounding, and the inexact flag not compared for integral values and integers. All bits of a NaN are compared.
+    /// rounding, and the inexact flag not compared for integral values and integers. Of a NaN
+    /// only that it is quiet is compared.
     pub fn named(name: &str) -> Option<TestFloat> {
         if let Some(name) = name.strip_suffix("_x") {
             return exact_integral(without_ending(name));
@@ -149,7 +161,7 @@ impl TestFloat {
             result: given,
             tiny_before_rounding: false,
             is_exact: false,
-            any_nan: false,
+            nan_check: NanCheck::Quiet,
             fewer_digits: None,
         }
     }
@@ -162,7 +174,8 @@ impl TestFloat {
             "-tininessafter" => changed.tiny_before_rounding = false,
             "-exact" => changed.is_exact = true,
             "-notexact" => changed.is_exact = false,
-            "--any-nan" => changed.any_nan = true,
+            "--any-nan" => changed.nan_check = NanCheck::Any,
+            "-checkNaNs" => changed.nan_check = NanCheck::Bits,
             "-precision80" => changed.fewer_digits = None,
             "-precision64" => changed.fewer_digits = self.of_fewer_digits("x87p53"),
             "-precision32" => changed.fewer_digits = self.of_fewer_digits("x87p24"),
@@ -260,17 +273,26 @@ impl TestFloat {
     }
 
     /// Whether two results are the same, or are not compared. The result of an invalid conversion to an integer depends
-    /// on the processor, and TestFloat does not compare it either.
+    /// on the processor, and so does which NaN is delivered; TestFloat does not compare them either.
     fn results_agree(self, given: Columns, stated: Columns) -> bool {
         if given.result == stated.result {
             return true;
         }
         match self.result {
             Kind::Float(_, width, infinity) => {
-                self.any_nan && is_nan(given.result, width, infinity) && is_nan(stated.result, width, infinity)
+                is_nan(given.result, width, infinity) && self.allows_nan(stated.result, width, infinity)
             }
             Kind::Unsigned(_) | Kind::Signed(_) => stated.flags & 16 != 0,
             Kind::Truth => false,
+        }
+    }
+
+    /// Whether a line may state this result where another NaN is given.
+    fn allows_nan(self, stated: u128, width: usize, infinity: u128) -> bool {
+        match self.nan_check {
+            NanCheck::Any => is_nan(stated, width, infinity),
+            NanCheck::Quiet => is_nan(stated, width, infinity) && is_quiet(stated, infinity),
+            NanCheck::Bits => false,
         }
     }
 
@@ -396,6 +418,12 @@ fn call_between(source: Kind, target: Kind) -> Option<&'static str> {
         (Kind::Signed(_), Kind::Float(_, _, _)) => Some("from_i128_r"),
         _ => None,
     }
+}
+
+/// Whether the quiet bit of a NaN is set: the one below the lowest bit of an infinity, which is the exponent's, or the
+/// integer bit of x87.
+fn is_quiet(nan: u128, infinity: u128) -> bool {
+    nan << 1 >> infinity.trailing_zeros() & 1 == 1
 }
 
 /// The width of a value of a kind in bits.
