@@ -79,10 +79,11 @@ def library():
     cargo = shutil.which('cargo')
     if cargo is None:
         sys.exit(f'apfloat: there is no cargo, which builds the library: install Rust, {instead}')
-    command = [cargo, 'build', '--release', '--offline', '--package', 'apfloat', '--message-format',
+    # The library of the documentation's command, into the same folder: neither build undoes the other.
+    command = [cargo, 'build', '--release', '--offline', '-p', 'apfloat', '--message-format',
                'json-render-diagnostics']
-    say(f'cargo builds {LIBRARY}, which takes it minutes; APFLOAT_LIBRARY=FILE takes one that is there')
-    messages = [json.loads(line) for line in said_by(command, CRATE.parent, instead).splitlines()]
+    say(f'cargo builds {LIBRARY}, which takes a processor a minute; APFLOAT_LIBRARY=FILE takes one that is there')
+    messages = [json.loads(line) for line in said_by(command, top, instead).splitlines()]
     for message in messages:
         for path in map(pathlib.Path, message.get('filenames', [])):
             if path.name == LIBRARY:

@@ -16,6 +16,22 @@ use crate::widths::Widths;
 use rustc_apfloat::Round;
 use rustc_apfloat::ieee::Flagged;
 use small_formats::saturation::Overflow;
+use std::marker::PhantomData;
+
+/// Which ways a pair of formats may have. They are constants, so that nothing of a way which a pair cannot have is
+/// compiled for it.
+struct Ways<S, T> {
+    source: PhantomData<S>,
+    target: PhantomData<T>,
+}
+
+impl<S: Flagged, T: Flagged> Ways<S, T> {
+    const SINGLES: bool = S::BITS == 32 && T::BITS <= 16;
+
+    const BYTES: bool = S::BITS <= 8;
+
+    const SHORT: bool = 8 < S::BITS && S::BITS <= 32 && T::BITS <= 8;
+}
 
 /// Converts `count` values, each in its place: the bytes of the first value to the bytes of the first value, and so on.
 /// `overflow` says what a number that overflows becomes.
@@ -37,13 +53,13 @@ pub fn convert_block_by<S: Flagged, T: Flagged>(
         IsBlock (IsConvertedBy overflow c d round) widths.source widths.target count
         input.now output.new result }
 {
-    if has_singles::<S, T>(widths) {
+    if Ways::<S, T>::SINGLES && has_singles::<S, T>(widths) {
         convert_all_singles::<S, T>(overflow, round, count, input, output)
-    } else if has_byte_table::<S, T>(widths, count) {
+    } else if Ways::<S, T>::BYTES && has_byte_table::<S, T>(widths, count) {
         convert_bytes::<S, T>(overflow, round, widths, count, input, output)
-    } else if has_short_table::<S, ShortSingleS, T>(widths, count) {
+    } else if Ways::<S, T>::SHORT && has_short_table::<S, ShortSingleS, T>(widths, count) {
         convert_shortened::<S, ShortSingleS, T>(overflow, round, widths, count, input, output)
-    } else if has_short_table::<S, ShortHalfS, T>(widths, count) {
+    } else if Ways::<S, T>::SHORT && has_short_table::<S, ShortHalfS, T>(widths, count) {
         convert_shortened::<S, ShortHalfS, T>(overflow, round, widths, count, input, output)
     } else {
         convert_one_by_one::<S, T>(overflow, round, widths, count, input, output)
