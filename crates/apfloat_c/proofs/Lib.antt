@@ -11,3 +11,6 @@ pub mod MachineOnce
 pub mod OperationTables
 pub mod NormalElements
 pub mod DecimalReadings
+pub mod StorageModes
+pub mod StorageOnce
+pub mod StorageModesOnce

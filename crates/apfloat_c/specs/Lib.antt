@@ -5,3 +5,5 @@ pub mod About
 pub mod Blocks
 pub mod OneAnswer
 pub mod OperationTables
+pub mod StorageValues
+pub mod StorageModes

@@ -19,3 +19,6 @@ mod maps;
 mod normal_elements;
 mod one_answer;
 mod operation_tables;
+mod storage_modes;
+mod storage_one_answer;
+mod storage_values;
