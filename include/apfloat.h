@@ -77,8 +77,8 @@ typedef struct apfloat_answer {
 #define APFLOAT_E4M3B11FNUZ UINT32_C(18) /* 8 bits, 4 of them the exponent, of bias 11, without infinities and -0 */
 #define APFLOAT_TF32 UINT32_C(19)        /* 19 bits: the exponents of binary32 and the digits of binary16 */
 
-/* Storage formats, of apfloat_convert_array and of blocks alone (docs/FORMATS.md): for all other functions
- * these codes are unknown. */
+/* Storage formats, of apfloat_convert_array, of blocks and of the functions on storage formats alone (docs/FORMATS.md):
+ * for all other functions these codes are unknown. */
 #define APFLOAT_E2M1FN UINT32_C(32)  /* 4 bits: 0, 0.5, 1, 1.5, 2, 3, 4, 6 and their negatives */
 #define APFLOAT_E2M3FN UINT32_C(33)  /* 6 bits, 2 of them the exponent, to 7.5 */
 #define APFLOAT_E3M2FN UINT32_C(34)  /* 6 bits, 3 of them the exponent, to 28 */
@@ -497,7 +497,8 @@ typedef struct apfloat_array_answer {
 
 /* Joined to the mode of apfloat_convert_array by |: a number that is past the largest value of `to` once it is rounded
  * gives the largest value of its sign, with the same flags as without this. Infinities are converted as without it, in
- * a format without infinities to a NaN. In the modes of all other functions it makes an unknown mode. */
+ * a format without infinities to a NaN. The modes of apfloat_to_storage and apfloat_from_storage may have it too; in
+ * those of all other functions it makes an unknown mode. */
 #define APFLOAT_SATURATE UINT32_C(0x100)
 
 /* The same, and an infinity gives the largest value of its sign, with APFLOAT_INEXACT: the saturation of the OCP's
@@ -585,6 +586,39 @@ uint32_t apfloat_pack_codes(uint32_t element, const uint8_t *codes, size_t codes
                             size_t bytes_length);
 uint32_t apfloat_unpack_codes(uint32_t element, const uint8_t *bytes, size_t bytes_length, uint8_t *codes,
                               size_t codes_length);
+
+/* ---- storage formats, one value
+ *
+ * What apfloat_convert_array makes of an array of this one value. `bits` is the result, and `number` is 1 if it is a
+ * NaN, else 0. There are no conversions of APFLOAT_DOUBLE_PAIR (APFLOAT_NO_SUCH_OPERATION). */
+
+/* The code in the storage format `to` of x, a value of `format`, rounded once. */
+uint32_t apfloat_to_storage(uint32_t format, uint32_t mode, uint32_t to, apfloat_halves x, apfloat_answer *answer);
+
+/* The value in the format `to` of a code of the storage format `format`, rounded once; the bits of `code` above those
+ * of its format are ignored. */
+uint32_t apfloat_from_storage(uint32_t format, uint32_t mode, uint32_t to, uint32_t code, apfloat_answer *answer);
+
+/* ---- storage formats, to odd and with random digits
+ *
+ * Two more modes, of these two functions alone (docs/FORMATS.md): a value between two neighbours becomes the one whose
+ * significand is odd, or the upper one in magnitude if a random number reaches the whole distance of the two together
+ * with the value's distance from the lower one, in parts of which there are 2 to the power of `digits`. The caller
+ * lends the random numbers, 32 bits for each value, of which the lowest `digits` are taken, 1 to 32 of them
+ * (APFLOAT_WRONG_WIDTH, after the mode). The other modes ignore `digits`. Nothing can be joined to a mode here. */
+#define APFLOAT_TO_ODD UINT32_C(5)
+#define APFLOAT_RANDOM_DIGITS UINT32_C(6)
+
+/* As apfloat_to_storage, with this random number. */
+uint32_t apfloat_to_storage_by(uint32_t format, uint32_t mode, uint32_t to, uint32_t digits, uint32_t random,
+                               apfloat_halves x, apfloat_answer *answer);
+
+/* The same of each value of an array, as apfloat_convert_array does it. With APFLOAT_RANDOM_DIGITS `randoms` has four
+ * bytes for each value, the lowest one first, and otherwise none: APFLOAT_WRONG_LENGTH says that it does not, too. */
+uint32_t apfloat_convert_array_by(uint32_t format, uint32_t mode, uint32_t to, uint32_t digits,
+                                  const uint8_t *randoms, size_t randoms_length, const uint8_t *values,
+                                  size_t values_length, uint8_t *results, size_t results_length,
+                                  apfloat_array_answer *answer);
 
 #ifdef __cplusplus
 }

@@ -2936,6 +2936,94 @@ expected<array_counts> dequantize_blocks(const stored<e8m0fnu> *scales, const Co
     return detail::counts_of(code, answer);
 }
 
+// ---- storage formats, one value
+
+/// A value in a storage format, rounded once: to_storage<e2m1fn>(x).
+template <class To, class From>
+result<stored<To>> to_storage(const value<From> &x, rounding mode = rounding::nearest_even,
+                              overflowing large = overflowing::rounds) noexcept {
+    static_assert(detail::is_storage<To>::value, "this is no storage format");
+    static_assert(!From::is_pair, "there is no conversion from pairs of doubles");
+    const auto answer =
+        detail::answer_of(apfloat_to_storage, From::code, detail::code_of(mode) | static_cast<std::uint32_t>(large),
+                          To::code, x.halves());
+    return {stored<To>::from_bits(static_cast<std::uint8_t>(answer.bits.low)), flags::of_code(answer.status)};
+}
+
+/// A value of a storage format in another one, rounded once: from_storage<binary32>(x). The rule of the format `To`
+/// decides the flags.
+template <class To, class From>
+result<value<To>> from_storage(const stored<From> &x, rounding mode = rounding::nearest_even,
+                               overflowing large = overflowing::rounds) noexcept {
+    static_assert(!To::is_pair, "there is no conversion to pairs of doubles");
+    return detail::result_of<To>(
+        detail::answer_of(apfloat_from_storage, From::code, detail::code_of(mode) | static_cast<std::uint32_t>(large),
+                          To::code, static_cast<std::uint32_t>(x.bits())));
+}
+
+// ---- storage formats, to odd and with random digits
+
+/// A value in a storage format, rounded to odd.
+template <class To, class From>
+result<stored<To>> to_storage_odd(const value<From> &x) noexcept {
+    static_assert(detail::is_storage<To>::value, "this is no storage format");
+    static_assert(!From::is_pair, "there is no conversion from pairs of doubles");
+    const auto answer =
+        detail::answer_of(apfloat_to_storage_by, From::code, APFLOAT_TO_ODD, To::code, 0u, 0u, x.halves());
+    return {stored<To>::from_bits(static_cast<std::uint8_t>(answer.bits.low)), flags::of_code(answer.status)};
+}
+
+/// A value in a storage format, rounded with the lowest `digits` binary digits of a random number. If there are not 1
+/// to 32 of them, the error is wrong_width.
+template <class To, class From>
+expected<result<stored<To>>> to_storage_random(const value<From> &x, std::uint32_t digits,
+                                               std::uint32_t random) noexcept {
+    static_assert(detail::is_storage<To>::value, "this is no storage format");
+    static_assert(!From::is_pair, "there is no conversion from pairs of doubles");
+    apfloat_answer answer = {{0, 0}, 0, 0};
+    const std::uint32_t code = apfloat_to_storage_by(From::code, APFLOAT_RANDOM_DIGITS, To::code, digits, random,
+                                                     x.halves(), &answer);
+    if (code != APFLOAT_ANSWERED) return static_cast<errc>(code);
+    return result<stored<To>>{stored<To>::from_bits(static_cast<std::uint8_t>(answer.bits.low)),
+                              flags::of_code(answer.status)};
+}
+
+namespace detail {
+
+template <class From, class To>
+expected<array_counts> convert_by(std::uint32_t mode, std::uint32_t digits, const std::uint32_t *randoms,
+                                  const value<From> *values, std::size_t count, stored<To> *results) noexcept {
+    static_assert(is_storage<To>::value, "this is no storage format");
+    static_assert(!From::is_pair, "there is no conversion from pairs of doubles");
+    if (!has_lowest_byte_first()) return errc::no_such_operation;
+    const bool is_random = mode == APFLOAT_RANDOM_DIGITS;
+    if (count != 0 && (values == nullptr || results == nullptr || (is_random && randoms == nullptr)))
+        return errc::wrong_length;
+    const bool has_randoms = is_random && randoms != nullptr;
+    const auto *lent = has_randoms ? reinterpret_cast<const std::uint8_t *>(randoms) : bytes_of(values);
+    apfloat_array_answer answer = {0, 0, 0, 0, 0, 0, 0, 0, 0};
+    const std::uint32_t code = apfloat_convert_array_by(
+        From::code, mode, To::code, digits, lent, has_randoms ? count * sizeof *randoms : 0, bytes_of(values),
+        count * sizeof(value<From>), bytes_of(results), count, &answer);
+    return counts_of(code, answer);
+}
+
+} // namespace detail
+
+/// Rounds `count` values to odd. If an array is null and `count` is not 0, the error is wrong_length.
+template <class To, class From>
+expected<array_counts> convert_array_odd(const value<From> *values, std::size_t count, stored<To> *results) noexcept {
+    return detail::convert_by(APFLOAT_TO_ODD, 0, nullptr, values, count, results);
+}
+
+/// Rounds `count` values, each with the lowest `digits` binary digits of a random number of its own; if there are not 1
+/// to 32 of them, the error is wrong_width.
+template <class To, class From>
+expected<array_counts> convert_array_random(const value<From> *values, std::size_t count, std::uint32_t digits,
+                                            const std::uint32_t *randoms, stored<To> *results) noexcept {
+    return detail::convert_by(APFLOAT_RANDOM_DIGITS, digits, randoms, values, count, results);
+}
+
 // ---- formats that are chosen when the program runs
 
 /// A format by its code in apfloat.h, with a rule of flags or without.

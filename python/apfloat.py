@@ -225,6 +225,10 @@ def _parameters() -> dict[str, list[Any]]:
         **dict.fromkeys(('ilogb', 'next_up', 'next_down', 'classify', 'is_negative'), [code, _Halves, answer]),
         **dict.fromkeys(('qnan', 'snan'), [code, code, _Halves, answer]),
         'convert': [code, code, code, _Halves, answer],
+        'to_storage': [code, code, code, _Halves, answer],
+        'from_storage': [code, code, code, code, answer],
+        'to_storage_by': [code, code, code, code, code, _Halves, answer],
+        'convert_array_by': [code, code, code, code, *array * 3, ctypes.POINTER(_ArrayAnswer)],
         'to_i128': [code, code, _Halves, code, answer],
         **dict.fromkeys(('scalbn', 'scale_b'), [code, code, _Halves, power, answer]),
         **dict.fromkeys(('compare_predicate', 'extremum'), [code, code, code, _Halves, _Halves, answer]),
@@ -735,6 +739,11 @@ class StorageFormat:
         The elements of a type of ml_dtypes with the format's name are taken as they are. Integers are numbers, and
         bytes are refused: `from_bits` takes the bits of values.
         """
+        given = self._numbers(of)
+        return given if isinstance(given, StoredArray) else given.to(self, saturate)
+
+    def _numbers(self, of: Any) -> Any:
+        """The numbers of an array of any kind; values of this format as they are."""
         given = _given(of, quad)
         if given is None:
             shape, items = _nested(of)
@@ -742,9 +751,81 @@ class StorageFormat:
             given = _quads(of) if made is None else made.reshape(shape)
         if given is NotImplemented:
             raise TypeError(f'{self} makes arrays of numbers alone')
-        if isinstance(given, StoredArray):
-            return given if given.format is self else given.to(single).to(self, saturate)
-        return given.to(self, saturate)
+        return given.to(single) if isinstance(given, StoredArray) and given.format is not self else given
+
+    def array_to_odd(self, of: Any) -> StoredArray:
+        """The array of `array`, rounded to odd: a number between two neighbours becomes the one whose last digit is 1.
+
+        >>> float4_e2m1fn.array_to_odd([1.1, 1.6, 2, 100])
+        float4_e2m1fn.array([1.5, 1.5, 2.0, 6.0])
+        """
+        return self._by(_TO_ODD, of, 0, b'')
+
+    def array_randomly(self, of: Any, randoms: Any, digits: int = 32) -> StoredArray:
+        """The array of `array`, rounded with random digits: the lowest ones of a number of 32 bits for each item.
+
+        A number becomes its upper neighbour, in magnitude, if its distance from the lower one, in parts of which there
+        are 2^digits, and its random number reach 2^digits together. `randoms` are integers, in an array of any shape
+        that has as many as there are items, or their bytes, four for each, the lowest first.
+
+        >>> float4_e2m1fn.array_randomly([1.25] * 4, [0, 1, 2, 3], digits=2)
+        float4_e2m1fn.array([1.0, 1.0, 1.5, 1.5])
+        """
+        if not isinstance(randoms, (bytes, bytearray, memoryview)):
+            numbers = randoms.reshape(-1).tolist() if hasattr(randoms, 'tolist') else _nested(randoms)[1]
+            randoms = b''.join(operator.index(number).to_bytes(4, 'little') for number in numbers)
+        return self._by(_RANDOM_DIGITS, of, digits, bytes(randoms))
+
+    def _by(self, mode: int, of: Any, digits: int, randoms: bytes) -> StoredArray:
+        given = self._numbers(of)
+        given = given.to(single) if isinstance(given, StoredArray) else given
+        data = bytes(given)
+        made: StoredArray = _array_call('convert_array_by', given.format.code, mode, self.code, digits, randoms,
+                                        len(randoms), data, len(data), of=self, shape=given.shape)
+        return made
+
+    def encode_to_odd(self, number: Any) -> int:
+        """The code of a value, rounded to odd."""
+        return self._encoded_by(_TO_ODD, number, 0, 0)
+
+    def encode_randomly(self, number: Any, random: int, digits: int = 32) -> int:
+        """The code of a value, rounded with the lowest digits of a random number of 32 bits.
+
+        >>> [float4_e2m1fn.encode_randomly(1.25, random, digits=1) for random in (0, 1)]
+        [2, 3]
+        """
+        return self._encoded_by(_RANDOM_DIGITS, number, digits, random)
+
+    def _encoded_by(self, mode: int, number: Any, digits: int, random: int) -> int:
+        x = self._number(number)
+        return _call('to_storage_by', x.format.code, mode, self.code, digits, random, _halves(x.bits)).bits.low
+
+    def encode(self, number: Any, saturate: bool | str = False) -> int:
+        """The code of a value, rounded once in the mode of the context; any other number has to be one of `quad`.
+
+        >>> float4_e2m1fn.encode(0.7), float8_e3m4.encode(double(1000), saturate=True)
+        (1, 111)
+        """
+        x, mode = self._number(number), context().mode | _saturation(saturate)
+        return _call('to_storage', x.format.code, mode, self.code, _halves(x.bits)).bits.low
+
+    def _number(self, number: Any) -> Value:
+        """A value, or any other number as one of `quad`, which has to have it."""
+        x = number if isinstance(number, Value) else quad.from_bits(0)._converted(number)
+        if x is NotImplemented:
+            raise TypeError(f'{number!r} is no number')
+        return cast(Value, x)
+
+    def decode(self, code: int, format: Format | None = None, saturate: bool | str = False) -> Value:
+        """The value of a code in another format, or in `single`, rounded once in the mode of the context.
+
+        >>> float4_e2m1fn.decode(1), float8_e8m0fnu.decode(255, half)
+        (single('0.5'), half('nan'))
+        """
+        if not 0 <= operator.index(code) < 1 << self.width:
+            raise ValueError(f'{self.name} has {self.width} bits')
+        target, mode = single if format is None else format, context().mode | _saturation(saturate)
+        return Value(target, _whole(_call('from_storage', self.code, mode, target.code, code).bits))
 
 
 # ---- numpy
@@ -1677,6 +1758,8 @@ _LEAST_BY_TABLE = 1 << 17
 _OPERATIONS = {'add': 1, 'sub': 2, 'mul': 3, 'div': 4, 'rem': 5, 'mod': 6, 'fma': 7, 'sqrt': 8}
 # What is joined to the code of a mode.
 _SATURATIONS = {False: 0, True: 0x100, 'finite': 0x300, 'all': 0x700}
+# The modes of conversions into storage formats alone.
+_TO_ODD, _RANDOM_DIGITS = 5, 6
 # The codes of struct for integers of as many bytes.
 _WORDS = {1: 'B', 2: 'H', 4: 'I', 8: 'Q'}
 # In what words an element of so many bytes is moved, and how many they are.

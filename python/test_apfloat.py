@@ -1362,6 +1362,71 @@ class StoredTests(unittest.TestCase):
                 numpy.asarray(apfloat.single.array([0.1]), dtype)
 
 
+class StorageRowTests(unittest.TestCase):
+    """Single values of storage formats, by the rows of tests/c/storage, which evidence/storage_calls.py computes."""
+
+    MODES = {'even': apfloat.NEAREST_EVEN, 'up': apfloat.UPWARD, 'down': apfloat.DOWNWARD, 'zero': apfloat.TOWARD_ZERO,
+             'away': apfloat.NEAREST_AWAY}
+    SATURATIONS = {'': False, 'saturate': True, 'finite': 'finite', 'all': 'all'}
+    NAMES = {format.name.rpartition('_')[2]: format for format in StoredTests.STORED}
+
+    def format_of(self, name):
+        format, *rule = name.split('+')
+        return functools.reduce(getattr, rule, self.NAMES.get(format) or getattr(apfloat, format))
+
+    def made(self, call, source, target, mode, bits):
+        """The bits that a row's call gives."""
+        mode, _, saturation = mode.partition('+')
+        if call == 'from_storage':
+            return source.decode(bits, target, self.SATURATIONS[saturation]).bits
+        x = source.from_bits(bits)
+        if call == 'to_storage':
+            return target.encode(x, self.SATURATIONS[saturation])
+        if mode == 'odd':
+            one, array = target.encode_to_odd(x), target.array_to_odd(source.array([x, x]))
+        else:
+            digits, random = int(mode.split()[1]), int(mode.split()[2], 16)
+            one = target.encode_randomly(x, random, digits)
+            array = target.array_randomly(source.array([x, x]), [random, random], digits)
+        self.assertEqual(list(bytes(array)), [one, one])
+        return one
+
+    def test_rows(self):
+        count = 0
+        with open(os.path.join(HERE, '..', 'tests', 'c', 'storage'), encoding='utf-8') as rows:
+            for row in rows:
+                if row.startswith('#'):
+                    continue
+                call, kind, mode, given, result, status, _ = row.rstrip('\n').split('\t')
+                source, target = map(self.format_of, kind.split('>'))
+                with Context(mode=self.MODES.get(mode.split('+')[0], apfloat.NEAREST_EVEN)) as context:
+                    made = self.made(call, source, target, mode, int(given, 16))
+                flags = functools.reduce(operator.or_, (Flags[name] for name in status.split('|') if name != 'OK'),
+                                         Flags(0))
+                self.assertEqual((made, context.flags), (int(result, 16), flags), row)
+                count += 1
+        self.assertGreater(count, 5000)
+
+    def test_refused(self):
+        with self.assertRaises(ValueError):
+            apfloat.float4_e2m1fn.decode(16)
+        with self.assertRaises(TypeError):
+            apfloat.float4_e2m1fn.encode(b'1')
+        with self.assertRaises(ValueError):
+            apfloat.float4_e2m1fn.encode(2**200 + 1)
+        with self.assertRaises(apfloat.Refused):
+            apfloat.float4_e2m1fn.encode_randomly(1.25, 0, digits=33)
+        with self.assertRaises(apfloat.Refused):
+            apfloat.float4_e2m1fn.array_randomly([1.25, 2], [0])
+
+    def test_randoms(self):
+        xs = apfloat.float4_e2m1fn.array_randomly([[1.25, 1.25], [3.5, 3.5]], bytes([0, 0, 0, 0x80] * 4))
+        self.assertEqual(xs.tolist(), [[1.5, 1.5], [4, 4]])
+        self.assertEqual((xs.counts['inexact'], xs.shape), (4, (2, 2)))
+        every = apfloat.float4_e2m1fn.array_randomly([1.25] * 16, range(16), digits=4)
+        self.assertEqual(every.tolist(), [1.0] * 8 + [1.5] * 8)
+
+
 class BlockTests(unittest.TestCase):
     """Blocks of elements with a common scale."""
 

@@ -1,9 +1,12 @@
 //! Arrays of values of storage formats, one a byte, converted to and from the values of every built-in format.
 
 mod array;
+mod by_mode;
 mod formats;
 mod loading;
+mod numbers;
 mod storing;
 
 pub use array::{Ends, StorageArray};
+pub use by_mode::{EachRound, ModeConversion};
 pub use formats::StoredFormat;

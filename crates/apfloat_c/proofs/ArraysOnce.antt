@@ -31,13 +31,13 @@ use Rattle.apfloat_c.proofs.ExportsOnce.{kind_law, kind_once}
 -- ---- lists
 
 -- the first bytes of lists of equal length have equal lengths
-same_front_size : (n : ℕ) (bytes other : List ℕ) → length bytes ≡ length other
+pub same_front_size : (n : ℕ) (bytes other : List ℕ) → length bytes ≡ length other
     → length (take n bytes) ≡ length (take n other)
 same_front_size n bytes other size =
     length-take n bytes ∙ ap (λ (k : ℕ). min n k) size ∙ sym (length-take n other)
 
 -- lists with the same bytes before and after a place are equal
-same_whole : (n : ℕ) (bytes other : List ℕ) → take n (take n bytes) ≡ take n (take n other)
+pub same_whole : (n : ℕ) (bytes other : List ℕ) → take n (take n bytes) ≡ take n (take n other)
     → drop n bytes ≡ drop n other → bytes ≡ other
 same_whole n bytes other front rest =
     let here : n ≤ n = omega arith in

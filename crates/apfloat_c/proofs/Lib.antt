@@ -16,3 +16,6 @@ pub mod FactsOnce
 pub mod DigitsOnce
 pub mod PairsOnce
 pub mod AugmentedOnce
+pub mod StorageModes
+pub mod StorageOnce
+pub mod StorageModesOnce

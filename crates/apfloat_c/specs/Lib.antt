@@ -10,3 +10,5 @@ pub mod Facts
 pub mod Digits
 pub mod Pairs
 pub mod Augmented
+pub mod StorageValues
+pub mod StorageModes

@@ -285,7 +285,7 @@ pub fn known_map(
 }
 
 /// Whether the bytes are an integral number of values, and the output has room for as many of the other width.
-fn lengths_fit(source: usize, target: usize, given: usize, room: usize) -> bool
+pub fn lengths_fit(source: usize, target: usize, given: usize, room: usize) -> bool
     requires { (1 ≤ source) × (1 ≤ target) }
     ensures { result ≡ lengths_fit source target given room }
 {

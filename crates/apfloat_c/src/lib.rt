@@ -24,3 +24,6 @@ mod one_answer;
 mod operation_tables;
 mod pairs;
 mod readings;
+mod storage_modes;
+mod storage_one_answer;
+mod storage_values;

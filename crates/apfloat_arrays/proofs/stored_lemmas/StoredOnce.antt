@@ -136,7 +136,7 @@ stored_by_once (Finite nans) format f mode x code other status flags l k h j =
 
 -- ---- values
 
-stored_once : (overflow : Overflow) (c : Constants) (format : StoredFormat) (mode : Round) (bits code other : ℕ)
+pub stored_once : (overflow : Overflow) (c : Constants) (format : StoredFormat) (mode : Round) (bits code other : ℕ)
     (outcome also : Outcome) → IsStoredAs overflow c format mode bits code outcome
     → IsStoredAs overflow c format mode bits other also → (code ≡ other) × (outcome ≡ also)
 stored_once overflow c format mode bits code other outcome also h j =
@@ -147,7 +147,7 @@ stored_once overflow c format mode bits code other outcome also h j =
           (h.nan_is ∙ ap (λ (n : ℕ). is_nan (datum_in format n)) same.0 ∙ sym j.nan_is),
     )
 
-loaded_once : (overflow : Overflow) (format : StoredFormat) (d : Constants) (mode : Round) (code bits other : ℕ)
+pub loaded_once : (overflow : Overflow) (format : StoredFormat) (d : Constants) (mode : Round) (code bits other : ℕ)
     (outcome also : Outcome) → IsLawful d → d.precision < d.bits
     → IsLoaded overflow format d mode code bits outcome → IsLoaded overflow format d mode code other also
     → (bits ≡ other) × (outcome ≡ also)

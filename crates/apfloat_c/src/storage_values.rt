@@ -1,0 +1,130 @@
+//! The exports that convert one value into a storage format or out of it, declared for C programs in
+//! `include/apfloat.h`.
+
+ghost use Rattle.std.specs.Prelude.{◌≡◌};
+ghost use Rattle.formats_at_run_time.specs.FlaggedKinds.{flagged_kind_coded};
+ghost use Rattle.apfloat_arrays.specs.stored.Formats.{stored_format_coded};
+ghost use Rattle.coded_calls.specs.Answers.{whole};
+ghost use Rattle.apfloat_c.specs.ArrayCalls.{conversion_mode_coded};
+ghost use Rattle.apfloat_c.specs.StorageValues.{IsStorageReply, between, known_loading, known_storing};
+
+use crate::array_calls::{ConversionMode, conversion_mode_coded};
+use apfloat_arrays::Extended;
+use apfloat_arrays::stored::{Ends, StorageArray, StoredFormat};
+use coded_calls::codes::{ANSWERED, NO_SUCH_OPERATION, UNKNOWN_FORMAT, UNKNOWN_MODE, one_if};
+use coded_calls::data::{Answer, Halves};
+use formats_at_run_time::FlaggedKind;
+
+/// The conversion between these formats.
+fn between(ends: Ends, mode: ConversionMode) -> StorageArray
+    ensures { result ≡ between ends mode }
+{
+    StorageArray {
+        ends,
+        extended: Extended::Packed,
+        round: mode.round,
+        overflow: mode.overflow,
+    }
+}
+
+/// The conversion into a storage format that these codes ask for.
+fn known_storing(
+    source: Option<FlaggedKind>,
+    mode: Option<ConversionMode>,
+    target: Option<StoredFormat>,
+) -> Result<StorageArray, u32>
+    ensures { result ≡ known_storing source mode target }
+{
+    let Some(source) = source else {
+        return Err(UNKNOWN_FORMAT);
+    };
+    let Some(mode) = mode else {
+        return Err(UNKNOWN_MODE);
+    };
+    let Some(target) = target else {
+        return Err(UNKNOWN_FORMAT);
+    };
+    match source {
+        FlaggedKind::OfFormat(format) => Ok(between(Ends::Into(format.built_in(), target), mode)),
+        FlaggedKind::Pairs => Err(NO_SUCH_OPERATION),
+    }
+}
+
+/// The conversion out of a storage format that these codes ask for.
+fn known_loading(
+    source: Option<StoredFormat>,
+    mode: Option<ConversionMode>,
+    target: Option<FlaggedKind>,
+) -> Result<StorageArray, u32>
+    ensures { result ≡ known_loading source mode target }
+{
+    let Some(source) = source else {
+        return Err(UNKNOWN_FORMAT);
+    };
+    let Some(mode) = mode else {
+        return Err(UNKNOWN_MODE);
+    };
+    let Some(target) = target else {
+        return Err(UNKNOWN_FORMAT);
+    };
+    match target {
+        FlaggedKind::OfFormat(format) => Ok(between(Ends::OutOf(source, format), mode)),
+        FlaggedKind::Pairs => Err(NO_SUCH_OPERATION),
+    }
+}
+
+/// Converts the value of these bits, unless the call is refused.
+fn convert(known: Result<StorageArray, u32>, bits: u128, answer: &mut Answer) -> u32
+    ensures { IsStorageReply known bits answer.old answer.new result }
+{
+    match known {
+        Err(error) => error,
+        Ok(array) => {
+            let made = array.convert_bits(bits);
+            *answer = Answer::of(made.bits, made.outcome.status, one_if(made.outcome.is_nan));
+            ANSWERED
+        }
+    }
+}
+
+/// A value as a code of a storage format, rounded once.
+#[unsafe(no_mangle)]
+pub extern "C" fn apfloat_to_storage(
+    format: u32,
+    mode: u32,
+    to: u32,
+    x: Halves,
+    answer: &mut Answer,
+) -> u32
+    ensures { let known = known_storing (flagged_kind_coded format) (conversion_mode_coded mode)
+        (stored_format_coded to) in
+        IsStorageReply known (whole x) answer.old answer.new result }
+{
+    let known = known_storing(
+        FlaggedKind::coded(format),
+        conversion_mode_coded(mode),
+        StoredFormat::coded(to),
+    );
+    convert(known, x.number(), answer)
+}
+
+/// The value of a code of a storage format in another format, rounded once.
+#[unsafe(no_mangle)]
+pub extern "C" fn apfloat_from_storage(
+    format: u32,
+    mode: u32,
+    to: u32,
+    code: u32,
+    answer: &mut Answer,
+) -> u32
+    ensures { let known = known_loading (stored_format_coded format) (conversion_mode_coded mode)
+        (flagged_kind_coded to) in
+        IsStorageReply known code answer.old answer.new result }
+{
+    let known = known_loading(
+        StoredFormat::coded(format),
+        conversion_mode_coded(mode),
+        FlaggedKind::coded(to),
+    );
+    convert(known, u128::from(code), answer)
+}
