@@ -2,8 +2,8 @@
 """python3 evidence/doors.py [--check]: the table of docs/LIBRARY.md of what each way into the library has.
 
 Each cell is the name that shows it: the first one that the sources of that way declare and that fits the pattern below.
-The proved library has a name for every row. A row with an empty cell has its reason below the table. Without --check the page is written; with it, the script says
-how the page differs from the sources, and exits with 1 if it does.
+The proved library has a name for every row. A row with an empty cell has its reason below the table. Without --check
+the page is written; with it, the script says how the page differs from the sources, and exits with 1 if it does.
 """
 
 import pathlib
@@ -36,10 +36,10 @@ ROWS = (
      'write_digits'),
     ('hexadecimal output', 'write_hex', 'write_hex', 'apfloat_write_hex', 'hexfloat', 'hex', 'write_hex'),
     ('pairs as other formats', 'pair_to_format', 'to_format', r'apfloat_\w*pair\w*', r'pair_(?:to|from)\w*',
-     r'pair_(?:to|from)\w*', 'dd'),
+     r'as_pair|from_pair', 'dd'),
     ('augmented operations', 'augmented_add', 'augmented_add', r'apfloat_augmented\w*', r'augmented\w*',
      r'augmented\w*', 'augmented_add'),
-    ('payloads as values', 'get_payload', 'get_payload', r'apfloat_\w*payload\w*', r'get_payload', r'get_payload',
+    ('payloads as values', 'get_payload', 'get_payload', r'apfloat_\w*payload\w*', r'get_payload', r'payload',
      'get_payload'),
     ('arrays', 'ArrayConversion', 'map', 'apfloat_map_array', 'map_array', 'Array', 'convert_values'),
     ('storage formats', 'StoredFloat', 'StoredFloat', r'apfloat_to_storage|APFLOAT_E2M1FN', 'stored', r'Stored\w*',
@@ -49,7 +49,7 @@ ROWS = (
      'quantize_nvfp4_block'),
     ('formats of P3109', 'Projected', 'Projected', r'apfloat_\w*(?:p3109|project)\w*|APFLOAT_BINARY\w+',
      r'\w*(?:p3109|project)\w*', r'\w*(?:p3109|project)\w*', 'binary8p3se'),
-    ('rounding to odd', 'to_odd', 'to_odd', r'APFLOAT_TO_ODD|apfloat_\w*odd', r'to_odd', r'TO_ODD|to_odd', 'add_odd'),
+    ('rounding to odd', 'to_odd', 'to_odd', r'APFLOAT_TO_ODD|apfloat_\w*odd', r'to_\w*odd', r'\w*to_odd', 'add_odd'),
     ('random digits', 'RandomDigits', 'RandomDigits', r'APFLOAT_RANDOM_DIGITS|apfloat_\w*(?:random|stochastic)\w*',
      r'\w*(?:random|stochastic)\w*', r'\w*(?:random|stochastic)\w*', '--stochastic'),
     ("a format's constants", 'Semantics', 'Constants', 'apfloat_format_facts', 'numeric_limits', 'finfo', None),
@@ -58,17 +58,10 @@ ROWS = (
 
 # Why C, and with it C++ and Python, or the programs have an empty cell in a row.
 REASONS = {
-    'decimals with these flags': {'C': 'C has the plain ones', 'Programs': 'rows lack them'},
-    'digits of any count': {'C': 'C has the shortest decimal'},
-    'hexadecimal output': {'C': 'C has the bits'},
-    'pairs as other formats': {'C': 'the caller has both doubles'},
-    'augmented operations': {'C': 'an answer in C is one value'},
-    'payloads as values': {'C': 'elsewhere they are integers'},
+    'decimals with these flags': {'Programs': 'rows lack them'},
     'blocks of NVFP4': {'C': 'no array has the scale of a tensor'},
     'formats of P3109': {'C': 'four constants have no code'},
-    'rounding to odd': {'C': 'no code in C is that mode'},
-    'random digits': {'C': 'no call in C takes them'},
-    "a format's constants": {'C': 'C lacks them', 'Programs': '`docs/FORMATS.md` has them'},
+    "a format's constants": {'Programs': '`docs/FORMATS.md` has them'},
 }
 
 
