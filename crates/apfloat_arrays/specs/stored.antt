@@ -1,3 +1,5 @@
 pub mod Formats
 pub mod Stored
 pub mod Arrays
+pub mod CodeTables
+pub mod Numbers
