@@ -3,14 +3,13 @@ use Rattle.std.proofs.Common.{◌≡◌, ℕ, ◌+◌, ◌-◌, ◌*◌, ◌/◌
 use Rattle.std.specs.Bool.{MatchBool}
 use Rattle.std.specs.Int.RustNames.{bit_and}
 use Rattle.std.proofs.Math.Nat.{add-mul-mod_self_right, div-eq_of_lt, min-eq_left, min-eq_right, min-le_right, mod-eq_of_lt, mul-le-mul_right, mul-lt-mul_of_pos_right, pow-le-pow_right}
-use Rattle.std.proofs.lemmas.Bool.{cases_eq, cases_lt, cond-false, eq-eqb, eqb-false, eqb-true, le-leb, le-ltb, lt-leb, lt-ltb, ne_eqb}
+use Rattle.std.proofs.lemmas.Bool.{cases_eq, cases_lt, cond-false, eq-eqb, eqb-true, le-leb, le-ltb, lt-leb, lt-ltb, ne_eqb}
 use Rattle.std.proofs.lemmas.Nat.{and_le_r, div-add-mod', div_below, mod_below, pow-add, pow_pos}
 use Rattle.apfloat_model.specs.bits.Layout.{Layout, all_ones, datum_of, datum_of_fields, implied_datum, implied_number, trailing_bits}
 use Rattle.apfloat_model.specs.declared.kinds.NonfiniteBehavior.{NonfiniteBehavior}
 use Rattle.apfloat_model.specs.declared.kinds.NonfiniteBehavior.TheVariants.{IEEE754}
 use Rattle.apfloat_model.specs.declared.kinds.Round.{Round}
 use Rattle.apfloat_model.specs.declared.kinds.Round.TheVariants.{NearestTiesToEven, NearestTiesToAway, TowardZero, TowardPositive, TowardNegative}
-use Rattle.apfloat_model.specs.declared.loss.Loss.{Loss}
 use Rattle.apfloat_model.specs.declared.loss.Loss.TheVariants.{ExactlyZero, LessThanHalf, ExactlyHalf, MoreThanHalf}
 use Rattle.apfloat_model.specs.formats.Datum.{finite}
 use Rattle.apfloat_model.specs.formats.Format.{Format, largest, smallest_normalized}
@@ -26,7 +25,7 @@ use Rattle.apfloat_rounding.proofs.CutRests.{loss_zero, rest_stands}
 use Rattle.fast_bits.specs.lanes.Sides.{rounded_by}
 use Rattle.fast_bits.proofs.lanes_lemmas.Cuts.{far_below, in_quanta}
 use Rattle.fast_bits.proofs.lanes_lemmas.Moves.{added_below, added_for as lane_added, addend_rounds, odd_for}
-use Rattle.small_formats.specs.Codes.{datum_of as number_of_code, index_of, largest_index, magnitude_of, point}
+use Rattle.small_formats.specs.Codes.{datum_of as number_of_code, largest_index, magnitude_of, point}
 use Rattle.small_formats.specs.Conversions.{IsGiven, IsInto, IsSaturated, IsStoredNumber}
 use Rattle.small_formats.specs.Picks.{IsPickedAt}
 use Rattle.small_formats.specs.Storage.{IsLawfulStorage, StorageConstants, format_with}

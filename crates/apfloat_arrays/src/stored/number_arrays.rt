@@ -1,6 +1,6 @@
 //! Arrays of values whose numbers become codes from bits to bits; infinities and NaNs take the general way.
 
-ghost use Rattle.std.specs.Prelude.{◌≡◌, ◌+◌, ◌-◌, ◌*◌, ◌^◌, ◌<◌, ◌≤◌, length, IfSome, IsTrue};
+ghost use Rattle.std.specs.Prelude.{◌≡◌, ◌+◌, ◌-◌, ◌*◌, ◌<◌, ◌≤◌, length, IfSome, IsTrue};
 ghost use Rattle.rustc_apfloat.specs.Types.{constants_of};
 ghost use Rattle.small_formats.specs.Types.{constants_of as storage_constants_of};
 ghost use Rattle.apfloat_arrays.specs.Blocks.{IsBlock};

@@ -14,7 +14,7 @@ ghost use Rattle.apfloat_arrays.specs.stored.Numbers.{IsCodeSide, IsWordSource, 
 
 use crate::stored::sides::{CodePlan, CodeSide};
 use rustc_apfloat::ieee::{NonfiniteBehavior, Semantics};
-use rustc_apfloat::{ExpInt, Flags, Status, StatusAnd};
+use rustc_apfloat::{Flags, Status, StatusAnd};
 use small_formats::StorageFormat;
 
 /// How many places a significand is moved up, less one for each that the number is below the least normal one.

@@ -1,4 +1,4 @@
-use Rattle.std.proofs.Common.{◌≡◌, ◌+◌, ◌-◌, ◌*◌, ◌<◌, ◌≤◌, length, ◌∙◌, arith}
+use Rattle.std.proofs.Common.{◌≡◌, ◌+◌, ◌-◌, ◌*◌, length, ◌∙◌, arith}
 use borrow.Rule.Slice.PartMut.{same_len_mid}
 use Rattle.apfloat_arrays.proofs.Places.{place_size}
 use Rattle.apfloat_arrays.proofs.stored_lemmas.CodeTables.{entry_copied}

@@ -1,4 +1,4 @@
-use Rattle.std.proofs.Common.{◌≡◌, ℕ, ◌-◌, ◌*◌, ◌^◌, ◌≤◌, min, ap, ◌∙◌, arith}
+use Rattle.std.proofs.Common.{ℕ, ◌-◌, ◌*◌, ◌^◌, min, ap, ◌∙◌, arith}
 use Rattle.apfloat_arrays.proofs.stored_lemmas.Numbers.{IsMovedUp, moved_up}
 use Rattle.apfloat_arrays.proofs.stored.numbers.digits_at.Goals as goal
 

@@ -1,4 +1,4 @@
-use Rattle.std.proofs.Common.{◌<◌, ◌≤◌, arith}
+use Rattle.std.proofs.Common.{arith}
 use Rattle.apfloat_arrays.proofs.stored_lemmas.Numbers.{rounded_most}
 use Rattle.apfloat_arrays.proofs.stored.numbers.rounded.Goals as goal
 
