@@ -2,4 +2,4 @@ pub mod Formats
 pub mod Stored
 pub mod Arrays
 pub mod CodeTables
-pub mod Numbers
+pub mod NumberCodes

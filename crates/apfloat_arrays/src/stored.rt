@@ -5,7 +5,7 @@ mod code_tables;
 mod formats;
 mod loading;
 mod number_arrays;
-mod numbers;
+mod number_codes;
 mod sides;
 mod storing;
 

@@ -32,7 +32,7 @@ use Rattle.small_formats.specs.Storage.{IsLawfulStorage, StorageConstants, forma
 use Rattle.small_formats.proofs.Points.{low_point}
 use Rattle.small_formats.proofs.StoredPicks.{largest_point, past_delivered, picked_at, saturated, within_delivered}
 use Rattle.apfloat_arrays.specs.declared.stored.sides.CodeSide.{CodeSide}
-use Rattle.apfloat_arrays.specs.stored.Numbers.{IsCodeSide, added_for, added_if_odd, biased_of, is_minus, significand_of}
+use Rattle.apfloat_arrays.specs.stored.NumberCodes.{IsCodeSide, added_for, added_if_odd, biased_of, is_minus, significand_of}
 
 -- ---- the cut
 

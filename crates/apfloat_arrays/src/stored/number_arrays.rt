@@ -6,13 +6,13 @@ ghost use Rattle.small_formats.specs.Types.{constants_of as storage_constants_of
 ghost use Rattle.apfloat_arrays.specs.Blocks.{IsBlock};
 ghost use Rattle.apfloat_arrays.specs.Bytes.{number_of};
 ghost use Rattle.apfloat_arrays.specs.stored.Arrays.{IsStoredIn};
-ghost use Rattle.apfloat_arrays.specs.stored.Numbers.{HasConstants, IsWordSource};
+ghost use Rattle.apfloat_arrays.specs.stored.NumberCodes.{HasConstants, IsWordSource};
 
 use crate::bytes::{number_of, write_number};
 use crate::counts::{Counts, Outcome};
 use crate::stored::array::store_value;
 use crate::stored::formats::StoredFormat;
-use crate::stored::numbers::{digits_below, is_number, is_word_source, store_number};
+use crate::stored::number_codes::{digits_below, is_number, is_word_source, store_number};
 use crate::stored::sides::{CodePlan, code_plan};
 use rustc_apfloat::Round;
 use rustc_apfloat::ieee::Semantics;

@@ -1,7 +1,7 @@
 //! What a mode does with numbers of one sign.
 
 ghost use Rattle.std.specs.Prelude.{◌≡◌, ◌*◌, ◌-◌, ◌^◌, ◌≤◌, true, false, if◌then◌else◌};
-ghost use Rattle.apfloat_arrays.specs.stored.Numbers.{IsCodeSide, added_for, added_if_odd};
+ghost use Rattle.apfloat_arrays.specs.stored.NumberCodes.{IsCodeSide, added_for, added_if_odd};
 
 use apfloat_rounding::rounding::leads_past;
 use rustc_apfloat::Round;

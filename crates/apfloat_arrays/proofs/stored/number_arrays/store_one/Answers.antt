@@ -3,7 +3,7 @@ use Rattle.std.proofs.lemmas.Bool.{eq-eqb, true≢false}
 use Rattle.rustc_apfloat.specs.Flags.{bits_of}
 use Rattle.rustc_apfloat.specs.Types.{constants_of}
 use Rattle.small_formats.specs.Types.{constants_of as storage_constants_of}
-use Rattle.apfloat_arrays.specs.stored.Numbers.{biased_of}
+use Rattle.apfloat_arrays.specs.stored.NumberCodes.{biased_of}
 use Rattle.apfloat_arrays.proofs.stored_lemmas.NumberCodes.{stored_bits}
 use Rattle.apfloat_arrays.proofs.stored.number_arrays.store_one.Goals as goal
 

@@ -2,7 +2,7 @@ use Rattle.std.proofs.Common.{◌-◌, ◌^◌, ◌≤◌, ap, ◌∙◌, arith}
 use Rattle.std.proofs.Math.Nat.{pow-le-pow_right}
 use Rattle.std.proofs.lemmas.Nat.{pow_pos}
 use Rattle.apfloat_model.proofs.general.Powers.{two_pos}
-use Rattle.apfloat_arrays.specs.stored.Numbers.{added_for}
+use Rattle.apfloat_arrays.specs.stored.NumberCodes.{added_for}
 use Rattle.apfloat_arrays.proofs.stored_lemmas.Numbers.{side_is}
 use Rattle.apfloat_arrays.proofs.stored.sides.side_of.Goals as goal
 

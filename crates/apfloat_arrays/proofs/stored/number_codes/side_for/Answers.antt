@@ -1,6 +1,6 @@
 use Rattle.std.proofs.Common.{sym, subst, Bool}
-use Rattle.apfloat_arrays.specs.stored.Numbers.{IsCodeSide}
-use Rattle.apfloat_arrays.proofs.stored.numbers.side_for.Goals as goal
+use Rattle.apfloat_arrays.specs.stored.NumberCodes.{IsCodeSide}
+use Rattle.apfloat_arrays.proofs.stored.number_codes.side_for.Goals as goal
 
 pub returns-then-negative : goal.returns-then-negative
 returns-then-negative c =

@@ -10,7 +10,7 @@ ghost use Rattle.rustc_apfloat.specs.Layout.{datum_of};
 ghost use Rattle.rustc_apfloat.specs.Types.{constants_of, format_of, layout_of};
 ghost use Rattle.small_formats.specs.Conversions.{IsInto};
 ghost use Rattle.small_formats.specs.Types.{constants_of as storage_constants_of};
-ghost use Rattle.apfloat_arrays.specs.stored.Numbers.{IsCodeSide, IsWordSource, biased_of, is_minus, significand_of};
+ghost use Rattle.apfloat_arrays.specs.stored.NumberCodes.{IsCodeSide, IsWordSource, biased_of, is_minus, significand_of};
 
 use crate::stored::sides::{CodePlan, CodeSide};
 use rustc_apfloat::ieee::{NonfiniteBehavior, Semantics};

@@ -1,6 +1,6 @@
 use Rattle.std.proofs.Common.{ℕ, ◌-◌, ◌*◌, ◌^◌, min, ap, ◌∙◌, arith}
 use Rattle.apfloat_arrays.proofs.stored_lemmas.Numbers.{IsMovedUp, moved_up}
-use Rattle.apfloat_arrays.proofs.stored.numbers.digits_at.Goals as goal
+use Rattle.apfloat_arrays.proofs.stored.number_codes.digits_at.Goals as goal
 
 moved : (c : goal.After-min) → IsMovedUp c.args.significand (32 - c.min.result)
 moved c = moved_up c.args.significand (32 - c.min.result) c.requires (omega arith)

@@ -1,6 +1,6 @@
 use Rattle.std.proofs.Common.{arith}
 use Rattle.apfloat_arrays.proofs.stored_lemmas.Numbers.{rounded_most}
-use Rattle.apfloat_arrays.proofs.stored.numbers.rounded.Goals as goal
+use Rattle.apfloat_arrays.proofs.stored.number_codes.rounded.Goals as goal
 
 pub overflow_cast-result-2 : goal.overflow_cast-result-2
 overflow_cast-result-2 c =

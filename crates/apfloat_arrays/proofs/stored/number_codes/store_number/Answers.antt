@@ -10,10 +10,10 @@ use Rattle.fast_bits.specs.lanes.Sides.{rounded_by}
 use Rattle.small_formats.specs.Conversions.{IsInto}
 use Rattle.small_formats.specs.Storage.{format_with}
 use Rattle.small_formats.specs.Types.{constants_of as storage_constants_of}
-use Rattle.apfloat_arrays.specs.stored.Numbers.{biased_of, is_minus, significand_of}
+use Rattle.apfloat_arrays.specs.stored.NumberCodes.{biased_of, is_minus, significand_of}
 use Rattle.apfloat_arrays.proofs.FarNumbers.{scale_is}
 use Rattle.apfloat_arrays.proofs.stored_lemmas.Numbers.{IsCodeOf, IsStatusOf, code_below, normal_full, number_into, number_read, overflow_only_past}
-use Rattle.apfloat_arrays.proofs.stored.numbers.store_number.Goals as goal
+use Rattle.apfloat_arrays.proofs.stored.number_codes.store_number.Goals as goal
 
 pub digits_at-digits-requires : goal.digits_at-digits-requires
 digits_at-digits-requires g c =
