@@ -396,7 +396,7 @@ module _ {O : Type 0} (Answers : ℕ → ℕ → O → Type 0) (tally : O → Ta
       }
 
   -- the entry of a place
-  found : (place size : ℕ) (table : List ℕ) → place < size → IsEntryTable Answers tally size table
+  pub found : (place size : ℕ) (table : List ℕ) → place < size → IsEntryTable Answers tally size table
       → (outcome : O) × HasEntry Answers tally place (value_at 8 place table) outcome
   found place size table within is =
       let one = element is.outcomes place (subst (λ (n : ℕ). place < n) (sym is.places.size) within) in (

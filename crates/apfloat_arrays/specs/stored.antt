@@ -3,3 +3,5 @@ pub mod Stored
 pub mod Arrays
 pub mod Numbers
 pub mod ByMode
+pub mod CodeTables
+pub mod NumberCodes

@@ -2,9 +2,13 @@
 
 mod array;
 mod by_mode;
+mod code_tables;
 mod formats;
 mod loading;
+mod number_arrays;
+mod number_codes;
 mod numbers;
+mod sides;
 mod storing;
 
 pub use array::{Ends, StorageArray};

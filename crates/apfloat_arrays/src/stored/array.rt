@@ -8,7 +8,9 @@ ghost use Rattle.apfloat_arrays.specs.Blocks.{IsBlock};
 ghost use Rattle.apfloat_arrays.specs.Bytes.{number_of};
 ghost use Rattle.apfloat_arrays.specs.stored.Arrays.{IsConverted, IsLoadedIn, IsStoredIn, widths_of};
 
+use crate::stored::code_tables::{has_code_table, load_codes};
 use crate::stored::formats::StoredFormat;
+use crate::stored::number_arrays::store_numbers;
 use crate::{Counts, Extended, Outcome, Widths, number_of, width, write_number};
 use formats_at_run_time::{BuiltInFormat, FlaggedFormat, ReadsInFormat, WritesInFormat};
 use rustc_apfloat::ieee::{Flagged, IeeeFloat, Semantics};
@@ -139,6 +141,11 @@ impl ReadsInFormat for StoreCall<'_> {
             count,
             input,
         } = self;
+        if let Some(counts) = store_numbers::<S>(
+            target, round, overflow, width, count, input, bytes,
+        ) {
+            return counts;
+        }
         let mut counts = Counts::NONE;
         for index in 0..count {
             let (from, to) = (index * width, index * 1);
@@ -170,6 +177,9 @@ impl WritesInFormat for LoadCall<'_> {
             count,
             input,
         } = self;
+        if has_code_table(source, width, count) {
+            return load_codes::<T>(source, overflow, round, width, count, input, bytes);
+        }
         let mut counts = Counts::NONE;
         for index in 0..count {
             let (from, to) = (index * 1, index * width);
@@ -182,7 +192,7 @@ impl WritesInFormat for LoadCall<'_> {
 }
 
 /// Converts a value into a storage format.
-fn store_value<S: Semantics>(
+pub(crate) fn store_value<S: Semantics>(
     target: StoredFormat,
     round: Round,
     overflow: Overflow,

@@ -1,0 +1,6 @@
+use Rattle.rustc_apfloat.specs.FlaggedTypes.{constants_of}
+use Rattle.apfloat_arrays.specs.stored.CodeTables.{AreCodeEntries}
+use Rattle.apfloat_arrays.proofs.stored.code_tables.fill_codes.Given as goal
+
+abbrev pub invariant-loop-place : goal.invariant-loop-place
+invariant-loop-place g l = AreCodeEntries l.overflow l.source (constants_of g.T.Flagged) l.round l.place l.table

@@ -1,0 +1,91 @@
+use Rattle.std.proofs.Common.{◌≡◌, ℕ, ◌+◌, ◌-◌, ◌*◌, ◌%◌, ◌^◌, ◌<◌, ◌≤◌, Bool, cond, eqb, not, min, sym, ap, ◌∙◌, subst, arith, pos, ◌-ℤ◌}
+use Rattle.std.proofs.Math.Nat.{pow-le-pow_right}
+use Rattle.std.proofs.lemmas.Int.{ints}
+use Rattle.apfloat_model.proofs.general.Powers.{two_pos}
+use Rattle.apfloat_model.specs.formats.Datum.{Datum}
+use Rattle.rustc_apfloat.specs.Flags.{bits_of}
+use Rattle.apfloat_model.specs.rounding.Rounding.{leads_out}
+use Rattle.rustc_apfloat.specs.Types.{constants_of, format_of}
+use Rattle.fast_bits.specs.lanes.Sides.{rounded_by}
+use Rattle.small_formats.specs.Conversions.{IsInto}
+use Rattle.small_formats.specs.Storage.{format_with}
+use Rattle.small_formats.specs.Types.{constants_of as storage_constants_of}
+use Rattle.apfloat_arrays.specs.stored.NumberCodes.{biased_of, is_minus, significand_of}
+use Rattle.apfloat_arrays.proofs.FarNumbers.{scale_is}
+use Rattle.apfloat_arrays.proofs.stored_lemmas.Numbers.{IsCodeOf, IsStatusOf, code_below, normal_full, number_into, number_read, overflow_only_past}
+use Rattle.apfloat_arrays.proofs.stored.number_codes.store_number.Goals as goal
+
+pub digits_at-digits-requires : goal.digits_at-digits-requires
+digits_at-digits-requires g c =
+    let digits = c.requires.source.digits in
+    let below = c.significand_in-significand.ensures.below in
+    let most : 2 ^ g.S.Semantics.PRECISION ≤ 2 ^ 24 = pow-le-pow_right two_pos digits in
+    omega (arith, below, most)
+
+pub returns : goal.returns
+returns g c =
+    let k = constants_of g.S.Semantics in
+    let s = storage_constants_of g.F.StorageFormat in
+    let law = g.F.StorageFormat.lawful in
+    let source = c.requires.source in
+    let m = significand_of k c.args.bits in
+    let e = biased_of k c.args.bits - 1 in
+    let first = c.first_place-first.result in
+    let low = c.args.plan.low in
+    let mode = c.args.plan.round in
+    let negative = is_minus k c.args.bits in
+    let side = c.side_for-side.result in
+    let index = c.rounded.result + c.placed.result in
+    let code = c.code_of.result in
+    let status = bits_of c.status_of-status.result in
+    let t : ℕ = m * 2 ^ (32 - min (first - e) 32) in
+    let place : c.above-place.result ≡ biased_of k c.args.bits - 1 =
+    c.above-place.ensures ∙ ap (λ (n : ℕ). n - 1) c.biased_in-biased.ensures.is in
+    let digits : c.digits_at-digits.result ≡ m * 2 ^ (32 - min (first - e) 32) =
+    c.digits_at-digits.ensures.is
+    ∙ ap (λ (n : ℕ). n * 2 ^ (32 - min (first - c.above-place.result) 32)) c.significand_in-significand.ensures.is
+    ∙ ap (λ (n : ℕ). m * 2 ^ (32 - min (first - n) 32)) place in
+    let is_side = c.side_for-side.ensures in
+    let negative_is : c.is_minus_in-negative.result ≡ is_minus k c.args.bits = c.is_minus_in-negative.ensures in
+    let rounded : c.rounded.result ≡ rounded_by low mode negative t =
+    c.rounded.ensures.is ∙ is_side.rounds c.digits_at-digits.result
+    ∙ ap (λ (b : Bool). rounded_by low mode b c.digits_at-digits.result) negative_is
+    ∙ ap (λ (n : ℕ). rounded_by low mode negative n) digits in
+    let placed : c.placed.result ≡ (e - first) * 2 ^ (s.precision - 1) =
+    c.placed.ensures.is
+    ∙ ap (λ (n : ℕ). n * 2 ^ (s.precision - 1)) (c.above.ensures ∙ ap (λ (n : ℕ). n - first) place) in
+    let index_is : index ≡ rounded_by low mode negative t + (e - first) * 2 ^ (s.precision - 1) =
+    (λ i. rounded i + placed i) in
+    let exact : c.is_exact.result ≡ eqb (t % 2 ^ low) 0 =
+    c.is_exact.ensures ∙ ap (λ (n : ℕ). eqb (n % 2 ^ low) 0) digits in
+    let out : side.leads_out ≡ leads_out mode negative = is_side.out ∙ ap (leads_out mode) negative_is in
+    let code_is : IsCodeOf s negative index code = record {
+      is = c.code_of.ensures
+          ∙ ap (λ (b : Bool). cond b (2 ^ (s.bits - 1)) 0 + min index (2 ^ (s.bits - 1) - 1)) negative_is;
+    } in
+    let status_is : IsStatusOf s side.leads_out index (eqb (t % 2 ^ low) 0) status =
+    subst (λ (b : Bool). IsStatusOf s side.leads_out index b status) exact
+    (record { is = c.status_of-status.ensures }) in
+    let from_scale = scale_is k g.S.Semantics.lawful.parameters in
+    let two = law.precision_low in
+    let above = law.exponent in
+    let least = law.min_exp_high in
+    let more = source.more in
+    let first_is = c.first_place-first.ensures.is in
+    let to_scale : pos (format_with s).scale ≡ pos (s.precision - 1) -ℤ s.min_exp = omega (arith, ints, two, least) in
+    let scales : (format_of g.S.Semantics).scale ≡ (format_with s).scale + (k.precision - s.precision) + first =
+    omega (arith, ints, from_scale, to_scale, first_is, more, two) in
+    let fits : m < 2 ^ k.precision =
+    subst (λ (n : ℕ). n < 2 ^ k.precision) c.significand_in-significand.ensures.is
+    c.significand_in-significand.ensures.below in
+    let into = number_into s (format_of g.S.Semantics) mode negative side.leads_out k.precision low first e m index code
+    status law more fits (normal_full k c.args.bits) scales c.requires.low index_is out code_is status_is in
+    let read = number_read k c.args.bits source.nonfinite source.implied c.requires.number in
+    rw (c.and.ensures.value, c.and.ensures.status)
+    (record {
+      stored =
+          subst
+          (λ (x : Datum). IsInto s (format_of g.S.Semantics) mode x code status (not (eqb status 0))) (sym read) into;
+      below = code_below s negative index code (omega (arith, two, above)) code_is;
+      past = overflow_only_past s negative side.leads_out (eqb (t % 2 ^ low) 0) index code status code_is status_is;
+    })

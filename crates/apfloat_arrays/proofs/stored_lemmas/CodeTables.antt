@@ -1,0 +1,139 @@
+-- Codes that were looked up in a table.
+use Rattle.std.proofs.Common.{◌≡◌, ℕ, ◌+◌, ◌-◌, ◌*◌, ◌%◌, ◌^◌, ◌<◌, ◌≤◌, List, [], ◌∷◌, ◌++◌, length, Some, sym, ap, ◌∙◌, subst, arith}
+use Rattle.std.specs.Prelude.{slice_get}
+use Rattle.std.proofs.Math.Path.{ap₂}
+use Rattle.std.proofs.lemmas.Nat.{pow_pos}
+use Rattle.std.proofs.lemmas.Option.{IfSome_then}
+use borrow.Rule.Slice.PartMut.{put_mid}
+use Rattle.rustc_apfloat.specs.declared.Round.{Round}
+use Rattle.rustc_apfloat.specs.Datum.{Datum}
+use Rattle.rustc_apfloat.specs.Flags.{bits_of}
+use Rattle.rustc_apfloat.specs.Lawful.{Constants, format_with}
+use Rattle.small_formats.specs.Codes.{datum_of}
+use Rattle.small_formats.specs.Unsigned.{unsigned_datum}
+use Rattle.small_formats.specs.declared.saturation.Overflow.{Overflow}
+use Rattle.small_formats.specs.saturation.Saturation.{IsConversionBy}
+use Rattle.apfloat_arrays.specs.declared.counts.Counts.{Counts}
+use Rattle.apfloat_arrays.specs.declared.counts.Outcome.{Outcome}
+use Rattle.apfloat_arrays.specs.declared.stored.formats.StoredFormat.{StoredFormat}
+use Rattle.apfloat_arrays.specs.declared.stored.formats.StoredFormat.TheVariants.{E2M1FN, E2M3FN, E3M2FN, E3M4, E8M0FNU, UE4M3}
+use Rattle.apfloat_arrays.specs.declared.tallies.Tally.{Tally}
+use Rattle.apfloat_arrays.specs.Blocks.{IsBlock, value_at}
+use Rattle.apfloat_arrays.specs.Bytes.{number_of}
+use Rattle.apfloat_arrays.specs.Entries.{AreEntries, AreLookedUp, HasEntry, IsEntry}
+use Rattle.apfloat_arrays.specs.Tables.{outcome_tally}
+use Rattle.apfloat_arrays.specs.Tallies.{counts_with}
+use Rattle.apfloat_arrays.specs.stored.Arrays.{IsLoaded, IsLoadedIn}
+use Rattle.apfloat_arrays.specs.stored.CodeTables.{AreCodeEntries, IsCodeTable, IsLoadedCode}
+use Rattle.apfloat_arrays.specs.stored.Formats.{bits_in, datum_in, e2m1fn_constants, e2m3fn_constants, e3m2fn_constants, format_in}
+use Rattle.apfloat_arrays.proofs.LittleEndian.{fits}
+use Rattle.apfloat_arrays.proofs.Places.{places_more}
+use Rattle.apfloat_arrays.proofs.TabledResults.{found_in}
+use Rattle.apfloat_arrays.proofs.TalliedResults.{are_entries, found, looked_up as outcomes_looked_up}
+
+-- a result whose bits are written
+pub written_code : (overflow : Overflow) (format : StoredFormat) (d : Constants) (mode : Round) (code bits : ℕ)
+    (bytes : List ℕ) (outcome : Outcome) → IsLoaded overflow format d mode code bits outcome
+    → number_of bytes ≡ bits → IsLoadedCode overflow format d mode code bytes outcome
+written_code overflow format d mode code bits bytes outcome it written =
+    subst (λ (n : ℕ). IsLoaded overflow format d mode code n outcome) (sym written) it
+
+-- what a look-up copies
+pub code_looked_up : (overflow : Overflow) (format : StoredFormat) (d : Constants) (mode : Round)
+    (width count place at size : ℕ) (values new : List ℕ) (outcomes : List Outcome) (outcome : Outcome)
+    → IsCodeTable overflow format d mode width count values outcomes → slice_get outcomes place ≡ Some outcome
+    → new ≡ value_at size place values → size ≡ width → place ≡ at → IsLoadedCode overflow format d mode at new outcome
+code_looked_up overflow format d mode width count place at size values new outcomes outcome table found copied wide is =
+    let here : IsLoadedCode overflow format d mode place (value_at width place values) outcome =
+    found_in (IsLoadedCode overflow format d mode) width count place values outcomes outcome table found in
+    let same : value_at width place values ≡ new =
+    ap (λ (n : ℕ). value_at n place values) (sym wide) ∙ sym copied in
+    subst (λ (n : ℕ). IsLoadedCode overflow format d mode n new outcome) is
+    (subst (λ (bytes : List ℕ). IsLoadedCode overflow format d mode place bytes outcome) same here)
+
+-- the results fit in the bytes of a value of the target
+pub code_entries_of : (overflow : Overflow) (format : StoredFormat) (d : Constants) (mode : Round) (width size : ℕ)
+    (table : List ℕ) → length table ≡ size * 8 → d.bits ≤ 8 * width
+    → AreCodeEntries overflow format d mode size table → AreEntries width size table
+code_entries_of overflow format d mode width size table room wide is =
+    are_entries (IsLoaded overflow format d mode) outcome_tally width size table room
+    (λ place result outcome made. fits result d.bits width made.is_encoded.below wide) is
+
+-- the codes whose results were looked up are converted
+pub codes_looked_up : (overflow : Overflow) (format : StoredFormat) (d : Constants) (mode : Round)
+    (width size count : ℕ) (input output table : List ℕ) (tally : Tally) (counts : Counts)
+    → AreCodeEntries overflow format d mode size table
+    → AreLookedUp (λ k. number_of (value_at 1 k input)) size width count table output tally
+    → counts ≡ counts_with count tally
+    → IsBlock (IsLoadedIn overflow format d mode) 1 width count input output counts
+codes_looked_up overflow format d mode width size count input output table tally counts is it counts_are =
+    let found = outcomes_looked_up (IsLoaded overflow format d mode) outcome_tally
+    (λ k. number_of (value_at 1 k input)) size width count table output tally is it in
+    record {
+      outcomes = found.outcomes;
+      size = found.places.size;
+      each = λ index. IfSome_then (slice_get found.outcomes index) (found.places.each index) (λ outcome made. made);
+      counted = counts_are ∙ ap₂ counts_with (sym found.places.size) found.total_is;
+    }
+
+-- ---- bytes that mean what an earlier one does
+
+like_byte : (format : StoredFormat) (place : ℕ) → 2 ^ bits_in format ≤ place → place < 256
+    → datum_in format (place - 2 ^ bits_in format) ≡ datum_in format place
+like_byte E2M1FN place past within =
+    let same : (place - 2 ^ 4) % 2 ^ 4 ≡ place % 2 ^ 4 = omega (arith, past) in
+    ap (datum_of e2m1fn_constants) same
+like_byte E2M3FN place past within =
+    let same : (place - 2 ^ 6) % 2 ^ 6 ≡ place % 2 ^ 6 = omega (arith, past) in
+    ap (datum_of e2m3fn_constants) same
+like_byte E3M2FN place past within =
+    let same : (place - 2 ^ 6) % 2 ^ 6 ≡ place % 2 ^ 6 = omega (arith, past) in
+    ap (datum_of e3m2fn_constants) same
+like_byte E3M4 place past within = absurd (omega (arith, past, within))
+like_byte E8M0FNU place past within = absurd (omega (arith, past, within))
+like_byte UE4M3 place past within =
+    let same : (place - 2 ^ 7) % 128 ≡ place % 128 = omega (arith, past) in
+    ap unsigned_datum same
+
+loaded_like : (overflow : Overflow) (format : StoredFormat) (d : Constants) (mode : Round) (like place bits : ℕ)
+    (outcome : Outcome) → datum_in format like ≡ datum_in format place → IsLoaded overflow format d mode like bits outcome
+    → IsLoaded overflow format d mode place bits outcome
+loaded_like overflow format d mode like place bits outcome same it =
+    record {
+      value = it.value;
+      loses = it.loses;
+      is_conversion =
+          subst
+          (λ (x : Datum). IsConversionBy overflow (format_in format) (format_with d) mode x it.value
+          (bits_of outcome.status) it.loses)
+          same it.is_conversion;
+      is_encoded = it.is_encoded;
+      nan_is = it.nan_is;
+    }
+
+-- one more entry is copied to its place
+pub entry_copied : (overflow : Overflow) (format : StoredFormat) (d : Constants) (mode : Round) (codes place : ℕ)
+    (table entry : List ℕ) → codes ≡ 2 ^ bits_in format → codes ≤ place → place < 256 → length table ≡ 256 * 8
+    → length entry ≡ 8 → entry ≡ value_at 8 (place - codes) table
+    → AreCodeEntries overflow format d mode place table
+    → AreCodeEntries overflow format d mode (place + 1) (put_mid (place * 8) (place * 8 + 8 - place * 8) table entry)
+entry_copied overflow format d mode codes place table entry codes_are past within long wide copied so_far =
+    let Answers : ℕ → ℕ → Outcome → Type 0 = IsLoaded overflow format d mode in
+    let some : 0 < 2 ^ bits_in format = pow_pos (bits_in format) in
+    let earlier : place - codes < place = omega (arith, codes_are, past, some) in
+    let from = found Answers outcome_tally (place - codes) place table earlier so_far in
+    let like : datum_in format (place - codes) ≡ datum_in format place =
+    ap (λ (n : ℕ). datum_in format (place - n)) codes_are
+    ∙ like_byte format place (subst (λ (n : ℕ). n ≤ place) codes_are past) within in
+    let made : HasEntry Answers outcome_tally place entry from.0 = record {
+      result = from.1.result;
+      is_answer = loaded_like overflow format d mode (place - codes) place from.1.result from.0 like from.1.is_answer;
+      is_entry =
+          subst (λ (bytes : List ℕ). IsEntry (number_of bytes) from.1.result (outcome_tally from.0)) (sym copied)
+          from.1.is_entry;
+    } in
+    record {
+      outcomes = so_far.outcomes ++ from.0 ∷ [];
+      places = places_more (HasEntry Answers outcome_tally) 8 place 256 table entry so_far.outcomes from.0 within long
+          wide made so_far.places;
+    }

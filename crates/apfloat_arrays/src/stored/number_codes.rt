@@ -1,0 +1,294 @@
+//! Numbers of at most 24 digits as codes of a storage format without infinities and NaNs, from bits to bits: the
+//! significand is moved so that its last kept digit has a place of its own, and one sum below that digit rounds it.
+//! With the place of the number added, what is kept is the code without its sign.
+
+ghost use Rattle.std.specs.Prelude.{◌≡◌, ◌⊎◌, ◌+◌, ◌-◌, ◌*◌, ◌/◌, ◌%◌, ◌^◌, ◌<◌, ◌≤◌, min, pos, negsuc, ◌-ℤ◌, ◌≤ℤ◌, false, not, eqb, ltb, if◌then◌else◌, IsTrue};
+ghost use Rattle.std.specs.Int.RustNames.{bit_and};
+ghost use Rattle.apfloat_model.specs.declared.kinds.NonfiniteBehavior.TheVariants.{IEEE754};
+ghost use Rattle.rustc_apfloat.specs.Flags.{bits_of};
+ghost use Rattle.rustc_apfloat.specs.Layout.{datum_of};
+ghost use Rattle.rustc_apfloat.specs.Types.{constants_of, format_of, layout_of};
+ghost use Rattle.small_formats.specs.Conversions.{IsInto};
+ghost use Rattle.small_formats.specs.Types.{constants_of as storage_constants_of};
+ghost use Rattle.apfloat_arrays.specs.stored.NumberCodes.{IsCodeSide, IsWordSource, biased_of, is_minus, significand_of};
+
+use crate::stored::sides::{CodePlan, CodeSide};
+use rustc_apfloat::ieee::{NonfiniteBehavior, Semantics};
+use rustc_apfloat::{Flags, Status, StatusAnd};
+use small_formats::StorageFormat;
+
+/// How many places a significand is moved up, less one for each that the number is below the least normal one.
+const ROOM: u32 = 32;
+
+/// Whether the numbers of `S` have at most 24 digits and an implied integer bit.
+#[inline(always)]
+fn has_words<S: Semantics>() -> bool
+    ensures { IsTrue result → (S.NONFINITE_BEHAVIOR ≡ IEEE754) × (S.EXPLICIT_INTEGER_BIT ≡ false)
+        × (S.BITS ≤ 32) × (S.EXP_BITS ≤ 8) × (S.PRECISION ≤ 24) }
+{
+    (S::NONFINITE_BEHAVIOR == NonfiniteBehavior::IEEE754)
+        & !S::EXPLICIT_INTEGER_BIT
+        & (S::BITS <= 32)
+        & (S::EXP_BITS <= 8)
+        & (S::PRECISION <= 24)
+}
+
+/// Whether they have the digits of those of `F`.
+#[inline(always)]
+fn has_digits<S: Semantics, F: StorageFormat>() -> bool
+    ensures { IsTrue result → F.PRECISION ≤ S.PRECISION }
+{
+    F::PRECISION <= S::PRECISION
+}
+
+/// Whether the least exponent of `S` is at least that of singles.
+#[inline(always)]
+fn has_exponents<S: Semantics>() -> bool
+    ensures { IsTrue result → negsuc 125 ≤ℤ S.MIN_EXP }
+{
+    S::MIN_EXP >= -126
+}
+
+/// Whether it is at most that of `F`.
+#[inline(always)]
+fn is_finer<S: Semantics, F: StorageFormat>() -> bool
+    ensures { IsTrue result → S.MIN_EXP ≤ℤ F.MIN_EXP }
+{
+    S::MIN_EXP <= F::MIN_EXP
+}
+
+/// Whether the numbers of `S` become codes of `F` here.
+#[inline(always)]
+pub(crate) fn is_word_source<S: Semantics, F: StorageFormat>() -> bool
+    ensures { IsTrue result
+        → IsWordSource (constants_of S.Semantics) (storage_constants_of F.StorageFormat) }
+{
+    has_words::<S>() & has_digits::<S, F>() & has_exponents::<S>() & is_finer::<S, F>()
+}
+
+/// How many digits are below the last kept one.
+#[inline(always)]
+pub(crate) fn digits_below<S: Semantics, F: StorageFormat>() -> u32
+    requires { IsWordSource (constants_of S.Semantics) (storage_constants_of F.StorageFormat) }
+    ensures is { result ≡ S.PRECISION - F.PRECISION + 32 }
+    ensures some { 1 ≤ result }
+    ensures most { result ≤ 56 }
+{
+    (S::PRECISION - F::PRECISION) as u32 + ROOM
+}
+
+/// The biased exponent.
+#[inline(always)]
+fn biased_in<S: Semantics>(bits: u32) -> u32
+    requires digits { S.PRECISION ≤ 24 }
+    requires exp_bits { S.EXP_BITS ≤ 8 }
+    ensures is { result ≡ biased_of (constants_of S.Semantics) bits }
+    ensures below { result < 256 }
+{
+    let unit = 1_u32 << (S::PRECISION - 1);
+    let exponents = 1_u32 << S::EXP_BITS;
+    bits / unit % exponents
+}
+
+/// Whether the bits are those of a number.
+#[inline(always)]
+pub(crate) fn is_number<S: Semantics>(bits: u32) -> bool
+    requires digits { S.PRECISION ≤ 24 }
+    requires exp_bits { S.EXP_BITS ≤ 8 }
+    ensures { result ≡ not (eqb (biased_of (constants_of S.Semantics) bits) (2 ^ S.EXP_BITS - 1)) }
+{
+    biased_in::<S>(bits) != (1_u32 << S::EXP_BITS) - 1
+}
+
+/// The significand with its integer bit, which denormal numbers lack.
+#[inline(always)]
+fn significand_in<S: Semantics>(bits: u32, biased: u32) -> u32
+    requires digits { S.PRECISION ≤ 24 }
+    requires biased { biased ≡ biased_of (constants_of S.Semantics) bits }
+    ensures is { result ≡ significand_of (constants_of S.Semantics) bits }
+    ensures below { result < 2 ^ S.PRECISION }
+{
+    let unit = 1_u32 << (S::PRECISION - 1);
+    bits % unit + biased.min(1) * unit
+}
+
+/// Whether the sign is minus.
+#[inline(always)]
+fn is_minus_in<S: Semantics>(bits: u32) -> bool
+    requires some { 1 ≤ S.BITS }
+    requires word { S.BITS ≤ 32 }
+    ensures { result ≡ is_minus (constants_of S.Semantics) bits }
+{
+    bits / (1_u32 << (S::BITS - 1)) % 2 == 1
+}
+
+/// The place of the numbers of `S` from which on a code has all its digits.
+#[inline(always)]
+fn first_place<S: Semantics, F: StorageFormat>() -> u32
+    requires { IsWordSource (constants_of S.Semantics) (storage_constants_of F.StorageFormat) }
+    ensures is { pos result ≡ F.MIN_EXP -ℤ S.MIN_EXP }
+    ensures below { result ≤ 126 }
+{
+    (F::MIN_EXP - S::MIN_EXP) as u32
+}
+
+/// How far a place is above another one.
+#[inline(always)]
+fn above(place: u32, first: u32) -> u32
+    ensures { result ≡ place - first }
+{
+    place.saturating_sub(first)
+}
+
+/// What the mode does with numbers of this sign.
+#[inline(always)]
+fn side_for(plan: CodePlan, negative: bool) -> CodeSide
+    ensures { IsCodeSide plan.low plan.round negative result }
+{
+    if negative {
+        plan.negative
+    } else {
+        plan.positive
+    }
+}
+
+/// The digits of a number, the last kept one at a place of its own.
+#[inline(always)]
+fn digits_at(significand: u32, place: u32, first: u32) -> u64
+    requires { significand < 2 ^ 24 }
+    ensures is { result ≡ significand * 2 ^ (32 - min (first - place) 32) }
+    ensures below { result < 2 ^ 56 }
+{
+    u64::from(significand) << (ROOM - above(first, place).min(ROOM))
+}
+
+/// What is kept, moved up where the mode rounds up.
+#[inline(always)]
+fn rounded(low: u32, side: CodeSide, digits: u64) -> u32
+    requires some { 32 ≤ low }
+    requires most { low ≤ 56 }
+    requires digits { digits < 2 ^ 56 }
+    requires always { side.always < 2 ^ low }
+    requires one { side.if_odd ≤ 1 }
+    ensures is { result ≡ (digits + (side.always + bit_and (digits / 2 ^ low) side.if_odd)) / 2 ^ low }
+    ensures below { result ≤ 2 ^ 25 }
+{
+    let one = (digits >> low) & side.if_odd;
+    ((digits + (side.always + one)) >> low) as u32
+}
+
+/// What a place adds to a code.
+#[inline(always)]
+fn placed<F: StorageFormat>(place: u32) -> u32
+    requires { place < 256 }
+    ensures is { result ≡ place * 2 ^ (F.PRECISION - 1) }
+    ensures below { result < 2 ^ 15 }
+{
+    place << (F::PRECISION - 1)
+}
+
+/// Whether there are no digits below the last kept one.
+#[inline(always)]
+fn is_exact(low: u32, digits: u64) -> bool
+    requires { low ≤ 56 }
+    ensures { result ≡ eqb (digits % 2 ^ low) 0 }
+{
+    digits % (1_u64 << low) == 0
+}
+
+/// How many codes have no sign.
+#[inline(always)]
+fn unsigned_codes<F: StorageFormat>() -> u32
+    ensures is { result ≡ 2 ^ (F.BITS - 1) }
+    ensures most { result ≤ 128 }
+{
+    1_u32 << (F::BITS - 1)
+}
+
+/// How many of them have not all digits.
+#[inline(always)]
+fn denormal_codes<F: StorageFormat>() -> u32
+    ensures { result ≡ 2 ^ (F.PRECISION - 1) }
+{
+    1_u32 << (F::PRECISION - 1)
+}
+
+/// The code of a magnitude's number, or of the largest one for what is past it, with the sign.
+#[inline(always)]
+fn code_of<F: StorageFormat>(negative: bool, index: u32) -> u8
+    ensures { result ≡ (if negative then 2 ^ (F.BITS - 1) else 0) + min index (2 ^ (F.BITS - 1) - 1) }
+{
+    let half = unsigned_codes::<F>();
+    let sign = if negative { half } else { 0 };
+    (sign + index.min(half - 1)) as u8
+}
+
+/// The flags of a number past the largest one.
+#[inline(always)]
+fn status_past(leads_out: bool) -> Status
+    ensures { bits_of result ≡ (if leads_out then 20 else 16) }
+{
+    if leads_out {
+        Status::OVERFLOW.union(Status::INEXACT)
+    } else {
+        Status::INEXACT
+    }
+}
+
+/// The flags of a number that is not.
+#[inline(always)]
+fn status_within(exact: bool, tiny: bool) -> Status
+    ensures { bits_of result ≡ (if exact then 0 else (if tiny then 24 else 16)) }
+{
+    if exact {
+        return Status::OK;
+    }
+    if tiny {
+        Status::UNDERFLOW.union(Status::INEXACT)
+    } else {
+        Status::INEXACT
+    }
+}
+
+/// The flags of a number that is rounded to the one with that number.
+#[inline(always)]
+fn status_of<F: StorageFormat>(leads_out: bool, index: u32, exact: bool) -> Status
+    ensures { bits_of result ≡ (if ltb (2 ^ (F.BITS - 1) - 1) index then (if leads_out then 20 else 16)
+        else (if exact then 0 else (if ltb index (2 ^ (F.PRECISION - 1)) then 24 else 16))) }
+{
+    if index > unsigned_codes::<F>() - 1 {
+        return status_past(leads_out);
+    }
+    status_within(exact, index < denormal_codes::<F>())
+}
+
+/// The code of a number, rounded once.
+#[inline(always)]
+pub(crate) fn store_number<S: Semantics, F: StorageFormat>(
+    plan: CodePlan,
+    bits: u32,
+) -> StatusAnd<u8>
+    requires read { S.PRECISION < S.BITS }
+    requires source { IsWordSource (constants_of S.Semantics)
+        (storage_constants_of F.StorageFormat) }
+    requires low { plan.low ≡ S.PRECISION - F.PRECISION + 32 }
+    requires number { (biased_of (constants_of S.Semantics) bits ≡ 2 ^ S.EXP_BITS - 1) → ⊥ }
+    ensures stored { IsInto (storage_constants_of F.StorageFormat) (format_of S.Semantics) plan.round
+        (datum_of (format_of S.Semantics) (layout_of S.Semantics) bits) result.value
+        (bits_of result.status) (not (eqb (bits_of result.status) 0)) }
+    ensures below { result.value < 2 ^ F.BITS }
+    ensures past { (bit_and (bits_of result.status) 4 ≡ 0)
+        ⊎ (result.value ≡ (if is_minus (constants_of S.Semantics) bits then 2 ^ (F.BITS - 1) else 0)
+        + (2 ^ (F.BITS - 1) - 1)) }
+{
+    let biased = biased_in::<S>(bits);
+    let significand = significand_in::<S>(bits, biased);
+    let place = above(biased, 1);
+    let first = first_place::<S, F>();
+    let negative = is_minus_in::<S>(bits);
+    let side = side_for(plan, negative);
+    let digits = digits_at(significand, place, first);
+    let index = rounded(plan.low, side, digits) + placed::<F>(above(place, first));
+    let status = status_of::<F>(side.leads_out, index, is_exact(plan.low, digits));
+    status.and(code_of::<F>(negative, index))
+}
