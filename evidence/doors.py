@@ -41,6 +41,7 @@ ROWS = (
      r'augmented\w*', 'augmented_add'),
     ('payloads as values', 'get_payload', 'get_payload', r'apfloat_\w*payload\w*', r'get_payload', r'payload',
      'get_payload'),
+    ('exact reductions', 'dot_r', 'dot', r'apfloat_\w*dot', 'dot', 'dot', None),
     ('arrays', 'ArrayConversion', 'map', 'apfloat_map_array', 'map_array', 'Array', 'convert_values'),
     ('storage formats', 'StoredFloat', 'StoredFloat', r'apfloat_to_storage|APFLOAT_E2M1FN', 'stored', r'Stored\w*',
      'e2m1fn'),
@@ -59,6 +60,7 @@ ROWS = (
 # Why C, and with it C++ and Python, or the programs have an empty cell in a row.
 REASONS = {
     'decimals with these flags': {'Programs': 'rows lack them'},
+    'exact reductions': {'C': 'they are new', 'Programs': 'rows lack them'},
     'blocks of NVFP4': {'C': 'no array has the scale of a tensor'},
     'formats of P3109': {'C': 'four constants have no code'},
     "a format's constants": {'Programs': '`docs/FORMATS.md` has them'},

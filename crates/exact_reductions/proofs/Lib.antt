@@ -1,0 +1,5 @@
+pub mod Laws
+pub mod Placed
+pub mod Rooms
+pub mod Spelled
+pub mod Tallies
