@@ -15,7 +15,7 @@ from struct import pack, unpack
 from exact.arithmetic import exact_zero, multiply
 from exact.bits import decoded, encoded
 from exact.data import Finite, Infinite, NaN, infinity, invalid, is_nan, negated, number, qnan, result_of_nans, snan
-from exact.formats import FORMATS
+from exact.formats import FORMATS, Format
 from exact.rounding import Mode, delivered
 from exact.status import INVALID_OP, OK
 from row_files import MODES, hexes, in_each_mode, row
@@ -24,6 +24,9 @@ KINDS = (
     "half half+ieee+before bfloat single single+ieee double double+ieee double+ieee+before "
     "e5m2 e5m2+ieee e4m3fn e4m3fn+ieee+before e4m3fnuz tf32+ieee"
 ).split()
+
+# A user's format with as many digits as sums allow, and the exponents of double.
+OWN = Format("own75", 75, 11, 64, -1022, 1023)
 
 CALLS = ("sum", "sum_abs", "sum_square", "dot")
 
@@ -295,8 +298,8 @@ def rows(form, random):
 def main():
     random = Random(9)
     print("# Sums and dot products, rounded once. Computed by evidence/reductions.py.")
-    for kind in KINDS:
-        print("\n".join(rows(FORMATS[kind], random)))
+    for form in (*[FORMATS[kind] for kind in KINDS], OWN):
+        print("\n".join(rows(form, random)))
 
 
 if __name__ == "__main__":

@@ -3,7 +3,7 @@
 
 use rustc_apfloat::ieee::*;
 use rustc_apfloat::reductions::{self, ExactSum, LengthsDiffer};
-use rustc_apfloat::{Float, Round, Status, StatusAnd};
+use rustc_apfloat::{ExpInt, Float, Round, Status, StatusAnd};
 use std::fs;
 use std::path::Path;
 
@@ -78,6 +78,25 @@ fn flags(names: &str) -> Status {
     names.split('|').map(|name| Status::from_name(name).unwrap()).collect()
 }
 
+/// A format of the most digits that sums have.
+struct Own75S;
+
+impl Semantics for Own75S {
+    const BITS: usize = 75;
+    const EXP_BITS: usize = 11;
+}
+
+/// A format of the most digits and exponents that sums have.
+struct LimitS;
+
+impl Semantics for LimitS {
+    const BITS: usize = 0;
+    const EXP_BITS: usize = 0;
+    const PRECISION: usize = 64;
+    const MIN_EXP: ExpInt = -1024;
+    const MAX_EXP: ExpInt = 1024;
+}
+
 /// What differs from a row.
 fn differences<S: Semantics>(row: &str) -> Option<String> {
     let [call, _, mode, operands, value, status, _] = row.split('\t').collect::<Vec<_>>().try_into().unwrap();
@@ -129,6 +148,7 @@ fn rows_of_reductions() {
             "e4m3fn": Float8E4M3FNS,
             "e4m3fnuz": Float8E4M3FNUZS,
             "tf32": FloatTF32S,
+            "own75": Own75S,
         }
     });
     let differences: Vec<String> = differences.collect();
@@ -157,4 +177,24 @@ fn every_small_format() {
         HalfS SingleS DoubleS BFloatS Float8E5M2S Float8E4M3FNS Float8E4M3FNUZS Float8E4M3S Float8E5M2FNUZS
         Float8E4M3B11FNUZS FloatTF32S
     }
+}
+
+#[test]
+fn the_largest_format() {
+    type Limit = IeeeFloat<LimitS>;
+    let (largest, least) = (Limit::largest(), Limit::SMALLEST);
+    let products = |x: &[Limit], y: &[Limit]| reductions::dot(x, y, Round::TowardPositive).unwrap();
+    let tiny = (Status::UNDERFLOW | Status::INEXACT).and(least);
+    assert_eq!(products(&[largest, least, -largest], &[largest, least, largest]), tiny);
+    assert_eq!(products(&[largest, -least, -largest], &[largest, least, largest]).value, -Limit::ZERO);
+    let (most, mut minus) = ([largest; 1000], [-largest; 1000]);
+    minus[0] = least;
+    let past = products(&most, &most);
+    assert_eq!((past.value, past.status), (Limit::INFINITY, Status::OVERFLOW | Status::INEXACT));
+    let one = Limit::from_u128(1).value;
+    let left = products(&[most, minus, [one; 1000]].concat(), &[most, most, [one; 1000]].concat());
+    assert_eq!((left.value, left.status), (Limit::INFINITY, Status::OVERFLOW | Status::INEXACT));
+    minus[0] = -largest;
+    let left = products(&[most, minus, [one; 1000]].concat(), &[most, most, [one; 1000]].concat());
+    assert_eq!(left, Status::OK.and(Limit::from_u128(1000).value));
 }

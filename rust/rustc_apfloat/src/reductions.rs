@@ -78,8 +78,8 @@ pub fn dot<S: Semantics>(
 
 /// The exact sum of the terms so far: values, products of two values, or both. It has a fixed size, about a kilobyte.
 ///
-/// A format has at most 64 digits, and `MAX_EXP - MIN_EXP` is at most 2048: so have all built-in ones of at most 64 bits.
-/// A sum in another format does not compile.
+/// A format has at most 64 digits, and its `MAX_EXP - MIN_EXP` is at most 2048: all built-in ones of at most 64 bits. A
+/// sum in another format does not compile.
 ///
 /// ```compile_fail
 /// use rustc_apfloat::ieee::X87DoubleExtended;
@@ -157,10 +157,11 @@ impl<S: Semantics> ExactSum<S> {
 
     /// The sum, rounded once, with the flags of that rounding.
     ///
-    /// An exact zero is +0, or -0 toward negative, but a sum of zeros of one sign keeps it; without terms it is +0. An
-    /// infinity of one sign is the result. Infinities of both signs, and an infinity times a zero, are invalid: the
-    /// result is the quiet NaN without a payload, with `INVALID_OP`. Otherwise, the first term that is a NaN is the
-    /// result, quieted, with `INVALID_OP` if a NaN was signaling or a product invalid.
+    /// The first term that is a NaN is the result, quieted, also where there is an infinity; a product of an infinity and
+    /// a zero is such a term, without a payload. Then `INVALID_OP` is raised if any NaN was signaling or any such product
+    /// invalid. Otherwise infinities of both signs give the quiet NaN without a payload, with `INVALID_OP`, and those of
+    /// one sign are the result. An exact zero is +0, or -0 toward negative, but a sum of zeros of one sign keeps it;
+    /// without terms it is +0.
     pub fn rounded(self, round: Round) -> StatusAnd<IeeeFloat<S>> {
         answered(self.0.rounded(round)).map(IeeeFloat::of)
     }
