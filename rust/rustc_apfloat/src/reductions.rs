@@ -5,14 +5,14 @@
 //! ```
 //! use rustc_apfloat::ieee::Double;
 //! use rustc_apfloat::reductions::{self, ExactSum, LengthsDiffer};
-//! use rustc_apfloat::{Round, Status};
+//! use rustc_apfloat::{Float, Round, Status};
 //!
 //! let round = Round::NearestTiesToEven;
 //! let [large, small, three] = ["1e308", "1e-308", "3"].map(|text| text.parse::<Double>().unwrap());
 //! assert_eq!(reductions::sum(&[large, small, -large], round), Status::OK.and(small));
 //!
 //! let products = reductions::dot(&[large, small, -large], &[large, three, large], round).unwrap();
-//! assert_eq!(products, Status::OK.and("3e-308".parse().unwrap()));
+//! assert_eq!(products, small.mul_r(three, round));
 //! assert_eq!(reductions::dot(&[large], &[], round), Err(LengthsDiffer));
 //!
 //! let mut first = ExactSum::new();
