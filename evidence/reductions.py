@@ -212,6 +212,20 @@ def chosen_special_dots(form):
     yield [plus, minus, one], [one, one, quiet]
 
 
+def far_apart(form):
+    """Pairs of powers of two, 64 to 127 digits apart, with their mode, and, where a significand has 64 digits,
+    midpoints and what is just above them."""
+    above = filled(form)[1]
+    for distance in range(64, 128):
+        if above >> distance:
+            yield Mode.UP, [word(form, False, above), word(form, False, above >> distance)]
+    if form.precision == 64:
+        for place in range(1, 65):
+            even, half = (1 << form.precision) - 2 << place, 1 << place - 1
+            yield Mode.EVEN, [word(form, False, each) for each in (even + (1 << place), half)]
+            yield Mode.EVEN, [word(form, False, each) for each in (even, half, 1)]
+
+
 # ---- drawn terms
 
 
@@ -269,12 +283,17 @@ def chosen_rows(form, call, left, right=()):
     return in_each_mode(call, form.name, operands, lambda mode: result(form, call, left, right, mode))
 
 
+def one_row(form, call, mode, left, right=()):
+    """The row of a call in one mode."""
+    operands = operands_of(form, call, left, right)
+    return row(call, form.name, mode, operands, *result(form, call, left, right, mode))
+
+
 def drawn_row(form, random, index, count):
     """A row of terms that are drawn."""
     call, mode = CALLS[index % len(CALLS)], MODES[index % len(MODES)]
     left, right = drawn_terms(form, random, count), drawn_terms(form, random, count)
-    operands = operands_of(form, call, left, right)
-    return row(call, form.name, mode, operands, *result(form, call, left, right, mode))
+    return one_row(form, call, mode, left, right)
 
 
 def rows(form, random):
@@ -286,6 +305,8 @@ def rows(form, random):
             yield from chosen_rows(form, call, terms)
     for left, right in (*chosen_dots(form), *chosen_special_dots(form)):
         yield from chosen_rows(form, "dot", left, right)
+    for mode, terms in far_apart(form):
+        yield one_row(form, "sum", mode, terms)
     for index in range(DRAWS_OF_EACH):
         yield drawn_row(form, random, index, random.randrange(1, 9))
     for index, count in enumerate(LONG):
