@@ -22,7 +22,7 @@ mod progress;
 #[path = "../rust/programs/src/bin/check_vectors/summary.rs"]
 mod summary;
 
-use check::{Check, Task};
+use check::{Check, Lines, Task};
 use std::collections::BTreeSet;
 use std::fs;
 use std::io::sink;
@@ -69,7 +69,7 @@ fn called(row: &str) -> Option<String> {
 fn agreeing(file: &Path) -> (u64, BTreeSet<String>) {
     let text = fs::read_to_string(file).unwrap();
     let rows: String = text.lines().filter_map(called).map(|row| row + "\n").collect();
-    let (mut check, mut written) = (Check::new(Task::rows()), Vec::new());
+    let (mut check, mut written) = (Check::new(Task::of(Lines::Rows)), Vec::new());
     assert!(check.take(&mut rows.as_bytes(), &mut written, &mut sink()).is_ok());
     let (tally, written) = (check.tally(), String::from_utf8(written).unwrap());
     assert_eq!(tally.differing, 0, "{}: {written}", file.display());

@@ -28,6 +28,7 @@ pub const LIBRARY: &[&str] = &[
     "apfloat_ieee",
     "rustc_apfloat",
     "apfloat_decimals",
+    "exact_reductions",
     "apfloat_digits",
     "ieee_operations",
     "round_to_odd",

@@ -50,6 +50,7 @@ pub mod machines;
 pub mod more;
 pub mod odd;
 pub mod p3109;
+pub mod reductions;
 pub mod run_time;
 pub mod storage_formats;
 

@@ -1,0 +1,180 @@
+//! Exact reductions (IEEE 754-2019 9.4): sums of values, of products, of squares and of magnitudes, each the exact result
+//! rounded once. It does not depend on the order of the terms, but for which NaN it is. The crate `rustc_apfloat` has none
+//! of this.
+//!
+//! ```
+//! use rustc_apfloat::ieee::Double;
+//! use rustc_apfloat::reductions::{self, ExactSum, LengthsDiffer};
+//! use rustc_apfloat::{Float, Round, Status};
+//!
+//! let round = Round::NearestTiesToEven;
+//! let [large, small, three] = ["1e308", "1e-308", "3"].map(|text| text.parse::<Double>().unwrap());
+//! assert_eq!(reductions::sum(&[large, small, -large], round), Status::OK.and(small));
+//!
+//! let products = reductions::dot(&[large, small, -large], &[large, three, large], round).unwrap();
+//! assert_eq!(products, small.mul_r(three, round));
+//! assert_eq!(reductions::dot(&[large], &[], round), Err(LengthsDiffer));
+//!
+//! let mut first = ExactSum::new();
+//! first.add(large);
+//! let mut second = ExactSum::new();
+//! second.add_product(-large, three);
+//! second.add_values(&[large, large]);
+//! first.join(second);
+//! assert_eq!(first.rounded(round), Status::OK.and("0".parse().unwrap()));
+//! ```
+
+use crate::erased::exact_reductions as library;
+use crate::ieee::{FlaggedS, IeeeFloat, Semantics};
+use crate::status::answered;
+use crate::{Round, StatusAnd};
+use core::fmt;
+
+pub use library::LengthsDiffer;
+
+impl fmt::Display for LengthsDiffer {
+    fn fmt(&self, f: &mut fmt::Formatter<'_>) -> fmt::Result {
+        f.write_str("the slices of a dot product have different lengths")
+    }
+}
+
+impl core::error::Error for LengthsDiffer {}
+
+/// The sum of the values (IEEE 754-2019 9.4, sum), as [`ExactSum::rounded`]. Without values it is +0.
+pub fn sum<S: Semantics>(values: &[IeeeFloat<S>], round: Round) -> StatusAnd<IeeeFloat<S>> {
+    let mut sum = ExactSum::new();
+    sum.add_values(values);
+    sum.rounded(round)
+}
+
+/// The sum of the magnitudes of the values (IEEE 754-2019 9.4, sumAbs), as [`ExactSum::rounded`].
+pub fn sum_abs<S: Semantics>(values: &[IeeeFloat<S>], round: Round) -> StatusAnd<IeeeFloat<S>> {
+    let mut sum = ExactSum::new();
+    sum.add_magnitudes(values);
+    sum.rounded(round)
+}
+
+/// The sum of the squares of the values (IEEE 754-2019 9.4, sumSquare), as [`ExactSum::rounded`].
+pub fn sum_square<S: Semantics>(values: &[IeeeFloat<S>], round: Round) -> StatusAnd<IeeeFloat<S>> {
+    let mut sum = ExactSum::new();
+    sum.add_each_product(values, values);
+    sum.rounded(round)
+}
+
+/// The sum of the products of the values at the same places (IEEE 754-2019 9.4, dot), as [`ExactSum::rounded`].
+///
+/// # Errors
+///
+/// `LengthsDiffer` unless both slices have as many values.
+pub fn dot<S: Semantics>(
+    x: &[IeeeFloat<S>],
+    y: &[IeeeFloat<S>],
+    round: Round,
+) -> Result<StatusAnd<IeeeFloat<S>>, LengthsDiffer> {
+    let mut sum = ExactSum::new();
+    sum.add_products(x, y)?;
+    Ok(sum.rounded(round))
+}
+
+/// The exact sum of the terms so far: values, products of two values, or both. It has a fixed size, about a kilobyte.
+///
+/// A format has at most 64 digits, and its `MAX_EXP - MIN_EXP` is at most 2048: all built-in ones of at most 64 bits. A
+/// sum in another format does not compile.
+///
+/// ```compile_fail
+/// use rustc_apfloat::ieee::X87DoubleExtended;
+/// use rustc_apfloat::{Float, Round, reductions};
+///
+/// let one = X87DoubleExtended::from_u128(1).value;
+/// assert_eq!(reductions::sum(&[one], Round::NearestTiesToEven).value, one);
+/// ```
+// It is not `Clone`: sums joined with their copies would soon have more than 2^64 terms.
+#[must_use]
+pub struct ExactSum<S: Semantics>(library::ExactSum<FlaggedS<S>>);
+
+impl<S: Semantics> ExactSum<S> {
+    /// That the sums of 2^64 products fit into the words of a sum.
+    const FITS: () = {
+        assert!(S::PRECISION <= 64, "sums are exact in formats of at most 64 digits");
+        assert!(S::MAX_EXP - S::MIN_EXP <= 2048, "the format's exponents are too many for exact sums");
+    };
+
+    /// The sum of no terms.
+    pub fn new() -> Self {
+        let () = Self::FITS;
+        Self(library::ExactSum::new())
+    }
+
+    /// Adds a value.
+    #[inline]
+    pub fn add(&mut self, x: IeeeFloat<S>) {
+        self.0.add(x.inner());
+    }
+
+    /// Adds a product.
+    #[inline]
+    pub fn add_product(&mut self, x: IeeeFloat<S>, y: IeeeFloat<S>) {
+        self.0.add_product(x.inner(), y.inner());
+    }
+
+    /// Adds values.
+    pub fn add_values(&mut self, values: &[IeeeFloat<S>]) {
+        for x in values {
+            self.0.add_values(&[x.inner()]);
+        }
+    }
+
+    /// Adds the magnitudes of values: what `abs` makes of them.
+    pub fn add_magnitudes(&mut self, values: &[IeeeFloat<S>]) {
+        for x in values {
+            self.0.add_magnitudes(&[x.inner()]);
+        }
+    }
+
+    /// Adds the products of the values at the same places.
+    ///
+    /// # Errors
+    ///
+    /// `LengthsDiffer` unless both slices have as many values. Nothing is added then.
+    pub fn add_products(&mut self, x: &[IeeeFloat<S>], y: &[IeeeFloat<S>]) -> Result<(), LengthsDiffer> {
+        if x.len() != y.len() {
+            return Err(LengthsDiffer);
+        }
+        self.add_each_product(x, y);
+        Ok(())
+    }
+
+    fn add_each_product(&mut self, x: &[IeeeFloat<S>], y: &[IeeeFloat<S>]) {
+        for (x, y) in x.iter().zip(y) {
+            self.0.add_products(&[x.inner()], &[y.inner()]);
+        }
+    }
+
+    /// Adds the terms of another sum, as if they came after its own.
+    pub fn join(&mut self, later: Self) {
+        self.0.join(later.0);
+    }
+
+    /// The sum, rounded once, with the flags of that rounding.
+    ///
+    /// The first term that is a NaN is the result, quieted, also where there is an infinity; a product of an infinity and
+    /// a zero is such a term, without a payload. Then `INVALID_OP` is raised if any NaN was signaling or any such product
+    /// invalid. Otherwise infinities of both signs give the quiet NaN without a payload, with `INVALID_OP`, and those of
+    /// one sign are the result. An exact zero is +0, or -0 toward negative, but a sum of zeros of one sign keeps it;
+    /// without terms it is +0.
+    pub fn rounded(self, round: Round) -> StatusAnd<IeeeFloat<S>> {
+        answered(self.0.rounded(round)).map(IeeeFloat::of)
+    }
+}
+
+impl<S: Semantics> Default for ExactSum<S> {
+    fn default() -> Self {
+        Self::new()
+    }
+}
+
+impl<S: Semantics> fmt::Debug for ExactSum<S> {
+    fn fmt(&self, f: &mut fmt::Formatter<'_>) -> fmt::Result {
+        f.debug_struct("ExactSum").finish_non_exhaustive()
+    }
+}
