@@ -49,10 +49,6 @@ MACHINES = {
     "risc_v": Machine("default", False, False, "ABC", True, True, True, "greatest", "greatest", False, False, None),
     "power": Machine("first", False, True, "ACB", False, False, True, "least", "zero", False, False, None),
     "s390x": Machine("signaling", False, True, "ABC", True, True, True, "least", "zero", False, True, None),
-    "arm_alternate_default_nan": Machine(
-        "default", True, False, "ABC", True, True, False, "zero", "zero", False, False, X86_FLUSH
-    ),
-    "mips_2008": Machine("signaling", False, False, "CAB", False, False, True, "zero", None, False, False, None),
 }
 
 RULES = ("second", "second_quietly", "first_nan", "number_2008", "number_2019", "propagated")

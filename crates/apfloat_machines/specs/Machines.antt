@@ -4,8 +4,7 @@ use Rattle.apfloat_machines.specs.declared.flushing.Flush.{Flush}
 use Rattle.apfloat_machines.specs.declared.flushing.Flush.TheVariants.{X86 as FlushX86, Arm as FlushArm}
 use Rattle.apfloat_machines.specs.declared.machine.Machine.{Machine}
 use Rattle.apfloat_machines.specs.declared.machine.Machine.TheVariants.{X86, X87, Arm, ArmDefaultNan}
-use Rattle.apfloat_machines.specs.declared.machine.Machine.TheVariants.{ArmAlternate, ArmAlternateDefaultNan}
-use Rattle.apfloat_machines.specs.declared.machine.Machine.TheVariants.{RiscV, Power, S390x, Mips2008}
+use Rattle.apfloat_machines.specs.declared.machine.Machine.TheVariants.{ArmAlternate, RiscV, Power, S390x}
 use Rattle.apfloat_machines.specs.declared.machine.NanChoice.{NanChoice}
 use Rattle.apfloat_machines.specs.declared.machine.NanChoice.TheVariants.{First, SignalingFirst, Greater, AlwaysDefault}
 use Rattle.apfloat_machines.specs.declared.machine.FusedOrder.{FusedOrder}
@@ -22,11 +21,9 @@ nan_choice X87 = Greater
 nan_choice Arm = SignalingFirst
 nan_choice ArmDefaultNan = AlwaysDefault
 nan_choice ArmAlternate = First
-nan_choice ArmAlternateDefaultNan = AlwaysDefault
 nan_choice RiscV = AlwaysDefault
 nan_choice Power = First
 nan_choice S390x = SignalingFirst
-nan_choice Mips2008 = SignalingFirst
 
 -- whether the NaN of an invalid operation is negative
 abbrev pub default_is_negative : Machine → Bool
@@ -35,11 +32,9 @@ default_is_negative X87 = true
 default_is_negative Arm = false
 default_is_negative ArmDefaultNan = false
 default_is_negative ArmAlternate = true
-default_is_negative ArmAlternateDefaultNan = true
 default_is_negative RiscV = false
 default_is_negative Power = false
 default_is_negative S390x = false
-default_is_negative Mips2008 = false
 
 -- ---- fused sums (5.4.1, 7.2)
 
@@ -49,11 +44,9 @@ has_fused X87 = false
 has_fused Arm = true
 has_fused ArmDefaultNan = true
 has_fused ArmAlternate = true
-has_fused ArmAlternateDefaultNan = true
 has_fused RiscV = true
 has_fused Power = true
 has_fused S390x = true
-has_fused Mips2008 = true
 
 -- the order in which operands that are NaNs are looked at; without a meaning where the default is always the result
 abbrev pub fused_order : Machine → FusedOrder
@@ -62,11 +55,9 @@ fused_order X87 = FactorsFirst
 fused_order Arm = AddendFirst
 fused_order ArmDefaultNan = AddendFirst
 fused_order ArmAlternate = FactorsFirst
-fused_order ArmAlternateDefaultNan = FactorsFirst
 fused_order RiscV = FactorsFirst
 fused_order Power = AddendSecond
 fused_order S390x = FactorsFirst
-fused_order Mips2008 = AddendFirst
 
 -- whether an infinity times a zero, plus a quiet NaN, is the default, and whether it is plus a signaling one
 abbrev pub drops_quiet_addend : Machine → Bool
@@ -75,11 +66,9 @@ drops_quiet_addend X87 = false
 drops_quiet_addend Arm = true
 drops_quiet_addend ArmDefaultNan = true
 drops_quiet_addend ArmAlternate = false
-drops_quiet_addend ArmAlternateDefaultNan = true
 drops_quiet_addend RiscV = true
 drops_quiet_addend Power = false
 drops_quiet_addend S390x = true
-drops_quiet_addend Mips2008 = false
 
 abbrev pub drops_signaling_addend : Machine → Bool
 drops_signaling_addend X86 = false
@@ -87,11 +76,9 @@ drops_signaling_addend X87 = false
 drops_signaling_addend Arm = false
 drops_signaling_addend ArmDefaultNan = true
 drops_signaling_addend ArmAlternate = false
-drops_signaling_addend ArmAlternateDefaultNan = true
 drops_signaling_addend RiscV = true
 drops_signaling_addend Power = false
 drops_signaling_addend S390x = true
-drops_signaling_addend Mips2008 = false
 
 -- whether an infinity times a zero, plus a quiet NaN, is an invalid operation
 abbrev pub flags_quiet_addend : Machine → Bool
@@ -100,11 +87,9 @@ flags_quiet_addend X87 = false
 flags_quiet_addend Arm = true
 flags_quiet_addend ArmDefaultNan = true
 flags_quiet_addend ArmAlternate = false
-flags_quiet_addend ArmAlternateDefaultNan = false
 flags_quiet_addend RiscV = true
 flags_quiet_addend Power = true
 flags_quiet_addend S390x = true
-flags_quiet_addend Mips2008 = true
 
 -- ---- integers (5.8)
 
@@ -114,11 +99,9 @@ has_unsigned X87 = false
 has_unsigned Arm = true
 has_unsigned ArmDefaultNan = true
 has_unsigned ArmAlternate = true
-has_unsigned ArmAlternateDefaultNan = true
 has_unsigned RiscV = true
 has_unsigned Power = true
 has_unsigned S390x = true
-has_unsigned Mips2008 = false
 
 -- the signed integer that a NaN gives
 abbrev pub signed_of_nan : Machine → WholeOfNan
@@ -127,11 +110,9 @@ signed_of_nan X87 = Least
 signed_of_nan Arm = Zero
 signed_of_nan ArmDefaultNan = Zero
 signed_of_nan ArmAlternate = Zero
-signed_of_nan ArmAlternateDefaultNan = Zero
 signed_of_nan RiscV = Greatest
 signed_of_nan Power = Least
 signed_of_nan S390x = Least
-signed_of_nan Mips2008 = Zero
 
 -- the unsigned one
 abbrev pub unsigned_of_nan : Machine → WholeOfNan
@@ -140,11 +121,9 @@ unsigned_of_nan X87 = Greatest
 unsigned_of_nan Arm = Zero
 unsigned_of_nan ArmDefaultNan = Zero
 unsigned_of_nan ArmAlternate = Zero
-unsigned_of_nan ArmAlternateDefaultNan = Zero
 unsigned_of_nan RiscV = Greatest
 unsigned_of_nan Power = Zero
 unsigned_of_nan S390x = Zero
-unsigned_of_nan Mips2008 = Zero
 
 -- whether a number or an infinity out of range gives the same integer as a NaN, instead of the nearer end of the range
 abbrev pub has_one_invalid_integer : Machine → Bool
@@ -153,11 +132,9 @@ has_one_invalid_integer X87 = true
 has_one_invalid_integer Arm = false
 has_one_invalid_integer ArmDefaultNan = false
 has_one_invalid_integer ArmAlternate = false
-has_one_invalid_integer ArmAlternateDefaultNan = false
 has_one_invalid_integer RiscV = false
 has_one_invalid_integer Power = false
 has_one_invalid_integer S390x = false
-has_one_invalid_integer Mips2008 = false
 
 -- whether a number or an infinity out of range raises INEXACT too
 abbrev pub invalid_integer_is_inexact : Machine → Bool
@@ -166,11 +143,9 @@ invalid_integer_is_inexact X87 = false
 invalid_integer_is_inexact Arm = false
 invalid_integer_is_inexact ArmDefaultNan = false
 invalid_integer_is_inexact ArmAlternate = false
-invalid_integer_is_inexact ArmAlternateDefaultNan = false
 invalid_integer_is_inexact RiscV = false
 invalid_integer_is_inexact Power = false
 invalid_integer_is_inexact S390x = true
-invalid_integer_is_inexact Mips2008 = false
 
 -- ---- tininess (7.5) and flushing
 
@@ -181,11 +156,9 @@ tiny_before_rounding X87 = false
 tiny_before_rounding Arm = true
 tiny_before_rounding ArmDefaultNan = true
 tiny_before_rounding ArmAlternate = false
-tiny_before_rounding ArmAlternateDefaultNan = false
 tiny_before_rounding RiscV = false
 tiny_before_rounding Power = true
 tiny_before_rounding S390x = true
-tiny_before_rounding Mips2008 = false
 
 -- the flags of results that are flushed to zero, if the machine can flush them
 abbrev pub flush_of : Machine → Option Flush
@@ -194,8 +167,6 @@ flush_of X87 = None
 flush_of Arm = Some FlushArm
 flush_of ArmDefaultNan = Some FlushArm
 flush_of ArmAlternate = Some FlushX86
-flush_of ArmAlternateDefaultNan = Some FlushX86
 flush_of RiscV = None
 flush_of Power = None
 flush_of S390x = None
-flush_of Mips2008 = None

@@ -25,16 +25,12 @@ pub enum Machine {
     ArmDefaultNan,
     /// AArch64 with FPCR.AH set and FPCR.DN clear.
     ArmAlternate,
-    /// AArch64 with FPCR.AH and FPCR.DN set.
-    ArmAlternateDefaultNan,
     /// RISC-V: F, D, Q and Zfh.
     RiscV,
     /// POWER: VSX, and the floating-point instructions.
     Power,
     /// z/Architecture: binary floating point, and the vector facility.
     S390x,
-    /// MIPS with FCSR.NAN2008 set, as from Release 6 on.
-    Mips2008,
 }
 
 /// Which operand is the result if operands are NaNs. Each is quieted.
@@ -85,11 +81,9 @@ impl Machine {
             Machine::Arm => NanChoice::SignalingFirst,
             Machine::ArmDefaultNan => NanChoice::AlwaysDefault,
             Machine::ArmAlternate => NanChoice::First,
-            Machine::ArmAlternateDefaultNan => NanChoice::AlwaysDefault,
             Machine::RiscV => NanChoice::AlwaysDefault,
             Machine::Power => NanChoice::First,
             Machine::S390x => NanChoice::SignalingFirst,
-            Machine::Mips2008 => NanChoice::SignalingFirst,
         }
     }
 
@@ -99,8 +93,7 @@ impl Machine {
         ensures { result ≡ default_is_negative self }
     {
         match self {
-            Machine::X86 | Machine::X87 => true,
-            Machine::ArmAlternate | Machine::ArmAlternateDefaultNan => true,
+            Machine::X86 | Machine::X87 | Machine::ArmAlternate => true,
             _ => false,
         }
     }
@@ -122,7 +115,7 @@ impl Machine {
         ensures { result ≡ fused_order self }
     {
         match self {
-            Machine::Arm | Machine::ArmDefaultNan | Machine::Mips2008 => FusedOrder::AddendFirst,
+            Machine::Arm | Machine::ArmDefaultNan => FusedOrder::AddendFirst,
             Machine::Power => FusedOrder::AddendSecond,
             _ => FusedOrder::FactorsFirst,
         }
@@ -134,8 +127,7 @@ impl Machine {
         ensures { result ≡ drops_quiet_addend self }
     {
         match self {
-            Machine::Arm | Machine::ArmDefaultNan | Machine::ArmAlternateDefaultNan => true,
-            Machine::RiscV | Machine::S390x => true,
+            Machine::Arm | Machine::ArmDefaultNan | Machine::RiscV | Machine::S390x => true,
             _ => false,
         }
     }
@@ -146,8 +138,7 @@ impl Machine {
         ensures { result ≡ drops_signaling_addend self }
     {
         match self {
-            Machine::ArmDefaultNan | Machine::ArmAlternateDefaultNan => true,
-            Machine::RiscV | Machine::S390x => true,
+            Machine::ArmDefaultNan | Machine::RiscV | Machine::S390x => true,
             _ => false,
         }
     }
@@ -158,8 +149,7 @@ impl Machine {
         ensures { result ≡ flags_quiet_addend self }
     {
         match self {
-            Machine::X86 | Machine::X87 => false,
-            Machine::ArmAlternate | Machine::ArmAlternateDefaultNan => false,
+            Machine::X86 | Machine::X87 | Machine::ArmAlternate => false,
             _ => true,
         }
     }
@@ -170,7 +160,7 @@ impl Machine {
         ensures { result ≡ has_unsigned self }
     {
         match self {
-            Machine::X87 | Machine::Mips2008 => false,
+            Machine::X87 => false,
             _ => true,
         }
     }
@@ -181,9 +171,7 @@ impl Machine {
         ensures { result ≡ signed_of_nan self }
     {
         match self {
-            Machine::Arm | Machine::ArmDefaultNan => WholeOfNan::Zero,
-            Machine::ArmAlternate | Machine::ArmAlternateDefaultNan => WholeOfNan::Zero,
-            Machine::Mips2008 => WholeOfNan::Zero,
+            Machine::Arm | Machine::ArmDefaultNan | Machine::ArmAlternate => WholeOfNan::Zero,
             Machine::RiscV => WholeOfNan::Greatest,
             _ => WholeOfNan::Least,
         }
@@ -240,8 +228,7 @@ impl Machine {
         ensures { result ≡ flush_of self }
     {
         match self {
-            Machine::X86 => Some(Flush::X86),
-            Machine::ArmAlternate | Machine::ArmAlternateDefaultNan => Some(Flush::X86),
+            Machine::X86 | Machine::ArmAlternate => Some(Flush::X86),
             Machine::Arm | Machine::ArmDefaultNan => Some(Flush::Arm),
             _ => None,
         }

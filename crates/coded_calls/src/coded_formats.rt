@@ -11,7 +11,7 @@ ghost use Rattle.coded_calls.specs.MachineCalls.{IsFilledIn, ieee_format_coded, 
 ghost use Rattle.coded_calls.specs.MachineCalls.{machine_format_coded, tiny_before_coded};
 
 use apfloat_machines::Machine;
-use formats_at_run_time::{FillsInFormat, IeeeFormat};
+use formats_at_run_time::FillsInFormat;
 use rustc_apfloat::ieee::{
     BFloatS, DoubleS, Float8E5M2S, HalfS, IeeeFlags, QuadS, SingleS, TinyBefore, X87DoubleExtendedS,
 };
@@ -161,65 +161,5 @@ fn fill_without_rule<C: FillsInFormat + Copy>(
         6 => Some(call.fill_in_format::<Float8E5M2S>(place)),
         9 => Some(call.fill_in_format::<X87DoubleExtendedS>(place)),
         _ => None,
-    }
-}
-
-/// Makes a call in a format, tininess detected before rounding.
-#[inline(always)]
-pub fn fill_before_rounding<C: FillsInFormat>(
-    format: IeeeFormat,
-    call: C,
-    place: &mut C::Place,
-) -> C::Output
-    ensures { C.gives call (of_format (before_rounding format)) place.old place.new result }
-{
-    match format {
-        IeeeFormat::Half => call.fill_in_format::<IeeeFlags<TinyBefore<HalfS>>>(place),
-        IeeeFormat::Single => call.fill_in_format::<IeeeFlags<TinyBefore<SingleS>>>(place),
-        IeeeFormat::Double => call.fill_in_format::<IeeeFlags<TinyBefore<DoubleS>>>(place),
-        IeeeFormat::Quad => call.fill_in_format::<IeeeFlags<TinyBefore<QuadS>>>(place),
-        IeeeFormat::BFloat => call.fill_in_format::<IeeeFlags<TinyBefore<BFloatS>>>(place),
-        IeeeFormat::E5M2 => call.fill_in_format::<IeeeFlags<TinyBefore<Float8E5M2S>>>(place),
-        IeeeFormat::X87 => call.fill_in_format::<IeeeFlags<TinyBefore<X87DoubleExtendedS>>>(place),
-    }
-}
-
-/// Makes a call in a format, tininess detected after rounding.
-#[inline(always)]
-pub fn fill_after_rounding<C: FillsInFormat>(
-    format: IeeeFormat,
-    call: C,
-    place: &mut C::Place,
-) -> C::Output
-    ensures { C.gives call (of_format (after_rounding format)) place.old place.new result }
-{
-    match format {
-        IeeeFormat::Half => call.fill_in_format::<IeeeFlags<HalfS>>(place),
-        IeeeFormat::Single => call.fill_in_format::<IeeeFlags<SingleS>>(place),
-        IeeeFormat::Double => call.fill_in_format::<IeeeFlags<DoubleS>>(place),
-        IeeeFormat::Quad => call.fill_in_format::<IeeeFlags<QuadS>>(place),
-        IeeeFormat::BFloat => call.fill_in_format::<IeeeFlags<BFloatS>>(place),
-        IeeeFormat::E5M2 => call.fill_in_format::<IeeeFlags<Float8E5M2S>>(place),
-        IeeeFormat::X87 => call.fill_in_format::<IeeeFlags<X87DoubleExtendedS>>(place),
-    }
-}
-
-/// Makes a call in a format, without a rule of flags.
-#[inline(always)]
-pub fn fill_built_in<C: FillsInFormat>(
-    format: IeeeFormat,
-    call: C,
-    place: &mut C::Place,
-) -> C::Output
-    ensures { C.gives call (of_format (constants_in (format_of_ieee format))) place.old place.new result }
-{
-    match format {
-        IeeeFormat::Half => call.fill_in_format::<HalfS>(place),
-        IeeeFormat::Single => call.fill_in_format::<SingleS>(place),
-        IeeeFormat::Double => call.fill_in_format::<DoubleS>(place),
-        IeeeFormat::Quad => call.fill_in_format::<QuadS>(place),
-        IeeeFormat::BFloat => call.fill_in_format::<BFloatS>(place),
-        IeeeFormat::E5M2 => call.fill_in_format::<Float8E5M2S>(place),
-        IeeeFormat::X87 => call.fill_in_format::<X87DoubleExtendedS>(place),
     }
 }

@@ -12,7 +12,6 @@ ghost use Rattle.coded_calls.specs.MachineCalls.{conversion_call, format_on, gre
 ghost use Rattle.coded_calls.specs.MachineCalls.{machine_call, machine_coded, machine_format, machine_operation};
 ghost use Rattle.coded_calls.specs.MachineCalls.{of_one, operation_call, rule_coded};
 
-use crate::coded_formats::{fill_after_rounding, fill_before_rounding};
 use crate::codes::{NO_SUCH_OPERATION, UNKNOWN_FORMAT};
 use apfloat_machines::{Machine, MinimumRule};
 use formats_at_run_time::{
@@ -118,10 +117,18 @@ impl MachineFormat {
         ensures { C.gives call (of_format (flagged_constants (format_on machine self)))
             place.old place.new result }
     {
+        self.on(machine).fill(call, place)
+    }
+
+    /// The format with its rule of flags on a machine.
+    #[inline(always)]
+    fn on(self, machine: Machine) -> FlaggedFormat
+        ensures { result ≡ format_on machine self }
+    {
         if self.is_tiny_before(machine) {
-            fill_before_rounding(self.format, call, place)
+            FlaggedFormat::BeforeRounding(self.format)
         } else {
-            fill_after_rounding(self.format, call, place)
+            FlaggedFormat::AfterRounding(self.format)
         }
     }
 

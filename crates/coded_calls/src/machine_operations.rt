@@ -32,7 +32,7 @@ ghost use Rattle.coded_calls.specs.MachineCalls.{machine_call, machine_coded, of
 
 use crate::answers;
 use crate::coded_formats::{
-    fill_built_in, fill_coded_without_rule, fill_short_coded, fill_wide_coded, tiny_before_coded,
+    fill_coded_without_rule, fill_short_coded, fill_wide_coded, tiny_before_coded,
 };
 use crate::codes::{
     ANSWERED, LACKING_OPERATION, NO_SUCH_OPERATION, UNKNOWN_FORMAT, UNKNOWN_MACHINE, UNKNOWN_MODE,
@@ -53,7 +53,7 @@ use apfloat_machines::{
     settled_signed, settled_unary, settled_unsigned,
 };
 use fast_bits::{add_normal, convert_normal, subtract_normal};
-use formats_at_run_time::{Arithmetic, FillsInFormat, FlaggedKind, mode_coded};
+use formats_at_run_time::{Arithmetic, FillsInFormat, FlaggedFormat, FlaggedKind, mode_coded};
 use ieee_operations::round_to_integral_in;
 use rustc_apfloat::ieee::{
     BFloatS, DoubleS, Flagged, Float8E5M2S, HalfS, IeeeFlags, IeeeFloat, QuadS, SingleS,
@@ -1743,13 +1743,16 @@ fn made(
     match call {
         MachineCall::Operation(operation) => operated(machine, format, round, operation, answer),
         MachineCall::Conversion(x, target) => {
-            let call = ConversionTo {
-                target,
-                machine,
-                round,
-                x,
-            };
-            fill_built_in(format.format, call, answer)
+            let source = FlaggedFormat::AfterRounding(format.format).built_in();
+            source.fill(
+                ConversionTo {
+                    target,
+                    machine,
+                    round,
+                    x,
+                },
+                answer,
+            )
         }
     }
 }

@@ -18,7 +18,7 @@ pub struct MachineFormat {
     pub flush: Option<Flush>,
 }
 
-/// The machines by their words. The last six are other spellings.
+/// The machines by their words. The last four are other spellings.
 static MACHINES: &[(&str, Machine)] = &[
     ("x86", Machine::X86),
     ("x87", Machine::X87),
@@ -28,19 +28,14 @@ static MACHINES: &[(&str, Machine)] = &[
     ("risc_v", Machine::RiscV),
     ("power", Machine::Power),
     ("s390x", Machine::S390x),
-    ("arm_alternate_default_nan", Machine::ArmAlternateDefaultNan),
-    ("mips_2008", Machine::Mips2008),
     ("arm-default-nan", Machine::ArmDefaultNan),
     ("arm-alternate", Machine::ArmAlternate),
-    ("arm-alternate-default-nan", Machine::ArmAlternateDefaultNan),
-    ("mips-2008", Machine::Mips2008),
     ("risc-v", Machine::RiscV),
     ("riscv", Machine::RiscV),
 ];
 
 /// The words of machines, for messages.
-pub const MACHINE_WORDS: &str =
-    "x86, x87, arm, arm_default_nan, arm_alternate, arm_alternate_default_nan, risc_v, power, s390x or mips_2008";
+pub const MACHINE_WORDS: &str = "x86, x87, arm, arm_default_nan, arm_alternate, risc_v, power or s390x";
 
 /// The word of the machine that formats name, if it is the word of none.
 pub fn unknown_machine(formats: &str) -> Option<&str> {
