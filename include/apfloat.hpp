@@ -673,7 +673,7 @@ public:
         static_assert(std::numeric_limits<Host>::is_iec559, "float and double are formats of IEEE 754");
     }
 
-    /// The value of a text, as `parse` reads it.
+    /// The value of a text, as `parse` reads it, and of infinities and NaNs in any case and with any sign.
     static expected<result<value>> from_text(std::string_view text,
                                              rounding mode = rounding::nearest_even) noexcept;
     static expected<value> from_text(std::string_view text, gather &with) noexcept;
@@ -1712,10 +1712,10 @@ constexpr bool is_spelled(std::string_view text, std::string_view word) noexcept
     return true;
 }
 
-// A text as the library reads it: `inf`, `infinity`, `nan` and `snan` may be in any case and have any sign
-// (IEEE 754-2019 5.12.1). No text of it is null, not even an empty one.
+// A text as `parse` reads it: `inf`, `infinity`, `nan` and `snan` may be in any case and have any sign
+// (IEEE 754-2019 5.12.1).
 constexpr std::string_view spelled(std::string_view text) noexcept {
-    if (text.empty()) return "";
+    if (text.empty()) return text;
     const bool negative = text[0] == '-';
     const std::string_view word = text.substr(negative || text[0] == '+' ? 1 : 0);
     if (is_spelled(word, "inf") || is_spelled(word, "infinity")) return negative ? "-inf" : "inf";
@@ -1727,9 +1727,9 @@ constexpr std::string_view spelled(std::string_view text) noexcept {
 }
 
 template <class F>
-expected<result<value<F>>> read(decltype(apfloat_parse) *call, std::string_view given, rounding mode) noexcept {
-    const std::string_view text = spelled(given);
-    const char *bytes = text.data();
+expected<result<value<F>>> read(decltype(apfloat_parse) *call, std::string_view text, rounding mode) noexcept {
+    // The library takes no null pointer, not even for an empty text.
+    const char *bytes = text.empty() ? "" : text.data();
     apfloat_answer answer = {{0, 0}, 0, 0};
     const std::uint32_t code =
         call(F::code, code_of(mode), reinterpret_cast<const std::uint8_t *>(bytes), text.size(), &answer);
@@ -1780,11 +1780,11 @@ expected<value<F>> read_decimal(std::string_view text, gather &with) noexcept {
 
 template <class F>
 expected<result<value<F>>> value<F>::from_text(std::string_view text, rounding mode) noexcept {
-    return parse<F>(text, mode);
+    return parse<F>(detail::spelled(text), mode);
 }
 template <class F>
 expected<value<F>> value<F>::from_text(std::string_view text, gather &with) noexcept {
-    return parse<F>(text, with);
+    return parse<F>(detail::spelled(text), with);
 }
 template <class F>
 result<value<F>> value<F>::from_double(double x, rounding mode) noexcept {
@@ -2337,7 +2337,7 @@ value<F> read_from(std::istream &in, rounding mode) {
         if (!goes_on(read, letter)) break;
         read.push_back(letter);
     }
-    const auto found = parse<typename F::plain>(read, mode);
+    const auto found = parse<typename F::plain>(spelled(read), mode);
     if (!found) state |= std::ios_base::failbit;
     if (state != std::ios_base::goodbit) in.setstate(state);
     return found ? value<F>::from_bits(found->value.bits()) : value<F>();
@@ -3202,13 +3202,13 @@ inline expected<result<any_value>> parse(format_code format, std::string_view te
                                          rounding mode = rounding::nearest_even) noexcept {
     const auto code = static_cast<std::uint32_t>(format);
     const auto call = (code & APFLOAT_IEEE_FLAGS) != 0 ? apfloat_parse : apfloat_parse_decimal;
-    const std::string_view read = detail::spelled(text);
+    const char *bytes = text.empty() ? "" : text.data();
     return any_call::result_in(format, any_call::answer(call, code, detail::code_of(mode),
-                                                        reinterpret_cast<const std::uint8_t *>(read.data()), read.size()));
+                                                        reinterpret_cast<const std::uint8_t *>(bytes), text.size()));
 }
 inline expected<result<any_value>> any_value::from_text(format_code format, std::string_view text,
                                                         rounding mode) noexcept {
-    return parse(format, text, mode);
+    return parse(format, detail::spelled(text), mode);
 }
 
 /// The text of the value, as `to_text` of a `value` writes it.
