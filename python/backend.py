@@ -82,7 +82,7 @@ def library():
     # The library of the documentation's command, into the same folder: neither build undoes the other.
     command = [cargo, 'build', '--release', '--offline', '-p', 'apfloat', '--message-format',
                'json-render-diagnostics']
-    say(f'cargo builds {LIBRARY}, which takes a few minutes of a processor; APFLOAT_LIBRARY=FILE takes one that is there')
+    say(f'cargo builds {LIBRARY}, which takes minutes of a processor; APFLOAT_LIBRARY=FILE takes one that is there')
     messages = [json.loads(line) for line in said_by(command, top, instead).splitlines()]
     for message in messages:
         for path in map(pathlib.Path, message.get('filenames', [])):

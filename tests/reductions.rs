@@ -1,5 +1,5 @@
-//! Exact reductions against the rows of `tests/rows/by_crate`, which a model in Python computed by fractions. Each sum is
-//! also taken in other orders, and in parts that are joined.
+//! Exact reductions against the rows of `tests/rows/by_crate`, which a model in Python computed by fractions. Each sum
+//! is also taken in other orders, and in parts that are joined.
 
 use rustc_apfloat::ieee::*;
 use rustc_apfloat::reductions::{self, ExactSum, LengthsDiffer};

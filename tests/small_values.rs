@@ -1,5 +1,5 @@
-//! Blocks, elements with random digits and formats of IEEE P3109, against the rows of `tests/rows` that a model in Python
-//! computed. `docs/PROGRAMS.md` of the repository says what a row means.
+//! Blocks, elements with random digits and formats of IEEE P3109, against the rows of `tests/rows` that a model in
+//! Python computed. `docs/PROGRAMS.md` of the repository says what a row means.
 
 use rustc_apfloat::arrays::Counts;
 use rustc_apfloat::blocks::{Block, CodeTooWide, ElementFormat, Nvfp4Block, Nvfp4Error, tensor_scale};

@@ -10,7 +10,8 @@ use Rattle.apfloat_model.specs.whole_numbers.WholeNumbers.{inexact_unless}
 use Rattle.apfloat_digits.specs.declared.decimal.written.Written.{Written}
 use Rattle.apfloat_digits.specs.declared.decimal.written.Written.TheVariants.{Digits, WithoutDigits, NoRoom}
 use Rattle.apfloat_digits.specs.declared.hexadecimal.written.HexError.{HexError}
-use Rattle.apfloat_digits.specs.declared.hexadecimal.written.HexError.TheVariants.{NoRoom as NoRoomForText, TooManyDigits}
+use Rattle.apfloat_digits.specs.declared.hexadecimal.written.HexError.TheVariants.{NoRoom as NoRoomForText}
+use Rattle.apfloat_digits.specs.declared.hexadecimal.written.HexError.TheVariants.{TooManyDigits}
 use Rattle.apfloat_digits.specs.hexadecimal.WrittenTexts.{IsPut, IsWrittenRounded}
 use Rattle.apfloat_digits.proofs.decimal_lemmas.OneCount.{one_answer}
 use Rattle.apfloat_digits.proofs.decimal_lemmas.RoundedTexts.{one_written}
@@ -26,7 +27,8 @@ use Rattle.apfloat_c.specs.Digits.{IsRoundedHexTold, IsWritingTold, count_told}
 use Rattle.apfloat_c.specs.OneAnswer.{SameAnswer}
 use Rattle.apfloat_c.proofs.ExportsOnce.{unchanged}
 
-counted_once : (size other status also : ℕ) (exponent : ℤ) (first second : Answer) → size ≡ other → status ≡ also
+counted_once : (size other status also : ℕ) (exponent : ℤ) (first second : Answer) → size ≡ other
+    → status ≡ also
     → IsCounted size status exponent first → IsCounted other also exponent second → SameAnswer first second
 counted_once size other status also exponent a b same flags x y =
     record {

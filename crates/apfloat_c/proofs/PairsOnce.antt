@@ -37,7 +37,8 @@ use Rattle.apfloat_c.specs.Pairs.{IsPairShortestWritten, IsPairText, IsPairTextT
 use Rattle.apfloat_c.proofs.ExportsOnce.{OnceAnswer, format_determined, unchanged, value_once}
 
 -- if a relation has one pair with one status, it leaves one result
-pair_once : (mode : Round) (Holds : StatusAnd Pair → Type 0) → Determines Holds → OnceAnswer (IsValue in_pairs Holds)
+pair_once : (mode : Round) (Holds : StatusAnd Pair → Type 0) → Determines Holds
+    → OnceAnswer (IsValue in_pairs Holds)
 pair_once mode Holds determines =
     value_once in_pairs mode 106 128 (lit< tt) (pairs_determined mode) Holds determines
 

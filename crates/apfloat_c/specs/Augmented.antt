@@ -49,7 +49,8 @@ IsAugmentedBy Difference f x y head tail status = IsAugmentedDifference f x y he
 IsAugmentedBy Product f x y head tail status = IsAugmentedProduct f x y head tail status
 
 -- both results, encoded, with their flags
-pub record IsAugmentedOf (c : Constants) (operation : Augmentation) (x y head_bits tail_bits status : ℕ) : Type 0 where
+pub record IsAugmentedOf (c : Constants) (operation : Augmentation)
+    (x y head_bits tail_bits status : ℕ) : Type 0 where
   pub head : Datum
   pub tail : Datum
   pub says : IsAugmentedBy operation (format_with c) (value_of c x) (value_of c y) head tail status
@@ -63,7 +64,8 @@ pub record IsAugmentedLeft (known : KnownAugmentation) (x y : ℕ) (tail : Halve
   pub of : IsAugmentedOf (constants_in known.format) known.operation x y (whole new.bits) (whole tail) new.status
   pub number : new.number ≡ pos 0
 
-abbrev pub IsAugmentedCall : Result KnownAugmentation ℕ → ℕ → ℕ → Halves → Halves → Answer → Answer → ℕ → Type 0
+abbrev pub IsAugmentedCall : Result KnownAugmentation ℕ → ℕ → ℕ → Halves → Halves → Answer
+    → Answer → ℕ → Type 0
 IsAugmentedCall (Err error) x y old_tail tail old new code = (code ≡ error) × (tail ≡ old_tail) × (new ≡ old)
 IsAugmentedCall (Ok known) x y old_tail tail old new code = (code ≡ answered) × IsAugmentedLeft known x y tail new
 

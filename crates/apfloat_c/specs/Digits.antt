@@ -58,7 +58,8 @@ pub record AreDigitsLeft (format : BuiltInFormat) (mode : Round) (bits : ℕ) (b
   pub is_written : IsKindWritten (of_format (constants_in format)) mode bits before after written
   pub told : IsWritingTold written (length after) old new code
 
-abbrev pub AreDigitsWritten : Result KnownWriting ℕ → ℕ → List ℕ → List ℕ → Answer → Answer → ℕ → Type 0
+abbrev pub AreDigitsWritten : Result KnownWriting ℕ → ℕ → List ℕ → List ℕ → Answer → Answer
+    → ℕ → Type 0
 AreDigitsWritten (Err error) bits before after old new code = (code ≡ error) × (after ≡ before) × (new ≡ old)
 AreDigitsWritten (Ok known) bits before after old new code =
     AreDigitsLeft known.format known.mode bits before after old new code
@@ -99,11 +100,13 @@ pub record IsHexLeft (format : BuiltInFormat) (bits : ℕ) (before after : List 
   pub is_hex : IsKindHex (of_format (constants_in format)) bits before after answer
   pub told : IsHexTold answer old new code
 
-abbrev pub IsHexPut : Result BuiltInFormat ℕ → ℕ → List ℕ → List ℕ → Answer → Answer → ℕ → Type 0
+abbrev pub IsHexPut : Result BuiltInFormat ℕ → ℕ → List ℕ → List ℕ → Answer → Answer → ℕ
+    → Type 0
 IsHexPut (Err error) bits before after old new code = (code ≡ error) × (after ≡ before) × (new ≡ old)
 IsHexPut (Ok format) bits before after old new code = IsHexLeft format bits before after old new code
 
-abbrev pub IsKindRoundedHex : Kind → Round → ℕ → ℕ → List ℕ → List ℕ → Result (StatusAnd ℕ) HexError → Type 0
+abbrev pub IsKindRoundedHex : Kind → Round → ℕ → ℕ → List ℕ → List ℕ
+    → Result (StatusAnd ℕ) HexError → Type 0
 IsKindRoundedHex (of_format c) mode places bits before after answer =
     IsWrittenRounded (format_with c) mode places (value_of c bits) before after answer
 IsKindRoundedHex of_pairs mode places bits before after answer = ⊥
@@ -120,7 +123,8 @@ pub record IsRoundedHexLeft (format : BuiltInFormat) (mode : Round) (places bits
   pub is_hex : IsKindRoundedHex (of_format (constants_in format)) mode places bits before after answer
   pub told : IsRoundedHexTold answer old new code
 
-abbrev pub IsRoundedHexPut : Result KnownWriting ℕ → ℕ → ℕ → List ℕ → List ℕ → Answer → Answer → ℕ → Type 0
+abbrev pub IsRoundedHexPut : Result KnownWriting ℕ → ℕ → ℕ → List ℕ → List ℕ → Answer → Answer
+    → ℕ → Type 0
 IsRoundedHexPut (Err error) places bits before after old new code =
     (code ≡ error) × (after ≡ before) × (new ≡ old)
 IsRoundedHexPut (Ok known) places bits before after old new code =

@@ -42,7 +42,8 @@ by_mode (OfFormat source) round target =
 by_mode Pairs round target = Err no_such_operation
 
 -- The faults in their order: the format, the mode and its digits, the format converted to, that there is no conversion.
-abbrev pub known_by_mode : Option FlaggedKind → Result EachRound ℕ → Option StoredFormat → Result ModeConversion ℕ
+abbrev pub known_by_mode : Option FlaggedKind → Result EachRound ℕ → Option StoredFormat
+    → Result ModeConversion ℕ
 known_by_mode source round target =
     ok_or source unknown_format >>= λ from. round >>= λ rounding.
     ok_or target unknown_format >>= λ to. by_mode from rounding to
@@ -84,11 +85,13 @@ pub record AreAllStored (it : ModeConversion) (count : ℕ) (randoms given old n
   pub kept : drop count new ≡ drop count old
   pub answer_is : answer ≡ answer_with (record { counts = counts; div_by_zero = 0 })
 
-abbrev pub IsModeArray : Result ModeConversion ℕ → List ℕ → List ℕ → List ℕ → List ℕ → ArrayAnswer → ArrayAnswer
+abbrev pub IsModeArray : Result ModeConversion ℕ → List ℕ → List ℕ → List ℕ → List ℕ
+    → ArrayAnswer → ArrayAnswer
     → ℕ → Type 0
 IsModeArray (Ok it) randoms given old new before after code =
     (code ≡ answered) × AreAllStored it (length given / mode_width it) randoms given old new after
-IsModeArray (Err error) randoms given old new before after code = (code ≡ error) × (new ≡ old) × (after ≡ before)
+IsModeArray (Err error) randoms given old new before after code =
+    (code ≡ error) × (new ≡ old) × (after ≡ before)
 
 -- ---- one answer
 

@@ -32,12 +32,14 @@ loading source mode (OfFormat target) = Ok (between (OutOf source target) mode)
 loading source mode Pairs = Err no_such_operation
 
 -- The faults in their order: the format, the mode, the format converted to, that there is no conversion.
-abbrev pub known_storing : Option FlaggedKind → Option ConversionMode → Option StoredFormat → Result StorageArray ℕ
+abbrev pub known_storing : Option FlaggedKind → Option ConversionMode → Option StoredFormat
+    → Result StorageArray ℕ
 known_storing source mode target =
     ok_or source unknown_format >>= λ from. ok_or mode unknown_mode >>= λ rounding.
     ok_or target unknown_format >>= λ to. storing from rounding to
 
-abbrev pub known_loading : Option StoredFormat → Option ConversionMode → Option FlaggedKind → Result StorageArray ℕ
+abbrev pub known_loading : Option StoredFormat → Option ConversionMode → Option FlaggedKind
+    → Result StorageArray ℕ
 known_loading source mode target =
     ok_or source unknown_format >>= λ from. ok_or mode unknown_mode >>= λ rounding.
     ok_or target unknown_format >>= λ to. loading from rounding to

@@ -1,6 +1,7 @@
 -- The laws of exact sums.
 use Rattle.std.proofs.Common.{◌≡◌, ℕ, zero, suc, ◌*◌, ◌^◌, ◌<◌, eqb, Bool, true, false, not, ◌&&◌, ◌||◌}
-use Rattle.std.proofs.Common.{List, [], ◌∷◌, ◌++◌, Option, Some, None, if◌then◌else◌, refl, sym, ap, subst, ◌∙◌, inl, inr, arith}
+use Rattle.std.proofs.Common.{List, [], ◌∷◌, ◌++◌, Option, Some, None, if◌then◌else◌, refl, sym, ap, subst, ◌∙◌, inl}
+use Rattle.std.proofs.Common.{inr, arith}
 use Rattle.std.specs.Prelude.{◌⊎◌}
 use Rattle.std.proofs.lemmas.Bool.{false≢true}
 use Rattle.std.proofs.lemmas.Int.{ints}
@@ -13,7 +14,8 @@ use Rattle.apfloat_model.specs.formats.Nan.{invalid_if, is_signaling, is_signali
 use Rattle.apfloat_model.specs.order.Classes.{is_nan}
 use Rattle.apfloat_model.specs.rounding.Answer.{IsAnswer}
 use Rattle.apfloat_model.specs.rounding.Rounding.{ok_bits, IsDelivered, signed_quanta, zero_sign}
-use Rattle.apfloat_model.specs.rounding.Outcome.{Outcome, settled, rounded, totalled, rooted, exactly, invalid, Yields, IsSound}
+use Rattle.apfloat_model.specs.rounding.Outcome.{Outcome, settled, rounded, totalled, rooted, exactly, invalid}
+use Rattle.apfloat_model.specs.rounding.Outcome.{Yields, IsSound}
 use Rattle.apfloat_model.specs.arithmetic.Exact.{magnitude, product_sign, signed, sign_of, zero_sum_sign}
 use Rattle.apfloat_model.specs.arithmetic.Products.{product}
 use Rattle.apfloat_model.proofs.arithmetic.Signs.{magnitude_signed}
@@ -22,8 +24,10 @@ use Rattle.apfloat_model.proofs.rounding.Laws.{delivered_once, exact_delivered}
 use Rattle.apfloat_model.proofs.rounding.StatusesTogether.{ok_together, invalid_together, invalid_if_together}
 use Rattle.apfloat_model.proofs.Determined.{gives_once}
 use Rattle.apfloat_model.proofs.Outcomes.{yields_once, yields_something, yields_together}
-use Rattle.exact_reductions.specs.Laws.{IsTotalOnce, IsTotalSomething, IsInAnyOrder, IsOneProduct, IsOneValue, IsTallyOfParts}
-use Rattle.exact_reductions.specs.Reductions.{Tally, IsTotal, first_of, infinite_total, joined, number_tally, special_tally, tally, tally_of, total, total_after, value_term}
+use Rattle.exact_reductions.specs.Laws.{IsTotalOnce, IsTotalSomething, IsInAnyOrder, IsOneProduct, IsOneValue}
+use Rattle.exact_reductions.specs.Laws.{IsTallyOfParts}
+use Rattle.exact_reductions.specs.Reductions.{Tally, IsTotal, first_of, infinite_total, joined, number_tally}
+use Rattle.exact_reductions.specs.Reductions.{special_tally, tally, tally_of, total, total_after, value_term}
 use Rattle.exact_reductions.proofs.Tallies.{same_tally, joined_none, none_joined, joined_again}
 
 -- ---- one result

@@ -1,6 +1,7 @@
 -- Tallies: joining them, one term more, and the terms of each kind.
 use Rattle.std.proofs.Common.{◌≡◌, ℕ, ◌+◌, ◌*◌, ◌^◌, ◌<◌, ◌≤◌, eqb, Bool, true, false, not, ◌&&◌, ◌||◌, ℤ, pos, ◌+ℤ◌}
-use Rattle.std.proofs.Common.{List, ◌∷◌, length, get_or, drop, Option, Some, None, if◌then◌else◌, ⊎_elim, refl, sym, ap, ◌∙◌, arith}
+use Rattle.std.proofs.Common.{List, ◌∷◌, length, get_or, drop, Option, Some, None, if◌then◌else◌, ⊎_elim, refl, sym}
+use Rattle.std.proofs.Common.{ap, ◌∙◌, arith}
 use Rattle.std.proofs.Math.Bool.{or-false}
 use Rattle.std.proofs.lemmas.Bool.{cases_eq, ne_eqb, false≢true}
 use Rattle.std.proofs.lemmas.Int.{ints}
@@ -19,7 +20,8 @@ use Rattle.apfloat_model.specs.arithmetic.Exact.{product_sign, signed}
 use Rattle.apfloat_model.specs.arithmetic.Products.{product, IsProduct}
 use Rattle.apfloat_model.specs.whole_numbers.WholeNumbers.{IsRoundToIntegral}
 use Rattle.exact_reductions.specs.Amounts.{Amounts, with_amount, both_amounts, difference}
-use Rattle.exact_reductions.specs.Reductions.{Tally, first_of, joined, no_terms, number_tally, special_tally, tally, tally_of}
+use Rattle.exact_reductions.specs.Reductions.{Tally, first_of, joined, no_terms, number_tally, special_tally, tally}
+use Rattle.exact_reductions.specs.Reductions.{tally_of}
 use Rattle.exact_reductions.specs.Reductions.{value_term, value_terms, magnitude_of, magnitude_terms, product_terms}
 
 -- ---- joining
@@ -37,8 +39,10 @@ make terms first_nan wrong positive_infinity negative_infinity positive negative
       exact = exact;
     }
 
-made_same : (m n : ℕ) (x y : Option Datum) (a b c d e a' b' c' d' e' : Bool) (u v : ℤ) → m ≡ n → x ≡ y → a ≡ a'
-    → b ≡ b' → c ≡ c' → d ≡ d' → e ≡ e' → u ≡ v → make m x a b c d e u ≡ make n y a' b' c' d' e' v
+made_same : (m n : ℕ) (x y : Option Datum) (a b c d e a' b' c' d' e' : Bool) (u v : ℤ) → m ≡ n → x ≡ y
+    → a ≡ a'
+    → b ≡ b' → c ≡ c' → d ≡ d' → e ≡ e' → u ≡ v
+    → make m x a b c d e u ≡ make n y a' b' c' d' e' v
 made_same m n x y a b c d e a' b' c' d' e' u v f g h i j k l o = rw (f, g, h, i, j, k, l, o) refl
 
 -- tallies with the same fields are the same
@@ -81,7 +85,8 @@ joined_again r s t =
 pub step : (done next all term rest here : Tally) → joined done here ≡ all → here ≡ joined term rest
     → next ≡ joined done term → joined next rest ≡ all
 step done next all term rest here e f g =
-    ap (λ (t : Tally). joined t rest) g ∙ joined_again done term rest ∙ ap (λ (t : Tally). joined done t) (sym f) ∙ e
+    ap (λ (t : Tally). joined t rest) g ∙ joined_again done term rest
+    ∙ ap (λ (t : Tally). joined done t) (sym f) ∙ e
 
 pub last_step : (done all rest : Tally) → joined done rest ≡ all → rest ≡ no_terms → done ≡ all
 last_step done all rest e f = sym (joined_none done) ∙ sym (ap (λ (t : Tally). joined done t) f) ∙ e
@@ -114,7 +119,8 @@ products_here f xs ys i x y h k e d =
     ap (λ (l : List Datum). tally (product_terms f l (drop i ys))) (here_is xs i x h e)
     ∙ ap (λ (l : List Datum). tally (product_terms f (x ∷ drop (i + 1) xs) l)) (here_is ys i y k d)
 
-pub values_done : (f : Format) (xs : List Datum) (i : ℕ) → length xs ≤ i → tally (value_terms f (drop i xs)) ≡ no_terms
+pub values_done : (f : Format) (xs : List Datum) (i : ℕ) → length xs ≤ i
+    → tally (value_terms f (drop i xs)) ≡ no_terms
 values_done f xs i l = ap (λ (z : List Datum). tally (value_terms f z)) (drop_all i xs l)
 
 pub magnitudes_done : (f : Format) (xs : List Datum) (i : ℕ) → length xs ≤ i

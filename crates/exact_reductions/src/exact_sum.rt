@@ -21,8 +21,7 @@ use std::marker::Model;
 /// The exact sum of the terms so far: values, products of two values, or both. It has a fixed size, and its result does
 /// not depend on the order of the terms, but for the payload of a NaN.
 ///
-/// Formats have at most 64 digits, and `PRECISION + MAX_EXP - MIN_EXP` is at most 2112: all built-in formats of at most
-/// 64 bits.
+/// Formats have at most 64 digits, and `MAX_EXP - MIN_EXP` is at most 2048: all built-in formats of at most 64 bits.
 #[derive(Drop)]
 pub struct ExactSum<S: Flagged> {
     sides: Sides,
@@ -189,10 +188,11 @@ impl<S: Flagged> ExactSum<S> {
 
     /// The sum, rounded once, with the flags of that rounding.
     ///
-    /// An exact zero is +0, or -0 toward negative, but a sum of zeros of one sign keeps it; without terms it is +0. An
-    /// infinity of one sign is the result. Infinities of both signs, and an infinity times a zero, are invalid: the
-    /// result is the quiet NaN without a payload, with `INVALID_OP`. Otherwise, the first term that is a NaN is the
-    /// result, quieted, with `INVALID_OP` if a NaN was signaling or a product invalid.
+    /// The first term that is a NaN is the result, quieted, also where there is an infinity; the product of an
+    /// infinity and a zero is such a term, without a payload. `INVALID_OP` is raised if a NaN was signaling or a
+    /// product invalid. Otherwise infinities of both signs give the quiet NaN without a payload, with `INVALID_OP`,
+    /// and those of one sign are the result. An exact zero is +0, or -0 toward negative, but a sum of zeros of one
+    /// sign keeps it; without terms it is +0.
     pub fn rounded(self, round: Round) -> StatusAnd<IeeeFloat<S>>
         requires { IsReducible (format_of S.Flagged) }
         ensures { Gives (IsTotal (format_of S.Flagged) round self) result }

@@ -3,7 +3,8 @@
 ghost use Rattle.std.specs.Prelude.{ℕ, ◌<◌};
 ghost use Rattle.apfloat_model.specs.declared.kinds.Round.{Round};
 ghost use Rattle.apfloat_model.specs.formats.Format.{Format};
-ghost use Rattle.exact_reductions.specs.Laws.{IsInAnyOrder, IsOneProduct, IsOneValue, IsTallyOfParts, IsTotalOnce, IsTotalSomething};
+ghost use Rattle.exact_reductions.specs.Laws.{IsInAnyOrder, IsOneProduct, IsOneValue, IsTallyOfParts, IsTotalOnce};
+ghost use Rattle.exact_reductions.specs.Laws.{IsTotalSomething};
 ghost use Rattle.exact_reductions.specs.Reductions.{Tally};
 
 /// A sum has one value and one status.

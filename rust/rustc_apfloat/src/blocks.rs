@@ -1,6 +1,6 @@
 //! Blocks of small elements with a common scale: the microscaling formats of the Open Compute Project (MX) and NVFP4,
-//! and codes of 4 and 6 bits packed into bytes. `docs/FORMATS.md` of the repository says how scales are chosen; the crate
-//! `rustc_apfloat` has none of this.
+//! and codes of 4 and 6 bits packed into bytes. `docs/FORMATS.md` of the repository says how scales are chosen; the
+//! crate `rustc_apfloat` has none of this.
 //!
 //! ```
 //! use rustc_apfloat::Round;

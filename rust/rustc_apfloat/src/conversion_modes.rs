@@ -1,6 +1,6 @@
 //! Conversions to every format by two more modes than those of IEEE 754: to odd, and with random digits
-//! (stochastic rounding); and conversions that saturate. `docs/FORMATS.md` of the repository says what they do; the crate `rustc_apfloat` has
-//! none of this.
+//! (stochastic rounding); and conversions that saturate. `docs/FORMATS.md` of the repository says what they do; the
+//! crate `rustc_apfloat` has none of this.
 //!
 //! ```
 //! use rustc_apfloat::Float;

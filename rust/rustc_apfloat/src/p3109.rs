@@ -120,10 +120,10 @@ impl<F: Projection> Projected<F> {
 
     /// A value of any format, rounded once (IEEE 754-2019 5.4.2), with the flags of that rounding.
     ///
-    /// Past the largest number the result is the infinity, or the NaN in its place, with `OVERFLOW` and `INEXACT`, where
-    /// the mode leads past it; otherwise the largest number, with `INEXACT`. In a format without infinities, an infinity
-    /// is the NaN, with `INEXACT`. In a format without a sign, what is below zero is the NaN, with `INVALID_OP`. -0
-    /// becomes the only zero, with `INEXACT`. A NaN is the NaN, with `INVALID_OP` if it is signaling.
+    /// Past the largest number the result is the infinity, or the NaN in its place, with `OVERFLOW` and `INEXACT`,
+    /// where the mode leads past it; otherwise the largest number, with `INEXACT`. In a format without infinities, an
+    /// infinity is the NaN, with `INEXACT`. In a format without a sign, what is below zero is the NaN, with
+    /// `INVALID_OP`. -0 becomes the only zero, with `INEXACT`. A NaN is the NaN, with `INVALID_OP` if it is signaling.
     pub fn from_value<S: Semantics>(x: IeeeFloat<S>, round: Round, loses_info: &mut bool) -> StatusAnd<Self> {
         answered(library::Projected::from_value(x.plain(), round, loses_info)).map(Self)
     }
@@ -138,8 +138,8 @@ impl<F: Projection> Projected<F> {
         answered(library::Projected::from_value_by(x.plain(), mode.given(), loses_info)).map(Self)
     }
 
-    /// The value in another format, rounded once (IEEE 754-2019 5.4.2), with the flags of that rounding; the NaN as that
-    /// of `Float8E4M3FNUZ`.
+    /// The value in another format, rounded once (IEEE 754-2019 5.4.2), with the flags of that rounding; the NaN as
+    /// that of `Float8E4M3FNUZ`.
     pub fn convert_r<T: Semantics>(self, round: Round, loses_info: &mut bool) -> StatusAnd<IeeeFloat<T>> {
         answered(self.0.convert_r::<FlaggedS<T>>(round, loses_info)).map(IeeeFloat::of)
     }

@@ -1,6 +1,6 @@
-//! Exact reductions (IEEE 754-2019 9.4): sums of values, of products, of squares and of magnitudes, each the exact result
-//! rounded once. It does not depend on the order of the terms, but for which NaN it is. The crate `rustc_apfloat` has none
-//! of this.
+//! Exact reductions (IEEE 754-2019 9.4): sums of values, of products, of squares and of magnitudes, each the exact
+//! result rounded once. It does not depend on the order of the terms, but for which NaN it is. The crate
+//! `rustc_apfloat` has none of this.
 //!
 //! ```
 //! use rustc_apfloat::ieee::Double;
@@ -157,11 +157,11 @@ impl<S: Semantics> ExactSum<S> {
 
     /// The sum, rounded once, with the flags of that rounding.
     ///
-    /// The first term that is a NaN is the result, quieted, also where there is an infinity; a product of an infinity and
-    /// a zero is such a term, without a payload. Then `INVALID_OP` is raised if any NaN was signaling or any such product
-    /// invalid. Otherwise infinities of both signs give the quiet NaN without a payload, with `INVALID_OP`, and those of
-    /// one sign are the result. An exact zero is +0, or -0 toward negative, but a sum of zeros of one sign keeps it;
-    /// without terms it is +0.
+    /// The first term that is a NaN is the result, quieted, also where there is an infinity; the product of an
+    /// infinity and a zero is such a term, without a payload. `INVALID_OP` is raised if a NaN was signaling or a
+    /// product invalid. Otherwise infinities of both signs give the quiet NaN without a payload, with `INVALID_OP`,
+    /// and those of one sign are the result. An exact zero is +0, or -0 toward negative, but a sum of zeros of one
+    /// sign keeps it; without terms it is +0.
     pub fn rounded(self, round: Round) -> StatusAnd<IeeeFloat<S>> {
         answered(self.0.rounded(round)).map(IeeeFloat::of)
     }

@@ -229,8 +229,8 @@ impl Semantics for NumberS {
 }
 
 impl<F: StorageFormat> StoredFloat<F> {
-    /// A value of any format, rounded once in a mode of conversions, with the flags of that rounding; `nans` says what a
-    /// NaN becomes. Past the largest number the result is that number in each mode, to odd with `INEXACT` alone. The
+    /// A value of any format, rounded once in a mode of conversions, with the flags of that rounding; `nans` says what
+    /// a NaN becomes. Past the largest number the result is that number in each mode, to odd with `INEXACT` alone. The
     /// rest is as in `from_value`.
     pub fn from_value_by<S: Semantics>(
         x: IeeeFloat<S>,

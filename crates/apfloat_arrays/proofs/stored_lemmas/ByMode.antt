@@ -8,7 +8,8 @@ use Rattle.apfloat_arrays.specs.Bytes.{number_of}
 use Rattle.apfloat_arrays.specs.Outcomes.{with_outcome}
 use Rattle.apfloat_arrays.proofs.Places.{counts_push, place_below, places_more}
 use Rattle.apfloat_arrays.specs.declared.stored.formats.StoredFormat.{StoredFormat}
-use Rattle.apfloat_arrays.specs.declared.stored.formats.StoredFormat.TheVariants.{E2M1FN, E2M3FN, E3M2FN, E3M4, E8M0FNU, UE4M3}
+use Rattle.apfloat_arrays.specs.declared.stored.formats.StoredFormat.TheVariants.{E2M1FN, E2M3FN, E3M2FN, E3M4}
+use Rattle.apfloat_arrays.specs.declared.stored.formats.StoredFormat.TheVariants.{E8M0FNU, UE4M3}
 use Rattle.apfloat_arrays.specs.declared.stored.by_mode.EachRound.{EachRound}
 use Rattle.apfloat_arrays.specs.declared.stored.by_mode.EachRound.TheVariants.{Ieee, ToOdd, Stochastic}
 use Rattle.apfloat_arrays.specs.declared.stored.by_mode.ModeConversion.{ModeConversion}

@@ -21,7 +21,8 @@ use Rattle.small_formats.specs.stochastic.ElementConversions.{IsE3M4ByOnce, IsUn
 use Rattle.apfloat_arrays.specs.declared.counts.Outcome.{Outcome}
 use Rattle.apfloat_arrays.proofs.OneBlock.{same_outcome}
 use Rattle.apfloat_arrays.specs.declared.stored.formats.StoredFormat.{StoredFormat}
-use Rattle.apfloat_arrays.specs.declared.stored.formats.StoredFormat.TheVariants.{E2M1FN, E2M3FN, E3M2FN, E3M4, E8M0FNU, UE4M3}
+use Rattle.apfloat_arrays.specs.declared.stored.formats.StoredFormat.TheVariants.{E2M1FN, E2M3FN, E3M2FN, E3M4}
+use Rattle.apfloat_arrays.specs.declared.stored.formats.StoredFormat.TheVariants.{E8M0FNU, UE4M3}
 use Rattle.apfloat_arrays.specs.declared.stored.by_mode.EachRound.{EachRound}
 use Rattle.apfloat_arrays.specs.declared.stored.by_mode.EachRound.TheVariants.{Ieee as EachIeee, ToOdd as EachToOdd}
 use Rattle.apfloat_arrays.specs.declared.stored.by_mode.EachRound.TheVariants.{Stochastic as EachStochastic}

@@ -1,5 +1,6 @@
 -- Codes that were looked up in a table.
-use Rattle.std.proofs.Common.{◌≡◌, ℕ, ◌+◌, ◌-◌, ◌*◌, ◌%◌, ◌^◌, ◌<◌, ◌≤◌, List, [], ◌∷◌, ◌++◌, length, Some, sym, ap, ◌∙◌, subst, arith}
+use Rattle.std.proofs.Common.{◌≡◌, ℕ, ◌+◌, ◌-◌, ◌*◌, ◌%◌, ◌^◌, ◌<◌, ◌≤◌, List, [], ◌∷◌, ◌++◌, length, Some, sym, ap}
+use Rattle.std.proofs.Common.{◌∙◌, subst, arith}
 use Rattle.std.specs.Prelude.{slice_get}
 use Rattle.std.proofs.Math.Path.{ap₂}
 use Rattle.std.proofs.lemmas.Nat.{pow_pos}
@@ -16,7 +17,8 @@ use Rattle.small_formats.specs.saturation.Saturation.{IsConversionBy}
 use Rattle.apfloat_arrays.specs.declared.counts.Counts.{Counts}
 use Rattle.apfloat_arrays.specs.declared.counts.Outcome.{Outcome}
 use Rattle.apfloat_arrays.specs.declared.stored.formats.StoredFormat.{StoredFormat}
-use Rattle.apfloat_arrays.specs.declared.stored.formats.StoredFormat.TheVariants.{E2M1FN, E2M3FN, E3M2FN, E3M4, E8M0FNU, UE4M3}
+use Rattle.apfloat_arrays.specs.declared.stored.formats.StoredFormat.TheVariants.{E2M1FN, E2M3FN, E3M2FN, E3M4}
+use Rattle.apfloat_arrays.specs.declared.stored.formats.StoredFormat.TheVariants.{E8M0FNU, UE4M3}
 use Rattle.apfloat_arrays.specs.declared.tallies.Tally.{Tally}
 use Rattle.apfloat_arrays.specs.Blocks.{IsBlock, value_at}
 use Rattle.apfloat_arrays.specs.Bytes.{number_of}
@@ -25,7 +27,8 @@ use Rattle.apfloat_arrays.specs.Tables.{outcome_tally}
 use Rattle.apfloat_arrays.specs.Tallies.{counts_with}
 use Rattle.apfloat_arrays.specs.stored.Arrays.{IsLoaded, IsLoadedIn}
 use Rattle.apfloat_arrays.specs.stored.CodeTables.{AreCodeEntries, IsCodeTable, IsLoadedCode}
-use Rattle.apfloat_arrays.specs.stored.Formats.{bits_in, datum_in, e2m1fn_constants, e2m3fn_constants, e3m2fn_constants, format_in}
+use Rattle.apfloat_arrays.specs.stored.Formats.{bits_in, datum_in, e2m1fn_constants, e2m3fn_constants}
+use Rattle.apfloat_arrays.specs.stored.Formats.{e3m2fn_constants, format_in}
 use Rattle.apfloat_arrays.proofs.LittleEndian.{fits}
 use Rattle.apfloat_arrays.proofs.Places.{places_more}
 use Rattle.apfloat_arrays.proofs.TabledResults.{found_in}
@@ -42,7 +45,8 @@ written_code overflow format d mode code bits bytes outcome it written =
 pub code_looked_up : (overflow : Overflow) (format : StoredFormat) (d : Constants) (mode : Round)
     (width count place at size : ℕ) (values new : List ℕ) (outcomes : List Outcome) (outcome : Outcome)
     → IsCodeTable overflow format d mode width count values outcomes → slice_get outcomes place ≡ Some outcome
-    → new ≡ value_at size place values → size ≡ width → place ≡ at → IsLoadedCode overflow format d mode at new outcome
+    → new ≡ value_at size place values → size ≡ width → place ≡ at
+    → IsLoadedCode overflow format d mode at new outcome
 code_looked_up overflow format d mode width count place at size values new outcomes outcome table found copied wide is =
     let here : IsLoadedCode overflow format d mode place (value_at width place values) outcome =
     found_in (IsLoadedCode overflow format d mode) width count place values outcomes outcome table found in
@@ -96,7 +100,8 @@ like_byte UE4M3 place past within =
     ap unsigned_datum same
 
 loaded_like : (overflow : Overflow) (format : StoredFormat) (d : Constants) (mode : Round) (like place bits : ℕ)
-    (outcome : Outcome) → datum_in format like ≡ datum_in format place → IsLoaded overflow format d mode like bits outcome
+    (outcome : Outcome) → datum_in format like ≡ datum_in format place
+    → IsLoaded overflow format d mode like bits outcome
     → IsLoaded overflow format d mode place bits outcome
 loaded_like overflow format d mode like place bits outcome same it =
     record {
@@ -113,7 +118,8 @@ loaded_like overflow format d mode like place bits outcome same it =
 
 -- one more entry is copied to its place
 pub entry_copied : (overflow : Overflow) (format : StoredFormat) (d : Constants) (mode : Round) (codes place : ℕ)
-    (table entry : List ℕ) → codes ≡ 2 ^ bits_in format → codes ≤ place → place < 256 → length table ≡ 256 * 8
+    (table entry : List ℕ) → codes ≡ 2 ^ bits_in format → codes ≤ place → place < 256
+    → length table ≡ 256 * 8
     → length entry ≡ 8 → entry ≡ value_at 8 (place - codes) table
     → AreCodeEntries overflow format d mode place table
     → AreCodeEntries overflow format d mode (place + 1) (put_mid (place * 8) (place * 8 + 8 - place * 8) table entry)

@@ -1,15 +1,20 @@
 -- Numbers that become codes: a significand that is moved up, cut and rounded.
-use Rattle.std.proofs.Common.{◌≡◌, ℕ, ◌+◌, ◌-◌, ◌*◌, ◌/◌, ◌%◌, ◌^◌, ◌<◌, ◌≤◌, ◌⊎◌, min, Bool, true, false, cond, not, eqb, leb, ltb, refl, sym, ap, ◌∙◌, subst, inl, inr, ⊎_elim, arith, lit≤}
+use Rattle.std.proofs.Common.{◌≡◌, ℕ, ◌+◌, ◌-◌, ◌*◌, ◌/◌, ◌%◌, ◌^◌, ◌<◌, ◌≤◌, ◌⊎◌, min, Bool, true, false, cond, not}
+use Rattle.std.proofs.Common.{eqb, leb, ltb, refl, sym, ap, ◌∙◌, subst, inl, inr, ⊎_elim, arith, lit≤}
 use Rattle.std.specs.Bool.{MatchBool}
 use Rattle.std.specs.Int.RustNames.{bit_and}
-use Rattle.std.proofs.Math.Nat.{add-mul-mod_self_right, div-eq_of_lt, min-eq_left, min-eq_right, min-le_right, mod-eq_of_lt, mul-le-mul_right, mul-lt-mul_of_pos_right, pow-le-pow_right}
-use Rattle.std.proofs.lemmas.Bool.{cases_eq, cases_lt, cond-false, eq-eqb, eqb-true, le-leb, le-ltb, lt-leb, lt-ltb, ne_eqb}
+use Rattle.std.proofs.Math.Nat.{add-mul-mod_self_right, div-eq_of_lt, min-eq_left, min-eq_right, min-le_right}
+use Rattle.std.proofs.Math.Nat.{mod-eq_of_lt, mul-le-mul_right, mul-lt-mul_of_pos_right, pow-le-pow_right}
+use Rattle.std.proofs.lemmas.Bool.{cases_eq, cases_lt, cond-false, eq-eqb, eqb-true, le-leb, le-ltb, lt-leb, lt-ltb}
+use Rattle.std.proofs.lemmas.Bool.{ne_eqb}
 use Rattle.std.proofs.lemmas.Nat.{and_le_r, div-add-mod', div_below, mod_below, pow-add, pow_pos}
-use Rattle.apfloat_model.specs.bits.Layout.{Layout, all_ones, datum_of, datum_of_fields, implied_datum, implied_number, trailing_bits}
+use Rattle.apfloat_model.specs.bits.Layout.{Layout, all_ones, datum_of, datum_of_fields, implied_datum}
+use Rattle.apfloat_model.specs.bits.Layout.{implied_number, trailing_bits}
 use Rattle.apfloat_model.specs.declared.kinds.NonfiniteBehavior.{NonfiniteBehavior}
 use Rattle.apfloat_model.specs.declared.kinds.NonfiniteBehavior.TheVariants.{IEEE754}
 use Rattle.apfloat_model.specs.declared.kinds.Round.{Round}
-use Rattle.apfloat_model.specs.declared.kinds.Round.TheVariants.{NearestTiesToEven, NearestTiesToAway, TowardZero, TowardPositive, TowardNegative}
+use Rattle.apfloat_model.specs.declared.kinds.Round.TheVariants.{NearestTiesToEven, NearestTiesToAway, TowardZero}
+use Rattle.apfloat_model.specs.declared.kinds.Round.TheVariants.{TowardPositive, TowardNegative}
 use Rattle.apfloat_model.specs.declared.loss.Loss.TheVariants.{ExactlyZero, LessThanHalf, ExactlyHalf, MoreThanHalf}
 use Rattle.apfloat_model.specs.formats.Datum.{finite}
 use Rattle.apfloat_model.specs.formats.Format.{Format, largest, smallest_normalized}
@@ -32,7 +37,8 @@ use Rattle.small_formats.specs.Storage.{IsLawfulStorage, StorageConstants, forma
 use Rattle.small_formats.proofs.Points.{low_point}
 use Rattle.small_formats.proofs.StoredPicks.{largest_point, past_delivered, picked_at, saturated, within_delivered}
 use Rattle.apfloat_arrays.specs.declared.stored.sides.CodeSide.{CodeSide}
-use Rattle.apfloat_arrays.specs.stored.NumberCodes.{IsCodeSide, added_for, added_if_odd, biased_of, is_minus, significand_of}
+use Rattle.apfloat_arrays.specs.stored.NumberCodes.{IsCodeSide, added_for, added_if_odd, biased_of, is_minus}
+use Rattle.apfloat_arrays.specs.stored.NumberCodes.{significand_of}
 
 -- ---- the cut
 
@@ -72,7 +78,8 @@ none_stands low w m amount unit none nothing =
 
 -- P digits of which p are kept, with 32 places of room
 module _ (p P low first e m to from : ℕ) (some : 0 < p) (more : p ≤ P) (few : p ≤ 16) (fits : m < 2 ^ P)
-    (full : (e ≡ 0) ⊎ (2 ^ (P - 1) ≤ m)) (scales : from ≡ to + (P - p) + first) (low_is : low ≡ P - p + 32) where
+    (full : (e ≡ 0) ⊎ (2 ^ (P - 1) ≤ m)) (scales : from ≡ to + (P - p) + first)
+    (low_is : low ≡ P - p + 32) where
   abbrev Stands : ℕ → ℕ → Type 0
   Stands w place =
       StandsFor (m * 2 ^ w / 2 ^ low) (loss_at (m * 2 ^ w % 2 ^ low) (2 ^ (low - 1))) (m * 2 ^ e * 2 ^ to)
@@ -182,7 +189,8 @@ picked p low place t amount parts index mode negative some any it is =
 
 -- ---- modes
 
-same_added : (mode : Round) (negative : Bool) (half : ℕ) → added_for mode negative half ≡ lane_added mode negative half
+same_added : (mode : Round) (negative : Bool) (half : ℕ)
+    → added_for mode negative half ≡ lane_added mode negative half
 same_added NearestTiesToEven negative half = refl
 same_added NearestTiesToAway negative half = refl
 same_added TowardZero negative half = refl
@@ -220,7 +228,8 @@ side_is low mode negative side some always odd out =
     }
 
 -- the bound of what is kept
-pub rounded_most : (digits always if_odd low : ℕ) → 32 ≤ low → digits < 2 ^ 56 → always < 2 ^ low → if_odd ≤ 1
+pub rounded_most : (digits always if_odd low : ℕ) → 32 ≤ low → digits < 2 ^ 56 → always < 2 ^ low
+    → if_odd ≤ 1
     → (digits + (always + bit_and (digits / 2 ^ low) if_odd)) / 2 ^ low < 2 ^ 24 + 2
 rounded_most digits always if_odd low wide few below one =
     let unit : 2 ^ 32 ≤ 2 ^ low = pow-le-pow_right two_pos wide in
@@ -247,7 +256,8 @@ record HasParts (half magnitude code : ℕ) (negative : Bool) : Type 0 where
   sign : leb half code ≡ negative
   rest : code % half ≡ magnitude
 
-parts_of_code : (half magnitude code : ℕ) (negative : Bool) → magnitude < half → code ≡ cond negative half 0 + magnitude
+parts_of_code : (half magnitude code : ℕ) (negative : Bool) → magnitude < half
+    → code ≡ cond negative half 0 + magnitude
     → HasParts half magnitude code negative
 parts_of_code half magnitude code true l e =
     let swapped : code ≡ magnitude + 1 * half = omega (arith, e) in
@@ -278,7 +288,8 @@ pub record IsCodeOf (c : StorageConstants) (negative : Bool) (index code : ℕ) 
   pub is : code ≡ cond negative (2 ^ (c.bits - 1)) 0 + min index (2 ^ (c.bits - 1) - 1)
 
 -- the code has the bits of its format
-pub code_below : (c : StorageConstants) (negative : Bool) (index code : ℕ) → 1 ≤ c.bits → IsCodeOf c negative index code
+pub code_below : (c : StorageConstants) (negative : Bool) (index code : ℕ) → 1 ≤ c.bits
+    → IsCodeOf c negative index code
     → code < 2 ^ c.bits
 code_below c negative index code some is =
     let twice : 2 * 2 ^ (c.bits - 1) ≡ 2 ^ c.bits = twice_half c.bits some in
@@ -359,7 +370,8 @@ zero_factor m unit some none =
     let more : 1 * unit ≤ m * unit = mul-le-mul_right unit any in absurd (omega (arith, more, some, none)))
     (cases_lt m 1)
 
-zero_rounded : (low : ℕ) (mode : Round) (negative : Bool) (t : ℕ) → t ≡ 0 → rounded_by low mode negative t ≡ 0
+zero_rounded : (low : ℕ) (mode : Round) (negative : Bool) (t : ℕ) → t ≡ 0
+    → rounded_by low mode negative t ≡ 0
 zero_rounded low mode negative t none =
     let some : 0 < 2 ^ low = pow_pos low in
     let less : t < 2 ^ low = omega (arith, none, some) in
@@ -388,7 +400,8 @@ number_into c f mode negative leads P low first e m index code status law more f
     let amount = m * 2 ^ e * 2 ^ (format_with c).scale in
     let cut : IsCutAt c.precision low (e - first) t amount (2 ^ f.scale) =
     cut_at c.precision P low first e m (format_with c).scale f.scale some more few fits full scales low_is in
-    let at = picked c.precision low (e - first) t amount (2 ^ f.scale) index mode negative some (pow_pos f.scale) cut is in
+    let at =
+    picked c.precision low (e - first) t amount (2 ^ f.scale) index mode negative some (pow_pos f.scale) cut is in
     let rounded = number_saturated c mode negative leads exact amount (2 ^ f.scale) index code status law at out code_is
     flags in
     let Says : Bool → Type 0 = λ b. MatchBool b
@@ -467,14 +480,17 @@ pub number_read : (c : Constants) (x : ℕ) → c.nonfinite ≡ IEEE754 → c.ex
     → datum_of (constants_format c) (layout_with c) x
     ≡ finite (is_minus c x) (significand_of c x * 2 ^ (biased_of c x - 1))
 number_read c x kind implied some =
-    let width : trailing_bits (constants_format c) ≡ c.precision - 1 = cond-false c.explicit_integer_bit _ _ implied in
+    let width : trailing_bits (constants_format c) ≡ c.precision - 1 =
+    cond-false c.explicit_integer_bit _ _ implied in
     (λ i. datum_of_fields (constants_format c) (layout_with c)
     (fields_with (is_minus c x) (x / 2 ^ width i % 2 ^ c.exp_bits) (x % 2 ^ width i)))
-    ∙ fields_number (constants_format c) (layout_with c) (is_minus c x) (biased_of c x) (x % 2 ^ (c.precision - 1)) kind
+    ∙ fields_number (constants_format c) (layout_with c) (is_minus c x) (biased_of c x)
+    (x % 2 ^ (c.precision - 1)) kind
     implied (ne_eqb (biased_of c x) (2 ^ c.exp_bits - 1) some)
 
 -- only denormal numbers lack the integer bit
-pub normal_full : (c : Constants) (x : ℕ) → (biased_of c x - 1 ≡ 0) ⊎ (2 ^ (c.precision - 1) ≤ significand_of c x)
+pub normal_full : (c : Constants) (x : ℕ)
+    → (biased_of c x - 1 ≡ 0) ⊎ (2 ^ (c.precision - 1) ≤ significand_of c x)
 normal_full c x =
     ⊎_elim {C = (biased_of c x - 1 ≡ 0) ⊎ (2 ^ (c.precision - 1) ≤ significand_of c x)}
     (λ (z : biased_of c x < 1). inl (omega (arith, z)))

@@ -24,7 +24,8 @@ use Rattle.apfloat_arrays.specs.Bytes.{number_of}
 use Rattle.apfloat_arrays.specs.Outcomes.{counts_of}
 use Rattle.apfloat_arrays.specs.Widths.{width_of}
 use Rattle.apfloat_arrays.specs.declared.stored.formats.StoredFormat.{StoredFormat}
-use Rattle.apfloat_arrays.specs.declared.stored.formats.StoredFormat.TheVariants.{E2M1FN, E2M3FN, E3M2FN, E3M4, E8M0FNU, UE4M3}
+use Rattle.apfloat_arrays.specs.declared.stored.formats.StoredFormat.TheVariants.{E2M1FN, E2M3FN, E3M2FN, E3M4}
+use Rattle.apfloat_arrays.specs.declared.stored.formats.StoredFormat.TheVariants.{E8M0FNU, UE4M3}
 use Rattle.apfloat_arrays.specs.declared.stored.by_mode.EachRound.{EachRound}
 use Rattle.apfloat_arrays.specs.declared.stored.by_mode.EachRound.TheVariants.{Ieee as EachIeee, ToOdd as EachToOdd}
 use Rattle.apfloat_arrays.specs.declared.stored.by_mode.EachRound.TheVariants.{Stochastic as EachStochastic}

@@ -22,6 +22,7 @@ IsLoadedCode overflow format d mode code bytes outcome =
     IsLoaded overflow format d mode code (number_of bytes) outcome
 
 -- what the bytes below `size` become, each in `width` bytes
-abbrev pub IsCodeTable : Overflow → StoredFormat → Constants → Round → ℕ → ℕ → List ℕ → List Outcome → Type 0
+abbrev pub IsCodeTable : Overflow → StoredFormat → Constants → Round → ℕ → ℕ → List ℕ
+    → List Outcome → Type 0
 IsCodeTable overflow format d mode width size values outcomes =
     AreInPlaces (IsLoadedCode overflow format d mode) width size values outcomes

@@ -9,7 +9,8 @@ ghost use Rattle.small_formats.specs.declared.NanResult.TheVariants.{Zero};
 ghost use Rattle.small_formats.specs.Types.{constants_of as storage_constants_of};
 ghost use Rattle.apfloat_arrays.specs.stored.Formats.{bits_in};
 ghost use Rattle.apfloat_arrays.specs.Bytes.{number_of};
-ghost use Rattle.apfloat_arrays.specs.stored.ByMode.{AreStoredWith, HasDigits, HasRandomAt, HasRandoms, IsModeWith, IsOwnBy};
+ghost use Rattle.apfloat_arrays.specs.stored.ByMode.{AreStoredWith, HasDigits, HasRandomAt, HasRandoms, IsModeWith};
+ghost use Rattle.apfloat_arrays.specs.stored.ByMode.{IsOwnBy};
 ghost use Rattle.apfloat_arrays.specs.stored.ByMode.{IsStoredByMode, IsStoredWith, mode_width, random_of};
 
 use crate::specials::word_of;

@@ -2,7 +2,8 @@
 //! significand is moved so that its last kept digit has a place of its own, and one sum below that digit rounds it.
 //! With the place of the number added, what is kept is the code without its sign.
 
-ghost use Rattle.std.specs.Prelude.{◌≡◌, ◌⊎◌, ◌+◌, ◌-◌, ◌*◌, ◌/◌, ◌%◌, ◌^◌, ◌<◌, ◌≤◌, min, pos, negsuc, ◌-ℤ◌, ◌≤ℤ◌, false, not, eqb, ltb, if◌then◌else◌, IsTrue};
+ghost use Rattle.std.specs.Prelude.{◌≡◌, ◌⊎◌, ◌+◌, ◌-◌, ◌*◌, ◌/◌, ◌%◌, ◌^◌, ◌<◌, ◌≤◌, min, pos, negsuc, ◌-ℤ◌, ◌≤ℤ◌};
+ghost use Rattle.std.specs.Prelude.{false, not, eqb, ltb, if◌then◌else◌, IsTrue};
 ghost use Rattle.std.specs.Int.RustNames.{bit_and};
 ghost use Rattle.apfloat_model.specs.declared.kinds.NonfiniteBehavior.TheVariants.{IEEE754};
 ghost use Rattle.rustc_apfloat.specs.Flags.{bits_of};
@@ -10,7 +11,8 @@ ghost use Rattle.rustc_apfloat.specs.Layout.{datum_of};
 ghost use Rattle.rustc_apfloat.specs.Types.{constants_of, format_of, layout_of};
 ghost use Rattle.small_formats.specs.Conversions.{IsInto};
 ghost use Rattle.small_formats.specs.Types.{constants_of as storage_constants_of};
-ghost use Rattle.apfloat_arrays.specs.stored.NumberCodes.{IsCodeSide, IsWordSource, biased_of, is_minus, significand_of};
+ghost use Rattle.apfloat_arrays.specs.stored.NumberCodes.{IsCodeSide, IsWordSource, biased_of, is_minus};
+ghost use Rattle.apfloat_arrays.specs.stored.NumberCodes.{significand_of};
 
 use crate::stored::sides::{CodePlan, CodeSide};
 use rustc_apfloat::ieee::{NonfiniteBehavior, Semantics};

@@ -60,10 +60,8 @@ pub fn write_svg(question: Question, explanation: &Explanation, out: &mut impl W
     let mut drawing = Drawing { body: Vec::new(), bottom: 8 };
     drawing.explanation(question, explanation)?;
     let height = drawing.bottom + 12;
-    writeln!(
-        out,
-        r#"<svg xmlns="http://www.w3.org/2000/svg" viewBox="0 0 {WIDTH} {height}" width="{WIDTH}" height="{height}" role="img">"#
-    )?;
+    write!(out, r#"<svg xmlns="http://www.w3.org/2000/svg" viewBox="0 0 {WIDTH} {height}" "#)?;
+    writeln!(out, r#"width="{WIDTH}" height="{height}" role="img">"#)?;
     writeln!(out, "<title>{}</title>", title(question))?;
     writeln!(out, "<style>\n{STYLE}</style>")?;
     writeln!(out, r#"<rect class="page" width="{WIDTH}" height="{height}" rx="6"/>"#)?;
@@ -239,7 +237,8 @@ impl Drawing {
     }
 }
 
-/// How far a number is from zero, if the largest one, in sixteenths, is so far from it; a little past it for one beyond.
+/// How far a number is from zero, if the largest one, in sixteenths, is so far from it; a little past it for one
+/// beyond.
 fn place_of(meaning: Meaning, width: u32, largest: u32) -> u32 {
     let past = width + 20;
     match meaning {

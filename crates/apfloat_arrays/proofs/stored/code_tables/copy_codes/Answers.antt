@@ -10,7 +10,8 @@ loop-place-preserved c =
     let within = c.loop-place-test.true in
     let long = c.loop-place.invariant.1 in
     let size : length c.copy_from_slice-in-loop-place.new.self ≡ 8 =
-    c.copy_from_slice-in-loop-place.auto.self ∙ place_size 8 c.loop-place.place 256 c.loop-place.table within long in (
+    c.copy_from_slice-in-loop-place.auto.self
+    ∙ place_size 8 c.loop-place.place 256 c.loop-place.table within long in (
       omega (arith, past),
       same_len_mid (c.loop-place.place * 8) (c.loop-place.place * 8 + 8 - c.loop-place.place * 8) c.loop-place.table
           c.copy_from_slice-in-loop-place.new.self c.copy_from_slice-in-loop-place.auto.self

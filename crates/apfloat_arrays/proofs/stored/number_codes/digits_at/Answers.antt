@@ -9,7 +9,8 @@ pub returns-clause-is : goal.returns-clause-is
 returns-clause-is c =
     rw c.from.ensures
     ((moved c).whole
-    ∙ ap (λ (n : ℕ). c.args.significand * 2 ^ (32 - n)) (c.min.ensures ∙ ap (λ (n : ℕ). min n 32) c.above.ensures))
+    ∙ ap (λ (n : ℕ). c.args.significand * 2 ^ (32 - n))
+    (c.min.ensures ∙ ap (λ (n : ℕ). min n 32) c.above.ensures))
 
 pub returns-clause-below : goal.returns-clause-below
 returns-clause-below c =

@@ -1,4 +1,5 @@
-use Rattle.std.proofs.Common.{◌≡◌, ℕ, ◌+◌, ◌-◌, ◌*◌, ◌%◌, ◌^◌, ◌<◌, ◌≤◌, Bool, cond, eqb, not, min, sym, ap, ◌∙◌, subst, arith, pos, ◌-ℤ◌}
+use Rattle.std.proofs.Common.{◌≡◌, ℕ, ◌+◌, ◌-◌, ◌*◌, ◌%◌, ◌^◌, ◌<◌, ◌≤◌, Bool, cond, eqb, not, min, sym, ap, ◌∙◌}
+use Rattle.std.proofs.Common.{subst, arith, pos, ◌-ℤ◌}
 use Rattle.std.proofs.Math.Nat.{pow-le-pow_right}
 use Rattle.std.proofs.lemmas.Int.{ints}
 use Rattle.apfloat_model.proofs.general.Powers.{two_pos}
@@ -12,7 +13,8 @@ use Rattle.small_formats.specs.Storage.{format_with}
 use Rattle.small_formats.specs.Types.{constants_of as storage_constants_of}
 use Rattle.apfloat_arrays.specs.stored.NumberCodes.{biased_of, is_minus, significand_of}
 use Rattle.apfloat_arrays.proofs.FarNumbers.{scale_is}
-use Rattle.apfloat_arrays.proofs.stored_lemmas.Numbers.{IsCodeOf, IsStatusOf, code_below, normal_full, number_into, number_read, overflow_only_past}
+use Rattle.apfloat_arrays.proofs.stored_lemmas.Numbers.{IsCodeOf, IsStatusOf, code_below, normal_full, number_into}
+use Rattle.apfloat_arrays.proofs.stored_lemmas.Numbers.{number_read, overflow_only_past}
 use Rattle.apfloat_arrays.proofs.stored.number_codes.store_number.Goals as goal
 
 pub digits_at-digits-requires : goal.digits_at-digits-requires
@@ -72,7 +74,8 @@ returns g c =
     let least = law.min_exp_high in
     let more = source.more in
     let first_is = c.first_place-first.ensures.is in
-    let to_scale : pos (format_with s).scale ≡ pos (s.precision - 1) -ℤ s.min_exp = omega (arith, ints, two, least) in
+    let to_scale : pos (format_with s).scale ≡ pos (s.precision - 1) -ℤ s.min_exp =
+    omega (arith, ints, two, least) in
     let scales : (format_of g.S.Semantics).scale ≡ (format_with s).scale + (k.precision - s.precision) + first =
     omega (arith, ints, from_scale, to_scale, first_is, more, two) in
     let fits : m < 2 ^ k.precision =

@@ -47,8 +47,9 @@ pub fn unknown_machine(formats: &str) -> Option<&str> {
     }
 }
 
-/// What is wrong with formats whose rows the machine cannot give, and what stands in their place. x86 has no FTZ of half,
-/// FZ16 of Arm is of arithmetic in half, not of conversions, and x86 converts single to bfloat without modes and flags.
+/// What is wrong with formats whose rows the machine cannot give, and what stands in their place. x86 has no FTZ of
+/// half, FZ16 of Arm is of arithmetic in half, not of conversions, and x86 converts single to bfloat without modes and
+/// flags.
 pub fn not_given(formats: &str) -> Option<(&'static str, &'static str)> {
     let (formats, word) = formats.split_once('@')?;
     let (name, option) = word.split_once('+').unwrap_or((word, ""));

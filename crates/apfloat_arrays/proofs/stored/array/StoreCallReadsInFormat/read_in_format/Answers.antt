@@ -13,7 +13,8 @@ loop-index-init g c =
 pub loop-index-preserved : goal.loop-index-preserved
 loop-index-preserved g c =
     let it = c.args.self in
-    let size : length c.loop-index.bytes ≡ it.count * 1 = c.loop-index.auto.bytes ∙ c.store_numbers.auto.output ∙ c.requires.can.2 in
+    let size : length c.loop-index.bytes ≡ it.count * 1 = c.loop-index.auto.bytes ∙ c.store_numbers.auto.output
+    ∙ c.requires.can.2 in
     let width : length c.store_value.new.output ≡ 1 =
     c.store_value.auto.output
     ∙ place_size 1 c.loop-index.index it.count c.loop-index.bytes c.loop-index-test.true size in
