@@ -11,3 +11,4 @@ pub mod WideTotals
 pub mod OddTotals
 pub mod Orders
 pub mod LowestOnes
+pub mod Values

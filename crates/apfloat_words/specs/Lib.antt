@@ -1,3 +1,4 @@
 pub mod RootStanding
 pub mod Totals
 pub mod Wides
+pub mod Words

@@ -26,6 +26,7 @@ pub mod wide_shift;
 pub mod wide_sum;
 pub mod word_quotient;
 pub mod word_sum;
+pub mod words;
 
 pub use guessed_quotient::{divide_by_guess, guess_quotient};
 pub use loss::{is_exact, loss_of_rest};
