@@ -223,3 +223,9 @@ unlike_true true true e d = cc
 unlike_true true false e d = cc
 unlike_true false true e d = cc
 unlike_true false false e d = cc
+
+-- the number of one of two values
+pub number_of_either : {A : Type 0} (number : A → ℕ) (first : Bool) (x y r : A) → r ≡ cond first x y
+    → number r ≡ cond first (number x) (number y)
+number_of_either number true x y r e = ap number e
+number_of_either number false x y r e = ap number e

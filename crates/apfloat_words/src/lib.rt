@@ -10,6 +10,7 @@
 mod exponents;
 pub mod guessed_quotient;
 pub mod loss;
+mod odd_sum;
 pub mod product;
 pub mod quotient;
 pub mod reciprocal;

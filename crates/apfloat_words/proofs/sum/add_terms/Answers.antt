@@ -1,4 +1,4 @@
-use Rattle.std.proofs.Common.{◌≡◌, ◌≤ℤ◌, ◌*◌, ◌^◌, ◌<◌, ◌≤◌, ℤ, Bool, ⊎_elim, to_z, of_z, w32, ◌∙◌, sym, refl, subst, arith}
+use Rattle.std.proofs.Common.{◌≡◌, ◌≤ℤ◌, ◌^◌, ◌<◌, ℤ, Bool, ⊎_elim, to_z, of_z, w32, ◌∙◌, sym, refl, subst, arith}
 use Rattle.std.proofs.lemmas.Int.{ints}
 use Rattle.apfloat_words.specs.declared.terms.Term.{Term}
 use Rattle.apfloat_words.specs.Totals.{counted, StandsForSigned}
