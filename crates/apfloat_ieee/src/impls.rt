@@ -138,7 +138,7 @@ impl<S: Flagged> Float for IeeeFloat<S> {
         quotient(self, rhs, round)
     }
 
-    #[inline]
+    #[inline(always)]
     fn ieee_rem(self, rhs: Self) -> StatusAnd<Self> {
         IeeeFloat::answered(nearest_remainder(shape_of::<S>(), self.unpacked(), rhs.unpacked()))
     }
@@ -148,7 +148,7 @@ impl<S: Flagged> Float for IeeeFloat<S> {
         truncated(self, rhs)
     }
 
-    #[inline]
+    #[inline(always)]
     fn round_to_integral(self, round: Round) -> StatusAnd<Self> {
         IeeeFloat::answered(round_to_integral(shape_of::<S>(), self.unpacked(), round))
     }
