@@ -14,6 +14,7 @@ mod FusedCases
 mod SpecialRemainders
 mod SpecialProducts
 pub mod Additions
+mod OddTotals
 mod SumCases
 mod StepBounds
 pub mod WordQuotients

@@ -3,14 +3,14 @@ use Rattle.std.proofs.lemmas.Int.{to_z-of_z, ints}
 use Rattle.apfloat_arithmetic.proofs.WideTerms.{addend_counted}
 use Rattle.apfloat_arithmetic.proofs.fused.addend_term.Goals as goal
 
-pub term_of-term-requires : goal.term_of-term-requires
-term_of-term-requires c = c.requires.normal
+pub full_term-term-requires : goal.full_term-term-requires
+full_term-term-requires c = c.requires.normal
 
 pub lowered-requires-clause-within : goal.lowered-requires-clause-within
 lowered-requires-clause-within c =
     record {
-      low = omega (arith, ints, c.term_of-term.ensures.within);
-      high = omega (arith, ints, c.term_of-term.ensures.within);
+      low = omega (arith, ints, c.full_term-term.ensures.within);
+      high = omega (arith, ints, c.full_term-term.ensures.within);
     }
 
 pub lowered-requires-clause-short : goal.lowered-requires-clause-short
@@ -22,23 +22,14 @@ raised_addend-requires-clause-some c = omega (arith, c.args.shape.parameters.pre
 pub raised_addend-requires-clause-short : goal.raised_addend-requires-clause-short
 raised_addend-requires-clause-short c = c.requires.short
 
-pub raised_addend-requires-clause-fits : goal.raised_addend-requires-clause-fits
-raised_addend-requires-clause-fits c = rw c.term_of-term.ensures.significand c.requires.normal.operand.fits
-
-pub raised_addend-requires-clause-full : goal.raised_addend-requires-clause-full
-raised_addend-requires-clause-full c = rw c.term_of-term.ensures.significand c.requires.normal.operand.full
-
-pub returns-clause-negative : goal.returns-clause-negative
-returns-clause-negative c = c.term_of-term.ensures.negative
-
 pub returns-clause-exponent : goal.returns-clause-exponent
 returns-clause-exponent c =
     omega (
       arith,
       ints,
       c.args.shape.parameters,
-      c.term_of-term.ensures.within,
-      c.term_of-term.ensures.exponent,
+      c.full_term-term.ensures.within,
+      c.full_term-term.ensures.exponent,
       c.lowered.ensures.value,
     )
 
@@ -49,12 +40,6 @@ returns-clause-within c =
       high = omega (arith, ints, c.lowered.ensures.within);
     }
 
-pub returns-clause-fits : goal.returns-clause-fits
-returns-clause-fits c = c.raised_addend.ensures.fits
-
-pub returns-clause-full : goal.returns-clause-full
-returns-clause-full c = c.raised_addend.ensures.full
-
 pub returns-clause-counted : goal.returns-clause-counted
 returns-clause-counted c = λ base k b h.
     let s = c.args.shape in
@@ -64,13 +49,13 @@ returns-clause-counted c = λ base k b h.
       arith,
       ints,
       s.parameters.precision_low,
-      c.term_of-term.ensures.within,
-      c.term_of-term.ensures.exponent,
+      c.full_term-term.ensures.within,
+      c.full_term-term.ensures.exponent,
       c.lowered.ensures.value,
     ) in
     let l : to_z w32 (of_z w32 c.lowered.result) ≡ c.lowered.result =
     to_z-of_z w32 c.lowered.result (record { sfits = c.lowered.type_inv }) in
     let b' = rw l at b in
-    let v = rw c.term_of-term.ensures.significand at c.raised_addend.ensures.value in
+    let v = rw c.full_term-term.ensures.significand at c.raised_addend.ensures.value in
     rw l (addend_counted s z.exponent c.lowered.result base z.significand c.raised_addend.result k c.requires.normal v e
     b' h)

@@ -2,18 +2,18 @@ use Rattle.std.proofs.Common.{◌-ℤ◌, pos, refl, arith}
 use Rattle.std.proofs.lemmas.Int.{ints}
 use Rattle.apfloat_arithmetic.proofs.products.factors_of.Goals as goal
 
-pub term_of-left-requires : goal.term_of-left-requires
-term_of-left-requires c = c.requires.left
+pub full_term-left-requires : goal.full_term-left-requires
+full_term-left-requires c = c.requires.left
 
-pub term_of-right-requires : goal.term_of-right-requires
-term_of-right-requires c = c.requires.right
+pub full_term-right-requires : goal.full_term-right-requires
+full_term-right-requires c = c.requires.right
 
 pub overflow_add-result : goal.overflow_add-result
-overflow_add-result c = omega (arith, ints, c.term_of-left.ensures.within, c.term_of-right.ensures.within)
+overflow_add-result c = omega (arith, ints, c.full_term-left.ensures.within, c.full_term-right.ensures.within)
 
 pub returns-clause-negative : goal.returns-clause-negative
 returns-clause-negative c =
-    rw (c.product_sign.ensures, c.term_of-left.ensures.negative, c.term_of-right.ensures.negative) refl
+    rw (c.product_sign.ensures, c.full_term-left.ensures.negative, c.full_term-right.ensures.negative) refl
 
 pub returns-clause-exponent : goal.returns-clause-exponent
 returns-clause-exponent c =
@@ -21,33 +21,15 @@ returns-clause-exponent c =
       arith,
       ints,
       c.args.shape.parameters.precision_low,
-      c.term_of-left.ensures.exponent,
-      c.term_of-left.ensures.within,
-      c.term_of-right.ensures.exponent,
-      c.term_of-right.ensures.within,
+      c.full_term-left.ensures.exponent,
+      c.full_term-left.ensures.within,
+      c.full_term-right.ensures.exponent,
+      c.full_term-right.ensures.within,
     )
 
 pub returns-clause-within : goal.returns-clause-within
 returns-clause-within c =
     record {
-      low = omega (arith, ints, c.term_of-left.ensures.within, c.term_of-right.ensures.within);
-      high = omega (arith, ints, c.term_of-left.ensures.within, c.term_of-right.ensures.within);
+      low = omega (arith, ints, c.full_term-left.ensures.within, c.full_term-right.ensures.within);
+      high = omega (arith, ints, c.full_term-left.ensures.within, c.full_term-right.ensures.within);
     }
-
-pub returns-clause-left : goal.returns-clause-left
-returns-clause-left c = c.term_of-left.ensures.significand
-
-pub returns-clause-right : goal.returns-clause-right
-returns-clause-right c = c.term_of-right.ensures.significand
-
-pub returns-clause-left_fits : goal.returns-clause-left_fits
-returns-clause-left_fits c = rw c.term_of-left.ensures.significand c.requires.left.operand.fits
-
-pub returns-clause-right_fits : goal.returns-clause-right_fits
-returns-clause-right_fits c = rw c.term_of-right.ensures.significand c.requires.right.operand.fits
-
-pub returns-clause-left_full : goal.returns-clause-left_full
-returns-clause-left_full c = rw c.term_of-left.ensures.significand c.requires.left.operand.full
-
-pub returns-clause-right_full : goal.returns-clause-right_full
-returns-clause-right_full c = rw c.term_of-right.ensures.significand c.requires.right.operand.full
