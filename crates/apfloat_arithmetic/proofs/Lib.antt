@@ -15,6 +15,7 @@ mod SpecialRemainders
 mod SpecialProducts
 pub mod Additions
 mod OddTotals
+mod Ranges
 mod SumCases
 mod StepBounds
 pub mod WordQuotients

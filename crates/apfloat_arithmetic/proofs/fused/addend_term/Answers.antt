@@ -1,17 +1,14 @@
 use Rattle.std.proofs.Common.{◌≡◌, ◌-◌, ◌*◌, ◌-ℤ◌, pos, w32, to_z, of_z, arith}
 use Rattle.std.proofs.lemmas.Int.{to_z-of_z, ints}
 use Rattle.apfloat_arithmetic.proofs.WideTerms.{addend_counted}
+use Rattle.apfloat_arithmetic.proofs.Ranges.{in_word, wider_word}
 use Rattle.apfloat_arithmetic.proofs.fused.addend_term.Goals as goal
 
 pub full_term-term-requires : goal.full_term-term-requires
 full_term-term-requires c = c.requires.normal
 
 pub lowered-requires-clause-within : goal.lowered-requires-clause-within
-lowered-requires-clause-within c =
-    record {
-      low = omega (arith, ints, c.full_term-term.ensures.within);
-      high = omega (arith, ints, c.full_term-term.ensures.within);
-    }
+lowered-requires-clause-within c = wider_word _ _ _ (omega arith) (omega arith) c.full_term-term.ensures.within
 
 pub lowered-requires-clause-short : goal.lowered-requires-clause-short
 lowered-requires-clause-short c = omega (arith, c.requires.short)
@@ -34,28 +31,17 @@ returns-clause-exponent c =
     )
 
 pub returns-clause-within : goal.returns-clause-within
-returns-clause-within c =
-    record {
-      low = omega (arith, ints, c.lowered.ensures.within);
-      high = omega (arith, ints, c.lowered.ensures.within);
-    }
+returns-clause-within c = wider_word _ _ _ (omega arith) (omega arith) c.lowered.ensures.within
 
 pub returns-clause-counted : goal.returns-clause-counted
 returns-clause-counted c = λ base k b h.
     let s = c.args.shape in
     let z = c.args.z in
+    let term = c.full_term-term.ensures in
     let e : c.lowered.result ≡ z.exponent -ℤ pos (2 * s.precision - 1) =
-    omega (
-      arith,
-      ints,
-      s.parameters.precision_low,
-      c.full_term-term.ensures.within,
-      c.full_term-term.ensures.exponent,
-      c.lowered.ensures.value,
-    ) in
-    let l : to_z w32 (of_z w32 c.lowered.result) ≡ c.lowered.result =
-    to_z-of_z w32 c.lowered.result (record { sfits = c.lowered.type_inv }) in
+    omega (arith, ints, s.parameters.precision_low, term.within, term.exponent, c.lowered.ensures.value) in
+    let l = in_word c.lowered.result c.lowered.ensures.within in
     let b' = rw l at b in
-    let v = rw c.full_term-term.ensures.significand at c.raised_addend.ensures.value in
+    let v = rw term.significand at c.raised_addend.ensures.value in
     rw l (addend_counted s z.exponent c.lowered.result base z.significand c.raised_addend.result k c.requires.normal v e
     b' h)

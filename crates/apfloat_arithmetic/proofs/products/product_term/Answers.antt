@@ -1,17 +1,14 @@
 use Rattle.std.proofs.Common.{◌≡◌, ◌-◌, ◌*◌, ◌+ℤ◌, ◌-ℤ◌, pos, w32, to_z, of_z, arith}
 use Rattle.std.proofs.lemmas.Int.{to_z-of_z, ints}
 use Rattle.apfloat_arithmetic.proofs.ProductExponents.{product_counted}
+use Rattle.apfloat_arithmetic.proofs.Ranges.{in_word, wider_word}
 use Rattle.apfloat_arithmetic.proofs.products.product_term.Goals as goal
 
 pub raised_product-product-requires-clause-some : goal.raised_product-product-requires-clause-some
 raised_product-product-requires-clause-some c = omega (arith, c.args.shape.parameters.precision_low)
 
 pub lowered-requires-clause-within : goal.lowered-requires-clause-within
-lowered-requires-clause-within c =
-    record {
-      low = omega (arith, ints, c.factors_of-factors.ensures.within);
-      high = omega (arith, ints, c.factors_of-factors.ensures.within);
-    }
+lowered-requires-clause-within c = wider_word _ _ _ (omega arith) (omega arith) c.factors_of-factors.ensures.within
 
 pub lowered-requires-clause-short : goal.lowered-requires-clause-short
 lowered-requires-clause-short c = omega (arith, c.raised_product-product.ensures.moved)
@@ -40,11 +37,7 @@ returns-clause-high c =
     )
 
 pub returns-clause-within : goal.returns-clause-within
-returns-clause-within c =
-    record {
-      low = omega (arith, ints, c.lowered.ensures.within);
-      high = omega (arith, ints, c.lowered.ensures.within);
-    }
+returns-clause-within c = wider_word _ _ _ (omega arith) (omega arith) c.lowered.ensures.within
 
 pub returns-clause-counted : goal.returns-clause-counted
 returns-clause-counted c = λ base k b h.
@@ -52,8 +45,7 @@ returns-clause-counted c = λ base k b h.
     let y = c.args.y in
     let factors = c.factors_of-factors in
     let product = c.raised_product-product in
-    let l : to_z w32 (of_z w32 c.lowered.result) ≡ c.lowered.result =
-    to_z-of_z w32 c.lowered.result (record { sfits = c.lowered.type_inv }) in
+    let l = in_word c.lowered.result c.lowered.ensures.within in
     let e : c.lowered.result ≡ factors.result.exponent -ℤ pos product.result.moved =
     omega (arith, ints, factors.ensures.within, c.lowered.ensures.value) in
     let p = rw (factors.ensures.left, factors.ensures.right) at product.ensures.value in

@@ -1,6 +1,7 @@
 use Rattle.std.proofs.Common.{◌≡◌, ◌+◌, ◌≤◌, ◌+ℤ◌, pos, arith}
 use Rattle.std.proofs.lemmas.Int.{ints}
 use Rattle.apfloat_arithmetic.proofs.OddTotals.{sum_total, total_delivered}
+use Rattle.apfloat_arithmetic.proofs.Ranges.{wider}
 use Rattle.apfloat_arithmetic.proofs.sums.add_u128_numbers.Goals as goal
 
 pub full_term-requires : goal.full_term-requires
@@ -16,18 +17,10 @@ pub add_u128_terms-total-requires-clause-short : goal.add_u128_terms-total-requi
 add_u128_terms-total-requires-clause-short c = omega (arith, c.requires.short)
 
 pub add_u128_terms-total-requires-clause-x : goal.add_u128_terms-total-requires-clause-x
-add_u128_terms-total-requires-clause-x c =
-    record {
-      low = omega (arith, ints, c.full_term.ensures.within);
-      high = omega (arith, ints, c.full_term.ensures.within);
-    }
+add_u128_terms-total-requires-clause-x c = wider _ _ _ (omega arith) c.full_term.ensures.within
 
 pub add_u128_terms-total-requires-clause-y : goal.add_u128_terms-total-requires-clause-y
-add_u128_terms-total-requires-clause-y c =
-    record {
-      low = omega (arith, ints, c.full_term-2.ensures.within);
-      high = omega (arith, ints, c.full_term-2.ensures.within);
-    }
+add_u128_terms-total-requires-clause-y c = wider _ _ _ (omega arith) c.full_term-2.ensures.within
 
 pub deliver_total-requires : goal.deliver_total-requires
 deliver_total-requires c =
@@ -45,20 +38,12 @@ returns-clause-stored c = c.deliver_total.ensures.stored
 
 pub returns-clause-delivered : goal.returns-clause-delivered
 returns-clause-delivered c =
-    let s = c.args.shape in
-    let x = c.args.x in
-    let y = c.args.y in
-    let left = c.full_term in
-    let right = c.full_term-2 in
-    let total = c.add_u128_terms-total in
     let g = rw (
-      left.ensures.negative,
-      left.ensures.significand,
-      right.ensures.negative,
-      right.ensures.significand,
-    ) at total.ensures.rounded in
-    let r = sum_total s 125 127 x.exponent y.exponent left.result.exponent right.result.exponent total.result.exponent
-    x.negative y.negative total.result.negative x.significand y.significand total.result.significand
-    (omega (arith, c.requires.short)) c.requires.x_normal c.requires.y_normal left.ensures.exponent right.ensures.exponent g in
-    total_delivered _ _ _ total.result.negative s.precision 1 total.result.significand _ _ _ _ (omega arith) r
-    c.deliver_total.ensures.delivered
+      c.full_term.ensures.negative,
+      c.full_term.ensures.significand,
+      c.full_term-2.ensures.negative,
+      c.full_term-2.ensures.significand,
+    ) at c.add_u128_terms-total.ensures.rounded in
+    total_delivered _ _ _ _ _ _ _ _ _ _ _ (omega arith)
+    (sum_total c.args.shape 125 127 _ _ _ _ _ _ _ _ _ _ _ (omega (arith, c.requires.short)) c.requires.x_normal
+    c.requires.y_normal c.full_term.ensures.exponent c.full_term-2.ensures.exponent g) c.deliver_total.ensures.delivered

@@ -50,12 +50,6 @@ returns-clause-stored c = c.deliver_total.ensures.stored
 
 pub returns-clause-delivered : goal.returns-clause-delivered
 returns-clause-delivered c =
-    let s = c.args.shape in
-    let x = c.args.x in
-    let y = c.args.y in
-    let left = c.full_term in
-    let right = c.full_term-2 in
-    let total = c.add_wide_terms-total in
     let g = rw (
       c.widened_term.ensures.negative,
       c.widened_term.ensures.exponent,
@@ -63,13 +57,11 @@ returns-clause-delivered c =
       c.widened_term-2.ensures.negative,
       c.widened_term-2.ensures.exponent,
       c.widened_term-2.ensures.significand,
-      left.ensures.negative,
-      left.ensures.significand,
-      right.ensures.negative,
-      right.ensures.significand,
-    ) at total.ensures.rounded in
-    let r = sum_total s 127 253 x.exponent y.exponent left.result.exponent right.result.exponent total.result.exponent
-    x.negative y.negative total.result.negative x.significand y.significand total.result.significand
-    (omega (arith, s.parameters.precision_high)) c.requires.x_normal c.requires.y_normal left.ensures.exponent right.ensures.exponent g in
-    total_delivered _ _ _ total.result.negative s.precision 1 total.result.significand _ _ _ _ (omega arith) r
-    c.deliver_total.ensures.delivered
+      c.full_term.ensures.negative,
+      c.full_term.ensures.significand,
+      c.full_term-2.ensures.negative,
+      c.full_term-2.ensures.significand,
+    ) at c.add_wide_terms-total.ensures.rounded in
+    total_delivered _ _ _ _ _ _ _ _ _ _ _ (omega arith)
+    (sum_total c.args.shape 127 253 _ _ _ _ _ _ _ _ _ _ _ (omega (arith, c.args.shape.parameters.precision_high)) c.requires.x_normal
+    c.requires.y_normal c.full_term.ensures.exponent c.full_term-2.ensures.exponent g) c.deliver_total.ensures.delivered

@@ -8,6 +8,7 @@ use Rattle.apfloat_rounding.specs.Shapes.{format_at}
 use Rattle.apfloat_rounding.specs.Stored.{quanta_at, datum_at}
 use Rattle.apfloat_arithmetic.proofs.Additions.{read_odd_sign}
 use Rattle.apfloat_arithmetic.proofs.OddTotals.{sum_total}
+use Rattle.apfloat_arithmetic.proofs.Ranges.{wider}
 use Rattle.apfloat_arithmetic.proofs.sums.add_word_numbers.Goals as goal
 
 pub full_term-requires : goal.full_term-requires
@@ -23,18 +24,10 @@ pub add_word_terms-total-requires-clause-short : goal.add_word_terms-total-requi
 add_word_terms-total-requires-clause-short c = c.requires.short
 
 pub add_word_terms-total-requires-clause-x : goal.add_word_terms-total-requires-clause-x
-add_word_terms-total-requires-clause-x c =
-    record {
-      low = omega (arith, ints, c.full_term.ensures.within);
-      high = omega (arith, ints, c.full_term.ensures.within);
-    }
+add_word_terms-total-requires-clause-x c = wider _ _ _ (omega arith) c.full_term.ensures.within
 
 pub add_word_terms-total-requires-clause-y : goal.add_word_terms-total-requires-clause-y
-add_word_terms-total-requires-clause-y c =
-    record {
-      low = omega (arith, ints, c.full_term-2.ensures.within);
-      high = omega (arith, ints, c.full_term-2.ensures.within);
-    }
+add_word_terms-total-requires-clause-y c = wider _ _ _ (omega arith) c.full_term-2.ensures.within
 
 pub deliver_word-requires-clause-within : goal.deliver_word-requires-clause-within
 deliver_word-requires-clause-within c =
@@ -67,9 +60,7 @@ returns-clause-delivered c =
       right.ensures.negative,
       right.ensures.significand,
     ) at total.ensures.rounded in
-    let r = sum_total s 60 62 x.exponent y.exponent left.result.exponent right.result.exponent total.result.exponent
-    x.negative y.negative total.result.negative x.significand y.significand total.result.significand
-    (omega (arith, c.requires.short)) c.requires.x_normal c.requires.y_normal left.ensures.exponent right.ensures.exponent g in
+    let r = sum_total s 60 62 _ _ _ _ _ _ _ _ _ _ _ (omega (arith, c.requires.short)) c.requires.x_normal c.requires.y_normal left.ensures.exponent right.ensures.exponent g in
     let of_zero = zero_sum_sign c.args.round x.negative y.negative in
     let exact = signed x.negative (quanta_at s.min_exp x.significand x.exponent) +ℤ
     signed y.negative (quanta_at s.min_exp y.significand y.exponent) in
