@@ -14,7 +14,7 @@ mod FusedCases
 mod SpecialRemainders
 mod SpecialProducts
 pub mod Additions
-mod OddTotals
+mod DeliveredTotals
 mod Ranges
 mod SumCases
 mod StepBounds

@@ -1,25 +1,24 @@
 use Rattle.std.proofs.Common.{◌+◌, ◌*◌, ◌^◌, ◌≤◌, arith}
 use Rattle.std.proofs.lemmas.Int.{ints}
 use Rattle.std.proofs.lemmas.Nat.{pow_pos}
-use Rattle.apfloat_model.specs.rounding.Bounds.{exponent_bound}
-use Rattle.apfloat_arithmetic.proofs.OddTotals.{fused_total, total_delivered}
+use Rattle.apfloat_model.specs.rounding.Bounds.{integer_bit_bound}
+use Rattle.apfloat_arithmetic.proofs.DeliveredTotals.{fused_total, total_delivered}
+use Rattle.apfloat_arithmetic.proofs.Ranges.{wider}
 use Rattle.apfloat_arithmetic.proofs.fused.multiply_add_numbers.Goals as goal
+
+pub add_u128_terms-total-requires-clause-x : goal.add_u128_terms-total-requires-clause-x
+add_u128_terms-total-requires-clause-x c = wider _ _ _ (omega arith) c.product_term-product.ensures.within
+
+pub add_u128_terms-total-requires-clause-y : goal.add_u128_terms-total-requires-clause-y
+add_u128_terms-total-requires-clause-y c = wider _ _ _ (omega arith) c.addend_term.ensures.within
 
 pub deliver_total-requires : goal.deliver_total-requires
 deliver_total-requires c =
-    let l = c.args.shape.parameters in
     let s = c.requires.short in
-    let low = c.product_term-product.ensures.low in
-    let high = c.product_term-product.ensures.high in
-    let w = c.addend_term.ensures.exponent in
-    let x = c.requires.left.operand in
-    let y = c.requires.right.operand in
-    let z = c.requires.addend.operand in
+    let p = c.product_term-product.ensures.within in
+    let a = c.addend_term.ensures.within in
     let g = c.add_u128_terms-total.ensures.exponent.one in
-    record {
-      low = omega (arith, ints, l, s, low, high, w, x, y, z, g);
-      high = omega (arith, ints, l, s, low, high, w, x, y, z, g);
-    }
+    record { low = omega (arith, ints, s, p, a, g); high = omega (arith, ints, s, p, a, g); }
 
 pub returns-clause-delivered : goal.returns-clause-delivered
 returns-clause-delivered c =
@@ -27,5 +26,5 @@ returns-clause-delivered c =
     let addend = c.addend_term.ensures in
     let g = rw (product.negative, addend.negative) at c.add_u128_terms-total.ensures.rounded in
     total_delivered _ _ _ _ _ _ _ _ _ _ _ (pow_pos _)
-    (fused_total c.args.shape 125 127 exponent_bound _ _ _ _ _ _ _ _ _ _ _ (omega (arith, c.requires.short)) product.within.low
+    (fused_total c.args.shape 125 127 integer_bit_bound _ _ _ _ _ _ _ _ _ _ _ (omega (arith, c.requires.short)) product.within.low
     addend.within.low product.counted addend.counted g) (rw product.negative at c.deliver_total.ensures.delivered)

@@ -6,10 +6,12 @@ use Rattle.apfloat_model.specs.rounding.Rounding.{IsDelivered}
 use Rattle.apfloat_rounding.specs.Shapes.{format_at}
 use Rattle.apfloat_rounding.specs.Stored.{quanta_at, datum_at}
 use Rattle.apfloat_arithmetic.proofs.ProductExponents.{counted_product_is}
+use Rattle.apfloat_arithmetic.proofs.Ranges.{in_word, wider, wider_word}
 use Rattle.apfloat_arithmetic.proofs.products.multiply_numbers.Goals as goal
 
-pub returns-clause-stored : goal.returns-clause-stored
-returns-clause-stored c = c.deliver_counted_u128.ensures.stored
+pub deliver_counted_u128-requires-clause-within : goal.deliver_counted_u128-requires-clause-within
+deliver_counted_u128-requires-clause-within c =
+    wider_word _ _ _ (omega arith) (omega arith) c.product_term-product.ensures.within
 
 pub returns-clause-delivered : goal.returns-clause-delivered
 returns-clause-delivered c =
@@ -18,8 +20,7 @@ returns-clause-delivered c =
     let y = c.args.y in
     let product = c.product_term-product in
     let exact = quanta_at s.min_exp x.significand x.exponent * quanta_at s.min_exp y.significand y.exponent in
-    let w : to_z w32 (of_z w32 product.result.exponent) ≡ product.result.exponent =
-    omega (arith, ints, product.ensures.within) in
+    let w = in_word product.result.exponent (wider _ _ _ (omega arith) product.ensures.within) in
     let g = rw w at c.deliver_counted_u128.ensures.delivered in
     subst (λ (b : Bool). IsDelivered (format_at s) c.args.round b exact (2 ^ (format_at s).scale)
     (datum_at s c.deliver_counted_u128.result.value) (bits_of c.deliver_counted_u128.result.status))

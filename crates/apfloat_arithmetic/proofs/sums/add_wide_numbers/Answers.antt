@@ -1,6 +1,6 @@
 use Rattle.std.proofs.Common.{◌≡◌, ◌+◌, ◌≤◌, ◌+ℤ◌, pos, arith}
 use Rattle.std.proofs.lemmas.Int.{ints}
-use Rattle.apfloat_arithmetic.proofs.OddTotals.{sum_total, total_delivered}
+use Rattle.apfloat_arithmetic.proofs.DeliveredTotals.{sum_total, total_delivered}
 use Rattle.apfloat_arithmetic.proofs.sums.add_wide_numbers.Goals as goal
 
 pub full_term-requires : goal.full_term-requires
@@ -44,9 +44,6 @@ deliver_total-requires c =
       low = omega (arith, ints, c.add_wide_terms-total.ensures.within);
       high = omega (arith, ints, c.add_wide_terms-total.ensures.within);
     }
-
-pub returns-clause-stored : goal.returns-clause-stored
-returns-clause-stored c = c.deliver_total.ensures.stored
 
 pub returns-clause-delivered : goal.returns-clause-delivered
 returns-clause-delivered c =

@@ -7,7 +7,7 @@ use Rattle.apfloat_model.specs.arithmetic.Sums.{zero_sum_sign}
 use Rattle.apfloat_rounding.specs.Shapes.{format_at}
 use Rattle.apfloat_rounding.specs.Stored.{quanta_at, datum_at}
 use Rattle.apfloat_arithmetic.proofs.Additions.{read_odd_sign}
-use Rattle.apfloat_arithmetic.proofs.OddTotals.{sum_total}
+use Rattle.apfloat_arithmetic.proofs.DeliveredTotals.{sum_total}
 use Rattle.apfloat_arithmetic.proofs.Ranges.{wider}
 use Rattle.apfloat_arithmetic.proofs.sums.add_word_numbers.Goals as goal
 
@@ -42,9 +42,6 @@ deliver_word-requires-clause-within c =
 
 pub deliver_word-requires-clause-short : goal.deliver_word-requires-clause-short
 deliver_word-requires-clause-short c = c.requires.short
-
-pub returns-clause-stored : goal.returns-clause-stored
-returns-clause-stored c = c.deliver_word.ensures.stored
 
 pub returns-clause-delivered : goal.returns-clause-delivered
 returns-clause-delivered c =
