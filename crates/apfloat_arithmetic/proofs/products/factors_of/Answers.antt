@@ -1,4 +1,4 @@
-use Rattle.std.proofs.Common.{◌-ℤ◌, pos, refl, arith}
+use Rattle.std.proofs.Common.{refl, arith}
 use Rattle.std.proofs.lemmas.Int.{ints}
 use Rattle.apfloat_arithmetic.proofs.products.factors_of.Goals as goal
 

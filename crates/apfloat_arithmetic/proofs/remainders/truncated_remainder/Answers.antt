@@ -1,8 +1,5 @@
-use Rattle.std.proofs.Common.{subst}
 use Rattle.std.proofs.Math.Nat.{zero-div}
-use Rattle.apfloat_model.specs.declared.kinds.Category.{Category}
 use Rattle.apfloat_model.specs.arithmetic.Remainders.{truncated_quotient}
-use Rattle.apfloat_rounding.specs.Stored.{IsStoredBy}
 use Rattle.apfloat_arithmetic.proofs.SpecialRemainders.{of_numbers}
 use Rattle.apfloat_arithmetic.proofs.remainders.truncated_remainder.Goals as goal
 

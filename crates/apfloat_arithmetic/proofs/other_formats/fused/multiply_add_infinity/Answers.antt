@@ -1,8 +1,8 @@
-use Rattle.std.proofs.Common.{◌≡◌, ◌<◌, ℕ, pos, neg_ℤ, subst, arith}
+use Rattle.std.proofs.Common.{◌≡◌, ◌<◌}
 use Rattle.apfloat_model.specs.rounding.Flags.{bits_of}
 use Rattle.apfloat_model.specs.rounding.Outcome.{invalid}
 use Rattle.apfloat_rounding.specs.Shapes.{format_at}
-use Rattle.apfloat_rounding.specs.Stored.{IsQuantaAt, datum_at}
+use Rattle.apfloat_rounding.specs.Stored.{datum_at}
 use Rattle.apfloat_arithmetic.specs.other_formats.Extended.{infinity}
 use Rattle.apfloat_arithmetic.specs.other_formats.FormatOf.{sum_of}
 use Rattle.apfloat_arithmetic.proofs.other_formats_lemmas.Cases.{some_yields, zero_yields}
