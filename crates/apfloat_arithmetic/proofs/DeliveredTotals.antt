@@ -36,7 +36,7 @@ sum_total s kept digits xe ye tx ty e left right negative mx my q few x y ax ay 
     let r = odd_sum_read (2 ^ kept) digits s.precision scale s.min_exp xe ye tx ty e (e +ℤ pos scale) left right negative
     mx my (quanta_at s.min_exp mx xe) (quanta_at s.min_exp my ye) q x.operand.least y.operand.least ax ay
     (scale_is s.precision s.min_exp s.parameters.precision_low s.parameters.min_exp_high) refl x.whole y.whole total in
-    record { rounded = to_odd_least (2 ^ kept) (2 ^ (s.precision + 1)) q _ _ least r.rounded; is = r.is; }
+    record { rounded = to_odd_least (2 ^ kept) (2 ^ (s.precision + 1)) q _ _ least r.rounded; is = r.is }
 
 -- the total of a product and an addend is the fused sum
 pub fused_total : (s : Shape) (kept digits k : ℕ) (x z e : ℤ) (left right negative : Bool) (p w m n q : ℕ)
@@ -57,7 +57,7 @@ fused_total s kept digits k x z e left right negative p w m n q few lx lz produc
     total in
     let h = odd_in_quanta (2 ^ kept) q (magnitude (signed left m +ℤ signed right n)) scale (e +ℤ pos scale) fine
     (omega (arith, ints)) r.rounded in
-    record { rounded = to_odd_least (2 ^ kept) (2 ^ (s.precision + 1)) q _ _ least h; is = r.is; }
+    record { rounded = to_odd_least (2 ^ kept) (2 ^ (s.precision + 1)) q _ _ least h; is = r.is }
 
 -- what delivers each amount that was rounded to odd delivers the exact total
 pub total_delivered : (f : Format) (mode : Round) (of_zero negative : Bool) (precision parts q : ℕ) (exact unit : ℤ)

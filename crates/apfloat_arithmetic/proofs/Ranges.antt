@@ -9,7 +9,7 @@ in_word e within = omega (arith, ints, within)
 
 -- an exponent is within each greater bound
 pub wider : (few more : ℕ) (e : ℤ) → few ≤ more → IsWithin few e → IsWithin more e
-wider few more e h within = record { low = omega (arith, ints, h, within); high = omega (arith, ints, h, within); }
+wider few more e h within = record { low = omega (arith, ints, h, within); high = omega (arith, ints, h, within) }
 
 -- so is one that was stored
 pub wider_word : (few more : ℕ) (e : ℤ) → few ≤ more → few ≤ exponent_bound → IsWithin few e

@@ -18,7 +18,7 @@ deliver_total-requires c =
     let p = c.product_term-product.ensures.within in
     let a = c.addend_term.ensures.within in
     let g = c.add_u128_terms-total.ensures.exponent.one in
-    record { low = omega (arith, ints, s, p, a, g); high = omega (arith, ints, s, p, a, g); }
+    record { low = omega (arith, ints, s, p, a, g); high = omega (arith, ints, s, p, a, g) }
 
 pub returns-clause-delivered : goal.returns-clause-delivered
 returns-clause-delivered c =

@@ -69,7 +69,7 @@ returns-clause-delivered c =
     let e : c.sign_of_odd_total-negative.result ≡ sign_of of_zero exact =
     read_odd_sign (2 ^ (s.precision + 1)) of_zero exact (total.result.exponent +ℤ pos (format_at s).scale)
     total.result.negative c.sign_of_odd_total-negative.result total.result.significand
-    (record { rounded = r.rounded; is = r.is; }) z other in
+    (record { rounded = r.rounded; is = r.is }) z other in
     subst (λ (b : Bool). IsDelivered (format_at s) c.args.round b (magnitude exact) 1
     (datum_at s c.deliver_word.result.value) (bits_of c.deliver_word.result.status)) e
     (d (magnitude exact) r.rounded)
