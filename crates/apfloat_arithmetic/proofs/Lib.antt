@@ -14,6 +14,8 @@ mod FusedCases
 mod SpecialRemainders
 mod SpecialProducts
 pub mod Additions
+mod DeliveredTotals
+mod Ranges
 mod SumCases
 mod StepBounds
 pub mod WordQuotients

@@ -1,12 +1,16 @@
 -- Products and quotients of stored numbers: their exponents, counted from the quantum's.
 use Rattle.std.proofs.Common.{◌≡◌, ℕ, ◌+◌, ◌-◌, ◌*◌, ◌^◌, ◌<◌, ◌≤◌, sym, ap, ◌∙◌, arith}
-use Rattle.std.proofs.Common.{ℤ, pos, ◌+ℤ◌, ◌-ℤ◌, to_z, of_z, w32}
+use Rattle.std.proofs.Common.{ℤ, pos, ◌+ℤ◌, ◌-ℤ◌, ◌≤ℤ◌, to_z, of_z, w32}
+use Rattle.std.proofs.Math.Nat.{eq_of_mul-eq-mul_right}
+use Rattle.std.specs.Prelude.{neg_ℤ}
 use Rattle.std.proofs.lemmas.Int.{ints}
 use Rattle.std.proofs.lemmas.Nat.{pow_pos, pow-add}
 use Rattle.apfloat_model.specs.declared.loss.Loss.{Loss}
 use Rattle.apfloat_model.specs.rounding.Bounds.{IsWithin, number_bound}
 use Rattle.apfloat_model.specs.rounding.Standing.{StandsFor, up, down}
 use Rattle.apfloat_model.specs.rounding.RoundingToOdd.{IsRoundedToOdd}
+use Rattle.apfloat_model.proofs.general.Powers.{pow3}
+use Rattle.apfloat_words.proofs.Totals.{no_down}
 use Rattle.apfloat_model.proofs.arithmetic.Fractions.{product_stands, quotient_carries}
 use Rattle.apfloat_model.proofs.rounding.KeptDigits.{stands_cancel, stands_times}
 use Rattle.apfloat_model.proofs.rounding.OddRoundings.{to_odd_times, to_odd_cancel}
@@ -37,13 +41,6 @@ balanced_product : (precision scale : ℕ) (min_exp x y r : ℤ) → 3 ≤ preci
     ≡ down (x -ℤ min_exp) + down (y -ℤ min_exp) + (scale + up (r +ℤ pos scale))
 balanced_product precision scale min_exp x y r t l e = omega (arith, ints)
 
--- the exponents of a product that was moved up balance if its exponent is lowered by as many places
-balanced_raised : (precision scale moved : ℕ) (min_exp x y e r : ℤ) → 3 ≤ precision
-    → pos scale ≡ pos (precision - 1) -ℤ min_exp → e ≡ ((x +ℤ y) -ℤ pos (2 * (precision - 1)))
-    → r ≡ e -ℤ pos moved → up (x -ℤ min_exp) + up (y -ℤ min_exp) + down (r +ℤ pos scale)
-    ≡ down (x -ℤ min_exp) + down (y -ℤ min_exp) + (scale + (moved + up (r +ℤ pos scale)))
-balanced_raised precision scale moved min_exp x y e r t l g h = omega (arith, ints)
-
 -- the exponents of a quotient, with those of its operands, balance
 balanced_quotient : (precision places scale : ℕ) (min_exp x y r : ℤ) → 3 ≤ precision
     → pos scale ≡ pos (precision - 1) -ℤ min_exp → r ≡ ((x -ℤ y) -ℤ pos places)
@@ -66,26 +63,52 @@ product_is shape x y r m n p hx hy v e =
     shape.parameters.precision_low
     (scale_is shape) e) ∙ ap (λ (z : ℕ). z * (2 ^ (format_at shape).scale * 2 ^ up unit)) (sym v)
 
--- the product of the significands, moved up, represents the product of the numbers with the lowered exponent
-pub raised_product_is : (shape : Shape) (x y e r : ℤ) (m n p moved : ℕ) → IsNormalAt shape m x
-    → IsNormalAt shape n y → p ≡ m * n * 2 ^ moved
-    → e ≡ ((x +ℤ y) -ℤ pos (2 * (shape.precision - 1))) → r ≡ e -ℤ pos moved
-    → quanta_at shape.min_exp m x * quanta_at shape.min_exp n y * 2 ^ down (r +ℤ pos (format_at shape).scale)
-    ≡ p * (2 ^ (format_at shape).scale * 2 ^ up (r +ℤ pos (format_at shape).scale))
-raised_product_is shape x y e r m n p moved hx hy v g l =
-    let scale = (format_at shape).scale in
-    let unit : ℤ = r +ℤ pos scale in
-    let a = product_stands m n (quanta_at shape.min_exp m x) (quanta_at shape.min_exp n y) (up (x -ℤ shape.min_exp))
-    (up (y -ℤ shape.min_exp)) (down (x -ℤ shape.min_exp)) (down (y -ℤ shape.min_exp)) scale (moved + up unit)
-    (down unit) hx.whole hy.whole (balanced_raised shape.precision scale moved shape.min_exp x y e r
-    shape.parameters.precision_low (scale_is shape) g l) in
-    let b : 2 ^ scale * 2 ^ (moved + up unit) ≡ 2 ^ scale * (2 ^ moved * 2 ^ up unit) =
-    ap (λ (z : ℕ). 2 ^ scale * z) (pow-add 2 moved (up unit)) in
-    let d : m * n * (2 ^ scale * 2 ^ (moved + up unit)) ≡ m * n * (2 ^ scale * (2 ^ moved * 2 ^ up unit)) =
-    ap (λ (z : ℕ). m * n * z) b in
-    let f : m * n * (2 ^ scale * (2 ^ moved * 2 ^ up unit)) ≡ m * n * 2 ^ moved * (2 ^ scale * 2 ^ up unit) =
-    omega arith in
-    a ∙ d ∙ f ∙ ap (λ (z : ℕ). z * (2 ^ scale * 2 ^ up unit)) (sym v)
+-- a product that is counted in each small unit, 2 ^ k of which are the square of the quantum, is so many quanta
+pub counted_product_is : (scale amount p : ℕ) (e : ℤ)
+    → ((base : ℤ) (k : ℕ) → base ≤ℤ e → pos k ≡ neg_ℤ (base +ℤ pos (2 * scale)) → p * 2 ^ up (e -ℤ base) ≡ amount * 2 ^ k)
+    → amount * 2 ^ down (e +ℤ pos scale) ≡ p * (2 ^ scale * 2 ^ up (e +ℤ pos scale))
+counted_product_is scale amount p e counted =
+    let k = down e in
+    let base : ℤ = neg_ℤ (pos (2 * scale + k)) in
+    let unit : ℤ = e +ℤ pos scale in
+    let z : down (e -ℤ base) ≡ 0 = no_down (e -ℤ base) (omega (arith, ints)) in
+    let c : p * 2 ^ up (e -ℤ base) ≡ amount * 2 ^ k = counted base k (omega (arith, ints)) (omega (arith, ints)) in
+    let v : up (e -ℤ base) + down unit ≡ scale + up unit + k = omega (arith, ints) in
+    let w : 2 ^ up (e -ℤ base) * 2 ^ down unit ≡ 2 ^ scale * 2 ^ up unit * 2 ^ k =
+    sym (pow-add 2 (up (e -ℤ base)) (down unit)) ∙ ap (λ (n : ℕ). 2 ^ n) v ∙ pow3 scale (up unit) k in
+    let a : p * 2 ^ up (e -ℤ base) * 2 ^ down unit ≡ amount * 2 ^ k * 2 ^ down unit =
+    ap (λ (n : ℕ). n * 2 ^ down unit) c in
+    let b : p * (2 ^ up (e -ℤ base) * 2 ^ down unit) ≡ p * (2 ^ scale * 2 ^ up unit * 2 ^ k) =
+    ap (λ (n : ℕ). p * n) w in
+    eq_of_mul-eq-mul_right (2 ^ k) (pow_pos k) (amount * 2 ^ down unit) (p * (2 ^ scale * 2 ^ up unit)) (omega arith)
+
+-- the exponents of a product, counted from the base, balance
+product_balanced : (precision scale moved k : ℕ) (min_exp x y r e base : ℤ) → 3 ≤ precision
+    → pos scale ≡ pos (precision - 1) -ℤ min_exp → r ≡ ((x +ℤ y) -ℤ pos (2 * (precision - 1))) → e ≡ r -ℤ pos moved
+    → base ≤ℤ e
+    → pos k ≡ neg_ℤ (base +ℤ pos (2 * scale))
+    → up (x -ℤ min_exp) + up (y -ℤ min_exp) + k ≡ down (x -ℤ min_exp) + down (y -ℤ min_exp) + (moved + up (e -ℤ base))
+product_balanced precision scale moved k min_exp x y r e base t l v w b h =
+    let z : down (e -ℤ base) ≡ 0 = no_down (e -ℤ base) (omega (arith, ints)) in
+    omega (arith, ints)
+
+-- a product, counted from a base, is the product in squares of the quantum, scaled
+pub product_counted : (shape : Shape) (x y r e base : ℤ) (m n p moved k : ℕ) → IsNormalAt shape m x
+    → IsNormalAt shape n y → p ≡ m * n * 2 ^ moved → r ≡ ((x +ℤ y) -ℤ pos (2 * (shape.precision - 1)))
+    → e ≡ r -ℤ pos moved
+    → base ≤ℤ e
+    → pos k ≡ neg_ℤ (base +ℤ pos (2 * (format_at shape).scale))
+    → p * 2 ^ up (e -ℤ base) ≡ quanta_at shape.min_exp m x * quanta_at shape.min_exp n y * 2 ^ k
+product_counted shape x y r e base m n p moved k hx hy v w z b h =
+    let a : quanta_at shape.min_exp m x * quanta_at shape.min_exp n y * 2 ^ k
+    ≡ m * n * (2 ^ moved * 2 ^ up (e -ℤ base)) =
+    product_stands m n (quanta_at shape.min_exp m x) (quanta_at shape.min_exp n y) (up (x -ℤ shape.min_exp))
+    (up (y -ℤ shape.min_exp)) (down (x -ℤ shape.min_exp)) (down (y -ℤ shape.min_exp)) moved (up (e -ℤ base)) k
+    hx.whole hy.whole (product_balanced shape.precision (format_at shape).scale moved k shape.min_exp x y r e base
+    shape.parameters.precision_low (scale_is shape) w z b h) in
+    let c : p * 2 ^ up (e -ℤ base) ≡ m * n * 2 ^ moved * 2 ^ up (e -ℤ base) =
+    ap (λ (q : ℕ). q * 2 ^ up (e -ℤ base)) v in
+    omega arith
 
 -- a relation that scaling preserves holds for the quotient of the numbers if it holds for that of the significands
 quotient_says : (shape : Shape) (Says : ℕ → ℕ → Type 0) (x y r : ℤ) (places m n : ℕ)

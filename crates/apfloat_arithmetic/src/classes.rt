@@ -19,6 +19,17 @@ pub(crate) fn are_normal(x: Unpacked, y: Unpacked) -> bool
     (x.category == Category::Normal) & (y.category == Category::Normal)
 }
 
+/// Whether all three values are finite and nonzero.
+#[inline(always)]
+pub(crate) fn are_all_normal(x: Unpacked, y: Unpacked, z: Unpacked) -> bool
+    ensures yes { result ≡ true → (x.category ≡ Category.Normal) × (y.category ≡ Category.Normal)
+        × (z.category ≡ Category.Normal) }
+    ensures no { result ≡ false → x.category ≡ Category.Normal → y.category ≡ Category.Normal
+        → z.category ≡ Category.Normal → ⊥ }
+{
+    are_normal(x, y) & (z.category == Category::Normal)
+}
+
 /// Whether the value is a nonzero number of lesser magnitude than the smallest normalized one.
 #[inline(always)]
 pub fn is_denormal(shape: Shape, x: Unpacked) -> bool

@@ -20,5 +20,6 @@ pub mod roots;
 pub mod signs;
 mod specials;
 pub mod sums;
+mod terms;
 pub mod wide_fused;
 pub mod wide_products;

@@ -6,7 +6,6 @@ ghost use Rattle.apfloat_model.specs.rounding.Bounds.{IsWithin, exponent_bound};
 ghost use Rattle.apfloat_model.specs.rounding.RoundingToOdd.{IsRoundedToOdd};
 ghost use Rattle.apfloat_model.specs.rounding.Standing.{up, down};
 ghost use Rattle.apfloat_model.specs.arithmetic.Sums.{zero_sum_sign, IsSum, IsDifference};
-ghost use Rattle.apfloat_words.specs.Wides.{whole};
 ghost use Rattle.apfloat_arithmetic.specs.Subtrahends.{added};
 ghost use Rattle.apfloat_rounding.specs.Shapes.{format_at};
 ghost use Rattle.apfloat_rounding.specs.Stored.{IsNormal, IsStored, datum_at, quanta_of, GivesAt};
@@ -14,14 +13,14 @@ ghost use Rattle.apfloat_rounding.specs.Stored.{IsNormal, IsStored, datum_at, qu
 use crate::classes::are_normal;
 use crate::signs::negated;
 use crate::specials::{Operation, special};
+use crate::terms::{full_term, widened_term};
 use apfloat_model::{Category, Round, StatusAnd};
 use apfloat_rounding::rounding::from_u128::deliver_u128;
 use apfloat_rounding::rounding::from_word::deliver_word;
 use apfloat_rounding::shape::Shape;
-use apfloat_rounding::unpacked::{Unpacked, remade, term_of};
+use apfloat_rounding::unpacked::{Unpacked, remade};
 use apfloat_words::{
-    Term, U128_LIMIT, U128Total, WORD_LIMIT, Wide, WideTerm, add_u128_terms, add_wide_terms,
-    add_word_terms,
+    U128_LIMIT, U128Total, WORD_LIMIT, add_u128_terms, add_wide_terms, add_word_terms,
 };
 
 /// The sign of an exact zero as the sum of numbers with these signs (IEEE 754-2019 6.3).
@@ -85,7 +84,7 @@ fn add_word_numbers(shape: Shape, x: Unpacked, y: Unpacked, round: Round) -> Sta
         (zero_sum_sign round x.negative y.negative)
         (signed x.negative (quanta_of shape x) +ℤ signed y.negative (quanta_of shape y)) 1) result }
 {
-    let total = add_word_terms(shape.precision, term_of(shape, x), term_of(shape, y));
+    let total = add_word_terms(shape.precision, full_term(shape, x), full_term(shape, y));
     let of_zero = sign_of_zero(round, x.negative, y.negative);
     let negative = sign_of_odd_total(u128::from(total.significand), total.negative, of_zero);
     deliver_word(shape, total.significand, total.exponent, round, negative)
@@ -102,25 +101,8 @@ fn add_u128_numbers(shape: Shape, x: Unpacked, y: Unpacked, round: Round) -> Sta
         (zero_sum_sign round x.negative y.negative)
         (signed x.negative (quanta_of shape x) +ℤ signed y.negative (quanta_of shape y)) 1) result }
 {
-    let total = add_u128_terms(shape.precision, term_of(shape, x), term_of(shape, y));
+    let total = add_u128_terms(shape.precision, full_term(shape, x), full_term(shape, y));
     deliver_total(shape, total, x.negative, y.negative, round)
-}
-
-/// A term in two words.
-#[inline(always)]
-fn widened_term(term: Term) -> WideTerm
-    ensures negative { result.negative ≡ term.negative }
-    ensures exponent { result.exponent ≡ term.exponent }
-    ensures significand { whole result.significand ≡ term.significand }
-{
-    WideTerm {
-        negative: term.negative,
-        exponent: term.exponent,
-        significand: Wide {
-            high: 0,
-            low: term.significand,
-        },
-    }
 }
 
 /// The sum of two nonzero numbers with 125 digits, in two words. Kept out of line, since such formats are rare.
@@ -137,8 +119,8 @@ fn add_wide_numbers(shape: Shape, x: Unpacked, y: Unpacked, round: Round) -> Sta
 {
     let total = add_wide_terms(
         shape.precision,
-        widened_term(term_of(shape, x)),
-        widened_term(term_of(shape, y)),
+        widened_term(full_term(shape, x)),
+        widened_term(full_term(shape, y)),
     );
     deliver_total(shape, total, x.negative, y.negative, round)
 }

@@ -26,6 +26,10 @@ use Rattle.apfloat_conversions.specs.Held.{IsHeld, IsHeldAt, IsInside, IsReached
 
 -- ---- the largest value: g * 2 ^ m quanta, and h * 2 ^ n of the other, finer by k places
 
+-- In `level` and `higher`, a is a number of quanta of one shape, whose largest value is g * 2 ^ m quanta; that of the
+-- other is h * 2 ^ n of its own quanta, which are k places finer. g has at most p digits, h more than q, and d more
+-- than g.
+
 -- a number within the largest value of one shape is within that of the other, if the greatest exponents are equal
 level : (a g h m n k d : ℕ) → a ≤ g * 2 ^ m → g * 2 ^ d ≤ h → m + k ≡ n + d → a * 2 ^ k ≤ h * 2 ^ n
 level a g h m n k d l r e =

@@ -22,6 +22,8 @@ use Rattle.apfloat_model.proofs.rounding.Picks.{kept, takes_less, takes_half, ta
 use Rattle.apfloat_model.proofs.arithmetic.SingleScalings.{scaled_stands}
 use Rattle.apfloat_model.proofs.general.Choices.{off_both}
 use Rattle.apfloat_rounding.specs.Cuts.{loss_at}
+use Rattle.apfloat_conversions.specs.declared.whole.Whole.{Whole}
+use Rattle.apfloat_conversions.specs.Wholes.{IsPicked}
 use Rattle.apfloat_rounding.proofs.CutRests.{loss_some, rest_below, rest_stands}
 use Rattle.apfloat_rounding.proofs.QuantumCuts.{less_than_half, word_stands}
 
@@ -117,6 +119,17 @@ pub exact_at : (mode : Round) (negative : Bool) (q amount parts : ℕ) (loss : L
 exact_at mode negative q amount parts loss true p h f g =
     exactly_so mode negative q amount parts p (subst (λ (x : Loss). StandsFor q x amount parts) (f refl) h)
 exact_at mode negative q amount parts loss false p h f g = inexactly_so mode negative q amount parts loss p (g refl) h
+
+-- the integer that is kept by the loss is picked
+pub picked_at : (mode : Round) (negative : Bool) (q amount parts : ℕ) (loss : Loss) (whole : Whole) → 0 < parts
+    → StandsFor q loss amount parts → (whole.exact ≡ true → loss ≡ ExactlyZero)
+    → (whole.exact ≡ false → loss ≡ ExactlyZero → ⊥) → whole.magnitude ≡ kept mode negative loss q
+    → IsPicked mode negative amount parts whole
+picked_at mode negative q amount parts loss whole p h f g m =
+    record {
+      magnitude_is = m ∙ sym (whole_at mode negative q amount parts loss p h);
+      exact_is = exact_at mode negative q amount parts loss whole.exact p h f g;
+    }
 
 -- ---- the number, by its significand
 

@@ -1,5 +1,5 @@
 -- Amounts and significands at exponents, counted from the places of an amount.
-use Rattle.std.proofs.Common.{◌≡◌, ℕ, ◌+◌, ◌-◌, ◌*◌, ◌%◌, ◌^◌, ◌<◌, ◌≤◌, sym, ap, ◌∙◌, arith, ℤ, pos, neg_ℤ, ◌+ℤ◌, ◌-ℤ◌}
+use Rattle.std.proofs.Common.{◌≡◌, ℕ, ◌+◌, ◌-◌, ◌*◌, ◌%◌, ◌^◌, ◌<◌, ◌≤◌, sym, ap, ◌∙◌, subst, arith, ℤ, pos, neg_ℤ, ◌+ℤ◌, ◌-ℤ◌}
 use Rattle.std.proofs.Math.Path.{subst₂}
 use Rattle.std.proofs.Math.Nat.{eq_of_mul-eq-mul_right, mul-pos, mod-eq_of_lt}
 use Rattle.std.proofs.lemmas.Int.{ints}
@@ -11,7 +11,9 @@ use Rattle.apfloat_model.proofs.arithmetic.Fractions.{product_stands, quotient_c
 use Rattle.apfloat_model.proofs.general.Powers.{pow3, left_factor}
 use Rattle.apfloat_model.proofs.rounding.KeptDigits.{stands_cancel, stands_times, fits_shifted, full_shifted}
 use Rattle.apfloat_model.proofs.rounding.OddRoundings.{to_odd_times, to_odd_cancel}
+use Rattle.apfloat_words.specs.declared.terms.Term.{Term}
 use Rattle.apfloat_rounding.specs.Stored.{IsQuantaAt}
+use Rattle.apfloat_arithmetic.specs.other_formats.Operands.{IsAmount}
 
 -- if two numbers are equal at some places, they are equal at further places that balance
 pub same_places : (n s a b x j y : ℕ) → n * 2 ^ a ≡ s * 2 ^ b → b + x ≡ j + y + a → n * 2 ^ x ≡ s * 2 ^ j * 2 ^ y
@@ -37,6 +39,15 @@ pub some_amount : (low e : ℤ) (s n : ℕ) → 0 < s → IsQuantaAt low s e n �
 some_amount low e s n p h =
     let u : 0 < s * 2 ^ up (e -ℤ low) = mul-pos p (pow_pos (up (e -ℤ low))) in
     left_factor n (2 ^ down (e -ℤ low)) (omega (arith, h, u))
+
+-- so are those of a term
+pub no_term : (places n : ℕ) (x : Term) → x.significand ≡ 0 → IsAmount n places x → n ≡ 0
+no_term places n x z h =
+    no_amount (neg_ℤ (pos places)) x.exponent n
+    (subst (λ (m : ℕ). IsQuantaAt (neg_ℤ (pos places)) m x.exponent n) z h)
+
+pub some_term : (places n : ℕ) (x : Term) → (x.significand ≡ 0 → ⊥) → IsAmount n places x → 0 < n
+some_term places n x p h = some_amount (neg_ℤ (pos places)) x.exponent x.significand n (omega (arith, p)) h
 
 -- ---- 125 digits
 

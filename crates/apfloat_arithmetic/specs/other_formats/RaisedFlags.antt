@@ -10,7 +10,7 @@ use Rattle.apfloat_arithmetic.specs.other_formats.RootsOf.{IsRootTo}
 abbrev pub RaisesTogether : (Datum → ℕ → Type 0) → Type 0
 RaisesTogether Says = (value : Datum) (status : ℕ) → Says value status → FlagsGoTogether status
 
--- in the format g
+-- of all formatOf operations (5.4.1) with results in the format g
 pub record FormatOfFlagsGoTogether (g : Format) : Type 0 where
   pub sum : (f h : Format) (mode : Round) (x y : Datum) → RaisesTogether (IsSumTo f h g mode x y)
   pub difference : (f h : Format) (mode : Round) (x y : Datum) → RaisesTogether (IsDifferenceTo f h g mode x y)

@@ -1,20 +1,17 @@
-use Rattle.std.proofs.Common.{◌≡◌, ◌-◌, ◌*◌, ◌-ℤ◌, pos, w32, to_z, of_z, arith}
-use Rattle.std.proofs.lemmas.Int.{to_z-of_z, ints}
+use Rattle.std.proofs.Common.{◌≡◌, ◌-◌, ◌*◌, ◌-ℤ◌, pos, arith}
+use Rattle.std.proofs.lemmas.Int.{ints}
 use Rattle.apfloat_arithmetic.proofs.WideTerms.{addend_counted}
+use Rattle.apfloat_arithmetic.proofs.Ranges.{in_word, wider, wider_word}
 use Rattle.apfloat_arithmetic.proofs.fused.addend_term.Goals as goal
 
-pub term_of-term-requires : goal.term_of-term-requires
-term_of-term-requires c = c.requires.normal
+pub full_term-term-requires : goal.full_term-term-requires
+full_term-term-requires c = c.requires.normal
 
-pub lowered-requires-clause-within : goal.lowered-requires-clause-within
-lowered-requires-clause-within c =
-    record {
-      low = omega (arith, ints, c.term_of-term.ensures.within);
-      high = omega (arith, ints, c.term_of-term.ensures.within);
-    }
+pub far_lowered-requires-clause-within : goal.far_lowered-requires-clause-within
+far_lowered-requires-clause-within c = wider_word _ _ _ (omega arith) (omega arith) c.full_term-term.ensures.within
 
-pub lowered-requires-clause-short : goal.lowered-requires-clause-short
-lowered-requires-clause-short c = omega (arith, c.requires.short)
+pub far_lowered-requires-clause-short : goal.far_lowered-requires-clause-short
+far_lowered-requires-clause-short c = omega (arith, c.requires.short)
 
 pub raised_addend-requires-clause-some : goal.raised_addend-requires-clause-some
 raised_addend-requires-clause-some c = omega (arith, c.args.shape.parameters.precision_low)
@@ -22,55 +19,18 @@ raised_addend-requires-clause-some c = omega (arith, c.args.shape.parameters.pre
 pub raised_addend-requires-clause-short : goal.raised_addend-requires-clause-short
 raised_addend-requires-clause-short c = c.requires.short
 
-pub raised_addend-requires-clause-fits : goal.raised_addend-requires-clause-fits
-raised_addend-requires-clause-fits c = rw c.term_of-term.ensures.significand c.requires.normal.operand.fits
-
-pub raised_addend-requires-clause-full : goal.raised_addend-requires-clause-full
-raised_addend-requires-clause-full c = rw c.term_of-term.ensures.significand c.requires.normal.operand.full
-
-pub returns-clause-negative : goal.returns-clause-negative
-returns-clause-negative c = c.term_of-term.ensures.negative
-
-pub returns-clause-exponent : goal.returns-clause-exponent
-returns-clause-exponent c =
-    omega (
-      arith,
-      ints,
-      c.args.shape.parameters,
-      c.term_of-term.ensures.within,
-      c.term_of-term.ensures.exponent,
-      c.lowered.ensures.value,
-    )
-
 pub returns-clause-within : goal.returns-clause-within
-returns-clause-within c =
-    record {
-      low = omega (arith, ints, c.lowered.ensures.within);
-      high = omega (arith, ints, c.lowered.ensures.within);
-    }
-
-pub returns-clause-fits : goal.returns-clause-fits
-returns-clause-fits c = c.raised_addend.ensures.fits
-
-pub returns-clause-full : goal.returns-clause-full
-returns-clause-full c = c.raised_addend.ensures.full
+returns-clause-within c = wider_word _ _ _ (omega arith) (omega arith) c.far_lowered.ensures.within
 
 pub returns-clause-counted : goal.returns-clause-counted
 returns-clause-counted c = λ base k b h.
     let s = c.args.shape in
     let z = c.args.z in
-    let e : c.lowered.result ≡ z.exponent -ℤ pos (2 * s.precision - 1) =
-    omega (
-      arith,
-      ints,
-      s.parameters.precision_low,
-      c.term_of-term.ensures.within,
-      c.term_of-term.ensures.exponent,
-      c.lowered.ensures.value,
-    ) in
-    let l : to_z w32 (of_z w32 c.lowered.result) ≡ c.lowered.result =
-    to_z-of_z w32 c.lowered.result (record { sfits = c.lowered.type_inv }) in
+    let term = c.full_term-term.ensures in
+    let e : c.far_lowered.result ≡ z.exponent -ℤ pos (2 * s.precision - 1) =
+    omega (arith, ints, s.parameters.precision_low, term.within, term.exponent, c.far_lowered.ensures.value) in
+    let l = in_word c.far_lowered.result (wider _ _ _ (omega arith) c.far_lowered.ensures.within) in
     let b' = rw l at b in
-    let v = rw c.term_of-term.ensures.significand at c.raised_addend.ensures.value in
-    rw l (addend_counted s z.exponent c.lowered.result base z.significand c.raised_addend.result k c.requires.normal v e
+    let v = rw term.significand at c.raised_addend.ensures.value in
+    rw l (addend_counted s z.exponent c.far_lowered.result base z.significand c.raised_addend.result k c.requires.normal v e
     b' h)

@@ -1,25 +1,11 @@
-use Rattle.std.proofs.Common.{◌∙◌, subst, arith}
+use Rattle.std.proofs.Common.{◌∙◌, arith}
 use Rattle.std.proofs.Math.Nat.{zero-div}
-use Rattle.apfloat_model.specs.declared.kinds.Category.{Category}
 use Rattle.apfloat_model.specs.arithmetic.Remainders.{truncated_quotient}
 use Rattle.apfloat_rounding.specs.Shapes.{format_at}
-use Rattle.apfloat_rounding.specs.Stored.{datum_at, IsStoredBy}
+use Rattle.apfloat_rounding.specs.Stored.{datum_at}
 use Rattle.apfloat_arithmetic.proofs.StepBounds.{few_steps}
 use Rattle.apfloat_arithmetic.proofs.SpecialRemainders.{of_numbers, ones_of_numbers, no_ones}
 use Rattle.apfloat_arithmetic.proofs.remainders.counted_remainder.Goals as goal
-
-pub counted_number-requires-clause-x : goal.counted_number-requires-clause-x
-counted_number-requires-clause-x c =
-    subst (λ (k : Category). IsStoredBy k c.args.shape c.args.x) (c.are_normal.ensures.yes c.if-are_normal.true).0
-    c.requires.x
-
-pub counted_number-requires-clause-y : goal.counted_number-requires-clause-y
-counted_number-requires-clause-y c =
-    subst (λ (k : Category). IsStoredBy k c.args.shape c.args.y) (c.are_normal.ensures.yes c.if-are_normal.true).1
-    c.requires.y
-
-pub returns-then-are_normal-clause-stored : goal.returns-then-are_normal-clause-stored
-returns-then-are_normal-clause-stored c = c.counted_number.ensures.stored
 
 pub returns-then-are_normal-clause-delivered : goal.returns-then-are_normal-clause-delivered
 returns-then-are_normal-clause-delivered c =
@@ -40,9 +26,6 @@ returns-then-are_normal-clause-few c = λ a b h k p.
     ones_of_numbers c.args.shape c.args.x.category c.args.y.category c.args.x c.args.y n.0 n.1 c.requires.y in
     rw e (few_steps (format_at c.args.shape) (datum_at c.args.shape c.args.x) (datum_at c.args.shape c.args.y) a b h
     k (rw e at p))
-
-pub returns-else-are_normal-clause-stored : goal.returns-else-are_normal-clause-stored
-returns-else-are_normal-clause-stored c = c.special.ensures.stored
 
 pub returns-else-are_normal-clause-delivered : goal.returns-else-are_normal-clause-delivered
 returns-else-are_normal-clause-delivered c =

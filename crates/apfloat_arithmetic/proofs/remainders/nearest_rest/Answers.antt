@@ -1,4 +1,4 @@
-use Rattle.std.proofs.Common.{◌≡◌, ℕ, cond, ◌-◌, ◌*◌, ◌%◌, ◌^◌}
+use Rattle.std.proofs.Common.{ℕ, cond, ◌-◌, ◌%◌, ◌^◌}
 use Rattle.std.proofs.lemmas.Nat.{pow_pos}
 use Rattle.apfloat_rounding.specs.Stored.{quanta_of}
 use Rattle.apfloat_arithmetic.proofs.NearestMultiples.{past_in, distance_in}

@@ -3,21 +3,15 @@ use Rattle.std.proofs.Math.Nat.{mod-lt}
 use Rattle.std.proofs.lemmas.Nat.{pow_pos}
 use Rattle.apfloat_arithmetic.specs.Magnitudes.{units_of}
 use Rattle.apfloat_arithmetic.proofs.NearestMultiples.{rest_in, quotient_in}
-use Rattle.apfloat_arithmetic.proofs.WholeQuotients.{below_divisor, left_all, not_odd, at_lower_place}
-use Rattle.apfloat_arithmetic.proofs.remainders.remaining_by.Goals.{Then-x-y, After-rest_of_moved-left}
+use Rattle.apfloat_arithmetic.proofs.WholeQuotients.{is_less, left_all, not_odd, at_lower_place}
+use Rattle.apfloat_arithmetic.proofs.remainders.remaining_by.Goals.{After-rest_of_moved-left}
 use Rattle.apfloat_arithmetic.proofs.remainders.remaining_by.Goals as goal
 
--- a number at a place below the divisor's is less than it
-is_less : (state : Then-x-y) → units_of state.args.x < units_of state.args.y
-is_less c =
-    below_divisor c.args.precision c.args.x.significand c.args.x.place c.args.y.significand c.args.y.place
-    c.requires.some c.requires.x.fits c.requires.y.full (omega arith)
-
 pub returns-then-x-y-clause-rest : goal.returns-then-x-y-clause-rest
-returns-then-x-y-clause-rest c = left_all (units_of c.args.y) (units_of c.args.x) (is_less c)
+returns-then-x-y-clause-rest c = left_all _ _ (is_less _ _ _ c.requires.some c.requires.x c.requires.y (omega arith))
 
 pub returns-then-x-y-clause-odd : goal.returns-then-x-y-clause-odd
-returns-then-x-y-clause-odd c = not_odd (units_of c.args.y) (units_of c.args.x) (is_less c)
+returns-then-x-y-clause-odd c = not_odd _ _ (is_less _ _ _ c.requires.some c.requires.x c.requires.y (omega arith))
 
 -- a number at a place not below the divisor's, counted from the divisor's place
 lowered : (state : After-rest_of_moved-left) → state.args.y.place ≤ state.args.x.place → units_of state.args.x

@@ -2,21 +2,15 @@ use Rattle.std.proofs.Common.{◌≡◌, ℕ, ◌+◌, ◌-◌, ◌/◌, ◌%◌
 use Rattle.std.proofs.Math.Nat.{pow-le-pow_right}
 use Rattle.apfloat_model.proofs.general.Powers.{two_pos}
 use Rattle.apfloat_arithmetic.specs.Magnitudes.{units_of}
-use Rattle.apfloat_arithmetic.proofs.WholeQuotients.{IsTurn, is_turn, turn_rest, turn_ones, turn_less, below_divisor, few_digits, left_all, none_set, at_place, divisor_pos, last_turn, last_below}
-use Rattle.apfloat_arithmetic.proofs.remainders.rest_by.Goals.{Then-x-y, After-less_multiple-less, Then-less-y, Else-rest-y-2}
+use Rattle.apfloat_arithmetic.proofs.WholeQuotients.{IsTurn, is_turn, turn_rest, turn_ones, turn_less, is_less, few_digits, left_all, none_set, at_place, divisor_pos, last_turn, last_below}
+use Rattle.apfloat_arithmetic.proofs.remainders.rest_by.Goals.{After-less_multiple-less, Then-less-y, Else-rest-y-2}
 use Rattle.apfloat_arithmetic.proofs.remainders.rest_by.Goals as goal
 
--- a number at a place below the divisor's is less than it
-is_less : (state : Then-x-y) → units_of state.args.x < units_of state.args.y
-is_less c =
-    below_divisor c.args.precision c.args.x.significand c.args.x.place c.args.y.significand c.args.y.place
-    c.requires.some c.requires.x.fits c.requires.y.full (omega arith)
-
 pub returns-then-x-y-clause-rest : goal.returns-then-x-y-clause-rest
-returns-then-x-y-clause-rest c = left_all (units_of c.args.y) (units_of c.args.x) (is_less c)
+returns-then-x-y-clause-rest c = left_all _ _ (is_less _ _ _ c.requires.some c.requires.x c.requires.y (omega arith))
 
 pub returns-then-x-y-clause-steps : goal.returns-then-x-y-clause-steps
-returns-then-x-y-clause-steps c = none_set (units_of c.args.y) (units_of c.args.x) (is_less c)
+returns-then-x-y-clause-steps c = none_set _ _ (is_less _ _ _ c.requires.some c.requires.x c.requires.y (omega arith))
 
 pub less_multiple-less-requires-clause-narrow : goal.less_multiple-less-requires-clause-narrow
 less_multiple-less-requires-clause-narrow c =

@@ -1,32 +1,13 @@
-use Rattle.std.proofs.Common.{subst}
 use Rattle.std.proofs.Math.Nat.{zero-div}
-use Rattle.apfloat_model.specs.declared.kinds.Category.{Category}
 use Rattle.apfloat_model.specs.arithmetic.Remainders.{truncated_quotient}
-use Rattle.apfloat_rounding.specs.Stored.{IsStoredBy}
 use Rattle.apfloat_arithmetic.proofs.SpecialRemainders.{of_numbers}
 use Rattle.apfloat_arithmetic.proofs.remainders.truncated_remainder.Goals as goal
-
-pub truncated_number-requires-clause-x : goal.truncated_number-requires-clause-x
-truncated_number-requires-clause-x c =
-    subst (λ (k : Category). IsStoredBy k c.args.shape c.args.x) (c.are_normal.ensures.yes c.if-are_normal.true).0
-    c.requires.x
-
-pub truncated_number-requires-clause-y : goal.truncated_number-requires-clause-y
-truncated_number-requires-clause-y c =
-    subst (λ (k : Category). IsStoredBy k c.args.shape c.args.y) (c.are_normal.ensures.yes c.if-are_normal.true).1
-    c.requires.y
-
-pub returns-then-are_normal-clause-stored : goal.returns-then-are_normal-clause-stored
-returns-then-are_normal-clause-stored c = c.truncated_number.ensures.stored
 
 pub returns-then-are_normal-clause-delivered : goal.returns-then-are_normal-clause-delivered
 returns-then-are_normal-clause-delivered c =
     let n = c.are_normal.ensures.yes c.if-are_normal.true in
     of_numbers c.args.shape truncated_quotient c.args.x.category c.args.y.category c.args.x c.args.y _ _ n.0 n.1
     c.requires.y c.truncated_number.ensures.answer
-
-pub returns-else-are_normal-clause-stored : goal.returns-else-are_normal-clause-stored
-returns-else-are_normal-clause-stored c = c.special.ensures.stored
 
 pub returns-else-are_normal-clause-delivered : goal.returns-else-are_normal-clause-delivered
 returns-else-are_normal-clause-delivered c =

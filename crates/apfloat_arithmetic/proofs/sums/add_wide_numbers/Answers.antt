@@ -1,61 +1,42 @@
-use Rattle.std.proofs.Common.{◌+◌, ◌^◌, ◌≤◌, ◌+ℤ◌, ℤ, pos, subst, refl, arith}
-use Rattle.std.proofs.Math.Nat.{pow-le-pow_right}
+use Rattle.std.proofs.Common.{arith}
 use Rattle.std.proofs.lemmas.Int.{ints}
-use Rattle.apfloat_model.specs.arithmetic.Exact.{signed, magnitude, IsRounded}
-use Rattle.apfloat_model.specs.rounding.Flags.{bits_of}
-use Rattle.apfloat_model.specs.arithmetic.Sums.{zero_sum_sign}
-use Rattle.apfloat_rounding.specs.Shapes.{format_at}
-use Rattle.apfloat_rounding.specs.Stored.{quanta_at, datum_at}
-use Rattle.apfloat_model.proofs.general.Powers.{two_pos}
-use Rattle.apfloat_model.proofs.rounding.OddRoundings.{to_odd_least}
-use Rattle.apfloat_arithmetic.proofs.Additions.{odd_sum_read, scale_is}
+use Rattle.apfloat_arithmetic.proofs.DeliveredTotals.{sum_total, total_delivered}
 use Rattle.apfloat_arithmetic.proofs.sums.add_wide_numbers.Goals as goal
 
-pub term_of-requires : goal.term_of-requires
-term_of-requires c = c.requires.x_normal
+pub full_term-requires : goal.full_term-requires
+full_term-requires c = c.requires.x_normal
 
-pub term_of-requires-2 : goal.term_of-requires-2
-term_of-requires-2 c = c.requires.y_normal
-
-pub returns-clause-stored : goal.returns-clause-stored
-returns-clause-stored c = c.deliver_total.ensures.stored
-
-pub add_wide_terms-total-requires-clause-x : goal.add_wide_terms-total-requires-clause-x
-add_wide_terms-total-requires-clause-x c =
-    let e = c.widened_term.ensures.exponent in
-    let t = c.term_of.ensures.exponent in
-    record {
-      low = omega (arith, ints, c.args.shape.parameters, e, t, c.requires.x_normal.operand);
-      high = omega (arith, ints, c.args.shape.parameters, e, t, c.requires.x_normal.operand);
-    }
-
-pub add_wide_terms-total-requires-clause-x_fits : goal.add_wide_terms-total-requires-clause-x_fits
-add_wide_terms-total-requires-clause-x_fits c =
-    rw (c.widened_term.ensures.significand, c.term_of.ensures.significand) c.requires.x_normal.operand.fits
-
-pub add_wide_terms-total-requires-clause-x_full : goal.add_wide_terms-total-requires-clause-x_full
-add_wide_terms-total-requires-clause-x_full c =
-    rw (c.widened_term.ensures.significand, c.term_of.ensures.significand) c.requires.x_normal.operand.full
-
-pub add_wide_terms-total-requires-clause-y : goal.add_wide_terms-total-requires-clause-y
-add_wide_terms-total-requires-clause-y c =
-    let e = c.widened_term-2.ensures.exponent in
-    let t = c.term_of-2.ensures.exponent in
-    record {
-      low = omega (arith, ints, c.args.shape.parameters, e, t, c.requires.y_normal.operand);
-      high = omega (arith, ints, c.args.shape.parameters, e, t, c.requires.y_normal.operand);
-    }
-
-pub add_wide_terms-total-requires-clause-y_fits : goal.add_wide_terms-total-requires-clause-y_fits
-add_wide_terms-total-requires-clause-y_fits c =
-    rw (c.widened_term-2.ensures.significand, c.term_of-2.ensures.significand) c.requires.y_normal.operand.fits
-
-pub add_wide_terms-total-requires-clause-y_full : goal.add_wide_terms-total-requires-clause-y_full
-add_wide_terms-total-requires-clause-y_full c =
-    rw (c.widened_term-2.ensures.significand, c.term_of-2.ensures.significand) c.requires.y_normal.operand.full
+pub full_term-requires-2 : goal.full_term-requires-2
+full_term-requires-2 c = c.requires.y_normal
 
 pub add_wide_terms-total-requires-clause-short : goal.add_wide_terms-total-requires-clause-short
 add_wide_terms-total-requires-clause-short c = omega (arith, c.args.shape.parameters.precision_high)
+
+pub add_wide_terms-total-requires-clause-x : goal.add_wide_terms-total-requires-clause-x
+add_wide_terms-total-requires-clause-x c =
+    record {
+      low = omega (arith, ints, c.widened_term.ensures.exponent, c.full_term.ensures.within);
+      high = omega (arith, ints, c.widened_term.ensures.exponent, c.full_term.ensures.within);
+    }
+
+pub add_wide_terms-total-requires-clause-x_fits : goal.add_wide_terms-total-requires-clause-x_fits
+add_wide_terms-total-requires-clause-x_fits c = rw c.widened_term.ensures.significand c.full_term.ensures.fits
+
+pub add_wide_terms-total-requires-clause-x_full : goal.add_wide_terms-total-requires-clause-x_full
+add_wide_terms-total-requires-clause-x_full c = rw c.widened_term.ensures.significand c.full_term.ensures.full
+
+pub add_wide_terms-total-requires-clause-y : goal.add_wide_terms-total-requires-clause-y
+add_wide_terms-total-requires-clause-y c =
+    record {
+      low = omega (arith, ints, c.widened_term-2.ensures.exponent, c.full_term-2.ensures.within);
+      high = omega (arith, ints, c.widened_term-2.ensures.exponent, c.full_term-2.ensures.within);
+    }
+
+pub add_wide_terms-total-requires-clause-y_fits : goal.add_wide_terms-total-requires-clause-y_fits
+add_wide_terms-total-requires-clause-y_fits c = rw c.widened_term-2.ensures.significand c.full_term-2.ensures.fits
+
+pub add_wide_terms-total-requires-clause-y_full : goal.add_wide_terms-total-requires-clause-y_full
+add_wide_terms-total-requires-clause-y_full c = rw c.widened_term-2.ensures.significand c.full_term-2.ensures.full
 
 pub deliver_total-requires : goal.deliver_total-requires
 deliver_total-requires c =
@@ -66,18 +47,6 @@ deliver_total-requires c =
 
 pub returns-clause-delivered : goal.returns-clause-delivered
 returns-clause-delivered c =
-    let s = c.args.shape in
-    let x = c.args.x in
-    let y = c.args.y in
-    let m = quanta_at s.min_exp x.significand x.exponent in
-    let n = quanta_at s.min_exp y.significand y.exponent in
-    let of_zero = zero_sum_sign c.args.round x.negative y.negative in
-    let exact = signed x.negative m +ℤ signed y.negative n in
-    let total = c.add_wide_terms-total.result in
-    let unit = total.exponent +ℤ pos (format_at s).scale in
-    let d = c.deliver_total.ensures.delivered in
-    let few : s.precision + 1 ≤ 127 = let p = s.parameters.precision_high in omega (arith, p) in
-    let least : 2 ^ (s.precision + 1) ≤ 2 ^ 127 = pow-le-pow_right two_pos few in
     let g = rw (
       c.widened_term.ensures.negative,
       c.widened_term.ensures.exponent,
@@ -85,18 +54,11 @@ returns-clause-delivered c =
       c.widened_term-2.ensures.negative,
       c.widened_term-2.ensures.exponent,
       c.widened_term-2.ensures.significand,
-      c.term_of.ensures.negative,
-      c.term_of.ensures.significand,
-      c.term_of-2.ensures.negative,
-      c.term_of-2.ensures.significand,
+      c.full_term.ensures.negative,
+      c.full_term.ensures.significand,
+      c.full_term-2.ensures.negative,
+      c.full_term-2.ensures.significand,
     ) at c.add_wide_terms-total.ensures.rounded in
-    let r = odd_sum_read (2 ^ 127) 253 s.precision (format_at s).scale s.min_exp x.exponent y.exponent
-    c.term_of.result.exponent c.term_of-2.result.exponent total.exponent unit x.negative y.negative total.negative
-    x.significand y.significand m n total.significand c.requires.x_normal.operand.least
-    c.requires.y_normal.operand.least c.term_of.ensures.exponent c.term_of-2.ensures.exponent
-    (scale_is s.precision s.min_exp s.parameters.precision_low s.parameters.min_exp_high) refl
-    c.requires.x_normal.whole c.requires.y_normal.whole g in
-    subst (λ (z : ℤ). IsRounded (format_at s) c.args.round of_zero z 1 (datum_at s c.deliver_total.result.value)
-    (bits_of c.deliver_total.result.status)) r.is
-    (d (magnitude exact) 1 (omega arith)
-    (to_odd_least (2 ^ 127) (2 ^ (s.precision + 1)) total.significand _ _ least r.rounded))
+    total_delivered _ _ _ _ _ _ _ _ _ _ _ (omega arith)
+    (sum_total c.args.shape 127 253 _ _ _ _ _ _ _ _ _ _ _ (omega (arith, c.args.shape.parameters.precision_high)) c.requires.x_normal
+    c.requires.y_normal c.full_term.ensures.exponent c.full_term-2.ensures.exponent g) c.deliver_total.ensures.delivered

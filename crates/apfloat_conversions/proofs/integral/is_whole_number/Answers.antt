@@ -31,17 +31,11 @@ returns-then-exponent-ge0 c =
     (omega (arith, ints, g, w)) in
     whole_multiple (m * 2 ^ up r) a (2 ^ (format_at s).scale) e
 
-pub round_at_dot-requires-clause-normal : goal.round_at_dot-requires-clause-normal
-round_at_dot-requires-clause-normal c = c.requires
-
 pub round_at_dot-requires-clause-last : goal.round_at_dot-requires-clause-last
 round_at_dot-requires-clause-last c =
     let e = exponent_word c.args.shape c.args.x.significand c.args.x.exponent c.requires in
     rw (to_z-of_z w32 c.last_exponent-exponent.result (record { sfits = c.last_exponent-exponent.type_inv }))
     (rw e at c.last_exponent-exponent.ensures.value)
-
-pub round_at_dot-requires-clause-small : goal.round_at_dot-requires-clause-small
-round_at_dot-requires-clause-small c = let g = c.if-exponent-ge0.false in omega (arith, ints, g)
 
 pub returns : goal.returns
 returns c =

@@ -1,9 +1,9 @@
-use Rattle.std.proofs.Common.{◌≡◌, ℕ, ◌*◌, ◌^◌, ◌<◌, ◌≤◌, sym, ◌∙◌, refl, arith}
+use Rattle.std.proofs.Common.{◌≡◌, ℕ, ◌*◌, ◌^◌, ◌<◌, ◌≤◌, refl, arith}
 use Rattle.std.proofs.Math.Nat.{pow-le-pow_right}
 use Rattle.apfloat_model.proofs.general.Powers.{two_pos, fits_longer}
 use Rattle.apfloat_model.specs.rounding.Standing.{StandsFor}
 use Rattle.apfloat_model.proofs.rounding.PickedPoints.{kept_moved, kept_stayed}
-use Rattle.apfloat_conversions.proofs.Wholes.{whole_at, exact_at, cut_whole_stands, cut_below}
+use Rattle.apfloat_conversions.proofs.Wholes.{picked_at, cut_whole_stands, cut_below}
 use Rattle.apfloat_conversions.proofs.whole.round_fraction.Goals.{After-shift_right-kept}
 use Rattle.apfloat_conversions.proofs.whole.round_fraction.Goals as goal
 
@@ -31,28 +31,16 @@ stands c amount parts p e =
 
 pub returns-then-moves_up-clause-picked : goal.returns-then-moves_up-clause-picked
 returns-then-moves_up-clause-picked c = λ amount parts p e.
-    let q = c.shift_right-kept.result.significand in
-    let loss = c.shift_right-kept.result.loss in
-    let s = stands (goal.at.returns-then-moves_up-clause-picked c).After-shift_right-kept amount parts p e in
-    record {
-      magnitude_is =
-          kept_moved c.args.round c.args.negative loss q c.moves_up.result c.moves_up.ensures c.if-moves_up.true ∙
-          sym (whole_at c.args.round c.args.negative q amount parts loss p s);
-      exact_is =
-          exact_at c.args.round c.args.negative q amount parts loss c.is_exact-exact.result p s
-          c.is_exact-exact.ensures.yes c.is_exact-exact.ensures.no;
-    }
+    picked_at c.args.round c.args.negative _ amount parts _ _ p
+    (stands (goal.at.returns-then-moves_up-clause-picked c).After-shift_right-kept amount parts p e)
+    c.is_exact-exact.ensures.yes c.is_exact-exact.ensures.no
+    (kept_moved c.args.round c.args.negative c.shift_right-kept.result.loss c.shift_right-kept.result.significand
+    c.moves_up.result c.moves_up.ensures c.if-moves_up.true)
 
 pub returns-else-moves_up-clause-picked : goal.returns-else-moves_up-clause-picked
 returns-else-moves_up-clause-picked c = λ amount parts p e.
-    let q = c.shift_right-kept.result.significand in
-    let loss = c.shift_right-kept.result.loss in
-    let s = stands (goal.at.returns-else-moves_up-clause-picked c).After-shift_right-kept amount parts p e in
-    record {
-      magnitude_is =
-          kept_stayed c.args.round c.args.negative loss q c.moves_up.result c.moves_up.ensures c.if-moves_up.false ∙
-          sym (whole_at c.args.round c.args.negative q amount parts loss p s);
-      exact_is =
-          exact_at c.args.round c.args.negative q amount parts loss c.is_exact-exact.result p s
-          c.is_exact-exact.ensures.yes c.is_exact-exact.ensures.no;
-    }
+    picked_at c.args.round c.args.negative _ amount parts _ _ p
+    (stands (goal.at.returns-else-moves_up-clause-picked c).After-shift_right-kept amount parts p e)
+    c.is_exact-exact.ensures.yes c.is_exact-exact.ensures.no
+    (kept_stayed c.args.round c.args.negative c.shift_right-kept.result.loss c.shift_right-kept.result.significand
+    c.moves_up.result c.moves_up.ensures c.if-moves_up.false)

@@ -76,9 +76,6 @@ returns-then-exponent-ge0 c =
           (2 ^ (format_at s).scale) p e;
     }
 
-pub round_at_dot-requires-clause-normal : goal.round_at_dot-requires-clause-normal
-round_at_dot-requires-clause-normal c = c.requires
-
 pub round_at_dot-requires-clause-last : goal.round_at_dot-requires-clause-last
 round_at_dot-requires-clause-last c =
     let e = exponent_word c.args.shape c.args.x.significand c.args.x.exponent c.requires in

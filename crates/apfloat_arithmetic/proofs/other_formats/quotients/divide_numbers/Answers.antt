@@ -1,4 +1,4 @@
-use Rattle.std.proofs.Common.{◌≡◌, ◌+◌, ◌*◌, ◌^◌, ◌<◌, Bool, ℕ, pos, neg_ℤ, eqb, sym, subst, arith, if◌then◌else◌}
+use Rattle.std.proofs.Common.{◌≡◌, ◌+◌, ◌*◌, ◌^◌, ◌<◌, Bool, ℕ, eqb, sym, subst, arith, if◌then◌else◌}
 use Rattle.std.proofs.Math.Nat.{mul-pos}
 use Rattle.std.proofs.lemmas.Nat.{pow_pos}
 use Rattle.apfloat_model.specs.formats.Constants.{infinity_of}
@@ -10,9 +10,9 @@ use Rattle.apfloat_model.specs.rounding.Rounding.{IsDelivered}
 use Rattle.apfloat_model.specs.arithmetic.Exact.{product_sign}
 use Rattle.apfloat_model.specs.arithmetic.Quotients.{div_by_zero_bit}
 use Rattle.apfloat_rounding.specs.Shapes.{format_at}
-use Rattle.apfloat_rounding.specs.Stored.{IsQuantaAt, datum_at}
+use Rattle.apfloat_rounding.specs.Stored.{datum_at}
 use Rattle.apfloat_arithmetic.proofs.other_formats_lemmas.Cases.{zero_yields, some_yields}
-use Rattle.apfloat_arithmetic.proofs.other_formats_lemmas.Exponents.{no_amount, some_amount}
+use Rattle.apfloat_arithmetic.proofs.other_formats_lemmas.Exponents.{no_term, some_term}
 use Rattle.apfloat_arithmetic.proofs.other_formats.quotients.divide_numbers.Goals as goal
 
 -- the outcomes of a division by zero, and of any other one
@@ -32,10 +32,8 @@ returns-then-x-eq0-clause-quotient c = λ m s n t hx hy.
     let sign = product_sign c.args.x.negative c.args.y.negative in
     let v = datum_at c.args.into c.invalid.result.value in
     let i = bits_of c.invalid.result.status in
-    let a : m ≡ 0 = no_amount (neg_ℤ (pos s)) c.args.x.exponent m
-    (subst (λ (v : ℕ). IsQuantaAt (neg_ℤ (pos s)) v c.args.x.exponent m) c.if-x-eq0.true hx) in
-    let b : n ≡ 0 = no_amount (neg_ℤ (pos t)) c.args.y.exponent n
-    (subst (λ (v : ℕ). IsQuantaAt (neg_ℤ (pos t)) v c.args.y.exponent n) c.if-y-eq0.true hy) in
+    let a : m ≡ 0 = no_term s m c.args.x c.if-x-eq0.true hx in
+    let b : n ≡ 0 = no_term t n c.args.y c.if-y-eq0.true hy in
     zero_yields g mode n (over_zero g sign m) (regular g sign m s n t) v i b
     (zero_yields g mode m (invalid g) (pole g sign) v i a c.invalid.ensures.delivered)
 
@@ -46,10 +44,8 @@ returns-then-y-eq0-clause-quotient c = λ m s n t hx hy.
     let sign = product_sign c.args.x.negative c.args.y.negative in
     let v = datum_at c.args.into c.divided_by_zero.result.value in
     let i = bits_of c.divided_by_zero.result.status in
-    let some : 0 < m = some_amount (neg_ℤ (pos s)) c.args.x.exponent c.args.x.significand m
-    (omega (arith, c.if-x-eq0.false)) hx in
-    let b : n ≡ 0 = no_amount (neg_ℤ (pos t)) c.args.y.exponent n
-    (subst (λ (v : ℕ). IsQuantaAt (neg_ℤ (pos t)) v c.args.y.exponent n) c.if-y-eq0.true hy) in
+    let some : 0 < m = some_term s m c.args.x c.if-x-eq0.false hx in
+    let b : n ≡ 0 = no_term t n c.args.y c.if-y-eq0.true hy in
     zero_yields g mode n (over_zero g sign m) (regular g sign m s n t) v i b
     (some_yields g mode m (invalid g) (pole g sign) v i some
     (subst (λ (z : Bool). IsAnswer (infinity_of g z) div_by_zero_bit v i)
@@ -62,10 +58,8 @@ returns-then-x-eq0-2-clause-quotient c = λ m s n t hx hy.
     let sign = product_sign c.args.x.negative c.args.y.negative in
     let v = datum_at c.args.into c.exact_zero.result.value in
     let i = bits_of c.exact_zero.result.status in
-    let some : 0 < n = some_amount (neg_ℤ (pos t)) c.args.y.exponent c.args.y.significand n
-    (omega (arith, c.if-y-eq0.false)) hy in
-    let a : m ≡ 0 = no_amount (neg_ℤ (pos s)) c.args.x.exponent m
-    (subst (λ (v : ℕ). IsQuantaAt (neg_ℤ (pos s)) v c.args.x.exponent m) c.if-x-eq0-2.true hx) in
+    let some : 0 < n = some_term t n c.args.y c.if-y-eq0.false hy in
+    let a : m ≡ 0 = no_term s m c.args.x c.if-x-eq0-2.true hx in
     let z : 0 ≡ m * 2 ^ (t + g.scale) = subst (λ (k : ℕ). 0 ≡ k * 2 ^ (t + g.scale)) (sym a) (omega arith) in
     let d = subst (λ (b : Bool). IsDelivered g c.args.round b 0 (n * 2 ^ s) v i) c.product_sign-negative.ensures
     (c.exact_zero.ensures.delivered c.args.round (n * 2 ^ s) (mul-pos some (pow_pos s))) in
@@ -79,7 +73,6 @@ returns-clause-quotient c = λ m s n t hx hy.
     let sign = product_sign c.args.x.negative c.args.y.negative in
     let v = datum_at c.args.into c.divide_nonzero.result.value in
     let i = bits_of c.divide_nonzero.result.status in
-    let some : 0 < n = some_amount (neg_ℤ (pos t)) c.args.y.exponent c.args.y.significand n
-    (omega (arith, c.if-y-eq0.false)) hy in
+    let some : 0 < n = some_term t n c.args.y c.if-y-eq0.false hy in
     some_yields g mode n (over_zero g sign m) (regular g sign m s n t) v i some
     (c.divide_nonzero.ensures.quotient m s n t hx hy)
