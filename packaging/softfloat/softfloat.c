@@ -2,6 +2,15 @@
 #include "softfloat.h"
 
 #include "apfloat.h"
+#include "specialize.h"
+
+#if defined(__GNUC__)
+#define INLINE static inline __attribute__((always_inline))
+#define OUT_OF_LINE static __attribute__((noinline))
+#else
+#define INLINE static inline
+#define OUT_OF_LINE static
+#endif
 
 /* ---- which NaNs and which integers: one of the ways in which SoftFloat is built */
 
@@ -38,18 +47,20 @@ void softfloat_raiseFlags(uint_fast8_t flags) {
     softfloat_exceptionFlags |= flags;
 }
 
-static void raise_status(uint32_t status) {
-    uint_fast8_t flags = 0;
-    if (status & APFLOAT_INEXACT) flags |= softfloat_flag_inexact;
-    if (status & APFLOAT_UNDERFLOW) flags |= softfloat_flag_underflow;
-    if (status & APFLOAT_OVERFLOW) flags |= softfloat_flag_overflow;
-    if (status & APFLOAT_DIV_BY_ZERO) flags |= softfloat_flag_infinite;
-    if (status & APFLOAT_INVALID_OP) flags |= softfloat_flag_invalid;
-    if (flags) softfloat_raiseFlags(flags);
+/* The flags of a status, whose five lowest bits are APFLOAT_INVALID_OP, .._DIV_BY_ZERO, .._OVERFLOW, .._UNDERFLOW and
+ * .._INEXACT: SoftFloat has them in the opposite order. */
+static uint_fast8_t flags_of(uint32_t status) {
+    static const uint8_t reversed[32] = {0, 16, 8, 24, 4, 20, 12, 28, 2, 18, 10, 26, 6, 22, 14, 30,
+                                         1, 17, 9, 25, 5, 21, 13, 29, 3, 19, 11, 27, 7, 23, 15, 31};
+    return reversed[status & 31];
+}
+
+static inline void raise_status(uint32_t status) {
+    if (status) softfloat_raiseFlags(flags_of(status));
 }
 
 /* The result, with its flags raised. */
-static apfloat_halves raised(apfloat_answer answer) {
+static inline apfloat_halves raised(apfloat_answer answer) {
     raise_status(answer.status);
     return answer.bits;
 }
@@ -67,6 +78,7 @@ enum { LOW = 0, HIGH = 1 };
 #define CODE_f64 APFLOAT_DOUBLE
 #define CODE_extF80 APFLOAT_X87
 #define CODE_f128 APFLOAT_QUAD
+#define CODE_bf16 APFLOAT_BFLOAT
 
 static apfloat_halves of_low(uint64_t low) {
     const apfloat_halves halves = {low, 0};
@@ -74,6 +86,9 @@ static apfloat_halves of_low(uint64_t low) {
 }
 
 static apfloat_halves of_f16(float16_t a) {
+    return of_low(a.v);
+}
+static apfloat_halves of_bf16(bfloat16_t a) {
     return of_low(a.v);
 }
 static apfloat_halves of_f32(float32_t a) {
@@ -93,6 +108,10 @@ static apfloat_halves of_f128(float128_t a) {
 
 static float16_t as_f16(apfloat_halves bits) {
     const float16_t a = {(uint16_t)bits.low};
+    return a;
+}
+static bfloat16_t as_bf16(apfloat_halves bits) {
+    const bfloat16_t a = {(uint16_t)bits.low};
     return a;
 }
 static float32_t as_f32(apfloat_halves bits) {
@@ -119,13 +138,13 @@ static float128_t as_f128(apfloat_halves bits) {
 /* ---- calls of the library */
 
 /* The format with the flags of IEEE 754 and the tininess of the thread. */
-static uint32_t ruled(uint32_t format) {
+INLINE uint32_t ruled(uint32_t format) {
     const bool is_before = softfloat_detectTininess == softfloat_tininess_beforeRounding;
     return format | APFLOAT_IEEE_FLAGS | (is_before ? APFLOAT_TINY_BEFORE_ROUNDING : 0);
 }
 
 /* A mode of the library. Rounding to odd begins with truncation. */
-static uint32_t direction(uint_fast8_t mode) {
+INLINE uint32_t direction(uint_fast8_t mode) {
     switch (mode) {
     case softfloat_round_minMag:
     case softfloat_round_odd: return APFLOAT_TOWARD_ZERO;
@@ -144,17 +163,61 @@ static uint32_t machine_for(uint32_t operation, uint32_t format) {
     return machine == APFLOAT_MACHINE_X87 && is_lacking ? APFLOAT_MACHINE_X86 : machine;
 }
 
+/* Whether a result of a format is a NaN. */
+INLINE bool is_nan(uint32_t format, apfloat_halves bits) {
+    const uint64_t magnitude_of_double = bits.low & INT64_MAX, magnitude_of_quad = bits.high & INT64_MAX;
+    switch (format) {
+    case APFLOAT_HALF: return (bits.low & 0x7fff) > 0x7c00;
+    case APFLOAT_BFLOAT: return (bits.low & 0x7fff) > 0x7f80;
+    case APFLOAT_SINGLE: return (bits.low & 0x7fffffff) > 0x7f800000;
+    case APFLOAT_DOUBLE: return magnitude_of_double > UINT64_C(0x7ff0000000000000);
+    case APFLOAT_X87: return (bits.high & 0x7fff) == 0x7fff && bits.low << 1 != 0;
+    default:
+        return magnitude_of_quad > UINT64_C(0x7fff000000000000) ||
+               (magnitude_of_quad == UINT64_C(0x7fff000000000000) && bits.low != 0);
+    }
+}
+
 /* No call is refused: formats, operations and widths are known, and no value has bits above its width. */
-static apfloat_answer delivered(uint32_t operation, uint32_t format, uint32_t mode, uint32_t to, apfloat_halves x,
-                                apfloat_halves y, apfloat_halves z) {
+OUT_OF_LINE apfloat_answer by_machine(uint32_t operation, uint32_t format, uint32_t mode, uint32_t to,
+                                      apfloat_halves x, apfloat_halves y, apfloat_halves z) {
     apfloat_answer answer = {{0, 0}, 0, 0};
     apfloat_machine(machine_for(operation, format), operation, ruled(format), mode, to, x, y, z, &answer);
     return answer;
 }
 
+/* Machines differ in NaNs and in invalid integers alone. */
+INLINE apfloat_answer delivered(uint32_t operation, uint32_t format, uint32_t mode, uint32_t to, apfloat_halves x,
+                                apfloat_halves y, apfloat_halves z) {
+    apfloat_answer answer = {{0, 0}, 0, 0};
+    const uint32_t rule = ruled(format);
+    bool is_special;
+    switch (operation) {
+    case APFLOAT_ADD: apfloat_add(rule, mode, x, y, &answer); break;
+    case APFLOAT_SUB: apfloat_sub(rule, mode, x, y, &answer); break;
+    case APFLOAT_MUL: apfloat_mul(rule, mode, x, y, &answer); break;
+    case APFLOAT_DIV: apfloat_div(rule, mode, x, y, &answer); break;
+    case APFLOAT_REM: apfloat_rem(rule, x, y, &answer); break;
+    case APFLOAT_SQRT: apfloat_sqrt(rule, mode, x, &answer); break;
+    case APFLOAT_FMA: apfloat_fma(rule, mode, x, y, z, &answer); break;
+    case APFLOAT_CONVERT: apfloat_convert(rule, mode, to, x, &answer); break;
+    case APFLOAT_TO_U128: apfloat_to_u128(rule, mode, x, to, &answer); break;
+    case APFLOAT_TO_I128: apfloat_to_i128(rule, mode, x, to, &answer); break;
+    case APFLOAT_INTEGRAL: apfloat_integral(rule, mode, x, &answer); break;
+    default: apfloat_round_to_integral(rule, mode, x, &answer);
+    }
+    switch (operation) {
+    case APFLOAT_TO_U128:
+    case APFLOAT_TO_I128: is_special = answer.status & APFLOAT_INVALID_OP; break;
+    case APFLOAT_CONVERT: is_special = is_nan(to & 0xff, answer.bits); break;
+    default: is_special = is_nan(format, answer.bits);
+    }
+    return is_special ? by_machine(operation, format, mode, to, x, y, z) : answer;
+}
+
 /* A truncated result with an odd last digit, in the mode that asks for it, unless it is exact. The lowest bit is the
  * last digit in every format, and the largest value has an odd one. */
-static apfloat_answer odd_if_asked(apfloat_answer answer, uint_fast8_t mode) {
+INLINE apfloat_answer odd_if_asked(apfloat_answer answer, uint_fast8_t mode) {
     if (mode == softfloat_round_odd && (answer.status & APFLOAT_INEXACT)) answer.bits.low |= 1;
     return answer;
 }
@@ -163,11 +226,6 @@ static int32_t class_of(uint32_t format, apfloat_halves x) {
     apfloat_answer answer = {{0, 0}, 0, 0};
     apfloat_classify(format, x, &answer);
     return answer.number;
-}
-
-static bool is_nan(uint32_t format, apfloat_halves x) {
-    const int32_t code = class_of(format, x);
-    return code == APFLOAT_SIGNALING_NAN || code == APFLOAT_QUIET_NAN;
 }
 
 /* ---- extFloat80_t with 53 or 24 digits */
@@ -205,47 +263,61 @@ static bool is_nonzero_number(apfloat_answer truncated) {
 
 /* ---- operations */
 
-/* A sum, a difference, a product, a quotient, a remainder or a square root in the mode of the thread. */
-static apfloat_halves computed(uint32_t operation, uint32_t format, apfloat_halves x, apfloat_halves y) {
-    const uint_fast8_t mode = softfloat_roundingMode, digits = extF80_roundingPrecision;
-    if (format == APFLOAT_X87 && operation != APFLOAT_REM && (digits == 64 || digits == 32)) {
-        const apfloat_answer truncated = delivered(operation, format, APFLOAT_TOWARD_ZERO, 0, x, y, y);
-        if (is_nonzero_number(truncated)) {
-            const apfloat_answer odd = odd_if_asked(truncated, softfloat_round_odd);
-            return raised(narrowed(odd, digits == 64 ? APFLOAT_DOUBLE : APFLOAT_SINGLE));
-        }
+/* A result with 53 or 24 digits. */
+OUT_OF_LINE apfloat_halves shortened(uint32_t operation, uint32_t digits, apfloat_halves x, apfloat_halves y) {
+    const uint_fast8_t mode = softfloat_roundingMode;
+    const apfloat_answer truncated = by_machine(operation, APFLOAT_X87, APFLOAT_TOWARD_ZERO, 0, x, y, y);
+    if (is_nonzero_number(truncated)) {
+        const apfloat_answer odd = odd_if_asked(truncated, softfloat_round_odd);
+        return raised(narrowed(odd, digits == 64 ? APFLOAT_DOUBLE : APFLOAT_SINGLE));
     }
+    return raised(odd_if_asked(by_machine(operation, APFLOAT_X87, direction(mode), 0, x, y, y), mode));
+}
+
+/* A sum, a difference, a product, a quotient, a remainder or a square root in the mode of the thread. */
+INLINE apfloat_halves computed(uint32_t operation, uint32_t format, apfloat_halves x, apfloat_halves y) {
+    const uint_fast8_t mode = softfloat_roundingMode, digits = extF80_roundingPrecision;
+    if (format == APFLOAT_X87 && operation != APFLOAT_REM && (digits == 64 || digits == 32))
+        return shortened(operation, digits, x, y);
     return raised(odd_if_asked(delivered(operation, format, direction(mode), 0, x, y, y), mode));
 }
 
-/* A product plus a third value. SoftFloat takes the NaN of the two factors, that of an invalid product among them, and
- * then that of this NaN and the third value, on every machine. */
-static apfloat_halves fused(uint32_t format, apfloat_halves x, apfloat_halves y, apfloat_halves z) {
-    const uint_fast8_t mode = softfloat_roundingMode;
+/* A product plus a third value of which the result is a NaN. SoftFloat takes the NaN of the two factors, that of an
+ * invalid product among them, and then that of this NaN and the third value, on every machine. */
+OUT_OF_LINE apfloat_halves fused_nan(uint32_t format, uint32_t mode, apfloat_halves x, apfloat_halves y,
+                                     apfloat_halves z) {
     apfloat_answer product, sum;
     if (!is_nan(format, x) && !is_nan(format, y) && !is_nan(format, z))
-        return raised(odd_if_asked(delivered(APFLOAT_FMA, format, direction(mode), 0, x, y, z), mode));
-    product = delivered(APFLOAT_MUL, format, APFLOAT_TOWARD_ZERO, 0, x, y, y);
+        return raised(by_machine(APFLOAT_FMA, format, mode, 0, x, y, z));
+    product = by_machine(APFLOAT_MUL, format, APFLOAT_TOWARD_ZERO, 0, x, y, y);
     if (!is_nan(format, product.bits)) product.status = 0; /* the third value is the NaN */
     if (!is_nan(format, z)) return raised(product);
-    sum = delivered(APFLOAT_ADD, format, APFLOAT_TOWARD_ZERO, 0, product.bits, z, z);
+    sum = by_machine(APFLOAT_ADD, format, APFLOAT_TOWARD_ZERO, 0, product.bits, z, z);
     sum.status |= product.status;
     return raised(sum);
 }
 
-static apfloat_halves converted(uint32_t format, uint32_t to, apfloat_halves x) {
+INLINE apfloat_halves fused(uint32_t format, apfloat_halves x, apfloat_halves y, apfloat_halves z) {
+    const uint_fast8_t mode = softfloat_roundingMode;
+    apfloat_answer answer = {{0, 0}, 0, 0};
+    apfloat_fma(ruled(format), direction(mode), x, y, z, &answer);
+    if (is_nan(format, answer.bits)) return fused_nan(format, direction(mode), x, y, z);
+    return raised(odd_if_asked(answer, mode));
+}
+
+INLINE apfloat_halves converted(uint32_t format, uint32_t to, apfloat_halves x) {
     const uint_fast8_t mode = softfloat_roundingMode;
     return raised(odd_if_asked(delivered(APFLOAT_CONVERT, format, direction(mode), ruled(to), x, x, x), mode));
 }
 
-static apfloat_halves of_unsigned(uint32_t format, uint64_t n) {
+INLINE apfloat_halves of_unsigned(uint32_t format, uint64_t n) {
     const uint_fast8_t mode = softfloat_roundingMode;
     apfloat_answer answer = {{0, 0}, 0, 0};
     apfloat_from_u128(ruled(format), direction(mode), of_low(n), &answer);
     return raised(odd_if_asked(answer, mode));
 }
 
-static apfloat_halves of_signed(uint32_t format, int64_t n) {
+INLINE apfloat_halves of_signed(uint32_t format, int64_t n) {
     const apfloat_halves number = {(uint64_t)n, n < 0 ? UINT64_MAX : 0};
     const uint_fast8_t mode = softfloat_roundingMode;
     apfloat_answer answer = {{0, 0}, 0, 0};
@@ -253,35 +325,46 @@ static apfloat_halves of_signed(uint32_t format, int64_t n) {
     return raised(odd_if_asked(answer, mode));
 }
 
-/* The direction in which a value is rounded to an integer. To odd, that is away from zero if the value lies between two
- * integers of which the one nearer to zero is even. */
-static uint32_t direction_to_integer(uint32_t format, apfloat_halves x, uint_fast8_t mode) {
+/* The direction in which a value is rounded to an integer to odd: away from zero if the value lies between two integers
+ * of which the one nearer to zero is even. */
+OUT_OF_LINE uint32_t direction_to_odd_integer(uint32_t format, apfloat_halves x) {
     apfloat_answer truncated = {{0, 0}, 0, 0}, sign = {{0, 0}, 0, 0};
-    if (mode != softfloat_round_odd) return direction(mode);
     apfloat_to_i128(format, APFLOAT_TOWARD_ZERO, x, 128, &truncated);
     if (truncated.status != APFLOAT_INEXACT || (truncated.bits.low & 1)) return APFLOAT_TOWARD_ZERO;
     apfloat_is_negative(format, x, &sign);
     return sign.number ? APFLOAT_DOWNWARD : APFLOAT_UPWARD;
 }
 
-static apfloat_halves integral(uint32_t format, apfloat_halves x, uint_fast8_t mode, bool exact) {
+INLINE uint32_t direction_to_integer(uint32_t format, apfloat_halves x, uint_fast8_t mode) {
+    return mode == softfloat_round_odd ? direction_to_odd_integer(format, x) : direction(mode);
+}
+
+INLINE apfloat_halves integral(uint32_t format, apfloat_halves x, uint_fast8_t mode, bool exact) {
     const uint32_t operation = exact ? APFLOAT_ROUND_TO_INTEGRAL : APFLOAT_INTEGRAL;
     return raised(delivered(operation, format, direction_to_integer(format, x, mode), 0, x, x, x));
 }
 
 /* The value as an integer of `width` bits, in the lowest bits. */
-static uint64_t integer(uint32_t operation, uint32_t format, apfloat_halves x, uint32_t width, uint_fast8_t mode,
+INLINE uint64_t integer(uint32_t operation, uint32_t format, apfloat_halves x, uint32_t width, uint_fast8_t mode,
                         bool exact) {
     apfloat_answer answer = delivered(operation, format, direction_to_integer(format, x, mode), width, x, x, x);
     if (!exact) answer.status &= ~APFLOAT_INEXACT;
     return raised(answer).low;
 }
 
-static bool compared(uint32_t format, uint32_t predicate, uint32_t on_nan, apfloat_halves x, apfloat_halves y) {
+INLINE bool compared(uint32_t format, uint32_t predicate, uint32_t on_nan, apfloat_halves x, apfloat_halves y) {
     apfloat_answer answer = {{0, 0}, 0, 0};
-    apfloat_compare_predicate(format, predicate, on_nan, x, y, &answer);
-    raise_status(answer.status);
-    return answer.number;
+    apfloat_compare(format, x, y, &answer);
+    if (answer.number == APFLOAT_UNORDERED) {
+        apfloat_compare_predicate(format, predicate, on_nan, x, y, &answer);
+        raise_status(answer.status);
+        return answer.number;
+    }
+    switch (predicate) {
+    case APFLOAT_IS_EQUAL: return answer.number == APFLOAT_EQUAL;
+    case APFLOAT_IS_LESS: return answer.number == APFLOAT_LESS;
+    default: return answer.number != APFLOAT_GREATER;
+    }
 }
 
 /* ---- the functions of a format F of type T, and those of its pointers */
@@ -380,6 +463,64 @@ TO_FORMAT(f128, float128_t, f16, float16_t)
 TO_FORMAT(f128, float128_t, f32, float32_t)
 TO_FORMAT(f128, float128_t, f64, float64_t)
 TO_FORMAT(f128, float128_t, extF80, extFloat80_t)
+TO_FORMAT(bf16, bfloat16_t, f32, float32_t)
+TO_FORMAT(f32, float32_t, bf16, bfloat16_t)
+
+/* ---- functions that simulators add */
+
+bool bf16_isSignalingNaN(bfloat16_t a) {
+    return class_of(CODE_bf16, of_bf16(a)) == APFLOAT_SIGNALING_NAN;
+}
+
+#define CLASS(F, T) \
+    uint_fast16_t F##_classify(T a) { \
+        const int32_t code = class_of(CODE_##F, of_##F(a)); \
+        return (uint_fast16_t)1 << (code >= APFLOAT_NEGATIVE_INFINITY ? code - APFLOAT_NEGATIVE_INFINITY \
+                                    : code == APFLOAT_SIGNALING_NAN   ? 8 \
+                                                                      : 9); \
+    }
+CLASS(f16, float16_t)
+CLASS(f32, float32_t)
+CLASS(f64, float64_t)
+CLASS(f128, float128_t)
+
+static apfloat_halves extremum(uint32_t format, uint32_t which, uint64_t default_nan, apfloat_halves x,
+                               apfloat_halves y) {
+    apfloat_answer answer = {{0, 0}, 0, 0};
+    apfloat_extremum(format, which, 1, x, y, &answer);
+    raise_status(answer.status);
+    return is_nan(format, answer.bits) ? of_low(default_nan) : answer.bits;
+}
+
+#define EXTREMA(F, T, DEFAULT) \
+    T F##_min(T a, T b) { \
+        return as_##F(extremum(CODE_##F, APFLOAT_MINIMUM, DEFAULT, of_##F(a), of_##F(b))); \
+    } \
+    T F##_max(T a, T b) { \
+        return as_##F(extremum(CODE_##F, APFLOAT_MAXIMUM, DEFAULT, of_##F(a), of_##F(b))); \
+    }
+EXTREMA(f16, float16_t, defaultNaNF16UI)
+EXTREMA(f32, float32_t, defaultNaNF32UI)
+EXTREMA(f64, float64_t, defaultNaNF64UI)
+
+/* An integer of 8 or 16 bits, from that of 32. Of a number that has the latter alone, the flag is INVALID alone. */
+#define TO_SHORT(F, T, I, RETURNED, WIDE, INTEGER, NAME) \
+    RETURNED F##_to_##I(T a, uint_fast8_t mode, bool exact) { \
+        const uint_fast8_t flags = softfloat_exceptionFlags; \
+        const INTEGER n = (INTEGER)F##_to_##WIDE(a, mode, exact); \
+        if (n >= NAME##_MIN && n <= NAME##_MAX) return (RETURNED)n; \
+        softfloat_exceptionFlags = flags; \
+        softfloat_raiseFlags(softfloat_flag_invalid); \
+        return n < 0 ? I##_fromNegOverflow : I##_fromPosOverflow; \
+    }
+#define UINT8_MIN 0
+#define UINT16_MIN 0
+TO_SHORT(f16, float16_t, ui8, uint_fast8_t, ui32, int64_t, UINT8)
+TO_SHORT(f16, float16_t, ui16, uint_fast16_t, ui32, int64_t, UINT16)
+TO_SHORT(f16, float16_t, i8, int_fast8_t, i32, int32_t, INT8)
+TO_SHORT(f16, float16_t, i16, int_fast16_t, i32, int32_t, INT16)
+TO_SHORT(f32, float32_t, ui16, uint_fast16_t, ui32, int64_t, UINT16)
+TO_SHORT(f32, float32_t, i16, int_fast16_t, i32, int32_t, INT16)
 
 /* ---- by pointers */
 

@@ -297,6 +297,32 @@ bool f128M_le_quiet(const float128_t *a, const float128_t *b);
 bool f128M_lt_quiet(const float128_t *a, const float128_t *b);
 bool f128M_isSignalingNaN(const float128_t *a);
 
+/* ---- functions that simulators add to SoftFloat, and later ones of its own
+ *
+ * A class is that of RISC-V: one of ten bits, for -infinity, negative normal, negative subnormal, -0, +0, positive
+ * subnormal, positive normal, +infinity, signaling NaN and quiet NaN, from the lowest. The minimum and maximum are the
+ * number if one operand is a NaN, and the default NaN if both are; -0 is below +0, and a signaling NaN is invalid. */
+
+uint_fast16_t f16_classify(float16_t a);
+uint_fast16_t f32_classify(float32_t a);
+uint_fast16_t f64_classify(float64_t a);
+uint_fast16_t f128_classify(float128_t a);
+float16_t f16_min(float16_t a, float16_t b);
+float16_t f16_max(float16_t a, float16_t b);
+float32_t f32_min(float32_t a, float32_t b);
+float32_t f32_max(float32_t a, float32_t b);
+float64_t f64_min(float64_t a, float64_t b);
+float64_t f64_max(float64_t a, float64_t b);
+uint_fast8_t f16_to_ui8(float16_t a, uint_fast8_t mode, bool exact);
+uint_fast16_t f16_to_ui16(float16_t a, uint_fast8_t mode, bool exact);
+int_fast8_t f16_to_i8(float16_t a, uint_fast8_t mode, bool exact);
+int_fast16_t f16_to_i16(float16_t a, uint_fast8_t mode, bool exact);
+uint_fast16_t f32_to_ui16(float32_t a, uint_fast8_t mode, bool exact);
+int_fast16_t f32_to_i16(float32_t a, uint_fast8_t mode, bool exact);
+float32_t bf16_to_f32(bfloat16_t a);
+bfloat16_t f32_to_bf16(float32_t a);
+bool bf16_isSignalingNaN(bfloat16_t a);
+
 #ifdef __cplusplus
 }
 #endif

@@ -8,6 +8,11 @@ typedef struct {
     uint16_t v;
 } float16_t;
 
+/* The upper half of a float32_t. */
+typedef struct {
+    uint16_t v;
+} bfloat16_t;
+
 typedef struct {
     uint32_t v;
 } float32_t;

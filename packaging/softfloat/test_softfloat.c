@@ -1,7 +1,9 @@
 /* Calls every function of softfloat.h, and compares each result and the flags with those that arithmetic by hand gives;
  * NaNs and integers of invalid conversions are those of the way that it is built for. Prints how many calls agree, and
  * names each that does not. */
+#include "internals.h"
 #include "softfloat.h"
+#include "specialize.h"
 
 #include <stdio.h>
 
@@ -443,6 +445,76 @@ static void check_precision(void) {
     extF80_roundingPrecision = 80;
 }
 
+/* ---- what simulators add */
+
+#define CHECK_ADDED(F) \
+    do { \
+        const uint64_t sign = F##_values[MINUS_ONE].low - F##_values[ONE].low; \
+        CHECK_NUMBER(F##_classify(F##_of(bits(0, F##_values[INFINITE].low + sign))), 1 << 0, 0); \
+        CHECK_NUMBER(F##_classify(VALUE(F, MINUS_ONE)), 1 << 1, 0); \
+        CHECK_NUMBER(F##_classify(F##_of(bits(0, sign + 1))), 1 << 2, 0); \
+        CHECK_NUMBER(F##_classify(F##_of(bits(0, sign))), 1 << 3, 0); \
+        CHECK_NUMBER(F##_classify(F##_of(bits(0, 0))), 1 << 4, 0); \
+        CHECK_NUMBER(F##_classify(F##_of(bits(0, 1))), 1 << 5, 0); \
+        CHECK_NUMBER(F##_classify(VALUE(F, THREE)), 1 << 6, 0); \
+        CHECK_NUMBER(F##_classify(VALUE(F, INFINITE)), 1 << 7, 0); \
+        CHECK_NUMBER(F##_classify(VALUE(F, SIGNALING)), 1 << 8, 0); \
+        CHECK_NUMBER(F##_classify(VALUE(F, QUIET)), 1 << 9, 0); \
+        CHECK_VALUE(F, F##_min(VALUE(F, ONE), VALUE(F, TWO)), ONE, 0); \
+        CHECK_VALUE(F, F##_max(VALUE(F, ONE), VALUE(F, TWO)), TWO, 0); \
+        CHECK_VALUE(F, F##_max(VALUE(F, QUIET), VALUE(F, TWO)), TWO, 0); \
+        CHECK_VALUE(F, F##_min(VALUE(F, TWO), VALUE(F, SIGNALING)), TWO, INVALID); \
+        CHECK_VALUE(F, F##_min(VALUE(F, QUIET), VALUE(F, QUIET)), DEFAULT, 0); \
+        CHECK_BITS(F, F##_min(F##_of(bits(0, 0)), F##_of(bits(0, sign))), bits(0, sign), 0); \
+        CHECK_BITS(F, F##_max(F##_of(bits(0, 0)), F##_of(bits(0, sign))), bits(0, 0), 0); \
+    } while (0)
+
+static void check_added(void) {
+    const float32_t thirty_thousand = f32_of(bits(0, 0x46ea6000)), forty_thousand = f32_of(bits(0, 0x471c4000));
+    const float16_t two_hundred_and_half = f16_of(bits(0, 0x5a44)), minus_one = VALUE(f16, MINUS_ONE);
+    CHECK_ADDED(f16);
+    CHECK_ADDED(f32);
+    CHECK_ADDED(f64);
+    CHECK_NUMBER(f128_classify(VALUE(f128, MINUS_ONE)), 1 << 1, 0);
+    CHECK_NUMBER(f128_classify(VALUE(f128, SIGNALING)), 1 << 8, 0);
+    CHECK_NUMBER(f16_to_ui8(two_hundred_and_half, softfloat_round_near_even, true), 200, INEXACT);
+    CHECK_NUMBER(f16_to_ui8(two_hundred_and_half, softfloat_round_max, false), 201, 0);
+    CHECK_NUMBER(f16_to_i8(two_hundred_and_half, softfloat_round_min, true), (int8_t)i8_fromPosOverflow, INVALID);
+    CHECK_NUMBER(f16_to_i8(minus_one, softfloat_round_min, true), -1, 0);
+    CHECK_NUMBER(f16_to_i16(VALUE(f16, QUIET), softfloat_round_min, true), (int16_t)i16_fromNaN, INVALID);
+    CHECK_NUMBER(f16_to_ui16(minus_one, softfloat_round_min, true), (uint16_t)ui16_fromNegOverflow, INVALID);
+    CHECK_NUMBER(f32_to_i16(thirty_thousand, softfloat_round_min, true), 30000, 0);
+    CHECK_NUMBER(f32_to_i16(forty_thousand, softfloat_round_min, true), (int16_t)i16_fromPosOverflow, INVALID);
+    CHECK_NUMBER(f32_to_ui16(forty_thousand, softfloat_round_min, true), 40000, 0);
+    CHECK_NUMBER(f32_to_ui16(VALUE(f32, INFINITE), softfloat_round_min, true), UINT16_MAX, INVALID);
+    CHECK_NUMBER(f32_to_bf16(f32_of(bits(0, 0x3f808001))).v, 0x3f81, INEXACT);
+    CHECK_NUMBER(bf16_to_f32(f32_to_bf16(VALUE(f32, THREE))).v, f32_values[THREE].low, 0);
+    CHECK_NUMBER(bf16_isSignalingNaN(f32_to_bf16(VALUE(f32, ONE))), false, 0);
+}
+
+/* What the headers say of bits is what the functions do. */
+static void check_headers(void) {
+    const uint64_t quiet = f64_values[QUIET].low, signaling = f64_values[SIGNALING].low;
+    CHECK_NUMBER(init_detectTininess, TININESS, 0);
+    CHECK_BITS(f16, f16_sqrt(VALUE(f16, MINUS_ONE)), bits(0, defaultNaNF16UI), INVALID);
+    CHECK_BITS(f32, f32_sqrt(VALUE(f32, MINUS_ONE)), bits(0, defaultNaNF32UI), INVALID);
+    CHECK_BITS(f64, f64_sqrt(VALUE(f64, MINUS_ONE)), bits(0, defaultNaNF64UI), INVALID);
+    CHECK_BITS(extF80, extF80_sqrt(VALUE(extF80, MINUS_ONE)), bits(defaultNaNExtF80UI64, defaultNaNExtF80UI0), INVALID);
+    CHECK_BITS(f128, f128_sqrt(VALUE(f128, MINUS_ONE)), bits(defaultNaNF128UI64, defaultNaNF128UI0), INVALID);
+    CHECK_NUMBER((uint32_t)f64_to_ui32(VALUE(f64, QUIET), 0, true), ui32_fromNaN, INVALID);
+    CHECK_NUMBER((uint32_t)f64_to_ui32(VALUE(f64, MINUS_ONE), 0, true), ui32_fromNegOverflow, INVALID);
+    CHECK_NUMBER((uint32_t)f64_to_ui32(VALUE(f64, INFINITE), 0, true), ui32_fromPosOverflow, INVALID);
+    CHECK_NUMBER((int64_t)f64_to_i64(VALUE(f64, QUIET), 0, true), i64_fromNaN, INVALID);
+    CHECK_NUMBER((int64_t)f64_to_i64(VALUE(f64, INFINITE), 0, true), i64_fromPosOverflow, INVALID);
+    CHECK_NUMBER(softfloat_isSigNaNF64UI(quiet) || !softfloat_isSigNaNF64UI(signaling), 0, 0);
+    CHECK_NUMBER(isNaNF64UI(quiet) && isNaNF64UI(signaling) && !isNaNF64UI(f64_values[INFINITE].low), 1, 0);
+    CHECK_NUMBER(isNaNF16UI(f16_values[SIGNALING].low) && !isNaNF16UI(f16_values[INFINITE].low), 1, 0);
+    CHECK_NUMBER(isNaNF32UI(f32_values[SIGNALING].low) && !isNaNF32UI(f32_values[INFINITE].low), 1, 0);
+    CHECK_NUMBER(packToF16UI(1, expF16UI(0x3e00), fracF16UI(0x3e00)), 0xbe00, 0);
+    CHECK_NUMBER(packToF32UI(1, expF32UI(0x3fc00000), fracF32UI(0x3fc00000)), UINT32_C(0xbfc00000), 0);
+    CHECK_NUMBER(packToF64UI(signF64UI(signaling), expF64UI(signaling), fracF64UI(signaling)), signaling, 0);
+}
+
 int main(void) {
     check_tininess();
     check_every_function();
@@ -450,6 +522,8 @@ int main(void) {
     check_modes();
     check_odd();
     check_precision();
+    check_added();
+    check_headers();
     softfloat_raiseFlags(INVALID | INEXACT);
     check("softfloat_raiseFlags", true, INVALID | INEXACT);
     printf("%s: %u calls agree, %u differ\n", WAY, agreeing, differing);

@@ -153,7 +153,7 @@ static size_t width_of(uint32_t of) {
 static void values(void) {
     uint32_t f = format(), m = mode();
     apfloat_halves x = bits(), y = bits(), z = bits();
-    switch (below(40)) {
+    switch (below(50)) {
     case 0: ONE(apfloat_add, f, m, x, y); break;
     case 1: ONE(apfloat_sub, f, m, x, y); break;
     case 2: ONE(apfloat_mul, f, m, x, y); break;
@@ -192,18 +192,50 @@ static void values(void) {
     case 35: ONE(apfloat_scale_b, f, m, x, (int32_t)random_word() >> below(32)); break;
     case 36: ONE(apfloat_integral, f, m, x); break;
     case 37: ONE(apfloat_to_format, code(7), f, m, format(), x, y, z); break;
+    case 38: ONE(apfloat_pair_to_format, f, m, x); break;
+    case 39: ONE(apfloat_pair_from_format, f, m, x); break;
+    case 40: ONE(apfloat_pair_fma, m, x, y, z); break;
+    case 41: ONE(apfloat_digit_count, f, x); break;
+    case 42: ONE(apfloat_payload, code(4), f, x); break;
+    case 43: ONE(apfloat_to_storage, f, m, format(), x); break;
+    case 44: ONE(apfloat_from_storage, format(), m, f, (uint32_t)random_word()); break;
+    case 45: ONE(apfloat_to_storage_by, f, code(8), format(), code(34), (uint32_t)random_word(), x); break;
+    case 46: {
+        apfloat_halves tail = y;
+        const uint32_t operation = code(5);
+        apfloat_answer answer;
+        uint32_t error;
+        ONE(apfloat_augmented, operation, f, x, y, &tail);
+        tail = z;
+        error = apfloat_augmented(operation, f, x, y, &tail, &answer);
+        if (error && memcmp(&tail, &z, sizeof tail)) {
+            fail("a tail");
+        }
+        break;
+    }
+    case 47: {
+        apfloat_facts facts, before;
+        memset(&before, (int)below(256), sizeof before);
+        facts = before;
+        if (apfloat_format_facts(f, &facts) ? memcmp(&facts, &before, sizeof facts) != 0 : facts.bits > 128) {
+            fail("apfloat_format_facts");
+        }
+        break;
+    }
     default: ONE(apfloat_machine, code(10), code(17), f, m, below(2) ? format() : code(130), x, y, z);
     }
 }
+
+#define LENT(it) (it)->first, (it)->length
 
 static void texts(void) {
     static const char letters[] = "0123456789abcdefxXpPeE.+-()infatyINFATYsS \n_,\xff";
     apfloat_text text, before;
     memset(&before, (int)below(256), sizeof before);
     text = before;
-    switch (below(4)) {
+    switch (below(6)) {
     case 0: {
-        uint32_t error = apfloat_shortest(format(), bits(), &text);
+        uint32_t error = below(4) ? apfloat_shortest(format(), bits(), &text) : apfloat_pair_shortest(bits(), &text);
         if (error ? memcmp(&text, &before, sizeof text) != 0 : strlen(text.bytes) != text.length) {
             fail("apfloat_shortest");
         }
@@ -216,6 +248,23 @@ static void texts(void) {
         }
         break;
     }
+    case 2: {
+        /* Digits, and hexadecimal digits: all of the area, or the beginning of it, is written. */
+        area *lent = lend(0, below(8) ? below(60) : below(2000));
+        uint32_t f = format(), error;
+        apfloat_answer answer;
+        remember();
+        switch (below(3)) {
+        case 0: error = apfloat_write_digits(f, mode(), bits(), LENT(lent), &answer); break;
+        case 1: error = apfloat_write_hex(f, bits(), LENT(lent), &answer); break;
+        default: error = apfloat_write_hex_rounded(f, mode(), code(34), bits(), LENT(lent), &answer);
+        }
+        returned("digits", error, lent, NULL, NULL);
+        if (!error && answer.bits.low > lent->length) {
+            fail("more digits than there is room for");
+        }
+        break;
+    }
     default: {
         static const char *starts[] = {"", "", "-", "0x1.8", "0x", "1e", "nan(", "snan0x", "inf", "0.000"};
         area *lent = lend(0, below(40));
@@ -225,17 +274,15 @@ static void texts(void) {
         }
         memcpy(lent->first, start, strlen(start) < lent->length ? strlen(start) : lent->length);
         remember();
-        if (below(2)) {
-            ONE(apfloat_parse, format(), mode(), lent->first, lent->length);
-        } else {
-            ONE(apfloat_parse_decimal, format(), mode(), lent->first, lent->length);
+        switch (below(3)) {
+        case 0: ONE(apfloat_parse, format(), mode(), LENT(lent)); break;
+        case 1: ONE(apfloat_parse_decimal, format(), mode(), LENT(lent)); break;
+        default: ONE(apfloat_read_decimal, format(), mode(), LENT(lent));
         }
         returned("a text", 1, NULL, NULL, NULL);
     }
     }
 }
-
-#define LENT(it) (it)->first, (it)->length
 
 static void arrays(void) {
     size_t count = below(3) ? below(20) : below(600);
@@ -249,7 +296,15 @@ static void arrays(void) {
     uint32_t error;
     memset(&before, (int)below(256), sizeof before);
     answer = before;
-    switch (below(8)) {
+    switch (below(9)) {
+    case 6: {
+        const uint32_t by = code(8);
+        area *randoms = lend(2, by == APFLOAT_RANDOM_DIGITS ? fitting(count, 4) : below(8) ? 0 : below(40));
+        remember();
+        error = apfloat_convert_array_by(from, by, to, code(34), LENT(randoms), LENT(xs), LENT(results), &answer);
+        returned("apfloat_convert_array_by", error, results, NULL, NULL);
+        break;
+    }
     case 0:
         remember();
         error = apfloat_convert_array(from, mode(), to, LENT(xs), LENT(results), &answer);
