@@ -1,9 +1,9 @@
 use Rattle.std.proofs.Common.{◌≡◌, ℕ, ◌-◌, ◌*◌, ◌%◌, ◌^◌, ◌<◌, ◌≤◌, sym, ap, subst, arith, to_z, of_z, w32}
 use Rattle.std.proofs.Math.Nat.{mod-eq_of_lt}
-use Rattle.std.proofs.lemmas.Int.{ints, to_z-of_z}
+use Rattle.std.proofs.lemmas.Int.{to_z-of_z}
 use Rattle.apfloat_model.specs.arithmetic.Exponents.{IsLogarithm}
 use Rattle.apfloat_model.specs.order.Classes.{quanta_of}
-use Rattle.apfloat_model.proofs.arithmetic.Significands.{exponent_fits, significand_logarithm}
+use Rattle.apfloat_model.proofs.arithmetic.Significands.{significand_logarithm}
 use Rattle.apfloat_model.proofs.formats.LawfulRanges.{ranges_of}
 use Rattle.apfloat_model.proofs.order.PositiveValues.{logarithm_within}
 use Rattle.apfloat_ieee.specs.Types.{constants_of, format_of}
