@@ -135,7 +135,7 @@ MISTAKES = {
     ],
     "text-refuses-everything": [
         ("apfloat_conversions", "", "half parse even 0x1.ffep+15\t7c00 OVERFLOW|INEXACT"),
-        ("apfloat_decimals", "-decimal", call("read_decimal", "half", "even", "1", "3c00", "OK", "-")),
+        ("apfloat_conversions", "-decimal", call("read_decimal", "half", "even", "1", "3c00", "OK", "-")),
     ],
     "text-reads-32-digits": [("apfloat_conversions", "", JUST_ABOVE_TIE)],
     "text-one-refusal-for-all": [

@@ -2,6 +2,7 @@ pub mod EightDigits
 pub mod ExactDecimals
 pub mod ExactSignificands
 pub mod FoundDigits
+pub mod Kinds
 pub mod OneRounded
 pub mod RoundedDecimals
 pub mod RoundedOrder

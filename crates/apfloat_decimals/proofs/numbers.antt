@@ -1,5 +1,6 @@
 pub mod Bounded
 pub mod DecimalPowers
+pub mod FreeRatios
 pub mod LeadingNumbers
 pub mod QuantumPlaces
 pub mod Values

@@ -1,26 +1,23 @@
 -- Decimal texts: their grammar, their first fault, and the number that they spell (IEEE 754-2019 5.12.2).
-use Rattle.std.specs.Prelude.{◌≡◌, ◌⊎◌, ℕ, ◌≤◌, ℤ, pos, ◌-ℤ◌, Bool, not, ◌&&◌, ◌||◌, eqb, if◌then◌else◌, IsTrue, List}
+use Rattle.std.specs.Prelude.{◌≡◌, ◌⊎◌, ℕ, ◌≤◌, ℤ, pos, ◌-ℤ◌, Bool, not, if◌then◌else◌, IsTrue, List}
 use Rattle.std.specs.Prelude.{[], ◌∷◌, ◌++◌, length, drop, codes, Option, Some, None, is_some, Result, Ok, Err}
 use Rattle.apfloat_model.specs.declared.kinds.Round.{Round}
 use Rattle.apfloat_model.specs.declared.parse_error.Fault.{Fault}
-use Rattle.apfloat_model.specs.declared.parse_error.Fault.TheVariants.{EmptyText, LoneMark, SecondDot}
-use Rattle.apfloat_model.specs.declared.parse_error.Fault.TheVariants.{WrongInSignificand, NoDigits}
+use Rattle.apfloat_model.specs.declared.parse_error.Fault.TheVariants.{EmptyText, LoneMark}
 use Rattle.apfloat_model.specs.declared.parse_error.ParseError.{ParseError}
 use Rattle.apfloat_model.specs.declared.status.StatusAnd.{StatusAnd}
 use Rattle.apfloat_model.specs.formats.Format.{Format}
 use Rattle.apfloat_model.specs.formats.Datum.{Datum}
 use Rattle.apfloat_model.specs.rounding.Flags.{Gives}
 use Rattle.apfloat_model.specs.texts.Digits.{every, begins, is_empty, run, after_run, is_decimal, number}
-use Rattle.apfloat_model.specs.texts.Faults.{words, is_dot, begins_literal, exponent_fault, after_prefix_fault}
+use Rattle.apfloat_model.specs.texts.Faults.{words, is_dot, begins_literal, after_prefix_fault}
 use Rattle.apfloat_model.specs.texts.Literals.{exponent_number}
 use Rattle.apfloat_model.specs.texts.Readings.{IsReading}
 use Rattle.apfloat_model.specs.texts.Specials.{mark_of, after_mark, is_minus, special_of}
+use Rattle.apfloat_conversions.specs.DecimalTails.{is_e, fault_after}
 use Rattle.apfloat_decimals.specs.Decimals.{IsDecimalDelivery}
 
 -- ---- the grammar
-
-abbrev pub is_e : ℕ → Bool
-is_e c = eqb c 101 || eqb c 69
 
 -- the exponent of a text: nothing, which means 0; or a letter, an optional sign, and digits
 abbrev pub IsWrittenExponent : List ℕ → ℤ → Type 0
@@ -53,18 +50,6 @@ fraction_in rest = if begins is_dot rest then run is_decimal (drop 1 rest) else 
 
 abbrev pub after_fraction : List ℕ → List ℕ
 after_fraction rest = if begins is_dot rest then after_run is_decimal (drop 1 rest) else rest
-
-abbrev pub written_fault : List ℕ → Option Fault
-written_fault [] = None
-written_fault (letter ∷ exponent) = exponent_fault (after_mark exponent)
-
--- the fault in what follows the digits on both sides of a dot; `some` says whether there are any digits
-abbrev pub fault_after : Bool → List ℕ → Option Fault
-fault_after some tail =
-    if begins is_dot tail then Some SecondDot
-    else (if not (is_empty tail) && not (begins is_e tail) then Some WrongInSignificand
-    else (if not some then Some NoDigits
-    else written_fault tail))
 
 -- the digits of a text without a sign, on both sides of the dot
 abbrev pub all_digits : List ℕ → List ℕ

@@ -22,8 +22,9 @@ ghost use Rattle.apfloat_decimals.specs.Shortest.{IsSameNumber};
 ghost use Rattle.apfloat_decimals.specs.Texts.{decimal_text};
 
 use crate::decimal::Decimal;
-use crate::texts::parts::{exponent_in, has_some, split_digits, split_fraction};
+use crate::texts::parts::{has_some, split_digits, split_fraction};
 use apfloat_base::{ExpInt, ParseError};
+use apfloat_conversions::decimal_texts::exponent_in;
 use apfloat_conversions::hex_texts::split_mark;
 use apfloat_model::parse_error::Fault;
 use std::str::FromStr;

@@ -33,7 +33,7 @@ abbrev pub magnitude_terms : Format → List Datum → List Outcome
 magnitude_terms f [] = []
 magnitude_terms f (x ∷ xs) = value_term f (magnitude_of f x) ∷ magnitude_terms f xs
 
--- of lists of the same length
+-- the products of the elements of two lists of the same length
 abbrev pub product_terms : Format → List Datum → List Datum → List Outcome
 product_terms f [] ys = []
 product_terms f (x ∷ xs) [] = []

@@ -7,7 +7,7 @@ use Rattle.std.proofs.lemmas.Bool.{and_parts, eqb-true}
 use Rattle.std.proofs.Math.Nat.{div-add-mod, div-div-eq-div-mul, div-eq_of_lt, div-lt_iff_lt-mul, mod-lt}
 use Rattle.std.proofs.Math.Nat.{mul-div_cancel, mul-lt-mul_of_pos_right, mul-mod_left}
 use Rattle.std.proofs.lemmas.Fmt.{decimal_by_steps_wide, decimal_step_wide}
-use Rattle.std.proofs.lemmas.List.{append_assoc, length-append, replicate_more}
+use Rattle.std.proofs.lemmas.List.{append_assoc, length-append, length-take-le, replicate_more, take_at, take-take}
 use Rattle.std.proofs.lemmas.Nat.{mod-mul-add, pow-add}
 use Rattle.std.specs.Fmt.{decimal}
 use Rattle.apfloat_decimals.specs.Texts.{last_digits, padded}
@@ -221,6 +221,21 @@ moved_last all count n text within =
     ∙ ap (λ (x : List ℕ). last_digits count n ++ x) (sym (last_within more (n * 10 ^ more))
     ∙ ap (λ (k : ℕ). last_digits more k) lower ∙ zeros_last more))
     ∙ sym (append_assoc text (last_digits count n) (replicate more 48))
+
+-- the digits of a number stand before those zeros
+pub moved_taken : (all count n power at : ℕ) (old new : List ℕ) → count ≤ all → at ≤ length old
+    → power ≡ 10 ^ (all - count) → take (at + all) new ≡ take at old ++ last_digits all (n * power)
+    → take (at + count) new ≡ take at old ++ last_digits count n
+moved_taken all count n power at old new most within is taken =
+    let text : List ℕ = take at old ++ last_digits count n in
+    let start : length (take at old) ≡ at = length-take-le at old within in
+    let last = last_length count n in
+    let both = length-append (take at old) (last_digits count n) in
+    let long : length text ≡ at + count = omega (arith, start, last, both) in
+    let written : take (at + all) new ≡ text ++ replicate (all - count) 48 =
+    taken ∙ ap (λ (k : ℕ). take at old ++ last_digits all (n * k)) is ∙ moved_last all count n (take at old) most in
+    sym (take-take (at + count) (at + all) new (omega (arith, most)))
+    ∙ ap (λ (x : List ℕ). take (at + count) x) written ∙ take_at text (replicate (all - count) 48) (at + count) long
 
 -- leading zeros and the digits of a number are its last digits
 pub padded_last : (places n : ℕ) → length (decimal n) ≤ places → n < 2 ^ 128

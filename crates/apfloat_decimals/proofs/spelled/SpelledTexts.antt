@@ -18,8 +18,9 @@ use Rattle.apfloat_model.specs.texts.Specials.{after_mark, special_of}
 use Rattle.apfloat_model.proofs.general.Choices.{left_none}
 use Rattle.apfloat_model.proofs.general.ListLaws.{append-every, split_run, run_passes, some_length}
 use Rattle.apfloat_decimals.specs.Decimals.{IsDecimalDelivery}
-use Rattle.apfloat_decimals.specs.DecimalTexts.{is_e, IsWrittenExponent, IsDecimalText, IsSpelled, fraction_in}
-use Rattle.apfloat_decimals.specs.DecimalTexts.{after_fraction, written_fault, fault_after, body_fault}
+use Rattle.apfloat_conversions.specs.DecimalTails.{is_e, written_fault, fault_after}
+use Rattle.apfloat_decimals.specs.DecimalTexts.{IsWrittenExponent, IsDecimalText, IsSpelled, fraction_in}
+use Rattle.apfloat_decimals.specs.DecimalTexts.{after_fraction, body_fault}
 use Rattle.apfloat_decimals.specs.DecimalTexts.{decimal_fault_of}
 
 -- ---- the parts of a text

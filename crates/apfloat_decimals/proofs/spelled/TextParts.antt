@@ -16,8 +16,9 @@ use Rattle.apfloat_model.specs.texts.Specials.{infinity, mark_of, after_mark, is
 use Rattle.apfloat_model.specs.texts.Specials.{with_payload, payload_of, named_nan, nan_meaning, special_of}
 use Rattle.apfloat_model.specs.texts.Specials.{special_meaning}
 use Rattle.apfloat_model.proofs.general.ListLaws.{every-append, run_through, after_run_through, not_empty}
-use Rattle.apfloat_decimals.specs.DecimalTexts.{is_e, IsWrittenExponent, IsDecimalText, fraction_in, after_fraction}
-use Rattle.apfloat_decimals.specs.DecimalTexts.{written_fault, all_digits, body_fault, decimal_fault_of}
+use Rattle.apfloat_conversions.specs.DecimalTails.{is_e, written_fault}
+use Rattle.apfloat_decimals.specs.DecimalTexts.{IsWrittenExponent, IsDecimalText, fraction_in, after_fraction}
+use Rattle.apfloat_decimals.specs.DecimalTexts.{all_digits, body_fault, decimal_fault_of}
 use Rattle.apfloat_decimals.specs.Parsing.{plain_fault_of}
 
 -- ---- the exponent

@@ -1,17 +1,13 @@
 //! The parts of a decimal text.
 
-ghost use Rattle.std.specs.Prelude.{◌≡◌, ◌%◌, ◌^◌, drop, ◌++◌, not, ◌&&◌, Some, None, MatchResult};
-ghost use Rattle.apfloat_model.specs.rounding.Bounds.{IsWithin};
+ghost use Rattle.std.specs.Prelude.{◌≡◌, ◌%◌, ◌^◌, ◌++◌, not, ◌&&◌};
 ghost use Rattle.apfloat_model.specs.texts.Digits.{run, after_run, is_decimal, is_empty};
 ghost use Rattle.apfloat_model.specs.texts.Faults.{begins_literal};
-ghost use Rattle.apfloat_model.specs.texts.Literals.{exponent_number};
-ghost use Rattle.apfloat_conversions.specs.hex_texts.Saturation.{IsNear, count_bound, far_bound};
-ghost use Rattle.apfloat_decimals.specs.DecimalTexts.{fraction_in, after_fraction, fault_after};
+ghost use Rattle.apfloat_decimals.specs.DecimalTexts.{fraction_in, after_fraction};
 ghost use Rattle.apfloat_decimals.specs.LeadingDigits.{number_from};
 
 use crate::texts::eights::eights;
-use apfloat_conversions::hex_texts::{is_decimal, signed_number};
-use apfloat_model::parse_error::Fault;
+use apfloat_conversions::hex_texts::is_decimal;
 
 /// Whether the text is not empty and does not begin with the prefix of a hexadecimal number.
 pub fn is_plain(body: &[u8]) -> bool
@@ -102,22 +98,5 @@ pub fn split_fraction_number(rest: &[u8], first: u64) -> (&[u8], &[u8], u64)
     match rest {
         [b'.', tail @ ..] => split_long_number(tail, first),
         _ => (&[], rest, first),
-    }
-}
-
-/// The exponent in what follows the digits of a text; `some` says whether there are any digits.
-pub fn exponent_in(tail: &[u8], some: bool) -> Result<i128, Fault>
-    ensures { MatchResult result (λ e. IsNear far_bound (exponent_number (drop 1 tail.now)) e
-        × IsWithin count_bound e
-        × (fault_after some tail.now ≡ None))
-        (λ fault. fault_after some tail.now ≡ Some fault) }
-{
-    match tail {
-        [b'e' | b'E', exponent @ ..] if some => signed_number(exponent),
-        [b'e' | b'E', ..] => Err(Fault::NoDigits),
-        [b'.', ..] => Err(Fault::SecondDot),
-        [_, ..] => Err(Fault::WrongInSignificand),
-        [] if some => Ok(0),
-        [] => Err(Fault::NoDigits),
     }
 }

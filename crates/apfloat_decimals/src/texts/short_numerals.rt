@@ -6,11 +6,12 @@ ghost use Rattle.apfloat_conversions.specs.hex_texts.Saturation.{IsNear, count_b
 ghost use Rattle.apfloat_decimals.specs.DecimalTexts.{IsDecimalText};
 ghost use Rattle.apfloat_decimals.specs.Parsing.{Spells};
 
-use super::parts::{exponent_in, has_some, split_fraction_number, split_number};
+use super::parts::{has_some, split_fraction_number, split_number};
 use super::signs::split_sign;
 use super::unit_of;
 use super::value::{is_of_word, near_exponent};
 use apfloat_base::ExpInt;
+use apfloat_conversions::decimal_texts::exponent_in;
 
 /// Longer texts are not tried.
 const LONGEST: usize = 26;

@@ -7,7 +7,7 @@ use Rattle.std.proofs.lemmas.Nat.{pow-add, pow_pos}
 use Rattle.apfloat_model.specs.arithmetic.Exact.{up, down}
 use Rattle.apfloat_model.specs.formats.Datum.{Datum}
 use Rattle.apfloat_model.specs.formats.Format.{Format}
-use Rattle.apfloat_model.specs.order.Classes.{category_of, is_finite_non_zero_category, quanta_of}
+use Rattle.apfloat_model.specs.order.Classes.{is_finite_non_zero_category, quanta_of}
 use Rattle.apfloat_decimals.specs.ExactDecimals.{IsExactOf}
 use Rattle.apfloat_decimals.proofs.digits.ExactDecimals.{one_exact}
 use Rattle.apfloat_decimals.proofs.shortest_decimals.DecimalPlaces.{ten_pos}

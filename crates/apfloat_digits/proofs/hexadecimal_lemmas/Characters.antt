@@ -9,7 +9,7 @@ use Rattle.std.proofs.lemmas.Int.{ints}
 use Rattle.std.proofs.lemmas.Nat.{pow-add}
 use Rattle.std.specs.Fmt.{decimal, signed_decimal}
 use Rattle.apfloat_model.specs.declared.marks.Mark.TheVariants.{Unmarked}
-use Rattle.apfloat_model.specs.texts.Digits.{every, is_decimal, is_hexadecimal, digit_value, number}
+use Rattle.apfloat_model.specs.texts.Digits.{every, is_decimal, is_hexadecimal, digit_value}
 use Rattle.apfloat_model.specs.texts.Literals.{exponent_number}
 use Rattle.apfloat_model.specs.texts.Specials.{mark_of, after_mark}
 use Rattle.apfloat_model.proofs.general.ListLaws.{append-every}

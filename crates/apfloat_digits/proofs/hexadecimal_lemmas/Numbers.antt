@@ -160,7 +160,7 @@ not_last : (places t fraction : ℕ) → (places ≡ 0) ⊎ (fraction % 16 ≡ 0
 not_last places t fraction (inl z) l = absurd (omega (arith, z, l))
 not_last places t fraction (inr n) l = n
 
--- of as many digits
+-- a value is one number of so many digits with an exponent
 level : (f : Format) (q h k p : ℕ) (e : ℤ) → IsNumberOf f q h p e → IsNumberOf f q k p e → h ≡ k
 level f q h k p e x y =
     let z = last_place f p e in

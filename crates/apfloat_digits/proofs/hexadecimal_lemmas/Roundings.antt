@@ -1,6 +1,6 @@
 -- A value rounded to a number of digits, and that the result is the only one.
 use Rattle.std.proofs.Common.{◌≡◌, ℕ, zero, suc, ◌+◌, ◌-◌, ◌*◌, ◌%◌, ◌^◌, ◌<◌, ◌≤◌, Bool, true, false, cond, eqb}
-use Rattle.std.proofs.Common.{refl, sym, ap, ◌∙◌, subst, ⊎_elim, arith, List, ℤ, pos, negsuc, ◌+ℤ◌, FitsSigned, w32}
+use Rattle.std.proofs.Common.{refl, sym, ap, ◌∙◌, subst, ⊎_elim, arith, List, ℤ, pos, ◌+ℤ◌}
 use Rattle.std.proofs.Math.Nat.{lt_of_mul-lt-mul_right, pow-le-pow_right}
 use Rattle.std.proofs.lemmas.Bool.{MatchBool-at_false, cases_lt, ne_eqb}
 use Rattle.std.proofs.lemmas.Int.{ints}
@@ -15,7 +15,6 @@ use Rattle.apfloat_model.specs.formats.Format.{Format}
 use Rattle.apfloat_model.specs.rounding.Enclosure.{rounds_up}
 use Rattle.apfloat_model.specs.rounding.Standing.{StandsFor}
 use Rattle.apfloat_model.specs.whole_numbers.WholeNumbers.{whole_pick}
-use Rattle.apfloat_model.specs.rounding.Bounds.{IsWithin}
 use Rattle.apfloat_model.proofs.general.Powers.{exponent_between, two_pos}
 use Rattle.apfloat_model.proofs.rounding.Losses.{stands_from, stands_to}
 use Rattle.apfloat_conversions.proofs.Wholes.{whole_at, exact_at}

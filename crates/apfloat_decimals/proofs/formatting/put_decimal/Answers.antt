@@ -1,5 +1,5 @@
-use Rattle.std.proofs.Common.{◌≡◌, arith, to_z, of_z, w32, take, List, ℕ}
-use Rattle.std.proofs.lemmas.Int.{ints, to_z-of_z}
+use Rattle.std.proofs.Common.{◌≡◌, arith, to_z, of_z, w32}
+use Rattle.std.proofs.lemmas.Int.{ints}
 use Rattle.apfloat_decimals.specs.Texts.{decimal_text}
 use Rattle.apfloat_decimals.proofs.spelled.Lines.{text_and_zeros}
 use Rattle.apfloat_decimals.proofs.formatting.put_decimal.Goals as goal

@@ -1,4 +1,4 @@
-use Rattle.std.proofs.Common.{◌≡◌, ap, length, List, ℕ, take, sym, ◌∙◌, arith, to_z, of_z, w32}
+use Rattle.std.proofs.Common.{◌≡◌, length, take, arith, to_z, of_z, w32}
 use Rattle.std.proofs.lemmas.Int.{to_z-of_z}
 use Rattle.std.proofs.lemmas.List.{length-take-le}
 use Rattle.apfloat_decimals.proofs.numbers.Values.{zeros}

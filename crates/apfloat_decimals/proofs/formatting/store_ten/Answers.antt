@@ -1,4 +1,4 @@
-use Rattle.std.proofs.Common.{◌≡◌, ◌+◌, ◌/◌, ◌%◌, ◌++◌, take, List, ℕ, ap, sym, ◌∙◌, arith}
+use Rattle.std.proofs.Common.{◌≡◌, ◌+◌, ◌%◌, ◌++◌, take, List, ℕ, ap, sym, ◌∙◌, arith}
 use Rattle.apfloat_decimals.specs.Texts.{last_digits}
 use Rattle.apfloat_decimals.proofs.spelled.LastDigits.{last_joined}
 use Rattle.apfloat_decimals.proofs.formatting.store_ten.Goals as goal

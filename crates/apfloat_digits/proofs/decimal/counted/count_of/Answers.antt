@@ -1,36 +1,17 @@
-use Rattle.std.proofs.Common.{◌≡◌, ◌-◌, ◌^◌, ◌<◌, arith, w32, to_z, of_z}
+use Rattle.std.proofs.Common.{◌-◌, ◌^◌, ◌<◌, arith, w32}
 use Rattle.std.proofs.lemmas.Int.{ints, to_z-of_z}
 use Rattle.std.proofs.lemmas.Nat.{pow_pos}
 use Rattle.apfloat_model.specs.order.Classes.{quanta_of}
-use Rattle.apfloat_model.proofs.arithmetic.Significands.{exponent_fits, significand_value}
+use Rattle.apfloat_model.proofs.arithmetic.Significands.{significand_value}
 use Rattle.apfloat_ieee.specs.Types.{format_of}
 use Rattle.apfloat_decimals.specs.ExactDecimals.{IsNumberOf}
 use Rattle.apfloat_decimals.proofs.digits.ExactDecimals.{number_of}
+use Rattle.apfloat_digits.proofs.decimal_lemmas.ScaledValues.{number_exponent}
 use Rattle.apfloat_digits.proofs.decimal_lemmas.DigitPlaces.{counted, last_below}
-use Rattle.apfloat_digits.proofs.decimal_lemmas.ScaledValues.{IsLast, last_of, first_within}
+use Rattle.apfloat_digits.proofs.decimal_lemmas.ScaledValues.{last_of, first_within}
 use Rattle.apfloat_digits.proofs.decimal.counted.count_of.Given.{Over}
-use Rattle.apfloat_digits.proofs.decimal.counted.count_of.Goals.{After-number-number, After-first_place}
+use Rattle.apfloat_digits.proofs.decimal.counted.count_of.Goals.{After-first_place}
 use Rattle.apfloat_digits.proofs.decimal.counted.count_of.Goals as goal
-
--- the last binary digit of the value
-last_is : (g : Over) → (state : After-number-number g)
-    → IsLast (format_of g.S.Semantics) (quanta_of state.args.x) state.number-number.result.exponent
-last_is g c =
-    let law = g.S.Semantics.lawful.parameters in
-    let number = c.number-number in
-    last_of (format_of g.S.Semantics) (quanta_of c.args.x) number.result.significand number.result.exponent
-    c.requires.exponents law.precision_low law.precision_high c.requires.positive.some
-    c.requires.positive.member.within number.ensures.fits number.ensures.full number.ensures.number
-
-exact : (g : Over) → (state : After-number-number g)
-    → to_z w32 (of_z w32 state.number-number.result.exponent) ≡ state.number-number.result.exponent
-exact g c =
-    let within = c.number-number.ensures.within in
-    let low = within.low in
-    let high = within.high in
-    to_z-of_z w32 c.number-number.result.exponent
-    (exponent_fits c.number-number.result.exponent
-    (record { low = omega (arith, ints, low); high = omega (arith, ints, high) }))
 
 pub last_place-place-requires-clause-some : goal.last_place-place-requires-clause-some
 last_place-place-requires-clause-some g c =
@@ -40,8 +21,12 @@ last_place-place-requires-clause-some g c =
 
 pub last_place-place-requires-clause-within : goal.last_place-place-requires-clause-within
 last_place-place-requires-clause-within g c =
-    let state = (goal.at.last_place-place-requires-clause-within g c).After-number-number in
-    rw (exact g state) (last_is g state).within
+    let law = g.S.Semantics.lawful.parameters in
+    let number = c.number-number in
+    rw (number_exponent number.result.exponent number.ensures.within)
+    (last_of (format_of g.S.Semantics) (quanta_of c.args.x) number.result.significand number.result.exponent
+    c.requires.exponents law.precision_low law.precision_high c.requires.positive.some
+    c.requires.positive.member.within number.ensures.fits number.ensures.full number.ensures.number).within
 
 pub count_between-requires-clause-first : goal.count_between-requires-clause-first
 count_between-requires-clause-first g c =
@@ -58,12 +43,7 @@ number_is : (g : Over) → (state : After-first_place g)
 number_is g c =
     let f = format_of g.S.Semantics in
     let number = c.number-number in
-    let within = number.ensures.within in
-    let low = within.low in
-    let high = within.high in
-    let last = to_z-of_z w32 number.result.exponent
-    (exponent_fits number.result.exponent
-    (record { low = omega (arith, ints, low); high = omega (arith, ints, high) })) in
+    let last = number_exponent number.result.exponent number.ensures.within in
     number_of f (quanta_of c.args.x) number.result.significand c.last_place-place.ensures.digits.0
     number.result.exponent c.last_place-place.result
     (significand_value f (quanta_of c.args.x) number.result.significand number.result.exponent number.ensures.number)

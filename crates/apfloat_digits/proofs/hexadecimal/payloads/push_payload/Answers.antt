@@ -1,5 +1,5 @@
 use Rattle.std.proofs.Common.{◌+◌, ◌-◌, ◌/◌, ℕ, List, [], ◌∷◌, ◌++◌, ap, ◌∙◌, arith, codes, refl}
-use Rattle.std.proofs.Common.{◌≡◌, length, length-append}
+use Rattle.std.proofs.Common.{◌≡◌, length-append}
 use Rattle.apfloat_digits.specs.hexadecimal.HexTexts.{digits_text}
 use Rattle.apfloat_digits.proofs.hexadecimal_lemmas.Characters.{digits_length}
 use Rattle.apfloat_digits.proofs.hexadecimal_lemmas.NanPayloads.{count_some, payload_of_some, prefixed}

@@ -1,12 +1,13 @@
 use Rattle.std.proofs.Common.{◌≡◌, ℕ, ◌-◌, ◌*◌, ◌%◌, ◌^◌, ◌<◌, ◌≤◌, sym, ap, subst, arith, to_z, of_z, w32}
 use Rattle.std.proofs.Math.Nat.{mod-eq_of_lt}
-use Rattle.std.proofs.lemmas.Int.{ints, to_z-of_z}
+use Rattle.std.proofs.lemmas.Int.{to_z-of_z}
 use Rattle.apfloat_model.specs.arithmetic.Exponents.{IsLogarithm}
 use Rattle.apfloat_model.specs.order.Classes.{quanta_of}
-use Rattle.apfloat_model.proofs.arithmetic.Significands.{exponent_fits, significand_logarithm}
+use Rattle.apfloat_model.proofs.arithmetic.Significands.{significand_logarithm}
 use Rattle.apfloat_model.proofs.formats.LawfulRanges.{ranges_of}
 use Rattle.apfloat_model.proofs.order.PositiveValues.{logarithm_within}
 use Rattle.apfloat_ieee.specs.Types.{constants_of, format_of}
+use Rattle.apfloat_digits.proofs.decimal_lemmas.ScaledValues.{number_exponent}
 use Rattle.apfloat_digits.specs.hexadecimal.HexTexts.{IsNumberOf}
 use Rattle.apfloat_digits.proofs.hexadecimal_lemmas.AlignedDigits.{IsWide, widened}
 use Rattle.apfloat_digits.proofs.hexadecimal.significands.digits_of.Given.{Over}
@@ -25,13 +26,7 @@ first_is g c =
     let f = format_of g.S.Semantics in
     let law = g.S.Semantics.lawful.parameters in
     let number = c.number-number in
-    let within = number.ensures.within in
-    let low = within.low in
-    let high = within.high in
-    let exact : to_z w32 (of_z w32 number.result.exponent) ≡ number.result.exponent =
-    to_z-of_z w32 number.result.exponent
-    (exponent_fits number.result.exponent
-    (record { low = omega (arith, ints, low); high = omega (arith, ints, high) })) in
+    let exact = number_exponent number.result.exponent number.ensures.within in
     let digits = c.PRECISION-precision.ensures in
     let place = rw (exact, digits) at c.exponent_above.ensures.place in
     record {
