@@ -133,14 +133,14 @@ impl FillsInFormat for TwoWordsOnMachine {
 
     #[inline(always)]
     fn fill_in_format<S: Flagged>(self, answer: &mut Answer) -> u32 {
-        let TwoWordsOnMachine {
-            machine,
-            round,
-            arithmetic,
-            x,
-            y,
-        } = self;
-        two_of_words::<S>(answer, machine, round, arithmetic, x, y)
+        two_of_words::<S>(
+            answer,
+            self.machine,
+            self.round,
+            self.arithmetic,
+            self.x,
+            self.y,
+        )
     }
 }
 
@@ -164,14 +164,14 @@ impl FillsInFormat for TwoOnMachine {
 
     #[inline(always)]
     fn fill_in_format<S: Flagged>(self, answer: &mut Answer) -> u32 {
-        let TwoOnMachine {
-            machine,
-            round,
-            arithmetic,
-            x,
-            y,
-        } = self;
-        two_of_values::<S>(answer, machine, round, arithmetic, x, y)
+        two_of_values::<S>(
+            answer,
+            self.machine,
+            self.round,
+            self.arithmetic,
+            self.x,
+            self.y,
+        )
     }
 }
 
@@ -195,14 +195,7 @@ impl FillsInFormat for FusedWordsOnMachine {
 
     #[inline(always)]
     fn fill_in_format<S: Flagged>(self, answer: &mut Answer) -> u32 {
-        let FusedWordsOnMachine {
-            machine,
-            round,
-            x,
-            y,
-            z,
-        } = self;
-        fused_sum_of_words::<S>(answer, machine, round, x, y, z)
+        fused_sum_of_words::<S>(answer, self.machine, self.round, self.x, self.y, self.z)
     }
 }
 
@@ -226,14 +219,7 @@ impl FillsInFormat for FusedOnMachine {
 
     #[inline(always)]
     fn fill_in_format<S: Flagged>(self, answer: &mut Answer) -> u32 {
-        let FusedOnMachine {
-            machine,
-            round,
-            x,
-            y,
-            z,
-        } = self;
-        fused_sum_of_values::<S>(answer, machine, round, x, y, z)
+        fused_sum_of_values::<S>(answer, self.machine, self.round, self.x, self.y, self.z)
     }
 }
 
@@ -1465,13 +1451,7 @@ impl FillsInFormat for ConversionToCode {
 
     #[inline(always)]
     fn fill_in_format<S: Flagged>(self, answer: &mut Answer) -> Option<u32> {
-        let ConversionToCode {
-            to,
-            machine,
-            round,
-            x,
-        } = self;
-        converted_to_code::<S>(answer, machine, round, x, to)
+        converted_to_code::<S>(answer, self.machine, self.round, self.x, self.to)
     }
 }
 
@@ -1570,23 +1550,13 @@ impl FillsInFormat for ConversionTo {
 
     #[inline(always)]
     fn fill_in_format<S: Flagged>(self, answer: &mut Answer) -> u32 {
-        let ConversionTo {
-            target,
-            machine,
-            round,
-            x,
-        } = self;
-        let source = PhantomData;
-        target.fill(
-            machine,
-            ConversionOf::<S> {
-                source,
-                machine,
-                round,
-                x,
-            },
-            answer,
-        )
+        let call = ConversionOf::<S> {
+            source: PhantomData,
+            machine: self.machine,
+            round: self.round,
+            x: self.x,
+        };
+        self.target.fill(self.machine, call, answer)
     }
 }
 
