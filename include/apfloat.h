@@ -520,8 +520,8 @@ uint32_t apfloat_convert_array(uint32_t format, uint32_t mode, uint32_t to, cons
 
 /* The same with memory lent to the call: with at least APFLOAT_TABLE_BYTES of it, at least 2^17 values of 16 bits are
  * converted to a format of at most 32 by computing the results for all values once, there, and taking each value's
- * result from these. Without, or for other arrays, it is apfloat_convert_array. What the memory contains after an
- * answer is not said; an error leaves it unchanged. */
+ * result from these. Without, or for other arrays, it is apfloat_convert_array. The contents of the memory are
+ * unspecified after an answer; an error leaves it unchanged. */
 #define APFLOAT_TABLE_BYTES ((size_t)1 << 19)
 uint32_t apfloat_convert_array_by_table(uint32_t format, uint32_t mode, uint32_t to, const uint8_t *values,
                                         size_t values_length, uint8_t *results, size_t results_length,

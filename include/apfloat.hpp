@@ -2814,7 +2814,7 @@ expected<array_counts> convert_array(const stored<From> *values, std::size_t cou
 
 /// The same for values of 16 bits, with memory lent to the call: with at least APFLOAT_TABLE_BYTES of it, the results
 /// of long arrays in a format of at most 32 bits are taken from a table of all results, which the call makes there. No
-/// pointer is null, `table` overlaps nothing else, and what it contains afterwards is not said.
+/// pointer is null, `table` overlaps nothing else, and its contents are unspecified afterwards.
 template <class To, class From>
 expected<array_counts> convert_array_by_table(const value<From> *values, std::size_t count, value<To> *results,
                                               unsigned char *table, std::size_t table_length,
@@ -2855,7 +2855,7 @@ expected<array_counts> map_array(array_operation operation, std::size_t count, v
 
 /// The same for two arrays of values of 8 bits, with memory lent to the call: with at least APFLOAT_TABLE_BYTES of it,
 /// the results of long arrays are taken from a table of all results, which the call makes there. `table` is not null,
-/// overlaps nothing else, and what it contains afterwards is not said.
+/// overlaps nothing else, and its contents are unspecified afterwards.
 template <class F>
 expected<array_counts> map_array_by_table(array_operation operation, std::size_t count, value<F> *results,
                                           rounding mode, const typename detail::not_deduced<value<F>>::type *xs,

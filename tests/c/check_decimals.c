@@ -13,15 +13,13 @@
  *   cc -std=c99 -Wall -Wextra -O2 -Iinclude tests/c/check_decimals.c crates/apfloat_c/out/libapfloat_c.a -o check
  *   ./check < tests/c/decimals */
 #include "apfloat.h"
-#include "rows.h"
+#include "row_kinds.h"
 #include "short_forms.h"
 
 #include <stdbool.h>
 #include <stdio.h>
 #include <stdlib.h>
 #include <string.h>
-
-enum { COLUMNS = 6, LINE = 1 << 14 };
 
 /* Memory that no call left as it is. */
 static apfloat_text text_before(void) {
@@ -144,35 +142,11 @@ static unsigned refusals(void) {
 }
 
 /* The kinds of rows. */
-static struct {
-    const char *name;
-    size_t columns;
-    bool (*agrees)(char *columns[]);
-    unsigned count;
-} kinds[] = {{"read", 6, is_read, 0},
-             {"shortest", 4, is_shortest, 0},
-             {"each", 5, is_each, 0},
-             {"ties", 6, is_ties, 0}};
-
-/* Counts a row, if it agrees. */
-static bool is_counted(char *columns[], size_t count) {
-    for (size_t i = 0; i < COUNT(kinds); i++)
-        if (strcmp(columns[0], kinds[i].name) == 0 && count == kinds[i].columns && kinds[i].agrees(columns)) {
-            kinds[i].count++;
-            return true;
-        }
-    return false;
-}
+static struct row_kind kinds[] = {
+    {"read", 6, is_read, 0}, {"shortest", 4, is_shortest, 0}, {"each", 5, is_each, 0}, {"ties", 6, is_ties, 0}};
 
 int main(void) {
-    static char line[LINE], copy[LINE];
-    while (fgets(line, sizeof line, stdin)) {
-        line[strcspn(line, "\n")] = '\0';
-        strcpy(copy, line);
-        char *columns[COLUMNS];
-        if (!is_counted(columns, split(copy, columns, COLUMNS))) printf("differs: %s\n", line);
-    }
-    for (size_t i = 0; i < COUNT(kinds); i++) printf("%s: %u rows agree\n", kinds[i].name, kinds[i].count);
+    count_rows(kinds, COUNT(kinds), NULL);
     printf("%u errors agree\n", refusals());
     return 0;
 }

@@ -26,14 +26,14 @@
  *   cc -std=c99 -Wall -Wextra -O2 -Iinclude tests/c/check_texts.c crates/apfloat_c/out/libapfloat_c.a -o check
  *   cat tests/c/texts tests/rows/pair_operations.tsv tests/rows/augmented.tsv | ./check */
 #include "apfloat.h"
-#include "rows.h"
+#include "row_kinds.h"
 
 #include <stdbool.h>
 #include <stdio.h>
 #include <stdlib.h>
 #include <string.h>
 
-enum { COLUMNS = 13, LINE = 1 << 12, ROOM = 1 << 10 };
+enum { ROOM = 1 << 10 };
 
 /* Bytes that no call left as they are. */
 static uint8_t room[ROOM];
@@ -275,40 +275,19 @@ static unsigned refusals(void) {
 }
 
 /* The kinds of rows. */
-static struct {
-    const char *name;
-    size_t columns;
-    bool (*agrees)(char *columns[]);
-    unsigned count;
-} kinds[] = {{"facts", 13, are_facts, 0}, {"read", 6, is_read, 0}, {"count", 4, is_count, 0},
-             {"digits", 8, are_digits, 0}, {"hex", 4, is_hex, 0},  {"hex_rounded", 7, is_hex_rounded, 0},
-             {"convert_r", 7, is_converted, 0}, {"mul_add_r", 7, is_fused_sum, 0},
-             {"shortest", 7, is_shortest, 0}, {"read_decimal", 7, is_pair_read, 0},
-             {"augmented_add", 7, is_sum, 0}, {"augmented_subtract", 7, is_difference, 0},
-             {"augmented_multiply", 7, is_product, 0}, {"get_payload", 7, is_got, 0},
-             {"set_payload", 7, is_set, 0}, {"set_payload_signaling", 7, is_set_signaling, 0}};
+static struct row_kind kinds[] = {
+    {"facts", 13, are_facts, 0}, {"read", 6, is_read, 0}, {"count", 4, is_count, 0}, {"digits", 8, are_digits, 0},
+    {"hex", 4, is_hex, 0}, {"hex_rounded", 7, is_hex_rounded, 0}, {"convert_r", 7, is_converted, 0},
+    {"mul_add_r", 7, is_fused_sum, 0}, {"shortest", 7, is_shortest, 0}, {"read_decimal", 7, is_pair_read, 0},
+    {"augmented_add", 7, is_sum, 0}, {"augmented_subtract", 7, is_difference, 0},
+    {"augmented_multiply", 7, is_product, 0}, {"get_payload", 7, is_got, 0}, {"set_payload", 7, is_set, 0},
+    {"set_payload_signaling", 7, is_set_signaling, 0}};
 
-/* Counts a row, if it agrees. */
-static bool agrees(char *columns[], size_t count) {
-    memset(room, '#', ROOM);
-    for (size_t i = 0; i < COUNT(kinds); i++)
-        if (strcmp(columns[0], kinds[i].name) == 0 && count == kinds[i].columns && kinds[i].agrees(columns)) {
-            kinds[i].count++;
-            return true;
-        }
-    return false;
-}
+/* What the room contains before each row. */
+static void fill_room(void) { memset(room, '#', ROOM); }
 
 int main(void) {
-    static char line[LINE], copy[LINE];
-    while (fgets(line, sizeof line, stdin)) {
-        line[strcspn(line, "\n")] = '\0';
-        if (*line == '#') continue;
-        strcpy(copy, line);
-        char *columns[COLUMNS];
-        if (!agrees(columns, split(copy, columns, COLUMNS))) printf("differs: %s\n", line);
-    }
-    for (size_t i = 0; i < COUNT(kinds); i++) printf("%s: %u rows agree\n", kinds[i].name, kinds[i].count);
+    count_rows(kinds, COUNT(kinds), fill_room);
     printf("%u errors agree\n", refusals());
     return 0;
 }

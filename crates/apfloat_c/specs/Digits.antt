@@ -26,7 +26,8 @@ pub record KnownWriting : Type 0 where
   pub format : BuiltInFormat
   pub mode : Round
 
--- The faults in their order: the format, the mode, and pairs of doubles.
+-- The format and the mode of a call that writes digits, or its first fault: an unknown format, an unknown mode, or
+-- pairs of doubles, which have no such call.
 abbrev pub known_writing : Option FlaggedKind → Option Round → Result KnownWriting ℕ
 known_writing format mode =
     ok_or format unknown_format >>= λ known. ok_or mode unknown_mode >>= λ rounding.

@@ -171,7 +171,7 @@ fn conversion_between(
     }))
 }
 
-/// The conversion that these codes ask for, of arrays of these lengths.
+/// The conversion that these codes ask for, of arrays of these lengths, or the code of the first error.
 pub fn known_array_conversion(
     source: Option<ArrayFormat>,
     mode: Option<ConversionMode>,
@@ -249,7 +249,7 @@ fn convert_stored(array: StorageArray, count: usize, input: &[u8], output: &mut 
     array.convert(count, input, output)
 }
 
-/// The operation that these codes ask for, on arrays of these lengths.
+/// The operation that these codes ask for, on arrays of these lengths, or the code of the first error.
 pub fn known_map(
     kind: Option<FlaggedKind>,
     mode: Option<Round>,

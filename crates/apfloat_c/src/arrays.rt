@@ -36,9 +36,9 @@ pub extern "C" fn apfloat_convert_array(
     )
 }
 
-/// The same with memory lent for a table of all results, by which a long array of values of 16 bits is converted to a
-/// format of at most 32 if there are 2^19 bytes. What the memory contains after an answer is not said; an error leaves
-/// it as it was.
+/// `apfloat_convert_array` with memory lent for a table of all results. If it has 2^19 bytes, a long array of values of
+/// 16 bits is converted to a format of at most 32 by look-ups there. The contents of the memory are unspecified after
+/// an answer; an error leaves it as it was.
 #[unsafe(no_mangle)]
 pub extern "C" fn apfloat_convert_array_by_table(
     format: u32,

@@ -1,5 +1,5 @@
-//! The exports that quantize arrays to blocks with a common scale, take arrays out of them, and pack their codes,
-//! declared for C programs in `include/apfloat.h`.
+//! The exports that quantize arrays to blocks with a common scale, dequantize them, and pack their codes, declared for
+//! C programs in `include/apfloat.h`.
 
 ghost use Rattle.std.specs.Prelude.{◌≡◌};
 ghost use Rattle.formats_at_run_time.specs.FlaggedKinds.{flagged_kind_coded};
@@ -55,7 +55,7 @@ fn packing_error(error: PackingError) -> u32
     }
 }
 
-/// What quantizes as these codes ask.
+/// The quantization that these codes ask for, or the code of the first error.
 fn known_quantization(
     kind: Option<FlaggedKind>,
     mode: Option<Round>,
@@ -84,7 +84,7 @@ fn known_quantization(
     }
 }
 
-/// What takes values out of blocks as these codes ask.
+/// The dequantization that these codes ask for, or the code of the first error.
 fn known_dequantization(
     element: Option<ElementFormat>,
     mode: Option<Round>,
@@ -151,7 +151,8 @@ pub extern "C" fn apfloat_quantize_blocks(
     }
 }
 
-/// Takes an array out of blocks.
+/// Dequantizes: writes the product of each element and the scale of its block in the format `to`, rounded once. A block
+/// has `length` elements.
 #[unsafe(no_mangle)]
 pub extern "C" fn apfloat_dequantize_blocks(
     element: u32,
@@ -208,7 +209,7 @@ pub extern "C" fn apfloat_pack_codes(element: u32, codes: &[u8], bytes: &mut [u8
     }
 }
 
-/// Takes codes out of bytes.
+/// Unpacks codes of 4 or 6 bits from bytes.
 #[unsafe(no_mangle)]
 pub extern "C" fn apfloat_unpack_codes(element: u32, bytes: &[u8], codes: &mut [u8]) -> u32
     ensures { IsUnpackedCall (element_coded element) bytes.now codes.old codes.new result }

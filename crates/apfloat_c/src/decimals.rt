@@ -123,7 +123,8 @@ impl FillsInFormat for DecimalReading<'_> {
     }
 }
 
-/// Reads a text in a format. The result is written in place: a copy right after it was written would wait for it.
+/// Reads a text in a format. The answer is written where the caller wants it: to copy it just after its parts were
+/// written would stall the processor until they are stored.
 #[inline(never)]
 fn read_in_format<S: Flagged>(answer: &mut Answer, round: Round, text: &[u8]) -> u32
     requires { S.PRECISION < S.BITS }
@@ -211,7 +212,8 @@ fn shortest_of<S: Semantics>(x: IeeeFloat<S>) -> Shortest
     }
 }
 
-/// Writes a text, that of a number in place: a copy right after it was written would wait for its bytes.
+/// Writes a text; that of a number is written where the caller wants it: to copy it just after its bytes were written
+/// would stall the processor until they are stored.
 pub(crate) fn write(found: Shortest, text: &mut DecimalText)
     ensures { IsText (text_of_shortest found) text.new }
 {

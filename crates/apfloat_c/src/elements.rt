@@ -182,7 +182,7 @@ pub fn element<C: ElementCalls>(calls: C, x: u128, y: u128, z: u128, bytes: &mut
     }
 }
 
-/// The same out of line.
+/// `element` out of line.
 #[inline(never)]
 pub fn element_apart<C: ElementCalls>(
     calls: C,
@@ -231,7 +231,7 @@ fn elements<C: ElementCalls>(
     counted
 }
 
-/// The same out of line, for widths that are not the fewest bytes that the bits take.
+/// `elements` out of line, for values with padding: of more bytes than their bits take.
 #[inline(never)]
 pub fn elements_apart<C: ElementCalls>(
     calls: C,
@@ -283,7 +283,7 @@ fn elements_by_calls<S: Flagged>(
     }
 }
 
-/// The same in the format `S`, where sums, differences and products have loops of their own.
+/// Applies the operation to each element in the format `S`, where sums, differences and products have their own loops.
 #[inline(always)]
 fn elements_in_format<S: Flagged>(
     calls: FormatCalls<S>,

@@ -42,9 +42,9 @@ pub extern "C" fn apfloat_map_array(
     )
 }
 
-/// The same with memory lent for a table of all results, by which a long array of sums, differences, products,
-/// quotients or remainders of values of 8 bits is made if there are 2^19 bytes. What the memory contains after an
-/// answer is not said; an error leaves it as it was.
+/// `apfloat_map_array` with memory lent for a table of all results. If it has 2^19 bytes, a long array of sums,
+/// differences, products, quotients or remainders of values of 8 bits is looked up there. The contents of the memory
+/// are unspecified after an answer; an error leaves it as it was.
 #[unsafe(no_mangle)]
 pub extern "C" fn apfloat_map_array_by_table(
     format: u32,

@@ -115,8 +115,8 @@ fn normal_elements_of<S: Flagged, O: NormalOperation>(
     counted
 }
 
-/// The same out of line. The fewest bytes are a constant of the format, so that the loop knows how many it reads, and
-/// of arrays of one length the place needs to be tested only once.
+/// `normal_elements_of` out of line. The fewest bytes are a constant of the format, so that the loop knows how many it
+/// reads, and with arrays of one length one test of the place serves all.
 #[inline(never)]
 pub fn normal_elements<S: Flagged, O: NormalOperation>(
     operation: O,

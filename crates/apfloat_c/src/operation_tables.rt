@@ -27,8 +27,8 @@ const TABLE: usize = PLACES * ENTRY;
 const LEAST_COUNT: usize = 2 * PLACES;
 
 impl MapCall {
-    /// Applies the operation to each element, by a table if it serves. The arrays of operands that it does not take are
-    /// empty.
+    /// Applies the operation to each element, by a table if `has_table`. The arrays of operands that the operation does
+    /// not take are empty.
     pub fn over_with(
         self,
         xs: &[u8],
@@ -158,7 +158,8 @@ fn fill<C: ElementCalls>(calls: C, table: &mut [u8])
     }
 }
 
-/// Fills the entry of a place, and returns what its result counts as.
+/// Fills the entry of a place: 256 times the bits of the first operand, plus those of the second. Returns the flags of
+/// the result and whether it is a NaN, which the contract names.
 fn fill_entry<C: ElementCalls>(calls: C, place: usize, entry: &mut [u8]) -> Element
     requires can { C.can calls }
     requires byte { bytes_in (C.map calls).kind ≡ 1 }

@@ -39,7 +39,7 @@ fn each_round_coded(mode: u32, digits: u32) -> Result<EachRound, u32>
     }
 }
 
-/// The conversion that these codes ask for.
+/// The conversion that these codes ask for, or the code of the first error.
 fn known_by_mode(
     source: Option<FlaggedKind>,
     mode: u32,

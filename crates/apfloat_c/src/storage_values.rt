@@ -27,7 +27,7 @@ fn between(ends: Ends, mode: ConversionMode) -> StorageArray
     }
 }
 
-/// The conversion into a storage format that these codes ask for.
+/// The conversion into a storage format that these codes ask for, or the code of the first error.
 fn known_storing(
     source: Option<FlaggedKind>,
     mode: Option<ConversionMode>,
@@ -50,7 +50,7 @@ fn known_storing(
     }
 }
 
-/// The conversion out of a storage format that these codes ask for.
+/// The conversion from a storage format that these codes ask for, or the code of the first error.
 fn known_loading(
     source: Option<StoredFormat>,
     mode: Option<ConversionMode>,

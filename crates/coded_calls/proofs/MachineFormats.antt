@@ -7,35 +7,27 @@ use Rattle.formats_at_run_time.specs.declared.FlaggedFormat.{FlaggedFormat}
 use Rattle.formats_at_run_time.specs.declared.FlaggedFormat.TheVariants.{AfterRounding, BeforeRounding}
 use Rattle.formats_at_run_time.specs.declared.IeeeFormat.{IeeeFormat}
 use Rattle.formats_at_run_time.specs.declared.IeeeFormat.TheVariants.{Half, Single, Double, Quad, BFloat, E5M2, X87}
-use Rattle.formats_at_run_time.specs.FlaggedKinds.{flagged_constants}
+use Rattle.formats_at_run_time.specs.BuiltIns.{constants_in}
+use Rattle.formats_at_run_time.specs.FlaggedKinds.{flagged_constants, format_of_ieee}
 use Rattle.coded_calls.specs.declared.machine_call.MachineFormat.{MachineFormat}
 use Rattle.coded_calls.specs.MachineCalls.{format_on, is_tiny_before, width_of}
 
 abbrev HasInfinities : FlaggedFormat → Type 0
 HasInfinities format = (format_with (flagged_constants format)).nonfinite ≡ IEEE754
 
-after_has_infinities : (format : IeeeFormat) → HasInfinities (AfterRounding format)
-after_has_infinities Half = refl
-after_has_infinities Single = refl
-after_has_infinities Double = refl
-after_has_infinities Quad = refl
-after_has_infinities BFloat = refl
-after_has_infinities E5M2 = refl
-after_has_infinities X87 = refl
-
-before_has_infinities : (format : IeeeFormat) → HasInfinities (BeforeRounding format)
-before_has_infinities Half = refl
-before_has_infinities Single = refl
-before_has_infinities Double = refl
-before_has_infinities Quad = refl
-before_has_infinities BFloat = refl
-before_has_infinities E5M2 = refl
-before_has_infinities X87 = refl
+has_infinities : (format : IeeeFormat) → (format_with (constants_in (format_of_ieee format))).nonfinite ≡ IEEE754
+has_infinities Half = refl
+has_infinities Single = refl
+has_infinities Double = refl
+has_infinities Quad = refl
+has_infinities BFloat = refl
+has_infinities E5M2 = refl
+has_infinities X87 = refl
 
 either_has_infinities : (tiny_before : Bool) (format : IeeeFormat)
     → HasInfinities (if tiny_before then BeforeRounding format else AfterRounding format)
-either_has_infinities true format = before_has_infinities format
-either_has_infinities false format = after_has_infinities format
+either_has_infinities true format = has_infinities format
+either_has_infinities false format = has_infinities format
 
 -- the format of a code on a machine has infinities
 pub has_infinities_on : (machine : Machine) (m : MachineFormat) → HasInfinities (format_on machine m)

@@ -86,7 +86,7 @@ pub record IsValueWritten {A : Type 0} (of_type : Relations A) (given : StatusAn
   pub status_is : answer.status ≡ bits_of given.status
   pub number_is : answer.number ≡ number
 
--- a value with its flags, and no number
+-- a value with its flags; the field `number` is 0
 pub record IsValue {A : Type 0} (of_type : Relations A) (Holds : StatusAnd A → Type 0)
     (answer : Answer) : Type 0 where
   pub given : StatusAnd A

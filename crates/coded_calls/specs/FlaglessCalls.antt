@@ -28,7 +28,7 @@ is_set word = not (word == 0)
 abbrev pub signed : {A : Type 0} → (A → A) → Bool → A → A
 signed opposite negative x = if negative then opposite x else x
 
--- the bits of a value, with no flag and no number
+-- the bits of a value; the flags and the field `number` are 0
 pub record IsFlagless {A : Type 0} (meaning : Meaning A) (value : A) (answer : Answer) : Type 0 where
   pub is_encoded : meaning.writes_bits value (whole answer.bits)
   pub status_is : answer.status ≡ 0

@@ -282,7 +282,7 @@ IsMachineOfTwo f machine Quotient mode x y given = Gives (IsMachineQuotient f ma
 IsMachineOfTwo f machine NearestRemainder mode x y given = Gives (IsMachineNearestRemainder f machine x y) given
 IsMachineOfTwo f machine TruncatedRemainder mode x y given = Gives (IsMachineTruncatedRemainder f machine x y) given
 
--- an integer as its word, with its flags and no number
+-- an integer as its word, with its flags; the field `number` is 0
 pub record IsInteger {A : Type 0} (word : A → ℕ) (Holds : StatusAnd A → Type 0) (answer : Answer) : Type 0 where
   pub given : StatusAnd A
   pub holds : Holds given

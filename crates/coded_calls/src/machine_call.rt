@@ -8,8 +8,8 @@ ghost use Rattle.formats_at_run_time.specs.ValueKinds.{of_format};
 ghost use Rattle.coded_calls.specs.Answers.{whole};
 ghost use Rattle.coded_calls.specs.declared.machine_call.MachineCall.TheVariants.{Operation};
 ghost use Rattle.coded_calls.specs.declared.machine_call.MachineOperation.TheVariants.{OfTwo};
-ghost use Rattle.coded_calls.specs.MachineCalls.{conversion_call, format_on, greatest_by, is_tiny_before, least_by};
-ghost use Rattle.coded_calls.specs.MachineCalls.{machine_call, machine_coded, machine_format, machine_operation};
+ghost use Rattle.coded_calls.specs.MachineCalls.{conversion_call, format_on, is_tiny_before, machine_call};
+ghost use Rattle.coded_calls.specs.MachineCalls.{machine_coded, machine_format, machine_operation};
 ghost use Rattle.coded_calls.specs.MachineCalls.{of_one, operation_call, rule_coded};
 
 use crate::codes::{NO_SUCH_OPERATION, UNKNOWN_FORMAT};
@@ -220,8 +220,8 @@ fn machine_operation(code: u32, to: u32, x: u128, y: u128, z: u128) -> Option<Ma
         10 => Some(MachineOperation::Integral(x)),
         12 => Some(MachineOperation::ToUnsigned(x, to)),
         13 => Some(MachineOperation::ToSigned(x, to)),
-        14 => least_by(rule_coded(to), x, y),
-        15 => greatest_by(rule_coded(to), x, y),
+        14 => Some(MachineOperation::Least(rule_coded(to)?, x, y)),
+        15 => Some(MachineOperation::Greatest(rule_coded(to)?, x, y)),
         _ => None,
     }
 }
@@ -254,28 +254,6 @@ pub fn two_code(arithmetic: Arithmetic) -> u32
         Arithmetic::Quotient => 4,
         Arithmetic::NearestRemainder => 5,
         Arithmetic::TruncatedRemainder => 6,
-    }
-}
-
-/// The lesser of two values by a rule, if it is known.
-#[inline(always)]
-fn least_by(rule: Option<MinimumRule>, x: u128, y: u128) -> Option<MachineOperation>
-    ensures { result ≡ least_by rule x y }
-{
-    match rule {
-        None => None,
-        Some(rule) => Some(MachineOperation::Least(rule, x, y)),
-    }
-}
-
-/// The greater of two values by a rule, if it is known.
-#[inline(always)]
-fn greatest_by(rule: Option<MinimumRule>, x: u128, y: u128) -> Option<MachineOperation>
-    ensures { result ≡ greatest_by rule x y }
-{
-    match rule {
-        None => None,
-        Some(rule) => Some(MachineOperation::Greatest(rule, x, y)),
     }
 }
 

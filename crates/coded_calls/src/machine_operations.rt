@@ -133,14 +133,14 @@ impl FillsInFormat for TwoWordsOnMachine {
 
     #[inline(always)]
     fn fill_in_format<S: Flagged>(self, answer: &mut Answer) -> u32 {
-        let TwoWordsOnMachine {
-            machine,
-            round,
-            arithmetic,
-            x,
-            y,
-        } = self;
-        two_of_words::<S>(answer, machine, round, arithmetic, x, y)
+        two_of_words::<S>(
+            answer,
+            self.machine,
+            self.round,
+            self.arithmetic,
+            self.x,
+            self.y,
+        )
     }
 }
 
@@ -164,14 +164,14 @@ impl FillsInFormat for TwoOnMachine {
 
     #[inline(always)]
     fn fill_in_format<S: Flagged>(self, answer: &mut Answer) -> u32 {
-        let TwoOnMachine {
-            machine,
-            round,
-            arithmetic,
-            x,
-            y,
-        } = self;
-        two_of_values::<S>(answer, machine, round, arithmetic, x, y)
+        two_of_values::<S>(
+            answer,
+            self.machine,
+            self.round,
+            self.arithmetic,
+            self.x,
+            self.y,
+        )
     }
 }
 
@@ -195,14 +195,7 @@ impl FillsInFormat for FusedWordsOnMachine {
 
     #[inline(always)]
     fn fill_in_format<S: Flagged>(self, answer: &mut Answer) -> u32 {
-        let FusedWordsOnMachine {
-            machine,
-            round,
-            x,
-            y,
-            z,
-        } = self;
-        fused_sum_of_words::<S>(answer, machine, round, x, y, z)
+        fused_sum_of_words::<S>(answer, self.machine, self.round, self.x, self.y, self.z)
     }
 }
 
@@ -226,14 +219,7 @@ impl FillsInFormat for FusedOnMachine {
 
     #[inline(always)]
     fn fill_in_format<S: Flagged>(self, answer: &mut Answer) -> u32 {
-        let FusedOnMachine {
-            machine,
-            round,
-            x,
-            y,
-            z,
-        } = self;
-        fused_sum_of_values::<S>(answer, machine, round, x, y, z)
+        fused_sum_of_values::<S>(answer, self.machine, self.round, self.x, self.y, self.z)
     }
 }
 
@@ -1465,13 +1451,7 @@ impl FillsInFormat for ConversionToCode {
 
     #[inline(always)]
     fn fill_in_format<S: Flagged>(self, answer: &mut Answer) -> Option<u32> {
-        let ConversionToCode {
-            to,
-            machine,
-            round,
-            x,
-        } = self;
-        converted_to_code::<S>(answer, machine, round, x, to)
+        converted_to_code::<S>(answer, self.machine, self.round, self.x, self.to)
     }
 }
 
@@ -1570,23 +1550,13 @@ impl FillsInFormat for ConversionTo {
 
     #[inline(always)]
     fn fill_in_format<S: Flagged>(self, answer: &mut Answer) -> u32 {
-        let ConversionTo {
-            target,
-            machine,
-            round,
-            x,
-        } = self;
-        let source = PhantomData;
-        target.fill(
-            machine,
-            ConversionOf::<S> {
-                source,
-                machine,
-                round,
-                x,
-            },
-            answer,
-        )
+        let call = ConversionOf::<S> {
+            source: PhantomData,
+            machine: self.machine,
+            round: self.round,
+            x: self.x,
+        };
+        self.target.fill(self.machine, call, answer)
     }
 }
 
@@ -1864,7 +1834,7 @@ pub fn on_machine(
 /// What stands for an operand that an operation does not take.
 const NOTHING: Halves = Halves { low: 0, high: 0 };
 
-/// The same as `on_machine`, of an operation on one value.
+/// `on_machine` for an operation on one value.
 #[inline(always)]
 fn one_on_machine(
     machine: u32,
@@ -1886,7 +1856,7 @@ fn one_on_machine(
     }
 }
 
-/// The same as `on_machine`, of an operation on one word.
+/// `on_machine` for an operation on one word.
 #[inline(always)]
 fn one_word_on_machine(
     machine: u32,
@@ -1924,7 +1894,7 @@ fn one_word_on_machine(
     )
 }
 
-/// The same as `on_machine`, of an operation on one value that does not fit in a word, as in `x87` and `quad`.
+/// `on_machine` for an operation on one value that does not fit in a word, as in `x87` and `quad`.
 #[inline(always)]
 fn one_value_on_machine(
     machine: u32,
@@ -1954,7 +1924,7 @@ fn one_value_on_machine(
     any_of_one(machine, operation, format, mode, to, x, answer)
 }
 
-/// The same as `on_machine`, of any operation on one value.
+/// `on_machine` for any operation on one value.
 #[inline(never)]
 fn any_of_one(
     machine: u32,
@@ -1973,7 +1943,7 @@ fn any_of_one(
     any_on_machine(machine, code, format, mode, to, x, NOTHING, NOTHING, answer)
 }
 
-/// The same as `on_machine`, of an operation on two values.
+/// `on_machine` for an operation on two values.
 #[inline(always)]
 fn two_on_machine(
     machine: u32,
@@ -1995,7 +1965,7 @@ fn two_on_machine(
     }
 }
 
-/// The same as `on_machine`, of an operation on two words.
+/// `on_machine` for an operation on two words.
 #[inline(always)]
 fn two_words_on_machine(
     machine: u32,
@@ -2026,7 +1996,7 @@ fn two_words_on_machine(
     any_of_two(machine, arithmetic, format, mode, x, y, answer)
 }
 
-/// The same as `on_machine`, of an operation on two values that are not both words.
+/// `on_machine` for an operation on two values that are not both words.
 #[inline(always)]
 fn two_values_on_machine(
     machine: u32,
@@ -2056,7 +2026,7 @@ fn two_values_on_machine(
     any_of_two(machine, arithmetic, format, mode, x, y, answer)
 }
 
-/// The same as `on_machine`, of any operation on two values.
+/// `on_machine` for any operation on two values.
 #[inline(never)]
 fn any_of_two(
     machine: u32,
@@ -2075,7 +2045,7 @@ fn any_of_two(
     any_on_machine(machine, code, format, mode, 0, x, y, NOTHING, answer)
 }
 
-/// The same as `on_machine`, of the fused sum.
+/// `on_machine` for the fused sum.
 #[inline(always)]
 fn fused_on_machine(
     machine: u32,
@@ -2097,7 +2067,7 @@ fn fused_on_machine(
     }
 }
 
-/// The same as `on_machine`, of the fused sum of words.
+/// `on_machine` for the fused sum of words.
 #[inline(always)]
 fn fused_words_on_machine(
     machine: u32,
@@ -2128,7 +2098,7 @@ fn fused_words_on_machine(
     any_on_machine(machine, 7, format, mode, 0, x, y, z, answer)
 }
 
-/// The same as `on_machine`, of the fused sum of values that are not all words.
+/// `on_machine` for the fused sum of values that are not all words.
 #[inline(always)]
 fn fused_values_on_machine(
     machine: u32,
@@ -2158,7 +2128,7 @@ fn fused_values_on_machine(
     any_on_machine(machine, 7, format, mode, 0, x, y, z, answer)
 }
 
-/// The same as `on_machine`, of a conversion.
+/// `on_machine` for a conversion.
 #[inline(always)]
 fn converted_on_machine(
     machine: u32,
@@ -2179,7 +2149,7 @@ fn converted_on_machine(
     }
 }
 
-/// The same as `on_machine`, of a conversion of a word: all arguments are in registers.
+/// `on_machine` for a conversion of a word: all arguments are in registers.
 #[inline(never)]
 fn converted_word_on_machine(
     machine: u32,
@@ -2207,7 +2177,7 @@ fn converted_word_on_machine(
     any_converted_on_machine(machine, format, mode, to, Halves::of_word(x), answer)
 }
 
-/// The same as `on_machine`, of a conversion of a value that does not fit in a word.
+/// `on_machine` for a conversion of a value that does not fit in a word.
 #[inline(never)]
 fn converted_value_on_machine(
     machine: u32,
@@ -2235,7 +2205,7 @@ fn converted_value_on_machine(
     any_converted_on_machine(machine, format, mode, to, x, answer)
 }
 
-/// The same as `on_machine`, of any conversion.
+/// `on_machine` for any conversion.
 #[inline(never)]
 fn any_converted_on_machine(
     machine: u32,
@@ -2252,7 +2222,7 @@ fn any_converted_on_machine(
     any_on_machine(machine, 11, format, mode, to, x, NOTHING, NOTHING, answer)
 }
 
-/// The same as `on_machine`, of any operation, and the errors of all.
+/// `on_machine` for any operation, and for what is refused.
 #[inline(never)]
 fn any_on_machine(
     machine: u32,

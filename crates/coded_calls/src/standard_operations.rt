@@ -104,42 +104,36 @@ impl FillsInFormat for InAnother {
     ghost gives = { λ it kind old new _. IsInAnotherKind kind it.target it.round it.call new };
 
     fn fill_in_format<S: Flagged>(self, answer: &mut Answer) {
-        let source = PhantomData;
-        let InAnother {
-            target,
-            round,
-            call,
-        } = self;
-        target.fill(
-            OnFormat::<S> {
-                source,
-                round,
-                call,
-            },
-            answer,
-        );
+        let call = OnFormat::<S> {
+            source: PhantomData,
+            round: self.round,
+            call: &self.call,
+        };
+        self.target.fill(call, answer);
     }
 }
 
 /// A call on values of the format `S`, whose result is of another.
 #[derive(Drop)]
-struct OnFormat<S: Flagged> {
+struct OnFormat<'a, S: Flagged> {
     source: PhantomData<S>,
     round: Round,
-    call: InAnotherCall,
+    call: &'a InAnotherCall,
     ghost has_bits: { S.PRECISION < S.BITS },
 }
 
-impl<S: Flagged> FillsInFormat for OnFormat<S> {
+impl<S: Flagged> FillsInFormat for OnFormat<'_, S> {
     type Place = Answer;
 
     type Output = ();
 
     ghost gives = { λ it kind old new _.
-        IsInAnother (constants_of S.Flagged) kind it.round it.call new };
+        IsInAnother (constants_of S.Flagged) kind it.round it.call.now new };
 
+    // As parts of one function for all formats, these would take a compiler minutes.
+    #[inline(never)]
     fn fill_in_format<T: Flagged>(self, answer: &mut Answer) {
-        *answer = in_another::<S, T>(self.round, self.call);
+        *answer = in_another::<S, T>(self.round, *self.call);
     }
 }
 

@@ -34,7 +34,7 @@ pub fn both_fit<S: Flagged>(x: u128, y: u128) -> bool
     fits::<S>(x) && fits::<S>(y)
 }
 
-/// It as a word, or none, where the general way is as good.
+/// An operand as a word, or none if it has more bits: the general way is then as good.
 #[inline(always)]
 pub fn one_word(x: u128) -> Option<u64>
     ensures { IfSome result (λ word. word ≡ x) }
@@ -42,7 +42,7 @@ pub fn one_word(x: u128) -> Option<u64>
     if x < 1 << 64 { Some(x as u64) } else { None }
 }
 
-/// Both as words, or none, where the general way is as good.
+/// Two operands as words, or none if one has more bits: the general way is then as good.
 #[inline(always)]
 pub fn two_words(x: u128, y: u128) -> Option<(u64, u64)>
     ensures { IfSome result (λ words. (words.0 ≡ x) × (words.1 ≡ y)) }
@@ -54,7 +54,7 @@ pub fn two_words(x: u128, y: u128) -> Option<(u64, u64)>
     }
 }
 
-/// All three as words, or none, where the general way is as good.
+/// Three operands as words, or none if one has more bits: the general way is then as good.
 #[inline(always)]
 pub fn three_words(x: u128, y: u128, z: u128) -> Option<(u64, u64, u64)>
     ensures { IfSome result (λ words. (words.0 ≡ x) × (words.1 ≡ y) × (words.2 ≡ z)) }

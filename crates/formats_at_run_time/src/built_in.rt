@@ -34,37 +34,12 @@ macro_rules! each_format {
     };
 }
 
-macro_rules! run_in {
-    (($format:expr, $call:expr) $($name:ident $semantics:ident $word:literal $code:literal,)*) => {
-        match $format {
-            $(BuiltInFormat::$name => $call.in_format::<$semantics>(),)*
-        }
-    };
-}
-
-macro_rules! read_in {
-    (($format:expr, $call:expr, $bytes:expr)
+// Makes a call by one of its methods, in the format.
+macro_rules! made_in {
+    (($format:expr, $call:expr, $method:ident $arguments:tt)
         $($name:ident $semantics:ident $word:literal $code:literal,)*) => {
         match $format {
-            $(BuiltInFormat::$name => $call.read_in_format::<$semantics>($bytes),)*
-        }
-    };
-}
-
-macro_rules! write_in {
-    (($format:expr, $call:expr, $bytes:expr)
-        $($name:ident $semantics:ident $word:literal $code:literal,)*) => {
-        match $format {
-            $(BuiltInFormat::$name => $call.write_in_format::<$semantics>($bytes),)*
-        }
-    };
-}
-
-macro_rules! fill_in {
-    (($format:expr, $call:expr, $place:expr)
-        $($name:ident $semantics:ident $word:literal $code:literal,)*) => {
-        match $format {
-            $(BuiltInFormat::$name => $call.fill_in_format::<$semantics>($place),)*
+            $(BuiltInFormat::$name => $call.$method::<$semantics> $arguments,)*
         }
     };
 }
@@ -145,7 +120,7 @@ impl BuiltInFormat {
         requires { C.can call (of_format (constants_in self)) }
         ensures { C.gives call (of_format (constants_in self)) result }
     {
-        each_format!(run_in(self, call))
+        each_format!(made_in(self, call, in_format()))
     }
 
     /// Makes a call for values of the format that it reads, which writes to lent bytes.
@@ -153,7 +128,7 @@ impl BuiltInFormat {
         requires { C.can call (of_format (constants_in self)) bytes.old }
         ensures { C.gives call (of_format (constants_in self)) bytes.old bytes.new result }
     {
-        each_format!(read_in(self, call, bytes))
+        each_format!(made_in(self, call, read_in_format(bytes)))
     }
 
     /// Makes a call that writes to lent bytes, in the format.
@@ -161,7 +136,7 @@ impl BuiltInFormat {
         requires { C.can call (of_format (constants_in self)) bytes.old }
         ensures { C.gives call (of_format (constants_in self)) bytes.old bytes.new result }
     {
-        each_format!(write_in(self, call, bytes))
+        each_format!(made_in(self, call, write_in_format(bytes)))
     }
 
     /// Makes a call that fills a lent place, in the format.
@@ -169,7 +144,7 @@ impl BuiltInFormat {
     pub fn fill<C: FillsInFormat>(self, call: C, place: &mut C::Place) -> C::Output
         ensures { C.gives call (of_format (constants_in self)) place.old place.new result }
     {
-        each_format!(fill_in(self, call, place))
+        each_format!(made_in(self, call, fill_in_format(place)))
     }
 }
 

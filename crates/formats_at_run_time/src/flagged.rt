@@ -28,62 +28,20 @@ macro_rules! each_ieee_format {
     };
 }
 
-macro_rules! run_after_rounding {
-    (($format:expr, $call:expr) $($name:ident $semantics:ident,)*) => {
+// Makes a call by one of its methods, in a format whose tininess is detected after rounding.
+macro_rules! after_rounding {
+    (($format:expr, $call:expr, $method:ident $arguments:tt) $($name:ident $semantics:ident,)*) => {
         match $format {
-            $(IeeeFormat::$name => $call.in_flagged_format::<IeeeFlags<$semantics>>(),)*
+            $(IeeeFormat::$name => $call.$method::<IeeeFlags<$semantics>> $arguments,)*
         }
     };
 }
 
-macro_rules! run_before_rounding {
-    (($format:expr, $call:expr) $($name:ident $semantics:ident,)*) => {
+// The same, detected before rounding.
+macro_rules! before_rounding {
+    (($format:expr, $call:expr, $method:ident $arguments:tt) $($name:ident $semantics:ident,)*) => {
         match $format {
-            $(
-                IeeeFormat::$name => {
-                    $call.in_flagged_format::<IeeeFlags<TinyBefore<$semantics>>>()
-                }
-            )*
-        }
-    };
-}
-
-macro_rules! write_after_rounding {
-    (($format:expr, $call:expr, $bytes:expr) $($name:ident $semantics:ident,)*) => {
-        match $format {
-            $(IeeeFormat::$name => $call.write_in_format::<IeeeFlags<$semantics>>($bytes),)*
-        }
-    };
-}
-
-macro_rules! write_before_rounding {
-    (($format:expr, $call:expr, $bytes:expr) $($name:ident $semantics:ident,)*) => {
-        match $format {
-            $(
-                IeeeFormat::$name => {
-                    $call.write_in_format::<IeeeFlags<TinyBefore<$semantics>>>($bytes)
-                }
-            )*
-        }
-    };
-}
-
-macro_rules! fill_after_rounding {
-    (($format:expr, $call:expr, $place:expr) $($name:ident $semantics:ident,)*) => {
-        match $format {
-            $(IeeeFormat::$name => $call.fill_in_format::<IeeeFlags<$semantics>>($place),)*
-        }
-    };
-}
-
-macro_rules! fill_before_rounding {
-    (($format:expr, $call:expr, $place:expr) $($name:ident $semantics:ident,)*) => {
-        match $format {
-            $(
-                IeeeFormat::$name => {
-                    $call.fill_in_format::<IeeeFlags<TinyBefore<$semantics>>>($place)
-                }
-            )*
+            $(IeeeFormat::$name => $call.$method::<IeeeFlags<TinyBefore<$semantics>>> $arguments,)*
         }
     };
 }
@@ -238,7 +196,7 @@ impl IeeeFormat {
     fn run_after_rounding<C: InFlaggedFormat>(self, call: C) -> C::Output
         ensures { C.gives call (of_format (after_rounding self)) result }
     {
-        each_ieee_format!(run_after_rounding(self, call))
+        each_ieee_format!(after_rounding(self, call, in_flagged_format()))
     }
 
     /// Makes a call in the format with the flags of IEEE 754-2019, tininess detected before rounding.
@@ -246,7 +204,7 @@ impl IeeeFormat {
     fn run_before_rounding<C: InFlaggedFormat>(self, call: C) -> C::Output
         ensures { C.gives call (of_format (before_rounding self)) result }
     {
-        each_ieee_format!(run_before_rounding(self, call))
+        each_ieee_format!(before_rounding(self, call, in_flagged_format()))
     }
 }
 
@@ -256,7 +214,7 @@ impl IeeeFormat {
     fn fill_after_rounding<C: FillsInFormat>(self, call: C, place: &mut C::Place) -> C::Output
         ensures { C.gives call (of_format (after_rounding self)) place.old place.new result }
     {
-        each_ieee_format!(fill_after_rounding(self, call, place))
+        each_ieee_format!(after_rounding(self, call, fill_in_format(place)))
     }
 
     /// Makes a call that fills a lent place, with the flags of IEEE 754-2019, tininess detected before rounding.
@@ -264,7 +222,7 @@ impl IeeeFormat {
     fn fill_before_rounding<C: FillsInFormat>(self, call: C, place: &mut C::Place) -> C::Output
         ensures { C.gives call (of_format (before_rounding self)) place.old place.new result }
     {
-        each_ieee_format!(fill_before_rounding(self, call, place))
+        each_ieee_format!(before_rounding(self, call, fill_in_format(place)))
     }
 }
 
@@ -281,7 +239,7 @@ impl IeeeFormat {
         requires { C.can call (of_format (after_rounding self)) bytes.old }
         ensures { C.gives call (of_format (after_rounding self)) bytes.old bytes.new result }
     {
-        each_ieee_format!(write_after_rounding(self, call, bytes))
+        each_ieee_format!(after_rounding(self, call, write_in_format(bytes)))
     }
 
     /// Makes a call that writes to lent bytes, with the flags of IEEE 754-2019, tininess detected before rounding.
@@ -289,7 +247,7 @@ impl IeeeFormat {
         requires { C.can call (of_format (before_rounding self)) bytes.old }
         ensures { C.gives call (of_format (before_rounding self)) bytes.old bytes.new result }
     {
-        each_ieee_format!(write_before_rounding(self, call, bytes))
+        each_ieee_format!(before_rounding(self, call, write_in_format(bytes)))
     }
 }
 

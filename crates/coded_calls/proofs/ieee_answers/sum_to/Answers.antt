@@ -1,17 +1,7 @@
-use Rattle.std.proofs.Math.Path.{subst₂}
-use Rattle.rustc_apfloat.specs.FlaggedTypes.{constants_of}
-use Rattle.rustc_apfloat.specs.Flags.{Gives}
-use Rattle.rustc_apfloat.specs.Lawful.{format_with}
-use Rattle.apfloat_arithmetic.specs.other_formats.FormatOf.{IsSumTo}
+use Rattle.std.proofs.Common.{sym}
 use Rattle.coded_calls.proofs.ieee_answers.sum_to.Goals as goal
 
 pub returns : goal.returns
 returns g c =
-    let f = format_with (constants_of g.S.Flagged) in
-    let to = format_with (constants_of g.T.Flagged) in
-    record {
-      given = c.add_to.result;
-      holds = subst₂ (λ x y. Gives (IsSumTo f f to c.args.round x y) c.add_to.result)
-          c.value-x.ensures c.value-y.ensures c.add_to.ensures;
-      is_written = c.written.ensures;
-    }
+    rw (sym c.value-x.ensures, sym c.value-y.ensures)
+    (record { given = c.add_to.result; holds = c.add_to.ensures; is_written = c.written.ensures })

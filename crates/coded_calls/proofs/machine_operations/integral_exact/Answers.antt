@@ -1,33 +1,11 @@
-use Rattle.std.proofs.Common.{refl, subst, sym, ◌∙◌}
-use Rattle.rustc_apfloat.specs.FlaggedTypes.{constants_of}
-use Rattle.rustc_apfloat.specs.Flags.{Gives}
-use Rattle.rustc_apfloat.specs.Lawful.{format_with}
-use Rattle.apfloat_machines.specs.Operations.{IsMachineIntegralExact}
-use Rattle.coded_calls.specs.declared.machine_call.MachineOperation.TheVariants.{IntegralExact}
-use Rattle.coded_calls.specs.KnownCalls.{answered}
-use Rattle.coded_calls.specs.MachineCalls.{IsMachineAnswer}
-use Rattle.coded_calls.proofs.UsualAnswers.{fitting, too_wide}
+use Rattle.std.proofs.Common.{refl, sym}
 use Rattle.coded_calls.proofs.machine_operations.integral_exact.Goals as goal
 
 pub returns-then-not-fits : goal.returns-then-not-fits
-returns-then-not-fits g c = λ infinite.
-    too_wide (constants_of g.S.Flagged).bits c.args.machine (IntegralExact c.args.x)
-    (IsMachineAnswer (constants_of g.S.Flagged) c.args.machine c.args.round (IntegralExact c.args.x))
-    c.args.answer.now (sym c.fits.ensures ∙ c.if-not-fits.true)
+returns-then-not-fits g c = λ infinite. rw (sym c.fits.ensures, c.if-not-fits.true) (refl, refl)
 
 pub returns : goal.returns
 returns g c = λ infinite.
-    let k = constants_of g.S.Flagged in
-    fitting k.bits c.args.machine (IntegralExact c.args.x)
-    (IsMachineAnswer k c.args.machine c.args.round (IntegralExact c.args.x)) c.args.answer.now c.written.result answered
-    (sym c.fits.ensures ∙ c.if-not-fits.false) (
-      refl,
-      record {
-        given = c.settled_unary.result;
-        holds = subst
-            (λ x. Gives (IsMachineIntegralExact (format_with k) c.args.machine c.args.round x) c.settled_unary.result)
-            c.value-x.ensures
-            ((c.settled_unary.ensures.operations infinite).exact c.args.round c.round_to_integral.ensures);
-        is_written = c.written.ensures;
-      },
-    )
+    let settled = (c.settled_unary.ensures.operations infinite).exact c.args.round c.round_to_integral.ensures in
+    rw (sym c.fits.ensures, c.if-not-fits.false, sym c.value-x.ensures)
+    (refl, record { given = c.settled_unary.result; holds = settled; is_written = c.written.ensures })

@@ -1,21 +1,8 @@
-use Rattle.std.proofs.Common.{refl, sym, ◌∙◌}
-use Rattle.rustc_apfloat.specs.FlaggedTypes.{constants_of}
-use Rattle.coded_calls.specs.declared.machine_call.MachineOperation.TheVariants.{Least}
-use Rattle.coded_calls.specs.KnownCalls.{answered}
-use Rattle.coded_calls.specs.MachineCalls.{IsMachineAnswer}
-use Rattle.coded_calls.proofs.UsualAnswers.{fitting, too_wide}
+use Rattle.std.proofs.Common.{refl, sym}
 use Rattle.coded_calls.proofs.machine_operations.lesser_in.Goals as goal
 
 pub returns-then-not-both_fit : goal.returns-then-not-both_fit
-returns-then-not-both_fit g c = λ infinite.
-    too_wide (constants_of g.S.Flagged).bits c.args.machine (Least c.args.rule c.args.x c.args.y)
-    (IsMachineAnswer (constants_of g.S.Flagged) c.args.machine c.args.round (Least c.args.rule c.args.x c.args.y))
-    c.args.answer.now (sym c.both_fit.ensures ∙ c.if-not-both_fit.true)
+returns-then-not-both_fit g c = λ infinite. rw (sym c.both_fit.ensures, c.if-not-both_fit.true) (refl, refl)
 
 pub returns : goal.returns
-returns g c = λ infinite.
-    let k = constants_of g.S.Flagged in
-    fitting k.bits c.args.machine (Least c.args.rule c.args.x c.args.y)
-    (IsMachineAnswer k c.args.machine c.args.round (Least c.args.rule c.args.x c.args.y)) c.args.answer.now
-    c.lesser.new.answer answered
-    (sym c.both_fit.ensures ∙ c.if-not-both_fit.false) (refl, c.lesser.ensures)
+returns g c = λ infinite. rw (sym c.both_fit.ensures, c.if-not-both_fit.false) (refl, c.lesser.ensures)
