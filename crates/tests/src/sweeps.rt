@@ -3,8 +3,6 @@
 #[cfg(test)]
 mod agreements;
 #[cfg(test)]
-mod asserts;
-#[cfg(test)]
 mod bits;
 #[cfg(test)]
 mod comparison;
@@ -40,8 +38,6 @@ mod roots;
 mod small;
 #[cfg(test)]
 mod tables;
-#[cfg(test)]
-mod wide;
 #[cfg(test)]
 mod wider;
 #[cfg(test)]

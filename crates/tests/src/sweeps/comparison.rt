@@ -4,7 +4,7 @@ ghost use Rattle.std.specs.Prelude.{◌*◌, ◌^◌, ◌<◌, ◌≤◌, pos, n
 ghost use Rattle.rustc_apfloat.specs.FlaggedTypes.{format_of};
 ghost use Rattle.conformance.specs.Plain.{HasBounds};
 
-use crate::sweeps::asserts::same;
+use crate::asserts::same;
 use crate::sweeps::small::magnitude_bits;
 use crate::sweeps::tables::MODES;
 use commands::custom_formats::{HalfTinyBeforeS, SevenS};
