@@ -8,11 +8,7 @@ mod asserts;
 #[cfg(test)]
 mod longest_line;
 #[cfg(test)]
-mod modes;
-#[cfg(test)]
 mod program;
-#[cfg(test)]
-mod statuses;
 #[cfg(test)]
 mod sums;
 #[cfg(test)]

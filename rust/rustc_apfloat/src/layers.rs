@@ -10,9 +10,11 @@ mod odd;
 mod pairs;
 mod projections;
 mod quotients;
+mod statuses;
 mod stored_quotient_rows;
 mod stored_quotients;
 mod stored_values;
+mod sums;
 mod written_digits;
 mod written_hex;
 
