@@ -10,6 +10,8 @@ mod longest_line;
 #[cfg(test)]
 mod program;
 #[cfg(test)]
+mod statuses;
+#[cfg(test)]
 mod sums;
 #[cfg(test)]
 mod sweeps;

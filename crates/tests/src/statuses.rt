@@ -1,8 +1,8 @@
-//! Statuses, values with a status, and modes.
+//! Statuses, and values with a status.
 
-use super::same;
-use crate::erased::apfloat_model::{Flags, Round, Status, unpack};
-use core::cmp::Ordering;
+use crate::asserts::same;
+use apfloat_model::{Flags, Status, unpack};
+use std::cmp::Ordering;
 
 /// The status of an overflow.
 fn overflowed() -> Status {
@@ -10,33 +10,39 @@ fn overflowed() -> Status {
 }
 
 #[test]
-fn makes_sets_of_bits() {
+fn makes_sets_of_bits(rt: HostRuntime) {
     let got = [
         Status::empty().bits(),
         Status::all().bits(),
         Status::from_bits_truncate(0x34).bits(),
         Status::from_bits_retain(0x34).bits(),
     ];
-    same(got, [0x00, 0x1f, 0x14, 0x34], "sets");
+    same(&rt, got, [0x00, 0x1f, 0x14, 0x34], "sets");
     let got = [Status::from_bits(0x14), Status::from_bits(0x34)];
-    same(got, [Some(overflowed()), None], "from_bits");
+    same(&rt, got, [Some(overflowed()), None], "from_bits");
 }
 
 #[test]
-fn asks_sets() {
+fn asks_sets(rt: HostRuntime) {
     let overflowed = overflowed();
     let underflowed = Status::UNDERFLOW.union(Status::INEXACT);
     let got = [
         (Status::OK.is_empty(), overflowed.is_empty()),
         (Status::all().is_all(), overflowed.is_all()),
-        (overflowed.contains(Status::INEXACT), overflowed.contains(underflowed)),
-        (overflowed.intersects(underflowed), overflowed.intersects(Status::UNDERFLOW)),
+        (
+            overflowed.contains(Status::INEXACT),
+            overflowed.contains(underflowed),
+        ),
+        (
+            overflowed.intersects(underflowed),
+            overflowed.intersects(Status::UNDERFLOW),
+        ),
     ];
-    same(got, [(true, false); 4], "questions");
+    same(&rt, got, [(true, false); 4], "questions");
 }
 
 #[test]
-fn combines_sets() {
+fn combines_sets(rt: HostRuntime) {
     let overflowed = overflowed();
     let underflowed = Status::UNDERFLOW.union(Status::INEXACT);
     let got = [
@@ -46,11 +52,11 @@ fn combines_sets() {
         overflowed.symmetric_difference(underflowed).bits(),
         overflowed.complement().bits(),
     ];
-    same(got, [0x14, 0x10, 0x04, 0x0c, 0x0b], "sets");
+    same(&rt, got, [0x14, 0x10, 0x04, 0x0c, 0x0b], "sets");
 }
 
 #[test]
-fn changes_sets() {
+fn changes_sets(rt: HostRuntime) {
     let mut status = overflowed();
     status.insert(Status::UNDERFLOW);
     let inserted = status.bits();
@@ -62,11 +68,11 @@ fn changes_sets() {
     let set = status.bits();
     status.set(Status::UNDERFLOW, false);
     let got = [inserted, removed, toggled, set, status.bits()];
-    same(got, [0x1c, 0x0c, 0x18, 0x19, 0x11], "changes");
+    same(&rt, got, [0x1c, 0x0c, 0x18, 0x19, 0x11], "changes");
 }
 
 #[test]
-fn combines_by_operators() {
+fn combines_by_operators(rt: HostRuntime) {
     let overflowed = overflowed();
     let underflowed = Status::UNDERFLOW | Status::INEXACT;
     let got = [
@@ -77,11 +83,11 @@ fn combines_by_operators() {
         (overflowed - underflowed).bits(),
         (!overflowed).bits(),
     ];
-    same(got, [0x18, 0x1c, 0x10, 0x0c, 0x04, 0x0b], "operators");
+    same(&rt, got, [0x18, 0x1c, 0x10, 0x0c, 0x04, 0x0b], "operators");
 }
 
 #[test]
-fn changes_by_operators() {
+fn changes_by_operators(rt: HostRuntime) {
     let mut status = overflowed();
     status |= Status::UNDERFLOW;
     let joined = status.bits();
@@ -91,53 +97,61 @@ fn changes_by_operators() {
     let in_one = status.bits();
     status -= Status::UNDERFLOW | Status::DIV_BY_ZERO;
     let got = [joined, common, in_one, status.bits()];
-    same(got, [0x1c, 0x18, 0x09, 0x01], "operators");
+    same(&rt, got, [0x1c, 0x18, 0x09, 0x01], "operators");
 }
 
 /// A larger value does not outweigh a smaller status.
 #[test]
-fn orders_by_status_first() {
+fn orders_by_status_first(rt: HostRuntime) {
     let exact = Status::OK.and(7u8);
     let inexact = Status::INEXACT.and(3u8);
-    let got = [exact.cmp(&inexact), inexact.cmp(&exact), exact.cmp(&Status::OK.and(8)), exact.cmp(&Status::OK.and(7))];
-    let expected = [Ordering::Less, Ordering::Greater, Ordering::Less, Ordering::Equal];
-    same(got, expected, "cmp");
-    let got = (exact.partial_cmp(&inexact), exact < inexact, inexact > exact);
-    same(got, (Some(Ordering::Less), true, true), "partial_cmp");
+    let got = [
+        exact.cmp(&inexact),
+        inexact.cmp(&exact),
+        exact.cmp(&Status::OK.and(8)),
+        exact.cmp(&Status::OK.and(7)),
+    ];
+    let expected = [
+        Ordering::Less,
+        Ordering::Greater,
+        Ordering::Less,
+        Ordering::Equal,
+    ];
+    same(&rt, got, expected, "cmp");
+    let got = (
+        exact.partial_cmp(&inexact),
+        exact < inexact,
+        inexact > exact,
+    );
+    same(&rt, got, (Some(Ordering::Less), true, true), "partial_cmp");
 }
 
 #[test]
-fn orders_statuses_by_bits() {
-    let got = [Status::INEXACT.cmp(&overflowed()), Status::INEXACT.cmp(&Status::UNDERFLOW)];
-    same(got, [Ordering::Less, Ordering::Greater], "cmp");
+fn orders_statuses_by_bits(rt: HostRuntime) {
+    let got = [
+        Status::INEXACT.cmp(&overflowed()),
+        Status::INEXACT.cmp(&Status::UNDERFLOW),
+    ];
+    same(&rt, got, [Ordering::Less, Ordering::Greater], "cmp");
 }
 
 #[test]
-fn keeps_statuses_with_values() {
+fn keeps_statuses_with_values(rt: HostRuntime) {
     let answer = Status::INEXACT.and(7).map(|value: u8| value / 2);
-    let got = (answer.status.bits(), answer.value, Status::OK.and(7).unwrap());
-    same(got, (0x10, 3, 7), "map and unwrap");
+    let got = (
+        answer.status.bits(),
+        answer.value,
+        Status::OK.and(7).unwrap(),
+    );
+    same(&rt, got, (0x10, 3, 7), "map and unwrap");
 }
 
 #[test]
-fn unpacks_answers() {
+fn unpacks_answers(rt: HostRuntime) {
     let mut status;
     let first: u8 = unpack!(status =, Status::INEXACT.and(1));
     let of_first = status.bits();
     let second: u8 = unpack!(status |=, Status::OVERFLOW.and(2));
     let got = [first, of_first, second, status.bits()];
-    same(got, [1, 0x10, 2, 0x14], "values and statuses");
-}
-
-#[test]
-fn swaps_directed_modes() {
-    for (mode, swapped) in [
-        (Round::TowardPositive, Round::TowardNegative),
-        (Round::TowardNegative, Round::TowardPositive),
-        (Round::TowardZero, Round::TowardZero),
-        (Round::NearestTiesToEven, Round::NearestTiesToEven),
-        (Round::NearestTiesToAway, Round::NearestTiesToAway),
-    ] {
-        same(-mode, swapped, mode);
-    }
+    same(&rt, got, [1, 0x10, 2, 0x14], "values and statuses");
 }
