@@ -54,11 +54,7 @@ fn less(x_exponent: ExpInt, x: u128, y_exponent: ExpInt, y: u128) -> Plain
 #[test]
 fn like_exponents(rt: HostRuntime) {
     let sum = parts(add_terms(term(true, 3, 0x20), term(false, 3, 0x30)));
-    let got = [
-        less(1, 0x10, 1, 0x5),
-        less(-2, 0x20, -2, 0x20),
-        sum,
-    ];
+    let got = [less(1, 0x10, 1, 0x5), less(-2, 0x20, -2, 0x20), sum];
     let expected = [
         (false, 1, 0xb, 'Z'),
         (false, -2, 0, 'Z'),

@@ -33,8 +33,6 @@ mod pairs;
 #[cfg(test)]
 mod patterns;
 #[cfg(test)]
-mod roots;
-#[cfg(test)]
 mod small;
 #[cfg(test)]
 mod tables;
