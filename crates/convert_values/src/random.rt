@@ -230,7 +230,7 @@ fn code_by<S: Semantics>(
     }
 }
 
-/// A value as a code of a storage format, rounded once, with this treatment of overflow, and its outcome.
+/// The same with this treatment of overflow.
 fn as_stored<S: Semantics>(
     format: StoredFormat,
     x: IeeeFloat<S>,
