@@ -3,8 +3,8 @@
 use std::hint::black_box;
 use std::time::{Duration, Instant};
 
-/// Calls the operation for each operand, in rounds, until a fifth of a second is spent. Returns the results, and how many
-/// nanoseconds a call takes in the fastest round.
+/// Calls the operation for each operand, in rounds, until a fifth of a second is spent. Returns the results, and the
+/// nanoseconds of a call in the fastest round.
 pub fn fastest<T, R: Clone>(operands: &[T], blank: R, call: impl Fn(&T) -> R) -> (Vec<R>, f64) {
     let operands = black_box(operands);
     let mut results = vec![blank; operands.len()];
