@@ -1,5 +1,5 @@
 """Computes tests/rows/eight_bits.tsv: the operations of IEEE 754-2019 on all values of the formats of eight bits, and
-on all pairs of them.
+on all pairs of them; and square roots, those of half too.
 
     python3 evidence/eight_bits.py | diff - tests/rows/eight_bits.tsv
 
@@ -12,7 +12,8 @@ from itertools import product
 from exact import operations
 from exact.bits import decoded, encoded
 from exact.format_of import computed
-from exact.formats import BFLOAT, E4M3FN, E4M3FNUZ, E5M2
+from exact.formats import BFLOAT, E4M3FN, E4M3FNUZ, E5M2, HALF
+from exact.roots import square_root
 from row_files import MODES, every
 
 CLASSES = (
@@ -90,6 +91,14 @@ def of_one(format):
             yield every("scale_b", format.name, mode, f"1 {power}", found)
 
 
+def roots(format):
+    """The square roots of all values."""
+    data = [decoded(format, bits) for bits in range(1 << format.bits)]
+    for mode in MODES:
+        answers = (square_root(format, x, mode) for x in data)
+        yield every("sqrt_r", format.name, mode, 1, ((encoded(format, x), flags) for x, flags in answers))
+
+
 def main():
     """Writes the rows."""
     print("# All values of the formats of eight bits, and all pairs. Computed by evidence/eight_bits.py.")
@@ -103,6 +112,8 @@ def main():
         (E4M3FNUZ, E5M2),
     ):
         print("\n".join(in_another(source, target)), flush=True)
+    for format in (E5M2, E4M3FN, E4M3FNUZ, HALF):
+        print("\n".join(roots(format)), flush=True)
 
 
 if __name__ == "__main__":

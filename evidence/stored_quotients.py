@@ -1,6 +1,6 @@
-"""Computes crates/tests/src/stored_quotient_rows.rt: quotients of two values in a storage format.
+"""Computes rust/rustc_apfloat/src/layers/stored_quotient_rows.rs: quotients of two values in a storage format.
 
-    python3 evidence/stored_quotients.py | diff - crates/tests/src/stored_quotient_rows.rt
+    python3 evidence/stored_quotients.py | diff - rust/rustc_apfloat/src/layers/stored_quotient_rows.rs
 
 The quotients are those of doubles by singles: multiples of 1/32 of the divisor, which are the points of the
 formats, their midpoints and what is between, each as it is and next to it on both sides, with either sign.
@@ -60,13 +60,10 @@ def checksum(form, mode, found):
 def main():
     """Prints the file."""
     print("//! Quotients in storage formats, computed by `evidence/stored_quotients.py`.")
-    print("\nuse crate::stored_values::Checksums;")
     found = list(quotients())
     for form in ELEMENTS:
-        print(f"\npub(crate) static QUOTIENTS_{form.name}: Checksums = [")
-        for mode in MODES:
-            print(f"    0x{checksum(form, mode, found):x},")
-        print("];")
+        sums = ", ".join(f"0x{checksum(form, mode, found):x}" for mode in MODES)
+        print(f"\npub(super) static QUOTIENTS_{form.name}: [u64; {len(MODES)}] =\n    [{sums}];")
 
 
 if __name__ == "__main__":

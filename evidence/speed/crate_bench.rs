@@ -4,38 +4,25 @@
 //! hexadecimal digits, or a text. Prints the nanoseconds of a call in the fastest round, from
 //! values in memory to results in memory, and the checksum of the results.
 
+mod fastest;
+
+use fastest::fastest;
 use rustc_apfloat::ieee::{
     BFloat, Double, Float8E4M3FN, Float8E5M2, Half, Quad, Single, X87DoubleExtended,
 };
 use rustc_apfloat::ppc::DoubleDouble;
 use rustc_apfloat::{Float, FloatConvert, Round, Status, StatusAnd};
-use std::hint::black_box;
-use std::time::{Duration, Instant};
 
 const EVEN: Round = Round::NearestTiesToEven;
 
-/// Calls the operation for each operand, in rounds, until a fifth of a second is spent.
+/// Prints the time of the call in the fastest round, and the checksum of the results.
 fn timed<T, R: Copy>(
     operands: Vec<T>,
     blank: R,
     call: impl Fn(&T) -> R,
     written: impl Fn(R) -> (u8, u128),
 ) {
-    let operands = black_box(operands);
-    let mut results = vec![blank; operands.len()];
-    let (mut least, mut spent) = (Duration::MAX, Duration::ZERO);
-    for _ in 0..300 {
-        let start = Instant::now();
-        for (operand, result) in operands.iter().zip(results.iter_mut()) {
-            *result = call(operand);
-        }
-        black_box(&mut results);
-        least = least.min(start.elapsed());
-        spent += start.elapsed();
-        if spent > Duration::from_millis(200) {
-            break;
-        }
-    }
+    let (results, nanoseconds) = fastest(&operands, blank, call);
     let mut sum = 0;
     for result in &results {
         let (status, bits) = written(*result);
@@ -43,7 +30,7 @@ fn timed<T, R: Copy>(
             sum = (sum * 31 + word as u128) % ((1 << 61) - 1);
         }
     }
-    println!("{} {sum:016x}", least.as_nanos() as f64 / results.len() as f64);
+    println!("{nanoseconds} {sum:016x}");
 }
 
 /// The status and the bits of a result.

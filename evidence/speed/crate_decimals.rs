@@ -4,11 +4,13 @@
 //! nanoseconds of a call in the fastest round, and for `read` a checksum of the bits. With the
 //! format `f32` or `f64` it times Rust's own `parse` and `{:e}`, which writes the fewest digits.
 
+mod fastest;
+
+use fastest::fastest;
 use rustc_apfloat::Float;
 use rustc_apfloat::ieee::{Double, Quad, Single, X87DoubleExtended};
 use std::fmt::{self, Write};
 use std::hint::black_box;
-use std::time::{Duration, Instant};
 
 /// A text of bounded length, so that writing allocates nothing.
 struct Line {
@@ -28,22 +30,8 @@ impl Write for Line {
 
 /// Prints the time of the call in the fastest round, and returns the results.
 fn timed<T, R: Clone>(operands: &[T], blank: R, call: impl Fn(&T) -> R) -> Vec<R> {
-    let operands = black_box(operands);
-    let mut results = vec![blank; operands.len()];
-    let (mut least, mut spent) = (Duration::MAX, Duration::ZERO);
-    for _ in 0..300 {
-        let start = Instant::now();
-        for (operand, result) in operands.iter().zip(results.iter_mut()) {
-            *result = call(operand);
-        }
-        black_box(&mut results);
-        least = least.min(start.elapsed());
-        spent += start.elapsed();
-        if spent > Duration::from_millis(200) {
-            break;
-        }
-    }
-    print!("{}", least.as_nanos() as f64 / results.len() as f64);
+    let (results, nanoseconds) = fastest(operands, blank, call);
+    print!("{nanoseconds}");
     results
 }
 

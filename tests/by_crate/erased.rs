@@ -110,11 +110,7 @@ pub mod formats_at_run_time {
     use rustc_apfloat::ppc::DoubleDouble;
     use rustc_apfloat::{Float, Round, StatusAnd};
 
-    pub trait InFormat {
-        type Output;
-
-        fn in_format<S: Semantics>(self) -> Self::Output;
-    }
+    pub use rustc_apfloat::run_time::{Format as BuiltInFormat, InFormat};
 
     pub trait InFlaggedFormat {
         type Output;
@@ -127,54 +123,16 @@ pub mod formats_at_run_time {
 
     impl<F: FloatMore> ValueType for F {}
 
-    macro_rules! built_in_formats {
-        ($($name:ident $format:ident $word:literal,)*) => {
-            #[derive(Clone, Copy)]
-            pub enum BuiltInFormat {
-                $($name,)*
-            }
-
-            impl BuiltInFormat {
-                pub fn run<C: InFormat>(self, call: C) -> C::Output {
-                    match self {
-                        $(BuiltInFormat::$name => call.in_format::<$format>(),)*
-                    }
-                }
-            }
-
-            impl BuiltInKind {
-                pub fn named(word: &str) -> Option<BuiltInKind> {
-                    match word {
-                        $($word => Some(BuiltInKind::OfFormat(BuiltInFormat::$name)),)*
-                        _ => None,
-                    }
-                }
-            }
-        };
-    }
-
-    built_in_formats! {
-        Half HalfS "half",
-        Single SingleS "single",
-        Double DoubleS "double",
-        Quad QuadS "quad",
-        BFloat BFloatS "bfloat",
-        E5M2 Float8E5M2S "e5m2",
-        E4M3FN Float8E4M3FNS "e4m3fn",
-        E4M3FNUZ Float8E4M3FNUZS "e4m3fnuz",
-        X87 X87DoubleExtendedS "x87",
-        E4M3 Float8E4M3S "e4m3",
-        E5M2FNUZ Float8E5M2FNUZS "e5m2fnuz",
-        E4M3B11FNUZ Float8E4M3B11FNUZS "e4m3b11fnuz",
-        TF32 FloatTF32S "tf32",
-    }
-
     #[derive(Clone, Copy)]
     pub enum BuiltInKind {
         OfFormat(BuiltInFormat),
     }
 
     impl BuiltInKind {
+        pub fn named(word: &str) -> Option<BuiltInKind> {
+            word.parse().ok().map(BuiltInKind::OfFormat)
+        }
+
         pub fn format(self) -> Option<BuiltInFormat> {
             let BuiltInKind::OfFormat(format) = self;
             Some(format)

@@ -1,6 +1,6 @@
 //! Custom formats, as a user would declare them: each gives its constants and proves its law in one line.
 //!
-//! Rows of test vectors name them (`check_vectors`), and tests use them at the limits of the law (`tests::conformance`).
+//! Rows of test vectors name them (`check_vectors`), and tests use them at the limits of the law (`tests::sweeps`).
 
 mod broad;
 mod deep;

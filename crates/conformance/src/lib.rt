@@ -1,6 +1,6 @@
 //! Callers that use contracts alone, and a plain, slow rounding that tests compare the library with.
 //!
-//! The tests are in the crate `tests::conformance`.
+//! The tests are in `tests::sweeps`.
 #![tactic(auto)]
 
 pub mod agreements;

@@ -26,7 +26,7 @@ use Rattle.convert_values.specs.declared.blocks.BlockWay.TheVariants.{Quantize, 
 abbrev pub packed_size : BlockForm → ℕ
 packed_size form = width form.element * form.length / 8
 
--- and with its scale
+-- how many bytes a block takes, with its scale
 abbrev pub block_size : BlockForm → ℕ
 block_size form = 1 + packed_size form
 

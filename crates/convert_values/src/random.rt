@@ -230,7 +230,7 @@ fn code_by<S: Semantics>(
     }
 }
 
-/// The same with this treatment of overflow.
+/// A value as a code of a storage format, rounded once, with this treatment of overflow, and its outcome.
 fn as_stored<S: Semantics>(
     format: StoredFormat,
     x: IeeeFloat<S>,

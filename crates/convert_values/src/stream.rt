@@ -42,7 +42,7 @@ impl From<AllocError> for Failure {
     }
 }
 
-/// Converts the values of a stream, to its end. `err` is told how far a long stream has come, if that is shown.
+/// Converts the values of a stream, to its end. The progress of a long stream is written to `err`, if it is shown.
 pub fn convert_stream<R: Clock + AllocGlobal, I: Read, W: Write, V: Write>(
     rt: &R,
     conversion: StreamConversion,
@@ -68,7 +68,7 @@ pub fn convert_stream<R: Clock + AllocGlobal, I: Read, W: Write, V: Write>(
     )
 }
 
-/// The same, with the buffers allocated.
+/// `convert_stream` with these buffers.
 fn convert_through<C: Clock, I: Read, W: Write, V: Write>(
     clock: &C,
     conversion: StreamConversion,

@@ -3,8 +3,6 @@
 #[cfg(test)]
 mod agreements;
 #[cfg(test)]
-mod asserts;
-#[cfg(test)]
 mod bits;
 #[cfg(test)]
 mod comparison;
@@ -35,13 +33,9 @@ mod pairs;
 #[cfg(test)]
 mod patterns;
 #[cfg(test)]
-mod roots;
-#[cfg(test)]
 mod small;
 #[cfg(test)]
 mod tables;
-#[cfg(test)]
-mod wide;
 #[cfg(test)]
 mod wider;
 #[cfg(test)]

@@ -161,8 +161,8 @@ impl<S: Semantics> LawOfFormat<S> {
     const HAS_SHORTEST: () = assert!(S::PRECISION <= 113, "PRECISION is more than 113");
 }
 
-/// Does not compile for a format outside the law. Whatever makes a value of the format calls it; the error is told for
-/// each function that has the constant, so only this one has it.
+/// Does not compile for an unlawful format. Whatever makes a value of the format calls it; the compiler reports the
+/// error for each function that has the constant, so only this one has it.
 const fn obey_the_law<S: Semantics>() {
     let () = LawOfFormat::<S>::HOLDS;
 }
@@ -172,6 +172,24 @@ pub(crate) struct PlainS<S>(PhantomData<S>);
 
 /// The format `S` as the library knows formats, with its rule of flags.
 pub(crate) struct FlaggedS<S>(PhantomData<S>);
+
+// The constants of a format but for its rules of flags, for a format that has the same.
+macro_rules! same_constants {
+    ($format:ident) => {
+        const BITS: usize = $format::BITS;
+        const EXP_BITS: usize = $format::EXP_BITS;
+        const PRECISION: usize = $format::PRECISION;
+        const NONFINITE_BEHAVIOR: NonfiniteBehavior = $format::NONFINITE_BEHAVIOR;
+        const MAX_EXP: ExpInt = $format::MAX_EXP;
+        const IEEE_MAX_EXP: ExpInt = $format::IEEE_MAX_EXP;
+        const MIN_EXP: ExpInt = $format::MIN_EXP;
+        const IEEE_MIN_EXP: ExpInt = $format::IEEE_MIN_EXP;
+        const NAN_SIGNIFICAND_BASE: u128 = $format::NAN_SIGNIFICAND_BASE;
+        const NAN_PAYLOAD_MASK: u128 = $format::NAN_PAYLOAD_MASK;
+        const QNAN_SIGNIFICAND: u128 = $format::QNAN_SIGNIFICAND;
+        const EXPLICIT_INTEGER_BIT: bool = $format::EXPLICIT_INTEGER_BIT;
+    };
+}
 
 macro_rules! library_formats {
     ($($name:ident: $trait:path { $($more:tt)* })*) => {$(
@@ -184,18 +202,7 @@ macro_rules! library_formats {
         }
 
         impl<S: Semantics> $trait for $name<S> {
-            const BITS: usize = S::BITS;
-            const EXP_BITS: usize = S::EXP_BITS;
-            const PRECISION: usize = S::PRECISION;
-            const NONFINITE_BEHAVIOR: NonfiniteBehavior = S::NONFINITE_BEHAVIOR;
-            const MAX_EXP: ExpInt = S::MAX_EXP;
-            const IEEE_MAX_EXP: ExpInt = S::IEEE_MAX_EXP;
-            const MIN_EXP: ExpInt = S::MIN_EXP;
-            const IEEE_MIN_EXP: ExpInt = S::IEEE_MIN_EXP;
-            const NAN_SIGNIFICAND_BASE: u128 = S::NAN_SIGNIFICAND_BASE;
-            const NAN_PAYLOAD_MASK: u128 = S::NAN_PAYLOAD_MASK;
-            const QNAN_SIGNIFICAND: u128 = S::QNAN_SIGNIFICAND;
-            const EXPLICIT_INTEGER_BIT: bool = S::EXPLICIT_INTEGER_BIT;
+            same_constants!(S);
             const TINY_BEFORE_ROUNDING: bool = S::TINY_BEFORE_ROUNDING;
             $($more)*
         }
@@ -277,18 +284,7 @@ macro_rules! formats_of {
         pub struct $name<S>(PhantomData<S>);
 
         impl<S: Semantics> Semantics for $name<S> {
-            const BITS: usize = S::BITS;
-            const EXP_BITS: usize = S::EXP_BITS;
-            const PRECISION: usize = S::PRECISION;
-            const NONFINITE_BEHAVIOR: NonfiniteBehavior = S::NONFINITE_BEHAVIOR;
-            const MAX_EXP: ExpInt = S::MAX_EXP;
-            const IEEE_MAX_EXP: ExpInt = S::IEEE_MAX_EXP;
-            const MIN_EXP: ExpInt = S::MIN_EXP;
-            const IEEE_MIN_EXP: ExpInt = S::IEEE_MIN_EXP;
-            const NAN_SIGNIFICAND_BASE: u128 = S::NAN_SIGNIFICAND_BASE;
-            const NAN_PAYLOAD_MASK: u128 = S::NAN_PAYLOAD_MASK;
-            const QNAN_SIGNIFICAND: u128 = S::QNAN_SIGNIFICAND;
-            const EXPLICIT_INTEGER_BIT: bool = S::EXPLICIT_INTEGER_BIT;
+            same_constants!(S);
             $(const $other: $type = S::$other;)*
             const $constant: bool = true;
         }

@@ -31,6 +31,8 @@ mod doubles;
 mod erased;
 mod far;
 mod law;
+#[cfg(test)]
+mod layers;
 mod status;
 mod widths;
 

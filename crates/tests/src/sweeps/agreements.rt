@@ -2,7 +2,7 @@
 
 ghost use Rattle.std.specs.Prelude.{◌<◌};
 
-use crate::sweeps::asserts::{Bits, same};
+use crate::asserts::{Bits, same};
 use conformance::agreements::{readings, remainders, sums};
 use rustc_apfloat::ieee::Half;
 use rustc_apfloat::ppc::DoubleDouble;

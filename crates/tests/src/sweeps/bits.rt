@@ -2,7 +2,7 @@
 
 ghost use Rattle.std.specs.Prelude.{◌<◌};
 
-use crate::sweeps::asserts::{Bits, same};
+use crate::asserts::{Bits, same};
 use commands::custom_formats::SevenS;
 use rustc_apfloat::ieee::{DoubleS, HalfS, IeeeFloat, Semantics, SingleS, X87DoubleExtendedS};
 use rustc_apfloat::{Category, Float};

@@ -4,7 +4,7 @@ ghost use Rattle.std.specs.Prelude.{◌*◌, ◌^◌, ◌<◌, ◌≤◌, pos, n
 ghost use Rattle.rustc_apfloat.specs.FlaggedTypes.{format_of};
 ghost use Rattle.conformance.specs.Plain.{HasBounds};
 
-use crate::sweeps::asserts::same;
+use crate::asserts::same;
 use crate::sweeps::small::magnitude_bits;
 use crate::sweeps::tables::MODES;
 use commands::custom_formats::{HalfTinyBeforeS, SevenS};
@@ -203,25 +203,27 @@ fn threshold_of_overflow(rt: HostRuntime) {
     }
 }
 
-#[test]
-fn denormals_where_tininess_comes_before_rounding(rt: HostRuntime) {
+/// Compares denormal results and the first normal ones.
+fn compare_denormals<S: Flagged>(rt: &impl Abort, subject: Subject)
+    requires written { S.PRECISION < S.BITS }
+    requires bounds { HasBounds (format_of S.Flagged) subject.bounds }
+    requires some_digits { 3 ≤ subject.bounds.precision }
+    requires few_digits { subject.bounds.precision ≤ 60 }
+    requires some_normalized { 0 < subject.bounds.smallest_normalized }
+    requires few_normalized { subject.bounds.smallest_normalized < 2 ^ 60 }
+    requires far { negsuc 99 ≤ℤ subject.exponent }
+    requires near { subject.exponent ≤ℤ pos 0 }
+{
     for eighths in 0..0x2800u64 {
-        compare::<HalfTinyBeforeS>(&rt, HALF_TINY_BEFORE, u128::from(eighths));
+        compare::<S>(rt, subject, u128::from(eighths));
     }
 }
 
 #[test]
-fn denormals_with_the_flags_of_the_standard(rt: HostRuntime) {
-    for eighths in 0..0x2800u64 {
-        compare::<IeeeFlags<HalfS>>(&rt, HALF_IEEE, u128::from(eighths));
-    }
-}
-
-#[test]
-fn denormals_with_the_flags_of_the_standard_before_rounding(rt: HostRuntime) {
-    for eighths in 0..0x2800u64 {
-        compare::<IeeeFlags<TinyBefore<HalfS>>>(&rt, HALF_IEEE_TINY_BEFORE, u128::from(eighths));
-    }
+fn denormals_by_other_rules_of_flags(rt: HostRuntime) {
+    compare_denormals::<HalfTinyBeforeS>(&rt, HALF_TINY_BEFORE);
+    compare_denormals::<IeeeFlags<HalfS>>(&rt, HALF_IEEE);
+    compare_denormals::<IeeeFlags<TinyBefore<HalfS>>>(&rt, HALF_IEEE_TINY_BEFORE);
 }
 
 /// Sixteenths of a quantum around the smallest normalized value, and the largest value in each mode.

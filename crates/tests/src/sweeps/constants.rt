@@ -2,7 +2,7 @@
 
 ghost use Rattle.std.specs.Prelude.{◌<◌};
 
-use crate::sweeps::asserts::same;
+use crate::asserts::same;
 use commands::custom_formats::{Least, LeastS, SevenS};
 use rustc_apfloat::ieee::{
     BFloat, Double, DoubleS, Float8E4M3FNS, Float8E4M3FNUZS, Float8E5M2, HalfS, IeeeFloat,

@@ -8,7 +8,7 @@ ghost use Rattle.rustc_apfloat.specs.Types.{format_of};
 ghost use Rattle.rustc_apfloat.specs.WholeNumbers.{IsFromUnsigned};
 ghost use Rattle.rustc_apfloat.proofs.LawTest.{lawful_from_test};
 
-use crate::sweeps::asserts::same;
+use crate::asserts::same;
 use rustc_apfloat::ieee::{Half, IeeeFloat, NonfiniteBehavior, Semantics};
 use rustc_apfloat::{ExpInt, Flags, Float, Round, Status, StatusAnd, unpack};
 

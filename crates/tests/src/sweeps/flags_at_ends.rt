@@ -5,7 +5,7 @@
 ghost use Rattle.std.specs.Prelude.{◌^◌, ◌<◌, ◌≤◌};
 ghost use Rattle.rustc_apfloat.specs.Products.{product_limit};
 
-use crate::sweeps::asserts::{Bits, same};
+use crate::asserts::{Bits, same};
 use crate::sweeps::small::{
     Class, Expected, Operand, Small, bits_of, decoded, layout_of, product, quotient, sum,
 };

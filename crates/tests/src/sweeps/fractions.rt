@@ -3,7 +3,7 @@
 
 ghost use Rattle.std.specs.Prelude.{◌^◌, ◌<◌};
 
-use crate::sweeps::asserts::{Bits, same};
+use crate::asserts::{Bits, same};
 use crate::sweeps::small::{
     Class, Small, decoded, layout_of, magnitude_bits, patterns_of, quieted, sign_bit,
 };

@@ -3,7 +3,7 @@
 
 ghost use Rattle.std.specs.Prelude.{◌<◌};
 
-use crate::sweeps::asserts::{Bits, same};
+use crate::asserts::{Bits, same};
 use crate::sweeps::small::{Small, answered, integral, patterns_of};
 use crate::sweeps::tables::MODES;
 use rustc_apfloat::Float;

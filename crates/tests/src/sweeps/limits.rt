@@ -2,7 +2,7 @@
 
 ghost use Rattle.std.specs.Prelude.{◌<◌};
 
-use crate::sweeps::asserts::same;
+use crate::asserts::same;
 use crate::sweeps::tables::{EVEN, INEXACT, OK, OVERFLOW_INEXACT, ZERO};
 use commands::custom_formats::{
     BroadS, DeepS, LeastFinite, LeastFiniteS, LeastS, PreciseS, Ten, TenS, VastS, WrittenBitS,

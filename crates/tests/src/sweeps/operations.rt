@@ -4,9 +4,9 @@
 ghost use Rattle.std.specs.Prelude.{◌<◌, ◌≤◌};
 ghost use Rattle.rustc_apfloat.specs.Products.{product_limit};
 
-use crate::sweeps::asserts::{Bits, same};
+use crate::asserts::{Bits, same};
 use crate::sweeps::small::{Small, answered, difference, product, quotient, sum};
-use crate::sweeps::tables::{AWAY, DOWN, EVEN, UP, ZERO};
+use crate::sweeps::tables::{DOWN, EVEN, MODES};
 use rustc_apfloat::ieee::{Float8E4M3FNS, Float8E4M3FNUZS, Float8E5M2S, HalfS, Semantics};
 use rustc_apfloat::{Float, Round};
 use std::process::Abort;
@@ -62,44 +62,17 @@ fn check_half(rt: &impl Abort, mode: Round) {
     }
 }
 
-/// All pairs of bit patterns of each 8-bit format.
-fn check_eight_bits(rt: &impl Abort, mode: Round) {
-    check_all::<Float8E5M2S>(rt, Small::Float8E5M2, mode);
-    check_all::<Float8E4M3FNS>(rt, Small::Float8E4M3FN, mode);
-    check_all::<Float8E4M3FNUZS>(rt, Small::Float8E4M3FNUZ, mode);
-}
-
 #[test]
-fn half_to_even(rt: HostRuntime) {
+fn half(rt: HostRuntime) {
     check_half(&rt, EVEN);
-}
-
-#[test]
-fn half_downward(rt: HostRuntime) {
     check_half(&rt, DOWN);
 }
 
 #[test]
-fn eight_bits_to_even(rt: HostRuntime) {
-    check_eight_bits(&rt, EVEN);
-}
-
-#[test]
-fn eight_bits_to_away(rt: HostRuntime) {
-    check_eight_bits(&rt, AWAY);
-}
-
-#[test]
-fn eight_bits_upward(rt: HostRuntime) {
-    check_eight_bits(&rt, UP);
-}
-
-#[test]
-fn eight_bits_downward(rt: HostRuntime) {
-    check_eight_bits(&rt, DOWN);
-}
-
-#[test]
-fn eight_bits_toward_zero(rt: HostRuntime) {
-    check_eight_bits(&rt, ZERO);
+fn eight_bits(rt: HostRuntime) {
+    for mode in MODES {
+        check_all::<Float8E5M2S>(&rt, Small::Float8E5M2, mode);
+        check_all::<Float8E4M3FNS>(&rt, Small::Float8E4M3FN, mode);
+        check_all::<Float8E4M3FNUZS>(&rt, Small::Float8E4M3FNUZ, mode);
+    }
 }

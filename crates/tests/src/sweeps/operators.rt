@@ -3,7 +3,7 @@
 ghost use Rattle.std.specs.Prelude.{◌<◌, ◌≤◌};
 ghost use Rattle.rustc_apfloat.specs.FusedSums.{fused_limit};
 
-use crate::sweeps::asserts::{Bits, same};
+use crate::asserts::{Bits, same};
 use crate::sweeps::tables::{
     DIV_BY_ZERO, INEXACT, INVALID_OP, OK, OVERFLOW_INEXACT, UNDERFLOW_INEXACT,
 };

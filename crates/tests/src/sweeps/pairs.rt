@@ -1,6 +1,6 @@
 //! Sums of doubles as pairs.
 
-use crate::sweeps::asserts::same;
+use crate::asserts::same;
 use conformance::pairs::{exact_sum, sum_of_three};
 use rustc_apfloat::Float;
 use rustc_apfloat::ieee::Double;

@@ -2,7 +2,7 @@
 
 ghost use Rattle.std.specs.Prelude.{◌<◌, ◌≤◌};
 
-use crate::sweeps::asserts::{Bits, same};
+use crate::asserts::{Bits, same};
 use crate::sweeps::small::{
     Class, Expected, Operand, Small, answered, decoded, exactly, is_nan, kept, layout_of,
     patterns_of, quieted,

@@ -1,6 +1,6 @@
 //! Products and fused sums in the formats of the most digits that have them.
 
-use crate::sweeps::asserts::same;
+use crate::asserts::same;
 use conformance::widest::{square, square_and_itself};
 use rustc_apfloat::ieee::IeeeFloat;
 use rustc_apfloat::{Float, Round, Status};

@@ -96,8 +96,8 @@ static OPTIONS_OF_TESTFLOAT: &[&str] = &[
 static OPTIONS_OF_FPGEN: &[&str] =
     &["--summary", "--first", "--skip-unknown", "--fpgen", "-tininessafter", "-tininessbefore"];
 
-/// Runs the program with the words of the command line. If `err` is a terminal, it is told how far a long check has
-/// come. Returns the exit status.
+/// Runs the program with the words of the command line. If `err` is a terminal, the progress of a long check is written
+/// to it. Returns the exit status.
 pub fn run(words: io::Result<Vec<String>>, is_terminal: bool, out: &mut impl Write, err: &mut impl Write) -> u8 {
     let words = match words {
         Ok(words) => words,

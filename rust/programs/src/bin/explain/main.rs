@@ -13,6 +13,8 @@ mod compute;
 mod erased;
 mod explanation;
 mod grid;
+#[path = "../../machine_words.rs"]
+mod machine_words;
 mod on_machine;
 mod picture;
 mod question;

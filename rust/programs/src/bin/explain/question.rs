@@ -4,6 +4,7 @@ use crate::erased::apfloat_machines::Machine;
 use crate::erased::formats_at_run_time::{Arithmetic, BuiltInFormat, BuiltInKind, IeeeFormat, mode_named};
 use crate::erased::rustc_apfloat::Round;
 use crate::grid::Element;
+use crate::machine_words::MACHINES_BY_WORD;
 
 /// The help; `packaging/manual` makes the man page and the completions of it.
 pub const HELP: &str = "\
@@ -61,22 +62,6 @@ pub static OPTIONS: &[&str] = &["--help", "-h", "--machine", "--svg", "--version
 
 /// The words of the machines.
 pub static MACHINES: &[&str] = &["x86", "x87", "arm", "arm_default_nan", "arm_alternate", "risc_v", "power", "s390x"];
-
-/// The machines by their words. The last four are other spellings.
-static MACHINES_BY_WORD: &[(&str, Machine)] = &[
-    ("x86", Machine::X86),
-    ("x87", Machine::X87),
-    ("arm", Machine::Arm),
-    ("arm_default_nan", Machine::ArmDefaultNan),
-    ("arm_alternate", Machine::ArmAlternate),
-    ("risc_v", Machine::RiscV),
-    ("power", Machine::Power),
-    ("s390x", Machine::S390x),
-    ("arm-default-nan", Machine::ArmDefaultNan),
-    ("arm-alternate", Machine::ArmAlternate),
-    ("risc-v", Machine::RiscV),
-    ("riscv", Machine::RiscV),
-];
 
 /// The machine of this name.
 fn machine_named(word: &str) -> Option<Machine> {

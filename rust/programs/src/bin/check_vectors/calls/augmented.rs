@@ -1,13 +1,13 @@
 //! Augmented operations (9.5) and payloads of NaNs (9.7).
 
-use crate::calls::in_a_format::{two_values_in, value_in};
-use crate::erased::formats_at_run_time::{BuiltInFormat, FlaggedFormat, InFormat};
+use crate::calls::in_a_format::{OfValue, of_value, two_values_in};
+use crate::erased::formats_at_run_time::{BuiltInFormat, FlaggedFormat};
 use crate::erased::ieee_operations::augmented::{
     augmented_add, augmented_multiply, augmented_subtract, get_payload, set_payload, set_payload_signaling,
 };
 use crate::erased::rustc_apfloat::Float;
 use crate::erased::rustc_apfloat::ieee::{
-    DoubleS, Flagged, Float8E4M3FNS, Float8E4M3FNUZS, Float8E5M2S, HalfS, IeeeFlags, Semantics, SingleS,
+    DoubleS, Flagged, Float8E4M3FNS, Float8E4M3FNUZS, Float8E5M2S, HalfS, IeeeFlags, IeeeFloat, Semantics, SingleS,
 };
 use crate::lines::{
     Answered, AugmentedCall, CallFault, ExtraField, Operand, Operands, PayloadCall, RowAnswer, RowFormat, StatusField,
@@ -54,26 +54,12 @@ fn augmented<S: Flagged>(call: AugmentedCall, operands: Operands) -> Answered {
 
 /// What an operation on the payload of a NaN returns in a built-in format.
 pub(crate) fn payload_in(format: RowFormat, call: PayloadCall, operand: Operand) -> Answered {
-    match format {
-        RowFormat::BuiltIn(format, FlaggedFormat::BuiltIn(_)) => format.run(InPayload { call, operand }),
-        _ => Err(CallFault::Support),
-    }
+    of_value(format, operand, call)
 }
 
-/// An operation on the payload of a NaN.
-struct InPayload {
-    call: PayloadCall,
-    operand: Operand,
-}
-
-impl InFormat for InPayload {
-    type Output = Answered;
-
-    fn in_format<S: Semantics>(self) -> Answered {
-        let Some(x) = value_in::<S>(self.operand) else {
-            return Err(CallFault::Operand);
-        };
-        let value = match self.call {
+impl OfValue for PayloadCall {
+    fn of<S: Semantics>(self, x: IeeeFloat<S>) -> Answered {
+        let value = match self {
             PayloadCall::Get => get_payload(x),
             PayloadCall::Set => set_payload(x),
             PayloadCall::SetSignaling => set_payload_signaling(x),

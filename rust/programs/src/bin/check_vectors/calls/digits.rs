@@ -2,9 +2,8 @@
 //!
 //! The value of a row is the digits that `write_digits` writes, and `exponent=` the exponent of ten of the first one.
 
-use crate::calls::in_a_format::value_in;
+use crate::calls::in_a_format::{OfValue, of_value};
 use crate::erased::apfloat_digits::decimal::{Written, digit_count, write_digits};
-use crate::erased::formats_at_run_time::{FlaggedFormat, InFormat};
 use crate::erased::rustc_apfloat::ieee::{IeeeFloat, Semantics};
 use crate::lines::{
     Answered, CallFault, ExtraField, Operand, OperationCall, Request, RowAnswer, RowFormat, StatusField, Text,
@@ -15,10 +14,7 @@ use std::str;
 /// What a call on the digits of a value returns in a format, if that is a built-in one with the flags of the built-in
 /// formats.
 pub(crate) fn digits_in(format: RowFormat, call: OperationCall, request: Request) -> Answered {
-    match format {
-        RowFormat::BuiltIn(format, FlaggedFormat::BuiltIn(_)) => format.run(DigitsIn { call, request }),
-        _ => Err(CallFault::Support),
-    }
+    of_value(format, request.operands.first, DigitsIn { call, request })
 }
 
 /// A call on the digits of a value.
@@ -27,13 +23,8 @@ struct DigitsIn {
     request: Request,
 }
 
-impl InFormat for DigitsIn {
-    type Output = Answered;
-
-    fn in_format<S: Semantics>(self) -> Answered {
-        let Some(x) = value_in::<S>(self.request.operands.first) else {
-            return Err(CallFault::Operand);
-        };
+impl OfValue for DigitsIn {
+    fn of<S: Semantics>(self, x: IeeeFloat<S>) -> Answered {
         match self.call {
             OperationCall::WriteDigits => written(x, self.request),
             _ => Ok(counted(x)),

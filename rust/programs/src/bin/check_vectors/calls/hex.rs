@@ -1,8 +1,7 @@
 //! The hexadecimal digits of a value (5.12.3), in the built-in formats.
 
-use crate::calls::in_a_format::value_in;
+use crate::calls::in_a_format::{OfValue, of_value};
 use crate::erased::apfloat_digits::hexadecimal::{write_hex, write_hex_rounded};
-use crate::erased::formats_at_run_time::{FlaggedFormat, InFormat};
 use crate::erased::rustc_apfloat::Round;
 use crate::erased::rustc_apfloat::ieee::{IeeeFloat, Semantics};
 use crate::lines::{
@@ -14,10 +13,7 @@ use std::str;
 /// What a call on the hexadecimal digits of a value returns in a format, if that is a built-in one with the flags of
 /// the built-in formats.
 pub(crate) fn hex_in(format: RowFormat, call: OperationCall, request: Request) -> Answered {
-    match format {
-        RowFormat::BuiltIn(format, FlaggedFormat::BuiltIn(_)) => format.run(HexIn { call, request }),
-        _ => Err(CallFault::Support),
-    }
+    of_value(format, request.operands.first, HexIn { call, request })
 }
 
 /// A call on the hexadecimal digits of a value.
@@ -26,13 +22,8 @@ struct HexIn {
     request: Request,
 }
 
-impl InFormat for HexIn {
-    type Output = Answered;
-
-    fn in_format<S: Semantics>(self) -> Answered {
-        let Some(x) = value_in::<S>(self.request.operands.first) else {
-            return Err(CallFault::Operand);
-        };
+impl OfValue for HexIn {
+    fn of<S: Semantics>(self, x: IeeeFloat<S>) -> Answered {
         match self.call {
             OperationCall::WriteHex => exactly(x),
             _ => rounded(x, self.request.operands.second, self.request.round),

@@ -4,6 +4,7 @@
 use crate::erased::apfloat_machines::{Flush, Machine};
 use crate::erased::formats_at_run_time::{BuiltInFormat, BuiltInKind, FlaggedFormat, IeeeFormat};
 use crate::erased::rustc_apfloat::ieee::{BFloatS, DoubleS, Float8E5M2S, HalfS, QuadS, SingleS, X87DoubleExtendedS};
+use crate::lines::machine_words::MACHINES_BY_WORD;
 use crate::lines::row_format::{CallInFormat, RowFormat};
 use crate::lines::table::found;
 
@@ -18,22 +19,6 @@ pub struct MachineFormat {
     pub flush: Option<Flush>,
 }
 
-/// The machines by their words. The last four are other spellings.
-static MACHINES: &[(&str, Machine)] = &[
-    ("x86", Machine::X86),
-    ("x87", Machine::X87),
-    ("arm", Machine::Arm),
-    ("arm_default_nan", Machine::ArmDefaultNan),
-    ("arm_alternate", Machine::ArmAlternate),
-    ("risc_v", Machine::RiscV),
-    ("power", Machine::Power),
-    ("s390x", Machine::S390x),
-    ("arm-default-nan", Machine::ArmDefaultNan),
-    ("arm-alternate", Machine::ArmAlternate),
-    ("risc-v", Machine::RiscV),
-    ("riscv", Machine::RiscV),
-];
-
 /// The words of machines, for messages.
 pub const MACHINE_WORDS: &str = "x86, x87, arm, arm_default_nan, arm_alternate, risc_v, power or s390x";
 
@@ -41,7 +26,7 @@ pub const MACHINE_WORDS: &str = "x86, x87, arm, arm_default_nan, arm_alternate, 
 pub fn unknown_machine(formats: &str) -> Option<&str> {
     let (_, word) = formats.split_once('@')?;
     let (name, _) = word.split_once('+').unwrap_or((word, ""));
-    match found(MACHINES, name) {
+    match found(MACHINES_BY_WORD, name) {
         Some(_) => None,
         None => Some(name),
     }
@@ -53,7 +38,7 @@ pub fn unknown_machine(formats: &str) -> Option<&str> {
 pub fn not_given(formats: &str) -> Option<(&'static str, &'static str)> {
     let (formats, word) = formats.split_once('@')?;
     let (name, option) = word.split_once('+').unwrap_or((word, ""));
-    let machine = found(MACHINES, name)?;
+    let machine = found(MACHINES_BY_WORD, name)?;
     let (source, target) = formats.split_once('>').unwrap_or(("", formats));
     match (machine, source, target, option) {
         (Machine::X86, "single", "bfloat", _) => {
@@ -70,7 +55,7 @@ impl MachineFormat {
     /// The format of this name on the machine of this word, which may end in `+ftz` if the machine flushes results.
     pub fn named(format: &str, word: &str) -> Option<MachineFormat> {
         let (name, option) = word.split_once('+').unwrap_or((word, ""));
-        let machine = found(MACHINES, name)?;
+        let machine = found(MACHINES_BY_WORD, name)?;
         let kind = BuiltInKind::named(format)?;
         let (Some(built_in), Some(format)) = (kind.format(), IeeeFormat::of(kind)) else {
             return None;

@@ -19,6 +19,8 @@ mod formats;
 mod fpgen;
 mod given;
 mod machine_format;
+#[path = "../../../machine_words.rs"]
+mod machine_words;
 mod operands;
 mod operations;
 mod other_files;

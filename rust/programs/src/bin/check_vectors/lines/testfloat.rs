@@ -111,7 +111,7 @@ static CALLS_TO_FEWER_DIGITS: &[(&str, &str)] =
 enum NanCheck {
     /// A NaN agrees with any other.
     Any,
-    /// A NaN that a line states has to be quiet. TestFloat's own verifier compares them so far unless it is told more.
+    /// A NaN that a line states has to be quiet. TestFloat's own verifier compares no more than this by default.
     Quiet,
     /// All bits.
     Bits,

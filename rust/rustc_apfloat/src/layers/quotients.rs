@@ -1,26 +1,17 @@
 //! Quotients and rests of significands: by many digits at a time, and one digit at a time.
 
-ghost use Rattle.std.specs.Prelude.{◌*◌, ◌^◌, ◌<◌, ◌≤◌};
-
-use crate::asserts::same;
-use apfloat_words::{
-    divide, divide_by_guess, divide_u128, is_exact, u128_moved_rest, word_moved_rest,
-};
+use super::same;
+use crate::erased::apfloat_words::{divide, divide_by_guess, divide_u128, is_exact, u128_moved_rest, word_moved_rest};
 
 /// Whether the division by many digits at a time returns what the division by single digits does.
-fn agree(dividend: u128, divisor: u128, places: u32) -> bool
-    requires some { 0 < divisor }
-    requires narrow { divisor < 2 ^ 125 }
-    requires close { dividend < 2 * divisor }
-    requires short { places ≤ 126 }
-{
+fn agree(dividend: u128, divisor: u128, places: u32) -> bool {
     let many = divide_u128(dividend, divisor, places);
     let single = divide(dividend, divisor, places);
     many.whole == single.whole && many.loss == single.loss
 }
 
 #[test]
-fn many_and_single_digits_agree(rt: HostRuntime) {
+fn many_and_single_digits_agree() {
     for places in 0..127 {
         let dividend = 0x1234_5678_9abc_def0_0fed_cba9_8765;
         let agreeing = [
@@ -32,17 +23,12 @@ fn many_and_single_digits_agree(rt: HostRuntime) {
             agree((1 << 125) - 1, (1 << 124) + 1, places),
             agree(dividend, 0x1f0f_0000_ffff_0000_0000_1234_0001, places),
         ];
-        same(&rt, agreeing, [true; 7], places);
+        same(agreeing, [true; 7], places);
     }
 }
 
 /// Whether the division by a guess that is off by `distance` returns the quotient, rounded to odd.
-fn guess_agrees(distance: u64, dividend: u64, divisor: u64, places: u32) -> bool
-    requires some { 0 < divisor }
-    requires narrow { divisor < 2 ^ 62 }
-    requires close { dividend < 2 * divisor }
-    requires short { places ≤ 61 }
-{
+fn guess_agrees(distance: u64, dividend: u64, divisor: u64, places: u32) -> bool {
     let single = divide(u128::from(dividend), u128::from(divisor), places);
     let whole = (single.whole % (1 << 64)) as u64;
     let more = u64::from(!is_exact(single.loss) & (whole % 2 == 0));
@@ -51,12 +37,7 @@ fn guess_agrees(distance: u64, dividend: u64, divisor: u64, places: u32) -> bool
 }
 
 /// Whether the division returns the same for guesses that are exact, or too great or too small by 1, 2 and much more.
-fn guesses_agree(dividend: u64, divisor: u64, places: u32) -> bool
-    requires some { 0 < divisor }
-    requires narrow { divisor < 2 ^ 62 }
-    requires close { dividend < 2 * divisor }
-    requires short { places ≤ 61 }
-{
+fn guesses_agree(dividend: u64, divisor: u64, places: u32) -> bool {
     guess_agrees(0, dividend, divisor, places)
         && guess_agrees(1, dividend, divisor, places)
         && guess_agrees(2, dividend, divisor, places)
@@ -66,9 +47,7 @@ fn guesses_agree(dividend: u64, divisor: u64, places: u32) -> bool
 }
 
 /// The rest after `places` doublings, one at a time, and whether the integral quotient is odd.
-fn doubled_rest(dividend: u128, divisor: u128, places: u32) -> (u128, bool)
-    requires some { 0 < divisor }
-{
+fn doubled_rest(dividend: u128, divisor: u128, places: u32) -> (u128, bool) {
     let mut rest = dividend % divisor;
     let mut odd = dividend >= divisor;
     for _place in 0..places {
@@ -80,11 +59,7 @@ fn doubled_rest(dividend: u128, divisor: u128, places: u32) -> (u128, bool)
 }
 
 /// Whether the rests found by many digits at a time are those found by doublings.
-fn rests_agree(dividend: u128, divisor: u128, places: u32) -> bool
-    requires some { 0 < divisor }
-    requires narrow { divisor < 2 ^ 125 }
-    requires close { dividend < 2 * divisor }
-{
+fn rests_agree(dividend: u128, divisor: u128, places: u32) -> bool {
     let single = doubled_rest(dividend, divisor, places);
     let in_u128 = u128_moved_rest(dividend, divisor, places);
     if in_u128.rest != single.0 || in_u128.odd != single.1 {
@@ -105,16 +80,8 @@ fn next_word(word: u64) -> u64 {
 }
 
 /// A dividend below twice the divisor.
-fn close_to(divisor: u128, dividend: u128) -> u128
-    requires some { 0 < divisor }
-    requires narrow { divisor < 2 ^ 126 }
-    ensures close { result < 2 * divisor }
-{
-    if dividend < 2 * divisor {
-        dividend
-    } else {
-        divisor - 1
-    }
+fn close_to(divisor: u128, dividend: u128) -> u128 {
+    if dividend < 2 * divisor { dividend } else { divisor - 1 }
 }
 
 /// Whether all methods agree for a dividend and a divisor made of two words.
@@ -130,7 +97,7 @@ fn made_operands_agree(first: u64, second: u64, places: u32) -> bool {
 }
 
 #[test]
-fn many_and_single_digits_agree_on_made_operands(rt: HostRuntime) {
+fn many_and_single_digits_agree_on_made_operands() {
     let mut word: u64 = 88172645463325252;
     for round in 0..1000u32 {
         let first = next_word(word);
@@ -139,12 +106,12 @@ fn many_and_single_digits_agree_on_made_operands(rt: HostRuntime) {
             made_operands_agree(first, word, round % 400),
             made_operands_agree(first >> (round % 60), word >> (round % 60), round % 400),
         ];
-        same(&rt, agreeing, [true; 2], round);
+        same(agreeing, [true; 2], round);
     }
 }
 
 #[test]
-fn guesses_and_single_digits_agree(rt: HostRuntime) {
+fn guesses_and_single_digits_agree() {
     for places in 0..62 {
         let agreeing = [
             guesses_agree(1, 1, places),
@@ -153,7 +120,7 @@ fn guesses_and_single_digits_agree(rt: HostRuntime) {
             guesses_agree(1 << 52, (1 << 53) - 1, places),
             guesses_agree((1 << 62) - 2, (1 << 62) - 1, places),
         ];
-        same(&rt, agreeing, [true; 5], places);
+        same(agreeing, [true; 5], places);
     }
 }
 
@@ -166,18 +133,13 @@ fn far_rests_agree(places: u32) -> bool {
 }
 
 #[test]
-fn far_rests_and_doubled_rests_agree(rt: HostRuntime) {
-    let agreeing = [
-        far_rests_agree(1500),
-        far_rests_agree(1501),
-        far_rests_agree(2048),
-        far_rests_agree(5000),
-    ];
-    same(&rt, agreeing, [true; 4], "far");
+fn far_rests_and_doubled_rests_agree() {
+    let agreeing = [far_rests_agree(1500), far_rests_agree(1501), far_rests_agree(2048), far_rests_agree(5000)];
+    same(agreeing, [true; 4], "far");
 }
 
 #[test]
-fn rests_and_doubled_rests_agree(rt: HostRuntime) {
+fn rests_and_doubled_rests_agree() {
     for places in 0..200 {
         let agreeing = [
             rests_agree(1, 1, places),
@@ -188,6 +150,6 @@ fn rests_and_doubled_rests_agree(rt: HostRuntime) {
             rests_agree((1 << 125) - 2, (1 << 125) - 1, places),
             rests_agree((1 << 125) - 1, (1 << 124) + 1, places),
         ];
-        same(&rt, agreeing, [true; 7], places);
+        same(agreeing, [true; 7], places);
     }
 }

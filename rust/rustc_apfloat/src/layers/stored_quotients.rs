@@ -1,22 +1,14 @@
 //! Quotients whose codes and flags were computed with fractions (`evidence/stored_quotients.py`).
 
-ghost use Rattle.apfloat_ieee.specs.Types.{format_of};
-ghost use Rattle.apfloat_model.specs.order.Positive.{IsPositive};
-
-use crate::stored_quotient_rows::{QUOTIENTS_E2M1FN, QUOTIENTS_E2M3FN, QUOTIENTS_E3M2FN};
-use crate::stored_values::{Checksums, MODES, extended};
-use apfloat_base::{Category, ExpInt, Flags, Float, Round, Status};
-use apfloat_ieee::built_in_formats::{Double, Single};
-use apfloat_ieee::{IeeeFloat, Semantics};
-use small_formats::{E2M1FN, E2M3FN, E3M2FN, StorageFormat, StoredFloat};
+use super::stored_quotient_rows::{QUOTIENTS_E2M1FN, QUOTIENTS_E2M3FN, QUOTIENTS_E3M2FN};
+use crate::erased::apfloat_base::{Category, ExpInt, Flags, Float, Round};
+use crate::erased::apfloat_ieee::built_in_formats::{Double, Single};
+use crate::erased::apfloat_ieee::{IeeeFloat, Semantics};
+use crate::erased::small_formats::{E2M1FN, E2M3FN, E3M2FN, StorageFormat, StoredFloat};
 
 /// Singles by which is divided: their bits, their significands, and the exponents of 1/32 of their last digits.
-static DIVISORS: [(u32, u128, ExpInt); 4] = [
-    (0x3f80_0000, 1, -5),
-    (0x4049_0fdb, 0xc9_0fdb, -27),
-    (0x0000_0001, 1, -154),
-    (0x7f7f_ffff, 0xff_ffff, 99),
-];
+static DIVISORS: [(u32, u128, ExpInt); 4] =
+    [(0x3f80_0000, 1, -5), (0x4049_0fdb, 0xc9_0fdb, -27), (0x0000_0001, 1, -154), (0x7f7f_ffff, 0xff_ffff, 99)];
 
 /// The checksum with the quotient of each sign.
 fn with_quotients<F: StorageFormat, S: Semantics, R: Semantics>(
@@ -41,19 +33,14 @@ fn with_quotient<F: StorageFormat, S: Semantics, R: Semantics>(
     x: IeeeFloat<S>,
     y: IeeeFloat<R>,
     mode: Round,
-) -> u64
-    requires { IsPositive (format_of R.Semantics) y }
-{
+) -> u64 {
     if !x.is_finite() {
         return checksum;
     }
     let got = StoredFloat::<F>::from_quotient(x, y, mode);
-    extended(
-        checksum,
-        u128::from(got.value.to_bits()),
-        got.status.bits(),
-        got.status != Status::OK,
-    )
+    let result =
+        64 * u64::from(got.value.to_bits()) + 2 * u64::from(got.status.bits()) + u64::from(!got.status.is_empty());
+    checksum.wrapping_mul(1_000_003).wrapping_add(result)
 }
 
 /// The checksum of quotients about the multiples of 1/32.
@@ -62,9 +49,7 @@ fn quotients<F: StorageFormat>(mode: Round) -> u64 {
     for (bits, significand, exponent) in &DIVISORS {
         let y = Single::from_bits(u128::from(*bits));
         for step in 0..1200u32 {
-            let x = Double::from_u128(u128::from(step) * *significand)
-                .value
-                .scalbn(*exponent);
+            let x = Double::from_u128(u128::from(step) * *significand).value.scalbn(*exponent);
             if step != 0 {
                 checksum = with_quotients::<F, _, _>(checksum, x.next_down().value, y, mode);
             }
@@ -77,27 +62,20 @@ fn quotients<F: StorageFormat>(mode: Round) -> u64 {
     checksum
 }
 
-fn all_modes<F: StorageFormat>() -> Checksums {
+fn all_modes<F: StorageFormat>() -> [u64; 5] {
     [
-        quotients::<F>(MODES[0]),
-        quotients::<F>(MODES[1]),
-        quotients::<F>(MODES[2]),
-        quotients::<F>(MODES[3]),
-        quotients::<F>(MODES[4]),
+        Round::NearestTiesToEven,
+        Round::TowardPositive,
+        Round::TowardNegative,
+        Round::TowardZero,
+        Round::NearestTiesToAway,
     ]
+    .map(quotients::<F>)
 }
 
 #[test]
-fn of_e2m1fn(rt: HostRuntime) {
-    assert_eq!(rt; all_modes::<E2M1FN>(), QUOTIENTS_E2M1FN);
-}
-
-#[test]
-fn of_e2m3fn(rt: HostRuntime) {
-    assert_eq!(rt; all_modes::<E2M3FN>(), QUOTIENTS_E2M3FN);
-}
-
-#[test]
-fn of_e3m2fn(rt: HostRuntime) {
-    assert_eq!(rt; all_modes::<E3M2FN>(), QUOTIENTS_E3M2FN);
+fn in_each_mode() {
+    assert_eq!(all_modes::<E2M1FN>(), QUOTIENTS_E2M1FN);
+    assert_eq!(all_modes::<E2M3FN>(), QUOTIENTS_E2M3FN);
+    assert_eq!(all_modes::<E3M2FN>(), QUOTIENTS_E3M2FN);
 }
