@@ -2,11 +2,12 @@
 //! `tests/rows/projections.tsv` and `conversion_modes.tsv` have more.
 
 ghost use Rattle.std.specs.Prelude.{refl, true, false};
-ghost use Rattle.small_formats.specs.ProjectionLawTest.{projection_from_test};
+ghost use Rattle.p3109_formats.specs.LawTest.{projection_from_test};
 
 use apfloat_base::{Category, Flags, Float, Round, StatusAnd};
 use apfloat_ieee::built_in_formats::Single;
-use small_formats::{Binary8P4, ConversionRound, Projected, Projection};
+use p3109_formats::{Binary8P4, Projected, Projection};
+use small_formats::ConversionRound;
 use std::cmp::Ordering;
 
 /// `binary6p2ue`.
