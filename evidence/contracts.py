@@ -18,7 +18,8 @@ CRATES = TOP / 'crates'
 PAGE = TOP / 'docs' / 'MODEL.md'
 BEGIN, END = '<!-- made by evidence/contracts.py -->', '<!-- end -->'
 # Public modules for the crates above, which no user calls.
-INSIDE = {'exponents', 'formatting', 'large', 'lanes', 'cuts', 'flagged', 'built_in_formats', 'order', 'products'}
+INSIDE = {'exponents', 'formatting', 'large', 'lanes', 'cuts', 'picks', 'grid_points', 'statuses', 'flagged',
+          'built_in_formats', 'order', 'products'}
 # What a clause says of what it is about, before it says what the result is.
 ASIDE = {'IsWithin', 'IsTrue', 'IsPositive', 'IsMember', 'IsBetween', 'AreAtMost', 'IsOneLower', 'IsSingle', 'IsOwn',
          'IsExactly', 'AreLookedUp', 'IsStoredBy', 'IsOffered'}
@@ -26,7 +27,8 @@ ASIDE = {'IsWithin', 'IsTrue', 'IsPositive', 'IsMember', 'IsBetween', 'AreAtMost
 PLAIN = {'self', 'if', 'up', 'down', 'neg_ℤ', 'ltb', 'eqb', 'bits', 'pos', 'finite', 'length', 'exponent', 'flags',
          'true', 'false', '2', 'target', 'width', 'found', 'with_status', 'narrowed', 'fields_of'}
 LIBRARIES = ('apfloat_ieee', 'rustc_apfloat', 'apfloat_decimals', 'apfloat_digits', 'ieee_operations', 'round_to_odd',
-             'apfloat_machines', 'fast_bits', 'small_formats', 'apfloat_arrays', 'apfloat_c', 'commands')
+             'apfloat_machines', 'fast_bits', 'small_formats', 'p3109_formats', 'apfloat_arrays', 'apfloat_c',
+             'commands')
 HEAD = re.compile(r'^( *)pub (?:const )?(?:extern "C" )?fn (\w+)', re.M)
 RELATION = re.compile(r'\b((?:Is|Are|Has|Gives|Leads|Stays)[A-Z]\w*)')
 

@@ -34,6 +34,7 @@ pub const LIBRARY: &[&str] = &[
     "round_to_odd",
     "apfloat_machines",
     "small_formats",
+    "p3109_formats",
     "fast_bits",
     "formats_at_run_time",
     "apfloat_arrays",

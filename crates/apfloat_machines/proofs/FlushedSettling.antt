@@ -1,14 +1,11 @@
 -- What a machine makes of a flushed answer is what its definition says of the operation with flushing.
-use Rattle.std.proofs.Common.{◌≡◌, ℕ, true}
-use Rattle.apfloat_model.specs.declared.kinds.Round.{Round}
+use Rattle.std.proofs.Common.{◌≡◌}
 use Rattle.apfloat_model.specs.declared.kinds.NonfiniteBehavior.TheVariants.{IEEE754}
 use Rattle.apfloat_model.specs.declared.status.StatusAnd.{StatusAnd}
 use Rattle.apfloat_model.specs.rounding.Flags.{bits_of}
 use Rattle.apfloat_model.specs.rounding.Answer.{IsAnswer}
 use Rattle.apfloat_model.specs.formats.Format.{Format}
-use Rattle.apfloat_model.specs.formats.Datum.{Datum, finite, infinite, nan}
-use Rattle.apfloat_model.specs.formats.Nan.{invalid_if, is_signaling_nan}
-use Rattle.apfloat_model.specs.order.Classes.{is_nan}
+use Rattle.apfloat_model.specs.formats.Datum.{Datum}
 use Rattle.apfloat_model.specs.arithmetic.Sums.{sum, difference}
 use Rattle.apfloat_model.specs.arithmetic.Products.{product}
 use Rattle.apfloat_model.specs.arithmetic.Quotients.{quotient}
@@ -18,14 +15,13 @@ use Rattle.apfloat_model.proofs.Determined.{gives_once}
 use Rattle.apfloat_model.proofs.general.Choices.{match_case}
 use Rattle.apfloat_machines.specs.declared.machine.Machine.{Machine}
 use Rattle.apfloat_machines.specs.declared.flushing.Flush.{Flush}
-use Rattle.apfloat_machines.specs.Machines.{nan_choice}
-use Rattle.apfloat_machines.specs.Nans.{default_nan, settled, takes_none}
+use Rattle.apfloat_machines.specs.Nans.{settled}
 use Rattle.apfloat_machines.specs.Invalid.{is_invalid_sum, is_invalid_difference, is_invalid_product, is_invalid_quotient}
 use Rattle.apfloat_machines.specs.Operations.{settled_fused, settled_fused_flags}
-use Rattle.apfloat_machines.specs.Conversions.{is_lost_nan, settled_conversion}
+use Rattle.apfloat_machines.specs.Conversions.{is_lost_nan}
 use Rattle.apfloat_machines.specs.FlushedOperations.{IsFlushedSum, IsFlushedDifference, IsFlushedProduct, IsFlushedQuotient, IsFlushedFusedSum, IsFlushedConversion}
-use Rattle.apfloat_machines.specs.FlushedMachines.{IsFlushedMachineConversion, AreFlushedAndSettled, IsFlushedAndSettledFused, FlushedMachinesHaveOneAnswer}
-use Rattle.apfloat_machines.proofs.Settling.{of_two, of_three, left, conversion_cases}
+use Rattle.apfloat_machines.specs.FlushedMachines.{AreFlushedAndSettled, IsFlushedAndSettledFused, FlushedMachinesHaveOneAnswer}
+use Rattle.apfloat_machines.proofs.Settling.{of_two, of_three}
 use Rattle.apfloat_machines.proofs.Once.{of_two_once, of_three_once}
 use Rattle.apfloat_machines.proofs.Usual.{sum_usual, difference_usual, product_usual, quotient_usual, fused_usual}
 use Rattle.apfloat_machines.proofs.FlushedUsual.{flushed_settled_or_number}
@@ -65,23 +61,6 @@ fused_is_flushed_and_settled f machine x y z answer result v s e flush mode h =
     rw (v, s) (of_three f machine x y z (IsFlushedFusedSum f flush mode x y z) answer.value (bits_of answer.status)
     (fused_usual f x y z answer.value (bits_of answer.status)
     (flushed_settled_or_number f flush mode (fused_sum f x y z) answer.value (bits_of answer.status) e h)) h)
-
--- ---- conversions
-
-flushed_conversion_status : (f g : Format) (flush : Flush) (mode : Round) (x value : Datum) (status : ℕ)
-    → is_nan x ≡ true → IsFlushedConversion f g flush mode x value status → status ≡ invalid_if (is_signaling_nan f x)
-flushed_conversion_status f g flush mode (nan b s) value status e h = h.1.status_is
-flushed_conversion_status f g flush mode (infinite b) value status e h = cc
-flushed_conversion_status f g flush mode (finite b n) value status e h = cc
-
-pub conversion_flushed_and_settled : (f g : Format) (machine : Machine) (flush : Flush) (mode : Round)
-    (x value : Datum) (status : ℕ) → IsFlushedConversion f g flush mode x value status
-    → IsFlushedMachineConversion f g machine flush mode x (settled_conversion f g machine x value) status
-conversion_flushed_and_settled f g machine flush mode x value status h =
-    conversion_cases (is_lost_nan f machine x) (default_nan g machine) value (invalid_if (is_signaling_nan f x)) status
-    (IsFlushedConversion f g flush mode x)
-    (λ e. flushed_conversion_status f g flush mode x value status
-    (left (is_nan x) (takes_none (nan_choice machine) f x x) e) h) h
 
 -- ---- one answer
 

@@ -5,8 +5,8 @@ use Rattle.apfloat_model.specs.declared.kinds.Round.{Round}
 use Rattle.apfloat_model.specs.declared.kinds.Round.TheVariants.{NearestTiesToEven}
 use Rattle.apfloat_model.specs.declared.kinds.NonfiniteBehavior.TheVariants.{IEEE754}
 use Rattle.apfloat_model.specs.formats.Format.{Format}
-use Rattle.apfloat_model.specs.formats.Datum.{Datum, finite, infinite, nan}
-use Rattle.apfloat_model.specs.formats.Nan.{invalid_bit, invalid_if, is_signaling_nan}
+use Rattle.apfloat_model.specs.formats.Datum.{Datum}
+use Rattle.apfloat_model.specs.formats.Nan.{invalid_bit, invalid_if}
 use Rattle.apfloat_model.specs.rounding.Answer.{IsAnswer}
 use Rattle.apfloat_model.specs.order.Classes.{is_nan}
 use Rattle.apfloat_model.specs.arithmetic.Sums.{sum, difference, IsSum, IsDifference}
@@ -15,7 +15,6 @@ use Rattle.apfloat_model.specs.arithmetic.Quotients.{quotient, IsQuotient}
 use Rattle.apfloat_model.specs.arithmetic.Remainders.{remainder, IsTruncatedRemainder, IsNearestRemainder, truncated_quotient, nearest_quotient}
 use Rattle.apfloat_model.specs.arithmetic.Roots.{root, IsRoot}
 use Rattle.apfloat_model.specs.arithmetic.FusedSums.{fused_sum, IsFusedSum}
-use Rattle.apfloat_model.specs.arithmetic.Conversions.{IsConversion}
 use Rattle.apfloat_model.specs.whole_numbers.WholeNumbers.{IsRoundToIntegral}
 use Rattle.apfloat_model.specs.declared.status.StatusAnd.{StatusAnd}
 use Rattle.apfloat_model.specs.rounding.Flags.{bits_of, Gives}
@@ -23,10 +22,9 @@ use Rattle.ieee_operations.specs.WholeNumbers.{IsRoundedToIntegral}
 use Rattle.ieee_operations.specs.Extrema.{quieted_datum}
 use Rattle.apfloat_machines.specs.declared.machine.Machine.{Machine}
 use Rattle.apfloat_machines.specs.Machines.{nan_choice, fused_order}
-use Rattle.apfloat_machines.specs.Nans.{default_nan, nan_of, settled, takes_none}
+use Rattle.apfloat_machines.specs.Nans.{default_nan, nan_of, settled}
 use Rattle.apfloat_machines.specs.Invalid.{is_invalid_sum, is_invalid_difference, is_invalid_product, is_invalid_quotient, is_invalid_remainder, is_invalid_root, is_invalid_fused}
 use Rattle.apfloat_machines.specs.Operations.{is_signaling_of_two, is_nan_of_three, IsOfTwo, IsOfThree, AreSettled, AreSettledOfOne, IsMachineFusedSum, taken_in_order, fused_takes_none, is_invalid_of_nans, settled_fused, settled_fused_flags}
-use Rattle.apfloat_machines.specs.Conversions.{is_lost_nan, settled_conversion, IsMachineConversion}
 use Rattle.apfloat_machines.proofs.Usual.{IsUsual, IsUsualNumber, IsUsualFused, settled_or_number, sum_usual, difference_usual, product_usual, quotient_usual, remainder_usual, root_usual, exact_usual, integral_usual, fused_usual}
 
 -- ---- two operands
@@ -139,33 +137,3 @@ fused_is_settled f machine x y z answer result v s e mode h =
     rw (v, s) (of_three f machine x y z (IsFusedSum f mode x y z) answer.value (bits_of answer.status)
     (fused_usual f x y z answer.value (bits_of answer.status)
     (settled_or_number f mode (fused_sum f x y z) answer.value (bits_of answer.status) e h)) h)
-
--- ---- conversions
-
-conversion_status : (f g : Format) (mode : Round) (x value : Datum) (status : ℕ) (loses : Bool) → is_nan x ≡ true
-    → IsConversion f g mode x value status loses → status ≡ invalid_if (is_signaling_nan f x)
-conversion_status f g mode (nan b s) value status loses e h = h.status_is
-conversion_status f g mode (infinite b) value status loses e h = cc
-conversion_status f g mode (finite b n) value status loses e h = cc
-
-pub left : (p q : Bool) → (p && q) ≡ true → p ≡ true
-left true q e = refl
-left false q e = e
-
-pub conversion_cases : (lost : Bool) (default value : Datum) (flags status : ℕ) (Says : Datum → ℕ → Type 0)
-    → (lost ≡ true → status ≡ flags) → Says value status
-    → MatchBool lost (IsAnswer default flags (if lost then default else value) status)
-    (Says (if lost then default else value) status)
-conversion_cases true default value flags status Says e h = record { value_is = refl; status_is = e refl }
-conversion_cases false default value flags status Says e h = h
-
-pub conversion_settled : (f g : Format) (machine : Machine) (mode : Round) (x value : Datum) (status : ℕ) (loses : Bool)
-    → IsConversion f g mode x value status loses
-    → IsMachineConversion f g machine mode x (settled_conversion f g machine x value) status
-conversion_settled f g machine mode x value status loses h =
-    conversion_cases (is_lost_nan f machine x) (default_nan g machine) value
-    (invalid_if (is_signaling_nan f x)) status
-    (λ v s. (loses : Bool) × IsConversion f g mode x v s loses)
-    (λ e. conversion_status f g mode x value status loses
-    (left (is_nan x) (takes_none (nan_choice machine) f x x) e) h)
-    (loses, h)

@@ -28,19 +28,19 @@ use Rattle.apfloat_machines.specs.Operations.{is_signaling_of_two, is_nan_of_thr
 
 -- ---- what is to be shown
 
--- of operands that are not NaNs: a NaN with INVALID_OP, or no NaN
+-- the result of operands that are not NaNs: a NaN with INVALID_OP if it is invalid, otherwise no NaN
 abbrev pub IsUsualNumber : Bool → Datum → ℕ → Type 0
 IsUsualNumber invalid value status =
     MatchBool invalid ((is_nan value ≡ true) × (status ≡ invalid_bit)) (is_nan value ≡ false)
 
--- of any two operands
+-- the result of any two operands: a NaN if one of them is, with INVALID_OP if one is signaling
 abbrev pub IsUsual : Format → Datum → Datum → Bool → Datum → ℕ → Type 0
 IsUsual f x y invalid value status =
     MatchBool (is_nan x || is_nan y)
     ((is_nan value ≡ true) × (status ≡ invalid_if (is_signaling_of_two f x y)))
     (IsUsualNumber invalid value status)
 
--- of any three
+-- the result of a fused sum of any three: a NaN if one of them is; its flags are not told here
 abbrev pub IsUsualFused : Datum → Datum → Datum → Datum → ℕ → Type 0
 IsUsualFused x y z value status =
     MatchBool (is_nan_of_three x y z) (is_nan value ≡ true) (IsUsualNumber (is_invalid_fused x y z) value status)
@@ -256,19 +256,22 @@ same_or : (test : Bool) → test ≡ (test || test)
 same_or true = refl
 same_or false = refl
 
+of_one_nan : (f : Format) (s : ℕ) (negative : Bool) (significand : ℕ) (value : Datum) (status : ℕ)
+    → IsAnswer (nan negative significand) (invalid_if (is_signaling f s)) value status
+    → (is_nan value ≡ true) × (status ≡ invalid_if (is_signaling f s || is_signaling f s))
+of_one_nan f s negative significand value status h =
+    let k = of_nan negative significand _ value status h in
+    (k.0, k.1 ∙ ap (λ (test : Bool). invalid_if test) (same_or (is_signaling f s)))
+
 pub root_usual : (f : Format) (x value : Datum) (status : ℕ) → IsSettledOrNumber (root f x) value status
     → IsUsual f x x (is_invalid_root x) value status
-root_usual f (nan b s) value status h =
-    let k = of_nan _ _ _ value status h in
-    (k.0, k.1 ∙ ap (λ (test : Bool). invalid_if test) (same_or (is_signaling f s)))
+root_usual f (nan b s) value status h = of_one_nan f s _ _ value status h
 root_usual f (infinite b) value status h = invalid_or f b (infinite false) ok_bits value status refl h
 root_usual f (finite b n) value status h = root_of_number f (eqb n 0) b (n * 2 ^ f.scale) 1 value status h
 
 pub exact_usual : (f : Format) (mode : Round) (x value : Datum) (status : ℕ)
     → IsRoundToIntegral f mode x value status → IsUsual f x x false value status
-exact_usual f mode (nan b s) value status h =
-    let k = of_nan _ _ _ value status h in
-    (k.0, k.1 ∙ ap (λ (test : Bool). invalid_if test) (same_or (is_signaling f s)))
+exact_usual f mode (nan b s) value status h = of_one_nan f s _ _ value status h
 exact_usual f mode (infinite b) value status h = of_number (infinite b) ok_bits value status refl h
 exact_usual f mode (finite b n) value status h =
     is_of value (signed_quanta f.nonfinite b (whole_quanta f mode b n)) false h.value_is
@@ -276,9 +279,7 @@ exact_usual f mode (finite b n) value status h =
 
 pub integral_usual : (f : Format) (mode : Round) (x value : Datum) (status : ℕ)
     → IsRoundedToIntegral f mode x value status → IsUsual f x x false value status
-integral_usual f mode (nan b s) value status h =
-    let k = of_nan _ _ _ value status h in
-    (k.0, k.1 ∙ ap (λ (test : Bool). invalid_if test) (same_or (is_signaling f s)))
+integral_usual f mode (nan b s) value status h = of_one_nan f s _ _ value status h
 integral_usual f mode (infinite b) value status h = of_number (infinite b) ok_bits value status refl h
 integral_usual f mode (finite b n) value status h =
     is_of value (signed_quanta f.nonfinite b (whole_quanta f mode b n)) false h.value_is

@@ -43,7 +43,7 @@ abbrev pub IsFlushedMachineFusedSum
 IsFlushedMachineFusedSum f machine flush mode x y z value status =
     IsOfThree f machine x y z (IsFlushedFusedSum f flush mode x y z) value status
 
--- of a datum of f into g
+-- the conversion of a datum of f into g
 abbrev pub IsFlushedMachineConversion : Format → Format → Machine → Flush → Round → Datum → Datum → ℕ → Type 0
 IsFlushedMachineConversion f g machine flush mode x value status =
     MatchBool (is_lost_nan f machine x)

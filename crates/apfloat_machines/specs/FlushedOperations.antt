@@ -45,7 +45,7 @@ IsFlushedQuotient f flush mode x y value status = YieldsFlushed f flush mode (qu
 abbrev pub IsFlushedFusedSum : Format → Flush → Round → Datum → Datum → Datum → Datum → ℕ → Type 0
 IsFlushedFusedSum f flush mode x y z value status = YieldsFlushed f flush mode (fused_sum f x y z) value status
 
--- of a datum of f into g
+-- the conversion of a datum of f into g
 abbrev pub IsFlushedConversion : Format → Format → Flush → Round → Datum → Datum → ℕ → Type 0
 IsFlushedConversion f g flush mode (finite b n) value status =
     MatchBool (eqb n 0)

@@ -38,7 +38,7 @@ pub fn settled<S: Flagged>(
     ensures flushed { (format_of S.Flagged).nonfinite ≡ IEEE754 → (flush : Flush)
         → AreFlushedAndSettled (format_of S.Flagged) machine flush x y answer result }
 {
-    with_nan(machine, x, y, answer)
+    answer.status.and(with_nan(machine, x, y, answer.value))
 }
 
 /// The answer of an operation on one operand, as the machine gives it, like `settled`: of a square root, or of rounding
@@ -55,25 +55,24 @@ pub fn settled_unary<S: Flagged>(
     ensures operations { (format_of S.Flagged).nonfinite ≡ IEEE754
         → AreSettledOfOne (format_of S.Flagged) machine x answer result }
 {
-    with_nan(machine, x, x, answer)
+    answer.status.and(with_nan(machine, x, x, answer.value))
 }
 
-/// The answer, with the machine's NaN if it is a NaN.
+/// The value, or the machine's NaN in place of a NaN.
 #[inline]
 fn with_nan<S: Flagged>(
     machine: Machine,
     x: IeeeFloat<S>,
     y: IeeeFloat<S>,
-    answer: StatusAnd<IeeeFloat<S>>,
-) -> StatusAnd<IeeeFloat<S>>
+    value: IeeeFloat<S>,
+) -> IeeeFloat<S>
     requires { S.PRECISION < S.BITS }
-    ensures value { result.value ≡ settled (format_of S.Flagged) machine x y answer.value }
-    ensures status { result.status ≡ answer.status }
+    ensures { result ≡ settled (format_of S.Flagged) machine x y value }
 {
-    if answer.value.is_nan() {
-        answer.status.and(machine_nan(machine, x, y))
+    if value.is_nan() {
+        machine_nan(machine, x, y)
     } else {
-        answer
+        value
     }
 }
 

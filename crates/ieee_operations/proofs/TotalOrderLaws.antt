@@ -100,28 +100,18 @@ nan_second true false rest = refl
 nan_second false true rest = refl
 nan_second false false rest = refl
 
--- a NaN against an infinity, on either side
-nan_before_infinity : (b q c : Bool) (rest : Ordering)
-    → b ≡ not (is_gt (ordering_then (nat_cmp (nan_region b q) (if c then 2 else 4)) rest))
-nan_before_infinity true true true rest = refl
-nan_before_infinity true true false rest = refl
-nan_before_infinity true false true rest = refl
-nan_before_infinity true false false rest = refl
-nan_before_infinity false true true rest = refl
-nan_before_infinity false true false rest = refl
-nan_before_infinity false false true rest = refl
-nan_before_infinity false false false rest = refl
-
-infinity_before_nan : (b c p : Bool) (rest : Ordering)
-    → not c ≡ not (is_gt (ordering_then (nat_cmp (if b then 2 else 4) (nan_region c p)) rest))
-infinity_before_nan true true true rest = refl
-infinity_before_nan true true false rest = refl
-infinity_before_nan true false true rest = refl
-infinity_before_nan true false false rest = refl
-infinity_before_nan false true true rest = refl
-infinity_before_nan false true false rest = refl
-infinity_before_nan false false true rest = refl
-infinity_before_nan false false false rest = refl
+-- a NaN before an infinity, and after it
+nan_and_infinity : (b q c : Bool) (rest : Ordering)
+    → (b ≡ not (is_gt (ordering_then (nat_cmp (nan_region b q) (if c then 2 else 4)) rest)))
+    × (not b ≡ not (is_gt (ordering_then (nat_cmp (if c then 2 else 4) (nan_region b q)) rest)))
+nan_and_infinity true true true rest = (refl, refl)
+nan_and_infinity true true false rest = (refl, refl)
+nan_and_infinity true false true rest = (refl, refl)
+nan_and_infinity true false false rest = (refl, refl)
+nan_and_infinity false true true rest = (refl, refl)
+nan_and_infinity false true false rest = (refl, refl)
+nan_and_infinity false false true rest = (refl, refl)
+nan_and_infinity false false false rest = (refl, refl)
 
 -- two positive NaNs, by whether each is signaling and the order of the significands
 of_positive : (q p u : Bool) (r : Ordering) → u ≡ not (is_gt r)
@@ -169,9 +159,9 @@ by_keys f (nan false s) (nan true t) = of_opposite_back (is_signaling f s) (is_s
 by_keys f (nan false s) (nan false t) =
     of_positive (is_signaling f s) (is_signaling f t) (leb s t) (nat_cmp s t) (leb_is s t)
 by_keys f (nan b s) (finite c n) = nan_first b (is_signaling f s) _
-by_keys f (nan b s) (infinite c) = nan_before_infinity b (is_signaling f s) c _
+by_keys f (nan b s) (infinite c) = (nan_and_infinity b (is_signaling f s) c _).0
 by_keys f (finite b m) (nan c t) = nan_second c (is_signaling f t) _
-by_keys f (infinite b) (nan c t) = infinity_before_nan b c (is_signaling f t) _
+by_keys f (infinite b) (nan c t) = (nan_and_infinity c (is_signaling f t) b _).1
 by_keys f (finite b m) (finite c n) = of_numbers (int_cmp (signed b m) (signed c n)) b c
 by_keys f (finite b m) (infinite true) = refl
 by_keys f (finite b m) (infinite false) = refl

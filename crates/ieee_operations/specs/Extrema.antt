@@ -51,7 +51,7 @@ preferred f which x y =
     then (if is_nan y then quieted_datum f x else y)
     else (if is_nan y then x else chosen f which x y)
 
--- with no flag but that of a signaling NaN
+-- the extremum, with INVALID_OP if an operand is a signaling NaN, and no other flag
 abbrev pub IsExtremum : Format → Extremum → Datum → Datum → Datum → ℕ → Type 0
 IsExtremum f which x y value status =
     IsAnswer (propagated f which x y) (invalid_if (is_invalid f Quiet x y)) value status

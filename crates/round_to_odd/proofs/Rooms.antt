@@ -1,147 +1,36 @@
 -- Which built-in formats have room for others.
-use Rattle.std.proofs.Common.{true, false, refl, arith}
+use Rattle.std.proofs.Common.{◌≡◌, ℕ, ◌+◌, ◌≤◌, Bool, true, false, cond, refl, arith, lit≤}
+use Rattle.apfloat_model.specs.declared.kinds.NonfiniteBehavior.TheVariants.{IEEE754}
 use Rattle.apfloat_model.specs.formats.Formats.{half_constants, single_constants, double_constants, quad_constants, bfloat_constants}
 use Rattle.apfloat_model.specs.formats.Formats.{e5m2_constants, e4m3fn_constants, e4m3fnuz_constants, x87_constants}
+use Rattle.apfloat_model.specs.formats.Lawful.{Constants, format_with}
+use Rattle.apfloat_model.specs.rounding.Standing.{reads_halves}
 use Rattle.round_to_odd.specs.Rooms.{HaveRoom, AreRooms, HasNoRoom}
 
-e5m2_in_half : HaveRoom e5m2_constants half_constants
-e5m2_in_half true = record {
-  kind = refl;
-  digits = omega arith;
-  quantum = omega arith;
-  exponents = omega arith;
-  flags = refl;
-}
-e5m2_in_half false = record {
-  kind = refl;
-  digits = omega arith;
-  quantum = omega arith;
-  exponents = omega arith;
-  flags = refl;
-}
+at_most_an_eighth : (halves : Bool) → cond halves 3 2 ≤ 3
+at_most_an_eighth true = lit≤ tt
+at_most_an_eighth false = lit≤ tt
 
-e4m3fn_in_half : HaveRoom e4m3fn_constants half_constants
-e4m3fn_in_half true = record {
-  kind = refl;
-  digits = omega arith;
-  quantum = omega arith;
-  exponents = omega arith;
-  flags = refl;
-}
-e4m3fn_in_half false = record {
-  kind = refl;
-  digits = omega arith;
-  quantum = omega arith;
-  exponents = omega arith;
-  flags = refl;
-}
-
-e4m3fnuz_in_half : HaveRoom e4m3fnuz_constants half_constants
-e4m3fnuz_in_half true = record {
-  kind = refl;
-  digits = omega arith;
-  quantum = omega arith;
-  exponents = omega arith;
-  flags = refl;
-}
-e4m3fnuz_in_half false = record {
-  kind = refl;
-  digits = omega arith;
-  quantum = omega arith;
-  exponents = omega arith;
-  flags = refl;
-}
-
-half_in_single : HaveRoom half_constants single_constants
-half_in_single true = record {
-  kind = refl;
-  digits = omega arith;
-  quantum = omega arith;
-  exponents = omega arith;
-  flags = refl;
-}
-half_in_single false = record {
-  kind = refl;
-  digits = omega arith;
-  quantum = omega arith;
-  exponents = omega arith;
-  flags = refl;
-}
-
-bfloat_in_single : HaveRoom bfloat_constants single_constants
-bfloat_in_single true = record {
-  kind = refl;
-  digits = omega arith;
-  quantum = omega arith;
-  exponents = omega arith;
-  flags = refl;
-}
-bfloat_in_single false = record {
-  kind = refl;
-  digits = omega arith;
-  quantum = omega arith;
-  exponents = omega arith;
-  flags = refl;
-}
-
-single_in_double : HaveRoom single_constants double_constants
-single_in_double true = record {
-  kind = refl;
-  digits = omega arith;
-  quantum = omega arith;
-  exponents = omega arith;
-  flags = refl;
-}
-single_in_double false = record {
-  kind = refl;
-  digits = omega arith;
-  quantum = omega arith;
-  exponents = omega arith;
-  flags = refl;
-}
-
-double_in_x87 : HaveRoom double_constants x87_constants
-double_in_x87 true = record {
-  kind = refl;
-  digits = omega arith;
-  quantum = omega arith;
-  exponents = omega arith;
-  flags = refl;
-}
-double_in_x87 false = record {
-  kind = refl;
-  digits = omega arith;
-  quantum = omega arith;
-  exponents = omega arith;
-  flags = refl;
-}
-
-double_in_quad : HaveRoom double_constants quad_constants
-double_in_quad true = record {
-  kind = refl;
-  digits = omega arith;
-  quantum = omega arith;
-  exponents = omega arith;
-  flags = refl;
-}
-double_in_quad false = record {
-  kind = refl;
-  digits = omega arith;
-  quantum = omega arith;
-  exponents = omega arith;
-  flags = refl;
-}
+-- a quantum of at most an eighth will do with the flags of IEEE 754 and without them
+room : (g f : Constants) → f.nonfinite ≡ IEEE754 → g.precision + 2 ≤ f.precision
+    → (format_with g).scale + 3 ≤ (format_with f).scale
+    → g.precision + (format_with g).span + (format_with f).scale
+    ≤ f.precision + (format_with f).span + (format_with g).scale
+    → HaveRoom g f
+room g f kind digits quantum exponents ieee =
+    let few = at_most_an_eighth (reads_halves (format_with (record g { ieee_flags = ieee }))) in
+    record { kind = kind; digits = digits; quantum = omega (arith, few, quantum); exponents = exponents; flags = refl }
 
 pub rooms : AreRooms
 rooms = record {
-  e5m2_in_half = e5m2_in_half;
-  e4m3fn_in_half = e4m3fn_in_half;
-  e4m3fnuz_in_half = e4m3fnuz_in_half;
-  half_in_single = half_in_single;
-  bfloat_in_single = bfloat_in_single;
-  single_in_double = single_in_double;
-  double_in_x87 = double_in_x87;
-  double_in_quad = double_in_quad;
+  e5m2_in_half = room e5m2_constants half_constants refl (lit≤ tt) (lit≤ tt) (lit≤ tt);
+  e4m3fn_in_half = room e4m3fn_constants half_constants refl (lit≤ tt) (lit≤ tt) (lit≤ tt);
+  e4m3fnuz_in_half = room e4m3fnuz_constants half_constants refl (lit≤ tt) (lit≤ tt) (lit≤ tt);
+  half_in_single = room half_constants single_constants refl (lit≤ tt) (lit≤ tt) (lit≤ tt);
+  bfloat_in_single = room bfloat_constants single_constants refl (lit≤ tt) (lit≤ tt) (lit≤ tt);
+  single_in_double = room single_constants double_constants refl (lit≤ tt) (lit≤ tt) (lit≤ tt);
+  double_in_x87 = room double_constants x87_constants refl (lit≤ tt) (lit≤ tt) (lit≤ tt);
+  double_in_quad = room double_constants quad_constants refl (lit≤ tt) (lit≤ tt) (lit≤ tt);
 }
 
 pub no_room : HasNoRoom

@@ -117,7 +117,7 @@ two_places : (test : Bool) (coarse finer : ℕ) → coarse + (if test then 3 els
 two_places true coarse finer h = omega (arith, h)
 two_places false coarse finer h = h
 
--- what is delivered for the odd point is delivered for the magnitude
+-- what is delivered for `point`, a magnitude rounded to odd in f, is delivered for the magnitude too
 pub delivered_once_more : (f g : Format) (mode : Round) (negative : Bool) (amount parts point : ℕ) (value : Datum)
     (status : ℕ) → 3 ≤ g.precision → HasRoomFor g f → AgreesAtEven (f.precision - 1) amount parts point
     → IsDelivered g mode negative (point * 2 ^ g.scale) (2 ^ f.scale) value status

@@ -121,25 +121,28 @@ module _ (precision a b c d : ℕ) (halves : SameSides (precision + 1) 2 a b c d
       (λ q. let k = point_same n g q in le-ltb a (n * b) (omega (arith, q)) ∙ sym (le-ltb c (n * d) (omega (arith, k))))
       (λ q. lt-ltb a (n * b) q ∙ sym (lt-ltb c (n * d) (point_more n g q)))
 
-  half_less_same : (n : ℕ) → IsOnGrid (precision + 1) n → ltb (2 * a) (n * b) ≡ ltb (2 * c) (n * d)
-  half_less_same n g =
-      by_order (ltb (2 * a) (n * b) ≡ ltb (2 * c) (n * d)) (n * b) (a * 2)
+  -- twice a magnitude and a point, by a test that their order decides
+  half_same : (test : ℕ → ℕ → Bool) (same : Bool) → ((x y : ℕ) → y < x → test x y ≡ false)
+      → ((x y : ℕ) → x ≡ y → test x y ≡ same) → ((x y : ℕ) → x < y → test x y ≡ true)
+      → (n : ℕ) → IsOnGrid (precision + 1) n → test (2 * a) (n * b) ≡ test (2 * c) (n * d)
+  half_same test same above at below n g =
+      by_order (test (2 * a) (n * b) ≡ test (2 * c) (n * d)) (n * b) (a * 2)
       (λ q. let k = halves.less n g q in
-      le-ltb (2 * a) (n * b) (omega (arith, q)) ∙ sym (le-ltb (2 * c) (n * d) (omega (arith, k))))
+      above (2 * a) (n * b) (omega (arith, q)) ∙ sym (above (2 * c) (n * d) (omega (arith, k))))
       (λ q. let k = halves.same n g q in
-      le-ltb (2 * a) (n * b) (omega (arith, q)) ∙ sym (le-ltb (2 * c) (n * d) (omega (arith, k))))
+      at (2 * a) (n * b) (omega (arith, q)) ∙ sym (at (2 * c) (n * d) (omega (arith, k))))
       (λ q. let k = halves.more n g q in
-      lt-ltb (2 * a) (n * b) (omega (arith, q)) ∙ sym (lt-ltb (2 * c) (n * d) (omega (arith, k))))
+      below (2 * a) (n * b) (omega (arith, q)) ∙ sym (below (2 * c) (n * d) (omega (arith, k))))
+
+  half_less_same : (n : ℕ) → IsOnGrid (precision + 1) n → ltb (2 * a) (n * b) ≡ ltb (2 * c) (n * d)
+  half_less_same =
+      half_same (λ x y. ltb x y) false (λ x y l. le-ltb x y (omega (arith, l))) (λ x y e. le-ltb x y (omega (arith, e)))
+      (λ x y l. lt-ltb x y l)
 
   half_at_most_same : (n : ℕ) → IsOnGrid (precision + 1) n → leb (2 * a) (n * b) ≡ leb (2 * c) (n * d)
-  half_at_most_same n g =
-      by_order (leb (2 * a) (n * b) ≡ leb (2 * c) (n * d)) (n * b) (a * 2)
-      (λ q. let k = halves.less n g q in
-      lt-leb (2 * a) (n * b) (omega (arith, q)) ∙ sym (lt-leb (2 * c) (n * d) (omega (arith, k))))
-      (λ q. let k = halves.same n g q in
-      le-leb (2 * a) (n * b) (omega (arith, q)) ∙ sym (le-leb (2 * c) (n * d) (omega (arith, k))))
-      (λ q. let k = halves.more n g q in
-      le-leb (2 * a) (n * b) (omega (arith, q)) ∙ sym (le-leb (2 * c) (n * d) (omega (arith, k))))
+  half_at_most_same =
+      half_same (λ x y. leb x y) true (λ x y l. lt-leb x y l) (λ x y e. le-leb x y (omega (arith, e)))
+      (λ x y l. le-leb x y (omega (arith, l)))
 
 -- a number below a power of two is on the grid of that many digits
 few_on_grid : (digits n : ℕ) → n < 2 ^ digits → IsOnGrid digits n

@@ -21,6 +21,6 @@ pub record AreRooms : Type 0 where
   pub double_in_x87 : HaveRoom double_constants x87_constants
   pub double_in_quad : HaveRoom double_constants quad_constants
 
--- and half has none for bfloat
+-- half has no room for bfloat
 abbrev pub HasNoRoom : Type 0
 HasNoRoom = HasRoomFor (format_with bfloat_constants) (format_with half_constants) → ⊥

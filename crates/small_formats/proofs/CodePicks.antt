@@ -5,19 +5,14 @@ use Rattle.std.proofs.Math.Nat.{add-mul-mod_self_right}
 use Rattle.apfloat_model.specs.rounding.Enclosure.{IsEnclosed}
 use Rattle.apfloat_model.proofs.general.Powers.{twice_half}
 use Rattle.small_formats.specs.declared.modes.ConversionRound.{ConversionRound}
-use Rattle.small_formats.specs.declared.modes.ConversionRound.TheVariants.{Ieee}
 use Rattle.small_formats.specs.Codes.{index_of, point}
 use Rattle.small_formats.specs.Modes.{IsPickBy, takes_next}
-use Rattle.small_formats.specs.PicksBy.{moves}
-use Rattle.small_formats.specs.ProjectionLaws.{AreCodePicksPicks}
-use Rattle.small_formats.specs.ProjectionModeLaws.{AreCodePicksPicksBy}
-use Rattle.small_formats.specs.ProjectionModes.{IsCodePickBy}
+use Rattle.small_formats.specs.PicksBy.{IsCodePickBy, moves}
 use Rattle.small_formats.proofs.ModePicks.{index_is, picked_between}
 use Rattle.small_formats.proofs.Points.{HasForm, at_index, at_next, form_of}
-use Rattle.small_formats.proofs.RandomCounts.{picks_of_model}
 use Rattle.small_formats.proofs.StoredPicks.{moved_point}
 
--- the last digit of a significand is that of its number
+-- the last digit of a significand is that of the index of its point
 last_digit : (p m c : ℕ) → 2 ≤ p → index_of p m c % 2 ≡ m % 2
 last_digit p m c two =
     let double : 2 * 2 ^ (p - 1 - 1) ≡ 2 ^ (p - 1) = twice_half (p - 1) (omega (arith, two)) in
@@ -49,7 +44,7 @@ form_encloses p low amount parts one f from to =
 
 -- ---- the pick
 
--- the same neighbour is taken, by its code and by its significand, if the mode decides alike
+-- a pick by the last digit of the code is one by that of the significand, if the mode decides alike by both
 pub code_pick_by : (p : ℕ) (mode : ConversionRound) (negative : Bool) (amount parts index : ℕ) → 0 < p
     → 0 < parts → ((m c x y : ℕ)
     → takes_next mode negative x y (eqb (m % 2) 1) ≡ takes_next mode negative x y (eqb (index_of p m c % 2) 1))
@@ -78,13 +73,9 @@ code_pick_by p mode negative amount parts index one some alike x =
     subst (λ (n : ℕ). IsPickBy p mode negative amount parts n) (sym point_is)
     (picked_between p mode negative (2 ^ (p - 1)) f.m f.c amount parts moved some enclosed refl)
 
-pub code_picks_by : AreCodePicksPicksBy
+pub code_picks_by : (p : ℕ) (mode : ConversionRound) (negative : Bool) (amount parts index : ℕ) → 2 ≤ p
+    → 0 < parts → IsCodePickBy p mode negative amount parts index
+    → IsPickBy p mode negative amount parts (point p index)
 code_picks_by p mode negative amount parts index two some x =
     code_pick_by p mode negative amount parts index (omega (arith, two)) some
     (λ m c by to. ap (λ (n : ℕ). takes_next mode negative by to (eqb n 1)) (sym (last_digit p m c two))) x
-
-pub code_picks : AreCodePicksPicks
-code_picks p mode negative amount parts index two some x =
-    picks_of_model p mode negative amount parts (point p index)
-    (code_picks_by p (Ieee mode) negative amount parts index two some
-    (record { low = x.low; from = x.from; to = x.to; is = x.is }))

@@ -60,13 +60,6 @@ nan_is g =
     ap (λ (b : Bool). nan b (quiet_significand g 0)) (sym (no_sign g.nonfinite))
     ∙ ap (λ (s : ℕ). nan (nan_sign g.nonfinite false) (quiet_significand g s)) (sym none)
 
-pub nan_scale_converted : (g : Format) (mode : Round) (code : ℕ) (value : Datum) (status : ℕ) (loses : Bool)
-    → code ≡ 255 → value ≡ qnan g 0 → status ≡ 0 → loses ≡ false
-    → IsConversion scale_format g mode (scale_of code) value status loses
-nan_scale_converted g mode code value status loses e v s l =
-    subst (λ (k : ℕ). IsConversion scale_format g mode (scale_of k) value status loses) (sym e)
-    (record { value_is = v ∙ nan_is g; status_is = s; loses_is = l })
-
 pub scale_converted : (g : Format) (mode : Round) (code : ℕ) (value : Datum) (status : ℕ) (loses : Bool)
     → (code ≡ 255 → ⊥) → IsDelivered g mode false (2 ^ code * 2 ^ g.scale) (2 ^ 127) value status
     → loses ≡ not (eqb status ok_bits) → IsConversion scale_format g mode (scale_of code) value status loses

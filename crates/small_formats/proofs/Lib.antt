@@ -2,25 +2,19 @@ pub mod Points
 pub mod StoredPicks
 mod StoredNumbers
 mod ScalePicks
-mod ScaleModes
+pub mod ScaleModes
 pub mod OneAnswer
-mod CodesCompared
+pub mod CodesCompared
 mod Converted
 pub mod UnsignedSigns
-mod RandomCounts
+pub mod RandomCounts
 mod MovesScaled
 mod RestLosses
 mod ModePicks
-mod ModesOnce
+pub mod ModesOnce
 pub mod NarrowCodes
-mod CodePicks
-mod ProjectedPicks
-mod ProjectedCodes
-mod ProjectedValues
-mod ProjectedOnce
-mod RandomCodes
-mod ProjectedOrder
-mod ProjectedNeighbours
+pub mod CodePicks
+mod PointPicks
 mod QuotientPicks
 mod QuotientsOnce
 pub mod stochastic_lemmas

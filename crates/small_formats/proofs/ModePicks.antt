@@ -14,8 +14,7 @@ use Rattle.small_formats.specs.Codes.{point}
 use Rattle.small_formats.specs.ModeConversions.{IsSaturatedBy}
 use Rattle.small_formats.specs.Modes.{IsPickBy, ieee_mode, takes_next}
 use Rattle.small_formats.specs.Picks.{IsPointDelivered}
-use Rattle.small_formats.specs.PicksBy.{IsPointAt, moves}
-use Rattle.small_formats.specs.ProjectionModes.{index_by}
+use Rattle.small_formats.specs.PicksBy.{IsPointAt, index_by, moves}
 use Rattle.small_formats.specs.Storage.{StorageConstants, IsLawfulStorage}
 use Rattle.small_formats.proofs.MovesScaled.{moves_alike}
 

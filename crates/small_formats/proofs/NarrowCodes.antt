@@ -23,24 +23,12 @@ use Rattle.small_formats.specs.Float8E3M4.{IsE3M4Once, IsNarrow, e3m4_datum, e3m
 
 -- The law of formats asks for a greatest exponent of at least the precision; what is known of bits does not.
 pub e3m4_interchange : IsInterchange e3m4_format e3m4_layout
-e3m4_interchange = record {
-  precise = lit≤ tt;
-  some = lit≤ tt;
-  bits = refl;
-  within = lit≤ tt;
-  span = refl;
-  explicit = tt;
-}
+e3m4_interchange =
+    record { precise = lit≤ tt; some = lit≤ tt; bits = refl; within = lit≤ tt; span = refl; explicit = tt }
 
 pub wide_interchange : IsInterchange wide_format wide_layout
-wide_interchange = record {
-  precise = lit≤ tt;
-  some = lit≤ tt;
-  bits = refl;
-  within = lit≤ tt;
-  span = refl;
-  explicit = tt;
-}
+wide_interchange =
+    record { precise = lit≤ tt; some = lit≤ tt; bits = refl; within = lit≤ tt; span = refl; explicit = tt }
 
 -- the exponent field of nine bits
 abbrev field : ℕ → ℕ

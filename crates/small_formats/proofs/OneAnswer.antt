@@ -1,16 +1,15 @@
 -- Conversions into storage formats have one answer.
 use Rattle.std.proofs.Common.{◌≡◌, ℕ, zero, suc, ◌+◌, ◌-◌, ◌*◌, ◌%◌, ◌^◌, ◌<◌, ◌≤◌, Bool, true, false, cond}
 use Rattle.std.proofs.Common.{not, eqb, leb}
-use Rattle.std.proofs.Common.{sym, refl, ap, ◌∙◌, subst, inl, inr, ⊎_elim, arith, lit≤}
-use Rattle.std.proofs.Math.Nat.{mul-le-mul_right, pow-le-pow_right, mod-eq_of_lt, add-mul-mod_self_right}
+use Rattle.std.proofs.Common.{sym, refl, ap, ◌∙◌, subst, ⊎_elim, arith, lit≤}
+use Rattle.std.proofs.Math.Nat.{mod-eq_of_lt, add-mul-mod_self_right}
 use Rattle.std.proofs.lemmas.Bool.{cases_lt, le-leb, lt-leb, ne_eqb, MatchBool-at_false}
-use Rattle.std.proofs.lemmas.Nat.{pow_pos}
 use Rattle.apfloat_model.specs.declared.kinds.Round.{Round}
 use Rattle.apfloat_model.specs.formats.Datum.{Datum, finite, infinite, nan}
 use Rattle.apfloat_model.specs.formats.Format.{Format}
 use Rattle.apfloat_model.specs.order.Classes.{is_negative, quanta_of}
 use Rattle.apfloat_model.specs.rounding.Rounding.{delivered_status, ok_bits}
-use Rattle.apfloat_model.proofs.general.Powers.{two_pos, twice_half}
+use Rattle.apfloat_model.proofs.general.Powers.{twice_half}
 use Rattle.apfloat_model.specs.arithmetic.Conversions.{IsConversion}
 use Rattle.apfloat_model.specs.bits.Interchange.{IsInterchange}
 use Rattle.apfloat_model.specs.bits.Layout.{IsEncodedBy}
@@ -19,9 +18,8 @@ use Rattle.apfloat_model.proofs.bits.EncodedOnce.{encoded_once}
 use Rattle.apfloat_model.proofs.rounding.Picks.{pick_unique}
 use Rattle.small_formats.specs.Codes.{datum_of}
 use Rattle.small_formats.specs.Conversions.{IsGiven, IsSaturated, IsStoredNumber, saturated_value}
-use Rattle.small_formats.specs.Laws.{IsIntoOnce, IsScaleOnce, IsUnsignedOnce}
-use Rattle.small_formats.specs.Scales.{IsCode, IsPickedScale, IsScaleOf}
-use Rattle.small_formats.specs.Scales.{delivered_code, picked_code, scale_format, scale_status}
+use Rattle.small_formats.specs.Laws.{IsIntoOnce, IsUnsignedOnce}
+use Rattle.small_formats.specs.Scales.{IsCode}
 use Rattle.small_formats.specs.Storage.{StorageConstants, IsLawfulStorage, format_with}
 use Rattle.small_formats.specs.Unsigned.{signed_format, signed_layout, unsigned_datum}
 use Rattle.small_formats.proofs.Points.{one_number}
@@ -116,7 +114,7 @@ into_once c f mode (finite b (suc n)) code other status flags loses lost law l k
     (MatchBool-at_false _ (IsStoredNumber c f mode b (suc n) code status loses) some x)
     (MatchBool-at_false _ (IsStoredNumber c f mode b (suc n) other flags lost) some y)
 
--- ---- scales
+-- ---- codes that are given
 
 pub scale_code_once : (given bits : ℕ) (lossy : Bool) (code other status flags : ℕ) (loses lost : Bool)
     → IsCode given bits lossy code status loses → IsCode given bits lossy other flags lost
@@ -124,90 +122,11 @@ pub scale_code_once : (given bits : ℕ) (lossy : Bool) (code other status flags
 scale_code_once given bits lossy code other status flags loses lost x y =
     (x.code_is ∙ sym y.code_is, x.status_is ∙ sym y.status_is, x.loses_is ∙ sym y.loses_is)
 
--- a number is between two scales in one way
-not_below : (amount parts low other : ℕ) → amount < 2 ^ (low + 1) * parts → 2 ^ other * parts ≤ amount → low < other
-    → ⊥
-not_below amount parts low other to from l =
-    let next : low + 1 ≤ other = omega (arith, l) in
-    let more : 2 ^ (low + 1) * parts ≤ 2 ^ other * parts =
-    mul-le-mul_right parts (pow-le-pow_right two_pos next) in
-    omega (arith, to, from, more)
-
-pub low_once : (amount parts low other : ℕ) → 2 ^ low * parts ≤ amount → amount < 2 ^ (low + 1) * parts
-    → 2 ^ other * parts ≤ amount → amount < 2 ^ (other + 1) * parts → low ≡ other
-low_once amount parts low other from to start end =
-    ⊎_elim
-    (λ (l : low < other). absurd (not_below amount parts low other to start l))
-    (λ (l : other ≤ low).
-    ⊎_elim
-    (λ (k : other < low). absurd (not_below amount parts other low end from k))
-    (λ (k : low ≤ other). omega (arith, l, k))
-    (cases_lt other low))
-    (cases_lt low other)
-
-pub least_or_not : (amount parts low : ℕ) → amount < parts → 2 ^ low * parts ≤ amount → ⊥
-least_or_not amount parts low l from =
-    let one : 1 ≤ 2 ^ low = pow_pos low in
-    let least : 1 * parts ≤ 2 ^ low * parts = mul-le-mul_right parts one in
-    omega (arith, l, from, least)
-
-scale_picked_once : (mode : Round) (amount parts code other : ℕ) → IsPickedScale mode amount parts code
-    → IsPickedScale mode amount parts other → code ≡ other
-scale_picked_once mode amount parts code other (inl x) (inl y) = x.1 ∙ sym y.1
-scale_picked_once mode amount parts code other (inl x) (inr y) =
-    absurd (least_or_not amount parts y.low x.0 y.from)
-scale_picked_once mode amount parts code other (inr x) (inl y) =
-    absurd (least_or_not amount parts x.low y.0 x.from)
-scale_picked_once mode amount parts code other (inr x) (inr y) =
-    x.is
-    ∙ ap (λ (n : ℕ). picked_code mode amount parts n) (low_once amount parts x.low y.low x.from x.to y.from y.to)
-    ∙ sym y.is
-
-scale_number_once : (f : Format) (mode : Round) (n code other status flags : ℕ) (loses lost : Bool)
-    → IsScaleOf f mode n code status loses → IsScaleOf f mode n other flags lost
-    → AreSame code status loses other flags lost
-scale_number_once f mode n code other status flags loses lost x y =
-    let amount : ℕ = n * 2 ^ scale_format.scale in
-    let parts : ℕ = 2 ^ f.scale in
-    let v = x.is_rounded in
-    let w = y.is_rounded in
-    let same : v.picked ≡ w.picked =
-    scale_picked_once mode amount parts v.picked w.picked v.is_picked w.is_picked in
-    let told : status ≡ flags =
-    v.status_is ∙ ap (λ (p : ℕ). scale_status mode amount parts p) same ∙ sym w.status_is in (
-      v.code_is ∙ ap (λ (p : ℕ). delivered_code mode p) same ∙ sym w.code_is,
-      told,
-      x.loses_is ∙ ap (λ (s : ℕ). not (eqb s ok_bits)) told ∙ sym y.loses_is,
-    )
-
-pub scale_once : IsScaleOnce
-scale_once f mode (nan b s) code other status flags loses lost x y =
-    scale_code_once _ _ _ code other status flags loses lost x y
-scale_once f mode (infinite b) code other status flags loses lost x y =
-    scale_code_once _ _ _ code other status flags loses lost x y
-scale_once f mode (finite b zero) code other status flags loses lost x y =
-    scale_code_once _ _ _ code other status flags loses lost x y
-scale_once f mode (finite true (suc n)) code other status flags loses lost x y =
-    let some : eqb (suc n) 0 ≡ false = ne_eqb (suc n) 0 (λ e. omega (arith, e)) in
-    scale_code_once _ _ _ code other status flags loses lost
-    (MatchBool-at_false _ _ some x) (MatchBool-at_false _ _ some y)
-scale_once f mode (finite false (suc n)) code other status flags loses lost x y =
-    let some : eqb (suc n) 0 ≡ false = ne_eqb (suc n) 0 (λ e. omega (arith, e)) in
-    scale_number_once f mode (suc n) code other status flags loses lost
-    (MatchBool-at_false _ (IsScaleOf f mode (suc n) code status loses) some x)
-    (MatchBool-at_false _ (IsScaleOf f mode (suc n) other flags lost) some y)
-
 -- ---- without a sign
 
 pub signed_interchange : IsInterchange signed_format signed_layout
-signed_interchange = record {
-  precise = lit≤ tt;
-  some = lit≤ tt;
-  bits = refl;
-  within = lit≤ tt;
-  span = refl;
-  explicit = refl;
-}
+signed_interchange =
+    record { precise = lit≤ tt; some = lit≤ tt; bits = refl; within = lit≤ tt; span = refl; explicit = refl }
 
 pub unsigned_encoded : (code : ℕ) → code < 128 → IsEncodedBy signed_format signed_layout code (unsigned_datum code)
 unsigned_encoded code l = record { below = omega (arith, l); canonical = refl; is = refl }

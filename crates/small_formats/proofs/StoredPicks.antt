@@ -54,7 +54,7 @@ picked_at p mode negative m c amount parts index loss moved exact some q i h mov
 
 -- ---- the largest number
 
--- in a format with that many biased exponents
+-- the point of the last code, in a format with that many biased exponents
 largest_at : (p half exponents codes : ℕ) → 0 < p → half ≡ 2 ^ (p - 1) → 2 ≤ exponents
     → codes ≡ exponents * half → point p (codes - 1) ≡ (2 ^ p - 1) * 2 ^ (exponents - 2)
 largest_at p half exponents codes some h two e =
@@ -94,7 +94,7 @@ not_greater p i j some l =
     omega (arith, same))
     (cases_lt i j)
 
--- a point is below the one of the half if its number is
+-- a point is below the one of the half if its index is
 pub tiny_is : (p index : ℕ) → 0 < p → ltb index (2 ^ (p - 1)) ≡ ltb (point p index) (2 ^ (p - 1))
 tiny_is p index some =
     let h : ℕ = 2 ^ (p - 1) in

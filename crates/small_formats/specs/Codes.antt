@@ -3,13 +3,13 @@ use Rattle.std.specs.Prelude.{ℕ, ◌+◌, ◌-◌, ◌*◌, ◌/◌, ◌%◌, 
 use Rattle.apfloat_model.specs.formats.Datum.{Datum, finite}
 use Rattle.small_formats.specs.Storage.{StorageConstants}
 
--- The point with that number, in quanta: those without all digits, then as many at each place.
+-- The point with that index, in quanta: those without all digits, then as many at each place.
 abbrev pub point : ℕ → ℕ → ℕ
 point precision index =
     if ltb index (2 ^ (precision - 1)) then index
     else (2 ^ (precision - 1) + index % 2 ^ (precision - 1)) * 2 ^ (index / 2 ^ (precision - 1) - 1)
 
--- the number of the point significand * 2 ^ place, if the significand has all digits or the place is 0
+-- the index of the point significand * 2 ^ place, if the significand has all digits or the place is 0
 abbrev pub index_of : ℕ → ℕ → ℕ → ℕ
 index_of precision significand place = significand + place * 2 ^ (precision - 1)
 

@@ -16,12 +16,6 @@ pub mod ModeConversions
 pub mod ModeLaws
 pub mod PicksBy
 pub mod Float8E3M4
-pub mod Projections
-pub mod ProjectionLaws
-pub mod ProjectionLawTest
-pub mod ProjectionTypes
-pub mod ProjectionModes
-pub mod ProjectionModeLaws
 pub mod Published
 pub mod Quotients
 pub mod stochastic

@@ -50,11 +50,11 @@ pub fn steps_up(unit: ExpInt, place: u32) -> u32
 }
 
 /// A number with `count` digits at `unit`, below which `loss` was lost, cut to the digits that the precision keeps of
-/// it. It has more digits than the precision keeps, so that it is cut only once.
+/// it. It has as many digits as the precision keeps, so that it is cut only once.
 pub(crate) fn cut_number(precision: u32, number: u128, count: u32, unit: ExpInt, loss: Loss) -> Kept
     requires some { 0 < precision }
-    requires precise { precision ≤ 15 }
-    requires long { 16 ≤ count }
+    requires precise { precision ≤ 125 }
+    requires long { precision ≤ count }
     requires short { count ≤ 128 }
     requires low { 2 ^ (count - 1) ≤ number }
     requires high { number < 2 ^ count }
@@ -85,7 +85,7 @@ pub(crate) fn cut_number(precision: u32, number: u128, count: u32, unit: ExpInt,
 /// A number with `DIGITS` digits at `unit`, cut to the digits that the precision keeps of it.
 pub(crate) fn cut(precision: u32, digits: u128, unit: ExpInt) -> Kept
     requires some { 0 < precision }
-    requires precise { precision ≤ 15 }
+    requires precise { precision ≤ 125 }
     requires low { 2 ^ 124 ≤ digits }
     requires high { digits < 2 ^ 125 }
     requires within { IsWithin unit_bound unit }
@@ -103,7 +103,7 @@ pub(crate) fn cut(precision: u32, digits: u128, unit: ExpInt) -> Kept
     cut_number(precision, digits, DIGITS, unit, Loss::ExactlyZero)
 }
 
-/// Of 2^digits parts of the lowest kept digit, how many whole ones the rest is that was cut off.
+/// How many parts the rest that was cut off has, where the lowest kept digit has 2^digits; only whole ones count.
 pub fn parts_of_rest(number: u128, places: u32, digits: u32) -> u64
     requires few { digits ≤ 32 }
     ensures value { result ≡ 2 ^ digits * (number % 2 ^ places) / 2 ^ places }

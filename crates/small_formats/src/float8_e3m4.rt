@@ -13,7 +13,7 @@ ghost use Rattle.apfloat_ieee.specs.FlaggedTypes.{format_of as flagged_format_of
 ghost use Rattle.apfloat_ieee.specs.Types.{format_of};
 ghost use Rattle.small_formats.specs.Float8E3M4.{IsNarrow, e3m4_datum, e3m4_format, narrowed, widened};
 
-use crate::from_value::status_past;
+use crate::statuses::status_past;
 use apfloat_base::{
     Category, ExpInt, Float, FloatConvert, NonfiniteBehavior, Round, Status, StatusAnd,
 };

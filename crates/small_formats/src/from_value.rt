@@ -3,7 +3,6 @@
 ghost use Rattle.std.specs.Prelude.{◌≡◌, ℕ, ◌+◌, ◌-◌, ◌*◌, ◌^◌, ◌<◌, ◌≤◌, eqb, ltb, if◌then◌else◌};
 ghost use Rattle.apfloat_model.specs.formats.Datum.{finite};
 ghost use Rattle.apfloat_model.specs.formats.Format.{largest};
-ghost use Rattle.apfloat_model.specs.formats.Nan.{invalid_if, is_signaling_nan};
 ghost use Rattle.apfloat_model.specs.rounding.Flags.{Gives, bits_of};
 ghost use Rattle.apfloat_model.specs.rounding.Rounding.{leads_out, ok_bits};
 ghost use Rattle.apfloat_model.specs.rounding.Rounding.{overflow_bit, underflow_bit, inexact_bit};
@@ -17,52 +16,10 @@ ghost use Rattle.small_formats.specs.Types.{constants_of};
 use crate::format::StorageFormat;
 use crate::modes::{ConversionRound, NanResult};
 use crate::picks::Picked;
+use crate::statuses::{status_past, status_within};
 use crate::stored::StoredFloat;
-use apfloat_base::{ExpInt, Flags, Float, Round, Status, StatusAnd};
+use apfloat_base::{ExpInt, Round, StatusAnd};
 use apfloat_ieee::{IeeeFloat, Semantics};
-use apfloat_rounding::rounding::leads_past;
-use apfloat_words::power_of_two;
-
-/// The status of a pick past the largest number.
-pub(crate) fn status_past(mode: Round, negative: bool) -> Status
-    ensures { bits_of result
-        ≡ (if leads_out mode negative then overflow_bit + inexact_bit else inexact_bit) }
-{
-    if leads_past(mode, negative) {
-        Status::OVERFLOW.union(Status::INEXACT)
-    } else {
-        Status::INEXACT
-    }
-}
-
-/// The status of a pick within the format.
-pub(crate) fn status_within(precision: u32, picked: Picked) -> Status
-    requires some { 0 < precision }
-    requires precise { precision ≤ 15 }
-    ensures { bits_of result ≡ (if picked.exact then ok_bits
-        else (if ltb picked.index (2 ^ (precision - 1)) then underflow_bit + inexact_bit
-        else inexact_bit)) }
-{
-    if picked.exact {
-        return Status::OK;
-    }
-    if picked.index < power_of_two(precision - 1) {
-        Status::UNDERFLOW.union(Status::INEXACT)
-    } else {
-        Status::INEXACT
-    }
-}
-
-/// What a NaN raises that loses its payload.
-pub(crate) fn status_of_nan<S: Semantics>(x: IeeeFloat<S>) -> Status
-    ensures { bits_of result ≡ invalid_if (is_signaling_nan (format_of S.Semantics) x) }
-{
-    if x.is_signaling() {
-        Status::INVALID_OP
-    } else {
-        Status::OK
-    }
-}
 
 /// The largest number with that sign.
 pub(crate) fn largest_of_sign<F: StorageFormat>(negative: bool) -> StoredFloat<F>

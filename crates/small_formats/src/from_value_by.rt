@@ -7,29 +7,16 @@ ghost use Rattle.apfloat_ieee.specs.Types.{format_of};
 ghost use Rattle.apfloat_model.specs.order.Positive.{IsPositive};
 ghost use Rattle.small_formats.specs.Codes.{datum_of};
 ghost use Rattle.small_formats.specs.ModeConversions.{IsIntoBy, IsSaturatedBy, nan_result};
-ghost use Rattle.small_formats.specs.Modes.{ieee_mode};
 ghost use Rattle.small_formats.specs.Storage.{format_with};
 ghost use Rattle.small_formats.specs.Types.{constants_of};
 
 use crate::format::StorageFormat;
 use crate::from_value::{deliver_pick, largest_of_sign, scale};
 use crate::modes::{ConversionRound, NanResult};
-use crate::picks::pick_by;
-use crate::quanta::in_quanta;
+use crate::picks::{ieee_mode, pick_value};
 use crate::stored::StoredFloat;
 use apfloat_base::{Category, Float, Round, Status, StatusAnd};
 use apfloat_ieee::{IeeeFloat, Semantics};
-
-/// The mode of IEEE 754 that treats a pick past the largest number alike.
-pub(crate) fn ieee_mode(mode: ConversionRound) -> Round
-    ensures { result ≡ ieee_mode mode }
-{
-    match mode {
-        ConversionRound::Ieee(round) => round,
-        ConversionRound::ToOdd => Round::TowardZero,
-        ConversionRound::Stochastic(_) => Round::NearestTiesToEven,
-    }
-}
 
 /// What a NaN becomes.
 fn of_nan<F: StorageFormat>(nans: NanResult) -> StoredFloat<F>
@@ -52,9 +39,7 @@ fn round_positive<S: Semantics, F: StorageFormat>(
     ensures { let c = constants_of F.StorageFormat in Gives (IsSaturatedBy c mode negative
         (quanta_of x * 2 ^ (format_with c).scale) (2 ^ (format_of S.Semantics).scale)) result }
 {
-    let number = in_quanta(x, scale::<F>());
-    let precision = F::PRECISION as u32;
-    let picked = pick_by(precision, number.digits, number.unit, mode, negative);
+    let picked = pick_value(x, F::PRECISION as u32, scale::<F>(), mode, negative);
     deliver_pick(picked, ieee_mode(mode), negative)
 }
 

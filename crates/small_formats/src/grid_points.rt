@@ -14,13 +14,13 @@ use apfloat_words::power_of_two;
 
 /// A grid point, `significand * 2^place` quanta.
 #[derive(Clone, Copy)]
-pub(crate) struct Point {
+pub struct Point {
     pub significand: u16,
     pub place: u16,
 }
 
-/// The point with that number.
-pub(crate) fn point_at(precision: u32, index: u16) -> Point
+/// The point with that index.
+pub fn point_at(precision: u32, index: u16) -> Point
     requires some { 0 < precision }
     requires precise { precision ≤ 15 }
     ensures { result.significand * 2 ^ result.place ≡ point precision index }
@@ -48,7 +48,7 @@ fn exponent_of(place: u16, scale: u32) -> ExpInt
 }
 
 /// A point whose quantum is `2^-scale`, rounded once to another format.
-pub(crate) fn convert_point<T: Flagged>(
+pub fn convert_point<T: Flagged>(
     point: Point,
     scale: u32,
     round: Round,

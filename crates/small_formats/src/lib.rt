@@ -4,7 +4,7 @@
 //! `StoredFloat<F>` is a value in at most 8 bits, all of whose codes are numbers, such as the 4- and 6-bit elements of
 //! the Open Compute Project's microscaling formats (`named`): `E2M1FN`, `E2M3FN`, `E3M2FN`. `E8M0FNU` is a scale that
 //! is a power of two (`scales`), and `UE4M3` one with a significand (`unsigned`). `Float8E3M4` has infinities and NaNs
-//! too (`float8_e3m4`), and `Projected<F>` is a value of a format of IEEE P3109 (`projected`).
+//! too (`float8_e3m4`).
 //!
 //! `from_value_by` has two more modes, to odd and with random digits (`modes`); `from_quotient` rounds the quotient of
 //! two values (`quotients`).
@@ -24,20 +24,17 @@ pub mod float8_e3m4;
 mod format;
 mod from_value;
 mod from_value_by;
-mod grid_points;
+pub mod grid_points;
 mod modes;
 mod named;
 pub mod packing;
-mod picks;
-mod projected;
-mod projected_from;
-mod projected_to;
-mod projection;
+pub mod picks;
 mod published;
 mod quanta;
 mod quotients;
 pub mod saturation;
 mod scales;
+pub mod statuses;
 pub mod stochastic;
 mod stored;
 mod theorems;
@@ -48,22 +45,17 @@ pub use float8_e3m4::Float8E3M4;
 pub use format::StorageFormat;
 pub use modes::{ConversionRound, NanResult, RandomDigits, RandomError};
 pub use named::{E2M1FN, E2M3FN, E3M2FN};
-pub use projected::Projected;
-pub use projection::{Binary8P1UF, Binary8P3, Binary8P4, Binary8P5, Projection};
 pub use published::{
     block_lengths_are_published, e3m4_is_that_of_llvm, elements_are_those_of_ocp,
-    projections_are_those_of_p3109, scales_are_those_of_ocp, unsigned_scales_are_those_of_nvfp4,
+    scales_are_those_of_ocp, unsigned_scales_are_those_of_nvfp4,
 };
 pub use quanta::{InQuanta, in_quanta};
 pub use scales::E8M0FNU;
 pub use stored::StoredFloat;
 pub use theorems::{
     codes_are_in_order, conversions_by_mode_have_one_answer, conversions_have_one_answer,
-    e3m4_conversions_have_one_answer, exact_values_never_move, next_values_are_nearest,
-    one_is_in_the_middle, picks_are_those_of_the_model, picks_of_codes_are_picks,
-    projections_by_mode_are_projections, projections_by_mode_have_one_answer,
-    projections_have_one_answer, random_codes_are_counted, random_numbers_are_counted,
-    scales_by_mode_are_scales, scales_by_mode_have_one_answer, scales_have_one_answer,
-    unsigned_conversions_have_one_answer,
+    e3m4_conversions_have_one_answer, exact_values_never_move, picks_are_those_of_the_model,
+    random_numbers_are_counted, scales_by_mode_are_scales, scales_by_mode_have_one_answer,
+    scales_have_one_answer, unsigned_conversions_have_one_answer,
 };
 pub use unsigned::UE4M3;

@@ -54,9 +54,9 @@ pub enum ConversionRound {
     Ieee(Round),
     /// The neighbour whose significand is odd. What is past the largest number becomes the largest number.
     ToOdd,
-    /// The upper neighbour, if the random number reaches the distance of the two neighbours together with the distance
-    /// of the value from the lower one, in units of 2^-digits of the distance of the two, cut to whole ones. Past the
-    /// largest number as to nearest.
+    /// The neighbour away from zero, if the random number and the parts by which the value is past the other neighbour
+    /// are together at least 2^digits. The distance of the neighbours has 2^digits parts, and only whole ones count.
+    /// Past the largest number as to nearest.
     Stochastic(RandomDigits),
 }
 

@@ -5,9 +5,7 @@ ghost use Rattle.std.specs.Prelude.{◌≡◌, ◌*◌, ◌^◌, true, false};
 ghost use Rattle.apfloat_model.specs.formats.Datum.{finite, infinite, nan};
 ghost use Rattle.apfloat_model.specs.order.Classes.{is_nan};
 ghost use Rattle.small_formats.specs.Float8E3M4.{e3m4_datum, e3m4_format};
-ghost use Rattle.small_formats.specs.ProjectionTypes.{projection_of};
-ghost use Rattle.small_formats.specs.Published.{IsPublishedElement, IsPublishedProjection};
-ghost use Rattle.small_formats.specs.Published.{binary8p1uf, binary8p3se, binary8p4se, binary8p5se, e2m1, e2m3, e3m2};
+ghost use Rattle.small_formats.specs.Published.{IsPublishedElement, e2m1, e2m3, e3m2};
 ghost use Rattle.small_formats.specs.Scales.{scale_format, scale_of};
 ghost use Rattle.small_formats.specs.Types.{constants_of};
 ghost use Rattle.small_formats.specs.Unsigned.{signed_format, unsigned_datum};
@@ -22,18 +20,6 @@ pub fn elements_are_those_of_ocp()
         (constants_of ⟦<crate::E2M3FN as crate::StorageFormat>⟧) }
     ensures e3m2 { IsPublishedElement e3m2
         (constants_of ⟦<crate::E3M2FN as crate::StorageFormat>⟧) }
-{}
-
-/// `Binary8P3` and so on are the formats of these names in IEEE P3109.
-pub fn projections_are_those_of_p3109()
-    ensures p3 { IsPublishedProjection binary8p3se
-        (projection_of ⟦<crate::Binary8P3 as crate::Projection>⟧) }
-    ensures p4 { IsPublishedProjection binary8p4se
-        (projection_of ⟦<crate::Binary8P4 as crate::Projection>⟧) }
-    ensures p5 { IsPublishedProjection binary8p5se
-        (projection_of ⟦<crate::Binary8P5 as crate::Projection>⟧) }
-    ensures p1 { IsPublishedProjection binary8p1uf
-        (projection_of ⟦<crate::Binary8P1UF as crate::Projection>⟧) }
 {}
 
 /// `E8M0FNU` is the scale of OCP Microscaling Formats 1.0 (5.4): 1 has the code 127, and the NaN 255.

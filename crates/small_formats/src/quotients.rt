@@ -65,7 +65,8 @@ fn pick_with_loss(
     }
 }
 
-/// The quotient of two positive values, rounded once as a quotient with that sign.
+/// The quotient of two positive values with the sign that `negative` says, rounded once with that sign, and the largest
+/// number in place of what is past it.
 fn divide_positive<S: Semantics, R: Semantics, F: StorageFormat>(
     x: IeeeFloat<S>,
     y: IeeeFloat<R>,

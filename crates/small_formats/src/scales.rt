@@ -16,12 +16,11 @@ ghost use Rattle.small_formats.specs.ScaleModes.{IsDeliveredScaleBy, IsScaleBy};
 ghost use Rattle.small_formats.specs.Scales.{IsScale, largest_code, nan_code, scale_format, scale_of};
 
 use crate::cuts::DIGITS;
-use crate::from_value::{status_of_nan, status_past};
-use crate::from_value_by::ieee_mode;
 use crate::grid_points::{Point, convert_point};
 use crate::modes::ConversionRound;
-use crate::picks::takes_next;
+use crate::picks::{ieee_mode, takes_next};
 use crate::quanta::in_quanta;
+use crate::statuses::{status_of_nan, status_past};
 use apfloat_base::{Category, ExpInt, Flags, Float, Round, Status, StatusAnd};
 use apfloat_ieee::{Flagged, IeeeFloat, Semantics};
 use apfloat_model::Loss;

@@ -8,7 +8,7 @@ ghost use Rattle.apfloat_ieee.specs.FlaggedTypes.{format_of as flagged_format_of
 ghost use Rattle.apfloat_ieee.specs.Types.{format_of};
 ghost use Rattle.small_formats.specs.Unsigned.{IsUnsigned, signed_format, unsigned_datum, unsigned_nan_code};
 
-use crate::from_value::status_of_nan;
+use crate::statuses::status_of_nan;
 use apfloat_base::{Category, Float, FloatConvert, Round, Status, StatusAnd};
 use apfloat_ieee::built_in_formats::Float8E4M3FN;
 use apfloat_ieee::{Flagged, IeeeFloat, Semantics};

@@ -14,7 +14,7 @@
 //! ```
 
 use crate::conversion_modes::ConversionRound;
-use crate::erased::small_formats as library;
+use crate::erased::p3109_formats as library;
 use crate::ieee::{FlaggedS, IeeeFloat, Semantics};
 use crate::status::answered;
 use crate::{Category, Round, StatusAnd};

@@ -15,7 +15,8 @@ use Rattle.apfloat_model.proofs.bits.EncodedOnce.{encoded_once}
 use Rattle.apfloat_model.proofs.bits.Encodings.{lawful_interchange}
 use Rattle.small_formats.specs.Float8E3M4.{e3m4_datum, e3m4_format, e3m4_layout}
 use Rattle.small_formats.specs.LawTest.{lawful_from_test}
-use Rattle.small_formats.proofs.OneAnswer.{into_once, scale_once, unsigned_once}
+use Rattle.small_formats.proofs.OneAnswer.{into_once, unsigned_once}
+use Rattle.small_formats.proofs.ScaleModes.{scale_once}
 use Rattle.formats_at_run_time.specs.BuiltIns.{constants_in}
 use Rattle.formats_at_run_time.specs.FlaggedKinds.{flagged_constants}
 use Rattle.small_formats.specs.declared.saturation.FiniteNan.{FiniteNan}

@@ -20,6 +20,7 @@ use Rattle.ieee_operations.specs.augmented.Augmented.{left_of, IsPastLargest, Is
 use Rattle.ieee_operations.specs.augmented.Augmented.{IsAugmentedSum, IsAugmentedDifference, IsAugmentedProduct, HasOneAugmented, AreExactly, IsExactSum, IsExactProduct}
 use Rattle.ieee_operations.specs.augmented.Numbers.{IsNearestTo}
 use Rattle.ieee_operations.specs.augmented.TiesToZero.{IsTiesToZeroPick}
+use Rattle.ieee_operations.proofs.augmented_lemmas.Cases.{each_sum, each_difference, each_product}
 use Rattle.ieee_operations.proofs.augmented_lemmas.TiesToZero.{ties_to_zero_once, ties_to_zero_exact}
 use Rattle.ieee_operations.proofs.augmented_lemmas.Numbers.{signed_number, number_in}
 use Rattle.ieee_operations.proofs.augmented_lemmas.Rests.{rest_in_format, as_nearest, eight}
@@ -64,47 +65,33 @@ augmented_once f of_zero exact parts h g t u i j x y =
     (subst (λ (p : ℕ). MatchBool (ltb (largest f) p) (IsPastLargest f s h t i) (IsWithTail f s exact parts p h t i)) e
     x.is) y.is
 
-both_once : (Says : Datum → ℕ → Type 0) (h g t u : Datum) (i j : ℕ) → Once Says → AreBoth Says h t i
+both_once : (Says : Datum → ℕ → Type 0) → Once Says → (h g t u : Datum) (i j : ℕ) → AreBoth Says h t i
     → AreBoth Says g u j → AreSame h g t u i j
-both_once Says h g t u i j once x y =
+both_once Says once h g t u i j x y =
     let e = once h g i j x.is y.is in
     (e.0, x.tail_is ∙ e.0 ∙ sym y.tail_is, e.1)
 
+-- one answer of an operation of two operands
+abbrev HasOne : Datum → Datum → (Datum → Datum → ℕ → Type 0) → Type 0
+HasOne x y Says = (h g t u : Datum) (i j : ℕ) → Says h t i → Says g u j → AreSame h g t u i j
+
 pub augmented_sum_once : HasOneAugmented IsAugmentedSum
-augmented_sum_once f (finite b m) (finite c n) h g t u i j =
-    augmented_once f (zero_sum_sign NearestTiesToEven b c) (signed b m +ℤ signed c n) 1 h g t u i j
-augmented_sum_once f (finite b m) (infinite c) h g t u i j =
-    both_once _ h g t u i j (sum_once f NearestTiesToEven (finite b m) (infinite c))
-augmented_sum_once f (finite b m) (nan c n) h g t u i j =
-    both_once _ h g t u i j (sum_once f NearestTiesToEven (finite b m) (nan c n))
-augmented_sum_once f (infinite b) y h g t u i j =
-    both_once _ h g t u i j (sum_once f NearestTiesToEven (infinite b) y)
-augmented_sum_once f (nan b m) y h g t u i j =
-    both_once _ h g t u i j (sum_once f NearestTiesToEven (nan b m) y)
+augmented_sum_once f =
+    each_sum HasOne f
+    (λ b c m n. augmented_once f (zero_sum_sign NearestTiesToEven b c) (signed b m +ℤ signed c n) 1)
+    (λ x y. both_once _ (sum_once f NearestTiesToEven x y))
 
 pub augmented_difference_once : HasOneAugmented IsAugmentedDifference
-augmented_difference_once f (finite b m) (finite c n) h g t u i j =
-    augmented_sum_once f (finite b m) (negated f.nonfinite (finite c n)) h g t u i j
-augmented_difference_once f (finite b m) (infinite c) h g t u i j =
-    both_once _ h g t u i j (difference_once f NearestTiesToEven (finite b m) (infinite c))
-augmented_difference_once f (finite b m) (nan c n) h g t u i j =
-    both_once _ h g t u i j (difference_once f NearestTiesToEven (finite b m) (nan c n))
-augmented_difference_once f (infinite b) y h g t u i j =
-    both_once _ h g t u i j (difference_once f NearestTiesToEven (infinite b) y)
-augmented_difference_once f (nan b m) y h g t u i j =
-    both_once _ h g t u i j (difference_once f NearestTiesToEven (nan b m) y)
+augmented_difference_once f =
+    each_difference HasOne f
+    (λ b c m n. augmented_sum_once f (finite b m) (negated f.nonfinite (finite c n)))
+    (λ x y. both_once _ (difference_once f NearestTiesToEven x y))
 
 pub augmented_product_once : HasOneAugmented IsAugmentedProduct
-augmented_product_once f (finite b m) (finite c n) h g t u i j =
-    augmented_once f (product_sign b c) (signed (product_sign b c) (m * n)) (2 ^ f.scale) h g t u i j
-augmented_product_once f (finite b m) (infinite c) h g t u i j =
-    both_once _ h g t u i j (product_once f NearestTiesToEven (finite b m) (infinite c))
-augmented_product_once f (finite b m) (nan c n) h g t u i j =
-    both_once _ h g t u i j (product_once f NearestTiesToEven (finite b m) (nan c n))
-augmented_product_once f (infinite b) y h g t u i j =
-    both_once _ h g t u i j (product_once f NearestTiesToEven (infinite b) y)
-augmented_product_once f (nan b m) y h g t u i j =
-    both_once _ h g t u i j (product_once f NearestTiesToEven (nan b m) y)
+augmented_product_once f =
+    each_product HasOne f
+    (λ b c m n. augmented_once f (product_sign b c) (signed (product_sign b c) (m * n)) (2 ^ f.scale))
+    (λ x y. both_once _ (product_once f NearestTiesToEven x y))
 
 -- ---- sums are exact
 

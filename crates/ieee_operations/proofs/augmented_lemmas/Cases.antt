@@ -1,5 +1,5 @@
 -- Cases of operands, and what the law of a format says of its ranges.
-use Rattle.std.proofs.Common.{◌≡◌, ℕ, ◌-◌, ◌^◌, ◌<◌, ◌≤◌, Bool, true, false, refl, sym, subst, arith}
+use Rattle.std.proofs.Common.{◌≡◌, ℕ, ◌*◌, ◌-◌, ◌^◌, ◌<◌, ◌≤◌, Bool, true, false, refl, subst, arith}
 use Rattle.std.specs.Prelude.{ℤ, pos, ◌+ℤ◌, ◌-ℤ◌, unsigned_abs}
 use Rattle.std.proofs.lemmas.Bool.{false≢true}
 use Rattle.std.proofs.lemmas.Int.{ints}
@@ -8,14 +8,50 @@ use Rattle.apfloat_model.specs.formats.Format.{Format}
 use Rattle.apfloat_model.specs.formats.Datum.{Datum, finite, infinite, nan}
 use Rattle.apfloat_model.specs.formats.Lawful.{Constants, IsLawful, format_with}
 use Rattle.apfloat_model.specs.rounding.Negation.{negated}
-use Rattle.apfloat_model.specs.arithmetic.Exact.{signed}
+use Rattle.apfloat_model.specs.arithmetic.Exact.{product_sign, signed}
+use Rattle.apfloat_model.specs.arithmetic.Products.{IsProduct}
 use Rattle.apfloat_model.specs.arithmetic.Sums.{IsSum, IsDifference, zero_sum_sign}
 use Rattle.apfloat_model.specs.order.Classes.{is_finite, is_negative}
 use Rattle.apfloat_model.specs.order.Order.{number}
 use Rattle.apfloat_model.proofs.arithmetic.Signs.{swapped_sum}
-use Rattle.ieee_operations.specs.augmented.Augmented.{IsAugmented, IsAugmentedSum, IsAugmentedDifference}
+use Rattle.ieee_operations.specs.augmented.Augmented.{AreBoth, IsAugmented, IsAugmentedSum, IsAugmentedDifference, IsAugmentedProduct}
 
--- ---- sums of finite data, and of others
+-- ---- the augmented operations, by their operands
+
+-- What holds of the results of two numbers, and of two results alike, holds of each.
+pub each_sum : (P : Datum → Datum → (Datum → Datum → ℕ → Type 0) → Type 0) (f : Format)
+    → ((b c : Bool) (m n : ℕ)
+    → P (finite b m) (finite c n) (IsAugmented f (zero_sum_sign NearestTiesToEven b c) (signed b m +ℤ signed c n) 1))
+    → ((x y : Datum) → P x y (AreBoth (IsSum f NearestTiesToEven x y))) → (x y : Datum) → P x y (IsAugmentedSum f x y)
+each_sum P f numbers others (finite b m) (finite c n) = numbers b c m n
+each_sum P f numbers others (finite b m) (infinite c) = others (finite b m) (infinite c)
+each_sum P f numbers others (finite b m) (nan c n) = others (finite b m) (nan c n)
+each_sum P f numbers others (infinite b) y = others (infinite b) y
+each_sum P f numbers others (nan b m) y = others (nan b m) y
+
+pub each_difference : (P : Datum → Datum → (Datum → Datum → ℕ → Type 0) → Type 0) (f : Format)
+    → ((b c : Bool) (m n : ℕ)
+    → P (finite b m) (finite c n) (IsAugmentedSum f (finite b m) (negated f.nonfinite (finite c n))))
+    → ((x y : Datum) → P x y (AreBoth (IsDifference f NearestTiesToEven x y))) → (x y : Datum)
+    → P x y (IsAugmentedDifference f x y)
+each_difference P f numbers others (finite b m) (finite c n) = numbers b c m n
+each_difference P f numbers others (finite b m) (infinite c) = others (finite b m) (infinite c)
+each_difference P f numbers others (finite b m) (nan c n) = others (finite b m) (nan c n)
+each_difference P f numbers others (infinite b) y = others (infinite b) y
+each_difference P f numbers others (nan b m) y = others (nan b m) y
+
+pub each_product : (P : Datum → Datum → (Datum → Datum → ℕ → Type 0) → Type 0) (f : Format)
+    → ((b c : Bool) (m n : ℕ) → P (finite b m) (finite c n)
+    (IsAugmented f (product_sign b c) (signed (product_sign b c) (m * n)) (2 ^ f.scale)))
+    → ((x y : Datum) → P x y (AreBoth (IsProduct f NearestTiesToEven x y)))
+    → (x y : Datum) → P x y (IsAugmentedProduct f x y)
+each_product P f numbers others (finite b m) (finite c n) = numbers b c m n
+each_product P f numbers others (finite b m) (infinite c) = others (finite b m) (infinite c)
+each_product P f numbers others (finite b m) (nan c n) = others (finite b m) (nan c n)
+each_product P f numbers others (infinite b) y = others (infinite b) y
+each_product P f numbers others (nan b m) y = others (nan b m) y
+
+-- ---- sums of finite data
 
 pub sum_of_numbers : (f : Format) (x y head tail : Datum) (status : ℕ) → is_finite x ≡ true → is_finite y ≡ true
     → IsAugmented f (zero_sum_sign NearestTiesToEven (is_negative x) (is_negative y)) (number x +ℤ number y) 1 head
@@ -44,47 +80,6 @@ sum_swapped f (finite b m) (infinite c) head tail status p q h = absurd (false�
 sum_swapped f (finite b m) (nan c n) head tail status p q h = absurd (false≢true q)
 sum_swapped f (infinite b) y head tail status p q h = absurd (false≢true p)
 sum_swapped f (nan b m) y head tail status p q h = absurd (false≢true p)
-
-pub sum_of_left : (f : Format) (x y head tail : Datum) (status : ℕ) → is_finite x ≡ false
-    → IsSum f NearestTiesToEven x y head status → tail ≡ head → IsAugmentedSum f x y head tail status
-sum_of_left f (finite b m) y head tail status p h e = absurd (false≢true (sym p))
-sum_of_left f (infinite b) y head tail status p h e = record { is = h; tail_is = e }
-sum_of_left f (nan b m) y head tail status p h e = record { is = h; tail_is = e }
-
-pub sum_of_right : (f : Format) (x y head tail : Datum) (status : ℕ) → is_finite y ≡ false
-    → IsSum f NearestTiesToEven x y head status → tail ≡ head → IsAugmentedSum f x y head tail status
-sum_of_right f x (finite c n) head tail status p h e = absurd (false≢true (sym p))
-sum_of_right f (finite b m) (infinite c) head tail status p h e = record { is = h; tail_is = e }
-sum_of_right f (finite b m) (nan c n) head tail status p h e = record { is = h; tail_is = e }
-sum_of_right f (infinite b) (infinite c) head tail status p h e = record { is = h; tail_is = e }
-sum_of_right f (infinite b) (nan c n) head tail status p h e = record { is = h; tail_is = e }
-sum_of_right f (nan b m) (infinite c) head tail status p h e = record { is = h; tail_is = e }
-sum_of_right f (nan b m) (nan c n) head tail status p h e = record { is = h; tail_is = e }
-
-pub difference_of_numbers : (f : Format) (x y head tail : Datum) (status : ℕ) → is_finite x ≡ true
-    → is_finite y ≡ true → IsAugmentedSum f x (negated f.nonfinite y) head tail status
-    → IsAugmentedDifference f x y head tail status
-difference_of_numbers f (finite b m) (finite c n) head tail status p q h = h
-difference_of_numbers f (finite b m) (infinite c) head tail status p q h = absurd (false≢true q)
-difference_of_numbers f (finite b m) (nan c n) head tail status p q h = absurd (false≢true q)
-difference_of_numbers f (infinite b) y head tail status p q h = absurd (false≢true p)
-difference_of_numbers f (nan b m) y head tail status p q h = absurd (false≢true p)
-
-pub difference_of_left : (f : Format) (x y head tail : Datum) (status : ℕ) → is_finite x ≡ false
-    → IsDifference f NearestTiesToEven x y head status → tail ≡ head → IsAugmentedDifference f x y head tail status
-difference_of_left f (finite b m) y head tail status p h e = absurd (false≢true (sym p))
-difference_of_left f (infinite b) y head tail status p h e = record { is = h; tail_is = e }
-difference_of_left f (nan b m) y head tail status p h e = record { is = h; tail_is = e }
-
-pub difference_of_right : (f : Format) (x y head tail : Datum) (status : ℕ) → is_finite y ≡ false
-    → IsDifference f NearestTiesToEven x y head status → tail ≡ head → IsAugmentedDifference f x y head tail status
-difference_of_right f x (finite c n) head tail status p h e = absurd (false≢true (sym p))
-difference_of_right f (finite b m) (infinite c) head tail status p h e = record { is = h; tail_is = e }
-difference_of_right f (finite b m) (nan c n) head tail status p h e = record { is = h; tail_is = e }
-difference_of_right f (infinite b) (infinite c) head tail status p h e = record { is = h; tail_is = e }
-difference_of_right f (infinite b) (nan c n) head tail status p h e = record { is = h; tail_is = e }
-difference_of_right f (nan b m) (infinite c) head tail status p h e = record { is = h; tail_is = e }
-difference_of_right f (nan b m) (nan c n) head tail status p h e = record { is = h; tail_is = e }
 
 -- ---- ranges
 

@@ -137,25 +137,25 @@ past_largest_is f of_zero v p head tail status t l e k o =
 
 -- ---- a sum to nearest that is finite
 
--- the picks of the sum to nearest and of the sum toward zero
-pub record ArePicks (f : Format) (s : Bool) (amount : ℕ) (near short : Datum) : Type 0 where
+-- the picks of an exact result to nearest and toward zero
+pub record ArePicks (f : Format) (s : Bool) (amount parts : ℕ) (near short : Datum) : Type 0 where
   pub even : ℕ
   pub lower : ℕ
-  pub is_even : IsPick f.precision NearestTiesToEven s amount 1 even
-  pub is_lower : IsPick f.precision TowardZero s amount 1 lower
+  pub is_even : IsPick f.precision NearestTiesToEven s amount parts even
+  pub is_lower : IsPick f.precision TowardZero s amount parts lower
   pub even_within : even ≤ largest f
   pub lower_within : lower ≤ largest f
   pub near_is : near ≡ signed_quanta f.nonfinite s even
   pub short_is : short ≡ signed_quanta f.nonfinite s lower
 
-pub picks_of : (f : Format) (of_zero : Bool) (v : ℤ) (near short : Datum) (i j : ℕ)
-    → IsRounded f NearestTiesToEven of_zero v 1 near i → IsRounded f TowardZero of_zero v 1 short j
-    → is_finite near ≡ true → ArePicks f (sign_of of_zero v) (magnitude v) near short
-picks_of f of_zero v near short i j x y h =
+pub picks_of : (f : Format) (of_zero : Bool) (v : ℤ) (parts : ℕ) (near short : Datum) (i j : ℕ) → 0 < parts
+    → IsRounded f NearestTiesToEven of_zero v parts near i → IsRounded f TowardZero of_zero v parts short j
+    → is_finite near ≡ true → ArePicks f (sign_of of_zero v) (magnitude v) parts near short
+picks_of f of_zero v parts near short i j some x y h =
     let s = sign_of of_zero v in
     let l = finite_within f s x.pick near h x.value_is in
-    let b = short_is_below f.precision s (magnitude v) 1 x.pick y.pick x.is_pick y.is_pick in
-    let w = (pick_within f.precision NearestTiesToEven s (magnitude v) 1 x.pick (lit< tt) x.is_pick).1 in
+    let b = short_is_below f.precision s (magnitude v) parts x.pick y.pick x.is_pick y.is_pick in
+    let w = (pick_within f.precision NearestTiesToEven s (magnitude v) parts x.pick some x.is_pick).1 in
     let k : y.pick ≤ largest f = omega (arith, l, b, w) in
     record {
       even = x.pick;
@@ -168,11 +168,11 @@ picks_of f of_zero v near short i j x y h =
       short_is = y.value_is ∙ within_is f TowardZero s y.pick k;
     }
 
-pub near_number : (f : Format) (s : Bool) (amount : ℕ) (near short : Datum) (a : ArePicks f s amount near short)
+pub near_number : (f : Format) (s : Bool) (amount : ℕ) (near short : Datum) (a : ArePicks f s amount 1 near short)
     → number near ≡ signed s a.even
 near_number f s amount near short a = ap number a.near_is ∙ (signed_number f.nonfinite s a.even).number_is
 
-pub short_number : (f : Format) (s : Bool) (amount : ℕ) (near short : Datum) (a : ArePicks f s amount near short)
+pub short_number : (f : Format) (s : Bool) (amount : ℕ) (near short : Datum) (a : ArePicks f s amount 1 near short)
     → number short ≡ signed s a.lower
 short_number f s amount near short a = ap number a.short_is ∙ (signed_number f.nonfinite s a.lower).number_is
 
@@ -182,7 +182,7 @@ even_apart p amount other h = omega (arith, h)
 
 -- the finite sum to nearest is a nearest number
 pub near_is_nearest : (f : Format) (of_zero : Bool) (v : ℤ) (near short : Datum)
-    → ArePicks f (sign_of of_zero v) (magnitude v) near short → IsNearestTo f.precision v (number near)
+    → ArePicks f (sign_of of_zero v) (magnitude v) 1 near short → IsNearestTo f.precision v (number near)
 near_is_nearest f of_zero v near short a =
     let s = sign_of of_zero v in
     let n = signed_nearest f.precision s (magnitude v) a.even
@@ -213,7 +213,7 @@ opposites false n e t h = omega (arith, ints, h)
 
 -- the pick, if the sum toward zero leaves exactly the opposite of what the sum to nearest leaves
 pub tie_is : (f : Format) (of_zero : Bool) (v : ℤ) (near short rest left : Datum)
-    → (a : ArePicks f (sign_of of_zero v) (magnitude v) near short)
+    → (a : ArePicks f (sign_of of_zero v) (magnitude v) 1 near short)
     → HasNumber (v -ℤ number near) rest → HasNumber (v -ℤ number short) left
     → is_equal left (negated f.nonfinite rest) ≡ true → IsTiesToZeroPick f.precision (magnitude v) 1 a.lower
 tie_is f of_zero v near short rest left a r l e =
@@ -232,7 +232,7 @@ tie_is f of_zero v near short rest left a r l e =
 
 -- the pick, if it does not
 pub no_tie_is : (f : Format) (of_zero : Bool) (v : ℤ) (near short rest left : Datum) (status : ℕ)
-    → (a : ArePicks f (sign_of of_zero v) (magnitude v) near short)
+    → (a : ArePicks f (sign_of of_zero v) (magnitude v) 1 near short)
     → HasNumber (v -ℤ number near) rest
     → (status ≡ ok_bits → HasNumber (v -ℤ number short) left)
     → (IsNearestTo f.precision v (number short) → status ≡ ok_bits)

@@ -34,9 +34,6 @@ times_cancelled a b u p e =
     let l : magnitude (a -ℤ b) * u ≤ 0 * u = omega (arith, z) in
     not_apart a b (le_of_mul-le-mul_right l p)
 
-none_times : (u : ℕ) → (pos 0 *ℤ pos u) ≡ pos 0
-none_times u = omega (arith, ints)
-
 -- an integer other than 0 has its own sign
 pub sign_some : (of_zero other : Bool) (z : ℤ) → 0 < magnitude z → sign_of of_zero z ≡ sign_of other z
 sign_some of_zero other (pos zero) p = absurd (omega (arith, p))

@@ -296,22 +296,19 @@ is_under (infinite b) y p q h = absurd (false≢true p)
 is_under (nan b m) y p q h = absurd (false≢true p)
 
 -- the order of two data without their signs is that of their magnitudes
+order_of_numbers : (f : Format) (x y : Datum) → is_finite x ≡ true → is_finite y ≡ true
+    → number (abs f x) ≤ℤ number (abs f y) → magnitude (number x) ≤ magnitude (number y)
+order_of_numbers f x y p q l =
+    let u = (abs_has f x p).number_is in
+    let v = (abs_has f y q).number_is in
+    omega (arith, ints, l, u, v)
+
 pub order_of_abs : (f : Format) (x y : Datum) → is_finite x ≡ true → is_finite y ≡ true
     → is_below (abs f x) (abs f y) ≡ false → magnitude (number y) ≤ magnitude (number x)
 order_of_abs f x y p q h =
-    let a = abs_has f x p in
-    let b = abs_has f y q in
-    let l = not_below (abs f x) (abs f y) a.is_finite b.is_finite h in
-    let u = a.number_is in
-    let v = b.number_is in
-    omega (arith, ints, l, u, v)
+    order_of_numbers f y x q p (not_below (abs f x) (abs f y) (abs_has f x p).is_finite (abs_has f y q).is_finite h)
 
 pub order_of_less : (f : Format) (x y : Datum) → is_finite x ≡ true → is_finite y ≡ true
     → is_below (abs f x) (abs f y) ≡ true → magnitude (number x) ≤ magnitude (number y)
 order_of_less f x y p q h =
-    let a = abs_has f x p in
-    let b = abs_has f y q in
-    let l = is_under (abs f x) (abs f y) a.is_finite b.is_finite h in
-    let u = a.number_is in
-    let v = b.number_is in
-    omega (arith, ints, l, u, v)
+    order_of_numbers f x y p q (is_under (abs f x) (abs f y) (abs_has f x p).is_finite (abs_has f y q).is_finite h)

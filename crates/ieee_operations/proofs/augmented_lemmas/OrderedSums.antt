@@ -1,5 +1,5 @@
 -- Augmented sums of two numbers, in each of the four cases of `ordered_sum`.
-use Rattle.std.proofs.Common.{◌≡◌, ℕ, ◌+◌, ◌-◌, ◌^◌, ◌<◌, ◌≤◌, true, false, sym, ap, ◌∙◌, subst, ⊎_elim, arith, FitsSigned, to_z, of_z}
+use Rattle.std.proofs.Common.{◌≡◌, ℕ, ◌+◌, ◌-◌, ◌^◌, ◌<◌, ◌≤◌, Bool, true, false, sym, ap, ◌∙◌, subst, ⊎_elim, arith, lit<, FitsSigned, to_z, of_z}
 use Rattle.std.specs.Prelude.{ℤ, pos, ◌+ℤ◌, ◌-ℤ◌}
 use Rattle.std.specs.Int.{w32}
 use Rattle.std.proofs.lemmas.Bool.{cases_lt}
@@ -7,7 +7,7 @@ use Rattle.std.proofs.lemmas.Int.{ints, to_z-of_z}
 use Rattle.apfloat_model.specs.declared.kinds.Round.TheVariants.{NearestTiesToEven, TowardZero}
 use Rattle.apfloat_model.specs.formats.Format.{Format, largest}
 use Rattle.apfloat_model.specs.formats.Datum.{Datum, finite}
-use Rattle.apfloat_model.specs.rounding.Rounding.{signed_quanta, ok_bits, overflow_bit, inexact_bit}
+use Rattle.apfloat_model.specs.rounding.Rounding.{IsPick, delivered_value, signed_quanta, ok_bits, overflow_bit, inexact_bit}
 use Rattle.apfloat_model.specs.rounding.Negation.{negated}
 use Rattle.apfloat_model.specs.arithmetic.Exact.{magnitude, signed, sign_of, IsRounded}
 use Rattle.apfloat_model.specs.arithmetic.Signs.{abs}
@@ -84,7 +84,7 @@ head_is_short f h x y near short rest left other i j rest_status nx ny sum short
     let of_zero = zero_sum_sign NearestTiesToEven (is_negative x) (is_negative y) in
     let n = sum_rounded f NearestTiesToEven x y near i nx.is_finite ny.is_finite sum in
     let t = sum_rounded f TowardZero x y short j nx.is_finite ny.is_finite shorter in
-    let a = picks_of f of_zero v near short i j n t nn.is_finite in
+    let a = picks_of f of_zero v 1 near short i j (lit< tt) n t nn.is_finite in
     let r = exact (nearest (near_is_nearest f of_zero v near short a)) in
     let p = tie_is f of_zero v near short rest left a r l
     (subst (λ (d : Datum). is_equal left d ≡ true) o e) in
@@ -109,11 +109,39 @@ head_is_near f h x y near short rest left other i j rest_status left_status nx n
     let of_zero = zero_sum_sign NearestTiesToEven (is_negative x) (is_negative y) in
     let n = sum_rounded f NearestTiesToEven x y near i nx.is_finite ny.is_finite sum in
     let t = sum_rounded f TowardZero x y short j nx.is_finite ny.is_finite shorter in
-    let a = picks_of f of_zero v near short i j n t nn.is_finite in
+    let a = picks_of f of_zero v 1 near short i j (lit< tt) n t nn.is_finite in
     let r = exact (nearest (near_is_nearest f of_zero v near short a)) in
     let p = no_tie_is f of_zero v near short rest left left_status a r left_exact left_nearest
     (λ k. subst (λ (d : Datum). is_equal left d ≡ false) o (differs k)) in
     finish f h x y nx ny a.even p a.even_within near rest head tail status a.near_is r hd tl ok
+
+-- the sum to nearest is past the largest value, and the sum toward zero is that value
+record IsSumPast (f : Format) (s : Bool) (amount : ℕ) (near short : Datum) : Type 0 where
+  pub pick : ℕ
+  pub is_pick : IsPick f.precision NearestTiesToEven s amount 1 pick
+  pub value_is : near ≡ delivered_value f NearestTiesToEven s pick
+  pub past : largest f < pick
+  pub short_is : short ≡ finite s (largest f)
+
+sum_past : (f : Format) → 3 ≤ f.precision → (x y near short : Datum) (i j : ℕ) → IsAugmentedNumber f x
+    → IsAugmentedNumber f y → IsSum f NearestTiesToEven x y near i → IsSum f TowardZero x y short j
+    → is_finite near ≡ false
+    → IsSumPast f (sign_of (zero_sum_sign NearestTiesToEven (is_negative x) (is_negative y)) (number x +ℤ number y))
+    (magnitude (number x +ℤ number y)) near short
+sum_past f h x y near short i j nx ny sum shorter nn =
+    let v = number x +ℤ number y in
+    let of_zero = zero_sum_sign NearestTiesToEven (is_negative x) (is_negative y) in
+    let n = sum_rounded f NearestTiesToEven x y near i nx.is_finite ny.is_finite sum in
+    let t : IsRounded f TowardZero of_zero v 1 short j =
+    sum_rounded f TowardZero x y short j nx.is_finite ny.is_finite shorter in
+    let past = past_without f (sign_of of_zero v) n.pick near nn n.value_is in
+    record {
+      pick = n.pick;
+      is_pick = n.is_pick;
+      value_is = n.value_is;
+      past = past;
+      short_is = short_is_largest f h of_zero v n.pick short j past n.is_pick t;
+    }
 
 -- the largest value is the head: the sum is halfway past it
 pub head_is_largest : (f : Format) → 3 ≤ f.precision → 1 ≤ f.span → (x y near short left magnitude_of_left unit : Datum)
@@ -130,17 +158,13 @@ head_is_largest f h k x y near short left magnitude_of_left unit i j nx ny sum s
     let v = number x +ℤ number y in
     let of_zero = zero_sum_sign NearestTiesToEven (is_negative x) (is_negative y) in
     let s = sign_of of_zero v in
-    let n = sum_rounded f NearestTiesToEven x y near i nx.is_finite ny.is_finite sum in
-    let t : IsRounded f TowardZero of_zero v 1 short j =
-    sum_rounded f TowardZero x y short j nx.is_finite ny.is_finite shorter in
-    let past = past_without f s n.pick near nn n.value_is in
-    let is = short_is_largest f h of_zero v n.pick short j past n.is_pick t in
+    let n = sum_past f h x y near short i j nx ny sum shorter nn in
     let l' : HasNumber (v -ℤ signed s (largest f)) left =
-    subst (λ (d : Datum). HasNumber (v -ℤ number d) left) is l in
-    let w = half_left f of_zero v left unit l' u (beyond f s (magnitude v) n.pick past n.is_pick)
+    subst (λ (d : Datum). HasNumber (v -ℤ number d) left) n.short_is l in
+    let w = half_left f of_zero v left unit l' u (beyond f s (magnitude v) n.pick n.past n.is_pick)
     (subst (λ (d : Datum). is_equal d unit ≡ true) m e) in
     finish f h x y nx ny (largest f) (at_half f h k (magnitude v) w) (omega arith) short left head tail status
-    (is ∙ sym (signed_some f.nonfinite s (largest f) (largest_some f h))) l hd tl ok
+    (n.short_is ∙ sym (signed_some f.nonfinite s (largest f) (largest_some f h))) l hd tl ok
 
 -- the head is past the largest value
 pub head_is_past : (f : Format) → 3 ≤ f.precision → 1 ≤ f.span → (x y near short left magnitude_of_left unit : Datum)
@@ -159,19 +183,15 @@ head_is_past f h k x y near short left magnitude_of_left unit i j left_status nx
     let v = number x +ℤ number y in
     let of_zero = zero_sum_sign NearestTiesToEven (is_negative x) (is_negative y) in
     let s = sign_of of_zero v in
-    let n = sum_rounded f NearestTiesToEven x y near i nx.is_finite ny.is_finite sum in
-    let t : IsRounded f TowardZero of_zero v 1 short j =
-    sum_rounded f TowardZero x y short j nx.is_finite ny.is_finite shorter in
-    let past = past_without f s n.pick near nn n.value_is in
-    let is = short_is_largest f h of_zero v n.pick short j past n.is_pick t in
-    let number_is : number short ≡ signed s (largest f) = ap number is in
-    let p = past_pick f h k s (magnitude v) n.pick past n.is_pick
+    let n = sum_past f h x y near short i j nx ny sum shorter nn in
+    let number_is : number short ≡ signed s (largest f) = ap number n.short_is in
+    let p = past_pick f h k s (magnitude v) n.pick n.past n.is_pick
     (no_half_left f h k of_zero v left unit left_status u
     (λ o. subst (λ (z : ℤ). HasNumber (v -ℤ z) left) number_is (exact o))
     (λ q. nearest (subst (λ (z : ℤ). IsNearestTo f.precision v z) (sym number_is) q))
     (λ o. subst (λ (d : Datum). is_equal d unit ≡ false) m (differs o))) in
     sum_of_numbers f x y head tail status nx.is_finite ny.is_finite
-    (past_largest_is f of_zero v p.pick head tail status p.is_pick p.past (hd ∙ n.value_is ∙ past_is f s n.pick past)
+    (past_largest_is f of_zero v p.pick head tail status p.is_pick p.past (hd ∙ n.value_is ∙ past_is f s n.pick n.past)
     (tl ∙ sym hd) ok)
 
 -- ---- how far the smallest value is moved to half a unit in the last place of the largest one

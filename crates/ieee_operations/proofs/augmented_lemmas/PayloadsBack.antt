@@ -25,7 +25,8 @@ signaling_of kind p q =
     if eqb (bit_and (cleared_of kind p q) (payload_mask_of kind p)) 0
     then bit_or (cleared_of kind p q) (quiet_bit_of kind p / 2) else cleared_of kind p q
 
--- ---- formats with payloads
+-- ---- formats with payloads: p is the precision, k a payload, and 2 ^ (p - 2) the quiet bit; above the payload are the
+-- digits a = 2 * c + 1, the last of them the quiet bit
 
 twice : (p : ℕ) → 3 ≤ p → 2 ^ (p - 1) ≡ 2 * 2 ^ (p - 2)
 twice p h =
@@ -51,7 +52,7 @@ quiet_is p q a k h l e =
     ap (λ (n : ℕ). bit_or n (bit_and k (2 ^ (p - 1) - 1))) (or_zero_l q ∙ e)
     ∙ ap (λ (n : ℕ). bit_or (a * 2 ^ (p - 2)) n) (plain p k h l) ∙ or_shifted a (p - 2) k l
 
--- without the quiet bit
+-- what is left of a quiet NaN's significand without its quiet bit
 cleared_is : (p a c k : ℕ) → k < 2 ^ (p - 2) → bit_and a 1 ≡ 1 → a ≡ 2 * c + 1
     → (a * 2 ^ (p - 2) + k) - bit_and (a * 2 ^ (p - 2) + k) (2 ^ (p - 2)) ≡ 2 * c * 2 ^ (p - 2) + k
 cleared_is p a c k l o e =
@@ -63,6 +64,7 @@ cleared_is p a c k l o e =
     let f : a * u ≡ (2 * c + 1) * u = ap (λ (n : ℕ). n * u) e in
     omega (arith, b, f)
 
+-- a quiet NaN with a payload other than 0, made signaling, keeps the payload
 signaling_is : (p q a c k : ℕ) → 3 ≤ p → k < 2 ^ (p - 2) → 1 ≤ k → bit_and a 1 ≡ 1 → a ≡ 2 * c + 1
     → q ≡ a * 2 ^ (p - 2) + k → signaling_of IEEE754 p q % 2 ^ (p - 2) ≡ k
 signaling_is p q a c k h l some o e qe =

@@ -1,5 +1,5 @@
 -- Augmented products, in each of the cases of the calls: special operands, an exact rest, and past the largest value.
-use Rattle.std.proofs.Common.{◌≡◌, ℕ, zero, suc, ◌+◌, ◌-◌, ◌*◌, ◌^◌, ◌<◌, ◌≤◌, Bool, true, false, ltb, if◌then◌else◌, sym, refl, ap, ◌∙◌, subst, ⊎_elim, arith}
+use Rattle.std.proofs.Common.{◌≡◌, ℕ, zero, suc, ◌+◌, ◌-◌, ◌*◌, ◌^◌, ◌<◌, ◌≤◌, Bool, true, false, ltb, if◌then◌else◌, sym, refl, ap, ◌∙◌, subst, ◌⊎◌, inl, inr, ⊎_elim, arith}
 use Rattle.std.specs.Prelude.{ℤ, pos, ◌+ℤ◌, ◌-ℤ◌, ◌*ℤ◌}
 use Rattle.std.specs.Bool.{MatchBool}
 use Rattle.std.proofs.Math.Nat.{mul-pos}
@@ -33,6 +33,7 @@ use Rattle.apfloat_pair_theory.proofs.numbers.SignedProducts.{sum_times, magnitu
 use Rattle.ieee_operations.specs.augmented.Augmented.{IsPastLargest, IsWithTail, IsAugmented, IsAugmentedSum, IsAugmentedProduct}
 use Rattle.ieee_operations.specs.augmented.Numbers.{IsNonzeroIn}
 use Rattle.ieee_operations.specs.augmented.TiesToZero.{IsTiesToZeroPick}
+use Rattle.ieee_operations.proofs.augmented_lemmas.Cases.{each_product}
 use Rattle.ieee_operations.proofs.augmented_lemmas.FractionPicks.{beyond_in, past_pick_in}
 use Rattle.ieee_operations.proofs.augmented_lemmas.FractionRoundings.{rest_of_product, fraction_exactly, ok_parts, product_rounded, rest_rounded}
 use Rattle.ieee_operations.proofs.augmented_lemmas.Heads.{half_unit}
@@ -117,30 +118,19 @@ nonzero_by : (m : ℕ) → ltb 0 m ≡ false → m ≡ 0
 nonzero_by zero h = refl
 nonzero_by (suc m) h = absurd (false≢true (sym h ∙ lt-ltb 0 (suc m) (omega arith)))
 
--- one factor is zero, an infinity or a NaN
-pub product_of_left : (f : Format) (x y head tail : Datum) (status : ℕ) → is_finite_non_zero x ≡ false
-    → IsProduct f NearestTiesToEven x y head status → tail ≡ head → IsAugmentedProduct f x y head tail status
-product_of_left f (finite b m) (finite c n) head tail status p h e =
-    let z : m * n ≡ 0 = ap (λ (i : ℕ). i * n) (nonzero_by m p) ∙ omega arith in
-    zero_product f b c m n head tail status z h e
-product_of_left f (finite b m) (infinite c) head tail status p h e = record { is = h; tail_is = e }
-product_of_left f (finite b m) (nan c n) head tail status p h e = record { is = h; tail_is = e }
-product_of_left f (infinite b) (finite c n) head tail status p h e = record { is = h; tail_is = e }
-product_of_left f (infinite b) (infinite c) head tail status p h e = record { is = h; tail_is = e }
-product_of_left f (infinite b) (nan c n) head tail status p h e = record { is = h; tail_is = e }
-product_of_left f (nan b m) y head tail status p h e = record { is = h; tail_is = e }
+zero_factor : (m n : ℕ) → (ltb 0 m ≡ false) ⊎ (ltb 0 n ≡ false) → m * n ≡ 0
+zero_factor m n (inl e) = ap (λ (i : ℕ). i * n) (nonzero_by m e) ∙ omega arith
+zero_factor m n (inr e) = ap (λ (i : ℕ). m * i) (nonzero_by n e) ∙ omega arith
 
-pub product_of_right : (f : Format) (x y head tail : Datum) (status : ℕ) → is_finite_non_zero y ≡ false
-    → IsProduct f NearestTiesToEven x y head status → tail ≡ head → IsAugmentedProduct f x y head tail status
-product_of_right f (finite b m) (finite c n) head tail status p h e =
-    let z : m * n ≡ 0 = ap (λ (i : ℕ). m * i) (nonzero_by n p) ∙ omega arith in
-    zero_product f b c m n head tail status z h e
-product_of_right f (finite b m) (infinite c) head tail status p h e = record { is = h; tail_is = e }
-product_of_right f (finite b m) (nan c n) head tail status p h e = record { is = h; tail_is = e }
-product_of_right f (infinite b) (finite c n) head tail status p h e = record { is = h; tail_is = e }
-product_of_right f (infinite b) (infinite c) head tail status p h e = record { is = h; tail_is = e }
-product_of_right f (infinite b) (nan c n) head tail status p h e = record { is = h; tail_is = e }
-product_of_right f (nan b m) y head tail status p h e = record { is = h; tail_is = e }
+-- one factor is zero, an infinity or a NaN
+pub product_of_others : (f : Format) (head tail : Datum) (status : ℕ) → tail ≡ head → (x y : Datum)
+    → (is_finite_non_zero x ≡ false) ⊎ (is_finite_non_zero y ≡ false)
+    → IsProduct f NearestTiesToEven x y head status → IsAugmentedProduct f x y head tail status
+product_of_others f head tail status e =
+    each_product (λ x y Says. (is_finite_non_zero x ≡ false) ⊎ (is_finite_non_zero y ≡ false)
+    → IsProduct f NearestTiesToEven x y head status → Says head tail status) f
+    (λ b c m n p h. zero_product f b c m n head tail status (zero_factor m n p) h e)
+    (λ x y p h. record { is = h; tail_is = e })
 
 -- ---- an exact rest
 

@@ -4,7 +4,7 @@ use Rattle.std.specs.Prelude.{ℤ, ◌+ℤ◌}
 use Rattle.std.specs.Bool.{MatchBool}
 use Rattle.apfloat_model.specs.declared.kinds.Round.TheVariants.{NearestTiesToEven}
 use Rattle.apfloat_model.specs.formats.Format.{Format, largest}
-use Rattle.apfloat_model.specs.formats.Datum.{Datum, finite, infinite, nan}
+use Rattle.apfloat_model.specs.formats.Datum.{Datum, finite}
 use Rattle.apfloat_model.specs.rounding.RaisedFlags.{FlagsGoTogether}
 use Rattle.apfloat_model.specs.rounding.Rounding.{overflow_bit, underflow_bit, inexact_bit}
 use Rattle.apfloat_model.specs.rounding.Negation.{negated}
@@ -15,6 +15,7 @@ use Rattle.apfloat_model.proofs.rounding.FlagsTogether.{Together, ok_together, s
 use Rattle.apfloat_model.proofs.rounding.FlagsTogether.{inexact_together}
 use Rattle.ieee_operations.specs.augmented.Augmented.{left_of, IsPastLargest, IsWithTail, IsAugmented, AreBoth}
 use Rattle.ieee_operations.specs.augmented.Augmented.{IsAugmentedSum, IsAugmentedDifference, IsAugmentedProduct, RaisesTogether}
+use Rattle.ieee_operations.proofs.augmented_lemmas.Cases.{each_sum, each_difference, each_product}
 
 past_or_not : (f : Format) (negative : Bool) (exact : ℤ) (parts pick : ℕ) (head tail : Datum) (status : ℕ)
     (test : Bool)
@@ -33,42 +34,28 @@ augmented_together : (f : Format) (of_zero : Bool) (exact : ℤ) (parts : ℕ) (
 augmented_together f of_zero exact parts head tail status x =
     past_or_not f (sign_of of_zero exact) exact parts x.pick head tail status (ltb (largest f) x.pick) x.is
 
-both_together : (Says : Datum → ℕ → Type 0) (head tail : Datum) (status : ℕ) → Together Says
+both_together : (Says : Datum → ℕ → Type 0) → Together Says → (head tail : Datum) (status : ℕ)
     → AreBoth Says head tail status → FlagsGoTogether status
-both_together Says head tail status together x = together head status x.is
+both_together Says together head tail status x = together head status x.is
+
+-- of an operation of two operands
+abbrev GoTogether : Datum → Datum → (Datum → Datum → ℕ → Type 0) → Type 0
+GoTogether x y Says = (head tail : Datum) (status : ℕ) → Says head tail status → FlagsGoTogether status
 
 pub sums_together : RaisesTogether IsAugmentedSum
-sums_together f (finite b m) (finite c n) head tail status =
-    augmented_together f (zero_sum_sign NearestTiesToEven b c) (signed b m +ℤ signed c n) 1 head tail status
-sums_together f (finite b m) (infinite c) head tail status =
-    both_together _ head tail status (sum_together f NearestTiesToEven (finite b m) (infinite c))
-sums_together f (finite b m) (nan c n) head tail status =
-    both_together _ head tail status (sum_together f NearestTiesToEven (finite b m) (nan c n))
-sums_together f (infinite b) y head tail status =
-    both_together _ head tail status (sum_together f NearestTiesToEven (infinite b) y)
-sums_together f (nan b m) y head tail status =
-    both_together _ head tail status (sum_together f NearestTiesToEven (nan b m) y)
+sums_together f =
+    each_sum GoTogether f
+    (λ b c m n. augmented_together f (zero_sum_sign NearestTiesToEven b c) (signed b m +ℤ signed c n) 1)
+    (λ x y. both_together _ (sum_together f NearestTiesToEven x y))
 
 pub differences_together : RaisesTogether IsAugmentedDifference
-differences_together f (finite b m) (finite c n) head tail status =
-    sums_together f (finite b m) (negated f.nonfinite (finite c n)) head tail status
-differences_together f (finite b m) (infinite c) head tail status =
-    both_together _ head tail status (difference_together f NearestTiesToEven (finite b m) (infinite c))
-differences_together f (finite b m) (nan c n) head tail status =
-    both_together _ head tail status (difference_together f NearestTiesToEven (finite b m) (nan c n))
-differences_together f (infinite b) y head tail status =
-    both_together _ head tail status (difference_together f NearestTiesToEven (infinite b) y)
-differences_together f (nan b m) y head tail status =
-    both_together _ head tail status (difference_together f NearestTiesToEven (nan b m) y)
+differences_together f =
+    each_difference GoTogether f
+    (λ b c m n. sums_together f (finite b m) (negated f.nonfinite (finite c n)))
+    (λ x y. both_together _ (difference_together f NearestTiesToEven x y))
 
 pub products_together : RaisesTogether IsAugmentedProduct
-products_together f (finite b m) (finite c n) head tail status =
-    augmented_together f (product_sign b c) (signed (product_sign b c) (m * n)) (2 ^ f.scale) head tail status
-products_together f (finite b m) (infinite c) head tail status =
-    both_together _ head tail status (product_together f NearestTiesToEven (finite b m) (infinite c))
-products_together f (finite b m) (nan c n) head tail status =
-    both_together _ head tail status (product_together f NearestTiesToEven (finite b m) (nan c n))
-products_together f (infinite b) y head tail status =
-    both_together _ head tail status (product_together f NearestTiesToEven (infinite b) y)
-products_together f (nan b m) y head tail status =
-    both_together _ head tail status (product_together f NearestTiesToEven (nan b m) y)
+products_together f =
+    each_product GoTogether f
+    (λ b c m n. augmented_together f (product_sign b c) (signed (product_sign b c) (m * n)) (2 ^ f.scale))
+    (λ x y. both_together _ (product_together f NearestTiesToEven x y))

@@ -21,7 +21,7 @@ use Rattle.apfloat_pair_theory.proofs.numbers.TwoSums.{fast_two_sum_difference_g
 use Rattle.ieee_operations.specs.augmented.Numbers.{HasNumber, IsAugmentedNumber, IsNearestTo}
 use Rattle.ieee_operations.proofs.augmented_lemmas.Numbers.{rounded_exactly, ok_exactly, difference_rounded}
 
--- eight numbers at least
+-- with three digits there are at least eight significands
 pub eight : (precision : ℕ) → 3 ≤ precision → 8 ≤ 2 ^ precision
 eight precision h = let a : 2 ^ 3 ≤ 2 ^ precision = pow-le-pow_right two_pos h in omega (arith, a)
 
@@ -97,7 +97,7 @@ first_exact f x head first status p q h o =
     let r = difference_rounded f NearestTiesToEven head x first status p q h in
     ok_exactly f NearestTiesToEven r.0 (number head -ℤ number x) first status r.1 o
 
--- of a nearest sum, the first is exact
+-- of a nearest sum, the first subtraction of Fast2Sum is exact
 pub first_of_nearest : (f : Format) → 3 ≤ f.precision → (x y head first : Datum) (status : ℕ)
     → IsAugmentedNumber f x → IsAugmentedNumber f y → IsAugmentedNumber f head
     → magnitude (number y) ≤ magnitude (number x)
@@ -113,7 +113,7 @@ first_of_nearest f h x y head first status p q r l n d =
     let k = difference_rounded f NearestTiesToEven head x first status r.is_finite p.is_finite d in
     (rounded_exactly f NearestTiesToEven k.0 (z -ℤ a) first status g w k.1).status_is
 
--- and so is the second
+-- of a nearest sum, the second subtraction of Fast2Sum is exact
 pub second_of_nearest : (f : Format) → 3 ≤ f.precision → (x y head first rest : Datum) (status : ℕ)
     → IsAugmentedNumber f x → IsAugmentedNumber f y → HasNumber (number head -ℤ number x) first
     → IsNearestTo f.precision (number x +ℤ number y) (number head)

@@ -83,35 +83,30 @@ pub short_is_below : (precision : ℕ) (negative : Bool) (amount parts e t : ℕ
 short_is_below precision negative amount parts e t x y =
     y.is ∙ below_unique precision y.below x.below amount parts y.is_below x.is_below
 
+-- the neighbours of the pick to nearest are those of the pick with ties toward zero
+from_pick : (precision : ℕ) (negative : Bool) (amount e p : ℕ)
+    → (x : IsPick precision NearestTiesToEven negative amount 1 e) → p ≡ nearer_between x.below x.above amount 1
+    → IsTiesToZeroPick precision amount 1 p
+from_pick precision negative amount e p x is =
+    record { below = x.below; above = x.above; is_below = x.is_below; is_above = x.is_above; is = is }
+
 pub from_even : (precision : ℕ) (negative : Bool) (amount e t : ℕ)
     → IsPick precision NearestTiesToEven negative amount 1 e → IsPick precision TowardZero negative amount 1 t
     → (2 * amount ≡ e + t → ⊥) → IsTiesToZeroPick precision amount 1 e
 from_even precision negative amount e t x y n =
     let s = short_is_below precision negative amount 1 e t x y in
-    record {
-      below = x.below;
-      above = x.above;
-      is_below = x.is_below;
-      is_above = x.is_above;
-      is =
-          not_half negative _ _ x.below x.above amount e refl x.is_below.not_above x.is_above.not_below x.is
-          (λ h. n (h ∙ ap (λ (z : ℕ). e + z) (sym s)));
-    }
+    from_pick precision negative amount e e x
+    (not_half negative _ _ x.below x.above amount e refl x.is_below.not_above x.is_above.not_below x.is
+    (λ h. n (h ∙ ap (λ (z : ℕ). e + z) (sym s))))
 
 pub from_half : (precision : ℕ) (negative : Bool) (amount e t : ℕ)
     → IsPick precision NearestTiesToEven negative amount 1 e → IsPick precision TowardZero negative amount 1 t
     → 2 * amount ≡ e + t → IsTiesToZeroPick precision amount 1 t
 from_half precision negative amount e t x y h =
     let s = short_is_below precision negative amount 1 e t x y in
-    record {
-      below = x.below;
-      above = x.above;
-      is_below = x.is_below;
-      is_above = x.is_above;
-      is =
-          s ∙ half _ x.below x.above amount e x.is_below.not_above x.is_above.not_below x.is
-          (h ∙ ap (λ (z : ℕ). e + z) s);
-    }
+    from_pick precision negative amount e t x
+    (s ∙ half _ x.below x.above amount e x.is_below.not_above x.is_above.not_below x.is
+    (h ∙ ap (λ (z : ℕ). e + z) s))
 
 -- ---- no grid number is nearer
 

@@ -36,8 +36,9 @@ use Rattle.ieee_operations.specs.augmented.Numbers.{HasNumber, IsAugmentedNumber
 use Rattle.ieee_operations.specs.augmented.TiesToZero.{IsTiesToZeroPick}
 use Rattle.ieee_operations.proofs.augmented_lemmas.FractionPicks.{IsFractionPick, IsHalfPast, distance, below_fraction, gap, odd_half, tie_of_quanta, from_even_in, pick_cases, half_pick, half_short, low_pick, distance_fraction, distance_half, distance_half_past, distance_at_most}
 use Rattle.ieee_operations.proofs.augmented_lemmas.FractionRoundings.{rest_of_product, fraction_exactly, ok_parts, product_rounded, rest_rounded, small_product, whole_is_exact}
+use Rattle.ieee_operations.proofs.augmented_lemmas.Heads.{picks_of}
 use Rattle.ieee_operations.proofs.augmented_lemmas.Multiples.{sign_some}
-use Rattle.ieee_operations.proofs.augmented_lemmas.Numbers.{signed_number, same_number, within_is, finite_within}
+use Rattle.ieee_operations.proofs.augmented_lemmas.Numbers.{signed_number, same_number, within_is}
 use Rattle.ieee_operations.proofs.augmented_lemmas.Numbers.{quanta_in, abs_has, equal_numbers}
 use Rattle.ieee_operations.proofs.augmented_lemmas.ProductCases.{product_of_numbers, product_some}
 use Rattle.ieee_operations.proofs.augmented_lemmas.TiesToZero.{short_is_below}
@@ -131,28 +132,24 @@ pub tiny_of : (f : Format) → 3 ≤ f.precision → f.scale < f.span → (x y n
     → IsProduct f TowardZero x y short j → IsFusedSum f NearestTiesToEven x y (negated f.nonfinite near) rest k
     → (k ≡ ok_bits → ⊥) → IsTiny f x y near short (sign_of_product x y) (magnitude (exact_of x y)) (2 ^ f.scale)
 tiny_of f h w x y near short rest i j k nx ny nn product shorter fused lost =
-    let s = sign_of_product x y in
     let some = product_some f x y nx ny in
     let n = product_rounded f NearestTiesToEven x y near i nx.is_in.is_finite ny.is_in.is_finite some product in
     let t = product_rounded f TowardZero x y short j nx.is_in.is_finite ny.is_in.is_finite some shorter in
-    let l = finite_within f s n.pick near nn.is_finite n.value_is in
-    let b = short_is_below f.precision s (magnitude (exact_of x y)) (2 ^ f.scale) n.pick t.pick n.is_pick t.is_pick in
-    let c = (pick_within f.precision NearestTiesToEven s (magnitude (exact_of x y)) (2 ^ f.scale) n.pick
-    (pow_pos f.scale) n.is_pick).1 in
-    let m : t.pick ≤ largest f = omega (arith, l, b, c) in
+    let p = picks_of f (product_sign (is_negative x) (is_negative y)) (exact_of x y) (2 ^ f.scale) near short i j
+    (pow_pos f.scale) n t nn.is_finite in
     let a = small f h w x y near rest i k nx ny nn product fused lost in
     record {
       fraction = no_whole f h x y near rest i k nx ny nn product fused lost;
       low = a.low;
       double = a.double;
-      even = n.pick;
-      lower = t.pick;
-      is_even = n.is_pick;
-      is_lower = t.is_pick;
-      even_within = l;
-      lower_within = m;
-      near_is = n.value_is ∙ within_is f NearestTiesToEven s n.pick l;
-      short_is = t.value_is ∙ within_is f TowardZero s t.pick m;
+      even = p.even;
+      lower = p.lower;
+      is_even = p.is_even;
+      is_lower = p.is_lower;
+      even_within = p.even_within;
+      lower_within = p.lower_within;
+      near_is = p.near_is;
+      short_is = p.short_is;
     }
 
 -- ---- twice what the product toward zero leaves

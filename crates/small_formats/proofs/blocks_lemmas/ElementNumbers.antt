@@ -117,11 +117,8 @@ ieee_number code h =
     (λ some. ieee_within f layout (2 ^ 2 + x.trailing) x.biased_exponent e5m2_interchange refl (omega (arith, t))
     within.biased_exponent (λ e. true≢false (sym (eq-eqb x.biased_exponent 31 e) ∙ off))) in
     let at : element_datum E5M2 code ≡ implied_number f x = rw off refl in
-    let same : quanta_of (element_datum E5M2 code) ≡ quanta_of (implied_number f x) = ap quanta_of at in
-    record {
-      on_grid = subst (λ (q : ℕ). IsOnGrid 3 q) (sym same) n.on_grid;
-      within = let l = n.within in omega (arith, l, same);
-    }
+    subst (λ (q : ℕ). IsElementNumber E5M2 q) (sym (ap quanta_of at))
+    (record { on_grid = n.on_grid; within = n.within })
 
 nan_only_number : (code : ℕ) → is_finite (element_datum E4M3FN code) ≡ true
     → IsElementNumber E4M3FN (quanta_of (element_datum E4M3FN code))
@@ -130,22 +127,19 @@ nan_only_number code h =
     let layout = layout_with e4m3fn_constants in
     let x = fields_of f layout code in
     let within = fields_within f layout e4m3fn_interchange code in
-    let t = within.trailing in
     let last : Bool = has_all_ones layout x && eqb x.trailing 7 in
     let off : last ≡ false = not_last last x.negative (nan_base f) (implied_number f x) h in
     let low : 8 ≤ largest f = lit≤ tt in
     let both : x.biased_exponent ≡ 15 → 2 ^ 3 + x.trailing ≡ 2 ^ 4 - 1 → ⊥ = λ e g.
     true≢false (sym (and_from (has_all_ones layout x) (eqb x.trailing 7) (eq-eqb x.biased_exponent 15 e)
     (eq-eqb x.trailing 7 (omega (arith, g)))) ∙ off) in
-    let n = implied_in f x.negative x.biased_exponent x.trailing (lit≤ tt) t (omega (arith, t, low))
+    let n = implied_in f x.negative x.biased_exponent x.trailing (lit≤ tt) within.trailing
+    (omega (arith, within.trailing, low))
     (λ some. nan_only_within f layout (2 ^ 3 + x.trailing) x.biased_exponent e4m3fn_interchange refl some
-    (omega (arith, t)) within.biased_exponent both) in
+    (omega (arith, within.trailing)) within.biased_exponent both) in
     let at : element_datum E4M3FN code ≡ implied_number f x = rw off refl in
-    let same : quanta_of (element_datum E4M3FN code) ≡ quanta_of (implied_number f x) = ap quanta_of at in
-    record {
-      on_grid = subst (λ (q : ℕ). IsOnGrid 4 q) (sym same) n.on_grid;
-      within = let l = n.within in omega (arith, l, same);
-    }
+    subst (λ (q : ℕ). IsElementNumber E4M3FN q) (sym (ap quanta_of at))
+    (record { on_grid = n.on_grid; within = n.within })
 
 -- ---- all of them
 

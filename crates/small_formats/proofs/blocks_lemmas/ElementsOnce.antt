@@ -21,24 +21,12 @@ use Rattle.small_formats.specs.blocks.Elements.{IsElement, IsQuotientBy, e2m1fn,
 use Rattle.small_formats.specs.blocks.Elements.{format_of_element, width}
 
 pub e4m3fn_interchange : IsInterchange (format_with e4m3fn_constants) (layout_with e4m3fn_constants)
-e4m3fn_interchange = record {
-  precise = lit≤ tt;
-  some = lit≤ tt;
-  bits = refl;
-  within = lit≤ tt;
-  span = refl;
-  explicit = refl;
-}
+e4m3fn_interchange =
+    record { precise = lit≤ tt; some = lit≤ tt; bits = refl; within = lit≤ tt; span = refl; explicit = refl }
 
 pub e5m2_interchange : IsInterchange (format_with e5m2_constants) (layout_with e5m2_constants)
-e5m2_interchange = record {
-  precise = lit≤ tt;
-  some = lit≤ tt;
-  bits = refl;
-  within = lit≤ tt;
-  span = refl;
-  explicit = tt;
-}
+e5m2_interchange =
+    record { precise = lit≤ tt; some = lit≤ tt; bits = refl; within = lit≤ tt; span = refl; explicit = tt }
 
 e4m3fn_encoded : (code : ℕ) → code < 2 ^ width E4M3FN
     → IsEncodedBy (format_with e4m3fn_constants) (layout_with e4m3fn_constants) code (element_datum E4M3FN code)

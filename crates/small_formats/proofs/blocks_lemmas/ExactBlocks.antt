@@ -46,7 +46,7 @@ product_is element g mode scale (finite b n) value status some number h =
 product_is element g mode scale (infinite b) value status some number h = cc
 product_is element g mode scale (nan b s) value status some number h = cc
 
--- in a format that has the room
+-- a scaled element is exact in a format that has room for all such products
 scaled_exactly : (element : ElementFormat) (g : Format) (mode : Round) (scale code : ℕ) (value : Datum) (status : ℕ)
     → scale < nan_code → code < 2 ^ width element → is_finite (element_datum element code) ≡ true
     → HasProducts g (format_of_element element).precision (format_of_element element).span

@@ -97,14 +97,6 @@ finite_magnitude kind (finite true n) magnitude h some e = e ∙ rw (not_zero n 
 finite_magnitude kind (infinite b) magnitude h some e = cc
 finite_magnitude kind (nan b s) magnitude h some e = cc
 
--- it is a value of the format too
-pub magnitude_member : (f : Format) (x : Datum) → is_finite x ≡ true → IsMember f x
-    → IsMember f (finite false (quanta_of x))
-magnitude_member f (finite b n) h m =
-    record { on_grid = m.on_grid; within = m.within; zero_has = λ z. sym (plus_zero f.nonfinite) }
-magnitude_member f (infinite b) h m = cc
-magnitude_member f (nan b s) h m = cc
-
 -- the order of two values that are not below zero is that of their quanta
 pub below_is : (m n : ℕ) → is_below (finite false m) (finite false n) ≡ ltb m n
 below_is m n =

@@ -81,7 +81,7 @@ moved_back x k s t e =
 abbrev pub double_format : Format
 double_format = format_with double_constants
 
--- of a format with few digits
+-- a product of a number with few digits and a single is exact in double
 pub joint_exact : (p span scale : ℕ) (mode : Round) (b : Bool) (m n : ℕ) (value : Datum) (status : ℕ)
     → HasProducts double_format (p + 24) (span + 253) (scale + 149) 0 → IsOnGrid p m
     → m ≤ (2 ^ p - 1) * 2 ^ span

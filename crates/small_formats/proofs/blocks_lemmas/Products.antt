@@ -56,7 +56,7 @@ product_by g mode (number b m s) n t n' t' value status some p q e h =
     (2 ^ (s + t)) value status some (pow_pos (s + t')) (pow_pos (s + t))
     (products_same m s m s n t n' t' g.scale refl e) h
 
--- and so is one of a number that another format has
+-- a product of a number is that of the same number in another format
 pub product_of_number : (g : Format) (mode : Round) (b : Bool) (m s m' s' n t : ℕ) (value : Datum) (status : ℕ)
     → 0 < g.precision → IsSameNumber m' s' m s → IsProductOf g mode (number b m s) (number false n t) value status
     → IsProductOf g mode (number b m' s') (number false n t) value status
@@ -67,7 +67,7 @@ product_of_number g mode b m s m' s' n t value status some e h =
 
 -- ---- elements
 
--- a value times a positive one, which is given in another format
+-- the product of a value and a positive y is its product with amount * 2 ^ -places, if that is the number of y
 pub product_in : (f h g : Format) (mode : Round) (x y value : Datum) (status amount places : ℕ) → 0 < g.precision
     → y ≡ finite false (quanta_of y) → 0 < quanta_of y → IsProductTo f h g mode x y value status
     → IsSameNumber amount places (quanta_of y) h.scale
@@ -77,7 +77,7 @@ product_in f h g mode x y value status amount places precise is some p same =
     (both_above_zero (quanta_of y) amount h.scale places same some) same
     (subst (λ (d : Datum). IsProductTo f h g mode x d value status) is p)
 
--- the same of the number of a storage format that the half is
+-- the product of a half is that of the code of a storage format with the same number
 pub product_of_half : (c : StorageConstants) (h g : Format) (mode : Round) (code : ℕ) (half y value : Datum)
     (status amount places : ℕ) → 0 < g.precision
     → half ≡ finite (is_negative (datum_of c code)) (quanta_of half)

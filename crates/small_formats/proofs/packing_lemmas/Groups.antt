@@ -1,29 +1,17 @@
 -- The bytes and the codes of the groups so far, and one more group.
-use Rattle.std.proofs.Common.{◌≡◌, ℕ, ◌+◌, ◌*◌, ◌/◌, ◌%◌, ◌^◌, ◌<◌, ◌≤◌, sym, ap, ◌∙◌, arith, List, [], ◌∷◌}
+use Rattle.std.proofs.Common.{◌≡◌, ℕ, ◌+◌, ◌*◌, ◌/◌, ◌%◌, ◌<◌, ◌≤◌, sym, ap, ◌∙◌, arith, List, [], ◌∷◌}
 use Rattle.std.proofs.Common.{◌++◌, length, take, get_or, append_assoc}
-use Rattle.std.specs.Prelude.{All, slice_set}
+use Rattle.std.specs.Prelude.{slice_set}
 use Rattle.std.proofs.Math.Nat.{div-div-eq-div-mul}
-use Rattle.std.proofs.lemmas.List.{length-take-le, take_all, take_more, take_more_set}
+use Rattle.std.proofs.lemmas.List.{length-take-le, take_more, take_more_set}
 use Rattle.std.proofs.lemmas.Nat.{div-add-mod'}
-use Rattle.small_formats.specs.packing.Packed.{ArePacked, number_of_digits}
+use Rattle.small_formats.specs.packing.Packed.{number_of_digits}
 use Rattle.small_formats.proofs.packing_lemmas.Digits.{groups_more}
 
 -- as many bits in both, and the same ones up to these places
 pub record ArePackedTo (bits : ℕ) (codes bytes : List ℕ) (code byte : ℕ) : Type 0 where
   pub same_bits : 8 * length bytes ≡ bits * length codes
   pub same_number : number_of_digits 8 (take byte bytes) ≡ number_of_digits bits (take code codes)
-
--- the whole lists
-pub packed_whole : (bits : ℕ) (codes bytes : List ℕ) (code byte : ℕ) → length codes ≤ code
-    → length bytes ≤ byte
-    → All (λ n. n < 2 ^ bits) codes → ArePackedTo bits codes bytes code byte → ArePacked bits codes bytes
-packed_whole bits codes bytes code byte l k fit so_far = record {
-  codes_fit = fit;
-  same_bits = so_far.same_bits;
-  same_number =
-      ap (number_of_digits 8) (sym (take_all byte bytes k)) ∙ so_far.same_number
-      ∙ ap (number_of_digits bits) (take_all code codes l);
-}
 
 -- ---- one item more of a group
 

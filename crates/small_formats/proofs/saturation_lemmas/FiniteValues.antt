@@ -81,13 +81,3 @@ pub number_within : (g : Format) (x rounded : Datum) → is_finite rounded ≡ t
 number_within g (finite b n) rounded within = rw within refl
 number_within g (infinite b) rounded within = refl
 number_within g (nan b s) rounded within = refl
-
-pub infinity_stays : (g : Format) (x rounded : Datum) → class_of x ≡ Infinity → rounded ≡ saturated g x rounded
-infinity_stays g (finite b n) rounded e = cc
-infinity_stays g (infinite b) rounded e = refl
-infinity_stays g (nan b s) rounded e = cc
-
-pub nan_stays : (g : Format) (x rounded : Datum) → class_of x ≡ NotANumber → rounded ≡ saturated g x rounded
-nan_stays g (finite b n) rounded e = cc
-nan_stays g (infinite b) rounded e = cc
-nan_stays g (nan b s) rounded e = refl

@@ -38,14 +38,6 @@ left_on : (a : Bool) → true ≡ (a || false) → a ≡ true
 left_on true e = refl
 left_on false e = absurd (false≢true (sym e))
 
--- a pick away from zero is past the largest value together with the neighbour above
-past_away : (f : Format) (takes : Bool) (below above : ℕ) → below ≤ above
-    → true ≡ (ltb (largest f) below || takes)
-    → ltb (largest f) (cond takes above below) ≡ ltb (largest f) above
-past_away f true below above l e = refl
-past_away f false below above l e =
-    let low = left_on (ltb (largest f) below) e in low ∙ sym (past_too (largest f) below above l low)
-
 -- ---- the value
 
 value_by : Format → Bool → Bool → Bool → ℕ → Datum

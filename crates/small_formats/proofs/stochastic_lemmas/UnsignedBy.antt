@@ -11,7 +11,7 @@ use Rattle.round_to_odd.specs.Odd.{odd_between}
 use Rattle.small_formats.specs.declared.modes.ConversionRound.{ConversionRound}
 use Rattle.small_formats.specs.declared.modes.ConversionRound.TheVariants.{Ieee, Stochastic, ToOdd}
 use Rattle.small_formats.specs.Modes.{ieee_mode}
-use Rattle.small_formats.specs.Unsigned.{IsUnsigned, signed_format, unsigned_datum}
+use Rattle.small_formats.specs.Unsigned.{IsUnsigned, signed_format}
 use Rattle.small_formats.proofs.UnsignedSigns.{kept_sign}
 use Rattle.small_formats.proofs.ScaleModes.{some_quanta}
 use Rattle.small_formats.specs.stochastic.ElementConversions.{IsUnsignedBy}
@@ -25,23 +25,6 @@ pub special_unsigned : (f : Format) (mode : ConversionRound) (x : Datum) (code s
 special_unsigned f mode (finite b n) code status loses number h = absurd (false≢true (sym number))
 special_unsigned f mode (infinite b) code status loses number h = h
 special_unsigned f mode (nan b s) code status loses number h = h
-
-pub negative_unsigned : (f : Format) (mode : ConversionRound) (x : Datum) (code status : ℕ) (loses : Bool)
-    → is_negative x ≡ true → IsUnsigned f (ieee_mode mode) x code status loses
-    → IsUnsignedBy f mode x code status loses
-negative_unsigned f mode (finite true n) code status loses negative h = h
-negative_unsigned f mode (finite false n) code status loses negative h = absurd (false≢true negative)
-negative_unsigned f mode (infinite b) code status loses negative h = h
-negative_unsigned f mode (nan b s) code status loses negative h = h
-
-pub positive_unsigned : (f : Format) (mode : ConversionRound) (x : Datum) (code status : ℕ) (loses : Bool)
-    → is_finite x ≡ true → is_negative x ≡ false
-    → IsConversionBy f signed_format mode x (unsigned_datum code) status loses
-    → IsUnsignedBy f mode x code status loses
-positive_unsigned f mode (finite false n) code status loses number positive h = h
-positive_unsigned f mode (finite true n) code status loses number positive h = absurd (false≢true (sym positive))
-positive_unsigned f mode (infinite b) code status loses number positive h = absurd (false≢true number)
-positive_unsigned f mode (nan b s) code status loses number positive h = absurd (false≢true number)
 
 -- ---- the sign is kept
 

@@ -68,7 +68,7 @@ pub record IsSaturatedIn (g : Format) (mode : Round) (negative : Bool) (amount p
   pub value_is : value ≡ saturated_value g negative pick
   pub status_is : status ≡ delivered_status g mode negative amount parts pick
 
--- the same as a code, which means that value
+-- a magnitude is rounded once and saturated, and the code means the value
 abbrev pub IsElementIn : Format → (ℕ → Datum) → Round → Bool → ℕ → ℕ → ℕ → ℕ → Type 0
 IsElementIn g datum mode negative amount parts code status =
     IsSaturatedIn g mode negative amount parts (datum code) status

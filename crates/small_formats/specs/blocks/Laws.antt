@@ -17,7 +17,7 @@ use Rattle.small_formats.specs.blocks.Elements.{element_datum, format_of_element
 use Rattle.small_formats.specs.blocks.MxBlocks.{IsDequantized, IsQuantized, IsScaled}
 use Rattle.small_formats.specs.blocks.Nvfp4.{IsNvDequantized, IsNvQuantized, IsTensorAnswer}
 
--- the codes, and the answer: the scale and the counts, or the error
+-- quantizing has one result: the codes, and the answer, which is the scale and the counts, or the error
 abbrev pub IsQuantizedOnce : Type 0
 IsQuantizedOnce =
     (element : ElementFormat) (f : Format) (mode : Round) (values : List Datum) (before after other : List ℕ)
@@ -25,7 +25,7 @@ IsQuantizedOnce =
     → IsQuantized element f mode values before after answer → IsQuantized element f mode values before other reply
     → (after ≡ other) × (answer ≡ reply)
 
--- the values, and the answer
+-- dequantizing has one result: the values, and the answer, which is the counts or the error
 abbrev pub IsDequantizedOnce : Type 0
 IsDequantizedOnce =
     (element : ElementFormat) (g : Format) (mode : Round) (scale : ℕ) (codes : List ℕ)

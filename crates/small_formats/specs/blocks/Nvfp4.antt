@@ -69,8 +69,8 @@ nan_scale = 127
 abbrev pub scale_quanta : ℕ → ℕ
 scale_quanta code = quanta_of (element_datum E4M3FN code)
 
--- The scale of a block whose greatest magnitude is that many quanta of f, and not 0: that over 6 times the scale of
--- the tensor, rounded once, and the least number in place of 0.
+-- The scale of a block whose greatest magnitude is that many quanta of f, and not 0: that divided by 6 and by the scale
+-- of the tensor, rounded once, and the least number in place of 0.
 abbrev pub IsScaleOfSome : Format → Round → ℕ → ℕ → Datum → Type 0
 IsScaleOfSome f mode tensor greatest scale =
     IsScaleIn scale_in mode (greatest * 2 ^ (scale_in.scale + single_format.scale)) (2 ^ f.scale * (6 * tensor)) 1
@@ -84,7 +84,7 @@ IsNvScale f mode tensor greatest code =
 
 -- ---- errors
 
--- nothing is written, and the error is told
+-- nothing is written, and the error is returned
 abbrev pub IsRefused : {A X : Type 0} → Nvfp4Error → List X → List X → Result A Nvfp4Error → Type 0
 IsRefused error before after answer = (after ≡ before) × (answer ≡ Err error)
 
@@ -116,7 +116,7 @@ pub record IsNvWritten (f : Format) (mode : Round) (tensor : ℕ) (values : List
   pub is : answer ≡ Ok block
   pub is_block : IsNvBlock f mode tensor values after block
 
--- the answer of a call, and the codes before and after it; the first error is told
+-- the answer of a call, and the codes before and after it; the first error is returned
 abbrev pub IsNvQuantized : Format → Round → Datum → List Datum → List ℕ → List ℕ
     → Result Block Nvfp4Error → Type 0
 IsNvQuantized f mode tensor values before after answer =

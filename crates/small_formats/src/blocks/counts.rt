@@ -28,7 +28,8 @@ impl Counts {
         inexact: 0,
     };
 
-    /// The counts with one more element.
+    /// The counts with one more element, which raised `status`. DIV_BY_ZERO (0x02), which no element raises, is not
+    /// counted.
     pub fn with(self, status: Status) -> Counts
         requires { BlockCountsHaveRoom self }
         ensures { result ≡ with_status self (bits_of status) }

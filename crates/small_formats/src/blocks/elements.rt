@@ -105,7 +105,7 @@ pub(crate) fn saturated_quotient<T: Semantics, S: Semantics, R: Semantics>(
     answer.status.and(saturated(answer.value, x.is_negative()))
 }
 
-/// The same as a code of a format of 8 bits.
+/// `saturated_quotient` as a code of a format of 8 bits.
 fn ieee_quotient<T: Semantics, S: Semantics, R: Semantics>(
     x: IeeeFloat<S>,
     y: IeeeFloat<R>,
@@ -127,7 +127,7 @@ fn ieee_quotient<T: Semantics, S: Semantics, R: Semantics>(
     answer.status.and(answer.value.to_bits() as u8)
 }
 
-/// The same as a code of a storage format.
+/// The quotient of a finite value and a positive one, saturated, as a code of a storage format.
 fn stored_quotient<F: StorageFormat, S: Semantics, R: Semantics>(
     x: IeeeFloat<S>,
     y: IeeeFloat<R>,

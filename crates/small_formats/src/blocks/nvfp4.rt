@@ -61,11 +61,11 @@ fn quantize_some<S: Semantics>(
 
 /// Quantizes a block of NVFP4: chooses its scale, and writes the code of each value, in the lowest bits of a byte.
 ///
-/// The scale is the greatest magnitude of the block over 6 times the scale of the tensor, rounded once in the mode, and
-/// at most the largest number of `Float8E4M3FN`; where it would be 0 it is the least positive number, and 0 only for a
-/// block of zeros. An element is the exact quotient by the product of both scales, rounded once, and the largest number
-/// in place of what is past it, in each mode; a zero keeps its sign. If a value is an infinity or a NaN, the scale is
-/// the NaN, and each code is 0.
+/// The scale is the greatest magnitude of the block divided by 6 and by the scale of the tensor, rounded once in the
+/// mode, and at most the largest number of `Float8E4M3FN`; where it would be 0 it is the least positive number, and 0
+/// only for a block of zeros. An element is the exact quotient by the product of both scales, rounded once, and the
+/// largest number in place of what is past it, in each mode; a zero keeps its sign. If a value is an infinity or a NaN,
+/// the scale is the NaN, and each code is 0.
 ///
 /// # Errors
 ///

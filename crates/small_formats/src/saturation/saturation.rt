@@ -104,7 +104,7 @@ pub fn treat<T: Flagged>(
     }
 }
 
-/// The same, where only finite values are wanted.
+/// `treat` by `Overflow::Finite`: infinities and, if `nans` says so, NaNs become the largest value too.
 #[inline]
 fn made_finite<T: Flagged>(
     nans: FiniteNan,

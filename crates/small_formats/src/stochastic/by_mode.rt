@@ -6,26 +6,15 @@ ghost use Rattle.apfloat_model.specs.order.Classes.{category_of};
 ghost use Rattle.apfloat_model.specs.rounding.Flags.{bits_of};
 ghost use Rattle.apfloat_ieee.specs.Types.{format_of};
 ghost use Rattle.small_formats.specs.declared.modes.ConversionRound.TheVariants.{ToOdd, Stochastic};
-ghost use Rattle.small_formats.specs.Modes.{ieee_mode};
 ghost use Rattle.small_formats.specs.stochastic.Directions.{direction};
 ghost use Rattle.small_formats.specs.stochastic.ModeConversions.{IsConversionBy};
 
+use crate::picks::ieee_mode;
 use crate::stochastic::directions::rounds_away;
 use crate::{ConversionRound, RandomDigits};
 use apfloat_base::{Category, Float, FloatConvert, Round, StatusAnd};
 use apfloat_ieee::{IeeeFloat, Semantics};
 use round_to_odd::to_odd;
-
-/// The mode of IEEE 754 in which what is not rounded is converted.
-pub(crate) fn ieee_mode(mode: ConversionRound) -> Round
-    ensures { result ≡ ieee_mode mode }
-{
-    match mode {
-        ConversionRound::Ieee(round) => round,
-        ConversionRound::ToOdd => Round::TowardZero,
-        ConversionRound::Stochastic(_) => Round::NearestTiesToEven,
-    }
-}
 
 /// The mode that rounds away from zero, or toward it.
 fn direction(away: bool, negative: bool) -> Round

@@ -9,7 +9,8 @@ ghost use Rattle.apfloat_ieee.specs.Types.{format_of};
 ghost use Rattle.apfloat_rounding.specs.Shapes.{format_at};
 ghost use Rattle.small_formats.specs.stochastic.Directions.{IsDirection};
 
-use crate::stochastic::cuts::{cut, rest_reaches_whole};
+use crate::cuts::{cut, parts_of_rest};
+use crate::picks::reaches_whole;
 use crate::{RandomDigits, in_quanta};
 use apfloat_base::ExpInt;
 use apfloat_ieee::{IeeeFloat, Semantics};
@@ -42,7 +43,7 @@ fn leads_away(shape: Shape, digits: u128, unit: ExpInt, bits: RandomDigits) -> b
 {
     let kept = cut(shape.precision, digits, unit);
     let past = is_past(shape, kept.significand, kept.place);
-    let reaches = rest_reaches_whole(digits, kept.places, bits.digits, bits.random);
+    let reaches = reaches_whole(parts_of_rest(digits, kept.places, bits.digits), bits);
     past || reaches
 }
 

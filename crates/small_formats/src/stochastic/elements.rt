@@ -8,7 +8,8 @@ ghost use Rattle.small_formats.specs.stochastic.ElementConversions.{IsUnsignedBy
 ghost use Rattle.small_formats.specs.stochastic.ModeConversions.{IsConversionBy};
 
 use crate::float8_e3m4::{WideE3M4S, narrowed, past};
-use crate::stochastic::by_mode::{convert_by, ieee_mode};
+use crate::picks::ieee_mode;
+use crate::stochastic::by_mode::convert_by;
 use crate::unsigned::code_of;
 use crate::{ConversionRound, Float8E3M4, UE4M3};
 use apfloat_base::{Float, StatusAnd};

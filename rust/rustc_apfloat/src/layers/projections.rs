@@ -2,7 +2,8 @@
 
 use crate::erased::apfloat_base::{Category, Flags, Float, Round, StatusAnd};
 use crate::erased::apfloat_ieee::built_in_formats::Single;
-use crate::erased::small_formats::{Binary8P4, ConversionRound, Projected, Projection};
+use crate::erased::p3109_formats::{Binary8P4, Projected, Projection};
+use crate::erased::small_formats::ConversionRound;
 use core::cmp::Ordering;
 
 /// `binary6p2ue`.

@@ -1,3 +1,4 @@
+use Rattle.std.proofs.Common.{◌∙◌}
 use Rattle.apfloat_ieee.specs.FlaggedTypes.{format_of}
 use Rattle.apfloat_machines.proofs.FlushedSettling.{are_flushed_and_settled}
 use Rattle.apfloat_machines.proofs.Settling.{are_settled}
@@ -5,10 +6,10 @@ use Rattle.apfloat_machines.proofs.nans.settled.Goals as goal
 
 pub returns-clause-operations : goal.returns-clause-operations
 returns-clause-operations g c =
-    are_settled (format_of g.S.Flagged) c.args.machine c.args.x c.args.y c.args.answer c.with_nan.result
-    c.with_nan.ensures.value c.with_nan.ensures.status
+    are_settled (format_of g.S.Flagged) c.args.machine c.args.x c.args.y c.args.answer c.and.result
+    (c.and.ensures.value ∙ c.with_nan.ensures) c.and.ensures.status
 
 pub returns-clause-flushed : goal.returns-clause-flushed
 returns-clause-flushed g c = λ infinite flush.
     are_flushed_and_settled (format_of g.S.Flagged) c.args.machine flush c.args.x c.args.y c.args.answer
-    c.with_nan.result c.with_nan.ensures.value c.with_nan.ensures.status infinite
+    c.and.result (c.and.ensures.value ∙ c.with_nan.ensures) c.and.ensures.status infinite

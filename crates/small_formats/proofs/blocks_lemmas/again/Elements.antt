@@ -68,7 +68,7 @@ kept_element element g mode scale other more code again value flag status sum ex
           ∙ sym exactly.status_is;
     }
 
--- by the same scale it is the same number
+-- an element that is quantized once more by the same scale has the same number
 pub same_element : (element : ElementFormat) (scale other code again status : ℕ) → other ≡ scale
     → IsKept element scale other code again status → element_datum element again ≡ element_datum element code
 same_element element scale other code again status e k =

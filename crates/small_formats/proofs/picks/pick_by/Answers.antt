@@ -1,7 +1,7 @@
 use Rattle.std.proofs.Common.{◌+◌, ◌*◌, ◌^◌, ℕ, cond, ap, ◌∙◌, subst, w32}
 use Rattle.std.proofs.lemmas.Int.{to_z-of_z}
 use Rattle.apfloat_model.specs.rounding.Standing.{StandsFor, up, down}
-use Rattle.small_formats.proofs.ProjectedPicks.{point_at}
+use Rattle.small_formats.proofs.PointPicks.{point_at}
 use Rattle.small_formats.proofs.picks.pick_by.Goals as goal
 
 -- nothing was lost before the cut

@@ -9,7 +9,7 @@ pub cut_number-kept-requires-clause-long : goal.cut_number-kept-requires-clause-
 cut_number-kept-requires-clause-long c =
     let below = c.digits.ensures.below in
     let long : 124 < c.digits.result = exponent_below 124 c.digits.result (omega (arith, c.requires.long, below)) in
-    omega (arith, long)
+    omega (arith, long, c.requires.precise)
 
 pub cut_number-kept-requires-clause-low : goal.cut_number-kept-requires-clause-low
 cut_number-kept-requires-clause-low c =

@@ -1,7 +1,7 @@
-use Rattle.std.proofs.Common.{refl}
+use Rattle.std.proofs.Common.{refl, inl, inr}
 use Rattle.apfloat_model.specs.rounding.Flags.{bits_of}
 use Rattle.apfloat_ieee.specs.FlaggedTypes.{format_of}
-use Rattle.ieee_operations.proofs.augmented_lemmas.ProductCases.{product_of_left, product_of_right}
+use Rattle.ieee_operations.proofs.augmented_lemmas.ProductCases.{product_of_others}
 use Rattle.ieee_operations.proofs.augmented.products.augmented_multiply.Goals as goal
 use Rattle.ieee_operations.proofs.augmented.products.augmented_multiply.Goals.{else-is_nonzero-via-then-is_nonzero+else-is_nonzero-2, else-is_nonzero-via-else-is_nonzero}
 
@@ -10,11 +10,10 @@ returns-else-is_nonzero g c =
     let f = format_of g.S.Flagged in
     let answer = c.wide_mul_r.result in
     rw (c.both.ensures.head, c.both.ensures.tail, c.both.ensures.status)
+    (product_of_others f answer.value answer.value (bits_of answer.status) refl c.args.x c.args.y
     (elim c.else-is_nonzero.branch [
       | else-is_nonzero-via-then-is_nonzero+else-is_nonzero-2 w ↦
-          product_of_right f c.args.x c.args.y answer.value answer.value (bits_of answer.status)
-          (w.is_nonzero-then-is_nonzero.ensures.no w.if-is_nonzero-2.false) c.wide_mul_r.ensures refl
-      | else-is_nonzero-via-else-is_nonzero w ↦
-          product_of_left f c.args.x c.args.y answer.value answer.value (bits_of answer.status)
-          (c.is_nonzero.ensures.no w.if-is_nonzero.false) c.wide_mul_r.ensures refl
+          inr (w.is_nonzero-then-is_nonzero.ensures.no w.if-is_nonzero-2.false)
+      | else-is_nonzero-via-else-is_nonzero w ↦ inl (c.is_nonzero.ensures.no w.if-is_nonzero.false)
     ])
+    c.wide_mul_r.ensures)

@@ -3,11 +3,10 @@
 
 use crate::calls::storage::converted;
 use crate::erased::formats_at_run_time::{BuiltInFormat, FlaggedFormat};
+use crate::erased::p3109_formats::{Binary8P1UF, Binary8P3, Binary8P4, Binary8P5, Projected, Projection};
 use crate::erased::rustc_apfloat::ieee::{DoubleS, Flagged, HalfS, IeeeFloat, Semantics, SingleS};
 use crate::erased::rustc_apfloat::{Float, Round};
-use crate::erased::small_formats::{
-    Binary8P1UF, Binary8P3, Binary8P4, Binary8P5, ConversionRound, Projected, Projection,
-};
+use crate::erased::small_formats::ConversionRound;
 use crate::lines::{
     Answered, Call, CallFault, ConversionCall, OneValueCall, Operand, Request, RowAnswer, StorageName, TwoValuesCall,
     ValueField, mask, shown,

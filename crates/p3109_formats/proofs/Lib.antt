@@ -1,0 +1,6 @@
+mod Codes
+mod Values
+mod OneAnswer
+mod RandomCodes
+mod Order
+mod Neighbours

@@ -1,0 +1,329 @@
+-- Conversions into the formats of P3109 have one answer.
+use Rattle.std.proofs.Common.{◌≡◌, ℕ, zero, suc, ◌+◌, ◌-◌, ◌*◌, ◌^◌, ◌<◌, ◌≤◌, Bool, true, false, cond, not}
+use Rattle.std.proofs.Common.{◌&&◌, eqb, leb, ltb, sym, refl, ap, ◌∙◌, ⊎_elim, arith}
+use Rattle.std.specs.Bool.{MatchBool}
+use Rattle.std.proofs.Math.Nat.{mul-le-mul_right, mod-eq_of_lt}
+use Rattle.std.proofs.lemmas.Bool.{cases_eq, cases_lt, eq-eqb, eqb-true, false≢true, ltb-true, ne_eqb, MatchBool-at_false}
+use Rattle.std.proofs.lemmas.Nat.{mod_below, pow_pos}
+use Rattle.apfloat_model.specs.declared.kinds.Round.{Round}
+use Rattle.apfloat_model.specs.formats.Datum.{Datum, finite, infinite, nan}
+use Rattle.apfloat_model.specs.formats.Format.{Format}
+use Rattle.apfloat_model.specs.order.Classes.{is_infinite, is_nan, is_negative, quanta_of}
+use Rattle.apfloat_model.specs.rounding.Rounding.{IsPick, ok_bits}
+use Rattle.apfloat_model.proofs.general.Powers.{twice_half}
+use Rattle.small_formats.specs.declared.ConversionRound.{ConversionRound}
+use Rattle.small_formats.specs.declared.ConversionRound.TheVariants.{Ieee}
+use Rattle.small_formats.specs.Codes.{point}
+use Rattle.small_formats.specs.Modes.{IsPickBy, ieee_mode}
+use Rattle.small_formats.specs.PicksBy.{IsCodePickBy, IsPointPickBy, index_by}
+use Rattle.p3109_formats.specs.Laws.{AreCodePicksPicks, IsProjectedOnce}
+use Rattle.p3109_formats.specs.ModeLaws.{AreProjectionsOfModes, IsProjectedByOnce}
+use Rattle.p3109_formats.specs.ModeConversions.{IsIntoProjectionBy, IsProjectedNumberBy}
+use Rattle.p3109_formats.specs.Projections.{IsCodeOf, IsCodePick, IsIntoProjection, IsPointPick, IsProjectedNumber, IsProjection, Projection, is_negative_code, largest_index, magnitude_of, nan_code, projected_datum, projected_format, projected_status, projected_value, sign_bits, unsigned_codes}
+use Rattle.small_formats.proofs.CodePicks.{code_picks_by}
+use Rattle.small_formats.proofs.ModesOnce.{pick_by_once}
+use Rattle.small_formats.proofs.OneAnswer.{AreSame, code_is}
+use Rattle.small_formats.proofs.Points.{one_number, points_in_order}
+use Rattle.p3109_formats.proofs.Codes.{four_codes}
+use Rattle.small_formats.proofs.RandomCounts.{picks_of_model}
+
+-- ---- picks
+
+-- two points with the number between them and the next ones are one
+low_once : (p amount parts a b : ℕ) → 0 < p → point p a * parts ≤ amount → amount < point p (a + 1) * parts
+    → point p b * parts ≤ amount → amount < point p (b + 1) * parts → a ≡ b
+low_once p amount parts a b some from to from' to' =
+    ⊎_elim
+    (λ (l : a < b). absurd (crossed a b l to from'))
+    (λ (l : b ≤ a).
+    ⊎_elim (λ (k : b < a). absurd (crossed b a k to' from)) (λ (k : a ≤ b). omega (arith, l, k)) (cases_lt b a))
+    (cases_lt a b)
+  where
+    crossed : (i j : ℕ) → i < j → amount < point p (i + 1) * parts → point p j * parts ≤ amount → ⊥
+    crossed i j l above below =
+        ⊎_elim
+        (λ (k : i + 1 < j).
+        let more = points_in_order p (i + 1) j some k in
+        let times : point p (i + 1) * parts ≤ point p j * parts = mul-le-mul_right parts (omega (arith, more)) in
+        omega (arith, times, above, below))
+        (λ (k : j ≤ i + 1).
+        let same : j ≡ i + 1 = omega (arith, l, k) in
+        let at : point p j * parts ≡ point p (i + 1) * parts = ap (λ (n : ℕ). point p n * parts) same in
+        omega (arith, at, above, below))
+        (cases_lt (i + 1) j)
+
+code_pick_once : (p : ℕ) (mode : ConversionRound) (negative : Bool) (amount parts i j : ℕ) → 0 < p
+    → IsCodePickBy p mode negative amount parts i → IsCodePickBy p mode negative amount parts j → i ≡ j
+code_pick_once p mode negative amount parts i j some x y =
+    let same = low_once p amount parts x.low y.low some x.from x.to y.from y.to in
+    x.is ∙ ap (λ (n : ℕ). index_by p mode negative amount parts n) same ∙ sym y.is
+
+pub point_pick_once : (p : ℕ) (mode : ConversionRound) (negative : Bool) (amount parts i j : ℕ) → 0 < p
+    → IsPointPickBy p mode negative amount parts i → IsPointPickBy p mode negative amount parts j → i ≡ j
+point_pick_once p mode negative amount parts i j some = by_digits (eqb p 1)
+  where
+    by_digits : (one : Bool)
+        → MatchBool one (IsCodePickBy p mode negative amount parts i)
+        (IsPickBy p mode negative amount parts (point p i))
+        → MatchBool one (IsCodePickBy p mode negative amount parts j)
+        (IsPickBy p mode negative amount parts (point p j))
+        → i ≡ j
+    by_digits true x y = code_pick_once p mode negative amount parts i j some x y
+    by_digits false x y =
+        one_number p i j some (pick_by_once p mode negative amount parts (point p i) (point p j) x y)
+
+-- ---- codes
+
+-- what a code is, by what it means
+abbrev pub datum_by : (unknown past negative : Bool) → ℕ → Datum
+datum_by unknown past negative n = cond unknown (nan false 0) (cond past (infinite negative) (finite negative n))
+
+unknown_is : (unknown past negative : Bool) (n : ℕ) → is_nan (datum_by unknown past negative n) ≡ unknown
+unknown_is true past negative n = refl
+unknown_is false true negative n = refl
+unknown_is false false negative n = refl
+
+past_is : (past negative : Bool) (n : ℕ) → is_infinite (datum_by false past negative n) ≡ past
+past_is true negative n = refl
+past_is false negative n = refl
+
+sign_is : (past negative : Bool) (n : ℕ) → is_negative (datum_by false past negative n) ≡ negative
+sign_is true negative n = refl
+sign_is false negative n = refl
+
+-- a code below the sign and its sign; without a sign, the code itself
+pub parts_of_code : (c : Projection) (code : ℕ) → IsProjection c → code < 2 ^ c.bits
+    → code ≡ cond (is_negative_code c code) (unsigned_codes c) 0 + magnitude_of c code
+parts_of_code c code law l = by_sign c.signed refl
+  where
+    by_sign : (signed : Bool) → c.signed ≡ signed
+        → code ≡ cond (is_negative_code c code) (unsigned_codes c) 0 + magnitude_of c code
+    by_sign true e =
+        let width : sign_bits c ≡ 1 = ap (λ (s : Bool). cond s 1 0) e in
+        let half : unsigned_codes c ≡ 2 ^ (c.bits - 1) = ap (λ (n : ℕ). 2 ^ (c.bits - n)) width in
+        let double : 2 * 2 ^ (c.bits - 1) ≡ 2 ^ c.bits = twice_half c.bits (omega (arith, law.bits_low)) in
+        code_is (unsigned_codes c) code (omega (arith, l, half, double))
+        ∙ ap (λ (s : Bool). cond (s && leb (unsigned_codes c) code) (unsigned_codes c) 0 + magnitude_of c code) (sym e)
+    by_sign false e =
+        let width : sign_bits c ≡ 0 = ap (λ (s : Bool). cond s 1 0) e in
+        let all : unsigned_codes c ≡ 2 ^ c.bits =
+        ap (λ (n : ℕ). 2 ^ (c.bits - n)) width
+        ∙ ap (λ (n : ℕ). 2 ^ n) (let z : c.bits - 0 ≡ c.bits = omega arith in z) in
+        let itself : magnitude_of c code ≡ code = mod-eq_of_lt (omega (arith, l, all)) in
+        let added : magnitude_of c code ≡ 0 + magnitude_of c code = omega arith in
+        sym itself ∙ added
+        ∙ ap (λ (s : Bool). cond (s && leb (unsigned_codes c) code) (unsigned_codes c) 0 + magnitude_of c code) (sym e)
+
+-- a code that is no NaN and past the largest number is the infinity
+pub infinity_index : (c : Projection) (code : ℕ) → IsProjection c → code < 2 ^ c.bits → eqb code (nan_code c) ≡ false
+    → largest_index c < magnitude_of c code → magnitude_of c code ≡ largest_index c + 1
+infinity_index c code law l other past =
+    let below = mod_below code (unsigned_codes c) (pow_pos (c.bits - sign_bits c)) in
+    by_cases c.signed c.extended (unsigned_codes c) (magnitude_of c code) (is_negative_code c code)
+    (four_codes c law) below (parts_of_code c code law l) refl other past
+  where
+    last : (code codes m : ℕ) → 4 ≤ codes → m < codes → code ≡ 0 + m → codes - 1 - 1 - 1 < m → (code ≡ codes - 1 → ⊥)
+        → m ≡ codes - 1 - 1 - 1 + 1
+    last code codes m four below is past n =
+        ⊎_elim (λ (k : m < codes - 1). omega (arith, k, past, four))
+        (λ (k : codes - 1 ≤ m). absurd (n (omega (arith, k, below, is)))) (cases_lt m (codes - 1))
+
+    by_cases : (signed extended : Bool) (codes m : ℕ) (negative : Bool) → 4 ≤ codes → m < codes
+        → code ≡ cond negative codes 0 + m → (signed && leb codes code) ≡ negative
+        → eqb code (cond signed codes (codes - 1)) ≡ false → codes - 1 - cond signed 0 1 - cond extended 1 0 < m
+        → m ≡ codes - 1 - cond signed 0 1 - cond extended 1 0 + 1
+    by_cases true true codes m negative four below is sign other past = omega (arith, below, past)
+    by_cases true false codes m negative four below is sign other past = absurd (omega (arith, below, past))
+    by_cases false extended codes m true four below is sign other past = absurd (false≢true sign)
+    by_cases false true codes m false four below is sign other past =
+        let no_nan : code ≡ codes - 1 → ⊥ = λ e. absurd (false≢true (sym other ∙ eq-eqb code (codes - 1) e)) in
+        last code codes m four below is past no_nan
+    by_cases false false codes m false four below is sign other past =
+        let e : code ≡ codes - 1 = omega (arith, below, is, past) in
+        absurd (false≢true (sym other ∙ eq-eqb code (codes - 1) e))
+
+-- no two codes mean one datum
+pub projected_code_once : (c : Projection) (code other : ℕ) → IsProjection c → code < 2 ^ c.bits → other < 2 ^ c.bits
+    → projected_datum c code ≡ projected_datum c other → code ≡ other
+projected_code_once c code other law l k e =
+    let m : ℕ = magnitude_of c code in
+    let n : ℕ = magnitude_of c other in
+    let nans : eqb code (nan_code c) ≡ eqb other (nan_code c) =
+    sym (unknown_is (eqb code (nan_code c)) (ltb (largest_index c) m) (is_negative_code c code) (point c.precision m))
+    ∙ ap is_nan e
+    ∙ unknown_is (eqb other (nan_code c)) (ltb (largest_index c) n) (is_negative_code c other) (point c.precision n) in
+    ⊎_elim
+    (λ (q : code ≡ nan_code c). q ∙ sym (eqb-true other (nan_code c) (sym nans ∙ eq-eqb code (nan_code c) q)))
+    (λ (q : code ≡ nan_code c → ⊥).
+    let off = ne_eqb code (nan_code c) q in
+    both_known c code other law l k off (sym nans ∙ off) (rw (off, sym nans ∙ off) at e))
+    (cases_eq code (nan_code c))
+  where
+    same_index : (c : Projection) (code other : ℕ) → IsProjection c → code < 2 ^ c.bits → other < 2 ^ c.bits
+        → eqb code (nan_code c) ≡ false → eqb other (nan_code c) ≡ false → (past also : Bool) (negative : Bool)
+        → ltb (largest_index c) (magnitude_of c code) ≡ past → ltb (largest_index c) (magnitude_of c other) ≡ also
+        → past ≡ also
+        → quanta_of (datum_by false past negative (point c.precision (magnitude_of c code)))
+        ≡ quanta_of (datum_by false also negative (point c.precision (magnitude_of c other)))
+        → magnitude_of c code ≡ magnitude_of c other
+    same_index c code other law l k isnt none true true negative p a same e =
+        infinity_index c code law l isnt (ltb-true _ _ p) ∙ sym (infinity_index c other law k none (ltb-true _ _ a))
+    same_index c code other law l k isnt none true false negative p a same e = cc
+    same_index c code other law l k isnt none false true negative p a same e = cc
+    same_index c code other law l k isnt none false false negative p a same e =
+        one_number c.precision (magnitude_of c code) (magnitude_of c other) law.precision_low e
+
+    both_known : (c : Projection) (code other : ℕ) → IsProjection c → code < 2 ^ c.bits → other < 2 ^ c.bits
+        → eqb code (nan_code c) ≡ false → eqb other (nan_code c) ≡ false
+        → datum_by false (ltb (largest_index c) (magnitude_of c code)) (is_negative_code c code)
+        (point c.precision (magnitude_of c code))
+        ≡ datum_by false (ltb (largest_index c) (magnitude_of c other)) (is_negative_code c other)
+        (point c.precision (magnitude_of c other))
+        → code ≡ other
+    both_known c code other law l k isnt none e =
+        let past : Bool = ltb (largest_index c) (magnitude_of c code) in
+        let also : Bool = ltb (largest_index c) (magnitude_of c other) in
+        let same = sym (past_is past _ _) ∙ ap is_infinite e ∙ past_is also _ _ in
+        let sign = sym (sign_is past _ _) ∙ ap is_negative e ∙ sign_is also _ _ in
+        let e' = rw sign at e in
+        let index = same_index c code other law l k isnt none past also (is_negative_code c other) refl refl same
+        (ap quanta_of e') in
+        parts_of_code c code law l
+        ∙ ap (λ (b : Bool). cond b (unsigned_codes c) 0 + magnitude_of c code) sign
+        ∙ ap (λ (n : ℕ). cond (is_negative_code c other) (unsigned_codes c) 0 + n) index
+        ∙ sym (parts_of_code c other law k)
+
+-- ---- conversions
+
+given_once : (c : Projection) (given : Datum) (bits : ℕ) (lossy : Bool) (code other status flags : ℕ)
+    (loses lost : Bool) → IsProjection c → code < 2 ^ c.bits → other < 2 ^ c.bits
+    → IsCodeOf c given bits lossy code status loses → IsCodeOf c given bits lossy other flags lost
+    → AreSame code status loses other flags lost
+given_once c given bits lossy code other status flags loses lost law l k x y = (
+  projected_code_once c code other law l k (x.value_is ∙ sym y.value_is),
+  x.status_is ∙ sym y.status_is,
+  x.loses_is ∙ sym y.loses_is,
+)
+
+number_once : (c : Projection) (f : Format) (mode : ConversionRound) (b : Bool) (n code other status flags : ℕ)
+    (loses lost : Bool) → IsProjection c → code < 2 ^ c.bits → other < 2 ^ c.bits
+    → IsProjectedNumberBy c f mode b n code status loses → IsProjectedNumberBy c f mode b n other flags lost
+    → AreSame code status loses other flags lost
+number_once c f mode b n code other status flags loses lost law l k x y =
+    let v = x.is_rounded in
+    let w = y.is_rounded in
+    let same : v.index ≡ w.index =
+    point_pick_once c.precision mode b _ (2 ^ f.scale) v.index w.index law.precision_low v.is_pick w.is_pick in
+    let told : status ≡ flags =
+    v.status_is ∙ ap (λ (i : ℕ). projected_status c (ieee_mode mode) b _ (2 ^ f.scale) i) same
+    ∙ sym w.status_is in (
+      projected_code_once c code other law l k
+          (v.value_is ∙ ap (λ (i : ℕ). projected_value c (ieee_mode mode) b i) same ∙ sym w.value_is),
+      told,
+      x.loses_is ∙ ap (λ (s : ℕ). not (eqb s ok_bits)) told ∙ sym y.loses_is,
+    )
+
+pub projected_by_once : IsProjectedByOnce
+projected_by_once c f mode (nan b s) code other status flags loses lost law l k x y =
+    given_once c _ _ _ code other status flags loses lost law l k x y
+projected_by_once c f mode (infinite b) code other status flags loses lost law l k x y =
+    by_sign (b && not c.signed) c.extended x y
+  where
+    by_sign : (none extended : Bool)
+        → MatchBool none (IsCodeOf c (nan false 0) 1 true code status loses)
+        (MatchBool extended (IsCodeOf c (infinite b) 0 false code status loses)
+        (IsCodeOf c (nan false 0) 16 true code status loses))
+        → MatchBool none (IsCodeOf c (nan false 0) 1 true other flags lost)
+        (MatchBool extended (IsCodeOf c (infinite b) 0 false other flags lost)
+        (IsCodeOf c (nan false 0) 16 true other flags lost))
+        → AreSame code status loses other flags lost
+    by_sign true extended x y = given_once c _ _ _ code other status flags loses lost law l k x y
+    by_sign false true x y = given_once c _ _ _ code other status flags loses lost law l k x y
+    by_sign false false x y = given_once c _ _ _ code other status flags loses lost law l k x y
+projected_by_once c f mode (finite b zero) code other status flags loses lost law l k x y =
+    given_once c _ _ _ code other status flags loses lost law l k x y
+projected_by_once c f mode (finite b (suc n)) code other status flags loses lost law l k x y =
+    let some : eqb (suc n) 0 ≡ false = ne_eqb (suc n) 0 (λ e. omega (arith, e)) in
+    by_sign (b && not c.signed) (MatchBool-at_false _ _ some x) (MatchBool-at_false _ _ some y)
+  where
+    by_sign : (none : Bool)
+        → MatchBool none (IsCodeOf c (nan false 0) 1 true code status loses)
+        (IsProjectedNumberBy c f mode b (suc n) code status loses)
+        → MatchBool none (IsCodeOf c (nan false 0) 1 true other flags lost)
+        (IsProjectedNumberBy c f mode b (suc n) other flags lost)
+        → AreSame code status loses other flags lost
+    by_sign true x y = given_once c _ _ _ code other status flags loses lost law l k x y
+    by_sign false x y = number_once c f mode b (suc n) code other status flags loses lost law l k x y
+
+-- ---- the five modes
+
+-- a pick of the model, and one of a mode of conversions
+point_pick_of : (p : ℕ) (mode : Round) (negative : Bool) (amount parts index : ℕ)
+    → IsPointPickBy p (Ieee mode) negative amount parts index → IsPointPick p mode negative amount parts index
+point_pick_of p mode negative amount parts index = by_digits (eqb p 1)
+  where
+    by_digits : (one : Bool)
+        → MatchBool one (IsCodePickBy p (Ieee mode) negative amount parts index)
+        (IsPickBy p (Ieee mode) negative amount parts (point p index))
+        → MatchBool one (IsCodePick p mode negative amount parts index)
+        (IsPick p mode negative amount parts (point p index))
+    by_digits true x = record { low = x.low; from = x.from; to = x.to; is = x.is }
+    by_digits false x = picks_of_model p mode negative amount parts (point p index) x
+
+point_pick_by : (p : ℕ) (mode : Round) (negative : Bool) (amount parts index : ℕ)
+    → IsPointPick p mode negative amount parts index → IsPointPickBy p (Ieee mode) negative amount parts index
+point_pick_by p mode negative amount parts index = by_digits (eqb p 1)
+  where
+    by_digits : (one : Bool)
+        → MatchBool one (IsCodePick p mode negative amount parts index)
+        (IsPick p mode negative amount parts (point p index))
+        → MatchBool one (IsCodePickBy p (Ieee mode) negative amount parts index)
+        (IsPickBy p (Ieee mode) negative amount parts (point p index))
+    by_digits true x = record { low = x.low; from = x.from; to = x.to; is = x.is }
+    by_digits false x =
+        record { below = x.below; above = x.above; is_below = x.is_below; is_above = x.is_above; is = x.is }
+
+pub code_picks : AreCodePicksPicks
+code_picks p mode negative amount parts index two some x =
+    picks_of_model p mode negative amount parts (point p index)
+    (code_picks_by p (Ieee mode) negative amount parts index two some
+    (record { low = x.low; from = x.from; to = x.to; is = x.is }))
+
+-- only a number is rounded
+by_number : (none without : Bool) (A B C D : Type 0) → (C → D)
+    → MatchBool none A (MatchBool without B C) → MatchBool none A (MatchBool without B D)
+by_number true without A B C D h x = x
+by_number false true A B C D h x = x
+by_number false false A B C D h x = h x
+
+pub projections_of_modes : AreProjectionsOfModes
+projections_of_modes c f mode (nan b s) code status loses x = x
+projections_of_modes c f mode (infinite b) code status loses x = x
+projections_of_modes c f mode (finite b n) code status loses x =
+    by_number (eqb n 0) (b && not c.signed) _ _ _ _
+    (λ (y : IsProjectedNumberBy c f (Ieee mode) b n code status loses).
+    let r = y.is_rounded in
+    let p = point_pick_of c.precision mode b (n * 2 ^ (projected_format c).scale) (2 ^ f.scale) r.index r.is_pick in
+    record {
+      is_rounded = record { index = r.index; is_pick = p; value_is = r.value_is; status_is = r.status_is };
+      loses_is = y.loses_is;
+    }) x
+
+modes_of_projection : (c : Projection) (f : Format) (mode : Round) (x : Datum) (code status : ℕ) (loses : Bool)
+    → IsIntoProjection c f mode x code status loses → IsIntoProjectionBy c f (Ieee mode) x code status loses
+modes_of_projection c f mode (nan b s) code status loses x = x
+modes_of_projection c f mode (infinite b) code status loses x = x
+modes_of_projection c f mode (finite b n) code status loses x =
+    by_number (eqb n 0) (b && not c.signed) _ _ _ _
+    (λ (y : IsProjectedNumber c f mode b n code status loses).
+    let r = y.is_rounded in
+    let p = point_pick_by c.precision mode b (n * 2 ^ (projected_format c).scale) (2 ^ f.scale) r.index r.is_pick in
+    record {
+      is_rounded = record { index = r.index; is_pick = p; value_is = r.value_is; status_is = r.status_is };
+      loses_is = y.loses_is;
+    }) x
+
+pub projected_once : IsProjectedOnce
+projected_once c f mode x code other status flags loses lost law l k y z =
+    projected_by_once c f (Ieee mode) x code other status flags loses lost law l k
+    (modes_of_projection c f mode x code status loses y) (modes_of_projection c f mode x other flags lost z)

@@ -1,0 +1,57 @@
+-- How many random numbers take a magnitude to the next code.
+use Rattle.std.proofs.Common.{◌≡◌, ℕ, ◌+◌, ◌-◌, ◌*◌, ◌^◌, ◌<◌, ◌≤◌, Bool, true, false, eqb, ltb}
+use Rattle.std.proofs.Common.{sym, refl, ap, ◌∙◌, subst, ⊎_elim, arith}
+use Rattle.std.specs.Bool.{MatchBool}
+use Rattle.std.proofs.lemmas.Bool.{cases_lt, le-ltb, lt-ltb}
+use Rattle.apfloat_model.specs.rounding.Grid.{IsBelow, IsAbove}
+use Rattle.apfloat_model.proofs.rounding.Neighbours.{below_is, above_is_next}
+use Rattle.small_formats.specs.declared.ConversionRound.TheVariants.{Stochastic}
+use Rattle.small_formats.specs.declared.RandomDigits.{RandomDigits}
+use Rattle.small_formats.specs.Codes.{point}
+use Rattle.small_formats.specs.Modes.{IsPickBy}
+use Rattle.p3109_formats.specs.ModeLaws.{AreRandomCodesCounted}
+use Rattle.small_formats.specs.PicksBy.{IsCodePickBy, IsPointPickBy}
+use Rattle.small_formats.proofs.CodePicks.{code_pick_by, form_encloses, form_next, form_point}
+use Rattle.small_formats.proofs.Points.{form_of, increasing, points_in_order}
+use Rattle.small_formats.proofs.RandomCounts.{random_numbers_counted, same_count}
+use Rattle.small_formats.proofs.StoredPicks.{not_greater}
+
+-- the index of a point is greater exactly if the point is
+order_kept : (p i j : ℕ) → 0 < p → ltb i j ≡ ltb (point p i) (point p j)
+order_kept p i j some =
+    ⊎_elim
+    (λ (l : i < j). lt-ltb i j l ∙ sym (lt-ltb (point p i) (point p j) (points_in_order p i j some l)))
+    (λ (l : j ≤ i). le-ltb i j l ∙ sym (le-ltb (point p i) (point p j) (not_greater p j i some l)))
+    (cases_lt i j)
+
+-- random digits do not ask what is odd, so their picks by codes are those by significands
+random_pick : (p : ℕ) (bits : RandomDigits) (negative : Bool) (amount parts index : ℕ) → 0 < p → 0 < parts
+    → IsPointPickBy p (Stochastic bits) negative amount parts index
+    → IsPickBy p (Stochastic bits) negative amount parts (point p index)
+random_pick p bits negative amount parts index one some = by_digits (eqb p 1)
+  where
+    by_digits : (single : Bool)
+        → MatchBool single (IsCodePickBy p (Stochastic bits) negative amount parts index)
+        (IsPickBy p (Stochastic bits) negative amount parts (point p index))
+        → IsPickBy p (Stochastic bits) negative amount parts (point p index)
+    by_digits true x =
+        code_pick_by p (Stochastic bits) negative amount parts index one some (λ m c by to. refl) x
+    by_digits false x = x
+
+pub random_codes_counted : AreRandomCodesCounted
+random_codes_counted p digits low amount parts negative bits index one some from to all picks =
+    let f = form_of p low one in
+    let at = form_point p low one f in
+    let next = form_next p low one f in
+    let i = form_encloses p low amount parts one f (omega (arith, from)) to in
+    let at_parts : point p low * parts ≡ f.m * 2 ^ f.c * parts = ap (λ (n : ℕ). n * parts) at in
+    let below : IsBelow p (point p low) amount parts =
+    subst (λ (n : ℕ). IsBelow p n amount parts) (sym at) (below_is p (2 ^ (p - 1)) f.m f.c amount parts i) in
+    let above : IsAbove p (point p (low + 1)) amount parts =
+    subst (λ (n : ℕ). IsAbove p n amount parts) (sym next)
+    (above_is_next p (2 ^ (p - 1)) f.m f.c amount parts i (omega (arith, from, at_parts))) in
+    same_count (λ (k : ℕ). ltb low (index k)) (λ (k : ℕ). ltb (point p low) (point p (index k))) (2 ^ digits)
+    (λ k h. order_kept p low (index k) one)
+    ∙ random_numbers_counted p digits (point p low) (point p (low + 1)) amount parts negative bits
+    (λ (k : ℕ). point p (index k)) some (increasing p low one) below above all
+    (λ k h. random_pick p (bits k) negative amount parts (index k) one some (picks k h))

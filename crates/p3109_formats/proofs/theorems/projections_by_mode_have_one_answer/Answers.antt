@@ -1,0 +1,5 @@
+use Rattle.p3109_formats.proofs.OneAnswer.{projected_by_once}
+use Rattle.p3109_formats.proofs.theorems.projections_by_mode_have_one_answer.Goals as goal
+
+pub returns : goal.returns
+returns c = projected_by_once

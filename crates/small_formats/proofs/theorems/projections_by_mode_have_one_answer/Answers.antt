@@ -1,5 +1,0 @@
-use Rattle.small_formats.proofs.ProjectedOnce.{projected_by_once}
-use Rattle.small_formats.proofs.theorems.projections_by_mode_have_one_answer.Goals as goal
-
-pub returns : goal.returns
-returns c = projected_by_once

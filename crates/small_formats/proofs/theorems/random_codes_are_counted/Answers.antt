@@ -1,5 +1,0 @@
-use Rattle.small_formats.proofs.RandomCodes.{random_codes_counted}
-use Rattle.small_formats.proofs.theorems.random_codes_are_counted.Goals as goal
-
-pub returns : goal.returns
-returns c = random_codes_counted

@@ -1,6 +1,0 @@
--- The constants of a type of formats of P3109.
-use Rattle.small_formats.specs.Projections.{Projection, projection_with}
-use Rattle.small_formats.specs.declared.projection.Projection.{Ghosts}
-
-abbrev pub projection_of : {X : Type 0} → Ghosts X → Projection
-projection_of s = projection_with s.BITS s.PRECISION s.SIGNED s.EXTENDED
