@@ -177,8 +177,8 @@ addend_rounds low mode negative always if_odd some always_is odd_is t =
     omega (arith, always_is, last) in
     ap (λ (n : ℕ). (t + n) / 2 ^ low) added ∙ rounded_is mode negative t low some
 
--- less than all digits of the rest are added, but for the one that is missing
-pub added_below : (mode : Round) (negative : Bool) (half : ℕ) → 0 < half → added_for mode negative half < 2 * half
+-- fewer digits than the rest can have are added
+pub added_below : (mode : Round) (negative : Bool) (half : ℕ) → 0 < half → added_for mode negative half + (2 ^ odd_for mode - 1) < 2 * half
 added_below NearestTiesToEven negative half some = omega (arith, some)
 added_below NearestTiesToAway negative half some = omega (arith, some)
 added_below TowardZero negative half some = omega (arith, some)
@@ -186,3 +186,10 @@ added_below TowardPositive true half some = omega (arith, some)
 added_below TowardPositive false half some = omega (arith, some)
 added_below TowardNegative true half some = omega (arith, some)
 added_below TowardNegative false half some = omega (arith, some)
+
+pub odd_most : (mode : Round) → 2 ^ odd_for mode - 1 ≤ 1
+odd_most NearestTiesToEven = omega arith
+odd_most NearestTiesToAway = omega arith
+odd_most TowardZero = omega arith
+odd_most TowardPositive = omega arith
+odd_most TowardNegative = omega arith
