@@ -39,7 +39,7 @@ abbrev pub Carries : ℕ → ℕ → ℕ → Bool → Type 0
 Carries half rest added true = 2 * half ≤ rest + added
 Carries half rest added false = rest + added < 2 * half
 
--- by the four losses
+-- what is added carries as the mode says, if it does for each of the four losses
 module _ (mode : Round) (negative : Bool) (rest half last : ℕ) (some : 0 < half) where
   abbrev Said : Loss → Type 0
   Said loss = Carries half rest (added_to mode negative half last) (rounds_up mode negative loss (eqb (last % 2) 1))
@@ -123,7 +123,7 @@ next_by kept rest added unit true some short reaches =
 next_by kept rest added unit false some short stays =
     mul-add-div_right some kept (rest + added) ∙ ap (λ (x : ℕ). kept + x) (div-eq_of_lt stays) ∙ omega arith
 
--- at most all digits of the rest are added, so nothing carries twice
+-- at most a whole unit of the last kept digit, 2 * half, is added, so it carries at most once
 added_most : (mode : Round) (negative : Bool) (half last : ℕ) → 0 < half
     → added_to mode negative half last ≤ 2 * half
 added_most NearestTiesToEven negative half last some = omega (arith, some)
@@ -134,7 +134,7 @@ added_most TowardPositive false half last some = omega (arith, some)
 added_most TowardNegative true half last some = omega (arith, some)
 added_most TowardNegative false half last some = omega (arith, some)
 
--- the two ways to say it
+-- `Carries`, as a condition that `next_by` takes
 as_cond : (half rest added : ℕ) (up : Bool) → Carries half rest added up
     → cond up (2 * half ≤ rest + added) (rest + added < 2 * half)
 as_cond half rest added true h = h
