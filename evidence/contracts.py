@@ -18,7 +18,8 @@ CRATES = TOP / 'crates'
 PAGE = TOP / 'docs' / 'MODEL.md'
 BEGIN, END = '<!-- made by evidence/contracts.py -->', '<!-- end -->'
 # Public modules for the crates above, which no user calls.
-INSIDE = {'exponents', 'formatting', 'large', 'lanes', 'cuts', 'flagged', 'built_in_formats', 'order', 'products'}
+INSIDE = {'exponents', 'formatting', 'large', 'lanes', 'words', 'cuts', 'flagged', 'built_in_formats', 'order',
+          'products'}
 # What a clause says of what it is about, before it says what the result is.
 ASIDE = {'IsWithin', 'IsTrue', 'IsPositive', 'IsMember', 'IsBetween', 'AreAtMost', 'IsOneLower', 'IsSingle', 'IsOwn',
          'IsExactly', 'AreLookedUp', 'IsStoredBy', 'IsOffered'}

@@ -59,7 +59,7 @@ fn has_width<S: Semantics>(width: usize) -> bool
     (S::BITS % 8 == 0) & (width == S::BITS / 8)
 }
 
-/// The same to the format of the type `F`, which `target` is.
+/// `store_numbers` into the format of the type `F`, which `target` is.
 #[inline(always)]
 fn store_in<S: Semantics, F: StorageFormat>(
     target: StoredFormat,
