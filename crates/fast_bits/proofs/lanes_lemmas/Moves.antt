@@ -178,7 +178,8 @@ addend_rounds low mode negative always if_odd some always_is odd_is t =
     ap (λ (n : ℕ). (t + n) / 2 ^ low) added ∙ rounded_is mode negative t low some
 
 -- fewer digits than the rest can have are added
-pub added_below : (mode : Round) (negative : Bool) (half : ℕ) → 0 < half → added_for mode negative half + (2 ^ odd_for mode - 1) < 2 * half
+pub added_below : (mode : Round) (negative : Bool) (half : ℕ) → 0 < half
+    → added_for mode negative half + (2 ^ odd_for mode - 1) < 2 * half
 added_below NearestTiesToEven negative half some = omega (arith, some)
 added_below NearestTiesToAway negative half some = omega (arith, some)
 added_below TowardZero negative half some = omega (arith, some)

@@ -29,7 +29,9 @@ long_addend low mode negative addend some always if_odd =
     let twice : 2 * 2 ^ (low - 1) ≡ 2 ^ low = twice_half low some in
     let one = odd_most mode in
     record {
-      rounds = record { rounds = λ t. addend_rounds low mode negative addend.always addend.if_odd some always if_odd t };
+      rounds = record {
+        rounds = λ t. addend_rounds low mode negative addend.always addend.if_odd some always if_odd t;
+      };
       below = omega (arith, less, twice, always, if_odd);
       one = omega (arith, one, if_odd);
     }

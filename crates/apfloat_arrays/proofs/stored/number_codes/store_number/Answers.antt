@@ -45,7 +45,8 @@ returns g c =
     c.saturating_sub-place.ensures ∙ ap (λ (n : ℕ). n - 1) c.biased_in-biased.ensures.is in
     let digits : c.significand_in-significand.result * 2 ^ (32 - min (first - c.saturating_sub-place.result) 32)
     ≡ m * 2 ^ (32 - min (first - e) 32) =
-    ap (λ (n : ℕ). n * 2 ^ (32 - min (first - c.saturating_sub-place.result) 32)) c.significand_in-significand.ensures.is
+    ap (λ (n : ℕ). n * 2 ^ (32 - min (first - c.saturating_sub-place.result) 32))
+    c.significand_in-significand.ensures.is
     ∙ ap (λ (n : ℕ). m * 2 ^ (32 - min (first - n) 32)) place in
     let negative_is : c.is_minus_in-negative.result ≡ is_minus k c.args.bits = c.is_minus_in-negative.ensures in
     let rounded : made.result.kept ≡ rounded_by low mode negative t =
@@ -78,8 +79,8 @@ returns g c =
     let fits : m < 2 ^ k.precision =
     subst (λ (n : ℕ). n < 2 ^ k.precision) c.significand_in-significand.ensures.is
     c.significand_in-significand.ensures.below in
-    let into = number_into s (format_of g.S.Semantics) mode negative made.result.leads_out k.precision low first e m index code
-    status law more fits (normal_full k c.args.bits) scales c.requires.low index_is out code_is status_is in
+    let into = number_into s (format_of g.S.Semantics) mode negative made.result.leads_out k.precision low first e m
+    index code status law more fits (normal_full k c.args.bits) scales c.requires.low index_is out code_is status_is in
     let read = number_read k c.args.bits source.nonfinite source.implied c.requires.number in
     rw (c.and.ensures.value, c.and.ensures.status)
     (record {
@@ -87,5 +88,7 @@ returns g c =
           subst
           (λ (x : Datum). IsInto s (format_of g.S.Semantics) mode x code status (not (eqb status 0))) (sym read) into;
       below = code_below s negative index code (omega (arith, two, above)) code_is;
-      past = overflow_only_past s negative made.result.leads_out (eqb (t % 2 ^ low) 0) index code status code_is status_is;
+      past =
+          overflow_only_past s negative made.result.leads_out (eqb (t % 2 ^ low) 0) index code status code_is
+          status_is;
     })
