@@ -18,7 +18,7 @@ CRATES = TOP / 'crates'
 PAGE = TOP / 'docs' / 'MODEL.md'
 BEGIN, END = '<!-- made by evidence/contracts.py -->', '<!-- end -->'
 # Public modules for the crates above, which no user calls.
-INSIDE = {'exponents', 'formatting', 'large', 'lanes', 'cuts', 'picks', 'grid_points', 'statuses', 'flagged',
+INSIDE = {'exponents', 'formatting', 'large', 'lanes', 'words', 'cuts', 'picks', 'grid_points', 'statuses', 'flagged',
           'built_in_formats', 'order', 'products'}
 # What a clause says of what it is about, before it says what the result is.
 ASIDE = {'IsWithin', 'IsTrue', 'IsPositive', 'IsMember', 'IsBetween', 'AreAtMost', 'IsOneLower', 'IsSingle', 'IsOwn',

@@ -77,7 +77,7 @@ lane_answers overflow c d mode bits lane (inr both) =
       nan_is = it.nan_is;
     }
 
--- by the plan
+-- a lane that was made with the target, the mode and the saturation of a plan for the conversion is its result
 answers_by : (overflow : Overflow) (c d : Constants) (mode : Round) (target : Target) (by : Bool) (round : Round)
     (input output : List ℕ) (bits : ℕ) (lane : Lane) → format_at target ≡ format_with d
     → layout_at target ≡ layout_with d → by ≡ saturates overflow → round ≡ mode → bits ≡ number_of input

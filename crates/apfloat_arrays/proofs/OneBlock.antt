@@ -37,7 +37,7 @@ given_once : (given : Datum) (flags : ℕ) (lossy : Bool) → OnceWith (IsConver
 given_once given flags lossy v w r s a b h k =
     (h.value_is ∙ sym k.value_is, h.status_is ∙ sym k.status_is, h.loses_is ∙ sym k.loses_is)
 
--- and one to finite values alone
+-- a conversion to finite values alone has one result
 finite_once : (nans : FiniteNan) (f g : Format) (mode : Round) (x : Datum)
     → OnceWith (IsFiniteConversion nans f g mode x)
 finite_once Kept f g mode (nan c t) v w r s a b h k = conversion_once f g mode (nan c t) v w r s a b h k

@@ -61,7 +61,7 @@ pub fn convert_bytes<S: Flagged, T: Flagged>(
     }
 }
 
-/// The same by a table of entries, which results of at most 32 bits fit in.
+/// `convert_bytes` by a table of entries: a result of at most 32 bits fits in one, with its outcome.
 #[inline(always)]
 fn convert_by_entries<S: Flagged, T: Flagged>(
     overflow: Overflow,
@@ -86,7 +86,7 @@ fn convert_by_entries<S: Flagged, T: Flagged>(
     look_up(bytes, width, count, &table, output).counts(count as u64)
 }
 
-/// The same by a table of results of any number of bits, and one of their outcomes.
+/// `convert_bytes` by a table of results of any number of bits, and a table of their outcomes.
 #[inline(always)]
 fn convert_wide<S: Flagged, T: Flagged>(
     overflow: Overflow,
@@ -120,7 +120,7 @@ fn convert_wide<S: Flagged, T: Flagged>(
     )
 }
 
-/// The same, with room for the tables.
+/// `convert_wide` in memory lent for its tables.
 #[inline(always)]
 fn convert_wide_with<S: Flagged, T: Flagged>(
     overflow: Overflow,

@@ -140,7 +140,8 @@ pub fn write_entry(bits: u128, mark: u64, entry: &mut [u8])
     write_number(bits + MARK * u128::from(mark), entry)
 }
 
-/// Copies the results for `count` values from their places in a table, each in `width` bytes, and counts them.
+/// Copies the results for `count` values from their places in a table, each in `width` bytes, and counts their flags
+/// and NaNs. Most widths are 1, 2 or 4, which the loop of each knows as a constant.
 pub fn look_up<P: TablePlaces>(
     places: P,
     width: usize,
@@ -161,7 +162,7 @@ pub fn look_up<P: TablePlaces>(
     }
 }
 
-/// The same, for a width that is known.
+/// `look_up`, for a width that is a constant where this is inlined.
 #[inline(always)]
 fn look_up_each<P: TablePlaces>(
     places: P,
@@ -193,7 +194,8 @@ fn look_up_each<P: TablePlaces>(
     )
 }
 
-/// The same for few values, after those that were counted.
+/// `look_up` for `size` values from the index `first` on, added to the tally of those before: so few that their counts
+/// fit in one word.
 #[inline(always)]
 fn look_up_few<P: TablePlaces>(
     places: P,

@@ -29,8 +29,8 @@ const TABLE: usize = PLACES * ENTRY;
 const LEAST_COUNT: usize = 2 * PLACES;
 
 impl ArrayConversion {
-    /// Converts `count` values, each in its place, by a table if it serves. What the memory lent for it contains
-    /// afterwards is not said.
+    /// Converts `count` values, each in its place, by a table where that takes less time. The contents of the memory
+    /// lent for it are unspecified afterwards.
     pub fn convert_with(
         self,
         count: usize,

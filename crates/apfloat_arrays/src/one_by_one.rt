@@ -110,7 +110,7 @@ fn convert_in<S: Flagged, T: Flagged>(
     }
 }
 
-/// The same, one value after another.
+/// Converts `count` values one after another, each by `convert_in`.
 #[inline(always)]
 fn convert_each<S: Flagged, T: Flagged>(
     place: Place,

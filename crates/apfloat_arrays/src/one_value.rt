@@ -37,7 +37,7 @@ pub fn convert_value<S: Flagged, T: Flagged>(
     answer.outcome
 }
 
-/// The same without these results, out of line.
+/// `convert_value` without `far`, out of line.
 #[inline(never)]
 pub fn convert_slowly<S: Flagged, T: Flagged>(
     overflow: Overflow,

@@ -48,7 +48,7 @@ fn clear_specials<const N: usize>(halves: &mut [u16; N])
     }
 }
 
-/// The same, unless there are none. Returns whether there are none.
+/// `clear_specials`, but without the call if all are finite, as in most blocks. Returns whether all are.
 #[inline(always)]
 fn leave_numbers<const N: usize>(halves: &mut [u16; N]) -> bool
     ensures finite { AreFiniteHalves N halves.new }

@@ -260,7 +260,7 @@ fn places_of<Z: Flagged>() -> usize
     1 << Z::BITS
 }
 
-/// The same, with room for the table, which has `places` places; a value of `S` takes `width` bytes.
+/// `convert_shortened` in memory lent for the table, which has `places` places; a value of `S` takes `width` bytes.
 #[inline(always)]
 fn convert_with<S: Flagged, Z: Flagged, T: Flagged>(
     overflow: Overflow,

@@ -179,7 +179,7 @@ fn convert_whole<P: BlockPlan<N>, S: Flagged, T: Flagged, const N: usize>(
     counts
 }
 
-/// The same, in less time where there are none.
+/// `convert_whole`; without any block it does not clear the buffers first.
 #[inline(always)]
 fn convert_blocks<P: BlockPlan<N>, S: Flagged, T: Flagged, const N: usize>(
     plan: P,

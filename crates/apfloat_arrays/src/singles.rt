@@ -1,5 +1,5 @@
-//! Singles converted a block at a time. The loops below have no jump that depends on a value, and compute all in words
-//! of sixteen bits, so that a compiler can work on several values at once.
+//! Singles converted a block at a time. The loops below have no jump that depends on a value, and compute everything in
+//! words of sixteen bits, so that a compiler can work on several values at once.
 
 ghost use Rattle.std.specs.Prelude.{◌≡◌, ℕ, ◌+◌, ◌*◌, ◌/◌, ◌%◌, ◌^◌, ◌≤◌, ◌<◌, List, length, replicate, false, IsTrue};
 ghost use Rattle.fast_bits.specs.lanes.FewCounts.{FewAreAtMost};
@@ -57,7 +57,7 @@ fn clear_specials<const N: usize>(uppers: &mut [u16; N], lowers: &mut [u16; N])
     }
 }
 
-/// The same, unless there are none. Returns whether there are none.
+/// `clear_specials`, but without the call if all are finite, as in most blocks. Returns whether all are.
 #[inline(always)]
 fn leave_numbers<const N: usize>(uppers: &mut [u16; N], lowers: &mut [u16; N]) -> bool
     ensures finite { AreFiniteHalves N uppers.new }
@@ -235,8 +235,8 @@ pub(crate) fn convert_block<S: Flagged, T: Flagged, const N: usize>(
     }
 }
 
-/// Converts a few values with zeros after them, which raise no flag and are no NaNs: as many as a block lacks. They
-/// stand in `singles`, and what they become in `room`.
+/// Converts a few values, padded in `singles` to a block by zeros, which raise no flag and are not NaNs. Their results
+/// are made in `room` and copied to `output`.
 #[inline(always)]
 fn convert_between<S: Flagged, T: Flagged>(
     overflow: Overflow,

@@ -1,5 +1,5 @@
-//! Infinities and NaNs in blocks of singles that are converted all at once: zeros take their places, which
-//! raise no flag and are no NaNs, until they are converted one by one.
+//! Infinities and NaNs in blocks of singles that are converted all at once: until they are converted one by one, zeros
+//! take their places, since these raise no flag and are not counted as NaNs.
 
 ghost use Rattle.std.specs.Prelude.{◌≡◌, ℕ, ◌+◌, ◌*◌, ◌%◌, ◌^◌, ◌<◌, ◌≤◌, length, slice_index, IsTrue};
 ghost use Rattle.fast_bits.specs.lanes.Targets.{IsSingleFormat};
@@ -47,7 +47,7 @@ pub(crate) fn are_finite<const N: usize>(halves: &[u16; N]) -> bool
     finite
 }
 
-/// Zero in place of an infinity or a NaN.
+/// The upper half of a single, and zero in place of that of an infinity or a NaN.
 #[inline(always)]
 pub(crate) fn number_in(half: u16) -> u16
     ensures { result ≡ number_in half }
@@ -55,7 +55,7 @@ pub(crate) fn number_in(half: u16) -> u16
     if is_finite_half(half) { half } else { 0 }
 }
 
-/// The lower half that goes with it.
+/// The lower half of the same single, and zero where `number_in` puts zero.
 #[inline(always)]
 pub(crate) fn lower_in(upper: u16, lower: u16) -> u16
     ensures { result ≡ lower_in upper lower }

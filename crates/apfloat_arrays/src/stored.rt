@@ -8,7 +8,6 @@ mod loading;
 mod number_arrays;
 mod number_codes;
 mod numbers;
-mod sides;
 mod storing;
 
 pub use array::{Ends, StorageArray};

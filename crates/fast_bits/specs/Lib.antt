@@ -1,4 +1,6 @@
 pub mod Encoded
 pub mod Numbers
 pub mod Once
+pub mod Addends
+pub mod Words
 pub mod lanes

@@ -6,9 +6,11 @@
 //! implied integer bit, none of that is needed: the fields give the significands, and the rounded significand is added
 //! to its place. All other cases are left to `IeeeFloat`.
 //!
-//! `lanes` converts finite singles to formats of few digits by steps that are the same for each number.
+//! `lanes` converts finite singles to formats of few digits by steps that are the same for each number, and `words`
+//! rounds a number's significand by such steps.
 #![tactic(auto)]
 
+mod addends;
 mod conversions;
 mod cuts;
 mod encoded;
@@ -19,6 +21,7 @@ mod roots;
 mod sums;
 mod theorems;
 mod totals;
+pub mod words;
 
 pub use conversions::convert_normal;
 pub use encoded::Encoded;

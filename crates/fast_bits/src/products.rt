@@ -150,7 +150,7 @@ pub fn multiply_normal<S: Flagged>(x: u128, y: u128, round: Round) -> Option<Enc
     }
 }
 
-/// The product of any two values.
+/// The product of two values by `wide_mul_r`: what `multiply_normal` leaves.
 #[inline(never)]
 fn multiply_values<S: Flagged>(x: u128, y: u128, round: Round) -> Encoded
     requires { S.PRECISION < S.BITS }

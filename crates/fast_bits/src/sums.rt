@@ -178,7 +178,7 @@ pub fn subtract_normal<S: Flagged>(x: u128, y: u128, round: Round) -> Option<Enc
     }
 }
 
-/// The sum of any two values.
+/// The sum of two values by `add_r`: what `add_normal` leaves.
 #[inline(never)]
 fn add_values<S: Flagged>(x: u128, y: u128, round: Round) -> Encoded
     requires { S.PRECISION < S.BITS }
@@ -192,7 +192,7 @@ fn add_values<S: Flagged>(x: u128, y: u128, round: Round) -> Encoded
     }
 }
 
-/// The difference of any two values.
+/// The difference of two values by `sub_r`: what `subtract_normal` leaves.
 #[inline(never)]
 fn subtract_values<S: Flagged>(x: u128, y: u128, round: Round) -> Encoded
     requires { S.PRECISION < S.BITS }

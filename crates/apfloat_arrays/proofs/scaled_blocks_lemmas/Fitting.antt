@@ -19,7 +19,7 @@ value_within first index count width size before within =
     let below = place_below (first + index) (first + count) width (omega (arith, before)) in
     omega (arith, below, within)
 
--- and its index is less than their number
+-- and its index is less than the number of bytes
 pub index_within : (first index count width size : ℕ) → index < count → 1 ≤ width
     → (first + count) * width ≤ size → first + index < size
 index_within first index count width size before some within =

@@ -27,18 +27,15 @@ use Rattle.apfloat_model.proofs.general.Powers.{twice_half, two_pos}
 use Rattle.apfloat_model.proofs.rounding.KeptDigits.{enclosed_from, fits_cut, full_cut}
 use Rattle.apfloat_rounding.specs.Cuts.{loss_at}
 use Rattle.apfloat_rounding.proofs.CutRests.{loss_zero, rest_stands}
-use Rattle.fast_bits.specs.lanes.Sides.{rounded_by}
+use Rattle.fast_bits.specs.Addends.{rounded_by}
 use Rattle.fast_bits.proofs.lanes_lemmas.Cuts.{far_below, in_quanta}
-use Rattle.fast_bits.proofs.lanes_lemmas.Moves.{added_below, added_for as lane_added, addend_rounds, odd_for}
 use Rattle.small_formats.specs.Codes.{datum_of as number_of_code, largest_index, magnitude_of, point}
 use Rattle.small_formats.specs.Conversions.{IsGiven, IsInto, IsSaturated, IsStoredNumber}
 use Rattle.small_formats.specs.Picks.{IsPickedAt}
 use Rattle.small_formats.specs.Storage.{IsLawfulStorage, StorageConstants, format_with}
 use Rattle.small_formats.proofs.Points.{low_point}
 use Rattle.small_formats.proofs.StoredPicks.{largest_point, past_delivered, picked_at, saturated, within_delivered}
-use Rattle.apfloat_arrays.specs.declared.stored.sides.CodeSide.{CodeSide}
-use Rattle.apfloat_arrays.specs.stored.NumberCodes.{IsCodeSide, added_for, added_if_odd, biased_of, is_minus}
-use Rattle.apfloat_arrays.specs.stored.NumberCodes.{significand_of}
+use Rattle.apfloat_arrays.specs.stored.NumberCodes.{biased_of, is_minus, significand_of}
 
 -- ---- the cut
 
@@ -186,68 +183,6 @@ picked p low place t amount parts index mode negative some any it is =
     (is ∙ moved_sum up kept (place * 2 ^ (p - 1)))
     (λ e. loss_zero rest (2 ^ (low - 1)) (eqb-true rest 0 e))
     (inexact_loss rest (2 ^ (low - 1)))
-
--- ---- modes
-
-same_added : (mode : Round) (negative : Bool) (half : ℕ)
-    → added_for mode negative half ≡ lane_added mode negative half
-same_added NearestTiesToEven negative half = refl
-same_added NearestTiesToAway negative half = refl
-same_added TowardZero negative half = refl
-same_added TowardPositive negative half = refl
-same_added TowardNegative negative half = refl
-
-same_odd : (mode : Round) → added_if_odd mode ≡ 2 ^ odd_for mode - 1
-same_odd NearestTiesToEven = refl
-same_odd NearestTiesToAway = refl
-same_odd TowardZero = refl
-same_odd TowardPositive = refl
-same_odd TowardNegative = refl
-
-odd_most : (mode : Round) → added_if_odd mode ≤ 1
-odd_most NearestTiesToEven = lit≤ tt
-odd_most NearestTiesToAway = lit≤ tt
-odd_most TowardZero = lit≤ tt
-odd_most TowardPositive = lit≤ tt
-odd_most TowardNegative = lit≤ tt
-
-pub side_is : (low : ℕ) (mode : Round) (negative : Bool) (side : CodeSide) → 0 < low
-    → side.always ≡ added_for mode negative (2 ^ (low - 1)) → side.if_odd ≡ added_if_odd mode
-    → side.leads_out ≡ leads_out mode negative → IsCodeSide low mode negative side
-side_is low mode negative side some always odd out =
-    let added : side.always ≡ lane_added mode negative (2 ^ (low - 1)) =
-    always ∙ same_added mode negative (2 ^ (low - 1)) in
-    let less = added_below mode negative (2 ^ (low - 1)) (pow_pos (low - 1)) in
-    let twice : 2 * 2 ^ (low - 1) ≡ 2 ^ low = twice_half low some in
-    let one = odd_most mode in
-    record {
-      rounds = λ t. addend_rounds low mode negative side.always side.if_odd some added (odd ∙ same_odd mode) t;
-      below = omega (arith, less, twice, added);
-      one = omega (arith, odd, one);
-      out = out;
-    }
-
--- the bound of what is kept
-pub rounded_most : (digits always if_odd low : ℕ) → 32 ≤ low → digits < 2 ^ 56 → always < 2 ^ low
-    → if_odd ≤ 1
-    → (digits + (always + bit_and (digits / 2 ^ low) if_odd)) / 2 ^ low < 2 ^ 24 + 2
-rounded_most digits always if_odd low wide few below one =
-    let unit : 2 ^ 32 ≤ 2 ^ low = pow-le-pow_right two_pos wide in
-    let odd = and_le_r (digits / 2 ^ low) if_odd in
-    div_below (digits + (always + bit_and (digits / 2 ^ low) if_odd)) (2 ^ low) (2 ^ 24 + 2) (pow_pos low)
-    (omega (arith, unit, odd, few, below, one))
-
--- a significand moved up by at most 32 places
-pub record IsMovedUp (m places : ℕ) : Type 0 where
-  pub whole : m * 2 ^ places % 18446744073709551616 ≡ m * 2 ^ places
-  pub below : m * 2 ^ places < 2 ^ 56
-
-pub moved_up : (m places : ℕ) → m < 2 ^ 24 → places ≤ 32 → IsMovedUp m places
-moved_up m places fits few =
-    let unit : 2 ^ places ≤ 2 ^ 32 = pow-le-pow_right two_pos few in
-    let less : m * 2 ^ places < 2 ^ 24 * 2 ^ places = mul-lt-mul_of_pos_right fits (pow_pos places) in
-    let below : m * 2 ^ places < 2 ^ 56 = omega (arith, unit, less) in
-    record { whole = mod-eq_of_lt (omega (arith, below)); below = below }
 
 -- ---- what is delivered
 

@@ -34,7 +34,7 @@ use Rattle.apfloat_arrays.specs.stored.Formats.{bits_in, datum_in, e2m1fn_consta
 
 -- ---- modes
 
--- there are 1 to 32 random digits
+-- a stochastic mode has 1 to 32 random digits; the other modes need none
 abbrev pub HasDigits : EachRound → Type 0
 HasDigits (EachIeee mode) = ⊤
 HasDigits EachToOdd = ⊤

@@ -60,8 +60,8 @@ largest_code E3M4 negative = if negative then 239 else 111
 largest_code E8M0FNU negative = 254
 largest_code UE4M3 negative = 126
 
--- Whether an infinity with this sign becomes what it becomes without saturation, where only finite values are wanted:
--- there is no infinity, or nothing with that sign.
+-- Where only finite values are wanted: whether an infinity with this sign is converted as without saturation. So it is
+-- where that gives the largest number already, and where the format has no numbers with that sign.
 abbrev pub keeps_infinity : StoredFormat → Bool → Bool
 keeps_infinity E2M1FN negative = true
 keeps_infinity E2M3FN negative = true

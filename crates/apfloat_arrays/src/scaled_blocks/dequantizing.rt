@@ -1,4 +1,4 @@
-//! Arrays of values out of blocks.
+//! Dequantizing: arrays of values from the scales and element codes of blocks.
 
 ghost use Rattle.std.specs.Prelude.{◌≡◌, ◌*◌, ◌^◌, ◌<◌, ◌≤◌, All, Ok, length};
 ghost use Rattle.rustc_apfloat.specs.FlaggedTypes.{constants_of};
@@ -57,7 +57,7 @@ impl Dequantization {
         }
     }
 
-    /// The same with these lengths.
+    /// `dequantize` of arrays whose lengths fit together.
     fn dequantize_each(
         self,
         width: usize,

@@ -84,7 +84,7 @@ impl Quantization {
         }
     }
 
-    /// The same with these lengths.
+    /// `quantize` of arrays whose lengths fit together.
     fn quantize_each(
         self,
         width: usize,

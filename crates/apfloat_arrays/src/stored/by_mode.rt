@@ -179,7 +179,7 @@ impl ModeConversion {
         })
     }
 
-    /// The same in bytes.
+    /// `convert_bits` of the value in little-endian bytes; its code is written into the byte of `output`.
     fn convert_value(self, random: u32, input: &[u8], output: &mut [u8]) -> Outcome
         requires digits { HasDigits self.round }
         requires input { length input.now ≤ 16 }
@@ -191,8 +191,8 @@ impl ModeConversion {
         made.outcome
     }
 
-    /// Converts `count` values, each in its place. Of random digits, each has those of the number with its index in
-    /// `randoms`, which takes four bytes, the lowest first.
+    /// Converts `count` values, each in its place. If the mode needs random digits, those of a value are in the number
+    /// with its index in `randoms`; a number takes four bytes, the lowest first.
     pub fn convert(self, count: usize, randoms: &[u8], input: &[u8], output: &mut [u8]) -> Counts
         requires digits { HasDigits self.round }
         requires randoms { HasRandoms self.round count (length randoms.now) }

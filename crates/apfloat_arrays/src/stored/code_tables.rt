@@ -76,7 +76,7 @@ pub(crate) fn load_codes<T: Flagged>(
     }
 }
 
-/// The same by a table of entries, which results of at most 32 bits fit in.
+/// `load_codes` by a table of entries: a result of at most 32 bits fits in one, with its outcome.
 #[inline(always)]
 fn load_by_entries<T: Flagged>(
     source: StoredFormat,
@@ -101,7 +101,7 @@ fn load_by_entries<T: Flagged>(
     look_up(bytes, width, count, &table, output).counts(count as u64)
 }
 
-/// The same by a table of results of any number of bits, and one of their outcomes.
+/// `load_codes` by a table of results of any number of bits, and a table of their outcomes.
 #[inline(always)]
 fn load_wide<T: Flagged>(
     source: StoredFormat,
@@ -136,7 +136,7 @@ fn load_wide<T: Flagged>(
     )
 }
 
-/// The same, with room for the tables.
+/// `load_wide` in memory lent for its tables.
 #[inline(always)]
 fn load_wide_with<T: Flagged>(
     source: StoredFormat,

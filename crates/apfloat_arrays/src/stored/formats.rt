@@ -65,8 +65,8 @@ impl StoredFormat {
         }
     }
 
-    /// Whether an infinity with this sign becomes what it becomes without saturation, where only finite values are
-    /// wanted: the format has no infinities, or no values with that sign.
+    /// Where only finite values are wanted: whether an infinity with this sign is converted as without saturation. So
+    /// it is where that gives the largest number already, and where the format has no numbers with that sign.
     pub(crate) fn keeps_infinity(self, negative: bool) -> bool
         ensures { result ≡ keeps_infinity self negative }
     {

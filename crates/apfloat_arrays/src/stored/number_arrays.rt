@@ -13,7 +13,7 @@ use crate::counts::{Counts, Outcome};
 use crate::stored::array::store_value;
 use crate::stored::formats::StoredFormat;
 use crate::stored::number_codes::{digits_below, is_number, is_word_source, store_number};
-use crate::stored::sides::{CodePlan, code_plan};
+use fast_bits::words::{WordPlan, word_plan};
 use rustc_apfloat::Round;
 use rustc_apfloat::ieee::Semantics;
 use small_formats::saturation::Overflow;
@@ -59,7 +59,7 @@ fn has_width<S: Semantics>(width: usize) -> bool
     (S::BITS % 8 == 0) & (width == S::BITS / 8)
 }
 
-/// The same to the format of the type `F`, which `target` is.
+/// `store_numbers` into the format of the type `F`, which `target` is.
 #[inline(always)]
 fn store_in<S: Semantics, F: StorageFormat>(
     target: StoredFormat,
@@ -106,7 +106,7 @@ fn store_each<S: Semantics, F: StorageFormat>(
     ensures { IsBlock (IsStoredIn overflow (constants_of S.Semantics) target round) width 1 count
         input.now output.new result }
 {
-    let plan = code_plan(digits_below::<S, F>(), round);
+    let plan = word_plan(digits_below::<S, F>(), round);
     let mut counts = Counts::NONE;
     for index in 0..count {
         let (from, to) = (index * width, index * 1);
@@ -130,7 +130,7 @@ fn bits_in<S: Semantics>(bytes: &[u8]) -> u32
 /// Converts a value.
 #[inline(always)]
 fn store_one<S: Semantics, F: StorageFormat>(
-    plan: CodePlan,
+    plan: WordPlan,
     target: StoredFormat,
     overflow: Overflow,
     value: &[u8],

@@ -1,6 +1,5 @@
-//! Numbers of at most 24 digits as codes of a storage format without infinities and NaNs, from bits to bits: the
-//! significand is moved so that its last kept digit has a place of its own, and one sum below that digit rounds it.
-//! With the place of the number added, what is kept is the code without its sign.
+//! Numbers of at most 24 digits as codes of a storage format without infinities and NaNs, from bits to bits: with the
+//! place of the number added, what is kept of its significand (`fast_bits::words`) is the code without its sign.
 
 ghost use Rattle.std.specs.Prelude.{◌≡◌, ◌⊎◌, ◌+◌, ◌-◌, ◌*◌, ◌/◌, ◌%◌, ◌^◌, ◌<◌, ◌≤◌, min, pos, negsuc, ◌-ℤ◌, ◌≤ℤ◌};
 ghost use Rattle.std.specs.Prelude.{false, not, eqb, ltb, if◌then◌else◌, IsTrue};
@@ -11,16 +10,13 @@ ghost use Rattle.rustc_apfloat.specs.Layout.{datum_of};
 ghost use Rattle.rustc_apfloat.specs.Types.{constants_of, format_of, layout_of};
 ghost use Rattle.small_formats.specs.Conversions.{IsInto};
 ghost use Rattle.small_formats.specs.Types.{constants_of as storage_constants_of};
-ghost use Rattle.apfloat_arrays.specs.stored.NumberCodes.{IsCodeSide, IsWordSource, biased_of, is_minus};
+ghost use Rattle.apfloat_arrays.specs.stored.NumberCodes.{IsWordSource, biased_of, is_minus};
 ghost use Rattle.apfloat_arrays.specs.stored.NumberCodes.{significand_of};
 
-use crate::stored::sides::{CodePlan, CodeSide};
+use fast_bits::words::{WordPlan, round_word};
 use rustc_apfloat::ieee::{NonfiniteBehavior, Semantics};
 use rustc_apfloat::{Flags, Status, StatusAnd};
 use small_formats::StorageFormat;
-
-/// How many places a significand is moved up, less one for each that the number is below the least normal one.
-const ROOM: u32 = 32;
 
 /// Whether the numbers of `S` have at most 24 digits and an implied integer bit.
 #[inline(always)]
@@ -73,10 +69,10 @@ pub(crate) fn is_word_source<S: Semantics, F: StorageFormat>() -> bool
 pub(crate) fn digits_below<S: Semantics, F: StorageFormat>() -> u32
     requires { IsWordSource (constants_of S.Semantics) (storage_constants_of F.StorageFormat) }
     ensures is { result ≡ S.PRECISION - F.PRECISION + 32 }
-    ensures some { 1 ≤ result }
+    ensures some { 32 ≤ result }
     ensures most { result ≤ 56 }
 {
-    (S::PRECISION - F::PRECISION) as u32 + ROOM
+    (S::PRECISION - F::PRECISION) as u32 + 32
 }
 
 /// The biased exponent.
@@ -134,51 +130,6 @@ fn first_place<S: Semantics, F: StorageFormat>() -> u32
     (F::MIN_EXP - S::MIN_EXP) as u32
 }
 
-/// How far a place is above another one.
-#[inline(always)]
-fn above(place: u32, first: u32) -> u32
-    ensures { result ≡ place - first }
-{
-    place.saturating_sub(first)
-}
-
-/// What the mode does with numbers of this sign.
-#[inline(always)]
-fn side_for(plan: CodePlan, negative: bool) -> CodeSide
-    ensures { IsCodeSide plan.low plan.round negative result }
-{
-    if negative {
-        plan.negative
-    } else {
-        plan.positive
-    }
-}
-
-/// The digits of a number, the last kept one at a place of its own.
-#[inline(always)]
-fn digits_at(significand: u32, place: u32, first: u32) -> u64
-    requires { significand < 2 ^ 24 }
-    ensures is { result ≡ significand * 2 ^ (32 - min (first - place) 32) }
-    ensures below { result < 2 ^ 56 }
-{
-    u64::from(significand) << (ROOM - above(first, place).min(ROOM))
-}
-
-/// What is kept, moved up where the mode rounds up.
-#[inline(always)]
-fn rounded(low: u32, side: CodeSide, digits: u64) -> u32
-    requires some { 32 ≤ low }
-    requires most { low ≤ 56 }
-    requires digits { digits < 2 ^ 56 }
-    requires always { side.always < 2 ^ low }
-    requires one { side.if_odd ≤ 1 }
-    ensures is { result ≡ (digits + (side.always + bit_and (digits / 2 ^ low) side.if_odd)) / 2 ^ low }
-    ensures below { result ≤ 2 ^ 25 }
-{
-    let one = (digits >> low) & side.if_odd;
-    ((digits + (side.always + one)) >> low) as u32
-}
-
 /// What a place adds to a code.
 #[inline(always)]
 fn placed<F: StorageFormat>(place: u32) -> u32
@@ -187,15 +138,6 @@ fn placed<F: StorageFormat>(place: u32) -> u32
     ensures below { result < 2 ^ 15 }
 {
     place << (F::PRECISION - 1)
-}
-
-/// Whether there are no digits below the last kept one.
-#[inline(always)]
-fn is_exact(low: u32, digits: u64) -> bool
-    requires { low ≤ 56 }
-    ensures { result ≡ eqb (digits % 2 ^ low) 0 }
-{
-    digits % (1_u64 << low) == 0
 }
 
 /// How many codes have no sign.
@@ -267,7 +209,7 @@ fn status_of<F: StorageFormat>(leads_out: bool, index: u32, exact: bool) -> Stat
 /// The code of a number, rounded once.
 #[inline(always)]
 pub(crate) fn store_number<S: Semantics, F: StorageFormat>(
-    plan: CodePlan,
+    plan: WordPlan,
     bits: u32,
 ) -> StatusAnd<u8>
     requires read { S.PRECISION < S.BITS }
@@ -285,12 +227,11 @@ pub(crate) fn store_number<S: Semantics, F: StorageFormat>(
 {
     let biased = biased_in::<S>(bits);
     let significand = significand_in::<S>(bits, biased);
-    let place = above(biased, 1);
+    let place = biased.saturating_sub(1);
     let first = first_place::<S, F>();
     let negative = is_minus_in::<S>(bits);
-    let side = side_for(plan, negative);
-    let digits = digits_at(significand, place, first);
-    let index = rounded(plan.low, side, digits) + placed::<F>(above(place, first));
-    let status = status_of::<F>(side.leads_out, index, is_exact(plan.low, digits));
+    let rounded = round_word(plan, negative, significand, place, first);
+    let index = rounded.kept + placed::<F>(place.saturating_sub(first));
+    let status = status_of::<F>(rounded.leads_out, index, rounded.exact);
     status.and(code_of::<F>(negative, index))
 }

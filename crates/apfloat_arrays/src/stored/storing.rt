@@ -103,7 +103,7 @@ impl StoredFormat {
         }
     }
 
-    /// The same, where only finite values are wanted.
+    /// `treated` by `Overflow::Finite`: infinities and, if `nans` says so, NaNs become the largest number too.
     fn made_finite(
         self,
         nans: FiniteNan,

@@ -29,7 +29,8 @@ use Rattle.apfloat_rounding.proofs.CutRests.{loss_some, loss_zero, picked_if_mov
 use Rattle.fast_bits.specs.declared.lanes.lanes.Lane.{Lane}
 use Rattle.fast_bits.specs.lanes.Lanes.{IsRounded, finished, flag_if, flags_of}
 use Rattle.fast_bits.specs.lanes.Scaled.{IsReachedLane, IsScaled}
-use Rattle.fast_bits.specs.lanes.Sides.{greatest_code, rounded_by}
+use Rattle.fast_bits.specs.Addends.{rounded_by}
+use Rattle.fast_bits.specs.lanes.Sides.{greatest_code}
 use Rattle.fast_bits.specs.lanes.Targets.{has_no_sign, is_ieee, largest_code, signed_code}
 use Rattle.fast_bits.proofs.lanes_lemmas.Interchanges.{spans}
 use Rattle.fast_bits.proofs.lanes_lemmas.Codes.{code_encoded, past_by_code}

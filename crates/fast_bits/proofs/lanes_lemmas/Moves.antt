@@ -39,7 +39,7 @@ abbrev pub Carries : ℕ → ℕ → ℕ → Bool → Type 0
 Carries half rest added true = 2 * half ≤ rest + added
 Carries half rest added false = rest + added < 2 * half
 
--- by the four losses
+-- what is added carries as the mode says, if it does for each of the four losses
 module _ (mode : Round) (negative : Bool) (rest half last : ℕ) (some : 0 < half) where
   abbrev Said : Loss → Type 0
   Said loss = Carries half rest (added_to mode negative half last) (rounds_up mode negative loss (eqb (last % 2) 1))
@@ -123,7 +123,7 @@ next_by kept rest added unit true some short reaches =
 next_by kept rest added unit false some short stays =
     mul-add-div_right some kept (rest + added) ∙ ap (λ (x : ℕ). kept + x) (div-eq_of_lt stays) ∙ omega arith
 
--- at most all digits of the rest are added, so nothing carries twice
+-- at most a whole unit of the last kept digit, 2 * half, is added, so it carries at most once
 added_most : (mode : Round) (negative : Bool) (half last : ℕ) → 0 < half
     → added_to mode negative half last ≤ 2 * half
 added_most NearestTiesToEven negative half last some = omega (arith, some)
@@ -134,7 +134,7 @@ added_most TowardPositive false half last some = omega (arith, some)
 added_most TowardNegative true half last some = omega (arith, some)
 added_most TowardNegative false half last some = omega (arith, some)
 
--- the two ways to say it
+-- `Carries`, as a condition that `next_by` takes
 as_cond : (half rest added : ℕ) (up : Bool) → Carries half rest added up
     → cond up (2 * half ≤ rest + added) (rest + added < 2 * half)
 as_cond half rest added true h = h
@@ -177,8 +177,9 @@ addend_rounds low mode negative always if_odd some always_is odd_is t =
     omega (arith, always_is, last) in
     ap (λ (n : ℕ). (t + n) / 2 ^ low) added ∙ rounded_is mode negative t low some
 
--- less than all digits of the rest are added, but for the one that is missing
-pub added_below : (mode : Round) (negative : Bool) (half : ℕ) → 0 < half → added_for mode negative half < 2 * half
+-- fewer digits than the rest can have are added
+pub added_below : (mode : Round) (negative : Bool) (half : ℕ) → 0 < half
+    → added_for mode negative half + (2 ^ odd_for mode - 1) < 2 * half
 added_below NearestTiesToEven negative half some = omega (arith, some)
 added_below NearestTiesToAway negative half some = omega (arith, some)
 added_below TowardZero negative half some = omega (arith, some)
@@ -186,3 +187,10 @@ added_below TowardPositive true half some = omega (arith, some)
 added_below TowardPositive false half some = omega (arith, some)
 added_below TowardNegative true half some = omega (arith, some)
 added_below TowardNegative false half some = omega (arith, some)
+
+pub odd_most : (mode : Round) → 2 ^ odd_for mode - 1 ≤ 1
+odd_most NearestTiesToEven = omega arith
+odd_most NearestTiesToAway = omega arith
+odd_most TowardZero = omega arith
+odd_most TowardPositive = omega arith
+odd_most TowardNegative = omega arith

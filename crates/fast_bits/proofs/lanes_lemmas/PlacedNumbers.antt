@@ -4,7 +4,7 @@ use Rattle.apfloat_model.specs.declared.kinds.Round.{Round}
 use Rattle.apfloat_model.specs.rounding.Enclosure.{rounds_up}
 use Rattle.apfloat_model.proofs.general.Powers.{twice_half}
 use Rattle.apfloat_rounding.specs.Cuts.{loss_at}
-use Rattle.fast_bits.specs.lanes.Sides.{rounded_by}
+use Rattle.fast_bits.specs.Addends.{rounded_by}
 use Rattle.fast_bits.proofs.lanes_lemmas.ScaledNumbers.{sum_cut}
 
 moved_apart : (up : Bool) (base kept : ℕ)

@@ -69,6 +69,17 @@ sum_cut s low precision place =
           ∙ add-mul-mod_self_right s (place * 2 ^ (precision - 1)) (2 ^ low),
     )
 
+-- a number rounded to odd has no more digits than the one that is cut
+odd_digits : (digits cut m : ℕ) → m < 2 ^ (digits + 1 + cut) → odd_quotient m (2 ^ cut) < 2 ^ (digits + 1)
+odd_digits digits cut m fits =
+    let all : 2 ^ (digits + 1 + cut) ≡ 2 ^ (digits + 1) * 2 ^ cut = pow-add 2 (digits + 1) cut in
+    let even : 2 ^ (digits + 1) ≡ 2 * 2 ^ digits =
+    let one_more : 1 + digits ≡ digits + 1 = omega arith in
+    ap (λ (x : ℕ). 2 ^ x) (sym one_more) ∙ pow-add 2 1 digits in
+    let below : m < 2 * 2 ^ digits * 2 ^ cut =
+    subst (λ (x : ℕ). m < x) (all ∙ ap (λ (x : ℕ). x * 2 ^ cut) even) fits in
+    subst (λ (x : ℕ). odd_quotient m (2 ^ cut) < x) (sym even) (odd_below m (2 ^ cut) (2 ^ digits) (pow_pos cut) below)
+
 -- the place and the number of places moved up balance the two scales
 scaled_at : (precision more cut low w place e to from m : ℕ) → 3 ≤ precision → 1 ≤ more
     → w + (more + 1) ≤ low
@@ -83,16 +94,7 @@ scaled_at precision more cut low w place e to from m precise guarded room balanc
     let amount = m * 2 ^ e * 2 ^ to in
     let cut_sum = sum_cut s low precision place in
     let unit : 0 < 2 ^ cut = pow_pos cut in
-    -- at most precision + more + 1 digits
-    let digits : 2 ^ (precision + more + 1 + cut) ≡ 2 ^ (precision + more + 1) * 2 ^ cut =
-    pow-add 2 (precision + more + 1) cut in
-    let even : 2 ^ (precision + more + 1) ≡ 2 * 2 ^ (precision + more) =
-    let one_more : 1 + (precision + more) ≡ precision + more + 1 = omega arith in
-    ap (λ (x : ℕ). 2 ^ x) (sym one_more) ∙ pow-add 2 1 (precision + more) in
-    let below : m < 2 * 2 ^ (precision + more) * 2 ^ cut =
-    subst (λ (x : ℕ). m < x) (digits ∙ ap (λ (x : ℕ). x * 2 ^ cut) even) fits in
-    let odd_fits : o < 2 ^ (precision + more + 1) =
-    subst (λ (x : ℕ). o < x) (sym even) (odd_below m (2 ^ cut) (2 ^ (precision + more)) unit below) in
+    let odd_fits = odd_digits (precision + more) cut m fits in
     let moved : 2 ^ (precision + more + 1 + w) ≡ 2 ^ (precision + more + 1) * 2 ^ w =
     pow-add 2 (precision + more + 1) w in
     let s_fits : s < 2 ^ (precision + more + 1 + w) =
@@ -140,15 +142,7 @@ scaled_far precision more cut low e to from m precise room some fits far =
     let o = odd_quotient m (2 ^ cut) in
     let unit : 0 < 2 ^ cut = pow_pos cut in
     let amount = m * 2 ^ e * 2 ^ to in
-    let digits : 2 ^ (precision + more + 1 + cut) ≡ 2 ^ (precision + more + 1) * 2 ^ cut =
-    pow-add 2 (precision + more + 1) cut in
-    let even : 2 ^ (precision + more + 1) ≡ 2 * 2 ^ (precision + more) =
-    let one_more : 1 + (precision + more) ≡ precision + more + 1 = omega arith in
-    ap (λ (x : ℕ). 2 ^ x) (sym one_more) ∙ pow-add 2 1 (precision + more) in
-    let below : m < 2 * 2 ^ (precision + more) * 2 ^ cut =
-    subst (λ (x : ℕ). m < x) (digits ∙ ap (λ (x : ℕ). x * 2 ^ cut) even) fits in
-    let odd_fits : o < 2 ^ (precision + more + 1) =
-    subst (λ (x : ℕ). o < x) (sym even) (odd_below m (2 ^ cut) (2 ^ (precision + more)) unit below) in
+    let odd_fits = odd_digits (precision + more) cut m fits in
     let half : 2 ^ (precision + more + 1) ≤ 2 ^ (low - 1) = pow-le-pow_right two_pos (omega (arith, room)) in
     let short : o < 2 ^ (low - 1) = omega (arith, odd_fits, half) in
     let twice : 2 ^ (low - 1) ≤ 2 ^ low = pow-le-pow_right two_pos (omega arith) in

@@ -142,6 +142,7 @@ with_inexact lane inexact =
       is_nan = lane.is_nan;
     }
 
+-- the lane of a finite single: its quanta are 2 ^ -149, so it is quanta * 2 ^ f.scale / 2 ^ 149 quanta of f
 module _ (saturates : Bool) (single : Format) (read : Layout) (f : Format) (layout : Layout) (mode : Round)
     (negative : Bool)
     (quanta bits : ℕ) (lane : Lane) (number : datum_of single read bits ≡ finite negative quanta)

@@ -178,12 +178,8 @@ fn convert_number(plan: Plan, upper: u16, lower: u16) -> Lane
     } else {
         plan.positive
     };
-    let lane = finish(
-        plan.target,
-        side,
-        negative,
-        scaled_to(plan.target, magnitude, lower),
-    );
+    let scaled = scaled_to(plan.target, magnitude, lower);
+    let lane = finish(plan.target, side, negative, scaled);
     let zero = (magnitude == 0) & (lower == 0);
     Lane {
         inexact: lane.inexact | loses_sign(plan.target, negative, zero),

@@ -2,51 +2,30 @@
 
 ghost use Rattle.std.specs.Prelude.{◌≡◌, ℕ, ◌+◌, ◌-◌, ◌*◌, ◌^◌, ◌<◌, ◌≤◌, ◌↔◌, Bool, true, false, if◌then◌else◌, IsTrue};
 ghost use Rattle.apfloat_model.specs.declared.kinds.Round.{Round as Mode};
+ghost use Rattle.fast_bits.specs.Addends.{IsAddendOf};
 ghost use Rattle.fast_bits.specs.lanes.At.{format_at, layout_at};
-ghost use Rattle.fast_bits.specs.lanes.Sides.{IsAddendOf, IsSideOf, LeadsPast};
+ghost use Rattle.fast_bits.specs.lanes.Sides.{IsSideOf, LeadsPast};
 ghost use Rattle.fast_bits.specs.lanes.Targets.{IsShortFormat};
 
+use crate::addends::addend_of;
 use crate::lanes::constants::{Addend, Side, Target};
 use crate::lanes::plans::{Plan, ShortPlan};
 use crate::lanes::targets::largest_code;
 use apfloat_model::Round;
 use apfloat_rounding::rounding::leads_past;
 
-/// What a directed mode adds, if it rounds away from zero or toward it.
-#[inline(always)]
-fn directed(half: u32, away: bool) -> Addend
-    requires some { 1 ≤ half }
-    requires most { half ≤ 2 ^ 15 }
-    ensures always { result.always ≡ (if away then 2 * half - 1 else 0) }
-    ensures if_odd { result.if_odd ≡ 0 }
-{
-    Addend {
-        always: if away { 2 * half - 1 } else { 0 },
-        if_odd: 0,
-    }
-}
-
 /// What is added to numbers of this sign, with `low` digits below the last kept one.
 #[inline(always)]
-fn addend_of(low: u32, round: Round, negative: bool) -> Addend
+fn short_addend(low: u32, round: Round, negative: bool) -> Addend
     requires some { 1 ≤ low }
     requires most { low ≤ 16 }
-    ensures rounds { IsAddendOf low round negative result }
+    ensures rounds { IsAddendOf low round negative result.always result.if_odd }
     ensures below { low ≤ 15 → result.always < 2 ^ 15 }
 {
-    let half = 1 << (low - 1);
-    match round {
-        Round::NearestTiesToEven => Addend {
-            always: half - 1,
-            if_odd: 1,
-        },
-        Round::NearestTiesToAway => Addend {
-            always: half,
-            if_odd: 0,
-        },
-        Round::TowardZero => directed(half, false),
-        Round::TowardPositive => directed(half, !negative),
-        Round::TowardNegative => directed(half, negative),
+    let addend = addend_of(low, round, negative);
+    Addend {
+        always: addend.always as u32,
+        if_odd: addend.if_odd as u32,
     }
 }
 
@@ -61,7 +40,7 @@ fn side_of(low: u32, target: Target, saturates: bool, round: Round, negative: bo
     let past = leads_past(round, negative);
     let largest = largest_code(target);
     Side {
-        addend: addend_of(low, round, negative),
+        addend: short_addend(low, round, negative),
         greatest: if past & !saturates {
             largest + 1
         } else {

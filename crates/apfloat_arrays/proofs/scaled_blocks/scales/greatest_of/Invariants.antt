@@ -6,7 +6,7 @@ use Rattle.small_formats.specs.blocks.Magnitudes.{are_finite, greatest_magnitude
 use Rattle.apfloat_arrays.specs.scaled_blocks.Values.{values_in}
 use Rattle.apfloat_arrays.proofs.scaled_blocks.scales.greatest_of.Given as goal
 
--- of the values before the index
+-- the values before the index are finite; `greatest` is the greatest magnitude of them, and a value of the format
 abbrev pub invariant-loop-index : goal.invariant-loop-index
 invariant-loop-index g l =
     (are_finite (values_in (constants_of g.S.Semantics) l.width l.bytes l.first l.index) ≡ true)

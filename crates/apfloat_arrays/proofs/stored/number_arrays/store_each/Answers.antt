@@ -24,5 +24,5 @@ loop-index-preserved g c =
     (subst
     (λ (m : Round). IsStoredIn c.args.overflow (constants_of g.S.Semantics) c.args.target m
     (value_at c.args.width c.loop-index.index c.args.input.now) c.store_one.new.place c.store_one.result)
-    c.code_plan-plan.ensures.round c.store_one.ensures)
+    c.word_plan-plan.ensures.round c.store_one.ensures)
     c.loop-index.invariant)

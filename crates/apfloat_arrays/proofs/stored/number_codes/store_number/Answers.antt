@@ -7,7 +7,7 @@ use Rattle.apfloat_model.specs.formats.Datum.{Datum}
 use Rattle.rustc_apfloat.specs.Flags.{bits_of}
 use Rattle.apfloat_model.specs.rounding.Rounding.{leads_out}
 use Rattle.rustc_apfloat.specs.Types.{constants_of, format_of}
-use Rattle.fast_bits.specs.lanes.Sides.{rounded_by}
+use Rattle.fast_bits.specs.Addends.{rounded_by}
 use Rattle.small_formats.specs.Conversions.{IsInto}
 use Rattle.small_formats.specs.Storage.{format_with}
 use Rattle.small_formats.specs.Types.{constants_of as storage_constants_of}
@@ -17,8 +17,8 @@ use Rattle.apfloat_arrays.proofs.stored_lemmas.Numbers.{IsCodeOf, IsStatusOf, co
 use Rattle.apfloat_arrays.proofs.stored_lemmas.Numbers.{number_read, overflow_only_past}
 use Rattle.apfloat_arrays.proofs.stored.number_codes.store_number.Goals as goal
 
-pub digits_at-digits-requires : goal.digits_at-digits-requires
-digits_at-digits-requires g c =
+pub round_word-rounded-requires : goal.round_word-rounded-requires
+round_word-rounded-requires g c =
     let digits = c.requires.source.digits in
     let below = c.significand_in-significand.ensures.below in
     let most : 2 ^ g.S.Semantics.PRECISION ≤ 2 ^ 24 = pow-le-pow_right two_pos digits in
@@ -36,37 +36,35 @@ returns g c =
     let low = c.args.plan.low in
     let mode = c.args.plan.round in
     let negative = is_minus k c.args.bits in
-    let side = c.side_for-side.result in
-    let index = c.rounded.result + c.placed.result in
+    let made = c.round_word-rounded in
+    let index = made.result.kept + c.placed.result in
     let code = c.code_of.result in
     let status = bits_of c.status_of-status.result in
     let t : ℕ = m * 2 ^ (32 - min (first - e) 32) in
-    let place : c.above-place.result ≡ biased_of k c.args.bits - 1 =
-    c.above-place.ensures ∙ ap (λ (n : ℕ). n - 1) c.biased_in-biased.ensures.is in
-    let digits : c.digits_at-digits.result ≡ m * 2 ^ (32 - min (first - e) 32) =
-    c.digits_at-digits.ensures.is
-    ∙ ap (λ (n : ℕ). n * 2 ^ (32 - min (first - c.above-place.result) 32)) c.significand_in-significand.ensures.is
+    let place : c.saturating_sub-place.result ≡ biased_of k c.args.bits - 1 =
+    c.saturating_sub-place.ensures ∙ ap (λ (n : ℕ). n - 1) c.biased_in-biased.ensures.is in
+    let digits : c.significand_in-significand.result * 2 ^ (32 - min (first - c.saturating_sub-place.result) 32)
+    ≡ m * 2 ^ (32 - min (first - e) 32) =
+    ap (λ (n : ℕ). n * 2 ^ (32 - min (first - c.saturating_sub-place.result) 32))
+    c.significand_in-significand.ensures.is
     ∙ ap (λ (n : ℕ). m * 2 ^ (32 - min (first - n) 32)) place in
-    let is_side = c.side_for-side.ensures in
     let negative_is : c.is_minus_in-negative.result ≡ is_minus k c.args.bits = c.is_minus_in-negative.ensures in
-    let rounded : c.rounded.result ≡ rounded_by low mode negative t =
-    c.rounded.ensures.is ∙ is_side.rounds c.digits_at-digits.result
-    ∙ ap (λ (b : Bool). rounded_by low mode b c.digits_at-digits.result) negative_is
-    ∙ ap (λ (n : ℕ). rounded_by low mode negative n) digits in
+    let rounded : made.result.kept ≡ rounded_by low mode negative t =
+    made.ensures.kept ∙ (λ i. rounded_by low mode (negative_is i) (digits i)) in
     let placed : c.placed.result ≡ (e - first) * 2 ^ (s.precision - 1) =
     c.placed.ensures.is
-    ∙ ap (λ (n : ℕ). n * 2 ^ (s.precision - 1)) (c.above.ensures ∙ ap (λ (n : ℕ). n - first) place) in
+    ∙ ap (λ (n : ℕ). n * 2 ^ (s.precision - 1)) (c.saturating_sub.ensures ∙ ap (λ (n : ℕ). n - first) place) in
     let index_is : index ≡ rounded_by low mode negative t + (e - first) * 2 ^ (s.precision - 1) =
     (λ i. rounded i + placed i) in
-    let exact : c.is_exact.result ≡ eqb (t % 2 ^ low) 0 =
-    c.is_exact.ensures ∙ ap (λ (n : ℕ). eqb (n % 2 ^ low) 0) digits in
-    let out : side.leads_out ≡ leads_out mode negative = is_side.out ∙ ap (leads_out mode) negative_is in
+    let exact : made.result.exact ≡ eqb (t % 2 ^ low) 0 =
+    made.ensures.exact ∙ ap (λ (n : ℕ). eqb (n % 2 ^ low) 0) digits in
+    let out : made.result.leads_out ≡ leads_out mode negative = made.ensures.out ∙ ap (leads_out mode) negative_is in
     let code_is : IsCodeOf s negative index code = record {
       is = c.code_of.ensures
           ∙ ap (λ (b : Bool). cond b (2 ^ (s.bits - 1)) 0 + min index (2 ^ (s.bits - 1) - 1)) negative_is;
     } in
-    let status_is : IsStatusOf s side.leads_out index (eqb (t % 2 ^ low) 0) status =
-    subst (λ (b : Bool). IsStatusOf s side.leads_out index b status) exact
+    let status_is : IsStatusOf s made.result.leads_out index (eqb (t % 2 ^ low) 0) status =
+    subst (λ (b : Bool). IsStatusOf s made.result.leads_out index b status) exact
     (record { is = c.status_of-status.ensures }) in
     let from_scale = scale_is k g.S.Semantics.lawful.parameters in
     let two = law.precision_low in
@@ -81,8 +79,8 @@ returns g c =
     let fits : m < 2 ^ k.precision =
     subst (λ (n : ℕ). n < 2 ^ k.precision) c.significand_in-significand.ensures.is
     c.significand_in-significand.ensures.below in
-    let into = number_into s (format_of g.S.Semantics) mode negative side.leads_out k.precision low first e m index code
-    status law more fits (normal_full k c.args.bits) scales c.requires.low index_is out code_is status_is in
+    let into = number_into s (format_of g.S.Semantics) mode negative made.result.leads_out k.precision low first e m
+    index code status law more fits (normal_full k c.args.bits) scales c.requires.low index_is out code_is status_is in
     let read = number_read k c.args.bits source.nonfinite source.implied c.requires.number in
     rw (c.and.ensures.value, c.and.ensures.status)
     (record {
@@ -90,5 +88,7 @@ returns g c =
           subst
           (λ (x : Datum). IsInto s (format_of g.S.Semantics) mode x code status (not (eqb status 0))) (sym read) into;
       below = code_below s negative index code (omega (arith, two, above)) code_is;
-      past = overflow_only_past s negative side.leads_out (eqb (t % 2 ^ low) 0) index code status code_is status_is;
+      past =
+          overflow_only_past s negative made.result.leads_out (eqb (t % 2 ^ low) 0) index code status code_is
+          status_is;
     })

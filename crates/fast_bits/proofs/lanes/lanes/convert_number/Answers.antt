@@ -28,10 +28,10 @@ returns c =
       | then-negative w ↦ rw (w.side-is, w.if-negative.true) plan.negative_is
       | else-negative w ↦ rw (w.side-is, ne_eqb (upper / 2 ^ 15) 1 w.if-negative.false) plan.positive_is
     ] in
-    let t_is = c.scaled_to.result.kept * 2 ^ 16 + c.scaled_to.result.rest in
+    let t_is = c.scaled_to-scaled.result.kept * 2 ^ 16 + c.scaled_to-scaled.result.rest in
     let reached : IsReachedLane f t_is (significand_of a * 2 ^ place_of a * 2 ^ f.scale) (2 ^ 149) =
     subst (λ (n : ℕ). IsReachedLane f t_is (n * 2 ^ f.scale) (2 ^ 149))
-    (λ i. word.significand i * 2 ^ word.place i) c.scaled_to.ensures.reached in
+    (λ i. word.significand i * 2 ^ word.place i) c.scaled_to-scaled.ensures.reached in
     let precise = t.lawful.precise in
     let magnitude = word.magnitude in
     let low = c.ranges.lower.fits in
