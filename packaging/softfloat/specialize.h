@@ -95,7 +95,8 @@
 /* ---- signaling NaNs, by their bits */
 
 #define softfloat_isSigNaNF16UI(a) ((((a) & 0x7e00) == 0x7c00) && ((a) & 0x1ff))
-#define softfloat_isSigNaNF32UI(a) ((((a) & UINT32_C(0x7fc00000)) == UINT32_C(0x7f800000)) && ((a) & UINT32_C(0x3fffff)))
+#define softfloat_isSigNaNF32UI(a) \
+    ((((a) & UINT32_C(0x7fc00000)) == UINT32_C(0x7f800000)) && ((a) & UINT32_C(0x3fffff)))
 #define softfloat_isSigNaNF64UI(a) \
     ((((a) & UINT64_C(0x7ff8000000000000)) == UINT64_C(0x7ff0000000000000)) && ((a) & UINT64_C(0x7ffffffffffff)))
 #define softfloat_isSigNaNExtF80UI(a64, a0) \

@@ -1,5 +1,6 @@
 -- What the codes of a format of P3109 mean, and where 1 is.
-use Rattle.std.proofs.Common.{◌≡◌, ℕ, zero, suc, ◌+◌, ◌-◌, ◌*◌, ◌/◌, ◌%◌, ◌^◌, ◌<◌, ◌≤◌, Bool, true, false, cond, ◌&&◌, eqb, leb, ltb}
+use Rattle.std.proofs.Common.{◌≡◌, ℕ, zero, suc, ◌+◌, ◌-◌, ◌*◌, ◌/◌, ◌%◌, ◌^◌, ◌<◌}
+use Rattle.std.proofs.Common.{◌≤◌, Bool, true, false, cond, ◌&&◌, eqb, leb, ltb}
 use Rattle.std.proofs.Common.{sym, refl, ap, ◌∙◌, ⊎_elim, arith}
 use Rattle.std.proofs.Math.Nat.{add-mul-mod_self_right, mod-eq_of_lt}
 use Rattle.std.proofs.lemmas.Bool.{cases_lt, eq-eqb, eqb-true, false≢true, le-leb, le-ltb, lt-leb, lt-ltb, ne_eqb}
@@ -10,7 +11,9 @@ use Rattle.apfloat_model.specs.rounding.Rounding.{signed_quanta}
 use Rattle.apfloat_model.proofs.general.Powers.{twice_half}
 use Rattle.small_formats.specs.Codes.{point}
 use Rattle.p3109_formats.specs.Laws.{IsOneInTheMiddle}
-use Rattle.p3109_formats.specs.Projections.{IsProjection, Projection, bias, coded, exponent_bits, is_negative_code, largest_index, last_index, magnitude_of, nan_code, past_value, projected_datum, sign_bits, unsigned_codes}
+use Rattle.p3109_formats.specs.Projections.{IsProjection, Projection, bias, coded, exponent_bits, is_negative_code}
+use Rattle.p3109_formats.specs.Projections.{largest_index, last_index, magnitude_of, nan_code, past_value}
+use Rattle.p3109_formats.specs.Projections.{projected_datum, sign_bits, unsigned_codes}
 use Rattle.small_formats.proofs.CodesCompared.{not_below_number, zero_point}
 use Rattle.small_formats.proofs.Points.{high_point}
 

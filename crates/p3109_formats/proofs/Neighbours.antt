@@ -1,6 +1,8 @@
 -- The next values: their codes without a sign, with the sign of the number, are one more and one less.
-use Rattle.std.proofs.Common.{◌≡◌, ℕ, zero, suc, ◌+◌, ◌-◌, ◌*◌, ◌^◌, ◌<◌, ◌≤◌, Bool, true, false, cond, ◌&&◌, eqb, leb, ltb}
-use Rattle.std.proofs.Common.{sym, refl, ap, ◌∙◌, subst, ⊎_elim, arith, ℤ, pos, neg_ℤ, ◌+ℤ◌, ◌-ℤ◌, ◌≤ℤ◌, int_cmp, Some, None}
+use Rattle.std.proofs.Common.{◌≡◌, ℕ, zero, suc, ◌+◌, ◌-◌, ◌*◌, ◌^◌, ◌<◌, ◌≤◌, Bool}
+use Rattle.std.proofs.Common.{true, false, cond, ◌&&◌, eqb, leb, ltb}
+use Rattle.std.proofs.Common.{sym, refl, ap, ◌∙◌, subst, ⊎_elim, arith, ℤ, pos, neg_ℤ, ◌+ℤ◌}
+use Rattle.std.proofs.Common.{◌-ℤ◌, ◌≤ℤ◌, int_cmp, Some, None}
 use Rattle.std.specs.Prelude.{◌<ℤ◌}
 use Rattle.std.specs.declared.cmp.Ordering.{Ordering}
 use Rattle.std.specs.declared.cmp.Ordering.TheVariants.{Less}
@@ -13,7 +15,9 @@ use Rattle.apfloat_model.specs.arithmetic.Exact.{signed}
 use Rattle.apfloat_model.specs.formats.Datum.{Datum}
 use Rattle.apfloat_model.specs.order.Order.{compared}
 use Rattle.p3109_formats.specs.Laws.{AreNextValues, IsLess}
-use Rattle.p3109_formats.specs.Projections.{IsProjection, Projection, code_above, code_below, coded, is_negative_code, largest_index, last_index, magnitude_of, nan_code, projected_datum, sign_bits, unsigned_codes}
+use Rattle.p3109_formats.specs.Projections.{IsProjection, Projection, code_above, code_below, coded, is_negative_code}
+use Rattle.p3109_formats.specs.Projections.{largest_index, last_index, magnitude_of, nan_code, projected_datum}
+use Rattle.p3109_formats.specs.Projections.{sign_bits, unsigned_codes}
 use Rattle.p3109_formats.proofs.Codes.{IsCodedBy, all_codes, apart, four_codes, minus_code, nan_at, plain_code}
 use Rattle.p3109_formats.proofs.OneAnswer.{parts_of_code}
 use Rattle.p3109_formats.proofs.Order.{at_most_past, known_order, left_nan, right_nan}

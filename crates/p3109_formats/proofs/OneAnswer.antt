@@ -1,9 +1,11 @@
 -- Conversions into the formats of P3109 have one answer.
-use Rattle.std.proofs.Common.{◌≡◌, ℕ, zero, suc, ◌+◌, ◌-◌, ◌*◌, ◌^◌, ◌<◌, ◌≤◌, Bool, true, false, cond, not}
+use Rattle.std.proofs.Common.{◌≡◌, ℕ, zero, suc, ◌+◌, ◌-◌, ◌*◌, ◌^◌, ◌<◌, ◌≤◌, Bool}
+use Rattle.std.proofs.Common.{true, false, cond, not}
 use Rattle.std.proofs.Common.{◌&&◌, eqb, leb, ltb, sym, refl, ap, ◌∙◌, ⊎_elim, arith}
 use Rattle.std.specs.Bool.{MatchBool}
 use Rattle.std.proofs.Math.Nat.{mul-le-mul_right, mod-eq_of_lt}
-use Rattle.std.proofs.lemmas.Bool.{cases_eq, cases_lt, eq-eqb, eqb-true, false≢true, ltb-true, ne_eqb, MatchBool-at_false}
+use Rattle.std.proofs.lemmas.Bool.{cases_eq, cases_lt, eq-eqb, eqb-true, false≢true, ltb-true, ne_eqb}
+use Rattle.std.proofs.lemmas.Bool.{MatchBool-at_false}
 use Rattle.std.proofs.lemmas.Nat.{mod_below, pow_pos}
 use Rattle.apfloat_model.specs.declared.kinds.Round.{Round}
 use Rattle.apfloat_model.specs.formats.Datum.{Datum, finite, infinite, nan}
@@ -19,7 +21,10 @@ use Rattle.small_formats.specs.PicksBy.{IsCodePickBy, IsPointPickBy, index_by}
 use Rattle.p3109_formats.specs.Laws.{AreCodePicksPicks, IsProjectedOnce}
 use Rattle.p3109_formats.specs.ModeLaws.{AreProjectionsOfModes, IsProjectedByOnce}
 use Rattle.p3109_formats.specs.ModeConversions.{IsIntoProjectionBy, IsProjectedNumberBy}
-use Rattle.p3109_formats.specs.Projections.{IsCodeOf, IsCodePick, IsIntoProjection, IsPointPick, IsProjectedNumber, IsProjection, Projection, is_negative_code, largest_index, magnitude_of, nan_code, projected_datum, projected_format, projected_status, projected_value, sign_bits, unsigned_codes}
+use Rattle.p3109_formats.specs.Projections.{IsCodeOf, IsCodePick, IsIntoProjection, IsPointPick, IsProjectedNumber}
+use Rattle.p3109_formats.specs.Projections.{IsProjection, Projection, is_negative_code, largest_index, magnitude_of}
+use Rattle.p3109_formats.specs.Projections.{nan_code, projected_datum, projected_format, projected_status}
+use Rattle.p3109_formats.specs.Projections.{projected_value, sign_bits, unsigned_codes}
 use Rattle.small_formats.proofs.CodePicks.{code_picks_by}
 use Rattle.small_formats.proofs.ModesOnce.{pick_by_once}
 use Rattle.small_formats.proofs.OneAnswer.{AreSame, code_is}

@@ -1,6 +1,7 @@
 -- The order of values of P3109 is that of their codes without a sign, with the sign of the number: an infinity has the
 -- code past that of the largest number.
-use Rattle.std.proofs.Common.{◌≡◌, ℕ, ◌+◌, ◌^◌, ◌<◌, ◌≤◌, Bool, true, false, cond, eqb, ltb, ⊎_elim}
+use Rattle.std.proofs.Common.{◌≡◌, ℕ, ◌+◌, ◌^◌, ◌<◌, ◌≤◌, Bool, true, false, cond, eqb, ltb}
+use Rattle.std.proofs.Common.{⊎_elim}
 use Rattle.std.proofs.Common.{sym, refl, ap, ◌∙◌, arith, pos, neg_ℤ, int_cmp, Some, None}
 use Rattle.std.specs.declared.cmp.Ordering.{Ordering}
 use Rattle.std.specs.declared.cmp.Ordering.TheVariants.{Less, Equal, Greater}

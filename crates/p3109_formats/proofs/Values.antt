@@ -1,5 +1,6 @@
 -- What is delivered in a format of P3109, and what its codes become in other formats.
-use Rattle.std.proofs.Common.{◌≡◌, ℕ, ◌-◌, ◌*◌, ◌/◌, ◌^◌, ◌<◌, ◌≤◌, Bool, true, false, cond, not, ◌&&◌, eqb, ltb}
+use Rattle.std.proofs.Common.{◌≡◌, ℕ, ◌-◌, ◌*◌, ◌/◌, ◌^◌, ◌<◌, ◌≤◌, Bool, true, false}
+use Rattle.std.proofs.Common.{cond, not, ◌&&◌, eqb, ltb}
 use Rattle.std.proofs.Common.{sym, refl, ap, ◌∙◌, subst, arith}
 use Rattle.std.specs.Bool.{MatchBool}
 use Rattle.std.proofs.lemmas.Bool.{false≢true, le-ltb, lt-ltb, ne_eqb}
@@ -13,13 +14,15 @@ use Rattle.apfloat_model.specs.formats.Nan.{invalid_if, is_signaling_nan, nan_si
 use Rattle.apfloat_model.specs.declared.kinds.Category.TheVariants.{NaN, Normal, Zero}
 use Rattle.apfloat_model.specs.rounding.Negation.{negated}
 use Rattle.apfloat_model.specs.order.Classes.{category_of, is_negative, quanta_of}
-use Rattle.apfloat_model.specs.rounding.Rounding.{IsDelivered, inexact_bit, leads_out, ok_bits, signed_quanta, zero_sign}
+use Rattle.apfloat_model.specs.rounding.Rounding.{IsDelivered, inexact_bit, leads_out, ok_bits, signed_quanta}
+use Rattle.apfloat_model.specs.rounding.Rounding.{zero_sign}
 use Rattle.apfloat_model.proofs.order.Categories.{no_nan}
 use Rattle.small_formats.specs.Codes.{point}
 use Rattle.small_formats.specs.declared.ConversionRound.{ConversionRound}
 use Rattle.p3109_formats.specs.Picks.{IsProjectedAt}
 use Rattle.p3109_formats.specs.ModeConversions.{IsIntoProjectionBy, IsProjectedBy, IsProjectedNumberBy}
-use Rattle.p3109_formats.specs.Projections.{IsCodeOf, IsProjection, IsWithoutCode, Projection, largest_index, past_value, projected_datum, projected_format}
+use Rattle.p3109_formats.specs.Projections.{IsCodeOf, IsProjection, IsWithoutCode, Projection, largest_index}
+use Rattle.p3109_formats.specs.Projections.{past_value, projected_datum, projected_format}
 use Rattle.small_formats.proofs.CodesCompared.{not_below_number}
 use Rattle.p3109_formats.proofs.Codes.{four_codes}
 

@@ -1,6 +1,7 @@
 -- The formats of IEEE P3109: a width, a precision, with or without a sign, with or without infinities. They have one
 -- zero and one NaN.
-use Rattle.std.specs.Prelude.{◌≡◌, ℕ, ◌+◌, ◌-◌, ◌*◌, ◌%◌, ◌^◌, ◌<◌, ◌≤◌, Bool, true, false, not, ◌&&◌, eqb, ltb, leb, if◌then◌else◌}
+use Rattle.std.specs.Prelude.{◌≡◌, ℕ, ◌+◌, ◌-◌, ◌*◌, ◌%◌, ◌^◌, ◌<◌, ◌≤◌, Bool}
+use Rattle.std.specs.Prelude.{true, false, not, ◌&&◌, eqb, ltb, leb, if◌then◌else◌}
 use Rattle.std.specs.Bool.{MatchBool}
 use Rattle.apfloat_model.specs.declared.kinds.NonfiniteBehavior.TheVariants.{NanNegativeZero}
 use Rattle.apfloat_model.specs.declared.kinds.Round.{Round}

@@ -1,6 +1,7 @@
 //! A value of a format of IEEE P3109.
 
-ghost use Rattle.std.specs.Prelude.{◌≡◌, ◌+◌, ◌%◌, ◌^◌, ◌<◌, ◌≤◌, if◌then◌else◌, eqb, true, false};
+ghost use Rattle.std.specs.Prelude.{◌≡◌, ◌+◌, ◌%◌, ◌^◌, ◌<◌, ◌≤◌, if◌then◌else◌, eqb};
+ghost use Rattle.std.specs.Prelude.{true, false};
 ghost use Rattle.apfloat_model.specs.declared.kinds.NonfiniteBehavior.TheVariants.{NanNegativeZero};
 ghost use Rattle.apfloat_model.specs.arithmetic.Exact.{signed};
 ghost use Rattle.apfloat_model.specs.formats.Datum.{nan};
@@ -9,7 +10,9 @@ ghost use Rattle.apfloat_model.specs.order.Order.{compared};
 ghost use Rattle.apfloat_model.specs.rounding.Rounding.{signed_quanta};
 ghost use Rattle.small_formats.specs.Codes.{point};
 ghost use Rattle.p3109_formats.specs.Types.{projection_of};
-ghost use Rattle.p3109_formats.specs.Projections.{code_above, code_below, coded, is_negative_code, largest_index, last_index, magnitude_of, nan_code, past_value, projected_datum, unsigned_codes};
+ghost use Rattle.p3109_formats.specs.Projections.{code_above, code_below, coded, is_negative_code, largest_index};
+ghost use Rattle.p3109_formats.specs.Projections.{last_index, magnitude_of, nan_code, past_value, projected_datum};
+ghost use Rattle.p3109_formats.specs.Projections.{unsigned_codes};
 
 use crate::projection::Projection;
 use apfloat_base::Category;

@@ -1,5 +1,6 @@
 -- Numbers that become codes: a significand that is moved up, cut and rounded.
-use Rattle.std.proofs.Common.{◌≡◌, ℕ, ◌+◌, ◌-◌, ◌*◌, ◌/◌, ◌%◌, ◌^◌, ◌<◌, ◌≤◌, ◌⊎◌, min, Bool, true, false, cond, not}
+use Rattle.std.proofs.Common.{◌≡◌, ℕ, ◌+◌, ◌-◌, ◌*◌, ◌/◌, ◌%◌, ◌^◌, ◌<◌, ◌≤◌}
+use Rattle.std.proofs.Common.{◌⊎◌, min, Bool, true, false, cond, not}
 use Rattle.std.proofs.Common.{eqb, leb, ltb, refl, sym, ap, ◌∙◌, subst, inl, inr, ⊎_elim, arith, lit≤}
 use Rattle.std.specs.Bool.{MatchBool}
 use Rattle.std.specs.Int.RustNames.{bit_and}

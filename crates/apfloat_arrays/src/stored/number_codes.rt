@@ -1,7 +1,8 @@
 //! Numbers of at most 24 digits as codes of a storage format without infinities and NaNs, from bits to bits: with the
 //! place of the number added, what is kept of its significand (`fast_bits::words`) is the code without its sign.
 
-ghost use Rattle.std.specs.Prelude.{◌≡◌, ◌⊎◌, ◌+◌, ◌-◌, ◌*◌, ◌/◌, ◌%◌, ◌^◌, ◌<◌, ◌≤◌, min, pos, negsuc, ◌-ℤ◌, ◌≤ℤ◌};
+ghost use Rattle.std.specs.Prelude.{◌≡◌, ◌⊎◌, ◌+◌, ◌-◌, ◌*◌, ◌/◌, ◌%◌, ◌^◌};
+ghost use Rattle.std.specs.Prelude.{◌<◌, ◌≤◌, min, pos, negsuc, ◌-ℤ◌, ◌≤ℤ◌};
 ghost use Rattle.std.specs.Prelude.{false, not, eqb, ltb, if◌then◌else◌, IsTrue};
 ghost use Rattle.std.specs.Int.RustNames.{bit_and};
 ghost use Rattle.apfloat_model.specs.declared.kinds.NonfiniteBehavior.TheVariants.{IEEE754};

@@ -1,4 +1,5 @@
-use Rattle.std.proofs.Common.{◌≡◌, ℕ, ◌+◌, ◌-◌, ◌*◌, ◌%◌, ◌^◌, ◌<◌, ◌≤◌, Bool, cond, eqb, not, min, sym, ap, ◌∙◌}
+use Rattle.std.proofs.Common.{◌≡◌, ℕ, ◌+◌, ◌-◌, ◌*◌, ◌%◌, ◌^◌, ◌<◌, ◌≤◌, Bool}
+use Rattle.std.proofs.Common.{cond, eqb, not, min, sym, ap, ◌∙◌}
 use Rattle.std.proofs.Common.{subst, arith, pos, ◌-ℤ◌}
 use Rattle.std.proofs.Math.Nat.{pow-le-pow_right}
 use Rattle.std.proofs.lemmas.Int.{ints}
@@ -53,12 +54,14 @@ returns g c =
     made.ensures.kept ∙ (λ i. rounded_by low mode (negative_is i) (digits i)) in
     let placed : c.placed.result ≡ (e - first) * 2 ^ (s.precision - 1) =
     c.placed.ensures.is
-    ∙ ap (λ (n : ℕ). n * 2 ^ (s.precision - 1)) (c.saturating_sub.ensures ∙ ap (λ (n : ℕ). n - first) place) in
+    ∙ ap (λ (n : ℕ). n * 2 ^ (s.precision - 1))
+    (c.saturating_sub.ensures ∙ ap (λ (n : ℕ). n - first) place) in
     let index_is : index ≡ rounded_by low mode negative t + (e - first) * 2 ^ (s.precision - 1) =
     (λ i. rounded i + placed i) in
     let exact : made.result.exact ≡ eqb (t % 2 ^ low) 0 =
     made.ensures.exact ∙ ap (λ (n : ℕ). eqb (n % 2 ^ low) 0) digits in
-    let out : made.result.leads_out ≡ leads_out mode negative = made.ensures.out ∙ ap (leads_out mode) negative_is in
+    let out : made.result.leads_out ≡ leads_out mode negative =
+    made.ensures.out ∙ ap (leads_out mode) negative_is in
     let code_is : IsCodeOf s negative index code = record {
       is = c.code_of.ensures
           ∙ ap (λ (b : Bool). cond b (2 ^ (s.bits - 1)) 0 + min index (2 ^ (s.bits - 1) - 1)) negative_is;
