@@ -11,4 +11,3 @@ pub mod WideTotals
 pub mod OddTotals
 pub mod Orders
 pub mod LowestOnes
-pub mod Values

@@ -1,4 +1,3 @@
 pub mod RootStanding
 pub mod Totals
 pub mod Wides
-pub mod Words

@@ -10,7 +10,6 @@
 mod exponents;
 pub mod guessed_quotient;
 pub mod loss;
-mod odd_sum;
 pub mod product;
 pub mod quotient;
 pub mod reciprocal;
@@ -27,7 +26,6 @@ pub mod wide_shift;
 pub mod wide_sum;
 pub mod word_quotient;
 pub mod word_sum;
-pub mod words;
 
 pub use guessed_quotient::{divide_by_guess, guess_quotient};
 pub use loss::{is_exact, loss_of_rest};
