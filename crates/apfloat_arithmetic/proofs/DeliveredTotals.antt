@@ -1,5 +1,6 @@
 -- Totals of more digits than a format has, rounded to odd, which are delivered.
-use Rattle.std.proofs.Common.{◌≡◌, ℕ, ℤ, pos, ◌+◌, ◌*◌, ◌^◌, ◌<◌, ◌≤◌, ◌+ℤ◌, ◌-ℤ◌, ◌≤ℤ◌, Bool, refl, subst, arith}
+use Rattle.std.proofs.Common.{◌≡◌, ℕ, ℤ, pos, ◌+◌, ◌*◌, ◌^◌, ◌<◌, ◌≤◌, ◌+ℤ◌}
+use Rattle.std.proofs.Common.{◌-ℤ◌, ◌≤ℤ◌, Bool, refl, subst, arith}
 use Rattle.std.proofs.Math.Nat.{pow-le-pow_right}
 use Rattle.std.proofs.lemmas.Int.{ints}
 use Rattle.std.specs.Prelude.{neg_ℤ}
@@ -18,7 +19,8 @@ use Rattle.apfloat_arithmetic.proofs.Additions.{odd_sum_read, scale_is}
 use Rattle.apfloat_arithmetic.proofs.WideTerms.{odd_fused_read, odd_in_quanta}
 
 -- `exact / parts` quanta have that sign, and their magnitude is rounded to odd, with more digits than the format has
-pub record IsOddTotal (precision parts : ℕ) (exact : ℤ) (negative : Bool) (unit : ℤ) (significand : ℕ) : Type 0 where
+pub record IsOddTotal (precision parts : ℕ) (exact : ℤ) (negative : Bool) (unit : ℤ) (significand : ℕ)
+    : Type 0 where
   pub rounded : IsRoundedToOdd (2 ^ (precision + 1)) significand (magnitude exact * 2 ^ down unit) (parts * 2 ^ up unit)
   pub is : signed negative (magnitude exact) ≡ exact
 
@@ -33,7 +35,8 @@ pub sum_total : (s : Shape) (kept digits : ℕ) (xe ye tx ty e : ℤ) (left righ
 sum_total s kept digits xe ye tx ty e left right negative mx my q few x y ax ay total =
     let least : 2 ^ (s.precision + 1) ≤ 2 ^ kept = pow-le-pow_right two_pos few in
     let scale = (format_at s).scale in
-    let r = odd_sum_read (2 ^ kept) digits s.precision scale s.min_exp xe ye tx ty e (e +ℤ pos scale) left right negative
+    let r = odd_sum_read (2 ^ kept) digits s.precision scale s.min_exp xe ye tx ty e (e +ℤ pos scale) left right
+    negative
     mx my (quanta_at s.min_exp mx xe) (quanta_at s.min_exp my ye) q x.operand.least y.operand.least ax ay
     (scale_is s.precision s.min_exp s.parameters.precision_low s.parameters.min_exp_high) refl x.whole y.whole total in
     record { rounded = to_odd_least (2 ^ kept) (2 ^ (s.precision + 1)) q _ _ least r.rounded; is = r.is }

@@ -65,7 +65,8 @@ product_is shape x y r m n p hx hy v e =
 
 -- a product that is counted in each small unit, 2 ^ k of which are the square of the quantum, is so many quanta
 pub counted_product_is : (scale amount p : ℕ) (e : ℤ)
-    → ((base : ℤ) (k : ℕ) → base ≤ℤ e → pos k ≡ neg_ℤ (base +ℤ pos (2 * scale)) → p * 2 ^ up (e -ℤ base) ≡ amount * 2 ^ k)
+    → ((base : ℤ) (k : ℕ) → base ≤ℤ e → pos k ≡ neg_ℤ (base +ℤ pos (2 * scale))
+    → p * 2 ^ up (e -ℤ base) ≡ amount * 2 ^ k)
     → amount * 2 ^ down (e +ℤ pos scale) ≡ p * (2 ^ scale * 2 ^ up (e +ℤ pos scale))
 counted_product_is scale amount p e counted =
     let k = down e in
@@ -84,10 +85,12 @@ counted_product_is scale amount p e counted =
 
 -- the exponents of a product, counted from the base, balance
 product_balanced : (precision scale moved k : ℕ) (min_exp x y r e base : ℤ) → 3 ≤ precision
-    → pos scale ≡ pos (precision - 1) -ℤ min_exp → r ≡ ((x +ℤ y) -ℤ pos (2 * (precision - 1))) → e ≡ r -ℤ pos moved
+    → pos scale ≡ pos (precision - 1) -ℤ min_exp → r ≡ ((x +ℤ y) -ℤ pos (2 * (precision - 1)))
+    → e ≡ r -ℤ pos moved
     → base ≤ℤ e
     → pos k ≡ neg_ℤ (base +ℤ pos (2 * scale))
-    → up (x -ℤ min_exp) + up (y -ℤ min_exp) + k ≡ down (x -ℤ min_exp) + down (y -ℤ min_exp) + (moved + up (e -ℤ base))
+    → up (x -ℤ min_exp) + up (y -ℤ min_exp) + k
+    ≡ down (x -ℤ min_exp) + down (y -ℤ min_exp) + (moved + up (e -ℤ base))
 product_balanced precision scale moved k min_exp x y r e base t l v w b h =
     let z : down (e -ℤ base) ≡ 0 = no_down (e -ℤ base) (omega (arith, ints)) in
     omega (arith, ints)

@@ -61,7 +61,8 @@ below_divisor precision r p t q z f l g =
     omega arith
 
 -- a number at a place below the divisor's is less than it
-pub is_less : (precision : ℕ) (x y : Magnitude) → 0 < precision → HasAllDigits precision x → HasAllDigits precision y
+pub is_less : (precision : ℕ) (x y : Magnitude) → 0 < precision → HasAllDigits precision x
+    → HasAllDigits precision y
     → x.place < y.place → units_of x < units_of y
 is_less precision x y some hx hy l =
     below_divisor precision x.significand x.place y.significand y.place some hx.fits hy.full l

@@ -6,13 +6,14 @@ use Rattle.std.proofs.Math.Nat.{mul-le-mul_right, mul-le-mul_left, mul-lt-mul_of
 use Rattle.apfloat_model.specs.declared.kinds.Round.{Round}
 use Rattle.apfloat_model.specs.declared.loss.Loss.TheVariants.{ExactlyZero}
 use Rattle.apfloat_model.specs.formats.Format.{Format, largest, greatest_significand}
-use Rattle.apfloat_model.specs.formats.Datum.{Datum, finite, infinite, nan}
+use Rattle.apfloat_model.specs.formats.Datum.{Datum, finite}
 use Rattle.apfloat_model.specs.rounding.Bounds.{scaling_bound, span_bound}
 use Rattle.apfloat_model.specs.rounding.Rounding.{ok_bits, IsDelivered, zero_sign}
 use Rattle.apfloat_model.specs.arithmetic.Scaling.{IsScaling}
 use Rattle.apfloat_model.specs.rounding.Standing.{StandsFor, up, down}
 use Rattle.apfloat_model.proofs.general.Powers.{two_pos}
 use Rattle.apfloat_model.proofs.formats.Greatest.{greatest_full}
+use Rattle.apfloat_model.proofs.arithmetic.Tables.{scaling_zero}
 use Rattle.apfloat_model.proofs.texts.ZeroTexts.{zero_text}
 use Rattle.apfloat_model.proofs.arithmetic.SingleScalings.{IsClamped, up_le, quanta_below, scaled_is, scaled_stands, clamp_kept}
 use Rattle.apfloat_rounding.specs.declared.shape.Shape.{Shape}
@@ -133,14 +134,15 @@ number_of shape m e n o q l =
 
 -- ---- a zero times a power of two
 
--- a datum times a power of two, without its status
-pub without_status : (format : Format) (mode : Round) (x : Datum) (j : ℤ) (value : Datum) (status : ℕ)
-    → IsScaled format mode x j value status → IsScaling format mode x j value
-without_status format mode (nan b s) j value status h = h.value_is
-without_status format mode (infinite b) j value status h = h.value_is
-without_status format mode (finite b n) j value status h = (status, h)
-
 -- a zero times a power of two is that zero
+pub zero_scaled : (format : Format) (mode : Round) (negative : Bool) (j : ℤ)
+    → negative ≡ zero_sign format.nonfinite negative
+    → IsScaling format mode (finite negative 0) j (finite negative 0)
+zero_scaled format mode negative j z =
+    subst (λ (b : Bool). IsScaling format mode (finite negative 0) j (finite b 0)) (sym z)
+    (scaling_zero format mode negative j)
+
+-- the same with its status
 pub zero_scaled_ok : (format : Format) (mode : Round) (negative : Bool) (j : ℤ)
     → negative ≡ zero_sign format.nonfinite negative
     → IsScaled format mode (finite negative 0) j (finite negative 0) ok_bits

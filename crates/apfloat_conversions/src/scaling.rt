@@ -68,6 +68,22 @@ fn scale_number(shape: Shape, x: Unpacked, places: ExpInt, round: Round) -> Stat
     )
 }
 
+/// A value times 2 to the power of `places`, rounded once (IEEE 754-2019 5.3.3, scaleB).
+#[inline(always)]
+pub fn scaled(shape: Shape, x: Unpacked, places: ExpInt, round: Round) -> Unpacked
+    requires { IsStored shape x }
+    ensures stored { IsStored shape result }
+    ensures scaled { IsScaling (format_at shape) round (datum_at shape x) places
+        (datum_at shape result) }
+{
+    match x.category {
+        Category::Normal => scale_number(shape, x, places, round).value,
+        Category::NaN => propagated(shape, x).value,
+        Category::Zero => x,
+        _ => x,
+    }
+}
+
 /// A value times 2 to the power of `places`, rounded once, with its status (IEEE 754-2019 5.3.3, scaleB).
 #[inline(always)]
 pub fn scaled_with_status(
@@ -87,17 +103,6 @@ pub fn scaled_with_status(
         Category::Zero => Status::OK.and(x),
         _ => Status::OK.and(x),
     }
-}
-
-/// A value times 2 to the power of `places`, rounded once (IEEE 754-2019 5.3.3, scaleB).
-#[inline(always)]
-pub fn scaled(shape: Shape, x: Unpacked, places: ExpInt, round: Round) -> Unpacked
-    requires { IsStored shape x }
-    ensures stored { IsStored shape result }
-    ensures scaled { IsScaling (format_at shape) round (datum_at shape x) places
-        (datum_at shape result) }
-{
-    scaled_with_status(shape, x, places, round).value
 }
 
 /// The exponent of the highest digit of a value, or the constant returned in its place (IEEE 754-2019 5.3.3, logB).

@@ -148,7 +148,7 @@ impl<S: Flagged> Float for IeeeFloat<S> {
         truncated(self, rhs)
     }
 
-    #[inline(always)]
+    #[inline]
     fn round_to_integral(self, round: Round) -> StatusAnd<Self> {
         IeeeFloat::answered(round_to_integral(shape_of::<S>(), self.unpacked(), round))
     }

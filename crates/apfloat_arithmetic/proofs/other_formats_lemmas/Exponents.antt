@@ -1,5 +1,6 @@
 -- Amounts and significands at exponents, counted from the places of an amount.
-use Rattle.std.proofs.Common.{◌≡◌, ℕ, ◌+◌, ◌-◌, ◌*◌, ◌%◌, ◌^◌, ◌<◌, ◌≤◌, sym, ap, ◌∙◌, subst, arith, ℤ, pos, neg_ℤ, ◌+ℤ◌, ◌-ℤ◌}
+use Rattle.std.proofs.Common.{◌≡◌, ℕ, ◌+◌, ◌-◌, ◌*◌, ◌%◌, ◌^◌, ◌<◌, ◌≤◌, sym, ap}
+use Rattle.std.proofs.Common.{◌∙◌, subst, arith, ℤ, pos, neg_ℤ, ◌+ℤ◌, ◌-ℤ◌}
 use Rattle.std.proofs.Math.Path.{subst₂}
 use Rattle.std.proofs.Math.Nat.{eq_of_mul-eq-mul_right, mul-pos, mod-eq_of_lt}
 use Rattle.std.proofs.lemmas.Int.{ints}

@@ -32,5 +32,6 @@ returns-clause-counted c = λ base k b h.
     let l = in_word c.far_lowered.result (wider _ _ _ (omega arith) c.far_lowered.ensures.within) in
     let b' = rw l at b in
     let v = rw term.significand at c.raised_addend.ensures.value in
-    rw l (addend_counted s z.exponent c.far_lowered.result base z.significand c.raised_addend.result k c.requires.normal v e
+    rw l (addend_counted s z.exponent c.far_lowered.result base z.significand c.raised_addend.result k
+    c.requires.normal v e
     b' h)

@@ -26,5 +26,6 @@ returns-clause-delivered c =
     let addend = c.addend_term.ensures in
     let g = rw (product.negative, addend.negative) at c.add_u128_terms-total.ensures.rounded in
     total_delivered _ _ _ _ _ _ _ _ _ _ _ (pow_pos _)
-    (fused_total c.args.shape 125 127 integer_bit_bound _ _ _ _ _ _ _ _ _ _ _ (omega (arith, c.requires.short)) product.within.low
+    (fused_total c.args.shape 125 127 integer_bit_bound _ _ _ _ _ _ _ _ _ _ _ (omega (arith, c.requires.short))
+    product.within.low
     addend.within.low product.counted addend.counted g) (rw product.negative at c.deliver_total.ensures.delivered)

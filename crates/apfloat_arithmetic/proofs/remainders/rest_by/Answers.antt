@@ -1,8 +1,11 @@
-use Rattle.std.proofs.Common.{◌≡◌, ℕ, ◌+◌, ◌-◌, ◌/◌, ◌%◌, ◌^◌, ◌<◌, ◌≤◌, count_ones, sym, ap, ◌∙◌, subst, arith}
+use Rattle.std.proofs.Common.{◌≡◌, ℕ, ◌+◌, ◌-◌, ◌/◌, ◌%◌, ◌^◌, ◌<◌, ◌≤◌}
+use Rattle.std.proofs.Common.{count_ones, sym, ap, ◌∙◌, subst, arith}
 use Rattle.std.proofs.Math.Nat.{pow-le-pow_right}
 use Rattle.apfloat_model.proofs.general.Powers.{two_pos}
 use Rattle.apfloat_arithmetic.specs.Magnitudes.{units_of}
-use Rattle.apfloat_arithmetic.proofs.WholeQuotients.{IsTurn, is_turn, turn_rest, turn_ones, turn_less, is_less, few_digits, left_all, none_set, at_place, divisor_pos, last_turn, last_below}
+use Rattle.apfloat_arithmetic.proofs.WholeQuotients.{IsTurn, is_turn, turn_rest, turn_ones, turn_less, is_less}
+use Rattle.apfloat_arithmetic.proofs.WholeQuotients.{few_digits, left_all, none_set, at_place, divisor_pos, last_turn}
+use Rattle.apfloat_arithmetic.proofs.WholeQuotients.{last_below}
 use Rattle.apfloat_arithmetic.proofs.remainders.rest_by.Goals.{After-less_multiple-less, Then-less-y, Else-rest-y-2}
 use Rattle.apfloat_arithmetic.proofs.remainders.rest_by.Goals as goal
 

@@ -57,7 +57,8 @@ returns-clause-delivered c =
       right.ensures.negative,
       right.ensures.significand,
     ) at total.ensures.rounded in
-    let r = sum_total s 60 62 _ _ _ _ _ _ _ _ _ _ _ (omega (arith, c.requires.short)) c.requires.x_normal c.requires.y_normal left.ensures.exponent right.ensures.exponent g in
+    let r = sum_total s 60 62 _ _ _ _ _ _ _ _ _ _ _ (omega (arith, c.requires.short)) c.requires.x_normal
+    c.requires.y_normal left.ensures.exponent right.ensures.exponent g in
     let of_zero = zero_sum_sign c.args.round x.negative y.negative in
     let exact = signed x.negative (quanta_at s.min_exp x.significand x.exponent) +ℤ
     signed y.negative (quanta_at s.min_exp y.significand y.exponent) in
