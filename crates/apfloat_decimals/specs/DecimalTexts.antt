@@ -1,5 +1,6 @@
 -- Decimal texts: their grammar, their first fault, and the number that they spell (IEEE 754-2019 5.12.2).
-use Rattle.std.specs.Prelude.{◌≡◌, ◌⊎◌, ℕ, ◌≤◌, ℤ, pos, ◌-ℤ◌, Bool, not, if◌then◌else◌, IsTrue, List}
+use Rattle.std.specs.Prelude.{◌≡◌, ◌⊎◌, ℕ, ◌≤◌, ℤ, pos, ◌-ℤ◌, Bool, not}
+use Rattle.std.specs.Prelude.{if◌then◌else◌, IsTrue, List}
 use Rattle.std.specs.Prelude.{[], ◌∷◌, ◌++◌, length, drop, codes, Option, Some, None, is_some, Result, Ok, Err}
 use Rattle.apfloat_model.specs.declared.kinds.Round.{Round}
 use Rattle.apfloat_model.specs.declared.parse_error.Fault.{Fault}

@@ -20,7 +20,8 @@ use Rattle.apfloat_machines.specs.Invalid.{is_invalid_sum, is_invalid_difference
 use Rattle.apfloat_machines.specs.Operations.{settled_fused, settled_fused_flags}
 use Rattle.apfloat_machines.specs.Conversions.{is_lost_nan}
 use Rattle.apfloat_machines.specs.FlushedOperations.{IsFlushedSum, IsFlushedDifference, IsFlushedProduct, IsFlushedQuotient, IsFlushedFusedSum, IsFlushedConversion}
-use Rattle.apfloat_machines.specs.FlushedMachines.{AreFlushedAndSettled, IsFlushedAndSettledFused, FlushedMachinesHaveOneAnswer}
+use Rattle.apfloat_machines.specs.FlushedMachines.{AreFlushedAndSettled, IsFlushedAndSettledFused}
+use Rattle.apfloat_machines.specs.FlushedMachines.{FlushedMachinesHaveOneAnswer}
 use Rattle.apfloat_machines.proofs.Settling.{of_two, of_three}
 use Rattle.apfloat_machines.proofs.Once.{of_two_once, of_three_once}
 use Rattle.apfloat_machines.proofs.Usual.{sum_usual, difference_usual, product_usual, quotient_usual, fused_usual}

@@ -1,6 +1,7 @@
 -- Tallies: joining them, one term more, and the terms of each kind.
 use Rattle.std.proofs.Common.{◌≡◌, ℕ, ◌+◌, ◌*◌, ◌^◌, ◌<◌, ◌≤◌, eqb, Bool, true, false, not, ◌&&◌, ◌||◌, ℤ, pos, ◌+ℤ◌}
-use Rattle.std.proofs.Common.{List, ◌∷◌, length, get_or, drop, Option, Some, None, if◌then◌else◌, ⊎_elim, refl, sym}
+use Rattle.std.proofs.Common.{List, ◌∷◌, length, get_or, drop, Option, Some, None, if◌then◌else◌, ⊎_elim}
+use Rattle.std.proofs.Common.{refl, sym}
 use Rattle.std.proofs.Common.{ap, ◌∙◌, arith}
 use Rattle.std.proofs.Math.Bool.{or-false}
 use Rattle.std.proofs.lemmas.Bool.{cases_eq, ne_eqb, false≢true}

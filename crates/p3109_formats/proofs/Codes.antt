@@ -39,7 +39,8 @@ pub record AreApart (codes last most bad : ℕ) : Type 0 where
   pub last_not_nan : last < bad
   pub most_to : most ≤ last
 
-are_apart : (codes last most bad : ℕ) → last < codes → last < bad → most ≤ last → AreApart codes last most bad
+are_apart : (codes last most bad : ℕ) → last < codes → last < bad → most ≤ last
+    → AreApart codes last most bad
 are_apart codes last most bad below other to = record { last_below = below; last_not_nan = other; most_to = to }
 
 pub apart : (c : Projection) → IsProjection c

@@ -136,7 +136,8 @@ module _ (precision a b c d : ℕ) (halves : SameSides (precision + 1) 2 a b c d
 
   half_less_same : (n : ℕ) → IsOnGrid (precision + 1) n → ltb (2 * a) (n * b) ≡ ltb (2 * c) (n * d)
   half_less_same =
-      half_same (λ x y. ltb x y) false (λ x y l. le-ltb x y (omega (arith, l))) (λ x y e. le-ltb x y (omega (arith, e)))
+      half_same (λ x y. ltb x y) false (λ x y l. le-ltb x y (omega (arith, l)))
+      (λ x y e. le-ltb x y (omega (arith, e)))
       (λ x y l. lt-ltb x y l)
 
   half_at_most_same : (n : ℕ) → IsOnGrid (precision + 1) n → leb (2 * a) (n * b) ≡ leb (2 * c) (n * d)

@@ -1,5 +1,6 @@
 -- Conversions into scales have one answer, and those by the modes of IEEE 754 are those of `Scales`.
-use Rattle.std.proofs.Common.{◌≡◌, ℕ, zero, suc, ◌+◌, ◌*◌, ◌^◌, ◌<◌, ◌≤◌, Bool, true, false, not, eqb, sym, ap, ◌∙◌}
+use Rattle.std.proofs.Common.{◌≡◌, ℕ, zero, suc, ◌+◌, ◌*◌, ◌^◌, ◌<◌, ◌≤◌, Bool, true}
+use Rattle.std.proofs.Common.{false, not, eqb, sym, ap, ◌∙◌}
 use Rattle.std.proofs.Common.{inl, inr, ⊎_elim, arith}
 use Rattle.std.proofs.Math.Nat.{mul-le-mul_right, pow-le-pow_right}
 use Rattle.std.proofs.lemmas.Bool.{cases_lt, ne_eqb, MatchBool-at_false}
@@ -25,8 +26,8 @@ some_quanta n = ne_eqb (suc n) 0 (λ e. omega (arith, e))
 -- ---- one answer
 
 -- a number is between two scales in one way
-not_below : (amount parts low other : ℕ) → amount < 2 ^ (low + 1) * parts → 2 ^ other * parts ≤ amount → low < other
-    → ⊥
+not_below : (amount parts low other : ℕ) → amount < 2 ^ (low + 1) * parts → 2 ^ other * parts ≤ amount
+    → low < other → ⊥
 not_below amount parts low other to from l =
     let next : low + 1 ≤ other = omega (arith, l) in
     let more : 2 ^ (low + 1) * parts ≤ 2 ^ other * parts =

@@ -2,8 +2,8 @@
 //! to odd, and with random digits.
 //!
 //! Random digits choose one of the two neighbours of a number (`directions`), by the digits that the target does not
-//! keep (`crate::cuts`). The conversion in the directed mode that leads to that neighbour does the rest (`by_mode`). Two
-//! storage formats have the numbers of a format of the model, and are converted into by way of it (`elements`).
+//! keep (`crate::cuts`). The conversion in the directed mode that leads to that neighbour does the rest (`by_mode`).
+//! Two storage formats have the numbers of a format of the model, and are converted into by way of it (`elements`).
 
 mod by_mode;
 mod directions;

@@ -233,9 +233,11 @@ moved_taken all count n power at old new most within is taken =
     let both = length-append (take at old) (last_digits count n) in
     let long : length text ≡ at + count = omega (arith, start, last, both) in
     let written : take (at + all) new ≡ text ++ replicate (all - count) 48 =
-    taken ∙ ap (λ (k : ℕ). take at old ++ last_digits all (n * k)) is ∙ moved_last all count n (take at old) most in
+    taken ∙ ap (λ (k : ℕ). take at old ++ last_digits all (n * k)) is
+    ∙ moved_last all count n (take at old) most in
     sym (take-take (at + count) (at + all) new (omega (arith, most)))
-    ∙ ap (λ (x : List ℕ). take (at + count) x) written ∙ take_at text (replicate (all - count) 48) (at + count) long
+    ∙ ap (λ (x : List ℕ). take (at + count) x) written
+    ∙ take_at text (replicate (all - count) 48) (at + count) long
 
 -- leading zeros and the digits of a number are its last digits
 pub padded_last : (places n : ℕ) → length (decimal n) ≤ places → n < 2 ^ 128

@@ -78,7 +78,8 @@ odd_digits digits cut m fits =
     ap (λ (x : ℕ). 2 ^ x) (sym one_more) ∙ pow-add 2 1 digits in
     let below : m < 2 * 2 ^ digits * 2 ^ cut =
     subst (λ (x : ℕ). m < x) (all ∙ ap (λ (x : ℕ). x * 2 ^ cut) even) fits in
-    subst (λ (x : ℕ). odd_quotient m (2 ^ cut) < x) (sym even) (odd_below m (2 ^ cut) (2 ^ digits) (pow_pos cut) below)
+    subst (λ (x : ℕ). odd_quotient m (2 ^ cut) < x) (sym even)
+    (odd_below m (2 ^ cut) (2 ^ digits) (pow_pos cut) below)
 
 -- the place and the number of places moved up balance the two scales
 scaled_at : (precision more cut low w place e to from m : ℕ) → 3 ≤ precision → 1 ≤ more

@@ -1,5 +1,6 @@
 -- Cases of operands, and what the law of a format says of its ranges.
-use Rattle.std.proofs.Common.{◌≡◌, ℕ, ◌*◌, ◌-◌, ◌^◌, ◌<◌, ◌≤◌, Bool, true, false, refl, subst, arith}
+use Rattle.std.proofs.Common.{◌≡◌, ℕ, ◌*◌, ◌-◌, ◌^◌, ◌<◌, ◌≤◌, Bool, true, false, refl}
+use Rattle.std.proofs.Common.{subst, arith}
 use Rattle.std.specs.Prelude.{ℤ, pos, ◌+ℤ◌, ◌-ℤ◌, unsigned_abs}
 use Rattle.std.proofs.lemmas.Bool.{false≢true}
 use Rattle.std.proofs.lemmas.Int.{ints}
@@ -14,15 +15,18 @@ use Rattle.apfloat_model.specs.arithmetic.Sums.{IsSum, IsDifference, zero_sum_si
 use Rattle.apfloat_model.specs.order.Classes.{is_finite, is_negative}
 use Rattle.apfloat_model.specs.order.Order.{number}
 use Rattle.apfloat_model.proofs.arithmetic.Signs.{swapped_sum}
-use Rattle.ieee_operations.specs.augmented.Augmented.{AreBoth, IsAugmented, IsAugmentedSum, IsAugmentedDifference, IsAugmentedProduct}
+use Rattle.ieee_operations.specs.augmented.Augmented.{AreBoth, IsAugmented, IsAugmentedSum, IsAugmentedDifference}
+use Rattle.ieee_operations.specs.augmented.Augmented.{IsAugmentedProduct}
 
 -- ---- the augmented operations, by their operands
 
 -- What holds of the results of two numbers, and of two results alike, holds of each.
 pub each_sum : (P : Datum → Datum → (Datum → Datum → ℕ → Type 0) → Type 0) (f : Format)
     → ((b c : Bool) (m n : ℕ)
-    → P (finite b m) (finite c n) (IsAugmented f (zero_sum_sign NearestTiesToEven b c) (signed b m +ℤ signed c n) 1))
-    → ((x y : Datum) → P x y (AreBoth (IsSum f NearestTiesToEven x y))) → (x y : Datum) → P x y (IsAugmentedSum f x y)
+    → P (finite b m) (finite c n)
+    (IsAugmented f (zero_sum_sign NearestTiesToEven b c) (signed b m +ℤ signed c n) 1))
+    → ((x y : Datum) → P x y (AreBoth (IsSum f NearestTiesToEven x y)))
+    → (x y : Datum) → P x y (IsAugmentedSum f x y)
 each_sum P f numbers others (finite b m) (finite c n) = numbers b c m n
 each_sum P f numbers others (finite b m) (infinite c) = others (finite b m) (infinite c)
 each_sum P f numbers others (finite b m) (nan c n) = others (finite b m) (nan c n)

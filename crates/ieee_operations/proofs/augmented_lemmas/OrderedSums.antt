@@ -1,5 +1,6 @@
 -- Augmented sums of two numbers, in each of the four cases of `ordered_sum`.
-use Rattle.std.proofs.Common.{◌≡◌, ℕ, ◌+◌, ◌-◌, ◌^◌, ◌<◌, ◌≤◌, Bool, true, false, sym, ap, ◌∙◌, subst, ⊎_elim, arith, lit<, FitsSigned, to_z, of_z}
+use Rattle.std.proofs.Common.{◌≡◌, ℕ, ◌+◌, ◌-◌, ◌^◌, ◌<◌, ◌≤◌, Bool, true, false, sym, ap}
+use Rattle.std.proofs.Common.{◌∙◌, subst, ⊎_elim, arith, lit<, FitsSigned, to_z, of_z}
 use Rattle.std.specs.Prelude.{ℤ, pos, ◌+ℤ◌, ◌-ℤ◌}
 use Rattle.std.specs.Int.{w32}
 use Rattle.std.proofs.lemmas.Bool.{cases_lt}
@@ -7,7 +8,8 @@ use Rattle.std.proofs.lemmas.Int.{ints, to_z-of_z}
 use Rattle.apfloat_model.specs.declared.kinds.Round.TheVariants.{NearestTiesToEven, TowardZero}
 use Rattle.apfloat_model.specs.formats.Format.{Format, largest}
 use Rattle.apfloat_model.specs.formats.Datum.{Datum, finite}
-use Rattle.apfloat_model.specs.rounding.Rounding.{IsPick, delivered_value, signed_quanta, ok_bits, overflow_bit, inexact_bit}
+use Rattle.apfloat_model.specs.rounding.Rounding.{IsPick, delivered_value, signed_quanta, ok_bits, overflow_bit}
+use Rattle.apfloat_model.specs.rounding.Rounding.{inexact_bit}
 use Rattle.apfloat_model.specs.rounding.Negation.{negated}
 use Rattle.apfloat_model.specs.arithmetic.Exact.{magnitude, signed, sign_of, IsRounded}
 use Rattle.apfloat_model.specs.arithmetic.Signs.{abs}
@@ -191,7 +193,8 @@ head_is_past f h k x y near short left magnitude_of_left unit i j left_status nx
     (λ q. nearest (subst (λ (z : ℤ). IsNearestTo f.precision v z) (sym number_is) q))
     (λ o. subst (λ (d : Datum). is_equal d unit ≡ false) m (differs o))) in
     sum_of_numbers f x y head tail status nx.is_finite ny.is_finite
-    (past_largest_is f of_zero v p.pick head tail status p.is_pick p.past (hd ∙ n.value_is ∙ past_is f s n.pick n.past)
+    (past_largest_is f of_zero v p.pick head tail status p.is_pick p.past
+    (hd ∙ n.value_is ∙ past_is f s n.pick n.past)
     (tl ∙ sym hd) ok)
 
 -- ---- how far the smallest value is moved to half a unit in the last place of the largest one
