@@ -128,17 +128,19 @@ fn is_exact(low: u32, digits: u64) -> bool
     digits % (1_u64 << low) == 0
 }
 
-/// The significand of a number at a place, rounded once. From the place `first` on, all its digits are kept but as many
-/// as the plan has, less 32; below it, one fewer for each place.
+/// The significand of a number at a place, rounded once. From the place `first` on, all its digits are kept but
+/// `low - 32`; below it, one fewer for each place. The caller knows `low`, that of the plan, when it is compiled.
 #[inline(always)]
 pub fn round_word(
     plan: WordPlan,
+    low: u32,
     negative: bool,
     significand: u32,
     place: u32,
     first: u32,
 ) -> RoundedWord
-    requires { significand < 2 ^ 24 }
+    requires same { low ≡ plan.low }
+    requires fits { significand < 2 ^ 24 }
     ensures kept { let digits = significand * 2 ^ (32 - min (first - place) 32) in
         result.kept ≡ rounded_by plan.low plan.round negative digits }
     ensures below { result.kept ≤ 2 ^ 25 }
@@ -149,8 +151,8 @@ pub fn round_word(
     let side = side_in(plan, negative);
     let digits = digits_at(significand, place, first);
     RoundedWord {
-        kept: kept_of(plan.low, side.addend, digits),
-        exact: is_exact(plan.low, digits),
+        kept: kept_of(low, side.addend, digits),
+        exact: is_exact(low, digits),
         leads_out: side.leads_out,
     }
 }

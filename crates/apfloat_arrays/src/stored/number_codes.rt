@@ -231,7 +231,8 @@ pub(crate) fn store_number<S: Semantics, F: StorageFormat>(
     let place = biased.saturating_sub(1);
     let first = first_place::<S, F>();
     let negative = is_minus_in::<S>(bits);
-    let rounded = round_word(plan, negative, significand, place, first);
+    let low = digits_below::<S, F>();
+    let rounded = round_word(plan, low, negative, significand, place, first);
     let index = rounded.kept + placed::<F>(place.saturating_sub(first));
     let status = status_of::<F>(rounded.leads_out, index, rounded.exact);
     status.and(code_of::<F>(negative, index))

@@ -18,8 +18,11 @@ use Rattle.apfloat_arrays.proofs.stored_lemmas.Numbers.{IsCodeOf, IsStatusOf, co
 use Rattle.apfloat_arrays.proofs.stored_lemmas.Numbers.{number_read, overflow_only_past}
 use Rattle.apfloat_arrays.proofs.stored.number_codes.store_number.Goals as goal
 
-pub round_word-rounded-requires : goal.round_word-rounded-requires
-round_word-rounded-requires g c =
+pub round_word-rounded-requires-clause-same : goal.round_word-rounded-requires-clause-same
+round_word-rounded-requires-clause-same g c = c.digits_below-low.ensures.is ∙ sym c.requires.low
+
+pub round_word-rounded-requires-clause-fits : goal.round_word-rounded-requires-clause-fits
+round_word-rounded-requires-clause-fits g c =
     let digits = c.requires.source.digits in
     let below = c.significand_in-significand.ensures.below in
     let most : 2 ^ g.S.Semantics.PRECISION ≤ 2 ^ 24 = pow-le-pow_right two_pos digits in
