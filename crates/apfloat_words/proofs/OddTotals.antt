@@ -141,6 +141,28 @@ together_to_odd digits high low j gap flipped full even h f =
 
 -- ---- two terms with signs
 
+-- two significands that are moved up by `room` places, counted from the base: with the unit of the finer one
+record AreMoved (base eh el e : ℤ) (mh ml room gap w : ℕ) : Type 0 where
+  above : base ≤ℤ e
+  high : mh * 2 ^ up (eh -ℤ base) ≡ mh * 2 ^ room * 2 ^ gap * w
+  low : ml * 2 ^ up (el -ℤ base) ≡ ml * 2 ^ room * w
+  unit : 2 ^ up (e -ℤ base) ≡ 2 ^ gap * w
+
+are_moved : (base eh el e : ℤ) (digits mh ml room gap : ℕ) → (base +ℤ pos digits) ≤ℤ el → room ≤ digits
+    → (el +ℤ pos gap) ≡ eh → (e +ℤ pos room) ≡ eh
+    → AreMoved base eh el e mh ml room gap (2 ^ up ((el -ℤ pos room) -ℤ base))
+are_moved base eh el e digits mh ml room gap l r g d =
+    let lowest = el -ℤ pos room in
+    let a = raised base lowest e gap (omega (arith, ints)) (omega (arith, ints)) in
+    let b = raised base e eh room a.0 d in
+    let v = raised base lowest el room (omega (arith, ints)) (omega (arith, ints)) in
+    record {
+      above = a.0;
+      high = ap (λ (x : ℕ). mh * x) b.1 ∙ ap (λ (x : ℕ). mh * (2 ^ room * x)) a.1 ∙ omega arith;
+      low = ap (λ (x : ℕ). ml * x) v.1 ∙ omega arith;
+      unit = a.1;
+    }
+
 -- the total of two terms whose significands were moved up by `room` places
 pub total_to_odd : (base eh el e : ℤ) (s t unlike flipped : Bool) (least digits mh ml room gap q : ℕ)
     → (base +ℤ pos digits) ≤ℤ el → room ≤ digits → (el +ℤ pos gap) ≡ eh → (e +ℤ pos room) ≡ eh
@@ -150,49 +172,36 @@ pub total_to_odd : (base eh el e : ℤ) (s t unlike flipped : Bool) (least digit
     → (unlike ≡ true → IsApartToOdd least (mh * 2 ^ room * 2 ^ gap) (ml * 2 ^ room) flipped q (2 ^ gap))
     → IsSignedToOdd least base (counted base s eh mh +ℤ counted base t el ml) (cond flipped t s) e q
 total_to_odd base eh el e s t false flipped least digits mh ml room gap q l r g d like unlike together apart =
-    let lowest = el -ℤ pos room in
-    let w = 2 ^ up (lowest -ℤ base) in
-    let a = raised base lowest e gap (omega (arith, ints)) (omega (arith, ints)) in
-    let b = raised base e eh room a.0 d in
-    let v = raised base lowest el room (omega (arith, ints)) (omega (arith, ints)) in
+    let w = 2 ^ up ((el -ℤ pos room) -ℤ base) in
+    let m = are_moved base eh el e digits mh ml room gap l r g d in
     let h = together refl in
-    let high : mh * 2 ^ up (eh -ℤ base) ≡ mh * 2 ^ room * 2 ^ gap * w = ap (λ (x : ℕ). mh * x) b.1 ∙
-    ap (λ (x : ℕ). mh * (2 ^ room * x)) a.1 ∙ omega arith in
-    let low : ml * 2 ^ up (el -ℤ base) ≡ ml * 2 ^ room * w = ap (λ (x : ℕ). ml * x) v.1 ∙ omega arith in
-    let k : (mh * 2 ^ room * 2 ^ gap + ml * 2 ^ room) * w
-    ≡ mh * 2 ^ up (eh -ℤ base) + ml * 2 ^ up (el -ℤ base) = omega (arith, high, low) in
+    let sum = mh * 2 ^ room * 2 ^ gap + ml * 2 ^ room in
+    let k : sum * w ≡ mh * 2 ^ up (eh -ℤ base) + ml * 2 ^ up (el -ℤ base) = omega (arith, m.high, m.low) in
     record {
-      above = a.0;
-      amount = (mh * 2 ^ room * 2 ^ gap + ml * 2 ^ room) * w;
-      is = ap (λ (x : Bool). signed (cond x t s) ((mh * 2 ^ room * 2 ^ gap + ml * 2 ^ room) * w)) h.0 ∙
-          ap (λ (x : ℕ). signed s x) k ∙ like_signs s (mh * 2 ^ up (eh -ℤ base)) (ml * 2 ^ up (el -ℤ base)) ∙
+      above = m.above;
+      amount = sum * w;
+      is = ap (λ (x : Bool). signed (cond x t s) (sum * w)) h.0 ∙ ap (λ (x : ℕ). signed s x) k ∙
+          like_signs s (mh * 2 ^ up (eh -ℤ base)) (ml * 2 ^ up (el -ℤ base)) ∙
           ap (λ (x : Bool). counted base s eh mh +ℤ counted base x el ml) (like refl);
       rounded =
-          subst (λ (x : ℕ). IsRoundedToOdd least q ((mh * 2 ^ room * 2 ^ gap + ml * 2 ^ room) * w) x) (sym a.1)
-          (to_odd_times least q (mh * 2 ^ room * 2 ^ gap + ml * 2 ^ room) (2 ^ gap) w
-          (pow_pos (up (lowest -ℤ base))) h.1);
+          subst (λ (x : ℕ). IsRoundedToOdd least q (sum * w) x) (sym m.unit)
+          (to_odd_times least q sum (2 ^ gap) w (pow_pos (up ((el -ℤ pos room) -ℤ base))) h.1);
     }
 total_to_odd base eh el e s t true flipped least digits mh ml room gap q l r g d like unlike together apart =
-    let lowest = el -ℤ pos room in
-    let w = 2 ^ up (lowest -ℤ base) in
-    let a = raised base lowest e gap (omega (arith, ints)) (omega (arith, ints)) in
-    let b = raised base e eh room a.0 d in
-    let v = raised base lowest el room (omega (arith, ints)) (omega (arith, ints)) in
+    let w = 2 ^ up ((el -ℤ pos room) -ℤ base) in
+    let m = are_moved base eh el e digits mh ml room gap l r g d in
     let h = apart refl in
-    let high : mh * 2 ^ up (eh -ℤ base) ≡ mh * 2 ^ room * 2 ^ gap * w = ap (λ (x : ℕ). mh * x) b.1 ∙
-    ap (λ (x : ℕ). mh * (2 ^ room * x)) a.1 ∙ omega arith in
-    let low : ml * 2 ^ up (el -ℤ base) ≡ ml * 2 ^ room * w = ap (λ (x : ℕ). ml * x) v.1 ∙ omega arith in
     let k : Balances flipped (h.amount * w) (mh * 2 ^ up (eh -ℤ base)) (ml * 2 ^ up (el -ℤ base)) =
-    subst₂ (λ (x : ℕ) (y : ℕ). Balances flipped (h.amount * w) x y) (sym high) (sym low)
+    subst₂ (λ (x : ℕ) (y : ℕ). Balances flipped (h.amount * w) x y) (sym m.high) (sym m.low)
     (balances_times flipped h.amount (mh * 2 ^ room * 2 ^ gap) (ml * 2 ^ room) w h.balances) in
     record {
-      above = a.0;
+      above = m.above;
       amount = h.amount * w;
       is = unlike_signs s t flipped (mh * 2 ^ up (eh -ℤ base)) (ml * 2 ^ up (el -ℤ base)) (h.amount * w)
           (unlike refl) k;
       rounded =
-          subst (λ (x : ℕ). IsRoundedToOdd least q (h.amount * w) x) (sym a.1)
-          (to_odd_times least q h.amount (2 ^ gap) w (pow_pos (up (lowest -ℤ base))) h.rounded);
+          subst (λ (x : ℕ). IsRoundedToOdd least q (h.amount * w) x) (sym m.unit)
+          (to_odd_times least q h.amount (2 ^ gap) w (pow_pos (up ((el -ℤ pos room) -ℤ base))) h.rounded);
     }
 
 -- the order of the terms does not matter to the total

@@ -35,7 +35,7 @@ pub like_in_order : (A : Type 0) (f : Term → A) (high low x y : Term)
 like_in_order A f high low x y (inl d) e = ap f d.0 ∙ e ∙ sym (ap f d.1)
 like_in_order A f high low x y (inr d) e = ap f d.0 ∙ sym e ∙ sym (ap f d.1)
 
--- and only then
+-- the terms have like signs, or the same exponent, if `high` and `low` have
 pub like_out_of_order : (A : Type 0) (f : Term → A) (high low x y : Term)
     → ((high ≡ x) × (low ≡ y)) ⊎ ((high ≡ y) × (low ≡ x)) → f high ≡ f low → f x ≡ f y
 like_out_of_order A f high low x y (inl d) e = sym (ap f d.0) ∙ e ∙ ap f d.1

@@ -14,38 +14,32 @@ sum_of-total-requires-clause-above c = c.in_order_of_exponents.ensures.order
 
 pub sum_of-total-requires-clause-high : goal.sum_of-total-requires-clause-high
 sum_of-total-requires-clause-high c =
-    of_high (λ (t : Term). IsWithin exponent_bound t.exponent) c.in_order_of_exponents.result.high
-    c.in_order_of_exponents.result.low c.args.x c.args.y c.in_order_of_exponents.ensures.same c.requires.x
+    of_high (λ (t : Term). IsWithin exponent_bound t.exponent) _ _ _ _ c.in_order_of_exponents.ensures.same c.requires.x
     c.requires.y
 
 pub sum_of-total-requires-clause-low : goal.sum_of-total-requires-clause-low
 sum_of-total-requires-clause-low c =
-    of_low (λ (t : Term). IsWithin exponent_bound t.exponent) c.in_order_of_exponents.result.high
-    c.in_order_of_exponents.result.low c.args.x c.args.y c.in_order_of_exponents.ensures.same c.requires.x
+    of_low (λ (t : Term). IsWithin exponent_bound t.exponent) _ _ _ _ c.in_order_of_exponents.ensures.same c.requires.x
     c.requires.y
 
 pub sum_of-total-requires-clause-high_room : goal.sum_of-total-requires-clause-high_room
 sum_of-total-requires-clause-high_room c =
-    of_high (λ (t : Term). t.significand < 2 ^ 127) c.in_order_of_exponents.result.high
-    c.in_order_of_exponents.result.low c.args.x c.args.y c.in_order_of_exponents.ensures.same c.requires.x_room
+    of_high (λ (t : Term). t.significand < 2 ^ 127) _ _ _ _ c.in_order_of_exponents.ensures.same c.requires.x_room
     c.requires.y_room
 
 pub sum_of-total-requires-clause-low_room : goal.sum_of-total-requires-clause-low_room
 sum_of-total-requires-clause-low_room c =
-    of_low (λ (t : Term). t.significand < 2 ^ 127) c.in_order_of_exponents.result.high
-    c.in_order_of_exponents.result.low c.args.x c.args.y c.in_order_of_exponents.ensures.same c.requires.x_room
+    of_low (λ (t : Term). t.significand < 2 ^ 127) _ _ _ _ c.in_order_of_exponents.ensures.same c.requires.x_room
     c.requires.y_room
 
 -- the exponent of the total
 exponent_is : (c : After-sum_of-total)
     → to_z w32 (of_z w32 c.sum_of-total.result.exponent) ≡ c.sum_of-total.result.exponent
 exponent_is c =
-    let high = c.in_order_of_exponents.result.high in
-    let low = c.in_order_of_exponents.result.low in
     let same = c.in_order_of_exponents.ensures.same in
-    let h = of_high (λ (t : Term). IsWithin exponent_bound t.exponent) high low c.args.x c.args.y same c.requires.x
+    let h = of_high (λ (t : Term). IsWithin exponent_bound t.exponent) _ _ _ _ same c.requires.x
     c.requires.y in
-    let l = of_low (λ (t : Term). IsWithin exponent_bound t.exponent) high low c.args.x c.args.y same c.requires.x
+    let l = of_low (λ (t : Term). IsWithin exponent_bound t.exponent) _ _ _ _ same c.requires.x
     c.requires.y in
     omega (arith, ints, h.low, h.high, l.low, l.high, c.sum_of-total.ensures.near, c.sum_of-total.ensures.far)
 
@@ -56,44 +50,36 @@ returns-clause-zero c = λ s l.
 
 pub returns-clause-coarser : goal.returns-clause-coarser
 returns-clause-coarser c = λ e.
-    let high = c.in_order_of_exponents.result.high in
-    let low = c.in_order_of_exponents.result.low in
     let same = c.in_order_of_exponents.ensures.same in
     let l = c.sum_of-total.ensures.coarser
-    (like_in_order Bool (λ (t : Term). t.negative) high low c.args.x c.args.y same e) in
+    (like_in_order Bool (λ (t : Term). t.negative) _ _ _ _ same e) in
     rw (exponent_is (goal.at.returns-clause-coarser c).After-sum_of-total)
-    (greater_first high low c.args.x c.args.y _ same c.in_order_of_exponents.ensures.order l)
+    (greater_first _ _ _ _ _ same c.in_order_of_exponents.ensures.order l)
 
 pub returns-clause-level : goal.returns-clause-level
 returns-clause-level c = λ e.
-    let high = c.in_order_of_exponents.result.high in
-    let low = c.in_order_of_exponents.result.low in
     let same = c.in_order_of_exponents.ensures.same in
     let l = c.sum_of-total.ensures.level
-    (like_in_order ℤ (λ (t : Term). t.exponent) high low c.args.x c.args.y same e) in
+    (like_in_order ℤ (λ (t : Term). t.exponent) _ _ _ _ same e) in
     rw (exponent_is (goal.at.returns-clause-level c).After-sum_of-total)
-    (l ∙ of_high (λ (t : Term). t.exponent ≡ c.args.x.exponent) high low c.args.x c.args.y same refl (sym e))
+    (l ∙ of_high (λ (t : Term). t.exponent ≡ c.args.x.exponent) _ _ _ _ same refl (sym e))
 
 pub returns-clause-halved : goal.returns-clause-halved
 returns-clause-halved c = λ n d.
-    let high = c.in_order_of_exponents.result.high in
-    let low = c.in_order_of_exponents.result.low in
     let same = c.in_order_of_exponents.ensures.same in
     let l = c.sum_of-total.ensures.halved
-    (λ p. n (like_out_of_order Bool (λ (t : Term). t.negative) high low c.args.x c.args.y same p))
-    (λ p. d (like_out_of_order ℤ (λ (t : Term). t.exponent) high low c.args.x c.args.y same p)) in
+    (λ p. n (like_out_of_order Bool (λ (t : Term). t.negative) _ _ _ _ same p))
+    (λ p. d (like_out_of_order ℤ (λ (t : Term). t.exponent) _ _ _ _ same p)) in
     rw (exponent_is (goal.at.returns-clause-halved c).After-sum_of-total)
-    (greater_first high low c.args.x c.args.y _ same c.in_order_of_exponents.ensures.order l)
+    (greater_first _ _ _ _ _ same c.in_order_of_exponents.ensures.order l)
 
 pub returns-clause-stands : goal.returns-clause-stands
 returns-clause-stands c = λ base lx ly.
-    let high = c.in_order_of_exponents.result.high in
-    let low = c.in_order_of_exponents.result.low in
     let same = c.in_order_of_exponents.ensures.same in
     let x = counted base c.args.x.negative c.args.x.exponent c.args.x.significand in
     let y = counted base c.args.y.negative c.args.y.exponent c.args.y.significand in
     let total = c.sum_of-total.result in
-    let b = of_low (λ (t : Term). base ≤ℤ t.exponent) high low c.args.x c.args.y same lx ly in
+    let b = of_low (λ (t : Term). base ≤ℤ t.exponent) _ _ _ _ same lx ly in
     let r = c.sum_of-total.ensures.stands base b in
     let z = sign_unless_zero c.is_zero.result total.negative c.args.x.negative c.either.result total.significand
     total.loss c.either.ensures c.is_zero.ensures.yes in
