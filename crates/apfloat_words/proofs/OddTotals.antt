@@ -1,7 +1,7 @@
 -- Sums and differences of magnitudes that are rounded to odd, and their signs.
 use Rattle.std.proofs.Common.{◌≡◌, ℕ, zero, suc, ℤ, pos, ◌+ℤ◌, ◌-ℤ◌, ◌≤ℤ◌, ◌+◌, ◌-◌, ◌*◌, ◌/◌, ◌%◌, ◌^◌, ◌<◌, ◌≤◌}
 use Rattle.std.proofs.Common.{◌⊎◌, Bool, true, false, cond, not, ltb, sym, refl, ap, ◌∙◌, subst, inl, inr, ⊎_elim}
-use Rattle.std.proofs.Common.{arith}
+use Rattle.std.proofs.Common.{to_z, of_z, w32, arith}
 use mathlib.Core.Bool.{beq}
 use Rattle.std.proofs.Math.Path.{subst₂}
 use Rattle.std.proofs.Math.Nat.{mul-le-mul_left, mul-le-mul_right, pow-le-pow_right}
@@ -9,10 +9,13 @@ use Rattle.std.proofs.lemmas.Bool.{cases_lt, lt-ltb, le-ltb}
 use Rattle.std.proofs.lemmas.Nat.{pow-add, pow_pos}
 use Rattle.std.proofs.lemmas.Int.{ints}
 use Rattle.apfloat_model.specs.arithmetic.Exact.{up, signed}
+use Rattle.apfloat_model.specs.rounding.Bounds.{IsWithin, exponent_bound}
+use Rattle.apfloat_words.specs.declared.terms.Term.{Term}
 use Rattle.apfloat_words.specs.Totals.{counted, IsSignedToOdd, IsApartToOdd, Balances}
 use Rattle.apfloat_model.specs.rounding.RoundingToOdd.{IsRoundedToOdd}
 use Rattle.apfloat_model.proofs.general.Powers.{two_pos}
 use Rattle.apfloat_model.proofs.arithmetic.Signs.{swapped_sum}
+use Rattle.apfloat_words.proofs.Orders.{of_high, of_low}
 use Rattle.apfloat_words.proofs.Totals.{raised, like_signs, unlike_signs, balances_times}
 use Rattle.apfloat_model.proofs.rounding.OddRoundings.{whole_to_odd, to_odd_times, odd_together, odd_apart}
 
@@ -49,6 +52,20 @@ moved_free m precision digits l =
     let d : m * 2 ^ (digits - precision) ≡ m * 2 ^ (digits - precision - 1) * 2 =
     ap (λ (x : ℕ). m * x) w ∙ omega arith in
     omega (arith, d)
+
+-- an even significand with exactly that many digits
+pub record IsMovedUp (digits n : ℕ) : Type 0 where
+  pub full : 2 ^ (digits - 1) ≤ n
+  pub fits : n < 2 ^ digits
+  pub free : n % 2 ≡ 0
+
+pub is_moved_up : (m precision digits : ℕ) → 0 < precision → precision + 1 ≤ digits → 2 ^ (precision - 1) ≤ m
+    → m < 2 ^ precision → IsMovedUp digits (m * 2 ^ (digits - precision))
+is_moved_up m precision digits some room full fits = record {
+  full = moved_full m precision digits some room full;
+  fits = moved_fits m precision digits room fits;
+  free = moved_free m precision digits room;
+}
 
 -- ---- sums and differences, in one unit
 
@@ -232,3 +249,30 @@ unlike_true true true e d = cc
 unlike_true true false e d = cc
 unlike_true false true e d = cc
 unlike_true false false e d = cc
+
+-- an exponent as it is stored
+pub exponent_word : (e : ℤ) → IsWithin exponent_bound e → to_z w32 (of_z w32 e) ≡ e
+exponent_word e w = omega (arith, ints, w.low, w.high)
+
+-- the total of two terms in the order of their exponents, whose significands were moved up by `room` places
+pub terms_to_odd : (high low x y : Term) (e : ℤ) (flipped : Bool) (least digits room gap q : ℕ)
+    → ((high ≡ x) × (low ≡ y)) ⊎ ((high ≡ y) × (low ≡ x)) → room ≤ digits
+    → IsWithin exponent_bound x.exponent → IsWithin exponent_bound y.exponent
+    → pos gap ≡ (to_z w32 (of_z w32 high.exponent) -ℤ to_z w32 (of_z w32 low.exponent))
+    → (e +ℤ pos room) ≡ to_z w32 (of_z w32 high.exponent)
+    → (not (beq high.negative low.negative) ≡ false → (flipped ≡ false)
+    × IsRoundedToOdd least q (high.significand * 2 ^ room * 2 ^ gap + low.significand * 2 ^ room) (2 ^ gap))
+    → (not (beq high.negative low.negative) ≡ true
+    → IsApartToOdd least (high.significand * 2 ^ room * 2 ^ gap) (low.significand * 2 ^ room) flipped q (2 ^ gap))
+    → (base : ℤ) → (base +ℤ pos digits) ≤ℤ x.exponent → (base +ℤ pos digits) ≤ℤ y.exponent
+    → IsSignedToOdd least base (counted base x.negative x.exponent x.significand
+    +ℤ counted base y.negative y.exponent y.significand) (cond flipped low.negative high.negative) e q
+terms_to_odd high low x y e flipped least digits room gap q same r wx wy g d together apart base lx ly =
+    let within = λ (t : Term). IsWithin exponent_bound t.exponent in
+    let eh = exponent_word high.exponent (of_high within high low x y same wx wy) in
+    let el = exponent_word low.exponent (of_low within high low x y same wx wy) in
+    let b = of_low (λ (t : Term). (base +ℤ pos digits) ≤ℤ t.exponent) high low x y same lx ly in
+    ordered_to_odd (λ (t : Term). counted base t.negative t.exponent t.significand) least base high low x y _ e q same
+    (total_to_odd base high.exponent low.exponent e high.negative low.negative _ flipped least digits high.significand
+    low.significand room gap q b r (let k = rw (eh, el) at g in omega (arith, ints, k)) (d ∙ eh)
+    (unlike_false high.negative low.negative) (unlike_true high.negative low.negative) together apart)
