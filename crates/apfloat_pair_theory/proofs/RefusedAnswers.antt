@@ -1,8 +1,7 @@
 -- The laws reject results that were computed with a step left out.
-use Rattle.std.proofs.Common.{◌≡◌, ◌+◌, ◌^◌, false, true, refl, sym, ap, subst, eqb, lit≤, lit<, arith}
+use Rattle.std.proofs.Common.{◌≡◌, ◌+◌, ◌^◌, false, true, refl, sym, ap, subst, eqb, lit≤, lit<}
 use Rattle.std.specs.Prelude.{ℤ, pos, neg_ℤ}
 use Rattle.std.proofs.lemmas.Bool.{false≢true, le-leb}
-use Rattle.std.proofs.lemmas.Int.{ints}
 use Rattle.apfloat_model.specs.declared.kinds.Round.TheVariants.{NearestTiesToEven}
 use Rattle.apfloat_model.specs.formats.Datum.{Datum, finite}
 use Rattle.apfloat_model.specs.arithmetic.Exact.{magnitude}
@@ -14,6 +13,8 @@ use Rattle.apfloat_model.proofs.rows.RowsIn.{rounded}
 use Rattle.apfloat_pair_theory.specs.PairFormats.{double}
 use Rattle.apfloat_pair_theory.specs.Pairs.{IsNormalised}
 use Rattle.apfloat_pair_theory.specs.PairAccuracy.{HaveExponents, IsErrorFreeSum, IsAccurateSum, IsAccurateProduct}
+use Rattle.apfloat_pair_theory.proofs.pairs.Normalised.{normalised_by}
+use Rattle.apfloat_pair_theory.proofs.products.ProductRanges.{have_exponents}
 use Rattle.apfloat_pair_theory.specs.WrongAnswers.{one, least, half_unit, one_and_half_unit, one_and_quarter_unit, before_closing}
 
 -- 1 is not an error-free sum of 1 and the least double
@@ -25,44 +26,18 @@ dropped_error law =
 
 -- the operands are normalized
 one_normalised : IsNormalised one
-one_normalised = record {
-  finite_high = refl;
-  finite_low = refl;
-  nearest = finite false (2 ^ 1074);
-  status = ok_bits;
-  is_nearest = rounded (2 ^ 52) 1022 refl refl refl;
-  same_number = refl;
-}
+one_normalised = normalised_by one ok_bits refl refl (rounded (2 ^ 52) 1022 refl refl refl)
 
 half_unit_normalised : IsNormalised half_unit
-half_unit_normalised = record {
-  finite_high = refl;
-  finite_low = refl;
-  nearest = finite false (2 ^ 1021);
-  status = ok_bits;
-  is_nearest = rounded (2 ^ 52) 969 refl refl refl;
-  same_number = refl;
-}
+half_unit_normalised = normalised_by half_unit ok_bits refl refl (rounded (2 ^ 52) 969 refl refl refl)
 
 one_and_half_unit_normalised : IsNormalised one_and_half_unit
-one_and_half_unit_normalised = record {
-  finite_high = refl;
-  finite_low = refl;
-  nearest = finite false (2 ^ 1074);
-  status = inexact_bit;
-  is_nearest = rounded (2 ^ 52) 1022 refl refl refl;
-  same_number = refl;
-}
+one_and_half_unit_normalised =
+    normalised_by one_and_half_unit inexact_bit refl refl (rounded (2 ^ 52) 1022 refl refl refl)
 
 one_and_quarter_unit_normalised : IsNormalised one_and_quarter_unit
-one_and_quarter_unit_normalised = record {
-  finite_high = refl;
-  finite_low = refl;
-  nearest = finite false (2 ^ 1074);
-  status = inexact_bit;
-  is_nearest = rounded (2 ^ 52) 1022 refl refl refl;
-  same_number = refl;
-}
+one_and_quarter_unit_normalised =
+    normalised_by one_and_quarter_unit inexact_bit refl refl (rounded (2 ^ 52) 1022 refl refl refl)
 
 -- the parts before the closing step add up to a double
 sum_is_double : IsSum double NearestTiesToEven (finite false (2 ^ 1074)) (finite false (2 ^ 1022))
@@ -84,16 +59,10 @@ skipped_closing_step law =
 
 -- the exponents of 1 + 2 ^ -54 and of 1 are 0
 exponents : HaveExponents one_and_quarter_unit one (neg_ℤ (pos 900)) (pos 1021)
-exponents = record {
-  first_is_number = refl;
-  second_is_number = refl;
-  first = pos 0;
-  second = pos 0;
-  is_first = record { place = 1074; low = lit≤ tt; high = lit< tt; is = refl };
-  is_second = record { place = 1074; low = lit≤ tt; high = lit< tt; is = refl };
-  not_below = omega (arith, ints);
-  not_above = omega (arith, ints);
-}
+exponents =
+    have_exponents one_and_quarter_unit one 0 0 900 1021 refl refl
+    (record { place = 1074; low = lit≤ tt; high = lit< tt; is = refl })
+    (record { place = 1074; low = lit≤ tt; high = lit< tt; is = refl }) (lit≤ tt)
 
 -- 1 is not an accurate product of 1 + 2 ^ -54 and 1
 pub dropped_cross_term : IsAccurateProduct one_and_quarter_unit one one → ⊥

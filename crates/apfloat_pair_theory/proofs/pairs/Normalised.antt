@@ -20,6 +20,8 @@ use Rattle.apfloat_model.specs.arithmetic.Sums.{IsSum, zero_sum_sign}
 use Rattle.apfloat_model.proofs.rounding.Laws.{delivered_once, zero_delivered, exact_delivered}
 use Rattle.apfloat_model.proofs.arithmetic.Signs.{no_sign}
 use Rattle.apfloat_model.proofs.arithmetic.SumLaws.{signed_quanta_is}
+use Rattle.apfloat_pair_theory.specs.PairFormats.{double}
+use Rattle.apfloat_pair_theory.specs.Pairs.{Pair, IsNormalised}
 use Rattle.apfloat_pair_theory.proofs.numbers.Signed.{IsGridNumber, on_grid_as}
 use Rattle.apfloat_pair_theory.proofs.numbers.Nearest.{IsNearest}
 use Rattle.apfloat_pair_theory.proofs.numbers.Roundings.{sum_finite, signed_exact}
@@ -102,6 +104,25 @@ pub record IsHighOf (format : Format) (high low : Datum) : Type 0 where
   pub status : ℕ
   pub is_nearest : IsSum format NearestTiesToEven high low nearest status
   pub same_number : is_equal high nearest ≡ true
+
+-- a pair of finite parts whose high part is that of both is normalized
+pub normalised_high : (x : Pair) → is_finite x.high ≡ true → is_finite x.low ≡ true → IsHighOf double x.high x.low
+    → IsNormalised x
+normalised_high x h l n = record {
+  finite_high = h;
+  finite_low = l;
+  nearest = n.nearest;
+  status = n.status;
+  is_nearest = n.is_nearest;
+  same_number = n.same_number;
+}
+
+-- a pair of finite parts whose sum rounds to the high part is normalized
+pub normalised_by : (x : Pair) (status : ℕ) → is_finite x.high ≡ true → is_finite x.low ≡ true
+    → IsSum double NearestTiesToEven x.high x.low x.high status → IsNormalised x
+normalised_by x status h l n =
+    normalised_high x h l
+    (record { nearest = x.high; status = status; is_nearest = n; same_number = is_equal_by x.high x.high h h refl })
 
 -- a rounded sum is the high part of a pair whose low part is its error
 pub high_of_sum : (format : Format) (sum rest high low : Datum) (status : ℕ) → format.nonfinite ≡ IEEE754

@@ -120,16 +120,11 @@ from_steps x y t flags answer status whole a c r is_number nearest lost =
     let n = lost_numbers double is_ieee sixty_four whole x.high x.low y.high y.low t lost.0 v.0 w.0 cross.0 tau.0 g
     is_number nearest
     record {
-      lost_flags = lost.1;
-      v_flags = v.1;
-      w_flags = w.1;
-      cross_flags = cross.1;
-      tau_flags = tau.1;
-      is_lost = lost.2;
-      is_v = v.2;
-      is_w = w.2;
-      is_cross = cross.2;
-      is_tau = tau.2;
+      is_lost = (lost.1, lost.2);
+      is_v = (v.1, v.2);
+      is_w = (w.1, w.2);
+      is_cross = (cross.1, cross.2);
+      is_tau = (tau.1, tau.2);
     } in
     let b = close_low _ _ _ _ sum_reach e (grown whole (number t)) (reached whole (number t)) n.small r.within in
     let m : IsClosable t tau.0 =

@@ -21,6 +21,21 @@ use Rattle.apfloat_pair_theory.proofs.numbers.WholeProducts.{IsWholeProduct, who
 
 -- ---- exponents
 
+-- of two exponents that are not negative, the sum is not below a bound that is
+pub have_exponents : (x y : Pair) (first second below above : ℕ) → is_finite_non_zero x.high ≡ true
+    → is_finite_non_zero y.high ≡ true → IsIlogb double x.high (pos first) → IsIlogb double y.high (pos second)
+    → first + second ≤ above → HaveExponents x y (neg_ℤ (pos below)) (pos above)
+have_exponents x y first second below above p q e g l = record {
+  first_is_number = p;
+  second_is_number = q;
+  first = pos first;
+  second = pos second;
+  is_first = e;
+  is_second = g;
+  not_below = omega (arith, ints);
+  not_above = omega (arith, ints);
+}
+
 -- the numbers of digits of two numbers of quanta, and the range of their sum
 pub record HaveLengths (m n least greatest : ℕ) : Type 0 where
   pub i : ℕ

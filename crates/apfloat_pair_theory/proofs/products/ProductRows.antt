@@ -1,7 +1,6 @@
 -- Worked products of pairs; and the laws for 3 times 5: their premises can be met, and they give 15.
-use Rattle.std.proofs.Common.{◌≡◌, ℕ, ◌*◌, ◌^◌, ◌≤◌, true, false, refl, lit<, lit≤, arith}
+use Rattle.std.proofs.Common.{◌≡◌, ℕ, ◌*◌, ◌^◌, ◌≤◌, true, false, refl, lit<, lit≤}
 use Rattle.std.specs.Prelude.{pos, neg_ℤ, ◌*ℤ◌}
-use Rattle.std.proofs.lemmas.Int.{ints}
 use Rattle.apfloat_model.specs.declared.kinds.Round.TheVariants.{NearestTiesToEven}
 use Rattle.apfloat_model.specs.formats.Datum.{finite}
 use Rattle.apfloat_model.specs.rounding.Rounding.{ok_bits, inexact_bit}
@@ -15,6 +14,7 @@ use Rattle.apfloat_pair_theory.specs.PairAccuracy.{HaveExponents, HasZeroLow}
 use Rattle.apfloat_model.proofs.Steps.{leads_somewhere}
 use Rattle.apfloat_pair_theory.proofs.pairs.LawOperands.{double_alone}
 use Rattle.apfloat_pair_theory.proofs.sums.PairSumLaws.{single_normalised}
+use Rattle.apfloat_pair_theory.proofs.products.ProductRanges.{have_exponents}
 use Rattle.apfloat_pair_theory.proofs.products.ProductsSound.{pair_product_sound}
 use Rattle.apfloat_pair_theory.proofs.products.PairProductLaws.{error_free_product, accurate_product}
 
@@ -93,16 +93,10 @@ five_normalised = single_normalised five (double_alone five five_is five_single)
 
 -- the exponents of 3 and 5 are 1 and 2
 exponents : (below above : ℕ) → 3 ≤ above → HaveExponents three five (neg_ℤ (pos below)) (pos above)
-exponents below above h = record {
-  first_is_number = refl;
-  second_is_number = refl;
-  first = pos 1;
-  second = pos 2;
-  is_first = record { place = 1075; low = lit≤ tt; high = lit< tt; is = refl };
-  is_second = record { place = 1076; low = lit≤ tt; high = lit< tt; is = refl };
-  not_below = omega (arith, ints);
-  not_above = omega (arith, ints);
-}
+exponents below above h =
+    have_exponents three five 1 2 below above refl refl
+    (record { place = 1075; low = lit≤ tt; high = lit< tt; is = refl })
+    (record { place = 1076; low = lit≤ tt; high = lit< tt; is = refl }) h
 
 -- some pair is the product, it is normalized, and its number times 2 ^ 1074 quanta is 3 times 5
 pub fifteen : (answer : Pair)

@@ -12,7 +12,6 @@ use Rattle.apfloat_model.specs.rounding.Negation.{negated}
 use Rattle.apfloat_model.specs.order.Classes.{is_finite}
 use Rattle.apfloat_model.specs.arithmetic.Exact.{magnitude}
 use Rattle.apfloat_model.specs.order.Order.{number}
-use Rattle.apfloat_model.specs.arithmetic.Sums.{IsSum}
 use Rattle.apfloat_model.specs.arithmetic.Products.{IsProduct}
 use Rattle.apfloat_model.specs.arithmetic.FusedSums.{IsFusedSum}
 use Rattle.apfloat_pair_theory.proofs.numbers.Signed.{grown, magnitude_le, magnitude-sub}
@@ -20,7 +19,7 @@ use Rattle.apfloat_pair_theory.proofs.numbers.SignedProducts.{magnitude-mul}
 use Rattle.apfloat_pair_theory.proofs.numbers.Nearest.{IsNearest, relative_error}
 use Rattle.apfloat_pair_theory.proofs.numbers.TwoSums.{positive}
 use Rattle.apfloat_pair_theory.proofs.numbers.Roundings.{sum_within}
-use Rattle.apfloat_pair_theory.proofs.sums.SumSteps.{size}
+use Rattle.apfloat_pair_theory.proofs.sums.SumSteps.{HasFlags, IsSumStep, size}
 use Rattle.apfloat_pair_theory.proofs.numbers.WholeProducts.{IsWholeProduct, whole_size, product_within, two_product}
 use Rattle.apfloat_pair_theory.proofs.numbers.FractionErrors.{IsCloseFraction, fraction_error, fraction_size}
 
@@ -41,16 +40,11 @@ pub record IsLostNumber (precision scale : ℕ) (x ad bc t tau : ℤ) : Type 0 w
 
 -- the steps after t, the rounded product of the high parts a and c
 pub record AreProductSteps (format : Format) (a b c d t lost v w cross tau : Datum) : Type 0 where
-  pub lost_flags : ℕ
-  pub v_flags : ℕ
-  pub w_flags : ℕ
-  pub cross_flags : ℕ
-  pub tau_flags : ℕ
-  pub is_lost : IsFusedSum format NearestTiesToEven a c (negated IEEE754 t) lost lost_flags
-  pub is_v : IsProduct format NearestTiesToEven a d v v_flags
-  pub is_w : IsProduct format NearestTiesToEven b c w w_flags
-  pub is_cross : IsSum format NearestTiesToEven v w cross cross_flags
-  pub is_tau : IsSum format NearestTiesToEven lost cross tau tau_flags
+  pub is_lost : HasFlags (IsFusedSum format NearestTiesToEven a c (negated IEEE754 t) lost)
+  pub is_v : HasFlags (IsProduct format NearestTiesToEven a d v)
+  pub is_w : HasFlags (IsProduct format NearestTiesToEven b c w)
+  pub is_cross : IsSumStep format v w cross
+  pub is_tau : IsSumStep format lost cross tau
 
 -- Finite parts (a, b) and (c, d). The product x of the high parts is within the format, and has 64 quanta or more;
 -- the low parts are small relative to the high parts.
@@ -161,26 +155,26 @@ module _ (format : Format) (kind : format.nonfinite ≡ IEEE754) (wide : 64 ≤ 
       → IsNearest format.precision x (number t) → AreProductSteps format a b c d t lost v w cross tau
       → IsLostDatum format x (number a *ℤ number d) (number b *ℤ number c) (number t) tau
   lost_numbers x a b c d t lost v w cross tau g ft nt st =
-      let r = two_product format a c t lost st.lost_flags x kind (omega arith) g.finite_a g.finite_c ft g.whole g.within
-      nt st.is_lost in
+      let r = two_product format a c t lost st.is_lost.0 x kind (omega arith) g.finite_a g.finite_c ft g.whole g.within
+      nt st.is_lost.1 in
       let e = whole_size format.precision format.scale (number a) (number c) x g.whole in
-      let pv = cross_product x a d v st.v_flags g.finite_a g.finite_d g.some
+      let pv = cross_product x a d v st.is_v.0 g.finite_a g.finite_d g.some
       (product_le (size a) (size c) (size d) (magnitude x) (2 ^ format.scale) (largest format) g.low_second e g.within)
-      st.is_v in
-      let pw = cross_product x b c w st.w_flags g.finite_b g.finite_c g.some
+      st.is_v.1 in
+      let pw = cross_product x b c w st.is_w.0 g.finite_b g.finite_c g.some
       (product_le_first (size a) (size c) (size b) (magnitude x) (2 ^ format.scale)
       (largest format) g.low_first e g.within)
-      st.is_w in
+      st.is_w.1 in
       let within = g.within in
       let s₁ = cross_bound _ _ _ _ pv.2 pw.2 (magnitude_le (number v) (number w)) in
-      let nc = sum_within format v w cross st.cross_flags kind pv.0 pw.0 (omega (arith, s₁, within)) st.is_cross in
+      let nc = sum_within format v w cross st.is_cross.0 kind pv.0 pw.0 (omega (arith, s₁, within)) st.is_cross.1 in
       let et = nearest_close format.precision x (number t) wide nt in
       let ml : magnitude (number t -ℤ x) ≡ size lost = magnitude-sub (number t) x ∙ ap magnitude (sym r.number_is) in
       let s₂ = rest_bound _ _ _ _ _ _ (subst (λ (i : ℕ). 64 * i ≤ magnitude x) ml et) s₁
       (nearest_close format.precision _ (number cross) wide nc.nearest)
       (grown (number v +ℤ number w) (number cross)) (magnitude_le (number lost) (number cross)) in
-      let nu = sum_within format lost cross tau st.tau_flags kind r.is_finite nc.is_finite
-      (omega (arith, s₂, within)) st.is_tau in
+      let nu = sum_within format lost cross tau st.is_tau.0 kind r.is_finite nc.is_finite
+      (omega (arith, s₂, within)) st.is_tau.1 in
       record {
         is_finite = nu.is_finite;
         number_is = record {

@@ -2,7 +2,7 @@
 use Rattle.std.proofs.Common.{ℕ}
 use Rattle.apfloat_model.specs.declared.kinds.NonfiniteBehavior.TheVariants.{IEEE754}
 use Rattle.apfloat_model.specs.declared.kinds.Category.{Category}
-use Rattle.apfloat_model.specs.declared.kinds.Category.TheVariants.{Zero, Normal, Infinity, NaN}
+use Rattle.apfloat_model.specs.declared.kinds.Category.TheVariants.{Normal, NaN}
 use Rattle.apfloat_model.specs.formats.Datum.{Datum}
 use Rattle.apfloat_model.specs.rounding.Negation.{negated}
 use Rattle.apfloat_model.specs.rounding.RaisedFlags.{FlagsGoTogether}
@@ -38,21 +38,8 @@ product_of_numbers_sound x y =
 product_of_categories_sound : (first second : Category) (x y : Pair)
     → AreSound (product_of_categories first second x y)
 product_of_categories_sound Normal Normal x y = product_of_numbers_sound x y
-product_of_categories_sound Zero Zero x y = ok_together
-product_of_categories_sound Zero Normal x y = ok_together
-product_of_categories_sound Zero Infinity x y = ok_together
-product_of_categories_sound Zero NaN x y = ok_together
-product_of_categories_sound Normal Zero x y = ok_together
-product_of_categories_sound Normal Infinity x y = ok_together
-product_of_categories_sound Normal NaN x y = ok_together
-product_of_categories_sound Infinity Zero x y = ok_together
-product_of_categories_sound Infinity Normal x y = ok_together
-product_of_categories_sound Infinity Infinity x y = ok_together
-product_of_categories_sound Infinity NaN x y = ok_together
-product_of_categories_sound NaN Zero x y = ok_together
-product_of_categories_sound NaN Normal x y = ok_together
-product_of_categories_sound NaN Infinity x y = ok_together
-product_of_categories_sound NaN NaN x y = ok_together
+product_of_categories_sound first NaN x y = ok_together
+product_of_categories_sound first second x y = ok_together
 
 pub pair_product_sound : (x y : Pair) → AreSound (pair_product x y)
 pair_product_sound x y = product_of_categories_sound (pair_category x) (pair_category y) x y

@@ -24,7 +24,7 @@ use Rattle.apfloat_pair_theory.proofs.sums.PairRoundings.{fast_two_sum}
 use Rattle.apfloat_pair_theory.proofs.sums.SumSteps.{IsClosingSteps, IsAddend, size, closed, high_rounded}
 use Rattle.apfloat_pair_theory.proofs.sums.SumsSound.{at_test}
 use Rattle.apfloat_pair_theory.proofs.numbers.Statuses.{sum_status, difference_status, union_status}
-use Rattle.apfloat_pair_theory.proofs.pairs.Normalised.{IsHighOf, high_of_sum, high_alone}
+use Rattle.apfloat_pair_theory.proofs.pairs.Normalised.{IsHighOf, normalised_high, high_of_sum, high_alone}
 
 -- ---- doubles
 
@@ -65,14 +65,7 @@ pair_of_high : (sum rest high low : Datum) (flags status : ℕ) → is_finite hi
     → (number high +ℤ number low) ≡ (number sum +ℤ number rest) → IsHighOf double high low
     → (IsOkOrInexact flags → IsOkOrInexact status) → IsPairOf sum rest flags (record { high = high; low = low }) status
 pair_of_high z y h l flags status fh fl e n o = record {
-  normalised = record {
-    finite_high = fh;
-    finite_low = fl;
-    nearest = n.nearest;
-    status = n.status;
-    is_nearest = n.is_nearest;
-    same_number = n.same_number;
-  };
+  normalised = normalised_high (record { high = h; low = l }) fh fl n;
   number_is = e;
   plain = o;
 }
@@ -102,14 +95,7 @@ low_part_pair z y h before h_flags flags answer status a o s left =
     let fz = a.addend.finite_sum in
     let fy = a.addend.finite_rest in
     let steps : IsClosingSteps double z y h left.0 low.0 =
-    record {
-      sum_flags = h_flags;
-      first_flags = left.1;
-      last_flags = low.1;
-      sum = s;
-      first = left.2;
-      last = low.2;
-    } in
+    record { sum = (h_flags, s); first = (left.1, left.2); last = (low.1, low.2) } in
     let c = closed double is_ieee wide_enough sum_reach room z y h left.0 low.0 a.addend steps in
     let e = fast_two_sum double.precision wide_enough _ _ _ _ _ a.sum_on_grid a.rest_on_grid a.shared c.roundings in
     let n = high_of_sum double z y h low.0 h_flags is_ieee fz fy c.finite_high c.finite_low e s in

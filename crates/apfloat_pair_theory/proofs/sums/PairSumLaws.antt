@@ -11,7 +11,6 @@ use Rattle.apfloat_model.specs.order.Classes.{is_finite, quanta_of}
 use Rattle.apfloat_model.specs.arithmetic.Exact.{magnitude}
 use Rattle.apfloat_model.specs.formats.Members.{IsMember}
 use Rattle.apfloat_model.specs.order.Order.{number}
-use Rattle.apfloat_model.specs.arithmetic.Sums.{IsSum}
 use Rattle.apfloat_model.proofs.arithmetic.Signs.{one_side}
 use Rattle.apfloat_pair_theory.specs.PairFormats.{double}
 use Rattle.apfloat_pair_theory.specs.Pairs.{Pair, pair_number, IsNormalised}
@@ -23,7 +22,7 @@ use Rattle.apfloat_pair_theory.proofs.numbers.TwoSums.{IsShared, two_sum}
 use Rattle.apfloat_pair_theory.proofs.sums.PairRoundings.{exact_opening, closing_shared}
 use Rattle.apfloat_pair_theory.proofs.sums.SumSteps.{size}
 use Rattle.apfloat_pair_theory.proofs.sums.PairSumCases.{IsGivenBack, sum_rows}
-use Rattle.apfloat_pair_theory.proofs.pairs.Normalised.{high_alone}
+use Rattle.apfloat_pair_theory.proofs.pairs.Normalised.{IsHighOf, normalised_high, high_alone}
 use Rattle.apfloat_pair_theory.proofs.sums.ClosingSums.{is_ieee, wide_enough, room}
 use Rattle.apfloat_pair_theory.proofs.pairs.LawOperands.{IsDoubleAlone, double_alone, magnitude_quanta, member_on_grid, single_low, normalised_nearest, normalised_low}
 use Rattle.apfloat_pair_theory.proofs.sums.SumAnswers.{IsPairSummand, IsPairOpening, IsSharing, IsSummed, numbers_summed}
@@ -59,16 +58,8 @@ single_normalised x s r =
     let w = within_quanta x.high s.is_finite r in
     let n = high_alone double x.high is_ieee s.is_finite (member_on_grid x.high s.is_finite s.is_double)
     (reach_within sum_reach (largest double) (size x.high) w room) in
-    record {
-      finite_high = s.is_finite;
-      finite_low = ap is_finite s.low_is;
-      nearest = n.nearest;
-      status = n.status;
-      is_nearest =
-          subst (λ (l : Datum). IsSum double NearestTiesToEven x.high l n.nearest n.status) (sym s.low_is)
-          n.is_nearest;
-      same_number = n.same_number;
-    }
+    normalised_high x s.is_finite (ap is_finite s.low_is)
+    (subst (λ (l : Datum). IsHighOf double x.high l) (sym s.low_is) n)
 
 -- for two doubles, z and w are the exact sum
 singles_open : (x y : Pair) (z q v r d e u w : ℤ) → IsDoubleAlone x → IsDoubleAlone y

@@ -65,19 +65,19 @@ answer_pair false z w flags answer status h a x = closed_pair z w flags answer s
 opening_status : (x y : Pair) (z q v r d e u w : Datum) → IsPairSummand x → IsPairSummand y
     → (k : IsOpeningSteps double x.high x.low y.high y.low z q v r d e u w)
     → IsOpened double.precision sum_reach x.high x.low y.high y.low z q v r d e u w
-    → IsOkOrInexact (k.six.first_flags ∪ k.six.second_flags ∪ k.six.third_flags ∪ k.six.fourth_flags
-    ∪ k.six.last_flags ∪ k.first_flags ∪ k.second_flags)
+    → IsOkOrInexact (k.six.first.0 ∪ k.six.second.0 ∪ k.six.third.0 ∪ k.six.fourth.0 ∪ k.six.last.0
+    ∪ k.with_first.0 ∪ k.with_second.0)
 opening_status x y z q v r d e u w a c k o =
     let f = o.finite in
-    let s₁ = difference_status double x.high z q _ is_ieee digits a.finite_high f.sum f.first k.six.first in
-    let s₂ = sum_status double q y.high v _ is_ieee digits f.first c.finite_high f.second k.six.second in
-    let s₃ = sum_status double q z r _ is_ieee digits f.first f.sum f.third k.six.third in
-    let s₄ = difference_status double r x.high d _ is_ieee digits f.third a.finite_high f.fourth k.six.fourth in
+    let s₁ = difference_status double x.high z q _ is_ieee digits a.finite_high f.sum f.first k.six.first.1 in
+    let s₂ = sum_status double q y.high v _ is_ieee digits f.first c.finite_high f.second k.six.second.1 in
+    let s₃ = sum_status double q z r _ is_ieee digits f.first f.sum f.third k.six.third.1 in
+    let s₄ = difference_status double r x.high d _ is_ieee digits f.third a.finite_high f.fourth k.six.fourth.1 in
     let s₅ = sum_status double v (negated IEEE754 d) e _ is_ieee digits f.second (negated_finite d f.fourth) f.last
-    k.six.last in
-    let s₆ = sum_status double e x.low u _ is_ieee digits f.last a.finite_low o.finite_middle k.with_first in
+    k.six.last.1 in
+    let s₆ = sum_status double e x.low u _ is_ieee digits f.last a.finite_low o.finite_middle k.with_first.1 in
     let s₇ = sum_status double u y.low w _ is_ieee digits o.finite_middle c.finite_low o.addend.finite_rest
-    k.with_second in
+    k.with_second.1 in
     union_status _ _
     (union_status _ _ (union_status _ _ (union_status _ _ (union_status _ _ (union_status _ _ s₁ s₂) s₃) s₄) s₅) s₆)
     s₇
@@ -97,23 +97,15 @@ finite_summed x y z z_flags answer status a c sh s q =
     let k : IsOpeningSteps double x.high x.low y.high y.low z q.0 v.0 r.0 d.0 e.0 u.0 w.0 =
     record {
       six = record {
-        sum_flags = z_flags;
-        first_flags = q.1;
-        second_flags = v.1;
-        third_flags = r.1;
-        fourth_flags = d.1;
-        last_flags = e.1;
-        sum = s;
-        first = q.2;
-        second = v.2;
-        third = r.2;
-        fourth = d.2;
-        last = e.2;
+        sum = (z_flags, s);
+        first = (q.1, q.2);
+        second = (v.1, v.2);
+        third = (r.1, r.2);
+        fourth = (d.1, d.2);
+        last = (e.1, e.2);
       };
-      first_flags = u.1;
-      second_flags = w.1;
-      with_first = u.2;
-      with_second = w.2;
+      with_first = (u.1, u.2);
+      with_second = (w.1, w.2);
     } in
     let o = opened double is_ieee wide_enough sum_reach room _ _ _ _ _ _ _ _ _ _ _ _ a c k in
     let m : IsClosable z w.0 =

@@ -8,6 +8,7 @@ use Rattle.apfloat_pair_theory.proofs.sums.SumsSound.{step}
 use Rattle.apfloat_pair_theory.specs.Pairs.{Pair, alone, IsNormalised}
 use Rattle.apfloat_pair_theory.specs.PairSums.{IsPairSum}
 use Rattle.apfloat_pair_theory.specs.PairAccuracy.{AreWithinReach}
+use Rattle.apfloat_pair_theory.proofs.pairs.Normalised.{normalised_by}
 
 abbrev parts_of : Bool → ℕ → Bool → ℕ → Pair
 parts_of b m c n = record { high = finite b m; low = finite c n }
@@ -40,24 +41,10 @@ far = parts_of true ((2 ^ 52 + 2) * 2 ^ 54) true (2 ^ 53)
 
 -- both are normalized and within reach
 near_normalised : IsNormalised near
-near_normalised = record {
-  finite_high = refl;
-  finite_low = refl;
-  nearest = finite false (2 ^ 53);
-  status = inexact_bit;
-  is_nearest = rounded (2 ^ 52) 1 refl refl refl;
-  same_number = refl;
-}
+near_normalised = normalised_by near inexact_bit refl refl (rounded (2 ^ 52) 1 refl refl refl)
 
 far_normalised : IsNormalised far
-far_normalised = record {
-  finite_high = refl;
-  finite_low = refl;
-  nearest = finite true ((2 ^ 52 + 2) * 2 ^ 54);
-  status = inexact_bit;
-  is_nearest = rounded (2 ^ 52 + 2) 54 refl refl refl;
-  same_number = refl;
-}
+far_normalised = normalised_by far inexact_bit refl refl (rounded (2 ^ 52 + 2) 54 refl refl refl)
 
 within_reach : AreWithinReach near far
 within_reach = record { first = lit≤ tt; second = lit≤ tt }

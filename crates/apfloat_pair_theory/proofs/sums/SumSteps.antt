@@ -19,38 +19,37 @@ use Rattle.apfloat_pair_theory.proofs.numbers.TwoSums.{IsTwoSum, two_sum, first_
 use Rattle.apfloat_pair_theory.proofs.sums.PairRoundings.{IsFastTwoSum, IsOpening, eighth, error_eighth, rest_small}
 use Rattle.apfloat_pair_theory.proofs.numbers.Roundings.{IsRoundedTo, sum_within, difference_within, negated_finite, negated_number}
 
+-- a step to nearest, with some flags
+abbrev pub HasFlags : (ℕ → Type 0) → Type 0
+HasFlags IsStep = (flags : ℕ) × IsStep flags
+
+abbrev pub IsSumStep : Format → Datum → Datum → Datum → Type 0
+IsSumStep format a c z = HasFlags (IsSum format NearestTiesToEven a c z)
+
+abbrev pub IsDifferenceStep : Format → Datum → Datum → Datum → Type 0
+IsDifferenceStep format a c z = HasFlags (IsDifference format NearestTiesToEven a c z)
+
 -- the six steps of TwoSum
 pub record IsTwoSumSteps (format : Format) (a c z q lost_of_c z_again gained lost : Datum) : Type 0 where
-  pub sum_flags : ℕ
-  pub first_flags : ℕ
-  pub second_flags : ℕ
-  pub third_flags : ℕ
-  pub fourth_flags : ℕ
-  pub last_flags : ℕ
-  pub sum : IsSum format NearestTiesToEven a c z sum_flags
-  pub first : IsDifference format NearestTiesToEven a z q first_flags
-  pub second : IsSum format NearestTiesToEven q c lost_of_c second_flags
-  pub third : IsSum format NearestTiesToEven q z z_again third_flags
-  pub fourth : IsDifference format NearestTiesToEven z_again a gained fourth_flags
-  pub last : IsSum format NearestTiesToEven lost_of_c (negated IEEE754 gained) lost last_flags
+  pub sum : IsSumStep format a c z
+  pub first : IsDifferenceStep format a z q
+  pub second : IsSumStep format q c lost_of_c
+  pub third : IsSumStep format q z z_again
+  pub fourth : IsDifferenceStep format z_again a gained
+  pub last : IsSumStep format lost_of_c (negated IEEE754 gained) lost
 
 -- the six steps of TwoSum, and the two sums with the low parts
 pub record IsOpeningSteps (format : Format) (a aa c cc z q lost_of_c z_again gained lost with_aa zz : Datum) : Type 0
   where
     pub six : IsTwoSumSteps format a c z q lost_of_c z_again gained lost
-    pub first_flags : ℕ
-    pub second_flags : ℕ
-    pub with_first : IsSum format NearestTiesToEven lost aa with_aa first_flags
-    pub with_second : IsSum format NearestTiesToEven with_aa cc zz second_flags
+    pub with_first : IsSumStep format lost aa with_aa
+    pub with_second : IsSumStep format with_aa cc zz
 
 -- the three steps of Fast2Sum, which closes the sum
 pub record IsClosingSteps (format : Format) (z zz h left low : Datum) : Type 0 where
-  pub sum_flags : ℕ
-  pub first_flags : ℕ
-  pub last_flags : ℕ
-  pub sum : IsSum format NearestTiesToEven z zz h sum_flags
-  pub first : IsDifference format NearestTiesToEven z h left first_flags
-  pub last : IsSum format NearestTiesToEven left zz low last_flags
+  pub sum : IsSumStep format z zz h
+  pub first : IsDifferenceStep format z h left
+  pub last : IsSumStep format left zz low
 
 -- ---- the same steps, as roundings of numbers
 
@@ -174,16 +173,15 @@ closing_last t s e g u v h1 h2 h3 h4 h5 = omega arith
 module _ (format : Format) (kind : format.nonfinite ≡ IEEE754) (wide : 8 ≤ 2 ^ format.precision) (top : ℕ)
     (room : 3 * top ≤ largest format) where
   -- an exact sum or difference of at most twice `top` is rounded to a finite datum
-  sum_of : (x y value : Datum) (status : ℕ) → is_finite x ≡ true → is_finite y ≡ true
-      → magnitude (number x +ℤ number y) ≤ 2 * top → IsSum format NearestTiesToEven x y value status
+  sum_of : (x y value : Datum) → is_finite x ≡ true → is_finite y ≡ true
+      → magnitude (number x +ℤ number y) ≤ 2 * top → IsSumStep format x y value
       → IsRoundedTo format.precision (number x +ℤ number y) value
-  sum_of x y value status p q h s = sum_within format x y value status kind p q (within_largest _ _ _ room h) s
+  sum_of x y value p q h s = sum_within format x y value s.0 kind p q (within_largest _ _ _ room h) s.1
 
-  difference_of : (x y value : Datum) (status : ℕ) → is_finite x ≡ true → is_finite y ≡ true
-      → magnitude (number x -ℤ number y) ≤ 2 * top → IsDifference format NearestTiesToEven x y value status
+  difference_of : (x y value : Datum) → is_finite x ≡ true → is_finite y ≡ true
+      → magnitude (number x -ℤ number y) ≤ 2 * top → IsDifferenceStep format x y value
       → IsRoundedTo format.precision (number x -ℤ number y) value
-  difference_of x y value status p q h s =
-      difference_within format x y value status kind p q (within_largest _ _ _ room h) s
+  difference_of x y value p q h s = difference_within format x y value s.0 kind p q (within_largest _ _ _ room h) s.1
 
   -- a rounding is off by at most an eighth
   error_of : (exact : ℤ) (value : Datum) → IsRoundedTo format.precision exact value
@@ -194,7 +192,7 @@ module _ (format : Format) (kind : format.nonfinite ≡ IEEE754) (wide : 8 ≤ 2
   pub first_finite : (a c z : Datum) (status : ℕ) → is_finite a ≡ true → is_finite c ≡ true → size a ≤ top
       → size c ≤ top → IsSum format NearestTiesToEven a c z status → is_finite z ≡ true
   first_finite a c z status fa fc la lc x =
-      let n = sum_of a c z status fa fc (sum_low _ _ _ _ la lc (magnitude_le (number a) (number c))) x in n.is_finite
+      (sum_of a c z fa fc (sum_low _ _ _ _ la lc (magnitude_le (number a) (number c))) (status, x)).is_finite
 
   -- within a third of the largest value, no step overflows
   pub two_sum_rounded : (a c z q lost_of_c z_again gained lost : Datum)
@@ -203,25 +201,25 @@ module _ (format : Format) (kind : format.nonfinite ≡ IEEE754) (wide : 8 ≤ 2
       → IsTwoSumRounded format.precision a c z q lost_of_c z_again gained lost
   two_sum_rounded a c z q v r d e fa fc la lc x =
       let s₀ = sum_low _ _ _ _ la lc (magnitude_le (number a) (number c)) in
-      let nz = sum_of a c z x.sum_flags fa fc s₀ x.sum in
+      let nz = sum_of a c z fa fc s₀ x.sum in
       let ez = error_low _ _ _ s₀ (error_of _ _ nz) in
       let s₁ = with_error _ _ _ _ lc ez (first_at (number a) (number c) (number z)) in
-      let nq = difference_of a z q x.first_flags fa nz.is_finite s₁ x.first in
+      let nq = difference_of a z q fa nz.is_finite s₁ x.first in
       let eq = error_low _ _ _ s₁ (error_of _ _ nq) in
       let s₂ = two_errors _ _ _ _ eq ez (second_at (number a) (number c) (number z) (number q)) in
-      let nv = sum_of q c v x.second_flags nq.is_finite fc (half_low _ _ s₂) x.second in
+      let nv = sum_of q c v nq.is_finite fc (half_low _ _ s₂) x.second in
       let lv = value_low _ _ _ _ s₂ (error_of _ _ nv) (grown (number q +ℤ number c) (number v)) in
       let s₃ = with_error _ _ _ _ la eq (third_at (number a) (number z) (number q)) in
-      let nr = sum_of q z r x.third_flags nq.is_finite nz.is_finite s₃ x.third in
+      let nr = sum_of q z r nq.is_finite nz.is_finite s₃ x.third in
       let er = error_low _ _ _ s₃ (error_of _ _ nr) in
       let s₄ = two_errors _ _ _ _ er eq (fourth_at (number a) (number z) (number q) (number r)) in
-      let nd = difference_of r a d x.fourth_flags nr.is_finite fa (half_low _ _ s₄) x.fourth in
+      let nd = difference_of r a d nr.is_finite fa (half_low _ _ s₄) x.fourth in
       let ld = value_low _ _ _ _ s₄ (error_of _ _ nd) (grown (number r -ℤ number a) (number d)) in
       let md = negated_number d nd.is_finite in
       let l₅ : size (negated IEEE754 d) ≤ top =
       subst (λ (n : ℕ). n ≤ top) (sym (ap magnitude md ∙ magnitude-neg (number d))) ld in
       let s₅ = sum_low _ _ _ _ lv l₅ (magnitude_le (number v) (number (negated IEEE754 d))) in
-      let ne = sum_of v (negated IEEE754 d) e x.last_flags nv.is_finite (negated_finite d nd.is_finite) s₅ x.last in
+      let ne = sum_of v (negated IEEE754 d) e nv.is_finite (negated_finite d nd.is_finite) s₅ x.last in
       record {
         finite = record {
           sum = nz.is_finite;
@@ -254,12 +252,12 @@ module _ (format : Format) (kind : format.nonfinite ≡ IEEE754) (wide : 8 ≤ 2
       (eighth _ _ _ wide (rest_small format.precision wide (number a) (number c) _ _ t.roundings.sum is)) in
       let ez = error_low _ _ _ s₀ (error_eighth format.precision wide (number a +ℤ number c) _ t.roundings.sum) in
       let b₁ = magnitude_le (number e) (number aa) in
-      let nx = sum_of e aa x k.first_flags t.finite.last m.finite_low
+      let nx = sum_of e aa x t.finite.last m.finite_low
       (first_low _ _ _ _ le m.low_within b₁) k.with_first in
       let g = grown (number e +ℤ number aa) (number x) in
       let s₂ = second_low _ _ _ _ _ _ _ _ le m.low_within b₁ (error_of _ _ nx) g n.low_within
       (magnitude_le (number x) (number cc)) in
-      let ny = sum_of x cc y k.second_flags nx.is_finite n.finite_low s₂.0 k.with_second in
+      let ny = sum_of x cc y nx.is_finite n.finite_low s₂.0 k.with_second in
       record {
         finite = t.finite;
         finite_middle = nx.is_finite;
@@ -284,13 +282,13 @@ module _ (format : Format) (kind : format.nonfinite ≡ IEEE754) (wide : 8 ≤ 2
       → IsClosedSum format.precision z zz h left low
   closed z y h g l a x =
       let s₀ = closing_within _ _ _ _ _ a.sum_low a.rest_low (magnitude_le (number z) (number y)) room in
-      let nh = high_rounded z y h x.sum_flags a x.sum in
+      let nh = high_rounded z y h x.sum.0 a x.sum.1 in
       let eh = error_of _ _ nh in
       let s₁ = closing_first _ _ _ _ _ s₀.1 eh a.rest_low (first_at (number z) (number y) (number h)) in
-      let ng = difference_of z h g x.first_flags a.finite_sum nh.is_finite s₁ x.first in
+      let ng = difference_of z h g a.finite_sum nh.is_finite s₁ x.first in
       let s₂ = closing_last _ _ _ _ _ _ s₀.1 eh s₁ (error_of _ _ ng)
       (second_at (number z) (number y) (number h) (number g)) in
-      let nl = sum_of g y l x.last_flags ng.is_finite a.finite_rest s₂ x.last in
+      let nl = sum_of g y l ng.is_finite a.finite_rest s₂ x.last in
       record {
         finite_high = nh.is_finite;
         finite_left = ng.is_finite;

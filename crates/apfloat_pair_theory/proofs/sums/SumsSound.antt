@@ -3,7 +3,7 @@ use Rattle.std.proofs.Common.{◌≡◌, ℕ, Bool, true, false, subst, if◌the
 use Rattle.apfloat_model.specs.declared.kinds.Round.{Round}
 use Rattle.apfloat_model.specs.declared.kinds.NonfiniteBehavior.TheVariants.{IEEE754}
 use Rattle.apfloat_model.specs.declared.kinds.Category.{Category}
-use Rattle.apfloat_model.specs.declared.kinds.Category.TheVariants.{Zero, Normal, Infinity, NaN}
+use Rattle.apfloat_model.specs.declared.kinds.Category.TheVariants.{Normal, Infinity, NaN}
 use Rattle.apfloat_model.specs.formats.Datum.{Datum}
 use Rattle.apfloat_model.specs.formats.Format.{Format}
 use Rattle.apfloat_model.specs.rounding.Rounding.{ok_bits}
@@ -116,20 +116,8 @@ sum_of_categories_sound : (first second : Category) (x y : Pair) → AreSound (s
 sum_of_categories_sound Infinity Infinity x y =
     sound_if (same_sign (is_negative x.high) (is_negative y.high)) _ _ ok_together invalid_together
 sum_of_categories_sound Normal Normal x y = sum_of_numbers_sound x y
-sum_of_categories_sound Zero Zero x y = ok_together
-sum_of_categories_sound Zero Normal x y = ok_together
-sum_of_categories_sound Zero Infinity x y = ok_together
-sum_of_categories_sound Zero NaN x y = ok_together
-sum_of_categories_sound Normal Zero x y = ok_together
-sum_of_categories_sound Normal Infinity x y = ok_together
-sum_of_categories_sound Normal NaN x y = ok_together
-sum_of_categories_sound Infinity Zero x y = ok_together
-sum_of_categories_sound Infinity Normal x y = ok_together
-sum_of_categories_sound Infinity NaN x y = ok_together
-sum_of_categories_sound NaN Zero x y = ok_together
-sum_of_categories_sound NaN Normal x y = ok_together
-sum_of_categories_sound NaN Infinity x y = ok_together
-sum_of_categories_sound NaN NaN x y = ok_together
+sum_of_categories_sound first NaN x y = ok_together
+sum_of_categories_sound first second x y = ok_together
 
 pub pair_sum_sound : (x y : Pair) → AreSound (pair_sum x y)
 pair_sum_sound x y = sum_of_categories_sound (pair_category x) (pair_category y) x y
