@@ -50,16 +50,21 @@ above_below precision n next p g b =
 infinite_past : (kind : NonfiniteBehavior) (base : ℕ) → kind ≡ IEEE754 → past_largest kind base false ≡ infinite false
 infinite_past kind base e = rw e refl
 
+-- the value next below, from the value next above the negation
+next_down_by : (format : Format) (value from up result : Datum) → value ≡ from
+    → IsNextUp format (negated format.nonfinite from) up 0 → result ≡ negated format.nonfinite up
+    → IsNextDown format value result 0
+next_down_by format value from up result e h k =
+    subst (λ (z : Datum). IsNextDown format z result 0) (sym e)
+    (record { up_of_negated = up; is_next_up = h; is = k })
+
 -- the value next below the infinity is the largest number
 next_down_infinite : (format : Format) (n : ℕ) (value : Datum) → 0 < n → n ≡ largest format → value ≡ infinite false
     → IsNextDown format value (finite false n) 0
 next_down_infinite format n v p e w =
-    subst (λ (z : Datum). IsNextDown format z (finite false n) 0) (sym w)
-    (record {
-      up_of_negated = finite true n;
-      is_next_up = record { value_is = ap (λ (k : ℕ). finite true k) e; status_is = refl };
-      is = number_swapped format.nonfinite true n p;
-    })
+    next_down_by format v (infinite false) (finite true n) (finite false n) w
+    (record { value_is = ap (λ (k : ℕ). finite true k) e; status_is = refl })
+    (number_swapped format.nonfinite true n p)
 
 -- the value next below the next greater number is the number itself
 next_down_greater : (format : Format) (n next : ℕ) (value : Datum) → 0 < n → IsOnGrid format.precision n
@@ -76,14 +81,9 @@ next_down_greater format n next v p g a w =
           record { value_is = sym (signed_some format.nonfinite true n p); status_is = refl };
     } in
     let up : IsNextUp format (finite true next) (finite true n) 0 = rw (not_zero next q) less in
-    subst (λ (z : Datum). IsNextDown format z (finite false n) 0) (sym w)
-    (record {
-      up_of_negated = finite true n;
-      is_next_up =
-          subst (λ (z : Datum). IsNextUp format z (finite true n) 0)
-          (number_swapped format.nonfinite false next q) up;
-      is = number_swapped format.nonfinite true n p;
-    })
+    next_down_by format v (finite false next) (finite true n) (finite false n) w
+    (subst (λ (z : Datum). IsNextUp format z (finite true n) 0) (number_swapped format.nonfinite false next q) up)
+    (number_swapped format.nonfinite true n p)
 
 -- ---- of a negative number
 
@@ -98,13 +98,9 @@ next_down_zero format n v k e w =
     let p : 0 < n = omega (arith, e) in
     let up : IsNextUp format (finite false 0) (finite false n) 0 =
     record { value_is = ap (λ (j : ℕ). finite false j) e; status_is = refl } in
-    subst (λ (z : Datum). IsNextDown format z (finite true n) 0) (sym w)
-    (record {
-      up_of_negated = finite false n;
-      is_next_up = subst (λ (z : Datum). IsNextUp format z (finite false n) 0)
-          (sym (zero_negated format.nonfinite k)) up;
-      is = number_swapped format.nonfinite false n p;
-    })
+    next_down_by format v (signed_quanta format.nonfinite true 0) (finite false n) (finite true n) w
+    (subst (λ (z : Datum). IsNextUp format z (finite false n) 0) (sym (zero_negated format.nonfinite k)) up)
+    (number_swapped format.nonfinite false n p)
 
 -- the value next below the next negative number of lesser magnitude is the number itself
 next_down_less : (format : Format) (n next : ℕ) (value : Datum) → 0 < n → 0 < next → n ≤ largest format
@@ -122,14 +118,9 @@ next_down_less format n next v p q m g b w =
     } in
     let number : IsNextOfNumber format false next (finite false n) 0 = rw z greater in
     let up : IsNextUp format (finite false next) (finite false n) 0 = rw (not_zero next q) number in
-    subst (λ (z : Datum). IsNextDown format z (finite true n) 0) (sym w)
-    (record {
-      up_of_negated = finite false n;
-      is_next_up =
-          subst (λ (z : Datum). IsNextUp format z (finite false n) 0)
-          (number_swapped format.nonfinite true next q) up;
-      is = number_swapped format.nonfinite false n p;
-    })
+    next_down_by format v (finite true next) (finite false n) (finite true n) w
+    (subst (λ (z : Datum). IsNextUp format z (finite false n) 0) (number_swapped format.nonfinite true next q) up)
+    (number_swapped format.nonfinite false n p)
 
 -- from the value next above a negative number, the value next below is the number itself
 negative_back : (format : Format) (n : ℕ) (value : Datum) (status : ℕ) → format.nonfinite ≡ IEEE754

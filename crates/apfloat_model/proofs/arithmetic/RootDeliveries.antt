@@ -12,6 +12,30 @@ use Rattle.apfloat_model.proofs.rounding.Picks.{takes_less, takes_half, takes_mo
 use Rattle.apfloat_model.proofs.arithmetic.RootSides.{AgreesWithRoot, coarser}
 use Rattle.apfloat_model.proofs.general.Choices.{by_order, where_open}
 
+-- numbers in the same order as two others pass the same tests
+same_tests : (a b c d : ℕ) → (c < d → a < b) → (c ≡ d → a ≡ b) → (d < c → b < a)
+    → (eqb a b ≡ eqb c d) × (ltb b a ≡ ltb d c) × (leb b a ≡ leb d c)
+same_tests a b c d less same more =
+    by_order ((eqb a b ≡ eqb c d) × (ltb b a ≡ ltb d c) × (leb b a ≡ leb d c)) c d
+    (λ q.
+    let k = less q in (
+      ne_eqb a b (λ e. omega (arith, k, e)) ∙ sym (ne_eqb c d (λ e. omega (arith, q, e))),
+      le-ltb b a (omega (arith, k)) ∙ sym (le-ltb d c (omega (arith, q))),
+      lt-leb b a k ∙ sym (lt-leb d c q),
+    ))
+    (λ q.
+    let k = same q in (
+      eq-eqb a b k ∙ sym (eq-eqb c d q),
+      le-ltb b a (omega (arith, k)) ∙ sym (le-ltb d c (omega (arith, q))),
+      le-leb b a (omega (arith, k)) ∙ sym (le-leb d c (omega (arith, q))),
+    ))
+    (λ q.
+    let k = more q in (
+      ne_eqb a b (λ e. omega (arith, k, e)) ∙ sym (ne_eqb c d (λ e. omega (arith, q, e))),
+      lt-ltb b a k ∙ sym (lt-ltb d c q),
+      le-leb b a (omega (arith, k)) ∙ sym (le-leb d c (omega (arith, q))),
+    ))
+
 -- a fraction that agrees with the root at halves
 module _ (square parts amount units : ℕ) (halves : AgreesWithRoot square 2 amount units) where
   whole : AgreesWithRoot square 1 amount units
@@ -102,41 +126,12 @@ module _ (square parts amount units : ℕ) (halves : AgreesWithRoot square 2 amo
         p.is_above.not_below);
   }
 
-  -- a point equals the fraction exactly if its square is that of the root
-  exact_same : (n : ℕ) → eqb (n * (units * parts)) amount ≡ eqb (square_of n parts) square
-  exact_same n =
-      by_order (eqb (n * (units * parts)) amount ≡ eqb (square_of n parts) square) (square_of n parts) square
-      (λ q. let k = point_less n q in
-      ne_eqb (n * (units * parts)) amount (λ e. omega (arith, k, e)) ∙
-      sym (ne_eqb (square_of n parts) square (λ e. omega (arith, q, e))))
-      (λ q. eq-eqb (n * (units * parts)) amount (point_same n q) ∙ sym (eq-eqb (square_of n parts) square q))
-      (λ q. let k = point_more n q in
-      ne_eqb (n * (units * parts)) amount (λ e. omega (arith, k, e)) ∙
-      sym (ne_eqb (square_of n parts) square (λ e. omega (arith, q, e))))
-
-  below_same : (n : ℕ) → ltb amount (n * (units * parts)) ≡ ltb square (square_of n parts)
-  below_same n =
-      by_order (ltb amount (n * (units * parts)) ≡ ltb square (square_of n parts)) (square_of n parts) square
-      (λ q. let k = point_less n q in
-      le-ltb amount (n * (units * parts)) (omega (arith, k)) ∙
-      sym (le-ltb square (square_of n parts) (omega (arith, q))))
-      (λ q. let k = point_same n q in
-      le-ltb amount (n * (units * parts)) (omega (arith, k)) ∙
-      sym (le-ltb square (square_of n parts) (omega (arith, q))))
-      (λ q. lt-ltb amount (n * (units * parts)) (point_more n q) ∙ sym (lt-ltb square (square_of n parts) q))
-
-  not_above_same : (n : ℕ) → leb amount (n * (units * parts)) ≡ leb square (square_of n parts)
-  not_above_same n =
-      by_order (leb amount (n * (units * parts)) ≡ leb square (square_of n parts)) (square_of n parts) square
-      (λ q. let k = point_less n q in
-      lt-leb amount (n * (units * parts)) (omega (arith, k)) ∙
-      sym (lt-leb square (square_of n parts) (omega (arith, q))))
-      (λ q. let k = point_same n q in
-      le-leb amount (n * (units * parts)) (omega (arith, k)) ∙
-      sym (le-leb square (square_of n parts) (omega (arith, q))))
-      (λ q. let k = point_more n q in
-      le-leb amount (n * (units * parts)) (omega (arith, k)) ∙
-      sym (le-leb square (square_of n parts) (omega (arith, q))))
+  -- a point compares with the fraction as its square does with that of the root
+  same_order : (n : ℕ) → (eqb (n * (units * parts)) amount ≡ eqb (square_of n parts) square)
+      × (ltb amount (n * (units * parts)) ≡ ltb square (square_of n parts))
+      × (leb amount (n * (units * parts)) ≡ leb square (square_of n parts))
+  same_order n = same_tests (n * (units * parts)) amount (square_of n parts) square (point_less n) (point_same n)
+      (point_more n)
 
 -- twice the fraction agrees with twice the root at halves
 pub doubled : (square amount parts : ℕ) → AgreesWithRoot square 4 amount parts
@@ -172,9 +167,9 @@ module _ (square parts amount units : ℕ) (agrees : AgreesWithRoot square 4 amo
       takes_same (4 * square) parts (2 * amount) units twice mode last next true (omega (arith, a))
       (omega (arith, b))) ∙
       ap (λ (x : Bool). x || (ltb (2 * amount) (next * (units * parts)) && not u))
-      (not_above_same (4 * square) parts (2 * amount) units twice last) ∙
+      (same_order (4 * square) parts (2 * amount) units twice last).2 ∙
       ap (λ (y : Bool). leb (4 * square) (square_of last parts) || (y && not u))
-      (below_same (4 * square) parts (2 * amount) units twice next)
+      (same_order (4 * square) parts (2 * amount) units twice next).1
 
   pub tiny_same : (f : Format) (mode : Round) (pick : ℕ)
       → is_tiny f mode false amount (units * parts) pick ≡ is_tiny_root f mode square parts pick
@@ -182,7 +177,7 @@ module _ (square parts amount units : ℕ) (agrees : AgreesWithRoot square 4 amo
       ap (λ (b : Bool). if f.tiny_before_rounding then b
       else (if f.ieee_flags then rounds_below_normal f.precision mode false amount (units * parts)
       else ltb pick (smallest_normalized f)))
-      (below_same square parts amount units halves_of (smallest_normalized f)) ∙
+      (same_order square parts amount units halves_of (smallest_normalized f)).1 ∙
       ap (λ (b : Bool). if f.tiny_before_rounding then ltb square (square_of (smallest_normalized f) parts)
       else (if f.ieee_flags then b else ltb pick (smallest_normalized f)))
       (below_normal_same f.precision mode)
@@ -194,7 +189,7 @@ module _ (square parts amount units : ℕ) (agrees : AgreesWithRoot square 4 amo
       then (if raises_overflow f mode false then overflow_bit + inexact_bit else inexact_bit)
       else (if b then ok_bits
       else (if is_tiny f mode false amount (units * parts) pick then underflow_bit + inexact_bit else inexact_bit)))
-      (exact_same square parts amount units halves_of pick) ∙
+      (same_order square parts amount units halves_of pick).0 ∙
       ap (λ (b : Bool). if ltb (largest f) pick
       then (if raises_overflow f mode false then overflow_bit + inexact_bit else inexact_bit)
       else (if eqb (square_of pick parts) square then ok_bits

@@ -92,6 +92,19 @@ far_below : (m n d top : ℕ) → (m ≡ n + d) ⊎ (n ≡ m + d) → m ≤ top 
 far_below m n d top (inl e) a b = omega arith
 far_below m n d top (inr e) a b = omega arith
 
+-- a nonzero value with a sign is that number
+exactly_some : (kind : NonfiniteBehavior) (negative : Bool) (n : ℕ) (value : Datum) (status : ℕ) → 0 < n
+    → value ≡ signed_quanta kind negative (magnitude (signed negative n)) → status ≡ ok_bits
+    → IsExactly (signed negative n) value status
+exactly_some kind negative n v s p h e = record {
+  negative = negative;
+  quanta = n;
+  value_is = h ∙ ap (λ (x : ℕ). signed_quanta kind negative x) (magnitude_signed negative n) ∙
+      signed_some kind negative n p;
+  number_is = refl;
+  status_is = e;
+}
+
 -- a value with the sign and the magnitude of a number is that number
 exactly : (kind : NonfiniteBehavior) (of_zero : Bool) (z : ℤ) (value : Datum) (status : ℕ)
     → value ≡ signed_quanta kind (sign_of of_zero z) (magnitude z) → status ≡ ok_bits → IsExactly z value status
@@ -104,26 +117,8 @@ exactly kind of_zero (pos zero) v s h e =
           no_sign (zero_sign kind of_zero);
       status_is = e;
     }
-exactly kind of_zero (pos (suc n)) v s h e =
-    record {
-      negative = false;
-      quanta = suc n;
-      value_is = h ∙
-          ap (λ (x : ℕ). signed_quanta kind false x) (magnitude_signed false (suc n)) ∙
-          signed_some kind false (suc n) (omega arith);
-      number_is = refl;
-      status_is = e;
-    }
-exactly kind of_zero (negsuc n) v s h e =
-    record {
-      negative = true;
-      quanta = suc n;
-      value_is = h ∙
-          ap (λ (x : ℕ). signed_quanta kind true x) (magnitude_signed true (suc n)) ∙
-          signed_some kind true (suc n) (omega arith);
-      number_is = refl;
-      status_is = e;
-    }
+exactly kind of_zero (pos (suc n)) v s h e = exactly_some kind false (suc n) v s (omega arith) h e
+exactly kind of_zero (negsuc n) v s h e = exactly_some kind true (suc n) v s (omega arith) h e
 
 -- Sterbenz's lemma for two positive numbers
 pub sterbenz_numbers : (format : Format) (mode : Round) (of_zero : Bool) (m n : ℕ) (value : Datum) (status : ℕ)

@@ -109,31 +109,33 @@ fused_zeros format mode b c d l m e =
 
 -- ---- a right operand that is a NaN, and a left one that is not
 
+-- what holds of numbers and of infinities holds of each datum that is not a NaN
+unless_nan : (P : Datum → Type 0) (x : Datum) → is_nan x ≡ false → ((b : Bool) (m : ℕ) → P (finite b m))
+    → ((b : Bool) → P (infinite b)) → P x
+unless_nan P (finite b m) e p q = p b m
+unless_nan P (infinite b) e p q = q b
+unless_nan P (nan b s) e p q = cc
+
 module _ (format : Format) (mode : Round) (negative : Bool) (t : ℕ) (value : Datum) (status : ℕ)
     (is : IsOfNan format negative t value status) where
   -- each of these operations returns the result for the NaN
   pub sum_right_nan : (x : Datum) → is_nan x ≡ false → IsSum format mode x (nan negative t) value status
-  sum_right_nan (finite b m) e = is
-  sum_right_nan (infinite b) e = is
-  sum_right_nan (nan b s) e = cc
+  sum_right_nan x e =
+      unless_nan (λ y. IsSum format mode y (nan negative t) value status) x e (λ b m. is) (λ b. is)
 
   pub difference_right_nan : (x : Datum) → is_nan x ≡ false → IsDifference format mode x (nan negative t) value status
-  difference_right_nan (finite b m) e = is
-  difference_right_nan (infinite b) e = is
-  difference_right_nan (nan b s) e = cc
+  difference_right_nan x e =
+      unless_nan (λ y. IsDifference format mode y (nan negative t) value status) x e (λ b m. is) (λ b. is)
 
   pub product_right_nan : (x : Datum) → is_nan x ≡ false → IsProduct format mode x (nan negative t) value status
-  product_right_nan (finite b m) e = is
-  product_right_nan (infinite b) e = is
-  product_right_nan (nan b s) e = cc
+  product_right_nan x e =
+      unless_nan (λ y. IsProduct format mode y (nan negative t) value status) x e (λ b m. is) (λ b. is)
 
   pub quotient_right_nan : (x : Datum) → is_nan x ≡ false → IsQuotient format mode x (nan negative t) value status
-  quotient_right_nan (finite b m) e = is
-  quotient_right_nan (infinite b) e = is
-  quotient_right_nan (nan b s) e = cc
+  quotient_right_nan x e =
+      unless_nan (λ y. IsQuotient format mode y (nan negative t) value status) x e (λ b m. is) (λ b. is)
 
   pub remainder_right_nan : (quotient : ℕ → ℕ → ℕ) (x : Datum) → is_nan x ≡ false
       → IsRemainder format quotient x (nan negative t) value status
-  remainder_right_nan quotient (finite b m) e = is
-  remainder_right_nan quotient (infinite b) e = is
-  remainder_right_nan quotient (nan b s) e = cc
+  remainder_right_nan quotient x e =
+      unless_nan (λ y. IsRemainder format quotient y (nan negative t) value status) x e (λ b m. is) (λ b. is)

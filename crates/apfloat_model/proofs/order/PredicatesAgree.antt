@@ -9,7 +9,8 @@ use Rattle.apfloat_model.specs.formats.Format.{Format, smallest_normalized, larg
 use Rattle.apfloat_model.specs.formats.Constants.{smallest_datum, smallest_normalized_datum, largest_datum}
 use Rattle.apfloat_model.specs.arithmetic.Signs.{abs, copy_sign}
 use Rattle.apfloat_model.specs.rounding.Negation.{negated}
-use Rattle.apfloat_model.specs.declared.kinds.Category.TheVariants.{Normal, Zero}
+use Rattle.apfloat_model.specs.declared.kinds.Category.{Category}
+use Rattle.apfloat_model.specs.declared.kinds.Category.TheVariants.{Infinity, NaN, Normal, Zero}
 use Rattle.apfloat_model.specs.formats.Datum.{Datum, finite, infinite, nan}
 use Rattle.apfloat_model.specs.arithmetic.Exact.{same_sign}
 use Rattle.apfloat_model.specs.order.Classes.{is_finite, is_infinite, is_nan, is_negative, is_zero, is_denormal, is_normal, is_finite_non_zero, is_smallest, is_smallest_normalized, is_largest, quanta_of, same_datum, category_of, is_nan_category, is_finite_non_zero_category}
@@ -36,26 +37,26 @@ always_finite : (zero : Bool) → is_finite_category (if zero then Zero else Nor
 always_finite true = refl
 always_finite false = refl
 
+-- a predicate on categories and one on data that agree on numbers, infinities and NaNs agree on data
+agree : (P : Category → Bool) (Q : Datum → Bool) → ((b : Bool) (n : ℕ) → P (category_of (finite b n)) ≡ Q (finite b n))
+    → ((b : Bool) → P Infinity ≡ Q (infinite b)) → ((b : Bool) (s : ℕ) → P NaN ≡ Q (nan b s)) → (x : Datum)
+    → P (category_of x) ≡ Q x
+agree P Q of_number of_infinity of_nan (finite b n) = of_number b n
+agree P Q of_number of_infinity of_nan (infinite b) = of_infinity b
+agree P Q of_number of_infinity of_nan (nan b s) = of_nan b s
+
 -- by category, a datum is a NaN, infinite, zero or finite exactly if it is so in the model
 pub nan_agrees : (x : Datum) → is_nan_category (category_of x) ≡ is_nan x
-nan_agrees (finite b n) = never_nan (eqb n 0)
-nan_agrees (infinite b) = refl
-nan_agrees (nan b s) = refl
+nan_agrees = agree is_nan_category is_nan (λ b n. never_nan (eqb n 0)) (λ b. refl) (λ b s. refl)
 
 pub infinite_agrees : (x : Datum) → is_infinite_category (category_of x) ≡ is_infinite x
-infinite_agrees (finite b n) = never_infinite (eqb n 0)
-infinite_agrees (infinite b) = refl
-infinite_agrees (nan b s) = refl
+infinite_agrees = agree is_infinite_category is_infinite (λ b n. never_infinite (eqb n 0)) (λ b. refl) (λ b s. refl)
 
 pub zero_agrees : (x : Datum) → is_zero_category (category_of x) ≡ is_zero x
-zero_agrees (finite b n) = zero_or_not (eqb n 0)
-zero_agrees (infinite b) = refl
-zero_agrees (nan b s) = refl
+zero_agrees = agree is_zero_category is_zero (λ b n. zero_or_not (eqb n 0)) (λ b. refl) (λ b s. refl)
 
 pub finite_agrees : (x : Datum) → is_finite_category (category_of x) ≡ is_finite x
-finite_agrees (finite b n) = always_finite (eqb n 0)
-finite_agrees (infinite b) = refl
-finite_agrees (nan b s) = refl
+finite_agrees = agree is_finite_category is_finite (λ b n. always_finite (eqb n 0)) (λ b. refl) (λ b s. refl)
 
 -- by category, a finite datum is nonzero exactly if it has quanta
 number_or_not : (n : ℕ) → is_finite_non_zero_category (if eqb n 0 then Zero else Normal) ≡ ltb 0 n
@@ -64,9 +65,7 @@ number_or_not (suc n) = rw (not_zero (suc n) (omega arith), lt-ltb 0 (suc n) (om
 
 -- by category, a datum is finite and nonzero exactly if it is so in the model
 pub number_agrees : (x : Datum) → is_finite_non_zero_category (category_of x) ≡ is_finite_non_zero x
-number_agrees (finite b n) = number_or_not n
-number_agrees (infinite b) = refl
-number_agrees (nan b s) = refl
+number_agrees = agree is_finite_non_zero_category is_finite_non_zero (λ b n. number_or_not n) (λ b. refl) (λ b s. refl)
 
 -- by category, a datum is normal exactly if it is so in the model
 pub normal_agrees : (format : Format) (x : Datum)

@@ -1,6 +1,6 @@
 -- The neighbours of a magnitude in closed form.
 use Rattle.std.proofs.Common.{◌≡◌, ℕ, ◌+◌, ◌-◌, ◌*◌, ◌^◌, ◌<◌, ◌≤◌, ◌⊎◌, sym, refl, ap, ◌∙◌, subst, inl, inr, ⊎_elim, arith}
-use Rattle.std.proofs.Math.Nat.{mul-le-mul_right, mul-le-mul_left, lt_of_mul-lt-mul_right, le_of_mul-le-mul_right}
+use Rattle.std.proofs.Math.Nat.{le_antisymm, mul-le-mul_right, mul-le-mul_left, lt_of_mul-lt-mul_right, le_of_mul-le-mul_right}
 use Rattle.std.proofs.lemmas.Nat.{pow-add, pow_pos}
 use Rattle.std.proofs.lemmas.Bool.{cases_lt}
 use Rattle.apfloat_model.specs.rounding.Grid.{IsOnGrid, IsBelow, IsAbove}
@@ -139,14 +139,10 @@ above_is_next precision half m c amount parts i h = record {
 pub below_unique : (precision a b amount parts : ℕ) → IsBelow precision a amount parts
     → IsBelow precision b amount parts → a ≡ b
 below_unique precision a b amount parts x y =
-    let l : a ≤ b = y.greatest a x.on_grid x.not_above in
-    let k : b ≤ a = x.greatest b y.on_grid y.not_above in
-    omega arith
+    le_antisymm (y.greatest a x.on_grid x.not_above) (x.greatest b y.on_grid y.not_above)
 
 -- a magnitude has at most one neighbour above
 pub above_unique : (precision a b amount parts : ℕ) → IsAbove precision a amount parts
     → IsAbove precision b amount parts → a ≡ b
 above_unique precision a b amount parts x y =
-    let l : b ≤ a = y.least a x.on_grid x.not_below in
-    let k : a ≤ b = x.least b y.on_grid y.not_below in
-    omega arith
+    le_antisymm (x.least b y.on_grid y.not_below) (y.least a x.on_grid x.not_below)

@@ -82,26 +82,24 @@ numbers_in_order : (x y : ℤ) (low high : Datum) → IsNumber x low → IsNumbe
 numbers_in_order x y low high a b l =
     rw (a.value_is, b.value_is, a.number_is, b.number_is) (l, (equal_numbers x y).0)
 
--- a number is below +infinity
-below_infinity : (z : ℤ) (low : Datum) (Only : Type 0) → IsNumber z low → InOrder low (infinite false) Only
-below_infinity z low Only a = rw a.value_is (refl, λ e. absurd (false≢true e))
+-- in order, where the first is rounded toward zero and the second away from it
+abbrev InOrderOutward : Bool → Datum → Datum → Type 0 → Type 0
+InOrderOutward false near far Only = InOrder near far Only
+InOrderOutward true near far Only = InOrder far near Only
 
--- -infinity is below a number
-above_infinity : (z : ℤ) (high : Datum) (Only : Type 0) → IsNumber z high → InOrder (infinite true) high Only
-above_infinity z high Only a = rw a.value_is (refl, λ e. absurd (false≢true e))
+-- an infinity is past a number
+before_infinity : (negative : Bool) (z : ℤ) (near : Datum) (Only : Type 0) → IsNumber z near
+    → InOrderOutward negative near (infinite negative) Only
+before_infinity false z near Only a = rw a.value_is (refl, λ e. absurd (false≢true e))
+before_infinity true z near Only a = rw a.value_is (refl, λ e. absurd (false≢true e))
 
--- the value past the largest one, unless it is a NaN, is above a number
-before_past : (kind : NonfiniteBehavior) (base : ℕ) (z : ℤ) (low : Datum) (Only : Type 0) → IsNumber z low
-    → is_nan (past_largest kind base false) ≡ false → InOrder low (past_largest kind base false) Only
-before_past IEEE754 base z low Only a h = below_infinity z low Only a
-before_past NanOnly base z low Only a h = absurd (true≢false h)
-before_past NanNegativeZero base z low Only a h = absurd (true≢false h)
-
-after_past : (kind : NonfiniteBehavior) (base : ℕ) (z : ℤ) (high : Datum) (Only : Type 0) → IsNumber z high
-    → is_nan (past_largest kind base true) ≡ false → InOrder (past_largest kind base true) high Only
-after_past IEEE754 base z high Only a h = above_infinity z high Only a
-after_past NanOnly base z high Only a h = absurd (true≢false h)
-after_past NanNegativeZero base z high Only a h = absurd (true≢false h)
+-- the value past the largest one, unless it is a NaN, is past a number
+before_past : (kind : NonfiniteBehavior) (base : ℕ) (negative : Bool) (z : ℤ) (near : Datum) (Only : Type 0)
+    → IsNumber z near → is_nan (past_largest kind base negative) ≡ false
+    → InOrderOutward negative near (past_largest kind base negative) Only
+before_past IEEE754 base negative z near Only a h = before_infinity negative z near Only a
+before_past NanOnly base negative z near Only a h = absurd (true≢false h)
+before_past NanNegativeZero base negative z near Only a h = absurd (true≢false h)
 
 -- the value for a pick that is rounded toward zero, and for one that is rounded away from it
 abbrev inner : NonfiniteBehavior → Bool → Bool → ℕ → ℕ → Datum
@@ -127,33 +125,28 @@ same_positive p q e = omega (arith, ints)
 same_negative : (p q : ℕ) → signed true q ≡ signed true p → p ≡ q
 same_negative p q e = omega (arith, ints)
 
--- the values for two positive neighbours are in order
-positive_in_order : (kind : NonfiniteBehavior) (base : ℕ) (first second : Bool) (top p q : ℕ)
-    → ltb top p ≡ first
-    → ltb top q ≡ second → p ≤ q → is_nan (outer kind base second false q) ≡ false
-    → InOrder (inner kind first false top p) (outer kind base second false q) (AreOne top p q)
-positive_in_order kind base first true top p q x y l h =
-    before_past kind base (signed false (cond first top p)) (inner kind first false top p) (AreOne top p q)
-    (inner_number kind first false top p) h
-positive_in_order kind base true false top p q x y l h = absurd (grind arith)
-positive_in_order kind base false false top p q x y l h =
+-- the values for two neighbours in range are in order
+numbers_outward : (kind : NonfiniteBehavior) (negative : Bool) (top p q : ℕ) → p ≤ q → q ≤ top
+    → InOrderOutward negative (signed_quanta kind negative p) (signed_quanta kind negative q) (AreOne top p q)
+numbers_outward kind false top p q l h =
     let o = numbers_in_order (signed false p) (signed false q) _ _ (signed_number kind false p)
     (signed_number kind false q) (omega (arith, ints)) in
-    (o.0, λ e. (same_positive p q (o.1 e), ltb-false top q y))
-
--- the values for two negative neighbours are in order
-negative_in_order : (kind : NonfiniteBehavior) (base : ℕ) (first second : Bool) (top p q : ℕ)
-    → ltb top p ≡ first
-    → ltb top q ≡ second → p ≤ q → is_nan (outer kind base second true q) ≡ false
-    → InOrder (outer kind base second true q) (inner kind first true top p) (AreOne top p q)
-negative_in_order kind base first true top p q x y l h =
-    after_past kind base (signed true (cond first top p)) (inner kind first true top p) (AreOne top p q)
-    (inner_number kind first true top p) h
-negative_in_order kind base true false top p q x y l h = absurd (grind arith)
-negative_in_order kind base false false top p q x y l h =
+    (o.0, λ e. (same_positive p q (o.1 e), h))
+numbers_outward kind true top p q l h =
     let o = numbers_in_order (signed true q) (signed true p) _ _ (signed_number kind true q)
     (signed_number kind true p) (omega (arith, ints)) in
-    (o.0, λ e. (same_negative p q (o.1 e), ltb-false top q y))
+    (o.0, λ e. (same_negative p q (o.1 e), h))
+
+-- the values for two neighbours are in order
+outward : (kind : NonfiniteBehavior) (base : ℕ) (negative first second : Bool) (top p q : ℕ) → ltb top p ≡ first
+    → ltb top q ≡ second → p ≤ q → is_nan (outer kind base second negative q) ≡ false
+    → InOrderOutward negative (inner kind first negative top p) (outer kind base second negative q) (AreOne top p q)
+outward kind base negative first true top p q x y l h =
+    before_past kind base negative (signed negative (cond first top p)) (inner kind first negative top p)
+    (AreOne top p q) (inner_number kind first negative top p) h
+outward kind base negative true false top p q x y l h = absurd (grind arith)
+outward kind base negative false false top p q x y l h =
+    numbers_outward kind negative top p q l (ltb-false top q y)
 
 -- a magnitude whose neighbours are equal and in range is delivered with status OK
 one_neighbour_ok : (format : Format) (mode : Round) (negative : Bool) (amount parts p q : ℕ) (value : Datum)
@@ -182,7 +175,7 @@ delivered_in_order format false amount parts low high s t h d g n m =
     ap (λ (x : ℕ). inner kind (ltb (largest format) x) false (largest format) x) d.is_pick.is in
     let b : high ≡ outer kind base (ltb (largest format) q) false q = g.value_is ∙
     ap (λ (x : ℕ). outer kind base (ltb (largest format) x) false x) g.is_pick.is in
-    let o = positive_in_order kind base (ltb (largest format) p) (ltb (largest format) q) (largest format) p q refl refl
+    let o = outward kind base false (ltb (largest format) p) (ltb (largest format) q) (largest format) p q refl refl
     (below_le_above format.precision p q amount parts h d.is_pick.is_below g.is_pick.is_above)
     (subst (λ (v : Datum). is_nan v ≡ false) b m) in
     let r : InOrder low high (AreOne (largest format) p q) = rw (a, b) o in (
@@ -200,7 +193,7 @@ delivered_in_order format true amount parts low high s t h d g n m =
     ap (λ (x : ℕ). outer kind base (ltb (largest format) x) true x) d.is_pick.is in
     let b : high ≡ inner kind (ltb (largest format) p) true (largest format) p = g.value_is ∙
     ap (λ (x : ℕ). inner kind (ltb (largest format) x) true (largest format) x) g.is_pick.is in
-    let o = negative_in_order kind base (ltb (largest format) p) (ltb (largest format) q) (largest format) p q refl refl
+    let o = outward kind base true (ltb (largest format) p) (ltb (largest format) q) (largest format) p q refl refl
     (below_le_above format.precision p q amount parts h g.is_pick.is_below d.is_pick.is_above)
     (subst (λ (v : Datum). is_nan v ≡ false) a n) in
     let r : InOrder low high (AreOne (largest format) p q) = rw (a, b) o in (

@@ -1,5 +1,6 @@
 -- A result given outright has one value and one status, and so has a root that is rounded once.
-use Rattle.std.proofs.Common.{◌≡◌, ℕ, ◌≤◌, false, sym, ap, ◌∙◌, arith}
+use Rattle.std.proofs.Common.{◌≡◌, ℕ, false, sym, ap, ◌∙◌}
+use Rattle.std.proofs.Math.Nat.{le_antisymm}
 use Rattle.apfloat_model.specs.declared.kinds.Round.{Round}
 use Rattle.apfloat_model.specs.formats.Format.{Format}
 use Rattle.apfloat_model.specs.formats.Datum.{Datum}
@@ -19,16 +20,12 @@ answer_once d t v w r s x y = (x.value_is ∙ sym y.value_is, x.status_is ∙ sy
 pub below_root_unique : (precision a b square parts : ℕ) → IsBelowRoot precision a square parts
     → IsBelowRoot precision b square parts → a ≡ b
 below_root_unique precision a b square parts x y =
-    let l : a ≤ b = y.greatest a x.on_grid x.not_above in
-    let k : b ≤ a = x.greatest b y.on_grid y.not_above in
-    omega arith
+    le_antisymm (y.greatest a x.on_grid x.not_above) (x.greatest b y.on_grid y.not_above)
 
 pub above_root_unique : (precision a b square parts : ℕ) → IsAboveRoot precision a square parts
     → IsAboveRoot precision b square parts → a ≡ b
 above_root_unique precision a b square parts x y =
-    let l : b ≤ a = y.least a x.on_grid x.not_below in
-    let k : a ≤ b = x.least b y.on_grid y.not_below in
-    omega arith
+    le_antisymm (x.least b y.on_grid y.not_below) (y.least a x.on_grid x.not_below)
 
 root_pick_unique : (precision : ℕ) (mode : Round) (square parts p q : ℕ)
     → IsRootPick precision mode square parts p → IsRootPick precision mode square parts q → p ≡ q

@@ -1,5 +1,5 @@
 -- Worked rows of encodings and texts.
-use Rattle.std.proofs.Common.{◌≡◌, ℕ, ◌+◌, ◌*◌, ◌^◌, ◌≤◌, true, false, refl, inl, inr, neg_ℤ, pos, lit<, lit≤, List, [], ◌++◌, length, codes}
+use Rattle.std.proofs.Common.{◌≡◌, ℕ, ◌+◌, ◌*◌, ◌^◌, ◌≤◌, ◌⊎◌, true, false, refl, inl, inr, neg_ℤ, pos, lit<, lit≤, List, [], ◌++◌, length, codes}
 use Rattle.std.specs.Prelude.{IsTrue}
 use Rattle.apfloat_model.specs.declared.parse_error.Fault.TheVariants.{NoLiteral, SecondDot, NoExponent}
 use Rattle.apfloat_model.specs.declared.kinds.Round.{Round}
@@ -50,48 +50,24 @@ nan_of_e4m3fnuz = record { below = lit< tt; canonical = refl; is = refl }
 
 -- ---- hexadecimal texts, in parts: digits, digits after the dot, and the exponent after the p
 
--- a body with these parts and a dot is that of a hexadecimal number
-with_dot : {body : List ℕ} (whole fraction exponent : List ℕ)
-    → body ≡ codes "0x" ++ (whole ++ (codes "." ++ (fraction ++ (codes "p" ++ exponent))))
+-- a body with these parts is that of a hexadecimal number
+in_parts : {body : List ℕ} (whole point fraction exponent : List ℕ)
+    → (point ≡ codes ".") ⊎ ((point ≡ []) × (fraction ≡ []))
+    → body ≡ codes "0x" ++ (whole ++ (point ++ (fraction ++ (codes "p" ++ exponent))))
     → IsTrue (every is_hexadecimal (whole ++ fraction)) → 1 ≤ length (whole ++ fraction)
     → IsTrue (every is_decimal (after_mark exponent)) → 1 ≤ length (after_mark exponent)
     → IsHexadecimal body (number 16 (whole ++ fraction)) (length fraction)
     (marked (mark_of exponent) (number 10 (after_mark exponent)))
-with_dot whole fraction exponent spelled digits some exponent_digits some_exponent = record {
+in_parts whole point fraction exponent is_point spelled digits some exponent_digits some_exponent = record {
   prefix = codes "0x";
   whole = whole;
-  point = codes ".";
+  point = point;
   fraction = fraction;
   letter = codes "p";
   exponent = exponent;
   spelled = spelled;
   is_prefix = inl refl;
-  is_point = inl refl;
-  is_letter = inl refl;
-  are_digits = digits;
-  has_digits = some;
-  are_exponent_digits = exponent_digits;
-  has_exponent_digits = some_exponent;
-  h_is = refl;
-  f_is = refl;
-  e_is = refl;
-}
-
--- a body with these parts and no dot is that of a hexadecimal number
-without_dot : {body : List ℕ} (whole exponent : List ℕ) → body ≡ codes "0x" ++ (whole ++ (codes "p" ++ exponent))
-    → IsTrue (every is_hexadecimal (whole ++ [])) → 1 ≤ length (whole ++ [])
-    → IsTrue (every is_decimal (after_mark exponent)) → 1 ≤ length (after_mark exponent)
-    → IsHexadecimal body (number 16 (whole ++ [])) 0 (marked (mark_of exponent) (number 10 (after_mark exponent)))
-without_dot whole exponent spelled digits some exponent_digits some_exponent = record {
-  prefix = codes "0x";
-  whole = whole;
-  point = [];
-  fraction = [];
-  letter = codes "p";
-  exponent = exponent;
-  spelled = spelled;
-  is_prefix = inl refl;
-  is_point = inr (refl, refl);
+  is_point = is_point;
   is_letter = inl refl;
   are_digits = digits;
   has_digits = some;
@@ -106,7 +82,10 @@ without_dot whole exponent spelled digits some exponent_digits some_exponent = r
 read_three_quarters : (mode : Round) → IsReading half mode (codes "0x1.8p-1") (in_half 0x3a00) ok_bits
 read_three_quarters mode = record {
   meaning = hexadecimal false 0x18 1 (neg_ℤ (pos 1));
-  means = (refl, with_dot (codes "1") (codes "8") (codes "-1") refl refl (lit≤ tt) refl (lit≤ tt));
+  means = (
+    refl,
+    in_parts (codes "1") (codes ".") (codes "8") (codes "-1") (inl refl) refl refl (lit≤ tt) refl (lit≤ tt),
+  );
   is_meant = rounded 1536 13 refl refl refl;
 }
 
@@ -115,7 +94,10 @@ read_past_the_largest : IsReading half NearestTiesToEven (codes "0x1.ffep+15") (
     (overflow_bit + inexact_bit)
 read_past_the_largest = record {
   meaning = hexadecimal false 0x1ffe 3 (pos 15);
-  means = (refl, with_dot (codes "1") (codes "ffe") (codes "+15") refl refl (lit≤ tt) refl (lit≤ tt));
+  means = (
+    refl,
+    in_parts (codes "1") (codes ".") (codes "ffe") (codes "+15") (inl refl) refl refl (lit≤ tt) refl (lit≤ tt),
+  );
   is_meant = rounded 2047 29 refl refl refl;
 }
 
@@ -123,7 +105,10 @@ read_past_the_largest = record {
 read_kept_at_the_largest : IsReading half TowardZero (codes "0x1.ffep+15") (in_half 0x7bff) inexact_bit
 read_kept_at_the_largest = record {
   meaning = hexadecimal false 0x1ffe 3 (pos 15);
-  means = (refl, with_dot (codes "1") (codes "ffe") (codes "+15") refl refl (lit≤ tt) refl (lit≤ tt));
+  means = (
+    refl,
+    in_parts (codes "1") (codes ".") (codes "ffe") (codes "+15") (inl refl) refl refl (lit≤ tt) refl (lit≤ tt),
+  );
   is_meant = rounded 2047 29 refl refl refl;
 }
 
@@ -131,7 +116,7 @@ read_kept_at_the_largest = record {
 read_underflow : IsReading half NearestTiesToEven (codes "0x1p-25") (in_half 0x0000) (underflow_bit + inexact_bit)
 read_underflow = record {
   meaning = hexadecimal false 1 0 (neg_ℤ (pos 25));
-  means = (refl, without_dot (codes "1") (codes "-25") refl refl (lit≤ tt) refl (lit≤ tt));
+  means = (refl, in_parts (codes "1") [] [] (codes "-25") (inr (refl, refl)) refl refl (lit≤ tt) refl (lit≤ tt));
   is_meant = rounded 0 0 refl refl refl;
 }
 
@@ -139,7 +124,7 @@ read_underflow = record {
 read_zero_without_minus : IsReading e4m3fnuz NearestTiesToEven (codes "-0x0p0") (in_e4m3fnuz 0x00) ok_bits
 read_zero_without_minus = record {
   meaning = hexadecimal true 0 0 (pos 0);
-  means = (refl, without_dot (codes "0") (codes "0") refl refl (lit≤ tt) refl (lit≤ tt));
+  means = (refl, in_parts (codes "0") [] [] (codes "0") (inr (refl, refl)) refl refl (lit≤ tt) refl (lit≤ tt));
   is_meant = rounded 0 0 refl refl refl;
 }
 
