@@ -12,7 +12,7 @@ use Rattle.apfloat_model.specs.rounding.Enclosure.{IsEnclosed}
 use Rattle.apfloat_model.specs.rounding.RoundingToOdd.{IsRoundedToOdd}
 use Rattle.apfloat_model.specs.rounding.Standing.{StandsFor, up, down}
 use Rattle.apfloat_model.proofs.general.Powers.{two_pos, twice_half, exponent_below, pow3}
-use Rattle.apfloat_model.proofs.rounding.KeptDigits.{kept_stands, fits_cut, full_cut, enclosed_from}
+use Rattle.apfloat_model.proofs.rounding.KeptDigits.{kept_stands, fits_cut, fits_shifted, full_cut, full_shifted, enclosed_from}
 use Rattle.apfloat_model.proofs.rounding.OddRoundings.{whole_to_odd}
 use Rattle.apfloat_rounding.specs.Cuts.{loss_at}
 use Rattle.apfloat_rounding.proofs.CutRests.{loss_less, loss_more, rest_stands, rest_below}
@@ -31,26 +31,12 @@ word_digits width n (suc d) h f =
 
 -- a number moved up until it has all digits of the word fits in the word
 pub top_fits : (width n digits : ℕ) → digits ≤ width → n < 2 ^ digits → n * 2 ^ (width - digits) < 2 ^ width
-top_fits width n digits l h =
-    let k : 0 < 2 ^ (width - digits) = pow_pos (width - digits) in
-    let e : digits + (width - digits) ≡ width = omega arith in
-    let w : 2 ^ width ≡ 2 ^ digits * 2 ^ (width - digits) = ap (λ (x : ℕ). 2 ^ x) (sym e) ∙
-    pow-add 2 digits (width - digits) in
-    let h' : n + 1 ≤ 2 ^ digits = omega (arith, h) in
-    let d : (n + 1) * 2 ^ (width - digits) ≤ 2 ^ digits * 2 ^ (width - digits) =
-    mul-le-mul_right (2 ^ (width - digits)) h' in
-    omega (arith, d, w, k)
+top_fits width n digits l h = fits_shifted n digits (width - digits) width h (omega (arith, l))
 
 -- a number moved up until it has all digits of the word has its highest digit at the top
 pub top_full : (width n digits : ℕ) → 0 < digits → digits ≤ width → 2 ^ (digits - 1) ≤ n
     → 2 ^ (width - 1) ≤ n * 2 ^ (width - digits)
-top_full width n digits p l h =
-    let e : (digits - 1) + (width - digits) ≡ width - 1 = omega arith in
-    let w : 2 ^ (width - 1) ≡ 2 ^ (digits - 1) * 2 ^ (width - digits) = ap (λ (x : ℕ). 2 ^ x) (sym e) ∙
-    pow-add 2 (digits - 1) (width - digits) in
-    let d : 2 ^ (digits - 1) * 2 ^ (width - digits) ≤ n * 2 ^ (width - digits) =
-    mul-le-mul_right (2 ^ (width - digits)) h in
-    omega (arith, d, w)
+top_full width n digits p l h = full_shifted n digits (width - digits) width p (λ _. h) (omega (arith, l))
 
 -- ---- the rest of an odd significand
 

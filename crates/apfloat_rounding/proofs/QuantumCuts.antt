@@ -348,35 +348,38 @@ quantum_finely precision s digits places shift half up down amount parts i p u d
 
 -- ---- a significand that is folded into a word
 
--- a significand that was rounded to odd in a unit k places higher is so in that unit, counted from the quantum
-pub folded_odd : (s least k up down up' down' amount parts : ℕ) → k + up + down' ≡ up' + down
-    → IsRoundedToOdd least s (amount * 2 ^ down) (2 ^ k * (parts * 2 ^ up))
-    → IsRoundedToOdd least s (amount * 2 ^ down') (parts * 2 ^ up')
-folded_odd s least k up down up' down' amount parts e h =
-    let t = to_odd_times least s (amount * 2 ^ down) (2 ^ k * (parts * 2 ^ up)) (2 ^ down') (pow_pos down') h in
+-- an amount and its parts in a unit k places higher, and counted from the quantum
+in_quanta : (k up down up' down' amount parts : ℕ) → k + up + down' ≡ up' + down
+    → (amount * 2 ^ down * 2 ^ down' ≡ amount * 2 ^ down' * 2 ^ down)
+    × (2 ^ k * (parts * 2 ^ up) * 2 ^ down' ≡ parts * 2 ^ up' * 2 ^ down)
+in_quanta k up down up' down' amount parts e =
     let a : amount * 2 ^ down * 2 ^ down' ≡ amount * 2 ^ down' * 2 ^ down = omega arith in
     let p : 2 ^ k * 2 ^ up * 2 ^ down' ≡ 2 ^ up' * 2 ^ down =
     sym (pow3 k up down') ∙ ap (λ (x : ℕ). 2 ^ x) e ∙ pow-add 2 up' down in
     let b : 2 ^ k * (parts * 2 ^ up) * 2 ^ down' ≡ parts * (2 ^ k * 2 ^ up * 2 ^ down') = omega arith in
     let b' : parts * (2 ^ k * 2 ^ up * 2 ^ down') ≡ parts * (2 ^ up' * 2 ^ down) = ap (λ (x : ℕ). parts * x) p in
     let b'' : parts * (2 ^ up' * 2 ^ down) ≡ parts * 2 ^ up' * 2 ^ down = omega arith in
+    (a, b ∙ b' ∙ b'')
+
+-- a significand that was rounded to odd in a unit k places higher is so in that unit, counted from the quantum
+pub folded_odd : (s least k up down up' down' amount parts : ℕ) → k + up + down' ≡ up' + down
+    → IsRoundedToOdd least s (amount * 2 ^ down) (2 ^ k * (parts * 2 ^ up))
+    → IsRoundedToOdd least s (amount * 2 ^ down') (parts * 2 ^ up')
+folded_odd s least k up down up' down' amount parts e h =
+    let f = in_quanta k up down up' down' amount parts e in
     to_odd_cancel least s (amount * 2 ^ down') (parts * 2 ^ up') (2 ^ down) (pow_pos down)
-    (subst₂ (λ (x : ℕ) (y : ℕ). IsRoundedToOdd least s x y) a (b ∙ b' ∙ b'') t)
+    (subst₂ (λ (x : ℕ) (y : ℕ). IsRoundedToOdd least s x y) f.0 f.1
+    (to_odd_times least s (amount * 2 ^ down) (2 ^ k * (parts * 2 ^ up)) (2 ^ down') (pow_pos down') h))
 
 -- a significand represents the amount, with its loss, in a unit k places higher, counted from the quantum
 pub folded_stands : (s : ℕ) (loss : Loss) (k up down up' down' amount parts : ℕ) → k + up + down' ≡ up' + down
     → StandsFor s loss (amount * 2 ^ down) (2 ^ k * (parts * 2 ^ up))
     → StandsFor s loss (amount * 2 ^ down') (parts * 2 ^ up')
 folded_stands s loss k up down up' down' amount parts e h =
-    let t = stands_times s loss (amount * 2 ^ down) (2 ^ k * (parts * 2 ^ up)) (2 ^ down') (pow_pos down') h in
-    let a : amount * 2 ^ down * 2 ^ down' ≡ amount * 2 ^ down' * 2 ^ down = omega arith in
-    let p : 2 ^ k * 2 ^ up * 2 ^ down' ≡ 2 ^ up' * 2 ^ down =
-    sym (pow3 k up down') ∙ ap (λ (x : ℕ). 2 ^ x) e ∙ pow-add 2 up' down in
-    let b : 2 ^ k * (parts * 2 ^ up) * 2 ^ down' ≡ parts * (2 ^ k * 2 ^ up * 2 ^ down') = omega arith in
-    let b' : parts * (2 ^ k * 2 ^ up * 2 ^ down') ≡ parts * (2 ^ up' * 2 ^ down) = ap (λ (x : ℕ). parts * x) p in
-    let b'' : parts * (2 ^ up' * 2 ^ down) ≡ parts * 2 ^ up' * 2 ^ down = omega arith in
+    let f = in_quanta k up down up' down' amount parts e in
     stands_cancel s loss (amount * 2 ^ down') (parts * 2 ^ up') (2 ^ down) (pow_pos down)
-    (subst₂ (λ (x : ℕ) (y : ℕ). StandsFor s loss x y) a (b ∙ b' ∙ b'') t)
+    (subst₂ (λ (x : ℕ) (y : ℕ). StandsFor s loss x y) f.0 f.1
+    (stands_times s loss (amount * 2 ^ down) (2 ^ k * (parts * 2 ^ up)) (2 ^ down') (pow_pos down') h))
 
 -- a significand that was rounded to odd, without its last two digits, represents the amount with the loss of these
 -- digits
