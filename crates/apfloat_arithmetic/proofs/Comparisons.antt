@@ -13,6 +13,7 @@ use Rattle.std.proofs.Math.Nat.{mul-lt-mul_of_pos_right, lt_of_mul-lt-mul_right,
 use Rattle.apfloat_model.proofs.general.Powers.{two_pos}
 use Rattle.apfloat_model.proofs.general.Choices.{off_by}
 use Rattle.apfloat_model.proofs.order.Categories.{same_is, same_of}
+use Rattle.apfloat_model.specs.arithmetic.Exact.{signed}
 use Rattle.apfloat_model.specs.declared.kinds.Category.{Category}
 use Rattle.apfloat_model.specs.declared.kinds.Category.TheVariants.{Infinity, NaN, Normal, Zero}
 use Rattle.apfloat_model.specs.formats.Datum.{Datum, finite, infinite, nan}
@@ -79,7 +80,7 @@ exponents_first shape s d t e m n =
 -- ---- numbers of the same sign
 
 -- numbers without a minus sign are ordered as their magnitudes
-both_positive : (m n : ℕ) → nat_cmp m n ≡ int_cmp (pos m) (pos n)
+pub both_positive : (m n : ℕ) → nat_cmp m n ≡ int_cmp (pos m) (pos n)
 both_positive m n =
     by_ranked (m < n) (m ≡ n) (n < m) (nat_cmp m n) (ranks m n)
     (λ e h. e ∙ int_cmp_is (pos m) (pos n) Less (omega (arith, ints, h)))
@@ -87,7 +88,7 @@ both_positive m n =
     (λ e h. e ∙ int_cmp_is (pos m) (pos n) Greater (omega (arith, ints, h)))
 
 -- numbers with a minus sign are ordered opposite to their magnitudes
-both_negative : (m n : ℕ) → nat_cmp n m ≡ int_cmp (neg_ℤ (pos m)) (neg_ℤ (pos n))
+pub both_negative : (m n : ℕ) → nat_cmp n m ≡ int_cmp (neg_ℤ (pos m)) (neg_ℤ (pos n))
 both_negative m n =
     by_ranked (n < m) (n ≡ m) (m < n) (nat_cmp n m) (ranks n m)
     (λ e h. e ∙ int_cmp_is (neg_ℤ (pos m)) (neg_ℤ (pos n)) Less (omega (arith, ints, h)))
@@ -145,39 +146,19 @@ number_beside NaN shape y true h e = cc
 number_beside NaN shape y false h e = cc
 
 -- a stored value on the side of the numbers of one sign is a nonzero number with that sign
-pub beside_normal : (shape : Shape) (y : Unpacked) (negative : Bool) → IsStored shape y
+beside_normal : (shape : Shape) (y : Unpacked) (negative : Bool) → IsStored shape y
     → number_side negative ≡ side (datum_at shape y) → (y.category ≡ Normal) × (y.negative ≡ negative)
 beside_normal shape y b h e = number_beside y.category shape y b h e
 
--- two stored numbers below 0 are ordered opposite to their quanta
-pub beside_negative : (shape : Shape) (x y : Unpacked) → x.category ≡ Normal → x.negative ≡ true → IsStored shape x
-    → IsStored shape y → side (datum_at shape x) ≡ side (datum_at shape y) → (order : Ordering)
-    → (IsNormalAt shape y.significand y.exponent → IsNormalAt shape x.significand x.exponent
-    → order ≡ nat_cmp (quanta_at shape.min_exp y.significand y.exponent)
-    (quanta_at shape.min_exp x.significand x.exponent))
-    → order ≡ int_cmp (number (datum_at shape x)) (number (datum_at shape y))
-beside_negative shape x y e f h k s r g =
-    let p = beside_normal shape y true k (side_of_normal shape x true e f h ∙ s) in
-    let a : IsNormalAt shape x.significand x.exponent = rw e at h in
-    let b : IsNormalAt shape y.significand y.exponent = rw p.0 at k in
-    rw (e, f, p.0, p.1)
-    (g b a ∙ both_negative (quanta_at shape.min_exp x.significand x.exponent)
-    (quanta_at shape.min_exp y.significand y.exponent))
-
--- two stored numbers above 0 are ordered as their quanta
-pub beside_positive : (shape : Shape) (x y : Unpacked) → x.category ≡ Normal → x.negative ≡ false → IsStored shape x
-    → IsStored shape y → side (datum_at shape x) ≡ side (datum_at shape y) → (order : Ordering)
-    → (IsNormalAt shape x.significand x.exponent → IsNormalAt shape y.significand y.exponent
-    → order ≡ nat_cmp (quanta_at shape.min_exp x.significand x.exponent)
-    (quanta_at shape.min_exp y.significand y.exponent))
-    → order ≡ int_cmp (number (datum_at shape x)) (number (datum_at shape y))
-beside_positive shape x y e f h k s r g =
-    let p = beside_normal shape y false k (side_of_normal shape x false e f h ∙ s) in
-    let a : IsNormalAt shape x.significand x.exponent = rw e at h in
-    let b : IsNormalAt shape y.significand y.exponent = rw p.0 at k in
-    rw (e, f, p.0, p.1)
-    (g a b ∙ both_positive (quanta_at shape.min_exp x.significand x.exponent)
-    (quanta_at shape.min_exp y.significand y.exponent))
+-- a stored number and a value on its side of 0 are two numbers of its sign
+pub beside_number : (negative : Bool) (shape : Shape) (x y : Unpacked) → x.category ≡ Normal → x.negative ≡ negative
+    → IsStored shape x → IsStored shape y → side (datum_at shape x) ≡ side (datum_at shape y)
+    → (IsNormal shape x) × (IsNormal shape y)
+    × (int_cmp (signed negative (quanta_of shape x)) (signed negative (quanta_of shape y))
+    ≡ int_cmp (number (datum_at shape x)) (number (datum_at shape y)))
+beside_number b shape x y e f h k s =
+    let p = beside_normal shape y b k (side_of_normal shape x b e f h ∙ s) in
+    (rw e at h, rw p.0 at k, rw (e, f, p.0, p.1) refl)
 
 -- ---- order by sides, and on one side by the numbers
 

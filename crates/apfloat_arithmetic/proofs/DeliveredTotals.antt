@@ -1,13 +1,13 @@
 -- Totals of more digits than a format has, rounded to odd, which are delivered.
 use Rattle.std.proofs.Common.{◌≡◌, ℕ, ℤ, pos, ◌+◌, ◌*◌, ◌^◌, ◌<◌, ◌≤◌, ◌+ℤ◌}
-use Rattle.std.proofs.Common.{◌-ℤ◌, ◌≤ℤ◌, Bool, refl, subst, arith}
+use Rattle.std.proofs.Common.{◌≤ℤ◌, Bool, refl, subst, arith}
 use Rattle.std.proofs.Math.Nat.{pow-le-pow_right}
 use Rattle.std.proofs.lemmas.Int.{ints}
-use Rattle.std.specs.Prelude.{neg_ℤ}
 use Rattle.apfloat_model.specs.declared.kinds.Round.{Round}
 use Rattle.apfloat_model.specs.formats.Datum.{Datum}
 use Rattle.apfloat_model.specs.formats.Format.{Format}
 use Rattle.apfloat_model.specs.arithmetic.Exact.{signed, magnitude, up, down, IsRounded}
+use Rattle.apfloat_model.specs.rounding.Bounds.{integer_bit_bound}
 use Rattle.apfloat_model.specs.rounding.RoundingToOdd.{IsRoundedToOdd}
 use Rattle.apfloat_words.specs.Totals.{counted, IsSignedToOdd}
 use Rattle.apfloat_model.proofs.general.Powers.{two_pos}
@@ -15,6 +15,7 @@ use Rattle.apfloat_model.proofs.rounding.OddRoundings.{to_odd_least}
 use Rattle.apfloat_rounding.specs.declared.shape.Shape.{Shape}
 use Rattle.apfloat_rounding.specs.Shapes.{format_at}
 use Rattle.apfloat_rounding.specs.Stored.{IsNormalAt, quanta_at}
+use Rattle.apfloat_arithmetic.specs.NumberResults.{IsFusedTerm}
 use Rattle.apfloat_arithmetic.proofs.Additions.{odd_sum_read, scale_is}
 use Rattle.apfloat_arithmetic.proofs.WideTerms.{odd_fused_read, odd_in_quanta}
 
@@ -42,22 +43,19 @@ sum_total s kept digits xe ye tx ty e left right negative mx my q few x y ax ay 
     record { rounded = to_odd_least (2 ^ kept) (2 ^ (s.precision + 1)) q _ _ least r.rounded; is = r.is }
 
 -- the total of a product and an addend is the fused sum
-pub fused_total : (s : Shape) (kept digits k : ℕ) (x z e : ℤ) (left right negative : Bool) (p w m n q : ℕ)
-    → s.precision + 1 ≤ kept → neg_ℤ (pos k) ≤ℤ x → neg_ℤ (pos k) ≤ℤ z
-    → ((base : ℤ) (j : ℕ) → base ≤ℤ x → pos j ≡ neg_ℤ (base +ℤ pos (2 * (format_at s).scale))
-    → p * 2 ^ up (x -ℤ base) ≡ m * 2 ^ j)
-    → ((base : ℤ) (j : ℕ) → base ≤ℤ z → pos j ≡ neg_ℤ (base +ℤ pos (2 * (format_at s).scale))
-    → w * 2 ^ up (z -ℤ base) ≡ n * 2 ^ j)
+pub fused_total : (s : Shape) (kept digits : ℕ) (x z e : ℤ) (left right a b negative : Bool) (p w m n q : ℕ)
+    → s.precision + 1 ≤ kept → IsFusedTerm s left m a x p → IsFusedTerm s right n b z w
     → ((base : ℤ) → (base +ℤ pos digits) ≤ℤ x → (base +ℤ pos digits) ≤ℤ z
-    → IsSignedToOdd (2 ^ kept) base (counted base left x p +ℤ counted base right z w) negative e q)
+    → IsSignedToOdd (2 ^ kept) base (counted base a x p +ℤ counted base b z w) negative e q)
     → IsOddTotal s.precision (2 ^ (format_at s).scale) (signed left m +ℤ signed right n) negative
     (e +ℤ pos (format_at s).scale) q
-fused_total s kept digits k x z e left right negative p w m n q few lx lz product addend total =
+fused_total s kept digits x z e left right a b negative p w m n q few product addend total =
     let least : 2 ^ (s.precision + 1) ≤ 2 ^ kept = pow-le-pow_right two_pos few in
     let scale = (format_at s).scale in
     let fine = e +ℤ pos (2 * (format_at s).scale) in
-    let r = odd_fused_read (2 ^ kept) digits scale k x z e fine left right negative p w m n q lx lz refl product addend
-    total in
+    let r = odd_fused_read (2 ^ kept) digits scale integer_bit_bound x z e fine left right negative p w m n q
+    product.within.low addend.within.low refl product.counted addend.counted
+    (rw (product.negative, addend.negative) at total) in
     let h = odd_in_quanta (2 ^ kept) q (magnitude (signed left m +ℤ signed right n)) scale (e +ℤ pos scale) fine
     (omega (arith, ints)) r.rounded in
     record { rounded = to_odd_least (2 ^ kept) (2 ^ (s.precision + 1)) q _ _ least h; is = r.is }

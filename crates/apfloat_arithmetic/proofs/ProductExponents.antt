@@ -18,6 +18,7 @@ use Rattle.apfloat_rounding.specs.declared.shape.Shape.{Shape}
 use Rattle.apfloat_rounding.specs.Shapes.{format_at}
 use Rattle.apfloat_rounding.specs.Stored.{IsNormalAt, quanta_at}
 use Rattle.apfloat_rounding.proofs.ShapeExponents.{scale_is, exponent_word}
+use Rattle.apfloat_arithmetic.specs.NumberResults.{CountsSquares}
 
 -- the exponent of a stored number is within the bounds of numbers, and fits in its type
 pub record IsNearProduct (e : ℤ) : Type 0 where
@@ -65,8 +66,7 @@ product_is shape x y r m n p hx hy v e =
 
 -- a product that is counted in each small unit, 2 ^ k of which are the square of the quantum, is so many quanta
 pub counted_product_is : (scale amount p : ℕ) (e : ℤ)
-    → ((base : ℤ) (k : ℕ) → base ≤ℤ e → pos k ≡ neg_ℤ (base +ℤ pos (2 * scale))
-    → p * 2 ^ up (e -ℤ base) ≡ amount * 2 ^ k)
+    → CountsSquares scale amount e p
     → amount * 2 ^ down (e +ℤ pos scale) ≡ p * (2 ^ scale * 2 ^ up (e +ℤ pos scale))
 counted_product_is scale amount p e counted =
     let k = down e in

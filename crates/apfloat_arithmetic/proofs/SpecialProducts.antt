@@ -27,6 +27,14 @@ not_finite : (shape : Shape) (x : Unpacked) → (x.category ≡ Infinity) ⊎ (x
 not_finite shape x (inl e) = subst (λ (k : Category). is_finite (datum_by k shape x) ≡ false) (sym e) refl
 not_finite shape x (inr e) = subst (λ (k : Category). is_finite (datum_by k shape x) ≡ false) (sym e) refl
 
+-- an infinity or a NaN is no nonzero number, so not both values are
+pub not_both : (x y : Category) → ((x ≡ Infinity) ⊎ (x ≡ NaN)) ⊎ ((y ≡ Infinity) ⊎ (y ≡ NaN)) → x ≡ Normal
+    → y ≡ Normal → ⊥
+not_both x y (inl (inl e)) f g = cc
+not_both x y (inl (inr e)) f g = cc
+not_both x y (inr (inl e)) f g = cc
+not_both x y (inr (inr e)) f g = cc
+
 -- if a given datum that is not finite is the result, the result is not finite
 is_given : (given value : Datum) (flags status : ℕ) → is_finite given ≡ false → IsAnswer given flags value status
     → is_finite value ≡ false

@@ -4,7 +4,7 @@ use lib.Count.{ones, ones_in}
 use Rattle.std.proofs.Math.Nat.{mul-le-mul_right, mul-le-mul_left, mul-lt-mul_of_pos_right, pow-le-pow_right, div-lt_iff_lt-mul, mod-eq_of_lt, div-eq_of_lt, mul-pos, add-mul-div_right, add-mul-mod_self_right}
 use Rattle.std.proofs.lemmas.Nat.{pow-add, pow_pos, ones_cat, ones-le}
 use Rattle.apfloat_arithmetic.specs.declared.remainders.Magnitude.{Magnitude}
-use Rattle.apfloat_arithmetic.specs.Magnitudes.{HasAllDigits, units_of}
+use Rattle.apfloat_arithmetic.specs.Magnitudes.{AreDivided, units_of}
 use Rattle.apfloat_model.proofs.general.Powers.{twice_power, two_pos, twice_half}
 
 -- an iteration: r minus 2 ^ k times the divisor d is s, which is below that multiple
@@ -61,11 +61,10 @@ below_divisor precision r p t q z f l g =
     omega arith
 
 -- a number at a place below the divisor's is less than it
-pub is_less : (precision : ℕ) (x y : Magnitude) → 0 < precision → HasAllDigits precision x
-    → HasAllDigits precision y
-    → x.place < y.place → units_of x < units_of y
-is_less precision x y some hx hy l =
-    below_divisor precision x.significand x.place y.significand y.place some hx.fits hy.full l
+pub is_less : (precision : ℕ) (x y : Magnitude) → AreDivided precision x y → x.place < y.place
+    → units_of x < units_of y
+is_less precision x y h l =
+    below_divisor precision x.significand x.place y.significand y.place h.some h.dividend.fits h.divisor.full l
 
 -- the number of ones of the integral quotient is at most that of its digits
 pub few_digits : (precision r p t q : ℕ) → 0 < precision → r < 2 ^ precision → 2 ^ (precision - 1) ≤ t → q ≤ p

@@ -1,6 +1,6 @@
 -- Operations with a special operand, and the result of each of them (IEEE 754-2019 6.1 to 6.3, 7.2, 7.3).
-use Rattle.std.specs.Prelude.{◌≡◌, ℕ, ◌<◌, true}
-use Rattle.apfloat_model.specs.declared.kinds.Category.TheVariants.{Normal}
+use Rattle.std.specs.Prelude.{◌≡◌, ◌⊎◌, ℕ, ◌<◌, true}
+use Rattle.apfloat_model.specs.declared.kinds.Category.TheVariants.{Infinity, NaN, Normal}
 use Rattle.apfloat_model.specs.declared.kinds.Round.{Round}
 use Rattle.apfloat_model.specs.formats.Datum.{Datum}
 use Rattle.apfloat_model.specs.arithmetic.Sums.{IsSum}
@@ -29,6 +29,13 @@ pub record AreSpecialTerms (s : Shape) (x y z : Unpacked) : Type 0 where
   pub right : IsStored s y
   pub addend : IsStored s z
   pub special : x.category ≡ Normal → y.category ≡ Normal → z.category ≡ Normal → ⊥
+
+-- three stored values, with an infinity or a NaN among the first two
+pub record HasSpecialFactor (s : Shape) (x y z : Unpacked) : Type 0 where
+  pub left : IsStored s x
+  pub right : IsStored s y
+  pub addend : IsStored s z
+  pub special : ((x.category ≡ Infinity) ⊎ (x.category ≡ NaN)) ⊎ ((y.category ≡ Infinity) ⊎ (y.category ≡ NaN))
 
 -- a stored value that is not a positive number
 pub record IsSpecialRadicand (s : Shape) (x : Unpacked) : Type 0 where

@@ -1,12 +1,11 @@
 //! Quotients.
 
 ghost use Rattle.std.specs.Prelude.{◌≡◌, ◌+◌, ◌-◌, ◌*◌, ◌^◌, ◌<◌, ◌≤◌};
-ghost use Rattle.apfloat_model.specs.arithmetic.Exact.{product_sign};
-ghost use Rattle.apfloat_model.specs.rounding.Rounding.{IsDelivered};
 ghost use Rattle.apfloat_model.specs.rounding.RoundingToOdd.{odd_quotient};
 ghost use Rattle.apfloat_model.specs.arithmetic.Quotients.{IsQuotient};
 ghost use Rattle.apfloat_rounding.specs.Shapes.{format_at};
-ghost use Rattle.apfloat_rounding.specs.Stored.{IsStored, IsNormal, quanta_of, datum_at, GivesAt};
+ghost use Rattle.apfloat_rounding.specs.Stored.{IsStored, datum_at, GivesAt};
+ghost use Rattle.apfloat_arithmetic.specs.NumberResults.{AreNormal, IsNumberQuotient};
 
 use crate::classes::are_normal;
 use crate::products::product_sign;
@@ -54,12 +53,9 @@ fn word_quotient_of(precision: u32, dividend: u64, divisor: u64) -> u64
 #[inline(always)]
 fn divide_word_numbers(shape: Shape, x: Unpacked, y: Unpacked, round: Round) -> StatusAnd<Unpacked>
     requires short { shape.precision ≤ 59 }
-    requires left { IsNormal shape x }
-    requires right { IsNormal shape y }
+    requires normal { AreNormal shape x y }
     ensures stored { IsStored shape result.value }
-    ensures delivered { GivesAt shape (IsDelivered (format_at shape) round
-        (product_sign x.negative y.negative) (quanta_of shape x * 2 ^ (format_at shape).scale)
-        (quanta_of shape y)) result }
+    ensures delivered { GivesAt shape (IsNumberQuotient shape round x y) result }
 {
     let dividend = x.significand as u64;
     let divisor = y.significand as u64;
@@ -78,12 +74,9 @@ fn divide_word_numbers(shape: Shape, x: Unpacked, y: Unpacked, round: Round) -> 
 /// format.
 #[inline(always)]
 fn divide_numbers(shape: Shape, x: Unpacked, y: Unpacked, round: Round) -> StatusAnd<Unpacked>
-    requires left { IsNormal shape x }
-    requires right { IsNormal shape y }
+    requires { AreNormal shape x y }
     ensures stored { IsStored shape result.value }
-    ensures delivered { GivesAt shape (IsDelivered (format_at shape) round
-        (product_sign x.negative y.negative) (quanta_of shape x * 2 ^ (format_at shape).scale)
-        (quanta_of shape y)) result }
+    ensures delivered { GivesAt shape (IsNumberQuotient shape round x y) result }
 {
     if shape.precision <= WORD_LIMIT {
         return divide_word_numbers(shape, x, y, round);

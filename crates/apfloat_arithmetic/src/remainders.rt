@@ -15,7 +15,8 @@ ghost use Rattle.apfloat_model.specs.arithmetic.Remainders.{truncated_quotient, 
 ghost use Rattle.apfloat_model.specs.arithmetic.Remainders.{rest_of, IsTruncatedRemainder, IsNearestRemainder};
 ghost use Rattle.apfloat_rounding.specs.Shapes.{format_at};
 ghost use Rattle.apfloat_rounding.specs.Stored.{IsNormal, IsStored, datum_at, quanta_of, GivesAt};
-ghost use Rattle.apfloat_arithmetic.specs.Magnitudes.{units_of, HasAllDigits};
+ghost use Rattle.apfloat_arithmetic.specs.Magnitudes.{units_of, AreDivided};
+ghost use Rattle.apfloat_arithmetic.specs.NumberResults.{AreNormal};
 
 use crate::classes::are_normal;
 use crate::specials::{Operation, special};
@@ -93,10 +94,7 @@ struct Rest {
 
 /// The rest of `x` by a divisor, by single subtractions, which are counted.
 fn rest_by(precision: u32, x: Magnitude, y: Magnitude) -> Rest
-    requires some { 0 < precision }
-    requires precise { precision ≤ 125 }
-    requires x { HasAllDigits precision x }
-    requires y { HasAllDigits precision y }
+    requires operands { AreDivided precision x y }
     requires near { x.place ≤ place_bound }
     ensures rest { units_of result.magnitude ≡ units_of x % units_of y }
     ensures steps { result.steps ≡ count_ones (units_of x / units_of y) }
@@ -155,10 +153,7 @@ struct Remaining {
 
 /// The rest of `x` by a divisor, and whether the integral quotient is odd.
 fn remaining_by(precision: u32, x: Magnitude, y: Magnitude) -> Remaining
-    requires some { 0 < precision }
-    requires precise { precision ≤ 125 }
-    requires x { HasAllDigits precision x }
-    requires y { HasAllDigits precision y }
+    requires { AreDivided precision x y }
     ensures rest { units_of result.magnitude ≡ units_of x % units_of y }
     ensures odd { result.odd ≡ eqb (units_of x / units_of y % 2) 1 }
     ensures fits { result.magnitude.significand < 2 ^ precision }
@@ -197,10 +192,7 @@ struct Nearest {
 
 /// How far the nearest multiple of the divisor is from `x`, and whether it is above `x`.
 fn nearest_by(precision: u32, x: Magnitude, y: Magnitude) -> Nearest
-    requires some { 0 < precision }
-    requires precise { precision ≤ 125 }
-    requires x { HasAllDigits precision x }
-    requires y { HasAllDigits precision y }
+    requires operands { AreDivided precision x y }
     requires near { x.place ≤ place_bound }
     ensures past { let m = units_of x in let n = units_of y in
         result.past ≡ takes_above Round.NearestTiesToEven false (m % n) (n - m % n)
@@ -283,8 +275,7 @@ fn in_quanta(precision: u32, magnitude: Magnitude) -> Magnitude
 
 /// The rest of `x` after the quotient truncated to an integer, in quanta.
 fn truncated_rest(shape: Shape, x: Unpacked, y: Unpacked) -> Magnitude
-    requires x { IsNormal shape x }
-    requires y { IsNormal shape y }
+    requires { AreNormal shape x y }
     ensures fits { result.significand < 2 ^ shape.precision }
     ensures near { result.place ≤ place_bound }
     ensures quanta { units_of result ≡ quanta_of shape x % quanta_of shape y }
@@ -299,8 +290,7 @@ fn truncated_rest(shape: Shape, x: Unpacked, y: Unpacked) -> Magnitude
 
 /// The rest of `x` after the quotient truncated to an integer, in quanta, and the number of subtractions.
 fn counted_rest(shape: Shape, x: Unpacked, y: Unpacked) -> Rest
-    requires x { IsNormal shape x }
-    requires y { IsNormal shape y }
+    requires { AreNormal shape x y }
     ensures fits { result.magnitude.significand < 2 ^ shape.precision }
     ensures near { result.magnitude.place ≤ place_bound }
     ensures quanta { units_of result.magnitude ≡ quanta_of shape x % quanta_of shape y }
@@ -320,8 +310,7 @@ fn counted_rest(shape: Shape, x: Unpacked, y: Unpacked) -> Rest
 
 /// How far the nearest multiple of `y` is from `x`, in quanta, and whether it is above `x`.
 fn nearest_rest(shape: Shape, x: Unpacked, y: Unpacked) -> Nearest
-    requires x { IsNormal shape x }
-    requires y { IsNormal shape y }
+    requires { AreNormal shape x y }
     ensures fits { result.magnitude.significand < 2 ^ shape.precision }
     ensures near { result.magnitude.place ≤ place_bound }
     ensures past { let m = quanta_of shape x in let n = quanta_of shape y in
@@ -350,8 +339,7 @@ pub struct Remainder {
 
 /// The remainder of numbers by the quotient truncated to an integer, which is exact.
 fn truncated_number(shape: Shape, x: Unpacked, y: Unpacked) -> StatusAnd<Unpacked>
-    requires x { IsNormal shape x }
-    requires y { IsNormal shape y }
+    requires { AreNormal shape x y }
     ensures stored { IsStored shape result.value }
     ensures answer { let m = quanta_of shape x in let n = quanta_of shape y in
         GivesAt shape (IsAnswer (rest_of shape.nonfinite x.negative m
@@ -363,8 +351,7 @@ fn truncated_number(shape: Shape, x: Unpacked, y: Unpacked) -> StatusAnd<Unpacke
 
 /// The remainder of numbers by the truncated quotient, and the number of subtractions.
 fn counted_number(shape: Shape, x: Unpacked, y: Unpacked) -> Remainder
-    requires x { IsNormal shape x }
-    requires y { IsNormal shape y }
+    requires { AreNormal shape x y }
     ensures stored { IsStored shape result.answer.value }
     ensures answer { let m = quanta_of shape x in let n = quanta_of shape y in
         GivesAt shape (IsAnswer (rest_of shape.nonfinite x.negative m
@@ -387,8 +374,7 @@ fn counted_number(shape: Shape, x: Unpacked, y: Unpacked) -> Remainder
 /// The remainder of numbers by the integer nearest to the quotient, which is exact.
 #[inline(always)]
 fn nearest_number(shape: Shape, x: Unpacked, y: Unpacked) -> StatusAnd<Unpacked>
-    requires x { IsNormal shape x }
-    requires y { IsNormal shape y }
+    requires { AreNormal shape x y }
     ensures stored { IsStored shape result.value }
     ensures answer { let m = quanta_of shape x in let n = quanta_of shape y in
         GivesAt shape (IsAnswer (rest_of shape.nonfinite x.negative m

@@ -14,7 +14,9 @@ ghost use Rattle.apfloat_model.specs.arithmetic.FusedSums.{IsFusedSum, IsSumWith
 ghost use Rattle.apfloat_model.specs.arithmetic.Roots.{IsRoot};
 ghost use Rattle.apfloat_model.specs.arithmetic.Remainders.{IsRemainder};
 ghost use Rattle.apfloat_rounding.specs.Shapes.{format_at};
-ghost use Rattle.apfloat_rounding.specs.Stored.{IsStored, IsNormal, datum_at, number_of, GivesAt};
+ghost use Rattle.apfloat_rounding.specs.Stored.{IsStored, datum_at, number_of, GivesAt};
+ghost use Rattle.apfloat_arithmetic.specs.NumberResults.{AreNormal};
+ghost use Rattle.apfloat_arithmetic.specs.SpecialOperands.{AreSpecial, AreSpecialTerms, HasSpecialFactor};
 ghost use Rattle.apfloat_arithmetic.specs.SpecialOperands.{HasSpecials, IsResult};
 
 use crate::exact::{divided_by_zero, exact_infinity, exact_zero};
@@ -105,9 +107,7 @@ fn add_to_number(shape: Shape, x: Unpacked, y: Unpacked, round: Round) -> Status
 
 /// A sum with special operands (6.1, 6.3).
 fn add_specials(shape: Shape, x: Unpacked, y: Unpacked, round: Round) -> StatusAnd<Unpacked>
-    requires x_stored { IsStored shape x }
-    requires y_stored { IsStored shape y }
-    requires special { x.category ≡ Category.Normal → y.category ≡ Category.Normal → ⊥ }
+    requires { AreSpecial shape x y }
     ensures stored { IsStored shape result.value }
     ensures delivered { GivesAt shape
         (IsSum (format_at shape) round (datum_at shape x) (datum_at shape y)) result }
@@ -122,9 +122,7 @@ fn add_specials(shape: Shape, x: Unpacked, y: Unpacked, round: Round) -> StatusA
 
 /// A product with special operands.
 fn multiply_specials(shape: Shape, x: Unpacked, y: Unpacked) -> StatusAnd<Unpacked>
-    requires left { IsStored shape x }
-    requires right { IsStored shape y }
-    requires special { x.category ≡ Category.Normal → y.category ≡ Category.Normal → ⊥ }
+    requires { AreSpecial shape x y }
     ensures stored { IsStored shape result.value }
     ensures delivered { (mode : Round) → GivesAt shape
         (IsProduct (format_at shape) mode (datum_at shape x) (datum_at shape y)) result }
@@ -155,9 +153,7 @@ fn multiply_specials(shape: Shape, x: Unpacked, y: Unpacked) -> StatusAnd<Unpack
 
 /// A quotient with special operands.
 fn divide_specials(shape: Shape, x: Unpacked, y: Unpacked) -> StatusAnd<Unpacked>
-    requires left { IsStored shape x }
-    requires right { IsStored shape y }
-    requires special { x.category ≡ Category.Normal → y.category ≡ Category.Normal → ⊥ }
+    requires { AreSpecial shape x y }
     ensures stored { IsStored shape result.value }
     ensures delivered { (mode : Round) → GivesAt shape
         (IsQuotient (format_at shape) mode (datum_at shape x) (datum_at shape y)) result }
@@ -215,8 +211,7 @@ fn add_to_number_product(
     z: Unpacked,
     round: Round,
 ) -> StatusAnd<Unpacked>
-    requires left { IsNormal shape x }
-    requires right { IsNormal shape y }
+    requires normal { AreNormal shape x y }
     requires addend { IsStored shape z }
     requires special { z.category ≡ Category.Normal → ⊥ }
     ensures stored { IsStored shape result.value }
@@ -240,11 +235,7 @@ fn add_to_special_product(
     z: Unpacked,
     round: Round,
 ) -> StatusAnd<Unpacked>
-    requires left { IsStored shape x }
-    requires right { IsStored shape y }
-    requires addend { IsStored shape z }
-    requires special { ((x.category ≡ Category.Infinity) ⊎ (x.category ≡ Category.NaN))
-        ⊎ ((y.category ≡ Category.Infinity) ⊎ (y.category ≡ Category.NaN)) }
+    requires { HasSpecialFactor shape x y z }
     ensures stored { IsStored shape result.value }
     ensures delivered { GivesAt shape (IsSumWithProduct (format_at shape) round (datum_at shape x)
         (datum_at shape y) (datum_at shape z)) result }
@@ -265,11 +256,7 @@ fn multiply_add_specials(
     z: Unpacked,
     round: Round,
 ) -> StatusAnd<Unpacked>
-    requires left { IsStored shape x }
-    requires right { IsStored shape y }
-    requires addend { IsStored shape z }
-    requires special { x.category ≡ Category.Normal → y.category ≡ Category.Normal
-        → z.category ≡ Category.Normal → ⊥ }
+    requires { AreSpecialTerms shape x y z }
     ensures stored { IsStored shape result.value }
     ensures delivered { GivesAt shape (IsFusedSum (format_at shape) round (datum_at shape x)
         (datum_at shape y) (datum_at shape z)) result }
@@ -317,10 +304,8 @@ fn root_specials(shape: Shape, x: Unpacked) -> StatusAnd<Unpacked>
 
 /// The remainder of a finite operand, if it is zero or the divisor is not a nonzero number.
 fn remainder_of_finite(shape: Shape, x: Unpacked, y: Unpacked) -> StatusAnd<Unpacked>
-    requires x_stored { IsStored shape x }
-    requires y_stored { IsStored shape y }
+    requires operands { AreSpecial shape x y }
     requires finite { (x.category ≡ Category.Zero) ⊎ (x.category ≡ Category.Normal) }
-    requires special { x.category ≡ Category.Normal → y.category ≡ Category.Normal → ⊥ }
     ensures stored { IsStored shape result.value }
     ensures delivered { (quotient : ℕ → ℕ → ℕ) → ((n : ℕ) → 0 < n → quotient 0 n ≡ 0)
         → GivesAt shape (IsRemainder (format_at shape) quotient (datum_at shape x)
@@ -336,9 +321,7 @@ fn remainder_of_finite(shape: Shape, x: Unpacked, y: Unpacked) -> StatusAnd<Unpa
 
 /// A remainder with special operands: the rounding of the quotient does not matter.
 fn remainder_specials(shape: Shape, x: Unpacked, y: Unpacked) -> StatusAnd<Unpacked>
-    requires x_stored { IsStored shape x }
-    requires y_stored { IsStored shape y }
-    requires special { x.category ≡ Category.Normal → y.category ≡ Category.Normal → ⊥ }
+    requires { AreSpecial shape x y }
     ensures stored { IsStored shape result.value }
     ensures delivered { (quotient : ℕ → ℕ → ℕ) → ((n : ℕ) → 0 < n → quotient 0 n ≡ 0)
         → GivesAt shape (IsRemainder (format_at shape) quotient (datum_at shape x)

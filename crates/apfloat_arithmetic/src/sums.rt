@@ -8,7 +8,8 @@ ghost use Rattle.apfloat_model.specs.rounding.Standing.{up, down};
 ghost use Rattle.apfloat_model.specs.arithmetic.Sums.{zero_sum_sign, IsSum, IsDifference};
 ghost use Rattle.apfloat_arithmetic.specs.Subtrahends.{added};
 ghost use Rattle.apfloat_rounding.specs.Shapes.{format_at};
-ghost use Rattle.apfloat_rounding.specs.Stored.{IsNormal, IsStored, datum_at, quanta_of, GivesAt};
+ghost use Rattle.apfloat_rounding.specs.Stored.{IsStored, datum_at, GivesAt};
+ghost use Rattle.apfloat_arithmetic.specs.NumberResults.{AreNormal, IsNumberSum};
 
 use crate::classes::are_normal;
 use crate::signs::negated;
@@ -77,12 +78,9 @@ pub fn deliver_total(
 #[inline(always)]
 fn add_word_numbers(shape: Shape, x: Unpacked, y: Unpacked, round: Round) -> StatusAnd<Unpacked>
     requires short { shape.precision ≤ 59 }
-    requires x_normal { IsNormal shape x }
-    requires y_normal { IsNormal shape y }
+    requires normal { AreNormal shape x y }
     ensures stored { IsStored shape result.value }
-    ensures delivered { GivesAt shape (IsRounded (format_at shape) round
-        (zero_sum_sign round x.negative y.negative)
-        (signed x.negative (quanta_of shape x) +ℤ signed y.negative (quanta_of shape y)) 1) result }
+    ensures delivered { GivesAt shape (IsNumberSum shape round x y) result }
 {
     let total = add_word_terms(shape.precision, full_term(shape, x), full_term(shape, y));
     let of_zero = sign_of_zero(round, x.negative, y.negative);
@@ -94,12 +92,9 @@ fn add_word_numbers(shape: Shape, x: Unpacked, y: Unpacked, round: Round) -> Sta
 #[inline(always)]
 fn add_u128_numbers(shape: Shape, x: Unpacked, y: Unpacked, round: Round) -> StatusAnd<Unpacked>
     requires short { shape.precision ≤ 124 }
-    requires x_normal { IsNormal shape x }
-    requires y_normal { IsNormal shape y }
+    requires normal { AreNormal shape x y }
     ensures stored { IsStored shape result.value }
-    ensures delivered { GivesAt shape (IsRounded (format_at shape) round
-        (zero_sum_sign round x.negative y.negative)
-        (signed x.negative (quanta_of shape x) +ℤ signed y.negative (quanta_of shape y)) 1) result }
+    ensures delivered { GivesAt shape (IsNumberSum shape round x y) result }
 {
     let total = add_u128_terms(shape.precision, full_term(shape, x), full_term(shape, y));
     deliver_total(shape, total, x.negative, y.negative, round)
@@ -110,12 +105,9 @@ fn add_u128_numbers(shape: Shape, x: Unpacked, y: Unpacked, round: Round) -> Sta
 #[inline(never)]
 fn add_wide_numbers(shape: Shape, x: Unpacked, y: Unpacked, round: Round) -> StatusAnd<Unpacked>
     requires long { 124 < shape.precision }
-    requires x_normal { IsNormal shape x }
-    requires y_normal { IsNormal shape y }
+    requires normal { AreNormal shape x y }
     ensures stored { IsStored shape result.value }
-    ensures delivered { GivesAt shape (IsRounded (format_at shape) round
-        (zero_sum_sign round x.negative y.negative)
-        (signed x.negative (quanta_of shape x) +ℤ signed y.negative (quanta_of shape y)) 1) result }
+    ensures delivered { GivesAt shape (IsNumberSum shape round x y) result }
 {
     let total = add_wide_terms(
         shape.precision,
@@ -128,12 +120,9 @@ fn add_wide_numbers(shape: Shape, x: Unpacked, y: Unpacked, round: Round) -> Sta
 /// The sum of two nonzero numbers.
 #[inline(always)]
 fn add_numbers(shape: Shape, x: Unpacked, y: Unpacked, round: Round) -> StatusAnd<Unpacked>
-    requires x_normal { IsNormal shape x }
-    requires y_normal { IsNormal shape y }
+    requires { AreNormal shape x y }
     ensures stored { IsStored shape result.value }
-    ensures delivered { GivesAt shape (IsRounded (format_at shape) round
-        (zero_sum_sign round x.negative y.negative)
-        (signed x.negative (quanta_of shape x) +ℤ signed y.negative (quanta_of shape y)) 1) result }
+    ensures delivered { GivesAt shape (IsNumberSum shape round x y) result }
 {
     if shape.precision <= WORD_LIMIT {
         return add_word_numbers(shape, x, y, round);

@@ -1,7 +1,6 @@
 use Rattle.std.proofs.Common.{arith}
 use Rattle.std.proofs.lemmas.Int.{ints}
 use Rattle.std.proofs.lemmas.Nat.{pow_pos}
-use Rattle.apfloat_model.specs.rounding.Bounds.{integer_bit_bound}
 use Rattle.apfloat_arithmetic.proofs.DeliveredTotals.{fused_total, total_delivered}
 use Rattle.apfloat_arithmetic.proofs.Ranges.{wider}
 use Rattle.apfloat_arithmetic.proofs.fused.multiply_add_numbers.Goals as goal
@@ -23,9 +22,7 @@ deliver_total-requires c =
 pub returns-clause-delivered : goal.returns-clause-delivered
 returns-clause-delivered c =
     let product = c.product_term-product.ensures in
-    let addend = c.addend_term.ensures in
-    let g = rw (product.negative, addend.negative) at c.add_u128_terms-total.ensures.rounded in
     total_delivered _ _ _ _ _ _ _ _ _ _ _ (pow_pos _)
-    (fused_total c.args.shape 125 127 integer_bit_bound _ _ _ _ _ _ _ _ _ _ _ (omega (arith, c.requires.short))
-    product.within.low
-    addend.within.low product.counted addend.counted g) (rw product.negative at c.deliver_total.ensures.delivered)
+    (fused_total c.args.shape 125 127 _ _ _ _ _ _ _ _ _ _ _ _ _ (omega (arith, c.requires.short)) product
+    c.addend_term.ensures c.add_u128_terms-total.ensures.rounded)
+    (rw product.negative at c.deliver_total.ensures.delivered)

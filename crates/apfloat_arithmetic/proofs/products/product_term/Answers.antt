@@ -1,7 +1,6 @@
-use Rattle.std.proofs.Common.{◌≡◌, ◌-ℤ◌, pos, arith}
+use Rattle.std.proofs.Common.{arith}
 use Rattle.std.proofs.lemmas.Int.{ints}
-use Rattle.apfloat_arithmetic.proofs.ProductExponents.{product_counted}
-use Rattle.apfloat_arithmetic.proofs.Ranges.{in_word, wider, wider_word}
+use Rattle.apfloat_arithmetic.proofs.WideTerms.{is_product_term}
 use Rattle.apfloat_arithmetic.proofs.products.product_term.Goals as goal
 
 pub raised_product-product-requires-clause-some : goal.raised_product-product-requires-clause-some
@@ -10,20 +9,12 @@ raised_product-product-requires-clause-some c = omega (arith, c.args.shape.param
 pub far_lowered-requires-clause-short : goal.far_lowered-requires-clause-short
 far_lowered-requires-clause-short c = omega (arith, c.raised_product-product.ensures.moved)
 
-pub returns-clause-within : goal.returns-clause-within
-returns-clause-within c = wider_word _ _ _ (omega arith) (omega arith) c.far_lowered.ensures.within
-
-pub returns-clause-counted : goal.returns-clause-counted
-returns-clause-counted c = λ base k b h.
-    let x = c.args.x in
-    let y = c.args.y in
-    let factors = c.factors_of-factors in
+pub returns : goal.returns
+returns c =
+    let factors = c.factors_of-factors.ensures in
     let product = c.raised_product-product in
-    let l = in_word c.far_lowered.result (wider _ _ _ (omega arith) c.far_lowered.ensures.within) in
-    let e : c.far_lowered.result ≡ factors.result.exponent -ℤ pos product.result.moved =
-    omega (arith, ints, factors.ensures.within, c.far_lowered.ensures.value) in
-    let p = rw (factors.ensures.left, factors.ensures.right) at product.ensures.value in
-    let b' = rw l at b in
-    rw l (product_counted c.args.shape x.exponent y.exponent factors.result.exponent c.far_lowered.result base
-    x.significand y.significand product.result.significand product.result.moved k c.requires.left c.requires.right p
-    factors.ensures.exponent e b' h)
+    is_product_term c.args.shape _ _ _ _ c.factors_of-factors.result.exponent c.far_lowered.result _ _
+    product.result.significand product.result.moved c.requires.normal.left c.requires.normal.right factors.negative factors.exponent
+    (omega (arith, ints, factors.within, c.far_lowered.ensures.value))
+    (rw (factors.left, factors.right) at product.ensures.value) c.far_lowered.ensures.within product.ensures.fits
+    product.ensures.full

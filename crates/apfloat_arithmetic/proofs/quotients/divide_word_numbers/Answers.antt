@@ -32,15 +32,15 @@ close : (c : After-word_quotient_of)
     → IsClose c.args.x.significand c.args.y.significand c.args.shape.precision c.places_up-up.result
 close c =
     close_at c.args.shape c.args.x.significand c.args.y.significand c.places_up-up.result c.args.x.exponent
-    c.args.y.exponent c.requires.left c.requires.right c.places_up-up.ensures.less c.places_up-up.ensures.close
+    c.args.y.exponent c.requires.normal.left c.requires.normal.right c.places_up-up.ensures.less c.places_up-up.ensures.close
 
 pub overflow_cast-dividend : goal.overflow_cast-dividend
 overflow_cast-dividend c =
-    record { fits = in_word c.args.x.significand c.args.shape.precision c.requires.short c.requires.left.operand.fits }
+    record { fits = in_word c.args.x.significand c.args.shape.precision c.requires.short c.requires.normal.left.operand.fits }
 
 pub overflow_cast-divisor : goal.overflow_cast-divisor
 overflow_cast-divisor c =
-    record { fits = in_word c.args.y.significand c.args.shape.precision c.requires.short c.requires.right.operand.fits }
+    record { fits = in_word c.args.y.significand c.args.shape.precision c.requires.short c.requires.normal.right.operand.fits }
 
 pub word_quotient_of-requires-clause-some : goal.word_quotient_of-requires-clause-some
 word_quotient_of-requires-clause-some c = omega (arith, c.args.shape.parameters.precision_low)
@@ -54,24 +54,24 @@ word_quotient_of-requires-clause-close c =
     let m = c.args.x.significand in
     let n = c.args.y.significand in
     let up = c.places_up-up.result in
-    let i = close_at s m n up c.args.x.exponent c.args.y.exponent c.requires.left c.requires.right
+    let i = close_at s m n up c.args.x.exponent c.args.y.exponent c.requires.normal.left c.requires.normal.right
     c.places_up-up.ensures.less c.places_up-up.ensures.close in
     rw (moved_fits m n s.precision up c.requires.short i) (moved_close m n s.precision up i).1
 
 pub word_quotient_of-requires-clause-divisor_fits : goal.word_quotient_of-requires-clause-divisor_fits
-word_quotient_of-requires-clause-divisor_fits c = c.requires.right.operand.fits
+word_quotient_of-requires-clause-divisor_fits c = c.requires.normal.right.operand.fits
 
 pub word_quotient_of-requires-clause-divisor_full : goal.word_quotient_of-requires-clause-divisor_full
-word_quotient_of-requires-clause-divisor_full c = c.requires.right.operand.full
+word_quotient_of-requires-clause-divisor_full c = c.requires.normal.right.operand.full
 
 pub quotient_exponent-requires-clause-left : goal.quotient_exponent-requires-clause-left
 quotient_exponent-requires-clause-left c =
-    let x = normal_near c.args.shape c.args.x.significand c.args.x.exponent c.requires.left in
+    let x = normal_near c.args.shape c.args.x.significand c.args.x.exponent c.requires.normal.left in
     rw x.word x.within
 
 pub quotient_exponent-requires-clause-right : goal.quotient_exponent-requires-clause-right
 quotient_exponent-requires-clause-right c =
-    let y = normal_near c.args.shape c.args.y.significand c.args.y.exponent c.requires.right in
+    let y = normal_near c.args.shape c.args.y.significand c.args.y.exponent c.requires.normal.right in
     rw y.word y.within
 
 pub quotient_exponent-requires-clause-short : goal.quotient_exponent-requires-clause-short
@@ -104,7 +104,7 @@ deliver_counted_word-requires-clause-fits c =
     let s = c.args.shape in
     let b = moved_close c.args.x.significand c.args.y.significand s.precision c.places_up-up.result (close state) in
     let f = odd_quotient_fits c.word_quotient_of.result (c.args.x.significand * 2 ^ c.places_up-up.result)
-    c.args.y.significand (s.precision + 1) (normal_some s c.args.y.significand c.args.y.exponent c.requires.right) b.1
+    c.args.y.significand (s.precision + 1) (normal_some s c.args.y.significand c.args.y.exponent c.requires.normal.right) b.1
     (quotient state) in
     let e : c.args.shape.precision + 1 + 1 ≡ c.args.shape.precision + 2 = omega arith in
     rw e at f
@@ -115,7 +115,7 @@ deliver_counted_word-requires-clause-full c =
     let s = c.args.shape in
     let b = moved_close c.args.x.significand c.args.y.significand s.precision c.places_up-up.result (close state) in
     odd_quotient_long c.word_quotient_of.result (c.args.x.significand * 2 ^ c.places_up-up.result)
-    c.args.y.significand (s.precision + 1) (normal_some s c.args.y.significand c.args.y.exponent c.requires.right) b.0
+    c.args.y.significand (s.precision + 1) (normal_some s c.args.y.significand c.args.y.exponent c.requires.normal.right) b.0
     (quotient state)
 
 pub returns-clause-delivered : goal.returns-clause-delivered
@@ -126,9 +126,9 @@ returns-clause-delivered c =
     let n = c.args.y.significand in
     let up = c.places_up-up.result in
     let places = s.precision + 1 in
-    let some = normal_some s c.args.y.significand c.args.y.exponent c.requires.right in
-    let x = normal_near s c.args.x.significand c.args.x.exponent c.requires.left in
-    let y = normal_near s c.args.y.significand c.args.y.exponent c.requires.right in
+    let some = normal_some s c.args.y.significand c.args.y.exponent c.requires.normal.right in
+    let x = normal_near s c.args.x.significand c.args.x.exponent c.requires.normal.left in
+    let y = normal_near s c.args.y.significand c.args.y.exponent c.requires.normal.right in
     let v = rw (x.word, y.word) at c.quotient_exponent.ensures.value in
     let w : to_z w32 (of_z w32 c.quotient_exponent.result) ≡ c.quotient_exponent.result =
     to_z-of_z w32 c.quotient_exponent.result (record { sfits = c.quotient_exponent.type_inv }) in
@@ -139,9 +139,9 @@ returns-clause-delivered c =
     let g = rw w at c.deliver_counted_word.ensures.delivered in
     let d = g (quanta_at s.min_exp c.args.x.significand c.args.x.exponent * 2 ^ (format_at s).scale)
     (quanta_at s.min_exp c.args.y.significand c.args.y.exponent)
-    (quanta_some s c.args.y.significand c.args.y.exponent c.requires.right)
+    (quanta_some s c.args.y.significand c.args.y.exponent c.requires.normal.right)
     (odd_quotient_is s c.args.x.exponent c.args.y.exponent c.quotient_exponent.result (places + up) (2 ^ places)
-    c.word_quotient_of.result m n c.requires.left c.requires.right v r) in
+    c.word_quotient_of.result m n c.requires.normal.left c.requires.normal.right v r) in
     subst (λ (b : Bool). IsDelivered (format_at s) c.args.round b
     (quanta_at s.min_exp c.args.x.significand c.args.x.exponent * 2 ^ (format_at s).scale)
     (quanta_at s.min_exp c.args.y.significand c.args.y.exponent) (datum_at s c.deliver_counted_word.result.value)

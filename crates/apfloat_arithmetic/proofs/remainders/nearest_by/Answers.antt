@@ -16,14 +16,14 @@ returns-then-gap-gt1-clause-past c =
     let rest = c.remaining_by-rest.result.magnitude in
     let low = c.remaining_by-rest.ensures.low in
     let f : 2 * units_of rest < y =
-    far_below c.args.precision rest.significand rest.place c.args.y.significand c.args.y.place c.requires.some
-    c.remaining_by-rest.ensures.fits c.requires.y.full (omega arith) in
+    far_below c.args.precision rest.significand rest.place c.args.y.significand c.args.y.place
+    c.requires.operands.some c.remaining_by-rest.ensures.fits c.requires.operands.divisor.full (omega arith) in
     lower_near (x % y) y (eqb (x / y % 2) 1) (subst (λ (z : ℕ). 2 * z < y) c.remaining_by-rest.ensures.rest f)
 
 pub overflow_mul-divisor : goal.overflow_mul-divisor
 overflow_mul-divisor c =
-    let m : 2 ^ c.args.precision ≤ 2 ^ 125 = pow-le-pow_right two_pos c.requires.precise in
-    let f = c.requires.y.fits in
+    let m : 2 ^ c.args.precision ≤ 2 ^ 125 = pow-le-pow_right two_pos c.requires.operands.precise in
+    let f = c.requires.operands.divisor.fits in
     record { fits = omega arith }
 
 level_places : (t p q : ℕ) → p ≡ q → t * 2 ^ p ≡ t * 2 ^ q
@@ -49,7 +49,7 @@ overflow_sub-other c =
     let s : ℕ = c.remaining_by-rest.result.magnitude.significand in
     let d : ℕ = c.if-gap-eq1.divisor in
     let l : x % y < y =
-    mod-lt x (divisor_pos c.args.precision c.args.y.significand c.args.y.place c.requires.y.full) in
+    mod-lt x (divisor_pos c.args.precision c.args.y.significand c.args.y.place c.requires.operands.divisor.full) in
     let k : s < d =
     digits_less s d (2 ^ c.remaining_by-rest.result.magnitude.place) (x % y) y c.remaining_by-rest.ensures.rest
     (divisor_there (goal.at.overflow_sub-other c).Joined-gap-eq1) l in

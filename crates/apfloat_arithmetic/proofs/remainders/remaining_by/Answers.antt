@@ -8,10 +8,10 @@ use Rattle.apfloat_arithmetic.proofs.remainders.remaining_by.Goals.{After-rest_o
 use Rattle.apfloat_arithmetic.proofs.remainders.remaining_by.Goals as goal
 
 pub returns-then-x-y-clause-rest : goal.returns-then-x-y-clause-rest
-returns-then-x-y-clause-rest c = left_all _ _ (is_less _ _ _ c.requires.some c.requires.x c.requires.y (omega arith))
+returns-then-x-y-clause-rest c = left_all _ _ (is_less _ _ _ c.requires (omega arith))
 
 pub returns-then-x-y-clause-odd : goal.returns-then-x-y-clause-odd
-returns-then-x-y-clause-odd c = not_odd _ _ (is_less _ _ _ c.requires.some c.requires.x c.requires.y (omega arith))
+returns-then-x-y-clause-odd c = not_odd _ _ (is_less _ _ _ c.requires (omega arith))
 
 -- a number at a place not below the divisor's, counted from the divisor's place
 lowered : (state : After-rest_of_moved-left) → state.args.y.place ≤ state.args.x.place → units_of state.args.x
@@ -42,10 +42,10 @@ returns-clause-odd c =
 pub returns-clause-fits : goal.returns-clause-fits
 returns-clause-fits c =
     let h : 0 < 2 ^ (c.args.precision - 1) = pow_pos (c.args.precision - 1) in
-    let l = c.requires.y.full in
+    let l = c.requires.divisor.full in
     let d : 0 < c.args.y.significand = omega arith in
     let a : ℕ = c.args.x.significand * 2 ^ (c.args.x.place - c.args.y.place) in
     let m : a % c.args.y.significand < c.args.y.significand = mod-lt a d in
     let r = c.rest_of_moved-left.ensures.rest in
-    let f = c.requires.y.fits in
+    let f = c.requires.divisor.fits in
     omega arith

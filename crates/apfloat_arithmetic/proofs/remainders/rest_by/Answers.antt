@@ -10,21 +10,21 @@ use Rattle.apfloat_arithmetic.proofs.remainders.rest_by.Goals.{After-less_multip
 use Rattle.apfloat_arithmetic.proofs.remainders.rest_by.Goals as goal
 
 pub returns-then-x-y-clause-rest : goal.returns-then-x-y-clause-rest
-returns-then-x-y-clause-rest c = left_all _ _ (is_less _ _ _ c.requires.some c.requires.x c.requires.y (omega arith))
+returns-then-x-y-clause-rest c = left_all _ _ (is_less _ _ _ c.requires.operands (omega arith))
 
 pub returns-then-x-y-clause-steps : goal.returns-then-x-y-clause-steps
-returns-then-x-y-clause-steps c = none_set _ _ (is_less _ _ _ c.requires.some c.requires.x c.requires.y (omega arith))
+returns-then-x-y-clause-steps c = none_set _ _ (is_less _ _ _ c.requires.operands (omega arith))
 
 pub less_multiple-less-requires-clause-narrow : goal.less_multiple-less-requires-clause-narrow
 less_multiple-less-requires-clause-narrow c =
-    let m : 2 ^ c.args.precision ≤ 2 ^ 125 = pow-le-pow_right two_pos c.requires.precise in
+    let m : 2 ^ c.args.precision ≤ 2 ^ 125 = pow-le-pow_right two_pos c.requires.operands.precise in
     let f = c.loop-rest.invariant.fits in
     omega arith
 
 -- ---- one iteration
 
 divides : (state : After-less_multiple-less) → 0 < units_of state.args.y
-divides c = divisor_pos c.args.precision c.args.y.significand c.args.y.place c.requires.y.full
+divides c = divisor_pos c.args.precision c.args.y.significand c.args.y.place c.requires.operands.divisor.full
 
 turn : (state : After-less_multiple-less)
     → IsTurn (units_of state.args.y) (units_of state.loop-rest.rest) (units_of state.less_multiple-less.result)
@@ -47,7 +47,7 @@ pub overflow_add-steps : goal.overflow_add-steps
 overflow_add-steps c =
     let f : count_ones (units_of c.args.x / units_of c.args.y) ≤ c.args.x.place + 1 - c.args.y.place =
     few_digits c.args.precision c.args.x.significand c.args.x.place c.args.y.significand c.args.y.place
-    c.requires.some c.requires.x.fits c.requires.y.full (omega arith) in
+    c.requires.operands.some c.requires.operands.dividend.fits c.requires.operands.divisor.full (omega arith) in
     let o = one_digit c in
     let i = c.loop-rest.invariant.counted in
     record { fits = omega arith }

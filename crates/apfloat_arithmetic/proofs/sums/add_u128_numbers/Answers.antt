@@ -5,10 +5,10 @@ use Rattle.apfloat_arithmetic.proofs.Ranges.{wider}
 use Rattle.apfloat_arithmetic.proofs.sums.add_u128_numbers.Goals as goal
 
 pub full_term-requires : goal.full_term-requires
-full_term-requires c = c.requires.x_normal
+full_term-requires c = c.requires.normal.left
 
 pub full_term-requires-2 : goal.full_term-requires-2
-full_term-requires-2 c = c.requires.y_normal
+full_term-requires-2 c = c.requires.normal.right
 
 pub add_u128_terms-total-requires-clause-some : goal.add_u128_terms-total-requires-clause-some
 add_u128_terms-total-requires-clause-some c = omega (arith, c.args.shape.parameters.precision_low)
@@ -42,5 +42,5 @@ returns-clause-delivered c =
       c.full_term-2.ensures.significand,
     ) at c.add_u128_terms-total.ensures.rounded in
     total_delivered _ _ _ _ _ _ _ _ _ _ _ (omega arith)
-    (sum_total c.args.shape 125 127 _ _ _ _ _ _ _ _ _ _ _ (omega (arith, c.requires.short)) c.requires.x_normal
-    c.requires.y_normal c.full_term.ensures.exponent c.full_term-2.ensures.exponent g) c.deliver_total.ensures.delivered
+    (sum_total c.args.shape 125 127 _ _ _ _ _ _ _ _ _ _ _ (omega (arith, c.requires.short)) c.requires.normal.left
+    c.requires.normal.right c.full_term.ensures.exponent c.full_term-2.ensures.exponent g) c.deliver_total.ensures.delivered

@@ -4,10 +4,10 @@ use Rattle.apfloat_arithmetic.proofs.DeliveredTotals.{sum_total, total_delivered
 use Rattle.apfloat_arithmetic.proofs.sums.add_wide_numbers.Goals as goal
 
 pub full_term-requires : goal.full_term-requires
-full_term-requires c = c.requires.x_normal
+full_term-requires c = c.requires.normal.left
 
 pub full_term-requires-2 : goal.full_term-requires-2
-full_term-requires-2 c = c.requires.y_normal
+full_term-requires-2 c = c.requires.normal.right
 
 pub add_wide_terms-total-requires-clause-short : goal.add_wide_terms-total-requires-clause-short
 add_wide_terms-total-requires-clause-short c = omega (arith, c.args.shape.parameters.precision_high)
@@ -61,5 +61,5 @@ returns-clause-delivered c =
     ) at c.add_wide_terms-total.ensures.rounded in
     total_delivered _ _ _ _ _ _ _ _ _ _ _ (omega arith)
     (sum_total c.args.shape 127 253 _ _ _ _ _ _ _ _ _ _ _ (omega (arith, c.args.shape.parameters.precision_high))
-    c.requires.x_normal
-    c.requires.y_normal c.full_term.ensures.exponent c.full_term-2.ensures.exponent g) c.deliver_total.ensures.delivered
+    c.requires.normal.left
+    c.requires.normal.right c.full_term.ensures.exponent c.full_term-2.ensures.exponent g) c.deliver_total.ensures.delivered

@@ -12,10 +12,10 @@ use Rattle.apfloat_arithmetic.proofs.Ranges.{wider}
 use Rattle.apfloat_arithmetic.proofs.sums.add_word_numbers.Goals as goal
 
 pub full_term-requires : goal.full_term-requires
-full_term-requires c = c.requires.x_normal
+full_term-requires c = c.requires.normal.left
 
 pub full_term-requires-2 : goal.full_term-requires-2
-full_term-requires-2 c = c.requires.y_normal
+full_term-requires-2 c = c.requires.normal.right
 
 pub add_word_terms-total-requires-clause-some : goal.add_word_terms-total-requires-clause-some
 add_word_terms-total-requires-clause-some c = omega (arith, c.args.shape.parameters.precision_low)
@@ -57,8 +57,8 @@ returns-clause-delivered c =
       right.ensures.negative,
       right.ensures.significand,
     ) at total.ensures.rounded in
-    let r = sum_total s 60 62 _ _ _ _ _ _ _ _ _ _ _ (omega (arith, c.requires.short)) c.requires.x_normal
-    c.requires.y_normal left.ensures.exponent right.ensures.exponent g in
+    let r = sum_total s 60 62 _ _ _ _ _ _ _ _ _ _ _ (omega (arith, c.requires.short)) c.requires.normal.left
+    c.requires.normal.right left.ensures.exponent right.ensures.exponent g in
     let of_zero = zero_sum_sign c.args.round x.negative y.negative in
     let exact = signed x.negative (quanta_at s.min_exp x.significand x.exponent) +ℤ
     signed y.negative (quanta_at s.min_exp y.significand y.exponent) in
