@@ -13,7 +13,6 @@ use Rattle.apfloat_model.proofs.order.PredicatesAgree.{finite_agrees, infinite_a
 use Rattle.apfloat_model.proofs.general.Choices.{same_beq, match_true, match_false}
 use Rattle.apfloat_model.specs.declared.kinds.Round.TheVariants.{NearestTiesToEven}
 use Rattle.apfloat_model.specs.order.Order.{is_equal}
-use Rattle.apfloat_model.specs.formats.Members.{IsMember}
 use Rattle.apfloat_model.specs.arithmetic.Sums.{IsSum}
 use Rattle.apfloat_pair_theory.specs.PairFormats.{double, wide}
 use Rattle.apfloat_pair_theory.specs.Pairs.{Pair, IsJoined, IsSplit, IsSplitAnswer, IsSumOfParts, IsWidened, IsWideAnswer, IsWideAnswerOfTwo, negated_pair, pair_category}
@@ -21,10 +20,6 @@ use Rattle.apfloat_pair_theory.specs.PairSums.{◌∪◌, sum_of_categories, IsP
 use Rattle.apfloat_pair_theory.specs.PairParts.{is_denormal_pair}
 use Rattle.apfloat_pair_theory.proofs.parts.DenormalPairs.{denormal_by_sum}
 use Rattle.apfloat_pair_theory.specs.PairProducts.{product_of_categories, IsPairProduct}
-use Rattle.apfloat_pair_theory.specs.PairAccuracy.{IsErrorFreeSum, IsAccurateSum, IsErrorFreeDifference, IsAccurateDifference, IsErrorFreeProduct, IsAccurateProduct, HasPlainStatus}
-use Rattle.apfloat_pair_theory.proofs.sums.PairSumLaws.{error_free_sum, accurate_sum, plain_sum}
-use Rattle.apfloat_pair_theory.proofs.sums.DifferenceLaws.{error_free_difference, accurate_difference, plain_difference}
-use Rattle.apfloat_pair_theory.proofs.products.PairProductLaws.{error_free_product, accurate_product}
 
 -- whether a pair is denormal, from the sum of its parts
 pub denormal_at_sum : (x : Pair) (sum : Datum) (status : ℕ) (is_number is_denormal_high answer : Bool)
@@ -135,68 +130,3 @@ product_by_categories mode x y first second answer status i j s =
 pub difference_by_negation : (mode : Round) (x y negated answer : Pair) (status : ℕ) → negated ≡ negated_pair y
     → IsPairSum mode x negated answer status → IsPairDifference mode x y answer status
 difference_by_negation mode x y z answer status e s = subst (λ (p : Pair). IsPairSum mode x p answer status) e s
-
--- ---- the laws of sums and products, in a mode that rounds to nearest, ties to even
-
--- a law for the mode to nearest holds for any mode equal to it
-at_nearest : (P : Round → Type 0) (Q : Type 0) → (P NearestTiesToEven → Q) → (mode : Round) → P mode
-    → mode ≡ NearestTiesToEven → Q
-at_nearest P Q law mode p e = law (subst P e p)
-
--- to nearest, the sum of two doubles loses nothing
-pub sum_error_free : (mode : Round) (x y answer : Pair) (status : ℕ) → IsMember double x.high → IsMember double y.high
-    → IsPairSum mode x y answer status → mode ≡ NearestTiesToEven → IsErrorFreeSum x y answer
-sum_error_free mode x y answer status m n =
-    at_nearest (λ (i : Round). IsPairSum i x y answer status) (IsErrorFreeSum x y answer)
-    (error_free_sum x y answer status m n) mode
-
--- to nearest, the sum of two normalized pairs is accurate
-pub sum_accurate : (mode : Round) (x y answer : Pair) (status : ℕ) → IsPairSum mode x y answer status
-    → mode ≡ NearestTiesToEven → IsAccurateSum x y answer
-sum_accurate mode x y answer status =
-    at_nearest (λ (i : Round). IsPairSum i x y answer status) (IsAccurateSum x y answer)
-    (accurate_sum x y answer status) mode
-
--- to nearest, the sum of two normalized pairs raises at most INEXACT
-pub sum_plain : (mode : Round) (x y answer : Pair) (status : ℕ) → IsPairSum mode x y answer status
-    → mode ≡ NearestTiesToEven → HasPlainStatus x y status
-sum_plain mode x y answer status =
-    at_nearest (λ (i : Round). IsPairSum i x y answer status) (HasPlainStatus x y status)
-    (plain_sum x y answer status) mode
-
--- to nearest, the difference of two doubles loses nothing
-pub difference_error_free : (mode : Round) (x y answer : Pair) (status : ℕ) → IsMember double x.high
-    → IsMember double y.high → IsPairDifference mode x y answer status → mode ≡ NearestTiesToEven
-    → IsErrorFreeDifference x y answer
-difference_error_free mode x y answer status m n =
-    at_nearest (λ (i : Round). IsPairDifference i x y answer status) (IsErrorFreeDifference x y answer)
-    (error_free_difference x y answer status m n) mode
-
--- to nearest, the difference of two normalized pairs is accurate
-pub difference_accurate : (mode : Round) (x y answer : Pair) (status : ℕ) → IsPairDifference mode x y answer status
-    → mode ≡ NearestTiesToEven → IsAccurateDifference x y answer
-difference_accurate mode x y answer status =
-    at_nearest (λ (i : Round). IsPairDifference i x y answer status) (IsAccurateDifference x y answer)
-    (accurate_difference x y answer status) mode
-
--- to nearest, the difference of two normalized pairs raises at most INEXACT
-pub difference_plain : (mode : Round) (x y answer : Pair) (status : ℕ) → IsPairDifference mode x y answer status
-    → mode ≡ NearestTiesToEven → HasPlainStatus x y status
-difference_plain mode x y answer status =
-    at_nearest (λ (i : Round). IsPairDifference i x y answer status) (HasPlainStatus x y status)
-    (plain_difference x y answer status) mode
-
--- to nearest, the product of two doubles loses nothing
-pub product_error_free : (mode : Round) (x y answer : Pair) (status : ℕ) → IsMember double x.high
-    → IsMember double y.high → IsPairProduct mode x y answer status → mode ≡ NearestTiesToEven
-    → IsErrorFreeProduct x y answer
-product_error_free mode x y answer status m n =
-    at_nearest (λ (i : Round). IsPairProduct i x y answer status) (IsErrorFreeProduct x y answer)
-    (error_free_product x y answer status m n) mode
-
--- to nearest, the product of two normalized pairs is accurate
-pub product_accurate : (mode : Round) (x y answer : Pair) (status : ℕ) → IsPairProduct mode x y answer status
-    → mode ≡ NearestTiesToEven → IsAccurateProduct x y answer
-product_accurate mode x y answer status =
-    at_nearest (λ (i : Round). IsPairProduct i x y answer status) (IsAccurateProduct x y answer)
-    (accurate_product x y answer status) mode

@@ -29,21 +29,18 @@ is_positive_zero (finite b n) = zero_without_sign b _
 is_positive_zero (infinite b) = refl
 is_positive_zero (nan b s) = refl
 
--- the test for no error is that of the chain
-none_is : (zz : Datum) (is_none value : Bool) → is_none ≡ (is_zero_category (category_of zz) && not (is_negative zz))
-    → is_none ≡ value → value ≡ same_datum zz positive_zero
-none_is zz is_none value e g = sym g ∙ e ∙ is_positive_zero zz
-
--- the steps after the error
-from_error : (mode : Round) (x y : Pair) (z zz : Datum) (z_flags zz_flags : ℕ) (answer : Pair) (status : ℕ)
-    → Leads double mode (lost x.high x.low y.high y.low z) zz zz_flags
-    → Leads double mode
-    (if same_datum zz positive_zero then ends (alone z) ok_bits else closing z zz (z_flags ∪ zz_flags)) answer status
+-- the steps after the error, by whether there is none
+from_error : (mode : Round) (x y : Pair) (z zz : Datum) (z_flags zz_flags : ℕ) (is_none value : Bool) (answer : Pair)
+    (status : ℕ) → Leads double mode (lost x.high x.low y.high y.low z) zz zz_flags
+    → is_none ≡ (is_zero_category (category_of zz) && not (is_negative zz)) → is_none ≡ value
+    → Leads double mode (if value then ends (alone z) ok_bits else closing z zz (z_flags ∪ zz_flags)) answer status
     → Leads double mode (finite_sum x y z z_flags) answer status
-from_error mode x y z zz z_flags zz_flags answer status =
+from_error mode x y z zz z_flags zz_flags is_none value answer status error test e h =
     continued_leads double mode (lost x.high x.low y.high y.low z)
     (λ w s. if same_datum w positive_zero then ends (alone z) ok_bits else closing z w (z_flags ∪ s))
-    zz zz_flags answer status
+    zz zz_flags answer status error
+    (at_test mode value (same_datum zz positive_zero) (ends (alone z) ok_bits) (closing z zz (z_flags ∪ zz_flags))
+    answer status (sym e ∙ test ∙ is_positive_zero zz) h)
 
 closing_at : (mode : Round) (z zz : Datum) (flags other : ℕ) (answer : Pair) (status : ℕ) → flags ≡ other
     → Leads double mode (closing z zz flags) answer status → Leads double mode (closing z zz other) answer status
@@ -52,24 +49,12 @@ closing_at mode z zz flags other answer status e h =
 
 pub returns-then-is_pos_zero : goal.returns-then-is_pos_zero
 returns-then-is_pos_zero c =
-    let z = c.args.z.value in
-    let zz = c.lost.result.value in
-    let z_flags = bits_of c.args.z.status in
-    let zz_flags = bits_of c.lost.result.status in
-    from_error c.args.round c.args.x c.args.y z zz z_flags zz_flags _ _ c.lost.ensures
-    (at_test c.args.round true (same_datum zz positive_zero) (ends (alone z) ok_bits)
-    (closing z zz (z_flags ∪ zz_flags)) _ _
-    (none_is zz _ _ c.is_pos_zero.ensures c.if-is_pos_zero.true)
-    (c.and.ensures.value ∙ c.alone.ensures, ap bits_of c.and.ensures.status))
+    from_error c.args.round c.args.x c.args.y c.args.z.value c.lost.result.value (bits_of c.args.z.status)
+    (bits_of c.lost.result.status) _ true _ _ c.lost.ensures c.is_pos_zero.ensures c.if-is_pos_zero.true
+    (c.and.ensures.value ∙ c.alone.ensures, ap bits_of c.and.ensures.status)
 
 pub returns-else-is_pos_zero : goal.returns-else-is_pos_zero
 returns-else-is_pos_zero c =
-    let z = c.args.z.value in
-    let zz = c.lost.result.value in
-    let z_flags = bits_of c.args.z.status in
-    let zz_flags = bits_of c.lost.result.status in
-    from_error c.args.round c.args.x c.args.y z zz z_flags zz_flags _ _ c.lost.ensures
-    (at_test c.args.round false (same_datum zz positive_zero) (ends (alone z) ok_bits)
-    (closing z zz (z_flags ∪ zz_flags))
-    _ _ (none_is zz _ _ c.is_pos_zero.ensures c.if-is_pos_zero.false)
-    (closing_at c.args.round z zz _ _ _ _ (c.unpack-union-status.ensures tt) assumption))
+    from_error c.args.round c.args.x c.args.y c.args.z.value c.lost.result.value (bits_of c.args.z.status)
+    (bits_of c.lost.result.status) _ false _ _ c.lost.ensures c.is_pos_zero.ensures c.if-is_pos_zero.false
+    (closing_at c.args.round c.args.z.value c.lost.result.value _ _ _ _ (c.unpack-union-status.ensures tt) assumption)
