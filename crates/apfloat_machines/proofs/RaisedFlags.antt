@@ -107,23 +107,25 @@ unsigned_together f machine mode width x number status h =
 pub raise_together : (f : Format) (machine : Machine) → MachineFlagsGoTogether f machine
 raise_together f machine =
     record {
-      sum = λ mode x y. of_two_together f machine x y (is_invalid_sum x y) (IsSum f mode x y)
-          (sum_together f mode x y);
-      difference = λ mode x y. of_two_together f machine x y (is_invalid_difference x y) (IsDifference f mode x y)
-          (difference_together f mode x y);
-      product = λ mode x y. of_two_together f machine x y (is_invalid_product x y) (IsProduct f mode x y)
-          (product_together f mode x y);
-      quotient = λ mode x y. of_two_together f machine x y (is_invalid_quotient x y) (IsQuotient f mode x y)
-          (quotient_together f mode x y);
-      truncated = λ x y. of_two_together f machine x y (is_invalid_remainder x y) (IsTruncatedRemainder f x y)
-          (remainder_together f truncated_quotient x y);
-      nearest = λ x y. of_two_together f machine x y (is_invalid_remainder x y) (IsNearestRemainder f x y)
-          (remainder_together f nearest_quotient x y);
-      root = λ mode x. of_two_together f machine x x (is_invalid_root x) (IsRoot f mode x) (root_together f mode x);
-      exact = λ mode x. of_two_together f machine x x false (IsRoundToIntegral f mode x)
-          (round_to_integral_together f mode x);
-      integral = λ mode x. of_two_together f machine x x false (IsRoundedToIntegral f mode x)
-          (integral_together f mode x);
+      operations = record {
+        sum = λ mode x y. of_two_together f machine x y (is_invalid_sum x y) (IsSum f mode x y)
+            (sum_together f mode x y);
+        difference = λ mode x y. of_two_together f machine x y (is_invalid_difference x y) (IsDifference f mode x y)
+            (difference_together f mode x y);
+        product = λ mode x y. of_two_together f machine x y (is_invalid_product x y) (IsProduct f mode x y)
+            (product_together f mode x y);
+        quotient = λ mode x y. of_two_together f machine x y (is_invalid_quotient x y) (IsQuotient f mode x y)
+            (quotient_together f mode x y);
+        truncated = λ x y. of_two_together f machine x y (is_invalid_remainder x y) (IsTruncatedRemainder f x y)
+            (remainder_together f truncated_quotient x y);
+        nearest = λ x y. of_two_together f machine x y (is_invalid_remainder x y) (IsNearestRemainder f x y)
+            (remainder_together f nearest_quotient x y);
+        root = λ mode x. of_two_together f machine x x (is_invalid_root x) (IsRoot f mode x) (root_together f mode x);
+        exact = λ mode x. of_two_together f machine x x false (IsRoundToIntegral f mode x)
+            (round_to_integral_together f mode x);
+        integral = λ mode x. of_two_together f machine x x false (IsRoundedToIntegral f mode x)
+            (integral_together f mode x);
+      };
       fused_sum = λ mode x y z. of_three_together f machine x y z (IsFusedSum f mode x y z)
           (fused_sum_together f mode x y z);
       conversion = λ source mode x. match_case RaisesTogether (is_lost_nan source machine x) (IsAnswer _ _)

@@ -69,12 +69,16 @@ IsFlushedAndSettledFused f machine x y z answer result =
     f.nonfinite ≡ IEEE754 → (flush : Flush) (mode : Round) → Gives (IsFlushedFusedSum f flush mode x y z) answer
     → Gives (IsFlushedMachineFusedSum f machine flush mode x y z) result
 
--- each has one answer
-pub record FlushedMachinesHaveOneAnswer (f : Format) (machine : Machine) (flush : Flush) : Type 0 where
-  pub sum : (mode : Round) (x y : Datum) → IsOnce (IsFlushedMachineSum f machine flush mode x y)
-  pub difference : (mode : Round) (x y : Datum) → IsOnce (IsFlushedMachineDifference f machine flush mode x y)
-  pub product : (mode : Round) (x y : Datum) → IsOnce (IsFlushedMachineProduct f machine flush mode x y)
-  pub quotient : (mode : Round) (x y : Datum) → IsOnce (IsFlushedMachineQuotient f machine flush mode x y)
-  pub fused_sum : (mode : Round) (x y z : Datum) → IsOnce (IsFlushedMachineFusedSum f machine flush mode x y z)
+-- what holds of each
+pub record OfEachFlushed (Holds : (Datum → ℕ → Type 0) → Type 0) (f : Format) (machine : Machine) (flush : Flush)
+    : Type 0 where
+  pub sum : (mode : Round) (x y : Datum) → Holds (IsFlushedMachineSum f machine flush mode x y)
+  pub difference : (mode : Round) (x y : Datum) → Holds (IsFlushedMachineDifference f machine flush mode x y)
+  pub product : (mode : Round) (x y : Datum) → Holds (IsFlushedMachineProduct f machine flush mode x y)
+  pub quotient : (mode : Round) (x y : Datum) → Holds (IsFlushedMachineQuotient f machine flush mode x y)
+  pub fused_sum : (mode : Round) (x y z : Datum) → Holds (IsFlushedMachineFusedSum f machine flush mode x y z)
   pub conversion : (source : Format) (mode : Round) (x : Datum)
-      → IsOnce (IsFlushedMachineConversion source f machine flush mode x)
+      → Holds (IsFlushedMachineConversion source f machine flush mode x)
+
+abbrev pub FlushedMachinesHaveOneAnswer : Format → Machine → Flush → Type 0
+FlushedMachinesHaveOneAnswer f machine flush = OfEachFlushed IsOnce f machine flush

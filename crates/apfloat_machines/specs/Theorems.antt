@@ -19,16 +19,20 @@ use Rattle.apfloat_machines.specs.WholeNumbers.{IsMachineWhole}
 abbrev pub IsOnce : (Datum → ℕ → Type 0) → Type 0
 IsOnce Says = Determines (λ (answer : StatusAnd Datum). Gives Says answer)
 
-pub record HaveOneAnswer (f : Format) (machine : Machine) : Type 0 where
-  pub sum : (mode : Round) (x y : Datum) → IsOnce (IsMachineSum f machine mode x y)
-  pub difference : (mode : Round) (x y : Datum) → IsOnce (IsMachineDifference f machine mode x y)
-  pub product : (mode : Round) (x y : Datum) → IsOnce (IsMachineProduct f machine mode x y)
-  pub quotient : (mode : Round) (x y : Datum) → IsOnce (IsMachineQuotient f machine mode x y)
-  pub truncated : (x y : Datum) → IsOnce (IsMachineTruncatedRemainder f machine x y)
-  pub nearest : (x y : Datum) → IsOnce (IsMachineNearestRemainder f machine x y)
-  pub root : (mode : Round) (x : Datum) → IsOnce (IsMachineRoot f machine mode x)
-  pub exact : (mode : Round) (x : Datum) → IsOnce (IsMachineIntegralExact f machine mode x)
-  pub integral : (mode : Round) (x : Datum) → IsOnce (IsMachineIntegral f machine mode x)
+-- what holds of each operation that rounds a result to the format of its operands, but for fused sums
+pub record OfEachOperation (Holds : (Datum → ℕ → Type 0) → Type 0) (f : Format) (machine : Machine) : Type 0 where
+  pub sum : (mode : Round) (x y : Datum) → Holds (IsMachineSum f machine mode x y)
+  pub difference : (mode : Round) (x y : Datum) → Holds (IsMachineDifference f machine mode x y)
+  pub product : (mode : Round) (x y : Datum) → Holds (IsMachineProduct f machine mode x y)
+  pub quotient : (mode : Round) (x y : Datum) → Holds (IsMachineQuotient f machine mode x y)
+  pub truncated : (x y : Datum) → Holds (IsMachineTruncatedRemainder f machine x y)
+  pub nearest : (x y : Datum) → Holds (IsMachineNearestRemainder f machine x y)
+  pub root : (mode : Round) (x : Datum) → Holds (IsMachineRoot f machine mode x)
+  pub exact : (mode : Round) (x : Datum) → Holds (IsMachineIntegralExact f machine mode x)
+  pub integral : (mode : Round) (x : Datum) → Holds (IsMachineIntegral f machine mode x)
+
+abbrev pub HaveOneAnswer : Format → Machine → Type 0
+HaveOneAnswer f machine = OfEachOperation IsOnce f machine
 
 abbrev pub FusedSumsHaveOneAnswer : Type 0
 FusedSumsHaveOneAnswer =

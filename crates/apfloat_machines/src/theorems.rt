@@ -5,14 +5,12 @@ ghost use Rattle.apfloat_machines.specs.declared.flushing.Flush.{Flush};
 ghost use Rattle.apfloat_machines.specs.declared.machine.Machine.{Machine};
 ghost use Rattle.apfloat_model.specs.declared.status.StatusAnd.{StatusAnd};
 ghost use Rattle.apfloat_model.specs.formats.Datum.{Datum};
-ghost use Rattle.apfloat_machines.specs.FlushedMachines.{FlushedMachinesHaveOneAnswer};
-ghost use Rattle.apfloat_machines.specs.FlushedMachines.{IsFlushedAndSettledFused};
+ghost use Rattle.apfloat_machines.specs.FlushedMachines.{FlushedMachinesHaveOneAnswer, IsFlushedAndSettledFused};
 ghost use Rattle.apfloat_machines.specs.FlushedOperations.{FlushedHaveOneAnswer};
 ghost use Rattle.apfloat_machines.specs.Operations.{IsSettledFused};
 ghost use Rattle.apfloat_machines.specs.RaisedFlags.{MachineFlagsGoTogether, FlushedFlagsGoTogether};
 ghost use Rattle.apfloat_machines.specs.Theorems.{HaveOneAnswer, FusedSumsHaveOneAnswer};
-ghost use Rattle.apfloat_machines.specs.Theorems.{ConversionsHaveOneAnswer};
-ghost use Rattle.apfloat_machines.specs.Theorems.{WholeNumbersHaveOneAnswer};
+ghost use Rattle.apfloat_machines.specs.Theorems.{ConversionsHaveOneAnswer, WholeNumbersHaveOneAnswer};
 
 /// A sum, a difference, a product, a quotient, a remainder, a root and a rounding to an integral value of a machine
 /// have one value and one status.

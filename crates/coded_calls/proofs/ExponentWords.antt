@@ -1,7 +1,7 @@
 -- The exponent of a fraction is a number of 32 bits.
-use Rattle.std.proofs.Common.{◌≡◌, ℕ, zero, suc, ◌+◌, ◌-◌, ◌^◌, ◌<◌, ◌≤◌, Bool, true, false, eqb, refl, sym, subst}
+use Rattle.std.proofs.Common.{◌≡◌, ℕ, zero, suc, ◌<◌, ◌≤◌, Bool, true, false, eqb, refl, sym, subst}
 use Rattle.std.proofs.Common.{FitsSigned, w32, arith, lit<}
-use Rattle.std.specs.Prelude.{ℤ, pos, ◌-ℤ◌, unsigned_abs}
+use Rattle.std.specs.Prelude.{ℤ, pos}
 use Rattle.std.specs.Bool.{MatchBool}
 use Rattle.std.proofs.lemmas.Bool.{false≢true}
 use Rattle.std.proofs.lemmas.Int.{ints, fits_signed_from_abs}
@@ -11,19 +11,7 @@ use Rattle.rustc_apfloat.specs.Exponents.{IsFraction, IsFrexp}
 use Rattle.rustc_apfloat.specs.Lawful.{Constants, IsLawful, format_with}
 use Rattle.rustc_apfloat.specs.Members.{IsMember}
 use Rattle.apfloat_model.proofs.arithmetic.FractionExponents.{exponent_within}
-
--- the constants of a lawful format are far below 2 ^ 31
-past_all : (constants : Constants) → IsLawful constants
-    → (format_with constants).precision + (format_with constants).span + (format_with constants).scale + 1 < 2 ^ 31
-past_all constants law =
-    let p = law.parameters in
-    let scale : pos (constants.precision - 1) -ℤ constants.min_exp
-    ≡ pos (unsigned_abs (pos (constants.precision - 1) -ℤ constants.min_exp)) =
-    omega (arith, ints, p.precision_low, p.min_exp_high) in
-    let span : constants.max_exp -ℤ constants.min_exp
-    ≡ pos (unsigned_abs (constants.max_exp -ℤ constants.min_exp)) =
-    omega (arith, ints, p.precision_low, p.min_exp_high, p.max_exp_low) in
-    omega (arith, ints, p.precision_high, p.min_exp_low, p.max_exp_high, scale, span)
+use Rattle.apfloat_model.proofs.formats.LawfulRanges.{ranges_of}
 
 -- the exponent of the fraction of a finite value fits in 32 bits
 number_fits : (constants : Constants) → IsLawful constants
@@ -38,8 +26,8 @@ number_fits constants law b zero false value e test within h = absurd (false≢t
 number_fits constants law b (suc n) false value e test within h =
     let some : 0 < suc n = omega arith in
     let inside = exponent_within (format_with constants) b (suc n) value e some within h in
-    let past = past_all constants law in
-    omega (arith, ints, inside.low, inside.high, past)
+    let ranges = ranges_of constants law in
+    omega (arith, ints, inside.low, inside.high, ranges.precision_high, ranges.scale, ranges.span)
 
 -- the exponent of the fraction of a value of the format fits in 32 bits
 pub frexp_fits : (constants : Constants) → IsLawful constants → (x value : Datum) (e : ℤ)

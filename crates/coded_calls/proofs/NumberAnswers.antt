@@ -52,38 +52,22 @@ no_nan negative significand value Any number is = absurd (true≢false (sym (ap 
 
 sum_of_every : (f : Format) (machine : Machine) (mode : Round) (x y value : Datum) (status : ℕ)
     → is_nan value ≡ false → IsSum f mode x y value status → IsMachineSum f machine mode x y value status
-sum_of_every f machine mode (nan b s) y value status number plain = no_nan _ _ value _ number plain.value_is
-sum_of_every f machine mode (finite b m) (nan d t) value status number plain =
-    no_nan _ _ value _ number plain.value_is
-sum_of_every f machine mode (infinite b) (nan d t) value status number plain =
-    no_nan _ _ value _ number plain.value_is
 sum_of_every f machine mode (finite b m) (finite d n) value status number plain = plain
 sum_of_every f machine mode (finite b m) (infinite d) value status number plain = plain
 sum_of_every f machine mode (infinite b) (finite d n) value status number plain = plain
 sum_of_every f machine mode (infinite true) (infinite true) value status number plain = plain
 sum_of_every f machine mode (infinite false) (infinite false) value status number plain = plain
-sum_of_every f machine mode (infinite true) (infinite false) value status number plain =
-    no_nan _ _ value _ number plain.value_is
-sum_of_every f machine mode (infinite false) (infinite true) value status number plain =
-    no_nan _ _ value _ number plain.value_is
+sum_of_every f machine mode x y value status number plain = no_nan _ _ value _ number plain.value_is
 
 difference_of_every : (f : Format) (machine : Machine) (mode : Round) (x y value : Datum) (status : ℕ)
     → is_nan value ≡ false → IsDifference f mode x y value status
     → IsMachineDifference f machine mode x y value status
-difference_of_every f machine mode (nan b s) y value status number plain = no_nan _ _ value _ number plain.value_is
-difference_of_every f machine mode (finite b m) (nan d t) value status number plain =
-    no_nan _ _ value _ number plain.value_is
-difference_of_every f machine mode (infinite b) (nan d t) value status number plain =
-    no_nan _ _ value _ number plain.value_is
 difference_of_every f machine mode (finite b m) (finite d n) value status number plain = plain
 difference_of_every f machine mode (finite b m) (infinite d) value status number plain = plain
 difference_of_every f machine mode (infinite b) (finite d n) value status number plain = plain
 difference_of_every f machine mode (infinite true) (infinite false) value status number plain = plain
 difference_of_every f machine mode (infinite false) (infinite true) value status number plain = plain
-difference_of_every f machine mode (infinite true) (infinite true) value status number plain =
-    no_nan _ _ value _ number plain.value_is
-difference_of_every f machine mode (infinite false) (infinite false) value status number plain =
-    no_nan _ _ value _ number plain.value_is
+difference_of_every f machine mode x y value status number plain = no_nan _ _ value _ number plain.value_is
 
 -- what bits that are no NaN leave
 left_number : (c : Constants) (machine : Machine) (arithmetic : Arithmetic) (mode : Round) (x y : ℕ)

@@ -1,9 +1,10 @@
 -- The operations of IEEE 754-2019 that `Float` lacks, as the exports make them.
-use Rattle.std.specs.Prelude.{◌≡◌, ℕ, ◌==◌, Bool, true, false, if◌then◌else◌, Option, Some, None}
+use Rattle.std.specs.Prelude.{◌≡◌, ℕ, Bool, true, false, Option, Some, None, [], ◌∷◌}
 use Rattle.rustc_apfloat.specs.declared.Round.{Round}
 use Rattle.rustc_apfloat.specs.declared.StatusAnd.{StatusAnd}
 use Rattle.rustc_apfloat.specs.Datum.{Datum}
 use Rattle.rustc_apfloat.specs.Flags.{Gives, bits_of}
+use Rattle.rustc_apfloat.specs.Format.{Format}
 use Rattle.rustc_apfloat.specs.Lawful.{Constants, format_with}
 use Rattle.apfloat_conversions.specs.Scalings.{IsScaled}
 use Rattle.apfloat_arithmetic.specs.other_formats.FormatOf.{IsSumTo, IsDifferenceTo, IsProductTo, IsQuotientTo, IsFusedSumTo}
@@ -39,36 +40,20 @@ use Rattle.coded_calls.specs.declared.ieee_call.InAnotherCall.{InAnotherCall}
 use Rattle.coded_calls.specs.declared.ieee_call.InAnotherCall.TheVariants.{SumTo, DifferenceTo, ProductTo}
 use Rattle.coded_calls.specs.declared.ieee_call.InAnotherCall.TheVariants.{QuotientTo, FusedSumTo, RootTo}
 use Rattle.coded_calls.specs.Answers.{IsNumberAlone, IsValue, one_if, order_code, whole}
-use Rattle.coded_calls.specs.KnownCalls.{answered, unknown_format, unknown_mode, no_such_operation}
+use Rattle.coded_calls.specs.KnownCalls.{counted, answered, unknown_format, unknown_mode, no_such_operation}
 
 -- ---- codes
 
 abbrev pub predicate_coded : ℕ → Option Predicate
 predicate_coded code =
-    if code == 0 then Some Equal
-    else if code == 1 then Some NotEqual
-    else if code == 2 then Some Greater
-    else if code == 3 then Some GreaterEqual
-    else if code == 4 then Some Less
-    else if code == 5 then Some LessEqual
-    else if code == 6 then Some NotGreater
-    else if code == 7 then Some LessUnordered
-    else if code == 8 then Some NotLess
-    else if code == 9 then Some GreaterUnordered
-    else if code == 10 then Some Unordered
-    else if code == 11 then Some Ordered
-    else None
+    counted 0 (Equal ∷ NotEqual ∷ Greater ∷ GreaterEqual ∷ Less ∷ LessEqual ∷ NotGreater ∷ LessUnordered
+    ∷ NotLess ∷ GreaterUnordered ∷ Unordered ∷ Ordered ∷ []) code
 
 abbrev pub on_nan_coded : ℕ → Option OnNan
-on_nan_coded code = if code == 0 then Some Quiet else if code == 1 then Some Signaling else None
+on_nan_coded code = counted 0 (Quiet ∷ Signaling ∷ []) code
 
 abbrev pub extremum_coded : ℕ → Option Extremum
-extremum_coded code =
-    if code == 0 then Some Minimum
-    else if code == 1 then Some Maximum
-    else if code == 2 then Some MinimumMagnitude
-    else if code == 3 then Some MaximumMagnitude
-    else None
+extremum_coded code = counted 0 (Minimum ∷ Maximum ∷ MinimumMagnitude ∷ MaximumMagnitude ∷ []) code
 
 abbrev pub comparison_call : Option Predicate → Option OnNan → ℕ → ℕ → Option IeeeCall
 comparison_call None on_nan x y = None
@@ -81,13 +66,7 @@ extremum_call (Some which) prefers_number x y = Some (ExtremumOf which prefers_n
 
 abbrev pub operation_coded : ℕ → ℕ → ℕ → ℕ → Option InAnotherCall
 operation_coded code x y z =
-    if code == 0 then Some (SumTo x y)
-    else if code == 1 then Some (DifferenceTo x y)
-    else if code == 2 then Some (ProductTo x y)
-    else if code == 3 then Some (QuotientTo x y)
-    else if code == 4 then Some (FusedSumTo x y z)
-    else if code == 5 then Some (RootTo x)
-    else None
+    counted 0 (SumTo x y ∷ DifferenceTo x y ∷ ProductTo x y ∷ QuotientTo x y ∷ FusedSumTo x y z ∷ RootTo x ∷ []) code
 
 -- ---- results in a format
 
@@ -135,24 +114,19 @@ IsIeeeReply (Some kind) mode call old new code = IsIeeeReplyIn (flagged_kind_of 
 
 -- ---- results in another format
 
+-- the result in d of an operation on two values of c
+abbrev pub IsOfTwoTo : (Format → Format → Format → Round → Datum → Datum → Datum → ℕ → Type 0)
+    → Constants → Constants → Round → ℕ → ℕ → Answer → Type 0
+IsOfTwoTo Says c d mode x y answer =
+    let f = format_with c in
+    IsValue (in_format d) (λ given. Gives (Says f f (format_with d) mode (value_of c x) (value_of c y)) given) answer
+
 -- the result in d of a call on values of c
 abbrev pub IsInAnotherFormat : Constants → Constants → Round → InAnotherCall → Answer → Type 0
-IsInAnotherFormat c d mode (SumTo x y) answer =
-    let f = format_with c in
-    IsValue (in_format d) (λ given. Gives (IsSumTo f f (format_with d) mode (value_of c x) (value_of c y)) given)
-    answer
-IsInAnotherFormat c d mode (DifferenceTo x y) answer =
-    let f = format_with c in
-    IsValue (in_format d)
-    (λ given. Gives (IsDifferenceTo f f (format_with d) mode (value_of c x) (value_of c y)) given) answer
-IsInAnotherFormat c d mode (ProductTo x y) answer =
-    let f = format_with c in
-    IsValue (in_format d) (λ given. Gives (IsProductTo f f (format_with d) mode (value_of c x) (value_of c y)) given)
-    answer
-IsInAnotherFormat c d mode (QuotientTo x y) answer =
-    let f = format_with c in
-    IsValue (in_format d)
-    (λ given. Gives (IsQuotientTo f f (format_with d) mode (value_of c x) (value_of c y)) given) answer
+IsInAnotherFormat c d mode (SumTo x y) answer = IsOfTwoTo IsSumTo c d mode x y answer
+IsInAnotherFormat c d mode (DifferenceTo x y) answer = IsOfTwoTo IsDifferenceTo c d mode x y answer
+IsInAnotherFormat c d mode (ProductTo x y) answer = IsOfTwoTo IsProductTo c d mode x y answer
+IsInAnotherFormat c d mode (QuotientTo x y) answer = IsOfTwoTo IsQuotientTo c d mode x y answer
 IsInAnotherFormat c d mode (FusedSumTo x y z) answer =
     let f = format_with c in
     IsValue (in_format d)

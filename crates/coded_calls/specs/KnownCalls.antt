@@ -1,6 +1,6 @@
 -- What a call asks for, or its error.
-use Rattle.std.specs.Prelude.{ℕ, Bool, ◌&&◌, nat_le, if◌then◌else◌, List, Option, is_none, Some, None, ok_or, Result}
-use Rattle.std.specs.Prelude.{Ok, Err}
+use Rattle.std.specs.Prelude.{ℕ, ◌+◌, ◌==◌, Bool, ◌&&◌, nat_le, if◌then◌else◌, List, [], ◌∷◌, Option, is_none}
+use Rattle.std.specs.Prelude.{Some, None, ok_or, Result, Ok, Err}
 use Rattle.rustc_apfloat.specs.declared.Round.{Round}
 use Rattle.std.specs.Char.{is_ascii}
 use Rattle.rustc_apfloat.specs.Digits.{every}
@@ -14,6 +14,11 @@ use Rattle.coded_calls.specs.declared.exported_call.ExportedCall.TheVariants.{Fu
 use Rattle.coded_calls.specs.declared.exported_call.ExportedCall.TheVariants.{Conversion, Text}
 
 -- ---- codes
+
+-- the value with that code, where codes count from that of the first value
+abbrev pub counted : {A : Type 0} → ℕ → List A → ℕ → Option A
+counted first [] code = None
+counted first (value ∷ values) code = if code == first then Some value else counted (first + 1) values code
 
 -- what a call returns
 abbrev pub answered : ℕ

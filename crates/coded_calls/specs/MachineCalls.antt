@@ -1,6 +1,6 @@
 -- The operations of machines, as their export makes them.
 use Rattle.std.specs.Prelude.{◌≡◌, ℕ, ◌^◌, ◌==◌, ltb, pos, Bool, true, false, not, ◌&&◌, if◌then◌else◌}
-use Rattle.std.specs.Prelude.{Option, Some, None, ok_or, option_and_then, option_map, Result, Ok, Err}
+use Rattle.std.specs.Prelude.{Option, Some, None, ok_or, option_and_then, option_map, Result, Ok, Err, [], ◌∷◌}
 use Rattle.std.specs.Int.{w128, cast_unsigned}
 use Rattle.apfloat_model.specs.declared.kinds.NonfiniteBehavior.TheVariants.{IEEE754}
 use Rattle.rustc_apfloat.specs.declared.Round.{Round}
@@ -53,7 +53,7 @@ use Rattle.coded_calls.specs.declared.machine_call.OneOperation.TheVariants.{ToU
 use Rattle.coded_calls.specs.declared.machine_call.OneOperation.TheVariants.{ToSigned as ToSignedOf}
 use Rattle.coded_calls.specs.Answers.{IsLeftBy, IsValue, whole}
 use Rattle.coded_calls.specs.KnownCalls.{◌>>=◌, answered, no_such_operation, unknown_format, unknown_mode, unless}
-use Rattle.coded_calls.specs.KnownCalls.{width_fault, without}
+use Rattle.coded_calls.specs.KnownCalls.{counted, width_fault, without}
 
 -- ---- errors
 
@@ -100,25 +100,11 @@ tiny_before_coded machine rule =
 
 abbrev pub machine_coded : ℕ → Option Machine
 machine_coded code =
-    if code == 1 then Some X86
-    else if code == 2 then Some X87
-    else if code == 3 then Some Arm
-    else if code == 4 then Some ArmDefaultNan
-    else if code == 5 then Some ArmAlternate
-    else if code == 6 then Some RiscV
-    else if code == 7 then Some Power
-    else if code == 8 then Some S390x
-    else None
+    counted 1 (X86 ∷ X87 ∷ Arm ∷ ArmDefaultNan ∷ ArmAlternate ∷ RiscV ∷ Power ∷ S390x ∷ []) code
 
 abbrev pub rule_coded : ℕ → Option MinimumRule
 rule_coded code =
-    if code == 1 then Some Second
-    else if code == 2 then Some SecondQuietly
-    else if code == 3 then Some FirstNan
-    else if code == 4 then Some Number2008
-    else if code == 5 then Some Number2019
-    else if code == 6 then Some Propagated
-    else None
+    counted 1 (Second ∷ SecondQuietly ∷ FirstNan ∷ Number2008 ∷ Number2019 ∷ Propagated ∷ []) code
 
 abbrev pub least_by : Option MinimumRule → ℕ → ℕ → Option MachineOperation
 least_by None x y = None

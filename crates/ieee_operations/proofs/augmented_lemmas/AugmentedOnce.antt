@@ -10,17 +10,16 @@ use Rattle.apfloat_model.specs.formats.Format.{Format, largest}
 use Rattle.apfloat_model.specs.formats.Datum.{Datum, finite, infinite, nan}
 use Rattle.apfloat_model.specs.rounding.Grid.{IsOnGrid}
 use Rattle.apfloat_model.specs.rounding.Rounding.{signed_quanta, ok_bits, underflow_bit, inexact_bit}
-use Rattle.apfloat_model.specs.rounding.Negation.{negated}
 use Rattle.apfloat_model.specs.arithmetic.Exact.{magnitude, signed, sign_of, product_sign}
 use Rattle.apfloat_model.specs.arithmetic.Sums.{zero_sum_sign}
 use Rattle.apfloat_model.specs.order.Classes.{is_finite}
 use Rattle.apfloat_model.specs.order.Order.{number}
 use Rattle.apfloat_model.proofs.Once.{Once, sum_once, difference_once, product_once}
 use Rattle.ieee_operations.specs.augmented.Augmented.{left_of, IsPastLargest, IsWithTail, IsAugmented, AreBoth}
-use Rattle.ieee_operations.specs.augmented.Augmented.{IsAugmentedSum, IsAugmentedDifference, IsAugmentedProduct, HasOneAugmented, AreExactly, IsExactSum, IsExactProduct}
+use Rattle.ieee_operations.specs.augmented.Augmented.{AreExactly, IsExactSum, IsExactProduct}
 use Rattle.ieee_operations.specs.augmented.Numbers.{IsNearestTo}
 use Rattle.ieee_operations.specs.augmented.TiesToZero.{IsTiesToZeroPick}
-use Rattle.ieee_operations.proofs.augmented_lemmas.Cases.{each_sum, each_difference, each_product}
+use Rattle.ieee_operations.proofs.augmented_lemmas.Cases.{OfEachOperation, of_each}
 use Rattle.ieee_operations.proofs.augmented_lemmas.TiesToZero.{ties_to_zero_once, ties_to_zero_exact}
 use Rattle.ieee_operations.proofs.augmented_lemmas.Numbers.{signed_number, number_in}
 use Rattle.ieee_operations.proofs.augmented_lemmas.Rests.{rest_in_format, as_nearest, eight}
@@ -34,7 +33,7 @@ use Rattle.apfloat_pair_theory.proofs.numbers.SignedProducts.{magnitude-times, s
 use Rattle.apfloat_pair_theory.proofs.numbers.WholeProducts.{product_error_on_grid}
 
 -- three results are the same
-abbrev AreSame : Datum → Datum → Datum → Datum → ℕ → ℕ → Type 0
+abbrev pub AreSame : Datum → Datum → Datum → Datum → ℕ → ℕ → Type 0
 AreSame h g t u i j = (h ≡ g) × (t ≡ u) × (i ≡ j)
 
 module _ (f : Format) (s : Bool) (exact : ℤ) (parts pick : ℕ) (h g t u : Datum) (i j : ℕ) where
@@ -71,26 +70,13 @@ both_once Says once h g t u i j x y =
     let e = once h g i j x.is y.is in
     (e.0, x.tail_is ∙ e.0 ∙ sym y.tail_is, e.1)
 
--- one answer of an operation of two operands
-abbrev HasOne : Datum → Datum → (Datum → Datum → ℕ → Type 0) → Type 0
-HasOne x y Says = (h g t u : Datum) (i j : ℕ) → Says h t i → Says g u j → AreSame h g t u i j
+abbrev pub HasOne : (Datum → Datum → ℕ → Type 0) → Type 0
+HasOne Says = (h g t u : Datum) (i j : ℕ) → Says h t i → Says g u j → AreSame h g t u i j
 
-pub augmented_sum_once : HasOneAugmented IsAugmentedSum
-augmented_sum_once f =
-    each_sum HasOne f
-    (λ b c m n. augmented_once f (zero_sum_sign NearestTiesToEven b c) (signed b m +ℤ signed c n) 1)
-    (λ x y. both_once _ (sum_once f NearestTiesToEven x y))
-
-pub augmented_difference_once : HasOneAugmented IsAugmentedDifference
-augmented_difference_once f =
-    each_difference HasOne f
-    (λ b c m n. augmented_sum_once f (finite b m) (negated f.nonfinite (finite c n)))
+pub each_once : (f : Format) → OfEachOperation HasOne f
+each_once f =
+    of_each HasOne f (augmented_once f) (λ x y. both_once _ (sum_once f NearestTiesToEven x y))
     (λ x y. both_once _ (difference_once f NearestTiesToEven x y))
-
-pub augmented_product_once : HasOneAugmented IsAugmentedProduct
-augmented_product_once f =
-    each_product HasOne f
-    (λ b c m n. augmented_once f (product_sign b c) (signed (product_sign b c) (m * n)) (2 ^ f.scale))
     (λ x y. both_once _ (product_once f NearestTiesToEven x y))
 
 -- ---- sums are exact

@@ -1,5 +1,5 @@
 -- Cases of operands, and what the law of a format says of its ranges.
-use Rattle.std.proofs.Common.{◌≡◌, ℕ, ◌*◌, ◌-◌, ◌^◌, ◌<◌, ◌≤◌, Bool, true, false, refl}
+use Rattle.std.proofs.Common.{◌≡◌, ℕ, ◌*◌, ◌^◌, ◌<◌, ◌≤◌, Bool, true, false, refl}
 use Rattle.std.proofs.Common.{subst, arith}
 use Rattle.std.specs.Prelude.{ℤ, pos, ◌+ℤ◌, ◌-ℤ◌, unsigned_abs}
 use Rattle.std.proofs.lemmas.Bool.{false≢true}
@@ -15,34 +15,31 @@ use Rattle.apfloat_model.specs.arithmetic.Sums.{IsSum, IsDifference, zero_sum_si
 use Rattle.apfloat_model.specs.order.Classes.{is_finite, is_negative}
 use Rattle.apfloat_model.specs.order.Order.{number}
 use Rattle.apfloat_model.proofs.arithmetic.Signs.{swapped_sum}
+use Rattle.apfloat_model.proofs.formats.LawfulRanges.{ranges_of as lawful_ranges}
 use Rattle.ieee_operations.specs.augmented.Augmented.{AreBoth, IsAugmented, IsAugmentedSum, IsAugmentedDifference}
 use Rattle.ieee_operations.specs.augmented.Augmented.{IsAugmentedProduct}
 
 -- ---- the augmented operations, by their operands
 
--- What holds of the results of two numbers, and of two results alike, holds of each.
-pub each_sum : (P : Datum → Datum → (Datum → Datum → ℕ → Type 0) → Type 0) (f : Format)
-    → ((b c : Bool) (m n : ℕ)
-    → P (finite b m) (finite c n)
-    (IsAugmented f (zero_sum_sign NearestTiesToEven b c) (signed b m +ℤ signed c n) 1))
-    → ((x y : Datum) → P x y (AreBoth (IsSum f NearestTiesToEven x y)))
-    → (x y : Datum) → P x y (IsAugmentedSum f x y)
-each_sum P f numbers others (finite b m) (finite c n) = numbers b c m n
-each_sum P f numbers others (finite b m) (infinite c) = others (finite b m) (infinite c)
-each_sum P f numbers others (finite b m) (nan c n) = others (finite b m) (nan c n)
-each_sum P f numbers others (infinite b) y = others (infinite b) y
-each_sum P f numbers others (nan b m) y = others (nan b m) y
+each_sum : (Holds : (Datum → Datum → ℕ → Type 0) → Type 0) (f : Format)
+    → ((of_zero : Bool) (exact : ℤ) (parts : ℕ) → Holds (IsAugmented f of_zero exact parts))
+    → ((x y : Datum) → Holds (AreBoth (IsSum f NearestTiesToEven x y)))
+    → (x y : Datum) → Holds (IsAugmentedSum f x y)
+each_sum Holds f numbers others (finite b m) (finite c n) = numbers _ _ _
+each_sum Holds f numbers others (finite b m) (infinite c) = others (finite b m) (infinite c)
+each_sum Holds f numbers others (finite b m) (nan c n) = others (finite b m) (nan c n)
+each_sum Holds f numbers others (infinite b) y = others (infinite b) y
+each_sum Holds f numbers others (nan b m) y = others (nan b m) y
 
-pub each_difference : (P : Datum → Datum → (Datum → Datum → ℕ → Type 0) → Type 0) (f : Format)
-    → ((b c : Bool) (m n : ℕ)
-    → P (finite b m) (finite c n) (IsAugmentedSum f (finite b m) (negated f.nonfinite (finite c n))))
-    → ((x y : Datum) → P x y (AreBoth (IsDifference f NearestTiesToEven x y))) → (x y : Datum)
-    → P x y (IsAugmentedDifference f x y)
-each_difference P f numbers others (finite b m) (finite c n) = numbers b c m n
-each_difference P f numbers others (finite b m) (infinite c) = others (finite b m) (infinite c)
-each_difference P f numbers others (finite b m) (nan c n) = others (finite b m) (nan c n)
-each_difference P f numbers others (infinite b) y = others (infinite b) y
-each_difference P f numbers others (nan b m) y = others (nan b m) y
+each_difference : (Holds : (Datum → Datum → ℕ → Type 0) → Type 0) (f : Format)
+    → ((x y : Datum) → Holds (IsAugmentedSum f x y))
+    → ((x y : Datum) → Holds (AreBoth (IsDifference f NearestTiesToEven x y)))
+    → (x y : Datum) → Holds (IsAugmentedDifference f x y)
+each_difference Holds f sums others (finite b m) (finite c n) = sums (finite b m) (negated f.nonfinite (finite c n))
+each_difference Holds f sums others (finite b m) (infinite c) = others (finite b m) (infinite c)
+each_difference Holds f sums others (finite b m) (nan c n) = others (finite b m) (nan c n)
+each_difference Holds f sums others (infinite b) y = others (infinite b) y
+each_difference Holds f sums others (nan b m) y = others (nan b m) y
 
 pub each_product : (P : Datum → Datum → (Datum → Datum → ℕ → Type 0) → Type 0) (f : Format)
     → ((b c : Bool) (m n : ℕ) → P (finite b m) (finite c n)
@@ -54,6 +51,25 @@ each_product P f numbers others (finite b m) (infinite c) = others (finite b m) 
 each_product P f numbers others (finite b m) (nan c n) = others (finite b m) (nan c n)
 each_product P f numbers others (infinite b) y = others (infinite b) y
 each_product P f numbers others (nan b m) y = others (nan b m) y
+
+pub record OfEachOperation (Holds : (Datum → Datum → ℕ → Type 0) → Type 0) (f : Format) : Type 0 where
+  pub sum : (x y : Datum) → Holds (IsAugmentedSum f x y)
+  pub difference : (x y : Datum) → Holds (IsAugmentedDifference f x y)
+  pub product : (x y : Datum) → Holds (IsAugmentedProduct f x y)
+
+-- What holds of each augmented result of numbers, and of two results alike, holds of each operation.
+pub of_each : (Holds : (Datum → Datum → ℕ → Type 0) → Type 0) (f : Format)
+    → ((of_zero : Bool) (exact : ℤ) (parts : ℕ) → Holds (IsAugmented f of_zero exact parts))
+    → ((x y : Datum) → Holds (AreBoth (IsSum f NearestTiesToEven x y)))
+    → ((x y : Datum) → Holds (AreBoth (IsDifference f NearestTiesToEven x y)))
+    → ((x y : Datum) → Holds (AreBoth (IsProduct f NearestTiesToEven x y))) → OfEachOperation Holds f
+of_each Holds f numbers sums differences products =
+    let sum = each_sum Holds f numbers sums in
+    record {
+      sum = sum;
+      difference = each_difference Holds f sum differences;
+      product = each_product (λ x y Says. Holds Says) f (λ b c m n. numbers _ _ _) products;
+    }
 
 -- ---- sums of finite data
 
@@ -98,15 +114,14 @@ pub record HasCaseRanges (c : Constants) : Type 0 where
 pub ranges_of : (c : Constants) → IsLawful c → HasCaseRanges c
 ranges_of c law =
     let p = law.parameters in
-    let scale : pos (c.precision - 1) -ℤ c.min_exp ≡ pos (unsigned_abs (pos (c.precision - 1) -ℤ c.min_exp)) =
-    omega (arith, ints, p.precision_low, p.min_exp_high) in
+    let r = lawful_ranges c law in
     let span : c.max_exp -ℤ c.min_exp ≡ pos (unsigned_abs (c.max_exp -ℤ c.min_exp)) =
     omega (arith, ints, p.precision_low, p.max_exp_low, p.min_exp_high) in
     record {
-      precision = p.precision_low;
-      scale = omega (arith, ints, scale, span, p.precision_low, p.max_exp_low, p.min_exp_high);
+      precision = r.precision_low;
+      scale = r.scale;
       wide = omega (arith, ints, span, p.max_exp_low, p.min_exp_high);
-      span = omega (arith, ints, span, p.precision_low, p.max_exp_low, p.min_exp_high);
-      span_short = omega (arith, ints, span, p.min_exp_low, p.max_exp_high);
+      span = omega (arith, r.scale);
+      span_short = r.span;
       span_is = span;
     }

@@ -44,29 +44,19 @@ sign_some of_zero other (negsuc n) p = refl
 
 pub below_times : (precision g amount parts : ℕ) → 0 < parts → IsBelow precision g amount 1
     → IsBelow precision g (amount * parts) parts
-below_times precision g amount parts p x =
-    let h = x.not_above in
-    let k : g ≤ amount = omega (arith, h) in
-    record {
-      on_grid = x.on_grid;
-      not_above = mul-le-mul_right parts k;
-      greatest = λ other o l.
-          let m : other ≤ amount = le_of_mul-le-mul_right l p in
-          x.greatest other o (omega (arith, m));
-    }
+below_times precision g amount parts p x = record {
+  on_grid = x.on_grid;
+  not_above = mul-le-mul_right parts (omega arith);
+  greatest = λ other o l. x.greatest other o (omega (arith, le_of_mul-le-mul_right l p));
+}
 
 pub above_times : (precision g amount parts : ℕ) → 0 < parts → IsAbove precision g amount 1
     → IsAbove precision g (amount * parts) parts
-above_times precision g amount parts p x =
-    let h = x.not_below in
-    let k : amount ≤ g = omega (arith, h) in
-    record {
-      on_grid = x.on_grid;
-      not_below = mul-le-mul_right parts k;
-      least = λ other o l.
-          let m : amount ≤ other = le_of_mul-le-mul_right l p in
-          x.least other o (omega (arith, m));
-    }
+above_times precision g amount parts p x = record {
+  on_grid = x.on_grid;
+  not_below = mul-le-mul_right parts (omega arith);
+  least = λ other o l. x.least other o (omega (arith, le_of_mul-le-mul_right l p));
+}
 
 -- the neighbours of a multiple are those of the magnitude
 pub below_of_times : (precision g amount parts : ℕ) → 0 < parts → IsBelow precision g (amount * parts) parts

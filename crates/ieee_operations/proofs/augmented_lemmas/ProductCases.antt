@@ -9,6 +9,7 @@ use Rattle.std.proofs.lemmas.Bool.{cases_lt, false≢true, lt-ltb, le-ltb, eq-eq
 use Rattle.std.proofs.lemmas.Int.{ints}
 use Rattle.std.proofs.lemmas.Nat.{pow_pos}
 use Rattle.apfloat_model.specs.declared.kinds.Category.TheVariants.{Normal, Zero, Infinity, NaN}
+use Rattle.apfloat_model.specs.declared.kinds.Round.{Round}
 use Rattle.apfloat_model.specs.declared.kinds.Round.TheVariants.{NearestTiesToEven, TowardZero}
 use Rattle.apfloat_model.specs.formats.Format.{Format, largest, nan_base}
 use Rattle.apfloat_model.specs.formats.Datum.{Datum, finite, infinite, nan}
@@ -33,7 +34,7 @@ use Rattle.apfloat_pair_theory.proofs.numbers.Roundings.{signed_exact}
 use Rattle.apfloat_pair_theory.proofs.numbers.Signed.{on_grid_as}
 use Rattle.apfloat_pair_theory.proofs.numbers.SignedProducts.{sum_times, magnitude-mul, signed_product, signed_times}
 use Rattle.ieee_operations.specs.augmented.Augmented.{IsPastLargest, IsWithTail, IsAugmented, IsAugmentedSum, IsAugmentedProduct}
-use Rattle.ieee_operations.specs.augmented.Numbers.{IsNonzeroIn}
+use Rattle.ieee_operations.specs.augmented.Numbers.{IsNonzeroIn, IsNearProduct}
 use Rattle.ieee_operations.specs.augmented.TiesToZero.{IsTiesToZeroPick}
 use Rattle.ieee_operations.proofs.augmented_lemmas.Cases.{each_product}
 use Rattle.ieee_operations.proofs.augmented_lemmas.FractionPicks.{beyond_in, past_pick_in}
@@ -230,45 +231,52 @@ half_is_exact f h of_zero s exact parts x y short rest j p u e d is r amount =
     (fraction_exactly f NearestTiesToEven of_zero (signed s (half_unit f)) (rest_of_product f x y short) parts rest j p
     (on_grid_as m (half_on_grid f h)) (subst (λ (i : ℕ). i ≤ largest f) m (half_is_within f h)) (k ∙ n) r).status_is
 
+-- the product rounded, in some mode
+pub rounded_in : (f : Format) (mode : Round) (x y near value : Datum) (status : ℕ) → IsNearProduct f x y near
+    → IsProduct f mode x y value status
+    → IsRounded f mode (product_sign (is_negative x) (is_negative y)) (number x *ℤ number y) (2 ^ f.scale) value status
+rounded_in f mode x y near value status a product =
+    product_rounded f mode x y value status a.left.is_in.is_finite a.right.is_in.is_finite
+    (product_some f x y a.left a.right) product
+
+short_is_top : (f : Format) → 3 ≤ f.precision → (x y near short : Datum) (j : ℕ) → IsNearProduct f x y near
+    → is_finite near ≡ false → IsProduct f TowardZero x y short j
+    → short ≡ finite (sign_of (product_sign (is_negative x) (is_negative y)) (number x *ℤ number y)) (largest f)
+short_is_top f h x y near short j a out shorter =
+    let of_zero = product_sign (is_negative x) (is_negative y) in
+    let exact = number x *ℤ number y in
+    let n = rounded_in f NearestTiesToEven x y near near a.status a a.is in
+    let past = past_without f (sign_of of_zero exact) n.pick near out n.value_is in
+    short_is_largest_in f h of_zero exact (2 ^ f.scale) n.pick short j (pow_pos f.scale) past n.is_pick
+    (rounded_in f TowardZero x y near short j a shorter)
+
 -- the head is past the largest value: what the largest value leaves is not exact
-pub product_is_past : (f : Format) → 3 ≤ f.precision → 1 ≤ f.span → (x y near short rest : Datum) (i j k : ℕ)
-    → IsNonzeroIn f x → IsNonzeroIn f y → is_finite near ≡ false → IsProduct f NearestTiesToEven x y near i
-    → IsProduct f TowardZero x y short j → IsFusedSum f NearestTiesToEven x y (negated f.nonfinite short) rest k
-    → (k ≡ ok_bits → ⊥) → (head tail : Datum) (status : ℕ) → head ≡ near → tail ≡ near
-    → status ≡ overflow_bit + inexact_bit → IsAugmentedProduct f x y head tail status
-product_is_past f h w x y near short rest i j k nx ny out product shorter fused lost head tail status hd tl o =
+pub product_is_past : (f : Format) → 3 ≤ f.precision → 1 ≤ f.span → (x y near short rest : Datum) (j k : ℕ)
+    → IsNearProduct f x y near → is_finite near ≡ false → IsProduct f TowardZero x y short j
+    → IsFusedSum f NearestTiesToEven x y (negated f.nonfinite short) rest k → (k ≡ ok_bits → ⊥) → (head tail : Datum)
+    (status : ℕ) → head ≡ near → tail ≡ near → status ≡ overflow_bit + inexact_bit
+    → IsAugmentedProduct f x y head tail status
+product_is_past f h w x y near short rest j k a out shorter fused lost head tail status hd tl o =
     let exact = number x *ℤ number y in
     let of_zero = product_sign (is_negative x) (is_negative y) in
     let s = sign_of (product_sign (is_negative x) (is_negative y)) (number x *ℤ number y) in
     let u : 0 < 2 ^ f.scale = pow_pos f.scale in
-    let some = product_some f x y nx ny in
-    let n = product_rounded f NearestTiesToEven x y near i nx.is_in.is_finite ny.is_in.is_finite some product in
-    let t = product_rounded f TowardZero x y short j nx.is_in.is_finite ny.is_in.is_finite some shorter in
+    let n = rounded_in f NearestTiesToEven x y near near a.status a a.is in
     let past = past_without f s n.pick near out n.value_is in
-    let is = short_is_largest_in f h of_zero exact (2 ^ f.scale) n.pick short j u past n.is_pick t in
-    let r = rest_rounded f NearestTiesToEven x y short rest k nx.is_in.is_finite ny.is_in.is_finite (ap is_finite is)
-    fused in
+    let is = short_is_top f h x y near short j a out shorter in
+    let r = rest_rounded f NearestTiesToEven x y short rest k a.left.is_in.is_finite a.right.is_in.is_finite
+    (ap is_finite is) fused in
     let p = past_pick_in f h w s (magnitude exact) (2 ^ f.scale) n.pick u past n.is_pick
     (λ e. lost (half_is_exact f h r.0 s exact (2 ^ f.scale) x y short rest k u refl refl (signed_exact of_zero exact) is
     r.1 e)) in
-    product_of_numbers f x y head tail status nx.is_in.is_finite ny.is_in.is_finite
+    product_of_numbers f x y head tail status a.left.is_in.is_finite a.right.is_in.is_finite
     (past_in f of_zero exact (2 ^ f.scale) p.pick head tail status p.is_pick p.past
     (hd ∙ n.value_is ∙ past_is f s n.pick past) (tl ∙ sym hd) o)
 
 -- the product toward zero is finite
-pub short_is_finite : (f : Format) → 3 ≤ f.precision → (x y near short : Datum) (i j : ℕ) → IsNonzeroIn f x
-    → IsNonzeroIn f y → is_finite near ≡ false → IsProduct f NearestTiesToEven x y near i
-    → IsProduct f TowardZero x y short j → is_finite short ≡ true
-short_is_finite f h x y near short i j nx ny out product shorter =
-    let of_zero = product_sign (is_negative x) (is_negative y) in
-    let s = sign_of (product_sign (is_negative x) (is_negative y)) (number x *ℤ number y) in
-    let u : 0 < 2 ^ f.scale = pow_pos f.scale in
-    let some = product_some f x y nx ny in
-    let n = product_rounded f NearestTiesToEven x y near i nx.is_in.is_finite ny.is_in.is_finite some product in
-    let t = product_rounded f TowardZero x y short j nx.is_in.is_finite ny.is_in.is_finite some shorter in
-    let past = past_without f s n.pick near out n.value_is in
-    ap is_finite
-    (short_is_largest_in f h of_zero (number x *ℤ number y) (2 ^ f.scale) n.pick short j u past n.is_pick t)
+pub short_is_finite : (f : Format) → 3 ≤ f.precision → (x y near short : Datum) (j : ℕ) → IsNearProduct f x y near
+    → is_finite near ≡ false → IsProduct f TowardZero x y short j → is_finite short ≡ true
+short_is_finite f h x y near short j a out shorter = ap is_finite (short_is_top f h x y near short j a out shorter)
 
 -- ---- classes
 

@@ -11,13 +11,12 @@ use Rattle.apfloat_model.specs.declared.kinds.Round.{Round}
 use Rattle.apfloat_model.specs.declared.kinds.Round.TheVariants.{NearestTiesToEven, TowardZero}
 use Rattle.apfloat_model.specs.formats.Format.{Format, largest, greatest_significand}
 use Rattle.apfloat_model.specs.formats.Datum.{Datum, finite, infinite, nan}
+use Rattle.apfloat_model.specs.formats.Lawful.{Constants, format_with}
 use Rattle.apfloat_model.specs.rounding.Grid.{IsOnGrid}
 use Rattle.apfloat_model.specs.rounding.Rounding.{IsPick, signed_quanta, ok_bits, underflow_bit, inexact_bit}
-use Rattle.apfloat_model.specs.rounding.Negation.{negated}
 use Rattle.apfloat_model.specs.arithmetic.Exact.{magnitude, signed, sign_of, product_sign, IsRounded}
 use Rattle.apfloat_model.specs.arithmetic.Signs.{abs}
 use Rattle.apfloat_model.specs.arithmetic.Products.{IsProduct}
-use Rattle.apfloat_model.specs.arithmetic.FusedSums.{IsFusedSum}
 use Rattle.apfloat_model.specs.arithmetic.Scaling.{IsScaling}
 use Rattle.apfloat_model.specs.order.Classes.{is_finite, is_negative}
 use Rattle.apfloat_model.specs.order.Order.{number, is_equal}
@@ -32,15 +31,17 @@ use Rattle.apfloat_pair_theory.proofs.numbers.SignedProducts.{sum_times, magnitu
 use Rattle.apfloat_pair_theory.proofs.numbers.WholeProducts.{whole_product}
 use Rattle.apfloat_pair_theory.proofs.pairs.Normalised.{is_equal_by}
 use Rattle.ieee_operations.specs.augmented.Augmented.{left_of, IsPastLargest, IsWithTail, IsAugmentedProduct}
-use Rattle.ieee_operations.specs.augmented.Numbers.{HasNumber, IsAugmentedNumber, IsNonzeroIn, IsTwiceLeft}
+use Rattle.ieee_operations.specs.augmented.Numbers.{HasNumber, IsAugmentedNumber, IsNearProduct, LeavesDigits}
+use Rattle.ieee_operations.specs.augmented.Numbers.{IsTwiceLeft, HasRoundedTail}
 use Rattle.ieee_operations.specs.augmented.TiesToZero.{IsTiesToZeroPick}
+use Rattle.ieee_operations.proofs.augmented_lemmas.Cases.{HasCaseRanges}
 use Rattle.ieee_operations.proofs.augmented_lemmas.FractionPicks.{IsFractionPick, IsHalfPast, distance, below_fraction, gap, odd_half, tie_of_quanta, from_even_in, pick_cases, half_pick, half_short, low_pick, distance_fraction, distance_half, distance_half_past, distance_at_most}
-use Rattle.ieee_operations.proofs.augmented_lemmas.FractionRoundings.{rest_of_product, fraction_exactly, ok_parts, product_rounded, rest_rounded, small_product, whole_is_exact}
-use Rattle.ieee_operations.proofs.augmented_lemmas.Heads.{picks_of}
+use Rattle.ieee_operations.proofs.augmented_lemmas.FractionRoundings.{rest_of_product, fraction_exactly, ok_parts, rest_rounded, small_product, whole_is_exact}
+use Rattle.ieee_operations.proofs.augmented_lemmas.Heads.{ArePicks, picks_of}
 use Rattle.ieee_operations.proofs.augmented_lemmas.Multiples.{sign_some}
 use Rattle.ieee_operations.proofs.augmented_lemmas.Numbers.{signed_number, same_number, within_is}
 use Rattle.ieee_operations.proofs.augmented_lemmas.Numbers.{quanta_in, abs_has, equal_numbers}
-use Rattle.ieee_operations.proofs.augmented_lemmas.ProductCases.{product_of_numbers, product_some}
+use Rattle.ieee_operations.proofs.augmented_lemmas.ProductCases.{product_of_numbers, product_some, rounded_in}
 use Rattle.ieee_operations.proofs.augmented_lemmas.TiesToZero.{short_is_below}
 
 -- ---- sizes
@@ -68,23 +69,9 @@ double_within f h w n g q =
 -- ---- what is known of a product with digits below the quantum
 
 -- its size, and that of one factor
-record IsSmallProduct (f : Format) (x y : Datum) : Type 0 where
+pub record IsSmallProduct (f : Format) (x y : Datum) : Type 0 where
   pub low : magnitude (number x *ℤ number y) < 2 ^ f.precision * (2 ^ (f.precision - 1) * 2 ^ f.scale)
   pub double : 2 * magnitude (number x) ≤ largest f
-
--- the picks to nearest and toward zero, as data
-pub record IsTiny (f : Format) (x y near short : Datum) (s : Bool) (amount parts : ℕ) : Type 0 where
-  pub fraction : IsFractionPick amount parts
-  pub low : amount < 2 ^ f.precision * (2 ^ (f.precision - 1) * parts)
-  pub double : 2 * magnitude (number x) ≤ largest f
-  pub even : ℕ
-  pub lower : ℕ
-  pub is_even : IsPick f.precision NearestTiesToEven s amount parts even
-  pub is_lower : IsPick f.precision TowardZero s amount parts lower
-  pub even_within : even ≤ largest f
-  pub lower_within : lower ≤ largest f
-  pub near_is : near ≡ signed_quanta f.nonfinite s even
-  pub short_is : short ≡ signed_quanta f.nonfinite s lower
 
 abbrev pub exact_of : Datum → Datum → ℤ
 exact_of x y = number x *ℤ number y
@@ -92,27 +79,40 @@ exact_of x y = number x *ℤ number y
 abbrev pub sign_of_product : Datum → Datum → Bool
 sign_of_product x y = sign_of (product_sign (is_negative x) (is_negative y)) (number x *ℤ number y)
 
--- The product is not an integral number of quanta, since what its rounding leaves would be exact.
-no_whole : (f : Format) → 3 ≤ f.precision → (x y near rest : Datum) (i k : ℕ) → IsNonzeroIn f x → IsNonzeroIn f y
-    → IsAugmentedNumber f near → IsProduct f NearestTiesToEven x y near i
-    → IsFusedSum f NearestTiesToEven x y (negated f.nonfinite near) rest k → (k ≡ ok_bits → ⊥)
-    → IsFractionPick (magnitude (exact_of x y)) (2 ^ f.scale)
-no_whole f h x y near rest i k nx ny nn product fused lost = record {
+-- the picks to nearest and toward zero, as data
+pub record IsTiny (f : Format) (x y near short : Datum) : Type 0 where
+  pub precise : 3 ≤ f.precision
+  pub wide : f.precision < f.span
+  pub product : IsNearProduct f x y near
+  pub near_in : IsAugmentedNumber f near
+  pub fraction : IsFractionPick (magnitude (exact_of x y)) (2 ^ f.scale)
+  pub size : IsSmallProduct f x y
+  pub picks : ArePicks f (sign_of_product x y) (magnitude (exact_of x y)) (2 ^ f.scale) near short
+
+-- What the rounding of an integral number of quanta leaves is exact.
+exact_whole : (f : Format) → 3 ≤ f.precision → (x y near : Datum) → IsNearProduct f x y near → IsAugmentedNumber f near
+    → LeavesDigits f x y near → (whole : ℤ) → (whole *ℤ pos (2 ^ f.scale)) ≡ exact_of x y → ⊥
+exact_whole f h x y near a nn lost whole w =
+    lost.not_ok (whole_is_exact f h x y near lost.rest a.status lost.status whole a.left.is_in a.right.is_in nn
+    (product_some f x y a.left a.right) a.is lost.is w)
+
+-- so the product is none
+no_whole : (f : Format) → 3 ≤ f.precision → (x y near : Datum) → IsNearProduct f x y near → IsAugmentedNumber f near
+    → LeavesDigits f x y near → IsFractionPick (magnitude (exact_of x y)) (2 ^ f.scale)
+no_whole f h x y near a nn lost = record {
   not_whole = λ whole e.
       let w : (signed (sign_of_product x y) whole *ℤ pos (2 ^ f.scale)) ≡ (number x *ℤ number y) =
       sym (signed_times (sign_of_product x y) whole (2 ^ f.scale)) ∙
       ap (λ (n : ℕ). signed (sign_of_product x y) n) e ∙
       signed_exact (product_sign (is_negative x) (is_negative y)) (number x *ℤ number y) in
-      lost (whole_is_exact f h x y near rest i k (signed (sign_of_product x y) whole) nx.is_in ny.is_in nn
-      (product_some f x y nx ny) product fused w);
+      exact_whole f h x y near a nn lost (signed (sign_of_product x y) whole) w;
 }
 
-small : (f : Format) → 3 ≤ f.precision → f.scale < f.span → (x y near rest : Datum) (i k : ℕ) → IsNonzeroIn f x
-    → IsNonzeroIn f y → IsAugmentedNumber f near → IsProduct f NearestTiesToEven x y near i
-    → IsFusedSum f NearestTiesToEven x y (negated f.nonfinite near) rest k → (k ≡ ok_bits → ⊥) → IsSmallProduct f x y
-small f h w x y near rest i k nx ny nn product fused lost =
-    let g = nx.is_in.on_grid in
-    let j = ny.is_in.on_grid in
+small : (f : Format) → 3 ≤ f.precision → f.scale < f.span → (x y near : Datum) → IsNearProduct f x y near
+    → IsAugmentedNumber f near → LeavesDigits f x y near → IsSmallProduct f x y
+small f h w x y near a nn lost =
+    let g = a.left.is_in.on_grid in
+    let j = a.right.is_in.on_grid in
     ⊎_elim
     (λ (q : g.place + j.place < f.scale).
     let l = small_product f.precision f.scale (magnitude (number x)) (magnitude (number y)) (omega (arith, h)) g j q in
@@ -123,33 +123,25 @@ small f h w x y near rest i k nx ny nn product fused lost =
     })
     (λ (q : f.scale ≤ g.place + j.place).
     let v = whole_product f.precision f.scale (number x) (number y) g j q in
-    absurd (lost (whole_is_exact f h x y near rest i k v.0 nx.is_in ny.is_in nn (product_some f x y nx ny) product fused
-    v.1.is)))
+    absurd (exact_whole f h x y near a nn lost v.0 v.1.is))
     (cases_lt (g.place + j.place) f.scale)
 
-pub tiny_of : (f : Format) → 3 ≤ f.precision → f.scale < f.span → (x y near short rest : Datum) (i j k : ℕ)
-    → IsNonzeroIn f x → IsNonzeroIn f y → IsAugmentedNumber f near → IsProduct f NearestTiesToEven x y near i
-    → IsProduct f TowardZero x y short j → IsFusedSum f NearestTiesToEven x y (negated f.nonfinite near) rest k
-    → (k ≡ ok_bits → ⊥) → IsTiny f x y near short (sign_of_product x y) (magnitude (exact_of x y)) (2 ^ f.scale)
-tiny_of f h w x y near short rest i j k nx ny nn product shorter fused lost =
-    let some = product_some f x y nx ny in
-    let n = product_rounded f NearestTiesToEven x y near i nx.is_in.is_finite ny.is_in.is_finite some product in
-    let t = product_rounded f TowardZero x y short j nx.is_in.is_finite ny.is_in.is_finite some shorter in
-    let p = picks_of f (product_sign (is_negative x) (is_negative y)) (exact_of x y) (2 ^ f.scale) near short i j
-    (pow_pos f.scale) n t nn.is_finite in
-    let a = small f h w x y near rest i k nx ny nn product fused lost in
+pub tiny_of : (c : Constants) → HasCaseRanges c → (x y near short : Datum) (j : ℕ)
+    → IsNearProduct (format_with c) x y near → IsAugmentedNumber (format_with c) near
+    → LeavesDigits (format_with c) x y near → IsProduct (format_with c) TowardZero x y short j
+    → IsTiny (format_with c) x y near short
+tiny_of c r x y near short j a nn lost shorter =
+    let f = format_with c in
     record {
-      fraction = no_whole f h x y near rest i k nx ny nn product fused lost;
-      low = a.low;
-      double = a.double;
-      even = p.even;
-      lower = p.lower;
-      is_even = p.is_even;
-      is_lower = p.is_lower;
-      even_within = p.even_within;
-      lower_within = p.lower_within;
-      near_is = p.near_is;
-      short_is = p.short_is;
+      precise = r.precision;
+      wide = r.wide;
+      product = a;
+      near_in = nn;
+      fraction = no_whole f r.precision x y near a nn lost;
+      size = small f r.precision r.scale x y near a nn lost;
+      picks = picks_of f (product_sign (is_negative x) (is_negative y)) (exact_of x y) (2 ^ f.scale) near short
+          a.status j (pow_pos f.scale) (rounded_in f NearestTiesToEven x y near near a.status a a.is)
+          (rounded_in f TowardZero x y near short j a shorter) nn.is_finite;
     }
 
 -- ---- twice what the product toward zero leaves
@@ -224,81 +216,87 @@ signed_twice : (s : Bool) (a b c : ℕ) → 2 * a ≡ 2 * b + c
 signed_twice true a b c e = omega (arith, ints, e)
 signed_twice false a b c e = omega (arith, ints, e)
 
-module _ (f : Format) (precise : 3 ≤ f.precision) (wide : f.precision < f.span) (x y near short left : Datum) (k : ℕ)
-    (nx : IsNonzeroIn f x) (ny : IsNonzeroIn f y)
-    (t : IsTiny f x y near short (sign_of_product x y) (magnitude (exact_of x y)) (2 ^ f.scale))
+module _ (f : Format) (x y near short left : Datum) (k : ℕ) (t : IsTiny f x y near short)
     (twice : IsTwiceLeft f x y short left k) where
   parts_some : 0 < 2 ^ f.scale
   parts_some = pow_pos f.scale
 
-  lower_below : t.lower ≡ t.is_even.below
-  lower_below = short_is_below f.precision (sign_of_product x y) (magnitude (exact_of x y)) (2 ^ f.scale) t.even t.lower
-      t.is_even t.is_lower
+  lower_below : t.picks.lower ≡ t.picks.is_even.below
+  lower_below =
+      short_is_below f.precision (sign_of_product x y) (magnitude (exact_of x y)) (2 ^ f.scale) t.picks.even
+      t.picks.lower t.picks.is_even t.picks.is_lower
 
-  short_number : number short ≡ signed (sign_of_product x y) t.lower
-  short_number = ap number t.short_is ∙ (signed_number f.nonfinite (sign_of_product x y) t.lower).number_is
+  lower_parts : t.picks.lower * 2 ^ f.scale ≡ t.picks.is_even.below * 2 ^ f.scale
+  lower_parts = ap (λ (i : ℕ). i * 2 ^ f.scale) lower_below
+
+  short_number : number short ≡ signed (sign_of_product x y) t.picks.lower
+  short_number = ap number t.picks.short_is ∙ (signed_number f.nonfinite (sign_of_product x y) t.picks.lower).number_is
 
   short_in : IsAugmentedNumber f short
   short_in =
-      quanta_in f (sign_of_product x y) t.lower short
-      (on_grid_as (sym lower_below) t.is_even.is_below.on_grid) t.lower_within t.short_is
+      quanta_in f (sign_of_product x y) t.picks.lower short
+      (on_grid_as (sym lower_below) t.picks.is_even.is_below.on_grid) t.picks.lower_within t.picks.short_is
 
   -- the head toward zero is below 2 ^ (2 * precision - 1) quanta, so it can be doubled
   short_double : 2 * magnitude (number short) ≤ largest f
   short_double =
-      let e : magnitude (number short) ≡ t.lower =
-      ap magnitude short_number ∙ magnitude_signed (sign_of_product x y) t.lower in
-      let a = t.is_even.is_below.not_above in
-      let b : t.lower * 2 ^ f.scale ≡ t.is_even.below * 2 ^ f.scale = ap (λ (i : ℕ). i * 2 ^ f.scale) lower_below in
-      let c = t.low in
-      let d' : t.lower * 2 ^ f.scale < 2 ^ f.precision * 2 ^ (f.precision - 1) * 2 ^ f.scale = omega (arith, a, b, c) in
-      let d : t.lower < 2 ^ f.precision * 2 ^ (f.precision - 1) = lt_of_mul-lt-mul_right (2 ^ f.scale) d' in
-      let v = square_within f precise wide in
+      let e : magnitude (number short) ≡ t.picks.lower =
+      ap magnitude short_number ∙ magnitude_signed (sign_of_product x y) t.picks.lower in
+      let a = t.picks.is_even.is_below.not_above in
+      let b = lower_parts in
+      let c = t.size.low in
+      let d' : t.picks.lower * 2 ^ f.scale < 2 ^ f.precision * 2 ^ (f.precision - 1) * 2 ^ f.scale =
+      omega (arith, a, b, c) in
+      let d : t.picks.lower < 2 ^ f.precision * 2 ^ (f.precision - 1) = lt_of_mul-lt-mul_right (2 ^ f.scale) d' in
+      let v = square_within f t.precise t.wide in
       let w : 2 ^ f.precision * (2 * 2 ^ (f.precision - 1)) ≡ 2 ^ f.precision * 2 ^ f.precision =
-      ap (λ (i : ℕ). 2 ^ f.precision * i) (twice_half f.precision (omega (arith, precise))) in
+      ap (λ (i : ℕ). 2 ^ f.precision * i) (twice_half f.precision (omega (arith, t.precise))) in
       omega (arith, e, d, v, w)
 
   rounded : (of_zero : Bool) × IsRounded f NearestTiesToEven of_zero
       (rest_of_product f x y short +ℤ rest_of_product f x y short) (2 ^ f.scale) left k
-  rounded = twice_rounded f x y short left k nx.is_in ny.is_in.is_finite short_in t.double short_double twice
+  rounded =
+      twice_rounded f x y short left k t.product.left.is_in t.product.right.is_in.is_finite short_in t.size.double
+      short_double twice
 
-  lower_apart : t.is_even.above ≤ t.is_even.below + 2 ^ (f.precision - 1)
+  lower_apart : t.picks.is_even.above ≤ t.picks.is_even.below + 2 ^ (f.precision - 1)
   lower_apart =
-      gap f.precision (magnitude (exact_of x y)) (2 ^ f.scale) t.is_even.below t.is_even.above
-      (omega (arith, precise)) parts_some t.low t.is_even.is_below t.is_even.is_above
+      gap f.precision (magnitude (exact_of x y)) (2 ^ f.scale) t.picks.is_even.below t.picks.is_even.above
+      (omega (arith, t.precise)) parts_some t.size.low t.picks.is_even.is_below t.picks.is_even.is_above
 
   -- if that is exact, twice the product is an integral number of quanta
   pub twice_of_ok : k ≡ ok_bits
-      → 2 * magnitude (exact_of x y) ≡ (2 * t.lower + magnitude (number left)) * 2 ^ f.scale
+      → 2 * magnitude (exact_of x y) ≡ (2 * t.picks.lower + magnitude (number left)) * 2 ^ f.scale
   twice_of_ok o =
       let h = ok_parts f NearestTiesToEven rounded.0 _ (2 ^ f.scale) left k rounded.1 o in
       let e : magnitude (number left) * 2 ^ f.scale ≡ 2 * magnitude (rest_of_product f x y short) =
       sym (magnitude-times (number left) (2 ^ f.scale)) ∙ ap magnitude h.parts_are ∙
       magnitude_double (rest_of_product f x y short) in
-      let r : magnitude (rest_of_product f x y short) ≡ distance t.lower (magnitude (exact_of x y)) (2 ^ f.scale) =
-      ap magnitude (rest_is f x y short (sign_of_product x y) t.lower short_number) ∙
-      left_magnitude (product_sign (is_negative x) (is_negative y)) (exact_of x y) (2 ^ f.scale) t.lower in
-      let a = t.is_even.is_below.not_above in
-      let b : t.lower * 2 ^ f.scale ≡ t.is_even.below * 2 ^ f.scale = ap (λ (i : ℕ). i * 2 ^ f.scale) lower_below in
+      let r : magnitude (rest_of_product f x y short)
+      ≡ distance t.picks.lower (magnitude (exact_of x y)) (2 ^ f.scale) =
+      ap magnitude (rest_is f x y short (sign_of_product x y) t.picks.lower short_number) ∙
+      left_magnitude (product_sign (is_negative x) (is_negative y)) (exact_of x y) (2 ^ f.scale) t.picks.lower in
+      let a = t.picks.is_even.is_below.not_above in
+      let b = lower_parts in
       omega (arith, e, r, a, b)
 
   -- if twice the product is an integral number of quanta, that is exact
   twice_is_ok : (j : ℕ) → j < 2 ^ f.precision
-      → 2 * magnitude (exact_of x y) ≡ (2 * t.lower + j) * 2 ^ f.scale → k ≡ ok_bits
+      → 2 * magnitude (exact_of x y) ≡ (2 * t.picks.lower + j) * 2 ^ f.scale → k ≡ ok_bits
   twice_is_ok j l e =
       let s = sign_of_product x y in
       let g : IsOnGrid f.precision j = record { significand = j; place = 0; fits = l; is = omega arith } in
       let m : j ≡ magnitude (signed (sign_of_product x y) j) = sym (magnitude_signed (sign_of_product x y) j) in
-      let b : j * 2 ^ 0 ≤ largest f = below_top f j 0 precise l (omega (arith, wide)) in
+      let b : j * 2 ^ 0 ≤ largest f = below_top f j 0 t.precise l (omega (arith, t.wide)) in
       let d : rest_of_product f x y short
-      ≡ (signed s (magnitude (exact_of x y)) -ℤ signed s (t.lower * 2 ^ f.scale)) =
-      rest_is f x y short s t.lower short_number ∙
-      ap (λ (i : ℤ). i -ℤ signed s (t.lower * 2 ^ f.scale))
+      ≡ (signed s (magnitude (exact_of x y)) -ℤ signed s (t.picks.lower * 2 ^ f.scale)) =
+      rest_is f x y short s t.picks.lower short_number ∙
+      ap (λ (i : ℤ). i -ℤ signed s (t.picks.lower * 2 ^ f.scale))
       (sym (signed_exact (product_sign (is_negative x) (is_negative y)) (exact_of x y))) in
       let w : (signed (sign_of_product x y) j *ℤ pos (2 ^ f.scale))
       ≡ (rest_of_product f x y short +ℤ rest_of_product f x y short) =
       sym (signed_times (sign_of_product x y) j (2 ^ f.scale)) ∙
-      signed_twice (sign_of_product x y) (magnitude (exact_of x y)) (t.lower * 2 ^ f.scale) (j * 2 ^ f.scale)
+      signed_twice (sign_of_product x y) (magnitude (exact_of x y)) (t.picks.lower * 2 ^ f.scale) (j * 2 ^ f.scale)
       (omega (arith, e)) ∙
       ap (λ (i : ℤ). i +ℤ i) (sym d) in
       (fraction_exactly f NearestTiesToEven rounded.0 (signed (sign_of_product x y) j) _ (2 ^ f.scale) left k parts_some
@@ -307,55 +305,57 @@ module _ (f : Format) (precise : 3 ≤ f.precision) (wide : f.precision < f.span
   -- so if that is not exact, twice the product is not an integral number of quanta
   pub not_half_of : (k ≡ ok_bits → ⊥) → (m : ℕ) → 2 * magnitude (exact_of x y) ≡ m * 2 ^ f.scale → ⊥
   not_half_of lost m e =
-      let a = t.is_even.is_below.not_above in
-      let b : t.lower * 2 ^ f.scale ≡ t.is_even.below * 2 ^ f.scale = ap (λ (i : ℕ). i * 2 ^ f.scale) lower_below in
-      let c' : 2 * t.lower * 2 ^ f.scale ≤ m * 2 ^ f.scale = omega (arith, a, b, e) in
-      let c : 2 * t.lower ≤ m = le_of_mul-le-mul_right c' parts_some in
-      let d : m ≡ 2 * t.lower + (m - 2 * t.lower) = omega (arith, c) in
-      let d' : m * 2 ^ f.scale ≡ (2 * t.lower + (m - 2 * t.lower)) * 2 ^ f.scale =
+      let a = t.picks.is_even.is_below.not_above in
+      let b = lower_parts in
+      let c' : 2 * t.picks.lower * 2 ^ f.scale ≤ m * 2 ^ f.scale = omega (arith, a, b, e) in
+      let c : 2 * t.picks.lower ≤ m = le_of_mul-le-mul_right c' parts_some in
+      let d : m ≡ 2 * t.picks.lower + (m - 2 * t.picks.lower) = omega (arith, c) in
+      let d' : m * 2 ^ f.scale ≡ (2 * t.picks.lower + (m - 2 * t.picks.lower)) * 2 ^ f.scale =
       ap (λ (i : ℕ). i * 2 ^ f.scale) d in
-      let hi = below_fraction f.precision t.is_even.above (magnitude (exact_of x y)) (2 ^ f.scale) t.fraction
-      t.is_even.is_above in
-      let g : t.is_even.above * 2 ^ f.scale ≤ (t.is_even.below + 2 ^ (f.precision - 1)) * 2 ^ f.scale =
+      let hi = below_fraction f.precision t.picks.is_even.above (magnitude (exact_of x y)) (2 ^ f.scale) t.fraction
+      t.picks.is_even.is_above in
+      let g : t.picks.is_even.above * 2 ^ f.scale ≤ (t.picks.is_even.below + 2 ^ (f.precision - 1)) * 2 ^ f.scale =
       mul-le-mul_right (2 ^ f.scale) lower_apart in
-      let v' : m * 2 ^ f.scale < (2 * t.is_even.below + 2 * 2 ^ (f.precision - 1)) * 2 ^ f.scale =
+      let v' : m * 2 ^ f.scale < (2 * t.picks.is_even.below + 2 * 2 ^ (f.precision - 1)) * 2 ^ f.scale =
       omega (arith, e, hi, g) in
-      let v : m < 2 * t.is_even.below + 2 * 2 ^ (f.precision - 1) = lt_of_mul-lt-mul_right (2 ^ f.scale) v' in
-      let w = twice_half f.precision (omega (arith, precise)) in
+      let v : m < 2 * t.picks.is_even.below + 2 * 2 ^ (f.precision - 1) = lt_of_mul-lt-mul_right (2 ^ f.scale) v' in
+      let w = twice_half f.precision (omega (arith, t.precise)) in
       let z = lower_below in
-      lost (twice_is_ok (m - 2 * t.lower) (omega (arith, v, w, z, c)) (omega (arith, e, d')))
+      lost (twice_is_ok (m - 2 * t.picks.lower) (omega (arith, v, w, z, c)) (omega (arith, e, d')))
 
   -- ---- the heads
 
   -- if it is exactly one quantum, the product is half a quantum past the lower neighbour, which is the head
   pub pick_short : k ≡ ok_bits → magnitude (number left) ≡ 1
-      → IsTiesToZeroPick f.precision (magnitude (exact_of x y)) (2 ^ f.scale) t.lower
+      → IsTiesToZeroPick f.precision (magnitude (exact_of x y)) (2 ^ f.scale) t.picks.lower
   pick_short o one =
       let e = twice_of_ok o in
-      let e' : (2 * t.lower + magnitude (number left)) * 2 ^ f.scale ≡ (2 * t.lower + 1) * 2 ^ f.scale =
-      ap (λ (i : ℕ). (2 * t.lower + i) * 2 ^ f.scale) one in
-      let b : t.lower * 2 ^ f.scale ≡ t.is_even.below * 2 ^ f.scale = ap (λ (i : ℕ). i * 2 ^ f.scale) lower_below in
+      let e' : (2 * t.picks.lower + magnitude (number left)) * 2 ^ f.scale ≡ (2 * t.picks.lower + 1) * 2 ^ f.scale =
+      ap (λ (i : ℕ). (2 * t.picks.lower + i) * 2 ^ f.scale) one in
+      let b = lower_parts in
       subst (λ (i : ℕ). IsTiesToZeroPick f.precision (magnitude (exact_of x y)) (2 ^ f.scale) i) (sym lower_below)
-      (low_pick f.precision t.is_even.below t.is_even.above (magnitude (exact_of x y)) (2 ^ f.scale) parts_some
-      t.is_even.is_below t.is_even.is_above (omega (arith, e, e', b)))
+      (low_pick f.precision t.picks.is_even.below t.picks.is_even.above (magnitude (exact_of x y)) (2 ^ f.scale)
+      parts_some t.picks.is_even.is_below t.picks.is_even.is_above (omega (arith, e, e', b)))
 
   -- a tie leaves one quantum exactly
-  tie_leaves : 2 * magnitude (exact_of x y) ≡ (t.even + t.is_even.below) * 2 ^ f.scale
+  tie_leaves : 2 * magnitude (exact_of x y) ≡ (t.picks.even + t.picks.is_even.below) * 2 ^ f.scale
       → (k ≡ ok_bits → ⊥) ⊎ (magnitude (number left) ≡ 1 → ⊥) → ⊥
-  tie_leaves e (inl lost) = not_half_of lost (t.even + t.is_even.below) e
+  tie_leaves e (inl lost) = not_half_of lost (t.picks.even + t.picks.is_even.below) e
   tie_leaves e (inr other) =
       ⊎_elim
-      (λ (h : t.even ≡ t.is_even.above).
-      let h' : (t.even + t.is_even.below) * 2 ^ f.scale ≡ (t.is_even.above + t.is_even.below) * 2 ^ f.scale =
-      ap (λ (i : ℕ). (i + t.is_even.below) * 2 ^ f.scale) h in
-      let w = tie_of_quanta f.precision t.is_even.below t.is_even.above (magnitude (exact_of x y)) (2 ^ f.scale)
-      (omega (arith, precise)) parts_some t.fraction t.is_even.is_below t.is_even.is_above (omega (arith, e, h')) in
-      let w' : t.is_even.above * 2 ^ f.scale ≡ (t.is_even.below + 1) * 2 ^ f.scale =
+      (λ (h : t.picks.even ≡ t.picks.is_even.above).
+      let h' : (t.picks.even + t.picks.is_even.below) * 2 ^ f.scale
+      ≡ (t.picks.is_even.above + t.picks.is_even.below) * 2 ^ f.scale =
+      ap (λ (i : ℕ). (i + t.picks.is_even.below) * 2 ^ f.scale) h in
+      let w = tie_of_quanta f.precision t.picks.is_even.below t.picks.is_even.above (magnitude (exact_of x y))
+      (2 ^ f.scale) (omega (arith, t.precise)) parts_some t.fraction t.picks.is_even.is_below t.picks.is_even.is_above
+      (omega (arith, e, h')) in
+      let w' : t.picks.is_even.above * 2 ^ f.scale ≡ (t.picks.is_even.below + 1) * 2 ^ f.scale =
       ap (λ (i : ℕ). i * 2 ^ f.scale) w in
-      let b : t.lower * 2 ^ f.scale ≡ t.is_even.below * 2 ^ f.scale = ap (λ (i : ℕ). i * 2 ^ f.scale) lower_below in
-      let half : 2 * magnitude (exact_of x y) ≡ (2 * t.lower + 1) * 2 ^ f.scale = omega (arith, e, h', w', b) in
+      let b = lower_parts in
+      let half : 2 * magnitude (exact_of x y) ≡ (2 * t.picks.lower + 1) * 2 ^ f.scale = omega (arith, e, h', w', b) in
       let one : 1 < 2 ^ f.precision =
-      let p : 2 * 2 ^ (f.precision - 1) ≡ 2 ^ f.precision = twice_half f.precision (omega (arith, precise)) in
+      let p : 2 * 2 ^ (f.precision - 1) ≡ 2 ^ f.precision = twice_half f.precision (omega (arith, t.precise)) in
       let q : 0 < 2 ^ (f.precision - 1) = pow_pos (f.precision - 1) in
       omega (arith, p, q) in
       let ok = twice_is_ok 1 one half in
@@ -365,49 +365,52 @@ module _ (f : Format) (precise : 3 ≤ f.precision) (wide : f.precision < f.span
       let l' = le_of_mul-le-mul_right l parts_some in
       let g' = le_of_mul-le-mul_right g parts_some in
       other (omega (arith, l', g')))
-      (λ (h : t.even ≡ t.is_even.below).
-      let h' : (t.even + t.is_even.below) * 2 ^ f.scale ≡ (t.is_even.below + t.is_even.below) * 2 ^ f.scale =
-      ap (λ (i : ℕ). (i + t.is_even.below) * 2 ^ f.scale) h in
-      t.fraction.not_whole t.is_even.below (omega (arith, e, h')))
-      (pick_cases f.precision (sign_of_product x y) (magnitude (exact_of x y)) (2 ^ f.scale) t.even t.is_even)
+      (λ (h : t.picks.even ≡ t.picks.is_even.below).
+      let h' : (t.picks.even + t.picks.is_even.below) * 2 ^ f.scale
+      ≡ (t.picks.is_even.below + t.picks.is_even.below) * 2 ^ f.scale =
+      ap (λ (i : ℕ). (i + t.picks.is_even.below) * 2 ^ f.scale) h in
+      t.fraction.not_whole t.picks.is_even.below (omega (arith, e, h')))
+      (pick_cases f.precision (sign_of_product x y) (magnitude (exact_of x y)) (2 ^ f.scale) t.picks.even
+      t.picks.is_even)
 
   -- otherwise the head is the product to nearest
   pub pick_near : (k ≡ ok_bits → ⊥) ⊎ (magnitude (number left) ≡ 1 → ⊥)
-      → IsTiesToZeroPick f.precision (magnitude (exact_of x y)) (2 ^ f.scale) t.even
+      → IsTiesToZeroPick f.precision (magnitude (exact_of x y)) (2 ^ f.scale) t.picks.even
   pick_near lost =
-      from_even_in f.precision (sign_of_product x y) (magnitude (exact_of x y)) (2 ^ f.scale) t.even t.is_even
-      (λ e. tie_leaves e lost)
+      from_even_in f.precision (sign_of_product x y) (magnitude (exact_of x y)) (2 ^ f.scale) t.picks.even
+      t.picks.is_even (λ e. tie_leaves e lost)
 
   -- ---- the tails
 
-  at_most : (pick : ℕ) → (pick ≡ t.is_even.above) ⊎ (pick ≡ t.is_even.below)
+  at_most : (pick : ℕ) → (pick ≡ t.picks.is_even.above) ⊎ (pick ≡ t.picks.is_even.below)
       → distance pick (magnitude (exact_of x y)) (2 ^ f.scale) ≤ 2 ^ (f.precision - 1) * 2 ^ f.scale
   at_most pick h =
-      distance_at_most f.precision pick t.is_even.below t.is_even.above (magnitude (exact_of x y)) (2 ^ f.scale)
-      lower_apart t.is_even.is_below.not_above t.is_even.is_above.not_below h
+      distance_at_most f.precision pick t.picks.is_even.below t.picks.is_even.above (magnitude (exact_of x y))
+      (2 ^ f.scale) lower_apart t.picks.is_even.is_below.not_above t.picks.is_even.is_above.not_below h
 
   -- What a head leaves is rounded to nearest with ties toward zero, and inexact.
-  tail_is : (head tail : Datum) (pick status last : ℕ) (mode : Round) → IsAugmentedNumber f head
-      → head ≡ signed_quanta f.nonfinite (sign_of_product x y) pick → pick ≤ largest f
-      → (pick ≡ t.is_even.above) ⊎ (pick ≡ t.is_even.below)
+  tail_is : (given : Datum) (pick : ℕ) (mode : Round) → IsAugmentedNumber f given
+      → given ≡ signed_quanta f.nonfinite (sign_of_product x y) pick → pick ≤ largest f
+      → (pick ≡ t.picks.is_even.above) ⊎ (pick ≡ t.picks.is_even.below)
       → IsTiesToZeroPick f.precision (magnitude (exact_of x y)) (2 ^ f.scale) pick
-      → IsFusedSum f mode x y (negated f.nonfinite head) tail last
       → ((negative : Bool) (amount q : ℕ) → amount ≡ distance pick (magnitude (exact_of x y)) (2 ^ f.scale)
       → IsPick f.precision mode negative amount (2 ^ f.scale) q
       → IsTiesToZeroPick f.precision amount (2 ^ f.scale) q)
-      → status ≡ underflow_bit + inexact_bit → IsAugmentedProduct f x y head tail status
-  tail_is head tail pick status last mode nh e l side p fused picks o =
+      → (head tail : Datum) (status : ℕ) → HasRoundedTail f mode x y given head tail status
+      → IsAugmentedProduct f x y head tail status
+  tail_is given pick mode nh e l side p picks head tail status w₀ =
       let s = sign_of_product x y in
       let of_zero = product_sign (is_negative x) (is_negative y) in
       let exact = exact_of x y in
-      let r₀ = rest_rounded f mode x y head tail last nx.is_in.is_finite ny.is_in.is_finite nh.is_finite fused in
-      let n : number head ≡ signed (sign_of_product x y) pick =
+      let r₀ = rest_rounded f mode x y given tail w₀.tail_status t.product.left.is_in.is_finite
+      t.product.right.is_in.is_finite nh.is_finite w₀.tail_is in
+      let n : number given ≡ signed (sign_of_product x y) pick =
       ap number e ∙ (signed_number f.nonfinite (sign_of_product x y) pick).number_is in
       let z = left_of (exact_of x y) (2 ^ f.scale) (sign_of_product x y) pick in
       let r : IsRounded f mode r₀.0 (left_of (exact_of x y) (2 ^ f.scale) (sign_of_product x y) pick) (2 ^ f.scale) tail
-      last =
-      subst (λ (i : ℤ). IsRounded f mode r₀.0 i (2 ^ f.scale) tail last)
-      (rest_is f x y head (sign_of_product x y) pick n) r₀.1 in
+      w₀.tail_status =
+      subst (λ (i : ℤ). IsRounded f mode r₀.0 i (2 ^ f.scale) tail w₀.tail_status)
+      (rest_is f x y given (sign_of_product x y) pick n) r₀.1 in
       let m = left_magnitude of_zero exact (2 ^ f.scale) pick in
       let c = distance_fraction pick (magnitude (exact_of x y)) (2 ^ f.scale) t.fraction in
       let differs : r.pick * 2 ^ f.scale ≡ magnitude z → ⊥ = λ d. c.not_whole r.pick (d ∙ m) in
@@ -420,14 +423,14 @@ module _ (f : Format) (precise : 3 ≤ f.precision) (wide : f.precision < f.span
       let b : eqb (r.pick * 2 ^ f.scale) (magnitude z) ≡ false = ne_eqb (r.pick * 2 ^ f.scale) (magnitude z) differs in
       let a : IsWithTail f s (exact_of x y) (2 ^ f.scale) pick head tail status =
       record {
-        head_is = e;
+        head_is = w₀.head_is ∙ e;
         quanta = r.pick;
         is_pick = picks (sign_of r₀.0 z) (magnitude z) r.pick m r.is_pick;
         tail_is = r.value_is ∙ within_is f mode (sign_of r₀.0 z) r.pick within ∙
             ap (λ (i : Bool). signed_quanta f.nonfinite i r.pick) (sign_some r₀.0 s z some);
-        status_is = o ∙ sym (ap (λ (i : Bool). if i then ok_bits else underflow_bit + inexact_bit) b);
+        status_is = w₀.status_is ∙ sym (ap (λ (i : Bool). if i then ok_bits else underflow_bit + inexact_bit) b);
       } in
-      product_of_numbers f x y head tail status nx.is_in.is_finite ny.is_in.is_finite
+      product_of_numbers f x y head tail status t.product.left.is_in.is_finite t.product.right.is_in.is_finite
       (record {
         pick = pick;
         is_pick = p;
@@ -442,13 +445,13 @@ module _ (f : Format) (precise : 3 ≤ f.precision) (wide : f.precision < f.span
             record {
               significand = 1;
               place = f.precision - 1;
-              fits = let p = twice_half f.precision (omega (arith, precise)) in
+              fits = let p = twice_half f.precision (omega (arith, t.precise)) in
                   let s : 0 < 2 ^ (f.precision - 1) = pow_pos (f.precision - 1) in omega (arith, p, s);
               is = omega arith;
             } in
             let v = u.is_above.least (2 ^ (f.precision - 1)) g a in
             let w = (pick_within f.precision mode negative amount (2 ^ f.scale) q parts_some u).0 in
-            let b = half_within f precise in
+            let b = half_within f t.precise in
             omega (arith, v, w, b)
 
   -- not halfway between two quanta, the tail is what the head leaves to nearest
@@ -465,17 +468,17 @@ module _ (f : Format) (precise : 3 ≤ f.precision) (wide : f.precision < f.span
       not_half_of lost m.0 m.1)
 
   -- halfway, it is what the head leaves toward zero
-  picks_short : (pick : ℕ) → (pick ≡ t.is_even.above) ⊎ (pick ≡ t.is_even.below) → k ≡ ok_bits
+  picks_short : (pick : ℕ) → (pick ≡ t.picks.is_even.above) ⊎ (pick ≡ t.picks.is_even.below) → k ≡ ok_bits
       → (negative : Bool) (amount q : ℕ) → amount ≡ distance pick (magnitude (exact_of x y)) (2 ^ f.scale)
       → IsPick f.precision TowardZero negative amount (2 ^ f.scale) q
       → IsTiesToZeroPick f.precision amount (2 ^ f.scale) q
   picks_short pick side ok negative amount q e u =
-      let i = odd_half (magnitude (exact_of x y)) (2 ^ f.scale) (2 * t.lower + magnitude (number left)) t.fraction
+      let i = odd_half (magnitude (exact_of x y)) (2 ^ f.scale) (2 * t.picks.lower + magnitude (number left)) t.fraction
       (twice_of_ok ok) in
       let d = distance_half_past pick (magnitude (exact_of x y)) (2 ^ f.scale) i.0 i.1 in
       let half : IsHalfPast d.0 amount (2 ^ f.scale) = ap (λ (n : ℕ). 2 * n) e ∙ d.1 in
       let l = at_most pick side in
-      let w = twice_half f.precision (omega (arith, precise)) in
+      let w = twice_half f.precision (omega (arith, t.precise)) in
       let w' : 2 * 2 ^ (f.precision - 1) * 2 ^ f.scale ≡ 2 ^ f.precision * 2 ^ f.scale =
       ap (λ (n : ℕ). n * 2 ^ f.scale) w in
       let v : (2 * d.0 + 1) * 2 ^ f.scale ≤ 2 ^ f.precision * 2 ^ f.scale = omega (arith, half, e, l, w') in
@@ -483,38 +486,35 @@ module _ (f : Format) (precise : 3 ≤ f.precision) (wide : f.precision < f.span
       let fits : d.0 < 2 ^ f.precision = omega (arith, v') in
       let same = half_short f.precision negative amount (2 ^ f.scale) d.0 q parts_some fits half u in
       subst (λ (n : ℕ). IsTiesToZeroPick f.precision amount (2 ^ f.scale) n) (sym same)
-      (half_pick f.precision amount (2 ^ f.scale) d.0 (omega (arith, precise)) parts_some fits half)
+      (half_pick f.precision amount (2 ^ f.scale) d.0 (omega (arith, t.precise)) parts_some fits half)
 
   -- ---- the two results
 
-  pub head_is_short : k ≡ ok_bits → magnitude (number left) ≡ 1 → (head tail : Datum) (status last : ℕ)
-      → head ≡ short → IsFusedSum f TowardZero x y (negated f.nonfinite short) tail last
-      → status ≡ underflow_bit + inexact_bit → IsAugmentedProduct f x y head tail status
-  head_is_short ok one head tail status last hd fused o =
-      subst (λ (i : Datum). IsAugmentedProduct f x y i tail status) (sym hd)
-      (tail_is short tail t.lower status last TowardZero short_in t.short_is t.lower_within (inr lower_below)
-      (pick_short ok one) fused (picks_short t.lower (inr lower_below) ok) o)
+  pub head_is_short : k ≡ ok_bits → magnitude (number left) ≡ 1 → (head tail : Datum) (status : ℕ)
+      → HasRoundedTail f TowardZero x y short head tail status → IsAugmentedProduct f x y head tail status
+  head_is_short ok one =
+      tail_is short t.picks.lower TowardZero short_in t.picks.short_is t.picks.lower_within (inr lower_below)
+      (pick_short ok one) (picks_short t.picks.lower (inr lower_below) ok)
 
-  near_side : (t.even ≡ t.is_even.above) ⊎ (t.even ≡ t.is_even.below)
+  near_side : (t.picks.even ≡ t.picks.is_even.above) ⊎ (t.picks.even ≡ t.picks.is_even.below)
   near_side =
-      pick_cases f.precision (sign_of_product x y) (magnitude (exact_of x y)) (2 ^ f.scale) t.even t.is_even
+      pick_cases f.precision (sign_of_product x y) (magnitude (exact_of x y)) (2 ^ f.scale) t.picks.even t.picks.is_even
 
-  pub head_is_near_tie : IsAugmentedNumber f near → k ≡ ok_bits → (magnitude (number left) ≡ 1 → ⊥)
-      → (head tail : Datum)
-      (status last : ℕ) → head ≡ near → IsFusedSum f TowardZero x y (negated f.nonfinite near) tail last
-      → status ≡ underflow_bit + inexact_bit → IsAugmentedProduct f x y head tail status
-  head_is_near_tie nn ok other head tail status last hd fused o =
-      subst (λ (i : Datum). IsAugmentedProduct f x y i tail status) (sym hd)
-      (tail_is near tail t.even status last TowardZero nn t.near_is t.even_within near_side (pick_near (inr other))
-      fused (picks_short t.even near_side ok) o)
+  pub head_is_near_tie : k ≡ ok_bits → (magnitude (number left) ≡ 1 → ⊥) → (head tail : Datum) (status : ℕ)
+      → HasRoundedTail f TowardZero x y near head tail status → IsAugmentedProduct f x y head tail status
+  head_is_near_tie ok other =
+      tail_is near t.picks.even TowardZero t.near_in t.picks.near_is t.picks.even_within near_side
+      (pick_near (inr other)) (picks_short t.picks.even near_side ok)
 
-  pub head_is_near : IsAugmentedNumber f near → (k ≡ ok_bits → ⊥) → (head tail : Datum) (status last : ℕ) → head ≡ near
-      → IsFusedSum f NearestTiesToEven x y (negated f.nonfinite near) tail last
-      → status ≡ underflow_bit + inexact_bit → IsAugmentedProduct f x y head tail status
-  head_is_near nn lost head tail status last hd fused o =
-      subst (λ (i : Datum). IsAugmentedProduct f x y i tail status) (sym hd)
-      (tail_is near tail t.even status last NearestTiesToEven nn t.near_is t.even_within near_side
-      (pick_near (inl lost)) fused (picks_even t.even lost) o)
+  pub head_is_near : (k ≡ ok_bits → ⊥) → (head tail : Datum) (status : ℕ)
+      → HasRoundedTail f NearestTiesToEven x y near head tail status → IsAugmentedProduct f x y head tail status
+  head_is_near lost =
+      tail_is near t.picks.even NearestTiesToEven t.near_in t.picks.near_is t.picks.even_within near_side
+      (pick_near (inl lost)) (picks_even t.picks.even lost)
+
+  -- what is left is finite if its status is OK
+  pub left_is_finite : k ≡ ok_bits → is_finite left ≡ true
+  left_is_finite o = (ok_parts f NearestTiesToEven rounded.0 _ (2 ^ f.scale) left k rounded.1 o).is_finite
 
 -- ---- whether it is one quantum
 
@@ -534,12 +534,3 @@ left_not_one f left size unit p m u e one =
     let e' = subst (λ (d : Datum). is_equal d unit ≡ false) m e in
     let q : number (abs f left) ≡ number unit = a.number_is ∙ ap pos one ∙ sym (ap number u) in
     false≢true (sym e' ∙ is_equal_by (abs f left) unit a.is_finite (ap is_finite u) q)
-
--- what is left is finite if its status is OK
-pub left_is_finite : (f : Format) → 3 ≤ f.precision → f.precision < f.span → (x y near short left : Datum) (k : ℕ)
-    → IsNonzeroIn f x → IsNonzeroIn f y
-    → IsTiny f x y near short (sign_of_product x y) (magnitude (exact_of x y)) (2 ^ f.scale)
-    → IsTwiceLeft f x y short left k → k ≡ ok_bits → is_finite left ≡ true
-left_is_finite f h w x y near short left k nx ny t twice o =
-    let r = rounded f h w x y near short left k nx ny t twice in
-    (ok_parts f NearestTiesToEven r.0 _ (2 ^ f.scale) left k r.1 o).is_finite

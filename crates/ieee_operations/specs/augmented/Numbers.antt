@@ -1,13 +1,16 @@
 -- Finite data by their numbers.
-use Rattle.std.specs.Prelude.{◌≡◌, ℕ, ◌<◌, ◌≤◌, true, ℤ, pos, ◌-ℤ◌, if◌then◌else◌}
+use Rattle.std.specs.Prelude.{◌≡◌, ℕ, ◌+◌, ◌<◌, ◌≤◌, true, ℤ, pos, ◌-ℤ◌, if◌then◌else◌}
+use Rattle.apfloat_model.specs.declared.kinds.Round.{Round}
 use Rattle.apfloat_model.specs.declared.kinds.Round.TheVariants.{NearestTiesToEven}
 use Rattle.apfloat_model.specs.formats.Format.{Format, largest}
 use Rattle.apfloat_model.specs.formats.Constants.{zero_datum}
 use Rattle.apfloat_model.specs.formats.Datum.{Datum}
 use Rattle.apfloat_model.specs.rounding.Grid.{IsOnGrid}
 use Rattle.apfloat_model.specs.rounding.Negation.{negated}
+use Rattle.apfloat_model.specs.rounding.Rounding.{ok_bits, underflow_bit, inexact_bit}
 use Rattle.apfloat_model.specs.arithmetic.Exact.{magnitude}
 use Rattle.apfloat_model.specs.arithmetic.FusedSums.{IsFusedSum}
+use Rattle.apfloat_model.specs.arithmetic.Products.{IsProduct}
 use Rattle.apfloat_model.specs.arithmetic.Scaling.{IsScaling}
 use Rattle.apfloat_model.specs.arithmetic.Signs.{copy_sign}
 use Rattle.apfloat_model.specs.order.Classes.{is_finite, is_zero}
@@ -28,6 +31,27 @@ pub record IsAugmentedNumber (f : Format) (x : Datum) : Type 0 where
 pub record IsNonzeroIn (f : Format) (x : Datum) : Type 0 where
   pub is_in : IsAugmentedNumber f x
   pub some : 0 < magnitude (number x)
+
+-- two numbers other than zero, and their product to nearest
+pub record IsNearProduct (f : Format) (x y near : Datum) : Type 0 where
+  pub left : IsNonzeroIn f x
+  pub right : IsNonzeroIn f y
+  pub status : ℕ
+  pub is : IsProduct f NearestTiesToEven x y near status
+
+-- what a head leaves of a product is not exact
+pub record LeavesDigits (f : Format) (x y head : Datum) : Type 0 where
+  pub rest : Datum
+  pub status : ℕ
+  pub is : IsFusedSum f NearestTiesToEven x y (negated f.nonfinite head) rest status
+  pub not_ok : status ≡ ok_bits → ⊥
+
+-- a head, and what it leaves of a product, rounded where that has digits below the quantum
+pub record HasRoundedTail (f : Format) (round : Round) (x y given head tail : Datum) (status : ℕ) : Type 0 where
+  pub head_is : head ≡ given
+  pub tail_status : ℕ
+  pub tail_is : IsFusedSum f round x y (negated f.nonfinite given) tail tail_status
+  pub status_is : status ≡ underflow_bit + inexact_bit
 
 -- what a head leaves of a product, times two, rounded
 pub record IsTwiceLeft (f : Format) (x y head value : Datum) (status : ℕ) : Type 0 where

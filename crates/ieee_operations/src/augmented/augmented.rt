@@ -1,12 +1,10 @@
 //! The two results of an augmented operation.
 
-ghost use Rattle.std.specs.Prelude.{◌≡◌, ℕ, ◌+◌};
+ghost use Rattle.std.specs.Prelude.{◌≡◌, ◌+◌};
 ghost use Rattle.apfloat_model.specs.rounding.Flags.{bits_of};
-ghost use Rattle.apfloat_model.specs.rounding.Rounding.{ok_bits, overflow_bit, underflow_bit, inexact_bit};
-ghost use Rattle.apfloat_model.specs.rounding.Negation.{negated};
-ghost use Rattle.apfloat_model.specs.arithmetic.FusedSums.{IsFusedSum};
+ghost use Rattle.apfloat_model.specs.rounding.Rounding.{ok_bits, overflow_bit, inexact_bit};
 ghost use Rattle.apfloat_ieee.specs.FlaggedTypes.{format_of};
-ghost use Rattle.ieee_operations.specs.augmented.Numbers.{with_sign};
+ghost use Rattle.ieee_operations.specs.augmented.Numbers.{HasRoundedTail, with_sign};
 
 use apfloat_base::{Flags, Float, Round, Status, StatusAnd};
 use apfloat_ieee::{Flagged, IeeeFloat};
@@ -65,10 +63,8 @@ pub(crate) fn with_rounded_tail<S: Flagged>(
     head: IeeeFloat<S>,
     round: Round,
 ) -> StatusAnd<Augmented<S>>
-    ensures status { bits_of result.status ≡ underflow_bit + inexact_bit }
-    ensures head { result.value.head ≡ head }
-    ensures tail { (status : ℕ) × IsFusedSum (format_of S.Flagged) round x y
-        (negated (format_of S.Flagged).nonfinite head) result.value.tail status }
+    ensures { HasRoundedTail (format_of S.Flagged) round x y head result.value.head
+        result.value.tail (bits_of result.status) }
 {
     let tail = x.wide_mul_add_r(y, -head, round).value;
     Status::UNDERFLOW

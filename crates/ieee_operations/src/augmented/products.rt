@@ -5,18 +5,13 @@
 //! and where the product has digits below the quantum. Such a product is so small that it can be doubled, and of twice
 //! the product no digit is below the quantum exactly if the product is halfway between two quanta.
 
-ghost use Rattle.std.specs.Prelude.{◌≡◌, ℕ, true, false};
-ghost use Rattle.apfloat_model.specs.declared.kinds.Round.TheVariants.{NearestTiesToEven};
-ghost use Rattle.apfloat_model.specs.formats.Datum.{Datum};
+ghost use Rattle.std.specs.Prelude.{◌≡◌, true, false};
 ghost use Rattle.apfloat_model.specs.rounding.Flags.{bits_of};
-ghost use Rattle.apfloat_model.specs.rounding.Rounding.{ok_bits};
-ghost use Rattle.apfloat_model.specs.rounding.Negation.{negated};
-ghost use Rattle.apfloat_model.specs.arithmetic.Products.{IsProduct};
-ghost use Rattle.apfloat_model.specs.arithmetic.FusedSums.{IsFusedSum};
 ghost use Rattle.apfloat_model.specs.order.Classes.{is_finite, is_finite_non_zero};
 ghost use Rattle.apfloat_ieee.specs.FlaggedTypes.{format_of};
 ghost use Rattle.ieee_operations.specs.augmented.Augmented.{IsAugmentedProduct};
-ghost use Rattle.ieee_operations.specs.augmented.Numbers.{IsAugmentedNumber, IsNonzeroIn, IsTwiceLeft};
+ghost use Rattle.ieee_operations.specs.augmented.Numbers.{IsAugmentedNumber, IsNonzeroIn, IsNearProduct};
+ghost use Rattle.ieee_operations.specs.augmented.Numbers.{LeavesDigits, IsTwiceLeft};
 
 use crate::augmented::augmented::{Augmented, both, past_largest, with_rounded_tail};
 use crate::augmented::sums::{augmented_add, is_exactly, is_number, is_ok};
@@ -64,11 +59,8 @@ fn within_product<S: Flagged>(
     y: IeeeFloat<S>,
     near: IeeeFloat<S>,
 ) -> StatusAnd<Augmented<S>>
-    requires left { IsNonzeroIn (format_of S.Flagged) x }
-    requires right { IsNonzeroIn (format_of S.Flagged) y }
+    requires product { IsNearProduct (format_of S.Flagged) x y near }
     requires near { IsAugmentedNumber (format_of S.Flagged) near }
-    requires product { (status : ℕ)
-        × IsProduct (format_of S.Flagged) NearestTiesToEven x y near status }
     ensures { IsAugmentedProduct (format_of S.Flagged) x y result.value.head result.value.tail
         (bits_of result.status) }
 {
@@ -87,11 +79,8 @@ fn past_product<S: Flagged>(
     y: IeeeFloat<S>,
     near: IeeeFloat<S>,
 ) -> StatusAnd<Augmented<S>>
-    requires left { IsNonzeroIn (format_of S.Flagged) x }
-    requires right { IsNonzeroIn (format_of S.Flagged) y }
+    requires product { IsNearProduct (format_of S.Flagged) x y near }
     requires past { is_finite near ≡ false }
-    requires product { (status : ℕ)
-        × IsProduct (format_of S.Flagged) NearestTiesToEven x y near status }
     ensures { IsAugmentedProduct (format_of S.Flagged) x y result.value.head result.value.tail
         (bits_of result.status) }
 {
@@ -115,14 +104,9 @@ fn tiny_product<S: Flagged>(
     y: IeeeFloat<S>,
     near: IeeeFloat<S>,
 ) -> StatusAnd<Augmented<S>>
-    requires left { IsNonzeroIn (format_of S.Flagged) x }
-    requires right { IsNonzeroIn (format_of S.Flagged) y }
+    requires product { IsNearProduct (format_of S.Flagged) x y near }
     requires near { IsAugmentedNumber (format_of S.Flagged) near }
-    requires product { (status : ℕ)
-        × IsProduct (format_of S.Flagged) NearestTiesToEven x y near status }
-    requires lost { (rest : Datum) × (status : ℕ)
-        × IsFusedSum (format_of S.Flagged) NearestTiesToEven x y
-        (negated (format_of S.Flagged).nonfinite near) rest status × (status ≡ ok_bits → ⊥) }
+    requires lost { LeavesDigits (format_of S.Flagged) x y near }
     ensures { IsAugmentedProduct (format_of S.Flagged) x y result.value.head result.value.tail
         (bits_of result.status) }
 {

@@ -13,10 +13,10 @@ returns-then-is_ok g c =
     let short = c.wide_mul_r-largest.result in
     let rest = c.wide_mul_add_r-rest.result in
     let answer = c.augmented_add.result in
-    exact_product f c.args.x c.args.y short.value rest.value (bits_of rest.status) c.requires.left c.requires.right
-    (short_is_finite f r.precision c.args.x c.args.y c.args.near short.value c.requires.product.0
-    (bits_of short.status) c.requires.left c.requires.right c.requires.past c.requires.product.1
-    c.wide_mul_r-largest.ensures)
+    let finite = short_is_finite f r.precision c.args.x c.args.y c.args.near short.value (bits_of short.status)
+    c.requires.product c.requires.past c.wide_mul_r-largest.ensures in
+    exact_product f c.args.x c.args.y short.value rest.value (bits_of rest.status) c.requires.product.left
+    c.requires.product.right finite
     (rw c.neg.ensures at c.wide_mul_add_r-rest.ensures) (c.is_ok.ensures.yes c.if-is_ok.true) answer.value.head
     answer.value.tail (bits_of answer.status) c.augmented_add.ensures
 
@@ -27,8 +27,8 @@ returns-else-is_ok g c =
     let short = c.wide_mul_r-largest.result in
     let rest = c.wide_mul_add_r-rest.result in
     let answer = c.past_largest.result in
-    product_is_past f r.precision r.span c.args.x c.args.y c.args.near short.value rest.value c.requires.product.0
-    (bits_of short.status) (bits_of rest.status) c.requires.left c.requires.right c.requires.past
-    c.requires.product.1 c.wide_mul_r-largest.ensures (rw c.neg.ensures at c.wide_mul_add_r-rest.ensures)
+    product_is_past f r.precision r.span c.args.x c.args.y c.args.near short.value rest.value (bits_of short.status)
+    (bits_of rest.status) c.requires.product c.requires.past c.wide_mul_r-largest.ensures
+    (rw c.neg.ensures at c.wide_mul_add_r-rest.ensures)
     (λ o. false≢true (sym c.if-is_ok.false ∙ c.is_ok.ensures.no o)) answer.value.head answer.value.tail
     (bits_of answer.status) c.past_largest.ensures.head c.past_largest.ensures.tail c.past_largest.ensures.status

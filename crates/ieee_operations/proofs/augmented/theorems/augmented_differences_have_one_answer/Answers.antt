@@ -1,5 +1,5 @@
-use Rattle.ieee_operations.proofs.augmented_lemmas.AugmentedOnce.{augmented_difference_once}
+use Rattle.ieee_operations.proofs.augmented_lemmas.AugmentedOnce.{each_once}
 use Rattle.ieee_operations.proofs.augmented.theorems.augmented_differences_have_one_answer.Goals as goal
 
 pub returns : goal.returns
-returns c = augmented_difference_once
+returns c = λ f. (each_once f).difference
