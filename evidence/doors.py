@@ -17,7 +17,7 @@ PAGE = TOP / 'docs' / 'LIBRARY.md'
 WAYS = {
     'Proved library': ('crates/*/src/**/*.rt', (r'^\s*pub (?:fn|struct|enum|trait) NAME\b', r'^    fn NAME\(')),
     'Rust crate': ('rust/rustc_apfloat/src/*.rs', (r'^\s*(?:pub )?(?:fn|struct|enum|trait) NAME\b', r'^    NAME \{ ')),
-    'C': ('include/apfloat.h', (r'^uint32_t NAME\(', r'^#define NAME ')),
+    'C': ('include/apfloat.h', (r'^apfloat_error NAME\(', r'^    NAME = ')),
     'C++': ('include/apfloat.hpp',
             (r'^\s*(?:class|struct) NAME\b', r'^[^/=(]*[>&* ]NAME\(', r'`NAME`', r'std::NAME\b')),
     'Python': ('python/apfloat.py', (r'^\s*(?:def|class) NAME\b',)),

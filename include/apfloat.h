@@ -61,69 +61,106 @@ typedef struct apfloat_answer {
     int32_t number;      /* an extra result; see the functions that set it */
 } apfloat_answer;
 
+/* The codes of each kind have a type of their own, of 32 bits: a code of another kind is a warning of -Wextra in C
+ * (-Wenum-conversion), and an error in C++. The last name of each type is no code; it is there for its width. */
+#ifdef __cplusplus
+#define APFLOAT_CODE : uint32_t
+#else
+#define APFLOAT_CODE
+#endif
+
 /* Formats. */
-#define APFLOAT_HALF UINT32_C(1)       /* binary16 */
-#define APFLOAT_SINGLE UINT32_C(2)     /* binary32 */
-#define APFLOAT_DOUBLE UINT32_C(3)     /* binary64 */
-#define APFLOAT_QUAD UINT32_C(4)       /* binary128 */
-#define APFLOAT_BFLOAT UINT32_C(5)     /* the upper half of a binary32 */
-#define APFLOAT_E5M2 UINT32_C(6)       /* 8 bits with the exponents of binary16 */
-#define APFLOAT_E4M3FN UINT32_C(7)     /* 8 bits without infinities */
-#define APFLOAT_E4M3FNUZ UINT32_C(8)   /* 8 bits without infinities and without -0 */
-#define APFLOAT_X87 UINT32_C(9)        /* the 80 bits of the x87 */
-#define APFLOAT_DOUBLE_PAIR UINT32_C(10) /* pairs of doubles, IBM's extended double */
-#define APFLOAT_E4M3 UINT32_C(16)        /* 8 bits, 4 of them the exponent, with infinities */
-#define APFLOAT_E5M2FNUZ UINT32_C(17)    /* 8 bits, 5 of them the exponent, without infinities and without -0 */
-#define APFLOAT_E4M3B11FNUZ UINT32_C(18) /* 8 bits, 4 of them the exponent, of bias 11, without infinities and -0 */
-#define APFLOAT_TF32 UINT32_C(19)        /* 19 bits: the exponents of binary32 and the digits of binary16 */
+typedef enum apfloat_format APFLOAT_CODE {
+    APFLOAT_HALF = 1,         /* binary16 */
+    APFLOAT_SINGLE = 2,       /* binary32 */
+    APFLOAT_DOUBLE = 3,       /* binary64 */
+    APFLOAT_QUAD = 4,         /* binary128 */
+    APFLOAT_BFLOAT = 5,       /* the upper half of a binary32 */
+    APFLOAT_E5M2 = 6,         /* 8 bits with the exponents of binary16 */
+    APFLOAT_E4M3FN = 7,       /* 8 bits without infinities */
+    APFLOAT_E4M3FNUZ = 8,     /* 8 bits without infinities and without -0 */
+    APFLOAT_X87 = 9,          /* the 80 bits of the x87 */
+    APFLOAT_DOUBLE_PAIR = 10, /* pairs of doubles, IBM's extended double */
+    APFLOAT_E4M3 = 16,        /* 8 bits, 4 of them the exponent, with infinities */
+    APFLOAT_E5M2FNUZ = 17,    /* 8 bits, 5 of them the exponent, without infinities and without -0 */
+    APFLOAT_E4M3B11FNUZ = 18, /* 8 bits, 4 of them the exponent, of bias 11, without infinities and -0 */
+    APFLOAT_TF32 = 19,        /* 19 bits: the exponents of binary32 and the digits of binary16 */
 
-/* Storage formats, of apfloat_convert_array, of blocks and of the functions on storage formats alone (docs/FORMATS.md):
- * for all other functions these codes are unknown. */
-#define APFLOAT_E2M1FN UINT32_C(32)  /* 4 bits: 0, 0.5, 1, 1.5, 2, 3, 4, 6 and their negatives */
-#define APFLOAT_E2M3FN UINT32_C(33)  /* 6 bits, 2 of them the exponent, to 7.5 */
-#define APFLOAT_E3M2FN UINT32_C(34)  /* 6 bits, 3 of them the exponent, to 28 */
-#define APFLOAT_E3M4 UINT32_C(35)    /* 8 bits, 3 of them the exponent, with infinities */
-#define APFLOAT_E8M0FNU UINT32_C(48) /* 8 bits: the powers of two from 2^-127 to 2^127, and a NaN; no sign, no zero */
-#define APFLOAT_UE4M3 UINT32_C(49)   /* 7 bits: the numbers of APFLOAT_E4M3FN that are not below zero, and a NaN */
+    /* Storage formats, of apfloat_convert_array, of blocks and of the functions on storage formats alone
+     * (docs/FORMATS.md): for all other functions these codes are unknown. */
+    APFLOAT_E2M1FN = 32,  /* 4 bits: 0, 0.5, 1, 1.5, 2, 3, 4, 6 and their negatives */
+    APFLOAT_E2M3FN = 33,  /* 6 bits, 2 of them the exponent, to 7.5 */
+    APFLOAT_E3M2FN = 34,  /* 6 bits, 3 of them the exponent, to 28 */
+    APFLOAT_E3M4 = 35,    /* 8 bits, 3 of them the exponent, with infinities */
+    APFLOAT_E8M0FNU = 48, /* 8 bits: the powers of two from 2^-127 to 2^127, and a NaN; no sign, no zero */
+    APFLOAT_UE4M3 = 49,   /* 7 bits: the numbers of APFLOAT_E4M3FN that are not below zero, and a NaN */
 
-/* Joined to the code of a format by |, these choose by which rule its roundings raise APFLOAT_OVERFLOW and
- * APFLOAT_UNDERFLOW. No value depends on the rule. Without them, a result that a mode rounds to the largest value
- * raises no APFLOAT_OVERFLOW, and an inexact result raises APFLOAT_UNDERFLOW if it is below the smallest normal number
- * once it is rounded to the format. With the first, APFLOAT_OVERFLOW is raised wherever the result, rounded with an
- * unbounded exponent, is past the largest value (IEEE 754-2019 7.4), and APFLOAT_UNDERFLOW if an inexact result is
- * below the smallest normal number when it is rounded with an unbounded exponent, as x86 and RISC-V have it, or, with
- * both, before it is rounded, as Arm and POWER have it (7.5). APFLOAT_E4M3FN, APFLOAT_E4M3FNUZ, APFLOAT_DOUBLE_PAIR
- * and the formats after it have no such choice. Joined to their codes, or the second without the first, these make an
- * unknown format. In a conversion, the rule of `to` counts. */
-#define APFLOAT_IEEE_FLAGS UINT32_C(0x100)
-#define APFLOAT_TINY_BEFORE_ROUNDING UINT32_C(0x200)
+    /* Joined to the code of a format by |, these choose by which rule its roundings raise APFLOAT_OVERFLOW and
+     * APFLOAT_UNDERFLOW. No value depends on the rule. Without them, a result that a mode rounds to the largest value
+     * raises no APFLOAT_OVERFLOW, and an inexact result raises APFLOAT_UNDERFLOW if it is below the smallest normal
+     * number once it is rounded to the format. With the first, APFLOAT_OVERFLOW is raised wherever the result, rounded
+     * with an unbounded exponent, is past the largest value (IEEE 754-2019 7.4), and APFLOAT_UNDERFLOW if an inexact
+     * result is below the smallest normal number when it is rounded with an unbounded exponent, as x86 and RISC-V have
+     * it, or, with both, before it is rounded, as Arm and POWER have it (7.5). APFLOAT_E4M3FN, APFLOAT_E4M3FNUZ,
+     * APFLOAT_DOUBLE_PAIR and the formats after it have no such choice. Joined to their codes, or the second without
+     * the first, these make an unknown format. In a conversion, the rule of `to` counts. */
+    APFLOAT_IEEE_FLAGS = 0x100,
+    APFLOAT_TINY_BEFORE_ROUNDING = 0x200,
+    APFLOAT_FORMAT_BITS = 0x7fffffff
+} apfloat_format;
 
 /* Rounding modes (IEEE 754-2019 4.3). */
-#define APFLOAT_NEAREST_EVEN UINT32_C(0) /* to the nearest value, ties to even */
-#define APFLOAT_UPWARD UINT32_C(1)       /* toward positive infinity */
-#define APFLOAT_DOWNWARD UINT32_C(2)     /* toward negative infinity */
-#define APFLOAT_TOWARD_ZERO UINT32_C(3)
-#define APFLOAT_NEAREST_AWAY UINT32_C(4) /* to the nearest value, ties away from zero */
+typedef enum apfloat_mode APFLOAT_CODE {
+    APFLOAT_NEAREST_EVEN = 0, /* to the nearest value, ties to even */
+    APFLOAT_UPWARD = 1,       /* toward positive infinity */
+    APFLOAT_DOWNWARD = 2,     /* toward negative infinity */
+    APFLOAT_TOWARD_ZERO = 3,
+    APFLOAT_NEAREST_AWAY = 4, /* to the nearest value, ties away from zero */
+
+    /* Joined to the mode of apfloat_convert_array by |: a number that is past the largest value of `to` once it is
+     * rounded gives the largest value of its sign, with the same flags as without this. Infinities are converted as
+     * without it, in a format without infinities to a NaN. The modes of apfloat_to_storage and apfloat_from_storage may
+     * have it too; in those of all other functions it makes an unknown mode. */
+    APFLOAT_SATURATE = 0x100,
+
+    /* The same, and an infinity gives the largest value of its sign, with APFLOAT_INEXACT: the saturation of the OCP's
+     * 8-bit formats. NaNs are converted as without it; with APFLOAT_SATURATE_ALL they give the largest value, sign
+     * plus, with APFLOAT_INVALID_OP. What is below zero is a NaN in APFLOAT_E8M0FNU and APFLOAT_UE4M3 with any of
+     * these. */
+    APFLOAT_SATURATE_FINITE = 0x300,
+    APFLOAT_SATURATE_ALL = 0x700,
+
+    /* Of apfloat_to_storage_by and apfloat_convert_array_by alone. */
+    APFLOAT_TO_ODD = 5,
+    APFLOAT_RANDOM_DIGITS = 6,
+    APFLOAT_MODE_BITS = 0x7fffffff
+} apfloat_mode;
 
 /* Flags (IEEE 754-2019 7). */
-#define APFLOAT_INVALID_OP UINT32_C(0x01)
-#define APFLOAT_DIV_BY_ZERO UINT32_C(0x02)
-#define APFLOAT_OVERFLOW UINT32_C(0x04)
-#define APFLOAT_UNDERFLOW UINT32_C(0x08)
-#define APFLOAT_INEXACT UINT32_C(0x10)
+typedef enum apfloat_flag APFLOAT_CODE {
+    APFLOAT_INVALID_OP = 0x01,
+    APFLOAT_DIV_BY_ZERO = 0x02,
+    APFLOAT_OVERFLOW = 0x04,
+    APFLOAT_UNDERFLOW = 0x08,
+    APFLOAT_INEXACT = 0x10,
+    APFLOAT_FLAG_BITS = 0x7fffffff
+} apfloat_flag;
 
 /* What a function returns. */
-#define APFLOAT_ANSWERED UINT32_C(0)
-#define APFLOAT_UNKNOWN_FORMAT UINT32_C(1)    /* of the operands, or, after the mode, of a conversion's target */
-#define APFLOAT_UNKNOWN_MODE UINT32_C(2)
-#define APFLOAT_NO_SUCH_OPERATION UINT32_C(3) /* the format does not have the operation */
-#define APFLOAT_WRONG_WIDTH UINT32_C(4)       /* of an integer */
-#define APFLOAT_REFUSED_TEXT UINT32_C(5)      /* the text has no meaning */
-#define APFLOAT_WRONG_LENGTH UINT32_C(6)      /* of an array */
-#define APFLOAT_UNKNOWN_ERROR UINT32_C(7)     /* of a code: apfloat_error_text alone returns it */
-#define APFLOAT_UNKNOWN_MACHINE UINT32_C(8)
-#define APFLOAT_WIDE_OPERAND UINT32_C(9)      /* bits at or above the width of its format are set */
-#define APFLOAT_LACKING_OPERATION UINT32_C(10) /* the machine does not have the operation */
+typedef enum apfloat_error APFLOAT_CODE {
+    APFLOAT_ANSWERED = 0,
+    APFLOAT_UNKNOWN_FORMAT = 1,     /* of the operands, or, after the mode, of a conversion's target */
+    APFLOAT_UNKNOWN_MODE = 2,
+    APFLOAT_NO_SUCH_OPERATION = 3,  /* the format does not have the operation */
+    APFLOAT_WRONG_WIDTH = 4,        /* of an integer */
+    APFLOAT_REFUSED_TEXT = 5,       /* the text has no meaning */
+    APFLOAT_WRONG_LENGTH = 6,       /* of an array */
+    APFLOAT_UNKNOWN_ERROR = 7,      /* of a code: apfloat_error_text alone returns it */
+    APFLOAT_UNKNOWN_MACHINE = 8,
+    APFLOAT_WIDE_OPERAND = 9,       /* bits at or above the width of its format are set */
+    APFLOAT_LACKING_OPERATION = 10, /* the machine does not have the operation */
+    APFLOAT_ERROR_BITS = 0x7fffffff
+} apfloat_error;
 
 /* What these functions say of results holds in all formats but APFLOAT_DOUBLE_PAIR. There sums, differences and
  * products are chains of operations on doubles, each of which rounds. Signs, orders, classes, exponents, scaling and
@@ -133,62 +170,73 @@ typedef struct apfloat_answer {
  * one above 1 in the wide format. */
 
 /* Operations on two values, rounded once: x + y, x - y, x * y, x / y. */
-uint32_t apfloat_add(uint32_t format, uint32_t mode, apfloat_halves x, apfloat_halves y, apfloat_answer *answer);
-uint32_t apfloat_sub(uint32_t format, uint32_t mode, apfloat_halves x, apfloat_halves y, apfloat_answer *answer);
-uint32_t apfloat_mul(uint32_t format, uint32_t mode, apfloat_halves x, apfloat_halves y, apfloat_answer *answer);
-uint32_t apfloat_div(uint32_t format, uint32_t mode, apfloat_halves x, apfloat_halves y, apfloat_answer *answer);
+apfloat_error apfloat_add(apfloat_format format, apfloat_mode mode, apfloat_halves x, apfloat_halves y,
+                          apfloat_answer *answer);
+apfloat_error apfloat_sub(apfloat_format format, apfloat_mode mode, apfloat_halves x, apfloat_halves y,
+                          apfloat_answer *answer);
+apfloat_error apfloat_mul(apfloat_format format, apfloat_mode mode, apfloat_halves x, apfloat_halves y,
+                          apfloat_answer *answer);
+apfloat_error apfloat_div(apfloat_format format, apfloat_mode mode, apfloat_halves x, apfloat_halves y,
+                          apfloat_answer *answer);
 
 /* x * y + z, rounded once. APFLOAT_DOUBLE_PAIR does not have it, but apfloat_pair_fma. */
-uint32_t apfloat_fma(uint32_t format, uint32_t mode, apfloat_halves x, apfloat_halves y, apfloat_halves z,
-                     apfloat_answer *answer);
+apfloat_error apfloat_fma(apfloat_format format, apfloat_mode mode, apfloat_halves x, apfloat_halves y,
+                          apfloat_halves z, apfloat_answer *answer);
 
 /* The square root of x, rounded once (IEEE 754-2019 5.4.1): -0 gives -0, and a value below zero a NaN with
  * APFLOAT_INVALID_OP. */
-uint32_t apfloat_sqrt(uint32_t format, uint32_t mode, apfloat_halves x, apfloat_answer *answer);
+apfloat_error apfloat_sqrt(apfloat_format format, apfloat_mode mode, apfloat_halves x, apfloat_answer *answer);
 
 /* The remainder of x by y: with the quotient rounded to the nearest integer, like remainder() in C, and with the
  * quotient truncated toward zero, like fmod(). */
-uint32_t apfloat_rem(uint32_t format, apfloat_halves x, apfloat_halves y, apfloat_answer *answer);
-uint32_t apfloat_mod(uint32_t format, apfloat_halves x, apfloat_halves y, apfloat_answer *answer);
+apfloat_error apfloat_rem(apfloat_format format, apfloat_halves x, apfloat_halves y, apfloat_answer *answer);
+apfloat_error apfloat_mod(apfloat_format format, apfloat_halves x, apfloat_halves y, apfloat_answer *answer);
 
 /* The value of `format` in the format `to`, rounded once; `number` is 1 if information was lost, else 0. There is no
  * conversion from or to APFLOAT_DOUBLE_PAIR here; see apfloat_pair_to_format. */
-uint32_t apfloat_convert(uint32_t format, uint32_t mode, uint32_t to, apfloat_halves x, apfloat_answer *answer);
+apfloat_error apfloat_convert(apfloat_format format, apfloat_mode mode, apfloat_format to, apfloat_halves x,
+                              apfloat_answer *answer);
 
 /* The value of an integer, rounded once. */
-uint32_t apfloat_from_u128(uint32_t format, uint32_t mode, apfloat_halves number, apfloat_answer *answer);
-uint32_t apfloat_from_i128(uint32_t format, uint32_t mode, apfloat_halves number, apfloat_answer *answer);
+apfloat_error apfloat_from_u128(apfloat_format format, apfloat_mode mode, apfloat_halves number,
+                                apfloat_answer *answer);
+apfloat_error apfloat_from_i128(apfloat_format format, apfloat_mode mode, apfloat_halves number,
+                                apfloat_answer *answer);
 
 /* A value rounded to an integer of `width` binary digits: 1 to 128 if unsigned, 2 to 128 if signed. `bits` is the
  * integer, and `number` is 1 if that equals the value, else 0; for -0 it is 0. A value out of range gives the nearer
  * end of the range, and a NaN gives 0, both with APFLOAT_INVALID_OP. */
-uint32_t apfloat_to_u128(uint32_t format, uint32_t mode, apfloat_halves x, uint32_t width, apfloat_answer *answer);
-uint32_t apfloat_to_i128(uint32_t format, uint32_t mode, apfloat_halves x, uint32_t width, apfloat_answer *answer);
+apfloat_error apfloat_to_u128(apfloat_format format, apfloat_mode mode, apfloat_halves x, uint32_t width,
+                              apfloat_answer *answer);
+apfloat_error apfloat_to_i128(apfloat_format format, apfloat_mode mode, apfloat_halves x, uint32_t width,
+                              apfloat_answer *answer);
 
 /* A value rounded to an integral value. */
-uint32_t apfloat_round_to_integral(uint32_t format, uint32_t mode, apfloat_halves x, apfloat_answer *answer);
+apfloat_error apfloat_round_to_integral(apfloat_format format, apfloat_mode mode, apfloat_halves x,
+                                        apfloat_answer *answer);
 
 /* x times 2 to the power of `power`, rounded once; no flags are reported. */
-uint32_t apfloat_scalbn(uint32_t format, uint32_t mode, apfloat_halves x, int32_t power, apfloat_answer *answer);
+apfloat_error apfloat_scalbn(apfloat_format format, apfloat_mode mode, apfloat_halves x, int32_t power,
+                             apfloat_answer *answer);
 
 /* `number` is the exponent of the highest binary digit; INT32_MAX for an infinity, INT32_MIN for a NaN and -INT32_MAX
  * for a zero. */
-uint32_t apfloat_ilogb(uint32_t format, apfloat_halves x, apfloat_answer *answer);
+apfloat_error apfloat_ilogb(apfloat_format format, apfloat_halves x, apfloat_answer *answer);
 
 /* The fraction, with magnitude from 0.5 to below 1, and its exponent in `number`: 0 for a zero, INT32_MAX for an
  * infinity, INT32_MIN for a NaN. Only pairs of doubles use the mode, for their low part. */
-uint32_t apfloat_frexp(uint32_t format, uint32_t mode, apfloat_halves x, apfloat_answer *answer);
+apfloat_error apfloat_frexp(apfloat_format format, apfloat_mode mode, apfloat_halves x, apfloat_answer *answer);
 
 /* The least value above x, and the greatest value below it. */
-uint32_t apfloat_next_up(uint32_t format, apfloat_halves x, apfloat_answer *answer);
-uint32_t apfloat_next_down(uint32_t format, apfloat_halves x, apfloat_answer *answer);
+apfloat_error apfloat_next_up(apfloat_format format, apfloat_halves x, apfloat_answer *answer);
+apfloat_error apfloat_next_down(apfloat_format format, apfloat_halves x, apfloat_answer *answer);
 
 /* `number` is one of these. No flag is raised, not even by a signaling NaN. */
 #define APFLOAT_LESS (-1)
 #define APFLOAT_EQUAL 0
 #define APFLOAT_GREATER 1
 #define APFLOAT_UNORDERED 2
-uint32_t apfloat_compare(uint32_t format, apfloat_halves x, apfloat_halves y, apfloat_answer *answer);
+apfloat_error apfloat_compare(apfloat_format format, apfloat_halves x, apfloat_halves y, apfloat_answer *answer);
 
 /* `number` is one of these (IEEE 754-2019 5.7.2). */
 #define APFLOAT_SIGNALING_NAN 0
@@ -201,7 +249,7 @@ uint32_t apfloat_compare(uint32_t format, apfloat_halves x, apfloat_halves y, ap
 #define APFLOAT_POSITIVE_SUBNORMAL 7
 #define APFLOAT_POSITIVE_NORMAL 8
 #define APFLOAT_POSITIVE_INFINITY 9
-uint32_t apfloat_classify(uint32_t format, apfloat_halves x, apfloat_answer *answer);
+apfloat_error apfloat_classify(apfloat_format format, apfloat_halves x, apfloat_answer *answer);
 
 /* ---- signs, minima and maxima, NaNs
  *
@@ -210,45 +258,46 @@ uint32_t apfloat_classify(uint32_t format, apfloat_halves x, apfloat_answer *ans
 
 /* `number` is 1 if x has a minus sign, else 0 (IEEE 754-2019 5.7.2, isSignMinus): also for a NaN, whose class does not
  * show its sign. */
-uint32_t apfloat_is_negative(uint32_t format, apfloat_halves x, apfloat_answer *answer);
+apfloat_error apfloat_is_negative(apfloat_format format, apfloat_halves x, apfloat_answer *answer);
 
 /* x with the opposite sign, without a sign, and with the sign of y (IEEE 754-2019 5.5.1). Any of them may be a NaN. In
  * APFLOAT_E4M3FNUZ zero and the NaN have no sign. A pair of doubles has the sign of its high part. */
-uint32_t apfloat_neg(uint32_t format, apfloat_halves x, apfloat_answer *answer);
-uint32_t apfloat_abs(uint32_t format, apfloat_halves x, apfloat_answer *answer);
-uint32_t apfloat_copy_sign(uint32_t format, apfloat_halves x, apfloat_halves y, apfloat_answer *answer);
+apfloat_error apfloat_neg(apfloat_format format, apfloat_halves x, apfloat_answer *answer);
+apfloat_error apfloat_abs(apfloat_format format, apfloat_halves x, apfloat_answer *answer);
+apfloat_error apfloat_copy_sign(apfloat_format format, apfloat_halves x, apfloat_halves y, apfloat_answer *answer);
 
 /* The lesser and the greater of two values (IEEE 754-2008 5.3.1, minNum and maxNum, but with a signaling NaN taken as a
  * quiet one), like fmin() and fmax() in C: y if x is a NaN, x if y is one, and x if the two are equal, as zeros of
  * opposite signs are. */
-uint32_t apfloat_min(uint32_t format, apfloat_halves x, apfloat_halves y, apfloat_answer *answer);
-uint32_t apfloat_max(uint32_t format, apfloat_halves x, apfloat_halves y, apfloat_answer *answer);
+apfloat_error apfloat_min(apfloat_format format, apfloat_halves x, apfloat_halves y, apfloat_answer *answer);
+apfloat_error apfloat_max(apfloat_format format, apfloat_halves x, apfloat_halves y, apfloat_answer *answer);
 
 /* The same, but a NaN if x or y is one, and -0 is below +0 (IEEE 754-2019 9.6, minimum and maximum, but the first NaN
  * is unchanged, and a signaling one raises no flag). */
-uint32_t apfloat_minimum(uint32_t format, apfloat_halves x, apfloat_halves y, apfloat_answer *answer);
-uint32_t apfloat_maximum(uint32_t format, apfloat_halves x, apfloat_halves y, apfloat_answer *answer);
+apfloat_error apfloat_minimum(apfloat_format format, apfloat_halves x, apfloat_halves y, apfloat_answer *answer);
+apfloat_error apfloat_maximum(apfloat_format format, apfloat_halves x, apfloat_halves y, apfloat_answer *answer);
 
 /* The quiet NaN and the signaling NaN with this payload, of which the bits that the format has room for are taken
  * (IEEE 754-2019 6.2.1); negative if `negative` is not 0. A signaling NaN whose payload would be 0 has the highest bit
  * of a payload set. APFLOAT_E4M3FN has only a quiet NaN of each sign, and APFLOAT_E4M3FNUZ only one NaN. In a pair of
  * doubles the high part is the NaN, and the low part 0. */
-uint32_t apfloat_qnan(uint32_t format, uint32_t negative, apfloat_halves payload, apfloat_answer *answer);
-uint32_t apfloat_snan(uint32_t format, uint32_t negative, apfloat_halves payload, apfloat_answer *answer);
+apfloat_error apfloat_qnan(apfloat_format format, uint32_t negative, apfloat_halves payload, apfloat_answer *answer);
+apfloat_error apfloat_snan(apfloat_format format, uint32_t negative, apfloat_halves payload, apfloat_answer *answer);
 
 /* The value of a text of `length` bytes, rounded once: a hexadecimal number such as -0x1.8p-1, an infinity or a NaN.
  * An infinity is one of inf, INFINITY, +Inf, -inf, -INFINITY and -Inf (not Infinity). A NaN is nan or NaN, after s or S
  * if it is signaling, and after - if it is negative; a payload may follow, with or without parentheses, as in nan(0x7).
  * Decimal numbers, texts without a meaning, and texts with a byte above 127 are refused. Decimal numbers are read by
  * apfloat_parse_decimal. */
-uint32_t apfloat_parse(uint32_t format, uint32_t mode, const uint8_t *text, size_t length, apfloat_answer *answer);
+apfloat_error apfloat_parse(apfloat_format format, apfloat_mode mode, const uint8_t *text, size_t length,
+                            apfloat_answer *answer);
 
 /* The same, and of a decimal number such as -0.1 or 1e-7 the value that it spells, rounded once, whatever its length
  * and its exponent: digits with at most one dot, after an optional sign, and an exponent after e or E if there is one,
  * with an optional sign (IEEE 754-2019 5.12.2). A pair of doubles is the value of 106 binary digits, split into two
  * doubles. Formats with APFLOAT_IEEE_FLAGS do not have it, but apfloat_read_decimal. */
-uint32_t apfloat_parse_decimal(uint32_t format, uint32_t mode, const uint8_t *text, size_t length,
-                               apfloat_answer *answer);
+apfloat_error apfloat_parse_decimal(apfloat_format format, apfloat_mode mode, const uint8_t *text, size_t length,
+                                    apfloat_answer *answer);
 
 /* A text of less than 64 bytes. The bytes after it are 0, so `bytes` is a string of C. */
 typedef struct apfloat_text {
@@ -261,11 +310,11 @@ typedef struct apfloat_text {
  * 1.5e21: with an exponent unless that of the first digit is from -6 to 20, and otherwise with at least one digit on
  * each side of the dot. A zero is 0.0 or -0.0, an infinity inf or -inf, and every NaN nan. APFLOAT_DOUBLE_PAIR does not
  * have it, but apfloat_pair_shortest. On an error, *text is unchanged; the rules for `answer` hold for `text` too. */
-uint32_t apfloat_shortest(uint32_t format, apfloat_halves x, apfloat_text *text);
+apfloat_error apfloat_shortest(apfloat_format format, apfloat_halves x, apfloat_text *text);
 
 /* A text for what a function returned, such as "unknown format"; APFLOAT_ANSWERED has one too. For a number that is no
  * code, APFLOAT_UNKNOWN_ERROR is returned, and *text is unchanged. The rules for `answer` hold for `text`. */
-uint32_t apfloat_error_text(uint32_t error, apfloat_text *text);
+apfloat_error apfloat_error_text(apfloat_error error, apfloat_text *text);
 
 /* The version of the library: 1,000,000 times its major number, plus 1,000 times the minor one, plus the patch. */
 uint32_t apfloat_version(void);
@@ -277,60 +326,74 @@ uint32_t apfloat_version(void);
 
 /* `number` is 1 if the predicate holds of x and y, else 0 (5.6.1, 5.11). The only flag is APFLOAT_INVALID_OP: raised if
  * an operand is a signaling NaN, and, with APFLOAT_SIGNALING, if it is any NaN. */
-#define APFLOAT_IS_EQUAL UINT32_C(0)
-#define APFLOAT_IS_NOT_EQUAL UINT32_C(1)
-#define APFLOAT_IS_GREATER UINT32_C(2)
-#define APFLOAT_IS_GREATER_EQUAL UINT32_C(3)
-#define APFLOAT_IS_LESS UINT32_C(4)
-#define APFLOAT_IS_LESS_EQUAL UINT32_C(5)
-#define APFLOAT_IS_NOT_GREATER UINT32_C(6)
-#define APFLOAT_IS_LESS_UNORDERED UINT32_C(7)
-#define APFLOAT_IS_NOT_LESS UINT32_C(8)
-#define APFLOAT_IS_GREATER_UNORDERED UINT32_C(9)
-#define APFLOAT_IS_UNORDERED UINT32_C(10)
-#define APFLOAT_IS_ORDERED UINT32_C(11)
-#define APFLOAT_QUIET UINT32_C(0)
-#define APFLOAT_SIGNALING UINT32_C(1)
-uint32_t apfloat_compare_predicate(uint32_t format, uint32_t predicate, uint32_t on_nan, apfloat_halves x,
-                                   apfloat_halves y, apfloat_answer *answer);
+typedef enum apfloat_predicate APFLOAT_CODE {
+    APFLOAT_IS_EQUAL = 0,
+    APFLOAT_IS_NOT_EQUAL = 1,
+    APFLOAT_IS_GREATER = 2,
+    APFLOAT_IS_GREATER_EQUAL = 3,
+    APFLOAT_IS_LESS = 4,
+    APFLOAT_IS_LESS_EQUAL = 5,
+    APFLOAT_IS_NOT_GREATER = 6,
+    APFLOAT_IS_LESS_UNORDERED = 7,
+    APFLOAT_IS_NOT_LESS = 8,
+    APFLOAT_IS_GREATER_UNORDERED = 9,
+    APFLOAT_IS_UNORDERED = 10,
+    APFLOAT_IS_ORDERED = 11,
+    APFLOAT_PREDICATE_BITS = 0x7fffffff
+} apfloat_predicate;
+typedef enum apfloat_on_nan APFLOAT_CODE {
+    APFLOAT_QUIET = 0,
+    APFLOAT_SIGNALING = 1,
+    APFLOAT_ON_NAN_BITS = 0x7fffffff
+} apfloat_on_nan;
+apfloat_error apfloat_compare_predicate(apfloat_format format, apfloat_predicate predicate, apfloat_on_nan on_nan,
+                                        apfloat_halves x, apfloat_halves y, apfloat_answer *answer);
 
 /* `number` is APFLOAT_LESS, APFLOAT_EQUAL or APFLOAT_GREATER: the place of x beside y in the total order (5.10), in
  * which -0 is below +0, negative NaNs are below all numbers, and positive ones above. totalOrder holds if it is not
  * APFLOAT_GREATER. No flag is raised. */
-uint32_t apfloat_total_order(uint32_t format, apfloat_halves x, apfloat_halves y, apfloat_answer *answer);
+apfloat_error apfloat_total_order(apfloat_format format, apfloat_halves x, apfloat_halves y, apfloat_answer *answer);
 
 /* The minimum or maximum of x and y, with -0 below +0 (9.6). Of a NaN and a number it is the number if `prefers_number`
  * is not 0, as in minimumNumber, and otherwise a quiet NaN; of two NaNs the first one, quiet. APFLOAT_INVALID_OP is
  * raised if an operand is a signaling NaN. */
-#define APFLOAT_MINIMUM UINT32_C(0)
-#define APFLOAT_MAXIMUM UINT32_C(1)
-#define APFLOAT_MINIMUM_MAGNITUDE UINT32_C(2)
-#define APFLOAT_MAXIMUM_MAGNITUDE UINT32_C(3)
-uint32_t apfloat_extremum(uint32_t format, uint32_t which, uint32_t prefers_number, apfloat_halves x,
-                          apfloat_halves y, apfloat_answer *answer);
+typedef enum apfloat_extremum_kind APFLOAT_CODE {
+    APFLOAT_MINIMUM = 0,
+    APFLOAT_MAXIMUM = 1,
+    APFLOAT_MINIMUM_MAGNITUDE = 2,
+    APFLOAT_MAXIMUM_MAGNITUDE = 3,
+    APFLOAT_EXTREMUM_KIND_BITS = 0x7fffffff
+} apfloat_extremum_kind;
+apfloat_error apfloat_extremum(apfloat_format format, apfloat_extremum_kind which, uint32_t prefers_number,
+                               apfloat_halves x, apfloat_halves y, apfloat_answer *answer);
 
 /* The exponent of the highest binary digit of x, as a value (5.3.3, logB), rounded once. A zero gives the negative
  * infinity, or the NaN in its place, with APFLOAT_DIV_BY_ZERO, and an infinity the positive one. */
-uint32_t apfloat_log_b(uint32_t format, uint32_t mode, apfloat_halves x, apfloat_answer *answer);
+apfloat_error apfloat_log_b(apfloat_format format, apfloat_mode mode, apfloat_halves x, apfloat_answer *answer);
 
 /* The value of apfloat_scalbn, with its flags (5.3.3, scaleB). */
-uint32_t apfloat_scale_b(uint32_t format, uint32_t mode, apfloat_halves x, int32_t power, apfloat_answer *answer);
+apfloat_error apfloat_scale_b(apfloat_format format, apfloat_mode mode, apfloat_halves x, int32_t power,
+                              apfloat_answer *answer);
 
 /* The value of apfloat_round_to_integral, without APFLOAT_INEXACT (5.9). */
-uint32_t apfloat_integral(uint32_t format, uint32_t mode, apfloat_halves x, apfloat_answer *answer);
+apfloat_error apfloat_integral(apfloat_format format, apfloat_mode mode, apfloat_halves x, apfloat_answer *answer);
 
 /* An operation on values of `format`, rounded once to the format `target`, with the flags of that rounding (5.4.1,
  * formatOf): x + y, x - y, x * y, x / y, x * y + z or the square root of x. Operands that it does not take are ignored.
  * The errors are those of both formats, of the mode, and of the operation, in this order; the rule of flags is that of
  * `target`. */
-#define APFLOAT_SUM_TO UINT32_C(0)
-#define APFLOAT_DIFFERENCE_TO UINT32_C(1)
-#define APFLOAT_PRODUCT_TO UINT32_C(2)
-#define APFLOAT_QUOTIENT_TO UINT32_C(3)
-#define APFLOAT_FUSED_SUM_TO UINT32_C(4)
-#define APFLOAT_ROOT_TO UINT32_C(5)
-uint32_t apfloat_to_format(uint32_t operation, uint32_t format, uint32_t mode, uint32_t target, apfloat_halves x,
-                           apfloat_halves y, apfloat_halves z, apfloat_answer *answer);
+typedef enum apfloat_operation_to APFLOAT_CODE {
+    APFLOAT_SUM_TO = 0,
+    APFLOAT_DIFFERENCE_TO = 1,
+    APFLOAT_PRODUCT_TO = 2,
+    APFLOAT_QUOTIENT_TO = 3,
+    APFLOAT_FUSED_SUM_TO = 4,
+    APFLOAT_ROOT_TO = 5,
+    APFLOAT_OPERATION_TO_BITS = 0x7fffffff
+} apfloat_operation_to;
+apfloat_error apfloat_to_format(apfloat_operation_to operation, apfloat_format format, apfloat_mode mode,
+                                apfloat_format target, apfloat_halves x, apfloat_halves y, apfloat_halves z,
+                                apfloat_answer *answer);
 
 /* ---- digits, pairs of doubles and formats
  *
@@ -338,48 +401,52 @@ uint32_t apfloat_to_format(uint32_t operation, uint32_t format, uint32_t mode, u
 
 /* The value of a text as apfloat_parse_decimal reads it, also in formats with APFLOAT_IEEE_FLAGS: 1e39 toward zero
  * as an APFLOAT_SINGLE with it raises APFLOAT_OVERFLOW. */
-uint32_t apfloat_read_decimal(uint32_t format, uint32_t mode, const uint8_t *text, size_t length,
-                              apfloat_answer *answer);
+apfloat_error apfloat_read_decimal(apfloat_format format, apfloat_mode mode, const uint8_t *text, size_t length,
+                                   apfloat_answer *answer);
 
 /* The decimal digits of x, rounded once to as many as there is room for: all of `digits` is written, in ASCII, the
  * first digit not 0, zeros at the end too. The number is d.ddd.. times 10 to the power of `number`; its sign is that
  * of x. APFLOAT_INEXACT is raised if it is not x. `bits` is how many digits were written: of a zero, an infinity or
  * a NaN none, and *digits is unchanged. APFLOAT_WRONG_LENGTH says that there is no room for a digit. What is said of
  * `results` below holds of `digits` and `text`. APFLOAT_DOUBLE_PAIR has none of these functions. */
-uint32_t apfloat_write_digits(uint32_t format, uint32_t mode, apfloat_halves x, uint8_t *digits, size_t length,
-                              apfloat_answer *answer);
+apfloat_error apfloat_write_digits(apfloat_format format, apfloat_mode mode, apfloat_halves x, uint8_t *digits,
+                                   size_t length, apfloat_answer *answer);
 
 /* `bits` is how many decimal digits x has, from the first one to the last one that is not 0, so many that
  * apfloat_write_digits writes them without rounding: at most 767 in APFLOAT_DOUBLE, 11563 in APFLOAT_QUAD; 0 for a
  * zero, an infinity and a NaN. */
-uint32_t apfloat_digit_count(uint32_t format, apfloat_halves x, apfloat_answer *answer);
+apfloat_error apfloat_digit_count(apfloat_format format, apfloat_halves x, apfloat_answer *answer);
 
 /* The hexadecimal text of x at the start of `text`, without a zero after it: -0x1.8p-1, 0x1p-1074, 0x0p0, inf, snan
  * and, with a payload, nan0x2a. The first digit is 1, of subnormal numbers too. `bits` is its length, at most 45,
  * and APFLOAT_WRONG_LENGTH says that it has no room. apfloat_parse reads a number and an infinity back as it is. The
  * bytes after it are unchanged. */
-uint32_t apfloat_write_hex(uint32_t format, apfloat_halves x, uint8_t *text, size_t length, apfloat_answer *answer);
+apfloat_error apfloat_write_hex(apfloat_format format, apfloat_halves x, uint8_t *text, size_t length,
+                                apfloat_answer *answer);
 
 /* The same with `places` digits after the dot, to which the number is rounded once, with the flags of that, and
  * without payloads. APFLOAT_WRONG_LENGTH also says that `places` is above 31. */
-uint32_t apfloat_write_hex_rounded(uint32_t format, uint32_t mode, uint32_t places, apfloat_halves x, uint8_t *text,
-                                   size_t length, apfloat_answer *answer);
+apfloat_error apfloat_write_hex_rounded(apfloat_format format, apfloat_mode mode, uint32_t places, apfloat_halves x,
+                                        uint8_t *text, size_t length, apfloat_answer *answer);
 
 /* Pairs of doubles, APFLOAT_DOUBLE_PAIR. In the modes and with the errors of apfloat_convert: a pair in `format`,
  * that is the exact sum of its parts, rounded once (if the high part is a zero, an infinity or a NaN, it is
  * converted alone); and a value of `format` as a pair, rounded once to 106 binary digits, and split into two
  * doubles. */
-uint32_t apfloat_pair_to_format(uint32_t format, uint32_t mode, apfloat_halves x, apfloat_answer *answer);
-uint32_t apfloat_pair_from_format(uint32_t format, uint32_t mode, apfloat_halves x, apfloat_answer *answer);
+apfloat_error apfloat_pair_to_format(apfloat_format format, apfloat_mode mode, apfloat_halves x,
+                                     apfloat_answer *answer);
+apfloat_error apfloat_pair_from_format(apfloat_format format, apfloat_mode mode, apfloat_halves x,
+                                       apfloat_answer *answer);
 
 /* x * y + z of pairs of doubles: the sums of the parts are first rounded to 106 binary digits, then the exact result
  * is, once, and split. */
-uint32_t apfloat_pair_fma(uint32_t mode, apfloat_halves x, apfloat_halves y, apfloat_halves z, apfloat_answer *answer);
+apfloat_error apfloat_pair_fma(apfloat_mode mode, apfloat_halves x, apfloat_halves y, apfloat_halves z,
+                               apfloat_answer *answer);
 
 /* The text of the shortest decimal that apfloat_read_decimal reads as the pair x, in its form that of
  * apfloat_shortest: of those with as few digits, the nearest to the sum of the parts. APFLOAT_NO_SUCH_OPERATION says
  * that no decimal is read as it, since its parts are too far apart, or overlap. On an error, *text is unchanged. */
-uint32_t apfloat_pair_shortest(apfloat_halves x, apfloat_text *text);
+apfloat_error apfloat_pair_shortest(apfloat_halves x, apfloat_text *text);
 
 /* Which NaNs a format has. */
 #define APFLOAT_NANS_WITH_PAYLOADS UINT32_C(0) /* quiet and signaling ones */
@@ -403,11 +470,32 @@ typedef struct apfloat_facts {
 
 /* The rule of flags of the code makes no difference. APFLOAT_DOUBLE_PAIR is no format. On an error, *facts is
  * unchanged; the rules for `answer` hold for `facts` too. */
-uint32_t apfloat_format_facts(uint32_t format, apfloat_facts *facts);
+apfloat_error apfloat_format_facts(apfloat_format format, apfloat_facts *facts);
 
 /* ---- augmented operations, and payloads of NaNs (IEEE 754-2019 9.5, 9.7)
  *
  * Pairs of doubles do not have them. The rule of flags of the code makes no difference. */
+
+/* Operations: apfloat_map_array has the first eight, apfloat_augmented three of these, and apfloat_machine all. */
+typedef enum apfloat_operation APFLOAT_CODE {
+    APFLOAT_ADD = 1,
+    APFLOAT_SUB = 2,
+    APFLOAT_MUL = 3,
+    APFLOAT_DIV = 4,
+    APFLOAT_REM = 5,
+    APFLOAT_MOD = 6,
+    APFLOAT_FMA = 7,
+    APFLOAT_SQRT = 8,
+
+    APFLOAT_ROUND_TO_INTEGRAL = 9, /* with APFLOAT_INEXACT */
+    APFLOAT_INTEGRAL = 10,         /* without it */
+    APFLOAT_CONVERT = 11,          /* to the format `to` */
+    APFLOAT_TO_U128 = 12,          /* to an unsigned integer of `to` binary digits, 1 to 128 */
+    APFLOAT_TO_I128 = 13,          /* to a signed one, 2 to 128 */
+    APFLOAT_LEAST = 14,            /* the minimum by the rule `to` */
+    APFLOAT_GREATEST = 15,         /* the maximum */
+    APFLOAT_OPERATION_BITS = 0x7fffffff
+} apfloat_operation;
 
 /* The sum, the difference or the product of x and y, for the operation APFLOAT_ADD, APFLOAT_SUB or APFLOAT_MUL: the
  * exact result rounded to nearest, ties toward zero, in `bits`, and in *tail what that leaves of it. Together they
@@ -416,49 +504,50 @@ uint32_t apfloat_format_facts(uint32_t format, apfloat_facts *facts);
  * rounded in the same way, with APFLOAT_UNDERFLOW and APFLOAT_INEXACT. If x or y is an infinity or a NaN, both are
  * the result of the operation, with its flags. On an error, *tail is unchanged too. The rules for `answer` hold for
  * `tail`, and the two do not overlap. */
-uint32_t apfloat_augmented(uint32_t operation, uint32_t format, apfloat_halves x, apfloat_halves y,
-                           apfloat_halves *tail, apfloat_answer *answer);
+apfloat_error apfloat_augmented(apfloat_operation operation, apfloat_format format, apfloat_halves x, apfloat_halves y,
+                                apfloat_halves *tail, apfloat_answer *answer);
 
 /* The payload of the NaN x as an integral value, -1 if x is no NaN; and the positive NaN, quiet or signaling, with
  * the payload x, or +0 if x is no integer that can be one (a signaling NaN has a payload other than 0). No flag is
  * raised. */
-#define APFLOAT_GET_PAYLOAD UINT32_C(0)
-#define APFLOAT_SET_PAYLOAD UINT32_C(1)
-#define APFLOAT_SET_PAYLOAD_SIGNALING UINT32_C(2)
-uint32_t apfloat_payload(uint32_t operation, uint32_t format, apfloat_halves x, apfloat_answer *answer);
+typedef enum apfloat_payload_operation APFLOAT_CODE {
+    APFLOAT_GET_PAYLOAD = 0,
+    APFLOAT_SET_PAYLOAD = 1,
+    APFLOAT_SET_PAYLOAD_SIGNALING = 2,
+    APFLOAT_PAYLOAD_OPERATION_BITS = 0x7fffffff
+} apfloat_payload_operation;
+apfloat_error apfloat_payload(apfloat_payload_operation operation, apfloat_format format, apfloat_halves x,
+                              apfloat_answer *answer);
 
 /* ---- machines
  *
  * What a processor delivers where IEEE 754 leaves a choice or is not followed: the NaN, its sign and its payload, the
  * integer of an invalid conversion, minima and maxima, and when a result is tiny. docs/MACHINES.md has the rules of
  * each machine, and what to call for each instruction. */
-#define APFLOAT_MACHINE_X86 UINT32_C(1)             /* SSE, AVX, AVX-512 */
-#define APFLOAT_MACHINE_X87 UINT32_C(2)
-#define APFLOAT_MACHINE_ARM UINT32_C(3)             /* AArch64 with FPCR.DN and FPCR.AH clear */
-#define APFLOAT_MACHINE_ARM_DEFAULT_NAN UINT32_C(4) /* with FPCR.DN set */
-#define APFLOAT_MACHINE_ARM_ALTERNATE UINT32_C(5)   /* with FPCR.AH set */
-#define APFLOAT_MACHINE_RISC_V UINT32_C(6)
-#define APFLOAT_MACHINE_POWER UINT32_C(7)
-#define APFLOAT_MACHINE_S390X UINT32_C(8)
-
-/* The operations: those of apfloat_map_array, APFLOAT_ADD to APFLOAT_SQRT, and these. */
-#define APFLOAT_ROUND_TO_INTEGRAL UINT32_C(9) /* with APFLOAT_INEXACT */
-#define APFLOAT_INTEGRAL UINT32_C(10)         /* without it */
-#define APFLOAT_CONVERT UINT32_C(11)          /* to the format `to` */
-#define APFLOAT_TO_U128 UINT32_C(12)          /* to an unsigned integer of `to` binary digits, 1 to 128 */
-#define APFLOAT_TO_I128 UINT32_C(13)          /* to a signed one, 2 to 128 */
-#define APFLOAT_LEAST UINT32_C(14)            /* the minimum by the rule `to` */
-#define APFLOAT_GREATEST UINT32_C(15)         /* the maximum */
+typedef enum apfloat_machine_kind APFLOAT_CODE {
+    APFLOAT_MACHINE_X86 = 1,             /* SSE, AVX, AVX-512 */
+    APFLOAT_MACHINE_X87 = 2,
+    APFLOAT_MACHINE_ARM = 3,             /* AArch64 with FPCR.DN and FPCR.AH clear */
+    APFLOAT_MACHINE_ARM_DEFAULT_NAN = 4, /* with FPCR.DN set */
+    APFLOAT_MACHINE_ARM_ALTERNATE = 5,   /* with FPCR.AH set */
+    APFLOAT_MACHINE_RISC_V = 6,
+    APFLOAT_MACHINE_POWER = 7,
+    APFLOAT_MACHINE_S390X = 8,
+    APFLOAT_MACHINE_KIND_BITS = 0x7fffffff
+} apfloat_machine_kind;
 
 /* Rules of minima and maxima, which differ for NaNs and zeros: `x < y ? x : y`, for which any NaN is invalid; the same,
  * for which only a signaling NaN is; the first NaN; minNum (IEEE 754-2008 5.3.1); minimumNumber and minimum (both
  * IEEE 754-2019 9.6). */
-#define APFLOAT_RULE_SECOND UINT32_C(1)
-#define APFLOAT_RULE_SECOND_QUIETLY UINT32_C(2)
-#define APFLOAT_RULE_FIRST_NAN UINT32_C(3)
-#define APFLOAT_RULE_NUMBER_2008 UINT32_C(4)
-#define APFLOAT_RULE_NUMBER_2019 UINT32_C(5)
-#define APFLOAT_RULE_PROPAGATED UINT32_C(6)
+typedef enum apfloat_rule APFLOAT_CODE {
+    APFLOAT_RULE_SECOND = 1,
+    APFLOAT_RULE_SECOND_QUIETLY = 2,
+    APFLOAT_RULE_FIRST_NAN = 3,
+    APFLOAT_RULE_NUMBER_2008 = 4,
+    APFLOAT_RULE_NUMBER_2019 = 5,
+    APFLOAT_RULE_PROPAGATED = 6,
+    APFLOAT_RULE_BITS = 0x7fffffff
+} apfloat_rule;
 
 /* What the machine delivers for an operation on x, y and z, in the machine's order. Operands that the operation does
  * not take are ignored, and so is `to` where no operation above mentions it. `bits` is the result, and `number` is 0.
@@ -471,8 +560,9 @@ uint32_t apfloat_payload(uint32_t operation, uint32_t format, apfloat_halves x, 
  * to an unknown format; APFLOAT_UNKNOWN_MACHINE; APFLOAT_WIDE_OPERAND if an operand has bits at or above the width of
  * its format, which other functions ignore; APFLOAT_WRONG_WIDTH; and APFLOAT_LACKING_OPERATION for fused sums and
  * unsigned integers of APFLOAT_MACHINE_X87. */
-uint32_t apfloat_machine(uint32_t machine, uint32_t operation, uint32_t format, uint32_t mode, uint32_t to,
-                         apfloat_halves x, apfloat_halves y, apfloat_halves z, apfloat_answer *answer);
+apfloat_error apfloat_machine(apfloat_machine_kind machine, apfloat_operation operation, apfloat_format format,
+                              apfloat_mode mode, uint32_t to, apfloat_halves x, apfloat_halves y, apfloat_halves z,
+                              apfloat_answer *answer);
 
 /* ---- arrays
  *
@@ -495,18 +585,6 @@ typedef struct apfloat_array_answer {
     uint32_t reserved; /* 0 */
 } apfloat_array_answer;
 
-/* Joined to the mode of apfloat_convert_array by |: a number that is past the largest value of `to` once it is rounded
- * gives the largest value of its sign, with the same flags as without this. Infinities are converted as without it, in
- * a format without infinities to a NaN. The modes of apfloat_to_storage and apfloat_from_storage may have it too; in
- * those of all other functions it makes an unknown mode. */
-#define APFLOAT_SATURATE UINT32_C(0x100)
-
-/* The same, and an infinity gives the largest value of its sign, with APFLOAT_INEXACT: the saturation of the OCP's
- * 8-bit formats. NaNs are converted as without it; with APFLOAT_SATURATE_ALL they give the largest value, sign plus,
- * with APFLOAT_INVALID_OP. What is below zero is a NaN in APFLOAT_E8M0FNU and APFLOAT_UE4M3 with any of these. */
-#define APFLOAT_SATURATE_FINITE UINT32_C(0x300)
-#define APFLOAT_SATURATE_ALL UINT32_C(0x700)
-
 /* Each value of `format` in the format `to`, rounded once. APFLOAT_WRONG_LENGTH says that `values` ends inside a value,
  * or that `results` is too short.
  *
@@ -514,44 +592,38 @@ typedef struct apfloat_array_answer {
  * and 0 in a result. From one storage format to another there is no conversion (APFLOAT_NO_SUCH_OPERATION); one to
  * APFLOAT_SINGLE, which is exact, and from there is rounded once. What the format has no value for, such as an
  * infinity, a NaN or a number below zero, becomes what a table in docs/FORMATS.md says. */
-uint32_t apfloat_convert_array(uint32_t format, uint32_t mode, uint32_t to, const uint8_t *values,
-                               size_t values_length, uint8_t *results, size_t results_length,
-                               apfloat_array_answer *answer);
+apfloat_error apfloat_convert_array(apfloat_format format, apfloat_mode mode, apfloat_format to, const uint8_t *values,
+                                    size_t values_length, uint8_t *results, size_t results_length,
+                                    apfloat_array_answer *answer);
 
 /* The same with memory lent to the call: with at least APFLOAT_TABLE_BYTES of it, at least 2^17 values of 16 bits are
  * converted to a format of at most 32 by computing the results for all values once, there, and taking each value's
  * result from these. Without, or for other arrays, it is apfloat_convert_array. The contents of the memory are
  * unspecified after an answer; an error leaves it unchanged. */
 #define APFLOAT_TABLE_BYTES ((size_t)1 << 19)
-uint32_t apfloat_convert_array_by_table(uint32_t format, uint32_t mode, uint32_t to, const uint8_t *values,
-                                        size_t values_length, uint8_t *results, size_t results_length,
-                                        uint8_t *table, size_t table_length, apfloat_array_answer *answer);
+apfloat_error apfloat_convert_array_by_table(apfloat_format format, apfloat_mode mode, apfloat_format to,
+                                             const uint8_t *values, size_t values_length, uint8_t *results,
+                                             size_t results_length, uint8_t *table, size_t table_length,
+                                             apfloat_array_answer *answer);
 
 /* An operation on each element of xs, or on the elements of xs and ys, or of xs, ys and zs, as the function of its name
  * does it. APFLOAT_REM and APFLOAT_MOD do not depend on the mode, but it has to be known. Arrays of operands that the
  * operation does not take have length 0, the others the length of xs. APFLOAT_WRONG_LENGTH says that they do not, that
  * xs ends inside a value, or that `results` is shorter than xs, and APFLOAT_NO_SUCH_OPERATION that the code of the
  * operation is unknown, or that the format does not have it. */
-#define APFLOAT_ADD UINT32_C(1)
-#define APFLOAT_SUB UINT32_C(2)
-#define APFLOAT_MUL UINT32_C(3)
-#define APFLOAT_DIV UINT32_C(4)
-#define APFLOAT_REM UINT32_C(5)
-#define APFLOAT_MOD UINT32_C(6)
-#define APFLOAT_FMA UINT32_C(7)
-#define APFLOAT_SQRT UINT32_C(8)
-uint32_t apfloat_map_array(uint32_t format, uint32_t mode, uint32_t operation, const uint8_t *xs, size_t xs_length,
-                           const uint8_t *ys, size_t ys_length, const uint8_t *zs, size_t zs_length,
-                           uint8_t *results, size_t results_length, apfloat_array_answer *answer);
+apfloat_error apfloat_map_array(apfloat_format format, apfloat_mode mode, apfloat_operation operation,
+                                const uint8_t *xs, size_t xs_length, const uint8_t *ys, size_t ys_length,
+                                const uint8_t *zs, size_t zs_length, uint8_t *results, size_t results_length,
+                                apfloat_array_answer *answer);
 
 /* The same with memory lent to the call: with at least APFLOAT_TABLE_BYTES of it, an operation on two arrays of at
  * least 2^17 values of 8 bits computes its results for all pairs of values once, there, and takes each element's
  * result from these. Without, or for other arrays, it is apfloat_map_array. What the memory contains after an answer is
  * not said; an error leaves it unchanged. */
-uint32_t apfloat_map_array_by_table(uint32_t format, uint32_t mode, uint32_t operation, const uint8_t *xs,
-                                    size_t xs_length, const uint8_t *ys, size_t ys_length, const uint8_t *zs,
-                                    size_t zs_length, uint8_t *results, size_t results_length, uint8_t *table,
-                                    size_t table_length, apfloat_array_answer *answer);
+apfloat_error apfloat_map_array_by_table(apfloat_format format, apfloat_mode mode, apfloat_operation operation,
+                                         const uint8_t *xs, size_t xs_length, const uint8_t *ys, size_t ys_length,
+                                         const uint8_t *zs, size_t zs_length, uint8_t *results, size_t results_length,
+                                         uint8_t *table, size_t table_length, apfloat_array_answer *answer);
 
 /* ---- blocks with a common scale
  *
@@ -567,25 +639,26 @@ uint32_t apfloat_map_array_by_table(uint32_t format, uint32_t mode, uint32_t ope
  * and that of zeros is the least one. An element is the exact quotient by the scale, rounded once, and the largest
  * number of its sign in place of what is past it. A block with an infinity or a NaN has the scale that is a NaN, and
  * zeros; `nans` counts its values. There are no blocks of APFLOAT_DOUBLE_PAIR (APFLOAT_NO_SUCH_OPERATION). */
-uint32_t apfloat_quantize_blocks(uint32_t format, uint32_t mode, uint32_t element, size_t length,
-                                 const uint8_t *values, size_t values_length, uint8_t *scales, size_t scales_length,
-                                 uint8_t *codes, size_t codes_length, apfloat_array_answer *answer);
+apfloat_error apfloat_quantize_blocks(apfloat_format format, apfloat_mode mode, apfloat_format element, size_t length,
+                                      const uint8_t *values, size_t values_length, uint8_t *scales,
+                                      size_t scales_length, uint8_t *codes, size_t codes_length,
+                                      apfloat_array_answer *answer);
 
 /* The product of each element and the scale of its block in the format `to`, rounded once. If the scale is the NaN, all
  * are the quiet NaN without a payload. APFLOAT_WIDE_OPERAND says that a code has more bits than its format. */
-uint32_t apfloat_dequantize_blocks(uint32_t element, uint32_t mode, uint32_t to, size_t length,
-                                   const uint8_t *scales, size_t scales_length, const uint8_t *codes,
-                                   size_t codes_length, uint8_t *results, size_t results_length,
-                                   apfloat_array_answer *answer);
+apfloat_error apfloat_dequantize_blocks(apfloat_format element, apfloat_mode mode, apfloat_format to, size_t length,
+                                        const uint8_t *scales, size_t scales_length, const uint8_t *codes,
+                                        size_t codes_length, uint8_t *results, size_t results_length,
+                                        apfloat_array_answer *answer);
 
 /* Codes of 4 bits two in a byte, the first one in its low half, and of 6 bits four in three bytes, from the lowest bit
  * of the first byte on; and the codes again, one in a byte. There is nothing to pack of elements of 8 bits
  * (APFLOAT_NO_SUCH_OPERATION). APFLOAT_WRONG_LENGTH says that the codes do not fill whole groups, or that there are not
  * exactly as many bytes as they fill, and APFLOAT_WIDE_OPERAND that a code has more bits. */
-uint32_t apfloat_pack_codes(uint32_t element, const uint8_t *codes, size_t codes_length, uint8_t *bytes,
-                            size_t bytes_length);
-uint32_t apfloat_unpack_codes(uint32_t element, const uint8_t *bytes, size_t bytes_length, uint8_t *codes,
-                              size_t codes_length);
+apfloat_error apfloat_pack_codes(apfloat_format element, const uint8_t *codes, size_t codes_length, uint8_t *bytes,
+                                 size_t bytes_length);
+apfloat_error apfloat_unpack_codes(apfloat_format element, const uint8_t *bytes, size_t bytes_length, uint8_t *codes,
+                                   size_t codes_length);
 
 /* ---- storage formats, one value
  *
@@ -593,11 +666,13 @@ uint32_t apfloat_unpack_codes(uint32_t element, const uint8_t *bytes, size_t byt
  * NaN, else 0. There are no conversions of APFLOAT_DOUBLE_PAIR (APFLOAT_NO_SUCH_OPERATION). */
 
 /* The code in the storage format `to` of x, a value of `format`, rounded once. */
-uint32_t apfloat_to_storage(uint32_t format, uint32_t mode, uint32_t to, apfloat_halves x, apfloat_answer *answer);
+apfloat_error apfloat_to_storage(apfloat_format format, apfloat_mode mode, apfloat_format to, apfloat_halves x,
+                                 apfloat_answer *answer);
 
 /* The value in the format `to` of a code of the storage format `format`, rounded once; the bits of `code` above those
  * of its format are ignored. */
-uint32_t apfloat_from_storage(uint32_t format, uint32_t mode, uint32_t to, uint32_t code, apfloat_answer *answer);
+apfloat_error apfloat_from_storage(apfloat_format format, apfloat_mode mode, apfloat_format to, uint32_t code,
+                                   apfloat_answer *answer);
 
 /* ---- storage formats, to odd and with random digits
  *
@@ -606,21 +681,27 @@ uint32_t apfloat_from_storage(uint32_t format, uint32_t mode, uint32_t to, uint3
  * with the value's distance from the lower one, in parts of which there are 2 to the power of `digits`. The caller
  * lends the random numbers, 32 bits for each value, of which the lowest `digits` are taken, 1 to 32 of them
  * (APFLOAT_WRONG_WIDTH, after the mode). The other modes ignore `digits`. Nothing can be joined to a mode here. */
-#define APFLOAT_TO_ODD UINT32_C(5)
-#define APFLOAT_RANDOM_DIGITS UINT32_C(6)
 
 /* As apfloat_to_storage, with this random number. */
-uint32_t apfloat_to_storage_by(uint32_t format, uint32_t mode, uint32_t to, uint32_t digits, uint32_t random,
-                               apfloat_halves x, apfloat_answer *answer);
+apfloat_error apfloat_to_storage_by(apfloat_format format, apfloat_mode mode, apfloat_format to, uint32_t digits,
+                                    uint32_t random, apfloat_halves x, apfloat_answer *answer);
 
 /* The same of each value of an array, as apfloat_convert_array does it. With APFLOAT_RANDOM_DIGITS `randoms` has four
  * bytes for each value, the lowest one first, and otherwise none: APFLOAT_WRONG_LENGTH says that it does not, too. */
-uint32_t apfloat_convert_array_by(uint32_t format, uint32_t mode, uint32_t to, uint32_t digits,
-                                  const uint8_t *randoms, size_t randoms_length, const uint8_t *values,
-                                  size_t values_length, uint8_t *results, size_t results_length,
-                                  apfloat_array_answer *answer);
+apfloat_error apfloat_convert_array_by(apfloat_format format, apfloat_mode mode, apfloat_format to, uint32_t digits,
+                                       const uint8_t *randoms, size_t randoms_length, const uint8_t *values,
+                                       size_t values_length, uint8_t *results, size_t results_length,
+                                       apfloat_array_answer *answer);
 
 #ifdef __cplusplus
+}
+
+constexpr apfloat_format operator|(apfloat_format format, apfloat_format rule) noexcept {
+    return apfloat_format(uint32_t(format) | uint32_t(rule));
+}
+
+constexpr apfloat_mode operator|(apfloat_mode mode, apfloat_mode saturation) noexcept {
+    return apfloat_mode(uint32_t(mode) | uint32_t(saturation));
 }
 #endif
 

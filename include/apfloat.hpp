@@ -245,13 +245,13 @@ struct constants {
 };
 
 // What the formats with a fixed number of digits have in common.
-template <class Plain, std::uint32_t Code, class Bits, int Width, int Precision, int MinExponent, int MaxExponent,
+template <class Plain, apfloat_format Code, class Bits, int Width, int Precision, int MinExponent, int MaxExponent,
           class Host = no_host>
 struct binary {
     using plain = Plain;
     using bits_type = Bits;
     using host = Host;
-    static constexpr std::uint32_t code = Code;
+    static constexpr apfloat_format code = Code;
     static constexpr int width = Width, precision = Precision;
     static constexpr int min_exponent = MinExponent, max_exponent = MaxExponent;
     static constexpr bool is_pair = false, reads_decimals = true, raises_ieee_flags = false;
@@ -384,7 +384,7 @@ struct double_pair : detail::binary<double_pair, APFLOAT_DOUBLE_PAIR, bits128, 1
 template <class F>
 struct ieee : F {
     static_assert(F::has_ieee_flags && !F::raises_ieee_flags, "this format has no choice of flags");
-    static constexpr std::uint32_t code = F::code | APFLOAT_IEEE_FLAGS;
+    static constexpr apfloat_format code = F::code | APFLOAT_IEEE_FLAGS;
     static constexpr bool reads_decimals = false, raises_ieee_flags = true;
 };
 
@@ -392,7 +392,7 @@ struct ieee : F {
 template <class F>
 struct ieee_tiny_before : F {
     static_assert(F::has_ieee_flags && !F::raises_ieee_flags, "this format has no choice of flags");
-    static constexpr std::uint32_t code = F::code | APFLOAT_IEEE_FLAGS | APFLOAT_TINY_BEFORE_ROUNDING;
+    static constexpr apfloat_format code = F::code | APFLOAT_IEEE_FLAGS | APFLOAT_TINY_BEFORE_ROUNDING;
     static constexpr bool reads_decimals = false, raises_ieee_flags = true, tiny_before_rounding = true;
 };
 
@@ -632,14 +632,14 @@ constexpr apfloat_halves same_for_equals(apfloat_halves bits) noexcept {
 
 // Makes a call of the library that is never refused, unless a mode is none of the enumerators.
 template <class... Parameters, class... Arguments>
-apfloat_answer answer_of(std::uint32_t (*call)(Parameters...), Arguments... arguments) noexcept {
+apfloat_answer answer_of(apfloat_error (*call)(Parameters...), Arguments... arguments) noexcept {
     apfloat_answer answer = {{0, 0}, 0, 0};
-    const std::uint32_t code = call(arguments..., &answer);
+    const apfloat_error code = call(arguments..., &answer);
     if (code != APFLOAT_ANSWERED) refuse(static_cast<errc>(code));
     return answer;
 }
 
-constexpr std::uint32_t code_of(rounding mode) noexcept { return static_cast<std::uint32_t>(mode); }
+constexpr apfloat_mode code_of(rounding mode) noexcept { return static_cast<apfloat_mode>(mode); }
 
 } // namespace detail
 
@@ -1332,7 +1332,7 @@ result<value<F>> integral(const value<F> &x, rounding mode) noexcept {
 namespace detail {
 
 template <class T, class F>
-result<value<T>> to_format(std::uint32_t operation, rounding mode, const value<F> &x, const value<F> &y = {},
+result<value<T>> to_format(apfloat_operation_to operation, rounding mode, const value<F> &x, const value<F> &y = {},
                            const value<F> &z = {}) noexcept {
     static_assert(!T::is_pair && !F::is_pair, "pairs of doubles do not have this operation");
     return result_of<T>(answer_of(apfloat_to_format, operation, F::code, code_of(mode), T::code, x.halves(),
@@ -1634,12 +1634,12 @@ enum class minimum_rule : std::uint32_t {
 namespace detail {
 
 template <class F>
-expected<apfloat_answer> delivered(machine on, std::uint32_t operation, rounding mode, std::uint32_t to,
+expected<apfloat_answer> delivered(machine on, apfloat_operation operation, rounding mode, std::uint32_t to,
                                    const value<F> &x, const value<F> &y, const value<F> &z) noexcept {
     static_assert(F::has_ieee_flags, "machines have the formats with a choice of flags");
     apfloat_answer answer = {{0, 0}, 0, 0};
-    const std::uint32_t code = apfloat_machine(static_cast<std::uint32_t>(on), operation, F::code, code_of(mode), to,
-                                               x.halves(), y.halves(), z.halves(), &answer);
+    const apfloat_error code = apfloat_machine(static_cast<apfloat_machine_kind>(on), operation, F::code, code_of(mode),
+                                               to, x.halves(), y.halves(), z.halves(), &answer);
     if (code != APFLOAT_ANSWERED) return static_cast<errc>(code);
     return answer;
 }
@@ -1658,7 +1658,7 @@ template <class F>
 expected<result<value<F>>> on_machine(machine on, machine_operation operation, rounding mode, const value<F> &x,
                                       const value<F> &y = {}, const value<F> &z = {}) noexcept {
     const std::uint32_t to = 0;
-    return detail::as_value<F>(detail::delivered(on, static_cast<std::uint32_t>(operation), mode, to, x, y, z));
+    return detail::as_value<F>(detail::delivered(on, static_cast<apfloat_operation>(operation), mode, to, x, y, z));
 }
 
 /// The value in another format, as a machine converts it.
@@ -1683,7 +1683,7 @@ expected<result<value<F>>> greatest_on(machine on, minimum_rule rule, const valu
 /// The value rounded to an integer, as a machine does it.
 template <class I, class F, std::enable_if_t<detail::is_integer<I>, int> = 0>
 expected<result<I>> to_integer_on(machine on, const value<F> &x, rounding mode) noexcept {
-    const std::uint32_t operation = detail::is_signed<I> ? APFLOAT_TO_I128 : APFLOAT_TO_U128;
+    const apfloat_operation operation = detail::is_signed<I> ? APFLOAT_TO_I128 : APFLOAT_TO_U128;
     const auto answer = detail::delivered(on, operation, mode, std::uint32_t{8 * sizeof(I)}, x, x, x);
     if (!answer) return answer.error();
     return result<I>{detail::integer_of<I>(answer->bits), flags::of_code(answer->status)};
@@ -1731,7 +1731,7 @@ expected<result<value<F>>> read(decltype(apfloat_parse) *call, std::string_view 
     // The library takes no null pointer, not even for an empty text.
     const char *bytes = text.empty() ? "" : text.data();
     apfloat_answer answer = {{0, 0}, 0, 0};
-    const std::uint32_t code =
+    const apfloat_error code =
         call(F::code, code_of(mode), reinterpret_cast<const std::uint8_t *>(bytes), text.size(), &answer);
     if (code != APFLOAT_ANSWERED) return static_cast<errc>(code);
     return result_of<F>(answer);
@@ -1870,7 +1870,7 @@ template <class F>
 text shortest_text(const value<F> &x) noexcept {
     static_assert(!F::is_pair, "pairs of doubles have no shortest decimal");
     apfloat_text written = {{0}, 0};
-    const std::uint32_t code = apfloat_shortest(F::code, x.halves(), &written);
+    const apfloat_error code = apfloat_shortest(F::code, x.halves(), &written);
     if (code != APFLOAT_ANSWERED) detail::refuse(static_cast<errc>(code));
     return text(written);
 }
@@ -1930,7 +1930,7 @@ template <class F>
 apfloat_facts facts_of() noexcept {
     static_assert(!F::is_pair, "pairs of doubles are no format");
     apfloat_facts facts = {{0, 0}, {0, 0}, {0, 0}, 0, 0, 0, 0, 0, 0, 0, 0};
-    const std::uint32_t code = apfloat_format_facts(F::code, &facts);
+    const apfloat_error code = apfloat_format_facts(F::code, &facts);
     if (code != APFLOAT_ANSWERED) detail::refuse(static_cast<errc>(code));
     return facts;
 }
@@ -1947,17 +1947,17 @@ struct augmented {
 namespace detail {
 
 template <class F>
-result<augmented<F>> augmented_of(std::uint32_t operation, const value<F> &x, const value<F> &y) noexcept {
+result<augmented<F>> augmented_of(apfloat_operation operation, const value<F> &x, const value<F> &y) noexcept {
     static_assert(!F::is_pair, "pairs of doubles have no augmented operations");
     apfloat_halves tail = {0, 0};
     apfloat_answer answer = {{0, 0}, 0, 0};
-    const std::uint32_t code = apfloat_augmented(operation, F::code, x.halves(), y.halves(), &tail, &answer);
+    const apfloat_error code = apfloat_augmented(operation, F::code, x.halves(), y.halves(), &tail, &answer);
     if (code != APFLOAT_ANSWERED) refuse(static_cast<errc>(code));
     return {{value<F>::from_lowest(answer.bits), value<F>::from_lowest(tail)}, flags::of_code(answer.status)};
 }
 
 template <class F>
-value<F> payload_of(std::uint32_t operation, const value<F> &x) noexcept {
+value<F> payload_of(apfloat_payload_operation operation, const value<F> &x) noexcept {
     static_assert(!F::is_pair, "pairs of doubles have no payloads as values");
     return value<F>::from_lowest(answer_of(apfloat_payload, operation, F::code, x.halves()).bits);
 }
@@ -2689,7 +2689,7 @@ inline bool has_lowest_byte_first() noexcept {
     return *reinterpret_cast<const std::uint8_t *>(&one) == 1;
 }
 
-inline expected<array_counts> counts_of(std::uint32_t code, const apfloat_array_answer &answer) noexcept {
+inline expected<array_counts> counts_of(apfloat_error code, const apfloat_array_answer &answer) noexcept {
     if (code != APFLOAT_ANSWERED) return static_cast<errc>(code);
     return array_counts{answer.values,      answer.inexact,    answer.underflow, answer.overflow,
                         answer.div_by_zero, answer.invalid_op, answer.nans,      flags::of_code(answer.status)};
@@ -2705,9 +2705,9 @@ struct not_deduced {
 namespace detail {
 
 // A storage format: its values are only stored and converted, in arrays (docs/FORMATS.md).
-template <std::uint32_t Code, int Width>
+template <apfloat_format Code, int Width>
 struct storage {
-    static constexpr std::uint32_t code = Code;
+    static constexpr apfloat_format code = Code;
     static constexpr int width = Width;
     static constexpr bool is_storage = true;
 };
@@ -2773,8 +2773,8 @@ expected<array_counts> convert_values(const From *values, std::size_t count, To 
     const bool is_missing = count != 0 && (values == nullptr || results == nullptr);
     const std::size_t present = is_missing ? 0 : count;
     apfloat_array_answer answer = {0, 0, 0, 0, 0, 0, 0, 0, 0};
-    const std::uint32_t code = apfloat_convert_array(
-        From::format::code, code_of(mode) | static_cast<std::uint32_t>(large), To::format::code, bytes_of(values),
+    const apfloat_error code = apfloat_convert_array(
+        From::format::code, code_of(mode) | static_cast<apfloat_mode>(large), To::format::code, bytes_of(values),
         present * sizeof(From), bytes_of(results), present * sizeof(To), &answer);
     if (code == APFLOAT_ANSWERED && is_missing) return errc::wrong_length;
     return counts_of(code, answer);
@@ -2825,8 +2825,8 @@ expected<array_counts> convert_array_by_table(const value<From> *values, std::si
     if (!detail::has_lowest_byte_first()) return errc::no_such_operation;
     if (values == nullptr || results == nullptr) return errc::wrong_length;
     apfloat_array_answer answer = {0, 0, 0, 0, 0, 0, 0, 0, 0};
-    const std::uint32_t code = apfloat_convert_array_by_table(
-        From::code, detail::code_of(mode) | static_cast<std::uint32_t>(large), To::code, detail::bytes_of(values),
+    const apfloat_error code = apfloat_convert_array_by_table(
+        From::code, detail::code_of(mode) | static_cast<apfloat_mode>(large), To::code, detail::bytes_of(values),
         count * sizeof(value<From>), detail::bytes_of(results), count * sizeof(value<To>), table, table_length,
         &answer);
     return detail::counts_of(code, answer);
@@ -2845,8 +2845,8 @@ expected<array_counts> map_array(array_operation operation, std::size_t count, v
     const std::size_t present = is_missing ? 0 : count * sizeof(value<F>);
     const auto length = [&](const value<F> *operand) { return operand == nullptr ? 0 : present; };
     apfloat_array_answer answer = {0, 0, 0, 0, 0, 0, 0, 0, 0};
-    const std::uint32_t code = apfloat_map_array(
-        F::code, detail::code_of(mode), static_cast<std::uint32_t>(operation), detail::bytes_of(xs), length(xs),
+    const apfloat_error code = apfloat_map_array(
+        F::code, detail::code_of(mode), static_cast<apfloat_operation>(operation), detail::bytes_of(xs), length(xs),
         detail::bytes_of(ys), length(ys), detail::bytes_of(zs), length(zs), detail::bytes_of(results), present,
         &answer);
     if (code == APFLOAT_ANSWERED && is_missing) return errc::wrong_length;
@@ -2864,8 +2864,8 @@ expected<array_counts> map_array_by_table(array_operation operation, std::size_t
     static_assert(sizeof(value<F>) == 1, "a table is for values of 8 bits");
     if (xs == nullptr || ys == nullptr || results == nullptr) return errc::wrong_length;
     apfloat_array_answer answer = {0, 0, 0, 0, 0, 0, 0, 0, 0};
-    const std::uint32_t code = apfloat_map_array_by_table(
-        F::code, detail::code_of(mode), static_cast<std::uint32_t>(operation), detail::bytes_of(xs), count,
+    const apfloat_error code = apfloat_map_array_by_table(
+        F::code, detail::code_of(mode), static_cast<apfloat_operation>(operation), detail::bytes_of(xs), count,
         detail::bytes_of(ys), count, detail::bytes_of(ys), 0, detail::bytes_of(results), count, table, table_length,
         &answer);
     return detail::counts_of(code, answer);
@@ -2909,7 +2909,7 @@ expected<array_counts> quantize_blocks(const value<From> *values, std::size_t co
     const bool is_missing = count != 0 && (values == nullptr || scales == nullptr || codes == nullptr);
     const std::size_t present = is_missing ? 0 : count;
     apfloat_array_answer answer = {0, 0, 0, 0, 0, 0, 0, 0, 0};
-    const std::uint32_t code = apfloat_quantize_blocks(
+    const apfloat_error code = apfloat_quantize_blocks(
         From::code, detail::code_of(mode), Code::format::code, length, detail::bytes_of(values),
         present * sizeof(value<From>), detail::bytes_of(scales), detail::blocks_of(present, length),
         detail::bytes_of(codes), present, &answer);
@@ -2928,7 +2928,7 @@ expected<array_counts> dequantize_blocks(const stored<e8m0fnu> *scales, const Co
     const bool is_missing = count != 0 && (scales == nullptr || codes == nullptr || results == nullptr);
     const std::size_t present = is_missing ? 0 : count;
     apfloat_array_answer answer = {0, 0, 0, 0, 0, 0, 0, 0, 0};
-    const std::uint32_t code = apfloat_dequantize_blocks(
+    const apfloat_error code = apfloat_dequantize_blocks(
         Code::format::code, detail::code_of(mode), To::code, length, detail::bytes_of(scales),
         detail::blocks_of(present, length), detail::bytes_of(codes), present, detail::bytes_of(results),
         present * sizeof(value<To>), &answer);
@@ -2945,7 +2945,7 @@ result<stored<To>> to_storage(const value<From> &x, rounding mode = rounding::ne
     static_assert(detail::is_storage<To>::value, "this is no storage format");
     static_assert(!From::is_pair, "there is no conversion from pairs of doubles");
     const auto answer =
-        detail::answer_of(apfloat_to_storage, From::code, detail::code_of(mode) | static_cast<std::uint32_t>(large),
+        detail::answer_of(apfloat_to_storage, From::code, detail::code_of(mode) | static_cast<apfloat_mode>(large),
                           To::code, x.halves());
     return {stored<To>::from_bits(static_cast<std::uint8_t>(answer.bits.low)), flags::of_code(answer.status)};
 }
@@ -2957,7 +2957,7 @@ result<value<To>> from_storage(const stored<From> &x, rounding mode = rounding::
                                overflowing large = overflowing::rounds) noexcept {
     static_assert(!To::is_pair, "there is no conversion to pairs of doubles");
     return detail::result_of<To>(
-        detail::answer_of(apfloat_from_storage, From::code, detail::code_of(mode) | static_cast<std::uint32_t>(large),
+        detail::answer_of(apfloat_from_storage, From::code, detail::code_of(mode) | static_cast<apfloat_mode>(large),
                           To::code, static_cast<std::uint32_t>(x.bits())));
 }
 
@@ -2981,7 +2981,7 @@ expected<result<stored<To>>> to_storage_random(const value<From> &x, std::uint32
     static_assert(detail::is_storage<To>::value, "this is no storage format");
     static_assert(!From::is_pair, "there is no conversion from pairs of doubles");
     apfloat_answer answer = {{0, 0}, 0, 0};
-    const std::uint32_t code = apfloat_to_storage_by(From::code, APFLOAT_RANDOM_DIGITS, To::code, digits, random,
+    const apfloat_error code = apfloat_to_storage_by(From::code, APFLOAT_RANDOM_DIGITS, To::code, digits, random,
                                                      x.halves(), &answer);
     if (code != APFLOAT_ANSWERED) return static_cast<errc>(code);
     return result<stored<To>>{stored<To>::from_bits(static_cast<std::uint8_t>(answer.bits.low)),
@@ -2991,7 +2991,7 @@ expected<result<stored<To>>> to_storage_random(const value<From> &x, std::uint32
 namespace detail {
 
 template <class From, class To>
-expected<array_counts> convert_by(std::uint32_t mode, std::uint32_t digits, const std::uint32_t *randoms,
+expected<array_counts> convert_by(apfloat_mode mode, std::uint32_t digits, const std::uint32_t *randoms,
                                   const value<From> *values, std::size_t count, stored<To> *results) noexcept {
     static_assert(is_storage<To>::value, "this is no storage format");
     static_assert(!From::is_pair, "there is no conversion from pairs of doubles");
@@ -3002,7 +3002,7 @@ expected<array_counts> convert_by(std::uint32_t mode, std::uint32_t digits, cons
     const bool has_randoms = is_random && randoms != nullptr;
     const auto *lent = has_randoms ? reinterpret_cast<const std::uint8_t *>(randoms) : bytes_of(values);
     apfloat_array_answer answer = {0, 0, 0, 0, 0, 0, 0, 0, 0};
-    const std::uint32_t code = apfloat_convert_array_by(
+    const apfloat_error code = apfloat_convert_array_by(
         From::code, mode, To::code, digits, lent, has_randoms ? count * sizeof *randoms : 0, bytes_of(values),
         count * sizeof(value<From>), bytes_of(results), count, &answer);
     return counts_of(code, answer);
@@ -3036,7 +3036,7 @@ namespace detail {
 
 // Calls a function with a null pointer to the format that has a code, or returns another answer.
 template <class Function, class Answer>
-Answer with_format(std::uint32_t code, Function function, Answer otherwise) {
+Answer with_format(apfloat_format code, Function function, Answer otherwise) {
     switch (code & ~(APFLOAT_IEEE_FLAGS | APFLOAT_TINY_BEFORE_ROUNDING)) {
     case binary16::code: return function(static_cast<binary16 *>(nullptr));
     case bfloat16::code: return function(static_cast<bfloat16 *>(nullptr));
@@ -3061,7 +3061,7 @@ Answer with_format(std::uint32_t code, Function function, Answer otherwise) {
 /// The format of a name: that of its type here, or half, single, double, quad, bfloat or dd; then +ieee for the flags
 /// of IEEE 754-2019, and +before for tininess that is detected before rounding.
 inline expected<format_code> format_of_name(std::string_view name) noexcept {
-    constexpr std::pair<std::string_view, std::uint32_t> all[] = {
+    constexpr std::pair<std::string_view, apfloat_format> all[] = {
         {"half", binary16::code},         {"binary16", binary16::code},
         {"bfloat", bfloat16::code},       {"bfloat16", bfloat16::code},
         {"single", binary32::code},       {"binary32", binary32::code},
@@ -3074,8 +3074,8 @@ inline expected<format_code> format_of_name(std::string_view name) noexcept {
         {"double_pair", double_pair::code}, {"dd", double_pair::code}};
     const auto end = name.find('+') < name.size() ? name.find('+') : name.size();
     const auto rule = name.substr(end);
-    std::uint32_t more = APFLOAT_IEEE_FLAGS | APFLOAT_TINY_BEFORE_ROUNDING;
-    if (rule.empty()) more = 0;
+    apfloat_format more = APFLOAT_IEEE_FLAGS | APFLOAT_TINY_BEFORE_ROUNDING;
+    if (rule.empty()) more = apfloat_format{};
     else if (rule == "+ieee") more = APFLOAT_IEEE_FLAGS;
     else if (rule != "+ieee+before") return errc::unknown_format;
     for (const auto &[known, code] : all) {
@@ -3099,7 +3099,7 @@ public:
     /// set.
     static expected<any_value> from_bits(format_code format, apfloat_halves bits) noexcept {
         apfloat_answer answer = {{0, 0}, 0, 0};
-        const auto code = static_cast<std::uint32_t>(format);
+        const auto code = static_cast<apfloat_format>(format);
         if (apfloat_is_negative(code, bits, &answer) != APFLOAT_ANSWERED) return errc::unknown_format;
         const auto is_in = [&](auto *of) {
             return value<std::remove_pointer_t<decltype(of)>>::from_halves(bits).has_value();
@@ -3130,13 +3130,13 @@ private:
 
 /// What the operations below are made of.
 struct any_call {
-    static constexpr std::uint32_t code_of(const any_value &x) noexcept {
-        return static_cast<std::uint32_t>(x.format());
+    static constexpr apfloat_format code_of(const any_value &x) noexcept {
+        return static_cast<apfloat_format>(x.format());
     }
     template <class... Parameters, class... Arguments>
-    static expected<apfloat_answer> answer(std::uint32_t (*call)(Parameters...), Arguments... arguments) noexcept {
+    static expected<apfloat_answer> answer(apfloat_error (*call)(Parameters...), Arguments... arguments) noexcept {
         apfloat_answer made = {{0, 0}, 0, 0};
-        const std::uint32_t code = call(arguments..., &made);
+        const apfloat_error code = call(arguments..., &made);
         if (code != APFLOAT_ANSWERED) return static_cast<errc>(code);
         return made;
     }
@@ -3184,7 +3184,7 @@ inline expected<result<any_value>> sqrt(const any_value &x, rounding mode = roun
 inline expected<conversion<any_value>> convert(const any_value &x, format_code to,
                                                rounding mode = rounding::nearest_even) noexcept {
     const auto found = any_call::answer(apfloat_convert, any_call::code_of(x), detail::code_of(mode),
-                                        static_cast<std::uint32_t>(to), x.bits());
+                                        static_cast<apfloat_format>(to), x.bits());
     const auto made = any_call::result_in(to, found);
     if (!made) return made.error();
     return conversion<any_value>{made->value, made->status, found->number != 0};
@@ -3200,7 +3200,7 @@ inline expected<order> compare(const any_value &x, const any_value &y) noexcept 
 /// The value of a text, as `parse<F>` reads it.
 inline expected<result<any_value>> parse(format_code format, std::string_view text,
                                          rounding mode = rounding::nearest_even) noexcept {
-    const auto code = static_cast<std::uint32_t>(format);
+    const auto code = static_cast<apfloat_format>(format);
     const auto call = (code & APFLOAT_IEEE_FLAGS) != 0 ? apfloat_parse : apfloat_parse_decimal;
     const char *bytes = text.empty() ? "" : text.data();
     return any_call::result_in(format, any_call::answer(call, code, detail::code_of(mode),

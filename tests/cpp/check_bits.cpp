@@ -23,7 +23,7 @@ public:
     // Makes a call, and compares its answer.
     template <class... Parameters, class... Arguments>
     void of(const char *name, apfloat_halves bits, flags raised, int number,
-            std::uint32_t (*call)(std::uint32_t, Parameters...), Arguments... arguments) const {
+            apfloat_error (*call)(apfloat_format, Parameters...), Arguments... arguments) const {
         apfloat_answer answer = {{0, 0}, 0, 0};
         const bool answered = call(F::code, arguments..., &answer) == APFLOAT_ANSWERED;
         if (answered && detail::is_equal(answer.bits, bits) && answer.status == raised.code() &&
@@ -59,14 +59,14 @@ void compare_operations(const comparison<F> &with, const value<F> &x, const valu
         for (const std::uint32_t prefers : {0u, 1u}) {
             const auto asked = static_cast<extremum>(which);
             const auto found = prefers ? extremum_number_of(asked, x, y) : extremum_of(asked, x, y);
-            with.of("extremum", found.value.halves(), found.status, 0, apfloat_extremum, which, prefers, x.halves(),
-                    y.halves());
+            with.of("extremum", found.value.halves(), found.status, 0, apfloat_extremum,
+                    static_cast<apfloat_extremum_kind>(which), prefers, x.halves(), y.halves());
         }
     for (std::uint32_t asked = APFLOAT_IS_EQUAL; asked <= APFLOAT_IS_ORDERED; asked++)
-        for (const std::uint32_t invalid : {APFLOAT_QUIET, APFLOAT_SIGNALING}) {
+        for (const auto invalid : {APFLOAT_QUIET, APFLOAT_SIGNALING}) {
             const auto found = holds(static_cast<predicate>(asked), static_cast<on_nan>(invalid), x, y);
-            with.of("holds", {0, 0}, found.status, found.value, apfloat_compare_predicate, asked, invalid, x.halves(),
-                    y.halves());
+            with.of("holds", {0, 0}, found.status, found.value, apfloat_compare_predicate,
+                    static_cast<apfloat_predicate>(asked), invalid, x.halves(), y.halves());
         }
 }
 

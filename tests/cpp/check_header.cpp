@@ -281,7 +281,7 @@ void check_errors() {
     // The code of a number that is no code has a text too.
     for (std::uint32_t code = APFLOAT_UNKNOWN_FORMAT; code <= APFLOAT_LACKING_OPERATION; code++) {
         apfloat_text text = {{0}, 0};
-        CHECK(apfloat_error_text(code, &text) == APFLOAT_ANSWERED);
+        CHECK(apfloat_error_text(static_cast<apfloat_error>(code), &text) == APFLOAT_ANSWERED);
         CHECK(std::string(message(static_cast<errc>(code))) == text.bytes);
     }
     for (const char *text : {"inf", "INF", "+Infinity", "InFiNiTy"}) {

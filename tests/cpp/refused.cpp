@@ -123,5 +123,8 @@ void use(number x, number y, pair p, value<binary16> h) {
     (void)logb(p);
 #elif CASE == 46
     number z = floor(x); // a signaling NaN has a flag
+#elif CASE == 47
+    apfloat_answer answer;
+    (void)apfloat_add(APFLOAT_UPWARD, APFLOAT_DOUBLE, x.halves(), y.halves(), &answer); // swapped
 #endif
 }
