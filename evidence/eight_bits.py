@@ -16,17 +16,13 @@ from exact.formats import BFLOAT, E4M3FN, E4M3FNUZ, E5M2, HALF
 from exact.roots import square_root
 from row_files import MODES, every
 
+KINDS = ("Infinity", "Normal", "Subnormal", "Zero")
+# The classes, of numbers in their order.
 CLASSES = (
     "SignalingNan",
     "QuietNan",
-    "NegativeInfinity",
-    "NegativeNormal",
-    "NegativeSubnormal",
-    "NegativeZero",
-    "PositiveZero",
-    "PositiveSubnormal",
-    "PositiveNormal",
-    "PositiveInfinity",
+    *(f"Negative{kind}" for kind in KINDS),
+    *(f"Positive{kind}" for kind in reversed(KINDS)),
 )
 
 CALLS_TO = {"add_to": "Sum", "sub_to": "Difference", "mul_to": "Product", "div_to": "Quotient"}

@@ -8,18 +8,15 @@ explains the commands of `tests/explanations/commands`, and has to write somethi
 `tests/explanations/expected`. With a WORD only those are tried whose text has it.
 """
 
-import os
-import shutil
 import subprocess
 import sys
 import tempfile
 from pathlib import Path
 
-ROOT = Path(__file__).resolve().parent.parent
-TEXTS = ROOT / "tests/explanations"
+from changed_copy import TOP, built, copy_to
+
+TEXTS = TOP / "tests/explanations"
 EXPLAIN = "rust/programs/src/bin/explain"
-# What the program is built from.
-PARTS = ["Cargo.toml", ".cargo", "crates", "rust", "docs"]
 
 COMPUTE = [
     # how a word is read
@@ -178,11 +175,7 @@ def main():
     hidden = 0
     with tempfile.TemporaryDirectory() as room:
         room = Path(room)
-        for part in PARTS:
-            if (ROOT / part).is_dir():
-                shutil.copytree(ROOT / part, room / part, ignore=shutil.ignore_patterns("out"))
-            else:
-                shutil.copy(ROOT / part, room)
+        copy_to(room)
         for file, old, new, *why in tried:
             result = result_with(room, file, old, new)
             hidden += result != "seen" and not why
@@ -193,18 +186,18 @@ def main():
 
 def result_with(room, file, old, new):
     """What comes of a mistake: `seen`, `HIDDEN` if the texts are those stored, `BAD` if it does not compile."""
-    text = (ROOT / EXPLAIN / file).read_text()
+    text = (TOP / EXPLAIN / file).read_text()
     if text.count(old) != 1:
         sys.exit(f"{file}: {text.count(old)} times: {old}")
     (room / EXPLAIN / file).write_text(text.replace(old, new))
-    command = ["cargo", "build", "--quiet", "--offline", "-p", "programs", "--bin", "explain"]
-    built = subprocess.run(command, cwd=room, env=os.environ | {"CARGO_TARGET_DIR": "target"}, check=False)
+    program, said = built(room, "explain")
     (room / EXPLAIN / file).write_text(text)
-    if built.returncode:
+    if program is None:
+        print(said)
         return "BAD"
     written = ""
     for line in (TEXTS / "commands").read_text().splitlines():
-        run = subprocess.run([room / "target/debug/explain", *line.split()], capture_output=True, text=True, check=False)
+        run = subprocess.run([program, *line.split()], capture_output=True, text=True, check=False)
         written += run.stdout
     return "HIDDEN" if written == (TEXTS / "expected").read_text() else "seen"
 

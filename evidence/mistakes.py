@@ -1,23 +1,20 @@
 #!/usr/bin/env python3
-"""Shows that each mistake with a name gives a wrong result on a row that tells it apart. It needs `rt` and cargo.
+"""Shows that each mistake with a name gives a wrong result on a row that tells it apart. It needs cargo.
 
     python3 evidence/mistakes.py [--jobs N] [--list] [MISTAKE..]
 
 Each mistake is one or more edits of a crate, `crates/CRATE/must-fail/MISTAKE*.edit`, one for each way that a built-in
-format takes to the result. Each edit is made in a copy of the checkout, where a program then computes a row without a
-proof: `vectors` by `rt try` a command, `check_vectors` by cargo a call. It prints the mistake, the edit, the row, the
-right result and the wrong one, and how many seconds that took. The right results are also computed by the model
-(`exact`), first of all. The status is 1 if a result with an edit is the right one, or if there is none; --list only
-prints the rows.
+format takes to the result. Each edit is made in a copy of the checkout, of which cargo builds `check_vectors`, which
+computes a row, a command of `vectors` or a call. It prints the mistake, the edit, the row, the right result and the
+wrong one, and how many seconds that took. The right results are also computed by the model (`exact`), first of all. The
+status is 1 if a result with an edit is the right one, or if there is none; --list only prints the rows.
 
 A result "none" means that the program stopped, for example at an overflow.
 """
 
 import argparse
-import os
 import queue
 import re
-import shutil
 import subprocess
 import sys
 import tempfile
@@ -26,8 +23,7 @@ from concurrent.futures import ThreadPoolExecutor
 from pathlib import Path
 
 import rows
-
-TOP = Path(__file__).resolve().parent.parent
+from changed_copy import TOP, built, copy_to
 
 # A tie of the least number of half, but for a digit after forty zeros.
 JUST_ABOVE_TIE = "half parse even 0x1." + "0" * 40 + "1p-25\t0001 UNDERFLOW|INEXACT"
@@ -76,6 +72,15 @@ QUAD_PRODUCT = call(
 TO_HALF = call("convert_r", "single>half", "even", "33000001", "0001", "UNDERFLOW|INEXACT", "loses_info=true")
 ABOVE_ONE = call("round_to_integral", "half", "up", "3c01", "4000", "INEXACT", "-")
 LONG_ABOVE_ONE = call("round_to_integral", "quad", "up", quad("3fff", "1"), quad("4"), "INEXACT", "-")
+# An inexact result of each operation.
+INEXACT = {
+    "sum": PAST_LARGEST,
+    "product": HALF_QUANTUM,
+    "wide-product": QUAD_PRODUCT,
+    "quotient": THIRD,
+    "fused-sum": FUSED,
+    "wide-fused-sum": QUAD_FUSED,
+}
 STEPS = call("c_fmod_steps", "half", "-", "7bff 0001", "0000", "OK", "steps=11 bound=40")
 
 # The crate, the edit and its row, for each mistake.
@@ -156,18 +161,9 @@ MISTAKES = {
         ),
     ],
     "always-nan-or-left-operand": [
-        ("apfloat_arithmetic", "-sum", PAST_LARGEST),
-        ("apfloat_arithmetic", "-sum-nan", PAST_LARGEST),
-        ("apfloat_arithmetic", "-product", HALF_QUANTUM),
-        ("apfloat_arithmetic", "-product-nan", HALF_QUANTUM),
-        ("apfloat_arithmetic", "-wide-product", QUAD_PRODUCT),
-        ("apfloat_arithmetic", "-wide-product-nan", QUAD_PRODUCT),
-        ("apfloat_arithmetic", "-quotient", THIRD),
-        ("apfloat_arithmetic", "-quotient-nan", THIRD),
-        ("apfloat_arithmetic", "-fused-sum", FUSED),
-        ("apfloat_arithmetic", "-fused-sum-nan", FUSED),
-        ("apfloat_arithmetic", "-wide-fused-sum", QUAD_FUSED),
-        ("apfloat_arithmetic", "-wide-fused-sum-nan", QUAD_FUSED),
+        ("apfloat_arithmetic", f"-{operation}{result}", row)
+        for operation, row in INEXACT.items()
+        for result in ("", "-nan")
     ],
     "status-always-ok": [
         ("apfloat_rounding", "", "half parse even 0x1p-25\t0000 UNDERFLOW|INEXACT"),
@@ -175,12 +171,7 @@ MISTAKES = {
         ("apfloat_rounding", "-below", HALF_QUANTUM),
         ("apfloat_rounding", "-rest", HALF_QUANTUM),
         ("apfloat_conversions", "-integral-value", ABOVE_ONE),
-        ("apfloat_arithmetic", "-sum", PAST_LARGEST),
-        ("apfloat_arithmetic", "-product", HALF_QUANTUM),
-        ("apfloat_arithmetic", "-wide-product", QUAD_PRODUCT),
-        ("apfloat_arithmetic", "-quotient", THIRD),
-        ("apfloat_arithmetic", "-fused-sum", FUSED),
-        ("apfloat_arithmetic", "-wide-fused-sum", QUAD_FUSED),
+        *(("apfloat_arithmetic", f"-{operation}", row) for operation, row in INEXACT.items()),
     ],
     # The edit counts these subtractions without making them: on the row of the next mistake there are 2^40.
     "remainder-subtracts-divisor-itself": [
@@ -275,48 +266,18 @@ def edited(edit, folder):
     return texts
 
 
-def computed(copy, row):
-    """What the programs of a copy compute for a row."""
-    columns = row.split("\t")
-    if len(columns) == 2:
-        return replied(copy, columns[0].split(" "))
-    _, said = run(copy, ["cargo", "build", "--quiet", "--offline", "-p", "programs", "--bin", "check_vectors"])
-    status, said = run(copy, ["target/debug/check_vectors"], row + "\n") if not said else (None, said)
-    found = re.search(r"^  given: (.*)$", said, re.MULTILINE)
+def computed(program, row):
+    """What `check_vectors` computes for a row."""
+    ran = subprocess.run([program], input=row + "\n", capture_output=True, text=True, errors="replace", check=False)
+    found = re.search(r"^  given: (.*)$", ran.stdout, re.MULTILINE)
     if found:
         return " ".join(word for word in found.group(1).split("\t") if word != "-")
-    if "1 rows agree, 0 differ" in said:
+    if "1 rows agree, 0 differ" in ran.stdout:
         return split(row)[1]
     # 101 is the status of a panic, as at an overflow.
-    if status == 101:
+    if ran.returncode == 101:
         return "none"
-    raise Fault("check_vectors gave no result:\n" + said[-1500:])
-
-
-def replied(copy, words):
-    """The reply of `vectors` to a command."""
-    _, said = run(copy / "crates" / "vectors", ["rt", "try", "--", *words])
-    if "\nrun=ended " not in "\n" + said:
-        if "\nrun=" in "\n" + said and "run=none" not in said:
-            return "none"
-        raise Fault("rt try gave no result:\n" + said[-1500:])
-    return said.split("\nchecked: ")[0].strip()
-
-
-def run(folder, command, given=""):
-    """The status of a command that is run in a folder, and what it writes."""
-    ran = subprocess.run(
-        command,
-        cwd=folder,
-        input=given,
-        stdout=subprocess.PIPE,
-        stderr=subprocess.STDOUT,
-        text=True,
-        errors="replace",
-        check=False,
-        env=os.environ | {"CARGO_TARGET_DIR": "target"},
-    )
-    return ran.returncode, ran.stdout
+    raise Fault("check_vectors gave no result:\n" + (ran.stdout + ran.stderr)[-1500:])
 
 
 def tried(copies, mistake, crate, suffix, row):
@@ -324,19 +285,20 @@ def tried(copies, mistake, crate, suffix, row):
     edit = TOP / "crates" / crate / "must-fail" / f"{mistake}{suffix}.edit"
     begun = time.monotonic()
     copy = copies.get()
+    kept = {}
     try:
-        texts = edited(edit, copy / "crates" / crate)
-        kept = {file: file.read_text(encoding="utf-8") for file in texts}
-        try:
-            for file, text in texts.items():
-                file.write_text(text, encoding="utf-8")
-            result = computed(copy, row)
-        finally:
-            for file, text in kept.items():
-                file.write_text(text, encoding="utf-8")
+        for file, text in edited(edit, copy / "crates" / crate).items():
+            kept[file] = file.read_text(encoding="utf-8")
+            file.write_text(text, encoding="utf-8")
+        program, said = built(copy, "check_vectors")
+        if program is None:
+            raise Fault("cargo built no check_vectors:\n" + said[-1500:])
+        result = computed(program, row)
     except (Fault, OSError) as fault:
         result = fault
     finally:
+        for file, text in kept.items():
+            file.write_text(text, encoding="utf-8")
         copies.put(copy)
     return result, time.monotonic() - begun
 
@@ -377,9 +339,8 @@ def main():
     with tempfile.TemporaryDirectory(prefix="mistakes-") as room:
         copies = queue.Queue()
         for number in range(words.jobs):
-            copy = Path(room) / str(number)
-            shutil.copytree(TOP, copy, symlinks=True, ignore=shutil.ignore_patterns(".git", "out", "target"))
-            copies.put(copy)
+            copies.put(Path(room) / str(number))
+            copy_to(Path(room) / str(number))
         with ThreadPoolExecutor(words.jobs) as pool:
             results = pool.map(lambda one: tried(copies, *one), tries)
             print("mistake | crate and way | row | right | wrong | seconds")

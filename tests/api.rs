@@ -45,16 +45,11 @@ where
 
 #[test]
 fn types() {
-    type_of_float::<Half>();
-    type_of_float::<Single>();
-    type_of_float::<Double>();
-    type_of_float::<Quad>();
-    type_of_float::<BFloat>();
-    type_of_float::<Float8E5M2>();
-    type_of_float::<Float8E4M3FN>();
-    type_of_float::<X87DoubleExtended>();
-    type_of_float::<DoubleDouble>();
-    type_of_float::<DoubleFloat<Single>>();
+    macro_rules! types_of_floats {
+        ($($type:ty)*) => { $(type_of_float::<$type>();)* };
+    }
+    types_of_floats! { Half Single Double Quad BFloat Float8E5M2 Float8E4M3FN X87DoubleExtended }
+    types_of_floats! { DoubleDouble DoubleFloat<Single> }
     has! {
         IeeeFloat<HalfS>: [FloatConvert<IeeeFloat<QuadS>> + FloatConvert<Half>];
         Double: [FloatConvert<IeeeFloat<FallbackS<Double>>> + FloatConvert<IeeeFloat<FallbackExtendedS<Double>>>];

@@ -51,33 +51,34 @@ fn codes() -> Vec<u8> {
 
 type Compare = fn(Small, Small) -> StatusAnd<bool>;
 
-/// Which relations satisfy a predicate: less, equal, greater, unordered (tables 5.1 to 5.3 of the standard).
-const QUIET: [(Compare, Predicate, [bool; 4]); 12] = [
-    (comparisons::compare_quiet_equal, Predicate::Equal, [false, true, false, false]),
-    (comparisons::compare_quiet_not_equal, Predicate::NotEqual, [true, false, true, true]),
-    (comparisons::compare_quiet_greater, Predicate::Greater, [false, false, true, false]),
-    (comparisons::compare_quiet_greater_equal, Predicate::GreaterEqual, [false, true, true, false]),
-    (comparisons::compare_quiet_less, Predicate::Less, [true, false, false, false]),
-    (comparisons::compare_quiet_less_equal, Predicate::LessEqual, [true, true, false, false]),
-    (comparisons::compare_quiet_unordered, Predicate::Unordered, [false, false, false, true]),
-    (comparisons::compare_quiet_ordered, Predicate::Ordered, [true, true, true, false]),
-    (comparisons::compare_quiet_not_greater, Predicate::NotGreater, [true, true, false, true]),
-    (comparisons::compare_quiet_less_unordered, Predicate::LessUnordered, [true, false, false, true]),
-    (comparisons::compare_quiet_not_less, Predicate::NotLess, [false, true, true, true]),
-    (comparisons::compare_quiet_greater_unordered, Predicate::GreaterUnordered, [false, false, true, true]),
+/// The predicates, and which relations satisfy them: less, equal, greater, unordered (tables 5.1 to 5.3 of the standard).
+const QUIET: [(Predicate, Compare, [bool; 4]); 12] = [
+    (Predicate::Equal, comparisons::compare_quiet_equal, [false, true, false, false]),
+    (Predicate::NotEqual, comparisons::compare_quiet_not_equal, [true, false, true, true]),
+    (Predicate::Greater, comparisons::compare_quiet_greater, [false, false, true, false]),
+    (Predicate::GreaterEqual, comparisons::compare_quiet_greater_equal, [false, true, true, false]),
+    (Predicate::Less, comparisons::compare_quiet_less, [true, false, false, false]),
+    (Predicate::LessEqual, comparisons::compare_quiet_less_equal, [true, true, false, false]),
+    (Predicate::Unordered, comparisons::compare_quiet_unordered, [false, false, false, true]),
+    (Predicate::Ordered, comparisons::compare_quiet_ordered, [true, true, true, false]),
+    (Predicate::NotGreater, comparisons::compare_quiet_not_greater, [true, true, false, true]),
+    (Predicate::LessUnordered, comparisons::compare_quiet_less_unordered, [true, false, false, true]),
+    (Predicate::NotLess, comparisons::compare_quiet_not_less, [false, true, true, true]),
+    (Predicate::GreaterUnordered, comparisons::compare_quiet_greater_unordered, [false, false, true, true]),
 ];
 
-const SIGNALING: [(Compare, Predicate, [bool; 4]); 10] = [
-    (comparisons::compare_signaling_equal, Predicate::Equal, [false, true, false, false]),
-    (comparisons::compare_signaling_not_equal, Predicate::NotEqual, [true, false, true, true]),
-    (comparisons::compare_signaling_greater, Predicate::Greater, [false, false, true, false]),
-    (comparisons::compare_signaling_greater_equal, Predicate::GreaterEqual, [false, true, true, false]),
-    (comparisons::compare_signaling_less, Predicate::Less, [true, false, false, false]),
-    (comparisons::compare_signaling_less_equal, Predicate::LessEqual, [true, true, false, false]),
-    (comparisons::compare_signaling_not_greater, Predicate::NotGreater, [true, true, false, true]),
-    (comparisons::compare_signaling_less_unordered, Predicate::LessUnordered, [true, false, false, true]),
-    (comparisons::compare_signaling_not_less, Predicate::NotLess, [false, true, true, true]),
-    (comparisons::compare_signaling_greater_unordered, Predicate::GreaterUnordered, [false, false, true, true]),
+/// Those with a call that signals.
+const SIGNALING: [(Predicate, Compare); 10] = [
+    (Predicate::Equal, comparisons::compare_signaling_equal),
+    (Predicate::NotEqual, comparisons::compare_signaling_not_equal),
+    (Predicate::Greater, comparisons::compare_signaling_greater),
+    (Predicate::GreaterEqual, comparisons::compare_signaling_greater_equal),
+    (Predicate::Less, comparisons::compare_signaling_less),
+    (Predicate::LessEqual, comparisons::compare_signaling_less_equal),
+    (Predicate::NotGreater, comparisons::compare_signaling_not_greater),
+    (Predicate::LessUnordered, comparisons::compare_signaling_less_unordered),
+    (Predicate::NotLess, comparisons::compare_signaling_not_less),
+    (Predicate::GreaterUnordered, comparisons::compare_signaling_greater_unordered),
 ];
 
 fn invalid_if(invalid: bool) -> Status {
@@ -97,16 +98,18 @@ fn predicates() {
             };
             let quiet = invalid_if(is_signaling(x) || is_signaling(y));
             let signaling = invalid_if(relation == 3);
-            let rules = [(OnNan::Quiet, quiet, QUIET.as_slice()), (OnNan::Signaling, signaling, SIGNALING.as_slice())];
             let (x, y) = (small(x), small(y));
-            for (on_nan, status, table) in rules {
-                for (call, predicate, holds) in table {
+            let wide: Double = x.add_to(Small::ZERO, Round::TowardZero).value;
+            for (predicate, call, holds) in QUIET {
+                assert_eq!(call(x, y), quiet.and(holds[relation]), "{x} {y} {predicate:?}");
+                if let Some((_, call)) = SIGNALING.iter().find(|(signaling, _)| *signaling == predicate) {
+                    assert_eq!(call(x, y), signaling.and(holds[relation]), "{x} {y} {predicate:?}");
+                }
+                for (on_nan, status) in [(OnNan::Quiet, quiet), (OnNan::Signaling, signaling)] {
                     let expected = status.and(holds[relation]);
-                    assert_eq!(call(x, y), expected, "{x} {y} {predicate:?}");
-                    assert_eq!(comparisons::compare(*predicate, on_nan, x, y), expected);
-                    let wide: Double = x.add_to(Small::ZERO, Round::TowardZero).value;
+                    assert_eq!(comparisons::compare(predicate, on_nan, x, y), expected);
                     if !x.is_signaling() {
-                        assert_eq!(comparisons::compare_between(*predicate, on_nan, wide, y), expected);
+                        assert_eq!(comparisons::compare_between(predicate, on_nan, wide, y), expected);
                     }
                 }
             }

@@ -74,21 +74,12 @@ fn constants<F: Float>() {
 
 #[test]
 fn constants_are_the_values_of_calls() {
-    constants::<Half>();
-    constants::<Single>();
-    constants::<Double>();
-    constants::<Quad>();
-    constants::<BFloat>();
-    constants::<Float8E5M2>();
-    constants::<Float8E4M3FN>();
-    constants::<Float8E4M3FNUZ>();
-    constants::<Float8E4M3>();
-    constants::<Float8E5M2FNUZ>();
-    constants::<Float8E4M3B11FNUZ>();
-    constants::<FloatTF32>();
-    constants::<X87DoubleExtended>();
-    constants::<IeeeFloat<IeeeFlags<TinyBefore<DoubleS>>>>();
-    constants::<DoubleDouble>();
+    macro_rules! constants_of {
+        ($($type:ty)*) => { $(constants::<$type>();)* };
+    }
+    constants_of! { Half Single Double Quad BFloat X87DoubleExtended FloatTF32 DoubleDouble }
+    constants_of! { Float8E5M2 Float8E4M3FN Float8E4M3FNUZ Float8E4M3 Float8E5M2FNUZ Float8E4M3B11FNUZ }
+    constants_of! { IeeeFloat<IeeeFlags<TinyBefore<DoubleS>>> }
     const LIMITS: (usize, usize, ExpInt, ExpInt) = (Double::BITS, Double::PRECISION, Double::MAX_EXP, Double::MIN_EXP);
     assert_eq!(LIMITS, (64, 53, 1023, -1022));
     assert_eq!((DoubleDouble::BITS, DoubleDouble::PRECISION, DoubleDouble::MIN_EXP), (128, 106, -969));

@@ -16,20 +16,31 @@ sys.path.insert(0, str(Path(__file__).resolve().parent.parent))
 from exact import calls  # noqa: E402
 
 
-def main():
-    """Compares all rows of standard input."""
+def compared(lines, answers):
+    """Prints each line with another result, and what has the other one: `answers` gives, of a line, its result, what is
+    expected, and how that is told, or `None` for a line to be skipped. Returns the exit status.
+    """
     agree = differ = 0
-    for line in sys.stdin:
-        call, kind, mode, operands, value, flags, _ = line.split("\t")
-        answer = calls.answered(call, kind, mode, operands)
-        if (answer.value, answer.flags) == (value, flags):
+    for line in lines:
+        answer = answers(line)
+        if answer is None:
+            continue
+        result, expected, told = answer
+        if result == expected:
             agree += 1
         else:
             differ += 1
-            print(f"{line.rstrip()}\n  the model: {answer.value} {answer.flags}")
+            print(f"{line.rstrip()}\n  {told}")
     print(f"{agree} rows agree, {differ} differ")
     return 1 if differ else 0
 
 
+def of_row(line):
+    """The result of a row, and that of the model."""
+    call, kind, mode, operands, value, flags, _ = line.split("\t")
+    answer = calls.answered(call, kind, mode, operands)
+    return (value, flags), (answer.value, answer.flags), f"the model: {answer.value} {answer.flags}"
+
+
 if __name__ == "__main__":
-    sys.exit(main())
+    sys.exit(compared(sys.stdin, of_row))

@@ -18,6 +18,32 @@ typedef unsigned u32;
 
 static u32 raised;
 
+// What a conversion leaves in a register.
+static inline u32 of_word(u64 r) { return (u32)r; }
+static inline u32 of_single(float r) {
+    u32 bits;
+    __builtin_memcpy(&bits, &r, 4);
+    return bits;
+}
+static inline u64 of_double(double r) {
+    u64 bits;
+    __builtin_memcpy(&bits, &r, 8);
+    return bits;
+}
+static inline u32 of_lower_half(double r) { return (u32)of_double(r); }
+static inline u32 of_upper_half(double r) { return (u32)(of_double(r) >> 32); }
+
+// A conversion of a double: its name, the type of its result and what reads that, the instruction, the kinds of its
+// registers, and what else it writes.
+#define CONVERSION(NAME, TYPE, READ, TEXT, TO, FROM, ...)            \
+    static u32 NAME(double x) {                                      \
+        TYPE r;                                                      \
+        BEGIN;                                                       \
+        __asm__ volatile(TEXT : TO(r) : FROM(x) : __VA_ARGS__);      \
+        read_flags();                                                \
+        return READ(r);                                              \
+    }
+
 #if defined(__aarch64__)
 static long write_out(const char *text, long length) {
     register long x8 __asm__("x8") = 64, x0 __asm__("x0") = 1, x2 __asm__("x2") = length;
@@ -37,55 +63,20 @@ static void read_flags(void) {
 }
 #define BEGIN __asm__ volatile("msr fpcr, %0\n\tmsr fpsr, xzr" : : "r"(control))
 #define TWO(NAME) __asm__ volatile(NAME " %d0, %d1, %d2" : "=w"(r) : "w"(x), "w"(y))
-static double of_two(int call, double x, double y) {
-    double r = 0;
-    BEGIN;
-    switch (call) {
-    case 0: TWO("fadd"); break;
-    case 1: TWO("fmul"); break;
-    case 2: TWO("fminnm"); break;
-    case 3: TWO("fmin"); break;
-    case 4: TWO("fmaxnm"); break;
-    case 5: TWO("fmax"); break;
-    }
-    read_flags();
-    return r;
-}
-static const char *const CALLS[] = {"add",            "mul",            "min:Number2008",
-                                    "min:Propagated", "max:Number2008", "max:Propagated"};
-enum { CALL_COUNT = 6, MACHINE_COUNT = 2 };
+#define CALLS_OF_TWO(CALL)                   \
+    CALL(0, "add", TWO("fadd"))              \
+    CALL(1, "mul", TWO("fmul"))              \
+    CALL(2, "min:Number2008", TWO("fminnm")) \
+    CALL(3, "min:Propagated", TWO("fmin"))   \
+    CALL(4, "max:Number2008", TWO("fmaxnm")) \
+    CALL(5, "max:Propagated", TWO("fmax"))
+enum { MACHINE_COUNT = 2 };
 static const char *const MACHINES[] = {"Arm", "ArmDefaultNan"};
 static void choose(int machine) { control = machine ? 1 << 25 : 0; }
-static double fused(double x, double y, double z) {
-    double r;
-    BEGIN;
-    __asm__ volatile("fmadd %d0, %d1, %d2, %d3" : "=w"(r) : "w"(x), "w"(y), "w"(z));
-    read_flags();
-    return r;
-}
-static u32 to_signed(double x) {
-    u32 r;
-    BEGIN;
-    __asm__ volatile("fcvtns %w0, %d1" : "=r"(r) : "w"(x));
-    read_flags();
-    return r;
-}
-static u32 to_unsigned(double x) {
-    u32 r;
-    BEGIN;
-    __asm__ volatile("fcvtnu %w0, %d1" : "=r"(r) : "w"(x));
-    read_flags();
-    return r;
-}
-static u32 to_single(double x) {
-    float r;
-    u32 bits;
-    BEGIN;
-    __asm__ volatile("fcvt %s0, %d1" : "=w"(r) : "w"(x));
-    read_flags();
-    __builtin_memcpy(&bits, &r, 4);
-    return bits;
-}
+#define FUSED __asm__ volatile("fmadd %d0, %d1, %d2, %d3" : "=w"(r) : "w"(x), "w"(y), "w"(z))
+CONVERSION(to_signed, u32, of_word, "fcvtns %w0, %d1", "=r", "w")
+CONVERSION(to_unsigned, u32, of_word, "fcvtnu %w0, %d1", "=r", "w")
+CONVERSION(to_single, float, of_single, "fcvt %s0, %d1", "=w", "w")
 
 #elif defined(__riscv)
 static long write_out(const char *text, long length) {
@@ -105,52 +96,18 @@ static void read_flags(void) {
 }
 #define BEGIN __asm__ volatile("fscsr x0")
 #define TWO(NAME) __asm__ volatile(NAME " %0, %1, %2" : "=f"(r) : "f"(x), "f"(y))
-static double of_two(int call, double x, double y) {
-    double r = 0;
-    BEGIN;
-    switch (call) {
-    case 0: TWO("fadd.d"); break;
-    case 1: TWO("fmul.d"); break;
-    case 2: TWO("fmin.d"); break;
-    case 3: TWO("fmax.d"); break;
-    }
-    read_flags();
-    return r;
-}
-static const char *const CALLS[] = {"add", "mul", "min:Number2019", "max:Number2019"};
-enum { CALL_COUNT = 4, MACHINE_COUNT = 1 };
+#define CALLS_OF_TWO(CALL)                   \
+    CALL(0, "add", TWO("fadd.d"))            \
+    CALL(1, "mul", TWO("fmul.d"))            \
+    CALL(2, "min:Number2019", TWO("fmin.d")) \
+    CALL(3, "max:Number2019", TWO("fmax.d"))
+enum { MACHINE_COUNT = 1 };
 static const char *const MACHINES[] = {"RiscV"};
 static void choose(int machine) { (void)machine; }
-static double fused(double x, double y, double z) {
-    double r;
-    BEGIN;
-    __asm__ volatile("fmadd.d %0, %1, %2, %3" : "=f"(r) : "f"(x), "f"(y), "f"(z));
-    read_flags();
-    return r;
-}
-static u32 to_signed(double x) {
-    u64 r;
-    BEGIN;
-    __asm__ volatile("fcvt.w.d %0, %1, rne" : "=r"(r) : "f"(x));
-    read_flags();
-    return (u32)r;
-}
-static u32 to_unsigned(double x) {
-    u64 r;
-    BEGIN;
-    __asm__ volatile("fcvt.wu.d %0, %1, rne" : "=r"(r) : "f"(x));
-    read_flags();
-    return (u32)r;
-}
-static u32 to_single(double x) {
-    float r;
-    u32 bits;
-    BEGIN;
-    __asm__ volatile("fcvt.s.d %0, %1" : "=f"(r) : "f"(x));
-    read_flags();
-    __builtin_memcpy(&bits, &r, 4);
-    return bits;
-}
+#define FUSED __asm__ volatile("fmadd.d %0, %1, %2, %3" : "=f"(r) : "f"(x), "f"(y), "f"(z))
+CONVERSION(to_signed, u64, of_word, "fcvt.w.d %0, %1, rne", "=r", "f")
+CONVERSION(to_unsigned, u64, of_word, "fcvt.wu.d %0, %1, rne", "=r", "f")
+CONVERSION(to_single, float, of_single, "fcvt.s.d %0, %1", "=f", "f")
 
 #elif defined(__powerpc64__)
 static long write_out(const char *text, long length) {
@@ -172,70 +129,29 @@ static void clear_flags(void) {
 }
 static void read_flags(void) {
     double s;
-    u64 bits;
     __asm__ volatile("mffs %0" : "=d"(s));
-    __builtin_memcpy(&bits, &s, 8);
+    u64 bits = of_double(s);
     raised = (bits & 0x20000000 ? 1 : 0) | (bits & 0x04000000 ? 2 : 0) | (bits & 0x10000000 ? 4 : 0)
         | (bits & 0x08000000 ? 8 : 0) | (bits & 0x02000000 ? 16 : 0);
 }
 #define BEGIN clear_flags()
 #define TWO(NAME) __asm__ volatile(NAME " %x0, %x1, %x2" : "=wa"(r) : "wa"(x), "wa"(y))
-static double of_two(int call, double x, double y) {
-    double r = 0;
-    BEGIN;
-    switch (call) {
-    case 0: TWO("xsadddp"); break;
-    case 1: TWO("xsmuldp"); break;
-    case 2: TWO("xsmindp"); break;
-    case 3: TWO("xsmaxdp"); break;
-    case 4: TWO("xsmincdp"); break;
-    case 5: TWO("xsmaxcdp"); break;
-    case 6: TWO("xsminjdp"); break;
-    case 7: TWO("xsmaxjdp"); break;
-    }
-    read_flags();
-    return r;
-}
-static const char *const CALLS[] = {"add",          "mul",          "min:Number2008",    "max:Number2008",
-                                    "min:SecondQuietly", "max:SecondQuietly", "min:FirstNan", "max:FirstNan"};
-enum { CALL_COUNT = 8, MACHINE_COUNT = 1 };
+#define CALLS_OF_TWO(CALL)                        \
+    CALL(0, "add", TWO("xsadddp"))                \
+    CALL(1, "mul", TWO("xsmuldp"))                \
+    CALL(2, "min:Number2008", TWO("xsmindp"))     \
+    CALL(3, "max:Number2008", TWO("xsmaxdp"))     \
+    CALL(4, "min:SecondQuietly", TWO("xsmincdp")) \
+    CALL(5, "max:SecondQuietly", TWO("xsmaxcdp")) \
+    CALL(6, "min:FirstNan", TWO("xsminjdp"))      \
+    CALL(7, "max:FirstNan", TWO("xsmaxjdp"))
+enum { MACHINE_COUNT = 1 };
 static const char *const MACHINES[] = {"Power"};
 static void choose(int machine) { (void)machine; }
-static double fused(double x, double y, double z) {
-    double r;
-    BEGIN;
-    __asm__ volatile("fmadd %0, %1, %2, %3" : "=d"(r) : "d"(x), "d"(y), "d"(z));
-    read_flags();
-    return r;
-}
-static u32 integer_of(double r) {
-    u64 bits;
-    __builtin_memcpy(&bits, &r, 8);
-    return (u32)bits;
-}
-static u32 to_signed(double x) {
-    double r;
-    BEGIN;
-    __asm__ volatile("fctiw %0, %1" : "=d"(r) : "d"(x));
-    read_flags();
-    return integer_of(r);
-}
-static u32 to_unsigned(double x) {
-    double r;
-    BEGIN;
-    __asm__ volatile("fctiwu %0, %1" : "=d"(r) : "d"(x));
-    read_flags();
-    return integer_of(r);
-}
-static u32 to_single(double x) {
-    double r;
-    u64 bits;
-    BEGIN;
-    __asm__ volatile("xscvdpsp %x0, %x1" : "=wa"(r) : "wa"(x));
-    read_flags();
-    __builtin_memcpy(&bits, &r, 8);
-    return (u32)(bits >> 32);
-}
+#define FUSED __asm__ volatile("fmadd %0, %1, %2, %3" : "=d"(r) : "d"(x), "d"(y), "d"(z))
+CONVERSION(to_signed, double, of_lower_half, "fctiw %0, %1", "=d", "d")
+CONVERSION(to_unsigned, double, of_lower_half, "fctiwu %0, %1", "=d", "d")
+CONVERSION(to_single, double, of_upper_half, "xscvdpsp %x0, %x1", "=wa", "wa")
 
 #elif defined(__s390x__)
 static long write_out(const char *text, long length) {
@@ -256,57 +172,22 @@ static void read_flags(void) {
 }
 #define BEGIN __asm__ volatile("sfpc %0" : : "r"(0L))
 #define VECTOR(NAME, KIND) __asm__ volatile(NAME " %v0,%v1,%v2," KIND : "=v"(r) : "v"(x), "v"(y))
-static double of_two(int call, double x, double y) {
-    double r = x;
-    BEGIN;
-    switch (call) {
-    case 0: __asm__ volatile("adbr %0, %1" : "+f"(r) : "f"(y)); break;
-    case 1: __asm__ volatile("mdbr %0, %1" : "+f"(r) : "f"(y)); break;
-    case 2: VECTOR("wfmindb", "0"); break;
-    case 3: VECTOR("wfmaxdb", "0"); break;
-    case 4: VECTOR("wfmindb", "1"); break;
-    case 5: VECTOR("wfmaxdb", "1"); break;
-    case 6: VECTOR("wfmindb", "2"); break;
-    case 7: VECTOR("wfmaxdb", "2"); break;
-    }
-    read_flags();
-    return r;
-}
-static const char *const CALLS[] = {"add",            "mul",            "min:Number2008", "max:Number2008",
-                                    "min:Propagated", "max:Propagated", "min:Second",     "max:Second"};
-enum { CALL_COUNT = 8, MACHINE_COUNT = 1 };
+#define CALLS_OF_TWO(CALL)                                                \
+    CALL(0, "add", __asm__ volatile("adbr %0, %1" : "+f"(r) : "f"(y)))    \
+    CALL(1, "mul", __asm__ volatile("mdbr %0, %1" : "+f"(r) : "f"(y)))    \
+    CALL(2, "min:Number2008", VECTOR("wfmindb", "0"))                     \
+    CALL(3, "max:Number2008", VECTOR("wfmaxdb", "0"))                     \
+    CALL(4, "min:Propagated", VECTOR("wfmindb", "1"))                     \
+    CALL(5, "max:Propagated", VECTOR("wfmaxdb", "1"))                     \
+    CALL(6, "min:Second", VECTOR("wfmindb", "2"))                         \
+    CALL(7, "max:Second", VECTOR("wfmaxdb", "2"))
+enum { MACHINE_COUNT = 1 };
 static const char *const MACHINES[] = {"S390x"};
 static void choose(int machine) { (void)machine; }
-static double fused(double x, double y, double z) {
-    double r = z;
-    BEGIN;
-    __asm__ volatile("madbr %0, %1, %2" : "+f"(r) : "f"(x), "f"(y));
-    read_flags();
-    return r;
-}
-static u32 to_signed(double x) {
-    u64 r;
-    BEGIN;
-    __asm__ volatile("cfdbr %0, 4, %1" : "=r"(r) : "f"(x) : "cc");
-    read_flags();
-    return (u32)r;
-}
-static u32 to_unsigned(double x) {
-    u64 r;
-    BEGIN;
-    __asm__ volatile("clfdbr %0, 4, %1, 0" : "=r"(r) : "f"(x) : "cc");
-    read_flags();
-    return (u32)r;
-}
-static u32 to_single(double x) {
-    float r;
-    u32 bits;
-    BEGIN;
-    __asm__ volatile("ledbr %0, %1" : "=f"(r) : "f"(x));
-    read_flags();
-    __builtin_memcpy(&bits, &r, 4);
-    return bits;
-}
+#define FUSED __asm__ volatile("madbr %0, %1, %2" : "+f"(r) : "f"(x), "f"(y))
+CONVERSION(to_signed, u64, of_word, "cfdbr %0, 4, %1", "=r", "f", "cc")
+CONVERSION(to_unsigned, u64, of_word, "clfdbr %0, 4, %1, 0", "=r", "f", "cc")
+CONVERSION(to_single, float, of_single, "ledbr %0, %1", "=f", "f")
 
 #elif defined(__mips__)
 static long write_out(const char *text, long length) {
@@ -327,56 +208,47 @@ static void read_flags(void) {
 }
 #define BEGIN __asm__ volatile("ctc1 $zero, $31")
 #define TWO(NAME) __asm__ volatile(NAME " %0, %1, %2" : "=f"(r) : "f"(x), "f"(y))
+// max.d $f0, $f2, $f4; clang 14 makes mina.d of it.
+#define MAXIMUM                                                                      \
+    __asm__ volatile("mov.d $f2, %1\n\tmov.d $f4, %2\n\t.word 0x4624101e\n\tmov.d %0, $f0" \
+                     : "=f"(r)                                                       \
+                     : "f"(x), "f"(y)                                                \
+                     : "$f0", "$f2", "$f4")
+#define CALLS_OF_TWO(CALL)                  \
+    CALL(0, "add", TWO("add.d"))            \
+    CALL(1, "mul", TWO("mul.d"))            \
+    CALL(2, "min:Number2008", TWO("min.d")) \
+    CALL(3, "max:Number2008", MAXIMUM)
+enum { MACHINE_COUNT = 1 };
+static const char *const MACHINES[] = {"Mips2008"};
+static void choose(int machine) { (void)machine; }
+#define FUSED __asm__ volatile("maddf.d %0, %1, %2" : "+f"(r) : "f"(x), "f"(y))
+CONVERSION(to_signed, float, of_single, "cvt.w.d %0, %1", "=f", "f")
+#define HAS_NO_UNSIGNED
+CONVERSION(to_single, float, of_single, "cvt.s.d %0, %1", "=f", "f")
+#endif
+
+#define NAMED(NUMBER, NAME, INSTRUCTION) NAME,
+static const char *const CALLS[] = {CALLS_OF_TWO(NAMED)};
+enum { CALL_COUNT = sizeof CALLS / sizeof *CALLS };
+
+#define MADE(NUMBER, NAME, INSTRUCTION) \
+    case NUMBER: INSTRUCTION; break;
 static double of_two(int call, double x, double y) {
-    double r = 0;
+    double r = x;
     BEGIN;
-    switch (call) {
-    case 0: TWO("add.d"); break;
-    case 1: TWO("mul.d"); break;
-    case 2: TWO("min.d"); break;
-    case 3:
-        // max.d $f0, $f2, $f4; clang 14 makes mina.d of it.
-        __asm__ volatile("mov.d $f2, %1\n\tmov.d $f4, %2\n\t.word 0x4624101e\n\tmov.d %0, $f0"
-                         : "=f"(r)
-                         : "f"(x), "f"(y)
-                         : "$f0", "$f2", "$f4");
-        break;
-    }
+    switch (call) { CALLS_OF_TWO(MADE) }
     read_flags();
     return r;
 }
-static const char *const CALLS[] = {"add", "mul", "min:Number2008", "max:Number2008"};
-enum { CALL_COUNT = 4, MACHINE_COUNT = 1 };
-static const char *const MACHINES[] = {"Mips2008"};
-static void choose(int machine) { (void)machine; }
+
 static double fused(double x, double y, double z) {
     double r = z;
     BEGIN;
-    __asm__ volatile("maddf.d %0, %1, %2" : "+f"(r) : "f"(x), "f"(y));
+    FUSED;
     read_flags();
     return r;
 }
-static u32 word_of(float r) {
-    u32 bits;
-    __builtin_memcpy(&bits, &r, 4);
-    return bits;
-}
-static u32 to_signed(double x) {
-    float r;
-    BEGIN;
-    __asm__ volatile("cvt.w.d %0, %1" : "=f"(r) : "f"(x));
-    read_flags();
-    return word_of(r);
-}
-#define HAS_NO_UNSIGNED
-static u32 to_single(double x) {
-    float r;
-    BEGIN;
-    __asm__ volatile("cvt.s.d %0, %1" : "=f"(r) : "f"(x));
-    read_flags();
-    return word_of(r);
-}
-#endif
 
 // ---- lines: a machine, a call, operands, the result and the flags, as the library counts them
 
@@ -407,12 +279,6 @@ static double of_bits(u64 bits) {
     return x;
 }
 
-static u64 bits_of(double x) {
-    u64 bits;
-    __builtin_memcpy(&bits, &x, 8);
-    return bits;
-}
-
 static const u64 VALUES[] = {0x3ff0000000000000, 0x7ff8000000000001, 0xfff8000000000002, 0x7ff0000000000003,
                              0xfff0000000000004, 0x7ff0000000000000, 0xfff0000000000000, 0x0000000000000000,
                              0x8000000000000000};
@@ -436,14 +302,14 @@ void run(void) {
         for (int c = 0; c < CALL_COUNT; c++)
             for (int i = 0; i < COUNT; i++)
                 for (int j = 0; j < COUNT; j++) {
-                    u64 r = bits_of(of_two(c, of_bits(VALUES[i]), of_bits(VALUES[j])));
+                    u64 r = of_double(of_two(c, of_bits(VALUES[i]), of_bits(VALUES[j])));
                     put_text(MACHINES[m]), put_text(CALLS[c]);
                     put_bits(VALUES[i]), put_bits(VALUES[j]), end_line(r);
                 }
         for (int i = 0; i < COUNT; i++)
             for (int j = 0; j < COUNT; j++)
                 for (int k = 0; k < COUNT; k++) {
-                    u64 r = bits_of(fused(of_bits(VALUES[i]), of_bits(VALUES[j]), of_bits(VALUES[k])));
+                    u64 r = of_double(fused(of_bits(VALUES[i]), of_bits(VALUES[j]), of_bits(VALUES[k])));
                     put_text(MACHINES[m]), put_text("fma"), put_bits(VALUES[i]), put_bits(VALUES[j]);
                     put_bits(VALUES[k]), end_line(r);
                 }

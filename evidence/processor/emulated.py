@@ -10,6 +10,8 @@ differs.
 import sys
 from fractions import Fraction
 
+from compare import compared
+
 QUIET = 1 << 51
 INVALID, INEXACT = 1, 16
 
@@ -171,22 +173,13 @@ def expected(machine, call, operands):
     return of_two(machine, call, *operands)
 
 
-def main():
-    agree = differ = 0
-    for line in sys.stdin:
-        machine, call, *words = line.split()
-        *operands, value, flags = (int(word, 16) for word in words)
-        want = expected(machine, call, operands)
-        if want is None:
-            continue
-        if want == (value, flags):
-            agree += 1
-        else:
-            differ += 1
-            print(f"{line.rstrip()}\n  the tables: {want[0]:016x} {want[1]:x}")
-    print(f"{agree} lines agree, {differ} differ")
-    return 1 if differ else 0
+def of_line(line):
+    """The result of a line, and that of the tables, if they have the call."""
+    machine, call, *words = line.split()
+    *operands, value, flags = (int(word, 16) for word in words)
+    want = expected(machine, call, operands)
+    return want and ((value, flags), want, f"the tables: {want[0]:016x} {want[1]:x}")
 
 
 if __name__ == "__main__":
-    sys.exit(main())
+    sys.exit(compared(sys.stdin, of_line))

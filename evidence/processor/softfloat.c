@@ -137,6 +137,20 @@ static unsigned direction; // 0 nearest, 1 down, 2 up, 3 toward zero, of MXCSR a
 IN_SSE(f32, float, uint32_t, TWO_SS, )
 IN_SSE(f64, double, uint64_t, TWO_SD, )
 
+#define TO_INTEGER_SSE(NAME, TYPE, INTEGER, BITS, INSTRUCTION, RESULT)                                                 \
+    static Outcome NAME##_to_##INTEGER##_sse(uint64_t x) {                                                             \
+        TYPE a = NAME##_of(x);                                                                                         \
+        BITS r;                                                                                                        \
+        SSE(INSTRUCTION " %[a], " RESULT, [r] "=r"(r), [a] "x"(a));                                                    \
+        return (Outcome){r, 0, of_mxcsr(word)};                                                                        \
+    }
+#define FROM_INTEGER_SSE(NAME, TYPE, INTEGER, INSTRUCTION)                                                             \
+    static Outcome INTEGER##_to_##NAME##_sse(uint64_t n) {                                                             \
+        TYPE a = 0;                                                                                                    \
+        SSE(INSTRUCTION, [a] "+x"(a), [n] "r"(n));                                                                     \
+        return NAME##_outcome(a, word);                                                                                \
+    }
+
 #define REST(NAME, TYPE, END)                                                                                          \
     static Outcome NAME##_sqrt_sse(uint64_t x) {                                                                       \
         TYPE a = NAME##_of(x);                                                                                         \
@@ -163,50 +177,14 @@ IN_SSE(f64, double, uint64_t, TWO_SD, )
         sum.flags = (sum.flags | product.flags) & softfloat_flag_invalid;                                              \
         return sum;                                                                                                    \
     }                                                                                                                  \
-    static Outcome NAME##_to_i32_sse(uint64_t x) {                                                                     \
-        TYPE a = NAME##_of(x);                                                                                         \
-        uint32_t r;                                                                                                    \
-        SSE("cvts" END "2si %[a], %k[r]", [r] "=r"(r), [a] "x"(a));                                                    \
-        return (Outcome){r, 0, of_mxcsr(word)};                                                                        \
-    }                                                                                                                  \
-    static Outcome NAME##_to_i64_sse(uint64_t x) {                                                                     \
-        TYPE a = NAME##_of(x);                                                                                         \
-        uint64_t r;                                                                                                    \
-        SSE("cvts" END "2si %[a], %q[r]", [r] "=r"(r), [a] "x"(a));                                                    \
-        return (Outcome){r, 0, of_mxcsr(word)};                                                                        \
-    }                                                                                                                  \
-    static Outcome NAME##_to_ui32_sse(uint64_t x) {                                                                    \
-        TYPE a = NAME##_of(x);                                                                                         \
-        uint32_t r;                                                                                                    \
-        SSE("vcvts" END "2usi %[a], %k[r]", [r] "=r"(r), [a] "x"(a));                                                  \
-        return (Outcome){r, 0, of_mxcsr(word)};                                                                        \
-    }                                                                                                                  \
-    static Outcome NAME##_to_ui64_sse(uint64_t x) {                                                                    \
-        TYPE a = NAME##_of(x);                                                                                         \
-        uint64_t r;                                                                                                    \
-        SSE("vcvts" END "2usi %[a], %q[r]", [r] "=r"(r), [a] "x"(a));                                                  \
-        return (Outcome){r, 0, of_mxcsr(word)};                                                                        \
-    }                                                                                                                  \
-    static Outcome i32_to_##NAME##_sse(uint64_t n) {                                                                   \
-        TYPE a = 0;                                                                                                    \
-        SSE("cvtsi2s" END "l %k[n], %[a]", [a] "+x"(a), [n] "r"(n));                                                   \
-        return NAME##_outcome(a, word);                                                                                \
-    }                                                                                                                  \
-    static Outcome i64_to_##NAME##_sse(uint64_t n) {                                                                   \
-        TYPE a = 0;                                                                                                    \
-        SSE("cvtsi2s" END "q %q[n], %[a]", [a] "+x"(a), [n] "r"(n));                                                   \
-        return NAME##_outcome(a, word);                                                                                \
-    }                                                                                                                  \
-    static Outcome ui32_to_##NAME##_sse(uint64_t n) {                                                                  \
-        TYPE a = 0;                                                                                                    \
-        SSE("vcvtusi2s" END "l %k[n], %[a], %[a]", [a] "+x"(a), [n] "r"(n));                                           \
-        return NAME##_outcome(a, word);                                                                                \
-    }                                                                                                                  \
-    static Outcome ui64_to_##NAME##_sse(uint64_t n) {                                                                  \
-        TYPE a = 0;                                                                                                    \
-        SSE("vcvtusi2s" END "q %q[n], %[a], %[a]", [a] "+x"(a), [n] "r"(n));                                           \
-        return NAME##_outcome(a, word);                                                                                \
-    }                                                                                                                  \
+    TO_INTEGER_SSE(NAME, TYPE, i32, uint32_t, "cvts" END "2si", "%k[r]")                                               \
+    TO_INTEGER_SSE(NAME, TYPE, i64, uint64_t, "cvts" END "2si", "%q[r]")                                               \
+    TO_INTEGER_SSE(NAME, TYPE, ui32, uint32_t, "vcvts" END "2usi", "%k[r]")                                            \
+    TO_INTEGER_SSE(NAME, TYPE, ui64, uint64_t, "vcvts" END "2usi", "%q[r]")                                            \
+    FROM_INTEGER_SSE(NAME, TYPE, i32, "cvtsi2s" END "l %k[n], %[a]")                                                   \
+    FROM_INTEGER_SSE(NAME, TYPE, i64, "cvtsi2s" END "q %q[n], %[a]")                                                   \
+    FROM_INTEGER_SSE(NAME, TYPE, ui32, "vcvtusi2s" END "l %k[n], %[a], %[a]")                                          \
+    FROM_INTEGER_SSE(NAME, TYPE, ui64, "vcvtusi2s" END "q %q[n], %[a], %[a]")                                          \
     static Outcome NAME##_compared(uint64_t x, uint64_t y, bool is_signaling, char relation) {                         \
         TYPE a = NAME##_of(x), b = NAME##_of(y);                                                                       \
         unsigned char below, equal, unordered;                                                                         \

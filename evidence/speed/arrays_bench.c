@@ -14,9 +14,9 @@
        cc -O2 -Iinclude evidence/speed/arrays_bench.c -o arrays_bench -ldl -lm */
 #define _GNU_SOURCE
 #include "apfloat.h"
+#include "opened.h"
 #include "timing.h"
 
-#include <dlfcn.h>
 #include <math.h>
 #include <stdint.h>
 #include <stdlib.h>
@@ -129,12 +129,7 @@ int main(int count, char **words)
         return 2;
     rounds = atoi(words[1]);
     for (libraries = 0; libraries < count - 2; libraries++) {
-        void *library = dlopen(words[libraries + 2], RTLD_NOW | RTLD_LOCAL | RTLD_DEEPBIND);
-        if (!library) {
-            fprintf(stderr, "%s\n", dlerror());
-            return 1;
-        }
-        void *found = dlsym(library, "apfloat_convert_array");
+        void *found = dlsym(opened(words[libraries + 2]), "apfloat_convert_array");
         memcpy(&convert[libraries], &found, sizeof found);
     }
     for (size_t kind = 0; kind < sizeof kinds / sizeof *kinds; kind++) {

@@ -12,9 +12,9 @@
        cc -O2 -Iinclude evidence/speed/calls_bench.c -o calls_bench -ldl */
 #define _GNU_SOURCE
 #include "apfloat.h"
+#include "opened.h"
 #include "timing.h"
 
-#include <dlfcn.h>
 #include <stdint.h>
 #include <stdlib.h>
 #include <string.h>
@@ -181,11 +181,7 @@ int main(int words_count, char **words)
         return 2;
     rounds = atoi(words[1]);
     for (count = 0; count < words_count - 2; count++) {
-        void *library = dlopen(words[count + 2], RTLD_NOW | RTLD_LOCAL | RTLD_DEEPBIND);
-        if (!library) {
-            fprintf(stderr, "%s\n", dlerror());
-            return 1;
-        }
+        void *library = opened(words[count + 2]);
         static const char *const names[] = {"apfloat_add",     "apfloat_sub",     "apfloat_mul",
                                             "apfloat_div",     "apfloat_fma",     "apfloat_sqrt",
                                             "apfloat_to_u128", "apfloat_to_i128", "apfloat_map_array"};

@@ -5,28 +5,14 @@
 //! format `f32` or `f64` it times Rust's own `parse` and `{:e}`, which writes the fewest digits.
 
 mod fastest;
+mod line;
 
 use fastest::fastest;
+use line::Line;
 use rustc_apfloat::Float;
 use rustc_apfloat::ieee::{Double, Quad, Single, X87DoubleExtended};
-use std::fmt::{self, Write};
+use std::fmt::Write;
 use std::hint::black_box;
-
-/// A text of bounded length, so that writing allocates nothing.
-struct Line {
-    bytes: [u8; 128],
-    length: usize,
-}
-
-impl Write for Line {
-    fn write_str(&mut self, text: &str) -> fmt::Result {
-        let end = self.length + text.len();
-        let room = self.bytes.get_mut(self.length..end).ok_or(fmt::Error)?;
-        room.copy_from_slice(text.as_bytes());
-        self.length = end;
-        Ok(())
-    }
-}
 
 /// Prints the time of the call in the fastest round, and returns the results.
 fn timed<T, R: Clone>(operands: &[T], blank: R, call: impl Fn(&T) -> R) -> Vec<R> {
@@ -53,7 +39,7 @@ fn reading<T: Copy>(lines: &[String], blank: T, read: impl Fn(&str) -> T, bits: 
 }
 
 /// Times writing.
-fn writing<T>(lines: &[String], value: impl Fn(u128) -> T, write: impl Fn(&T, &mut Line)) {
+fn writing<T>(lines: &[String], value: impl Fn(u128) -> T, write: impl Fn(&T, &mut Line<128>)) {
     let values: Vec<T> = lines.iter().map(|x| value(u128::from_str_radix(x, 16).unwrap())).collect();
     timed(&values, 0, |value| {
         let mut line = Line { bytes: [0; 128], length: 0 };

@@ -1,12 +1,15 @@
 //! Calls of the Rust crate that the library for C does not have, for a counter of instructions: values written in
 //! digits. It prints lines as `instructions.c` does, and `instructions` runs both.
 
+mod line;
+
+use line::Line;
 use rustc_apfloat::decimal_digits::{digit_count, write_digits};
 use rustc_apfloat::hex_digits::write_hex;
 use rustc_apfloat::ieee::{Double, Half, IeeeFloat, Quad, Semantics, Single, X87DoubleExtended};
 use rustc_apfloat::{Float, Round};
 use std::arch::global_asm;
-use std::fmt::{self, Write};
+use std::fmt::Write;
 use std::hint::black_box;
 
 global_asm!(include_str!("memory.s"), options(att_syntax));
@@ -35,22 +38,6 @@ fn count(counted: &mut usize, name: &str, format: &str, operands: &str, calls: &
     println!("{name}\t{format}\t{operands}\t{CALLS}\t1\t0\t{counted}");
 }
 
-/// Text that is written over, so that nothing is allocated.
-struct Line {
-    bytes: [u8; 8192],
-    length: usize,
-}
-
-impl Write for Line {
-    fn write_str(&mut self, text: &str) -> fmt::Result {
-        let end = self.length + text.len();
-        let room = self.bytes.get_mut(self.length..end).ok_or(fmt::Error)?;
-        room.copy_from_slice(text.as_bytes());
-        self.length = end;
-        Ok(())
-    }
-}
-
 /// splitmix64
 fn draw(state: &mut u64) -> u64 {
     *state = state.wrapping_add(0x9e37_79b9_7f4a_7c15);
@@ -76,7 +63,7 @@ fn operands<S: Semantics>(spread: u64) -> Vec<IeeeFloat<S>> {
 
 fn count_format<S: Semantics>(counted: &mut usize, format: &str) {
     let mut digits = vec![0; MOST_DIGITS];
-    let mut line = Line { bytes: [0; 8192], length: 0 };
+    let mut line = Line::<8192> { bytes: [0; 8192], length: 0 };
     let even = Round::NearestTiesToEven;
     for (kind, spread) in [("near 1", 4), ("any exponent", (1 << (S::EXP_BITS.min(10) - 1)) - 2)] {
         let xs = operands::<S>(spread);

@@ -43,20 +43,9 @@ pub const LIBRARY: &[&str] = &[
 /// The crates that the library for C has above those.
 pub const FOR_C: &[&str] = &["coded_calls", "apfloat_c"];
 
-/// The crates that the program `vectors` is made of, lowest first: the last one is the program but for its `main`.
-pub const VECTORS: &[&str] = &[
-    "apfloat_model",
-    "apfloat_words",
-    "apfloat_base",
-    "apfloat_pair_theory",
-    "apfloat_rounding",
-    "apfloat_arithmetic",
-    "apfloat_conversions",
-    "apfloat_ieee",
-    "rustc_apfloat",
-    "formats_at_run_time",
-    "commands",
-];
+/// The crates that the program `vectors` is made of, lowest first: those of the library up to `rustc_apfloat`, and two
+/// above them, of which the last one is the program but for its `main`.
+pub const VECTORS: [&[&str]; 2] = [LIBRARY.split_at(9).0, &["formats_at_run_time", "commands"]];
 
 /// The crates that have the standard library, since they are of programs.
 pub const OF_PROGRAMS: &[&str] = &["commands"];

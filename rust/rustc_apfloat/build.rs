@@ -14,11 +14,13 @@ fn main() {
     let out = std::env::var("OUT_DIR").unwrap_or_default();
     println!("cargo::rerun-if-changed=rust/erase");
     println!("cargo::rerun-if-changed=rust/rustc_apfloat/build.rs");
-    for name in LIBRARY.iter().chain(VECTORS) {
+    let of_vectors = VECTORS.concat();
+    for name in LIBRARY.iter().chain(&of_vectors) {
         println!("cargo::rerun-if-changed={}", crates.join(name).join("src").display());
     }
     let vectors = Path::new(&out).join("vectors");
-    let erased = erase::erase(crates, LIBRARY, Path::new(&out)).and_then(|()| erase::erase(crates, VECTORS, &vectors));
+    let erased =
+        erase::erase(crates, LIBRARY, Path::new(&out)).and_then(|()| erase::erase(crates, &of_vectors, &vectors));
     if let Err(refusal) = erased {
         println!("cargo::error={refusal}");
         exit(1);

@@ -14,8 +14,6 @@ mod fewer_digits;
 mod flags;
 #[path = "../../rust/programs/src/bin/check_vectors/calls/formats.rs"]
 mod formats;
-#[path = "../../rust/programs/src/bin/check_vectors/calls/hex.rs"]
-mod hex;
 #[path = "../../rust/programs/src/bin/check_vectors/calls/in_a_format.rs"]
 mod in_a_format;
 #[path = "../../rust/programs/src/bin/check_vectors/calls/in_another.rs"]

@@ -66,15 +66,18 @@ fn used<'a>(lines: &'a str, name: &str) -> Vec<&'a str> {
     names.split_whitespace().filter(|used| *used != "bitflags").collect()
 }
 
-#[test]
-fn each_crate_stands_above_those_that_it_uses() {
-    let lines = fs::read_to_string(concat!(env!("CARGO_MANIFEST_DIR"), "/../../crates.txt")).unwrap();
-    let names: Vec<&str> = erase::LIBRARY.iter().chain(erase::FOR_C).copied().collect();
+fn all_stand_above_those_that_they_use(lines: &str, names: &[&str]) {
     for (place, name) in names.iter().enumerate() {
-        for below in used(&lines, name) {
+        for below in used(lines, name) {
             assert!(names[..place].contains(&below), "{name} uses {below}, which does not stand before it");
         }
     }
+}
+
+#[test]
+fn each_crate_stands_above_those_that_it_uses() {
+    let lines = fs::read_to_string(concat!(env!("CARGO_MANIFEST_DIR"), "/../../crates.txt")).unwrap();
+    all_stand_above_those_that_they_use(&lines, &[erase::LIBRARY, erase::FOR_C].concat());
     // None stands there for C that neither the library for C uses nor one below it that stands there.
     let for_c: Vec<&str> = erase::FOR_C.iter().flat_map(|name| used(&lines, name)).collect();
     assert!(erase::FOR_C.iter().all(|name| *name == "apfloat_c" || for_c.contains(name)));
@@ -83,11 +86,7 @@ fn each_crate_stands_above_those_that_it_uses() {
 #[test]
 fn the_program_has_each_crate_that_it_uses() {
     let lines = fs::read_to_string(concat!(env!("CARGO_MANIFEST_DIR"), "/../../crates.txt")).unwrap();
-    for (place, name) in erase::VECTORS.iter().enumerate() {
-        for below in used(&lines, name) {
-            assert!(erase::VECTORS[..place].contains(&below), "{name} uses {below}, which does not stand before it");
-        }
-    }
+    all_stand_above_those_that_they_use(&lines, &erase::VECTORS.concat());
 }
 
 #[test]
@@ -97,7 +96,7 @@ fn the_package_has_the_crates_that_it_erases() {
         .lines()
         .filter_map(|line| line.trim().strip_prefix("\"/crates/")?.strip_suffix("/src/**/*.rt\","))
         .collect();
-    let mut erased: Vec<&str> = erase::LIBRARY.iter().chain(erase::VECTORS).copied().collect();
+    let mut erased = [erase::LIBRARY, &erase::VECTORS.concat()[..]].concat();
     included.sort_unstable();
     erased.sort_unstable();
     erased.dedup();

@@ -29,14 +29,7 @@ pub struct Augmented<S: Semantics> {
     pub tail: IeeeFloat<S>,
 }
 
-impl<S: Semantics> Copy for Augmented<S> {}
-
-impl<S: Semantics> Clone for Augmented<S> {
-    #[inline]
-    fn clone(&self) -> Self {
-        *self
-    }
-}
+copied! { Augmented<S: Semantics> }
 
 impl<S: Semantics> PartialEq for Augmented<S> {
     #[inline]

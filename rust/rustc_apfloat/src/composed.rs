@@ -175,14 +175,7 @@ impl<F: FloatConvert<Fallback<F>>> Float for Composed<F>
 where
     DoubleFloat<F>: From<Fallback<F>>,
 {
-    const BITS: usize = F::BITS * 2;
-    const PRECISION: usize = Fallback::<F>::PRECISION;
-    const MAX_EXP: ExpInt = Fallback::<F>::MAX_EXP;
-    const MIN_EXP: ExpInt = Fallback::<F>::MIN_EXP;
-    const ZERO: Self = Composed(F::ZERO, F::ZERO);
-    const INFINITY: Self = Composed(F::INFINITY, F::ZERO);
-    const NAN: Self = Composed(F::NAN, F::ZERO);
-    const SMALLEST: Self = Composed(F::SMALLEST, F::ZERO);
+    pair_constants!(Composed);
 
     fn qnan(payload: Option<u128>) -> Self {
         Self::alone(F::qnan(payload))

@@ -452,6 +452,20 @@ macro_rules! by_the_library {
     };
 }
 
+/// The constants of pairs of values.
+macro_rules! pair_constants {
+    ($pair:ident) => {
+        const BITS: usize = F::BITS * 2;
+        const PRECISION: usize = Fallback::<F>::PRECISION;
+        const MAX_EXP: ExpInt = Fallback::<F>::MAX_EXP;
+        const MIN_EXP: ExpInt = Fallback::<F>::MIN_EXP;
+        const ZERO: Self = $pair(F::ZERO, F::ZERO);
+        const INFINITY: Self = $pair(F::INFINITY, F::ZERO);
+        const NAN: Self = $pair(F::NAN, F::ZERO);
+        const SMALLEST: Self = $pair(F::SMALLEST, F::ZERO);
+    };
+}
+
 /// The operators of a generic type, by the methods of `Float`, and `Default` and `FromStr`.
 macro_rules! operators {
     ($type:ident: $($trait:ident::$operator:ident, $assigning:ident::$assign:ident: $by:ident($($mode:expr)?);)*) => {

@@ -24,14 +24,7 @@ pub struct IeeeFloat<S> {
     marker: PhantomData<S>,
 }
 
-impl<S> Copy for IeeeFloat<S> {}
-
-impl<S> Clone for IeeeFloat<S> {
-    #[inline]
-    fn clone(&self) -> Self {
-        *self
-    }
-}
+copied! { IeeeFloat<S> }
 
 /// A binary format.
 ///
@@ -193,13 +186,7 @@ macro_rules! same_constants {
 
 macro_rules! library_formats {
     ($($name:ident: $trait:path { $($more:tt)* })*) => {$(
-        impl<S> Copy for $name<S> {}
-
-        impl<S> Clone for $name<S> {
-            fn clone(&self) -> Self {
-                *self
-            }
-        }
+        copied! { $name<S> }
 
         impl<S: Semantics> $trait for $name<S> {
             same_constants!(S);

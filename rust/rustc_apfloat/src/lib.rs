@@ -23,6 +23,8 @@ extern crate alloc;
 #[macro_use]
 mod calls;
 #[macro_use]
+mod copied;
+#[macro_use]
 mod float;
 
 mod composed;

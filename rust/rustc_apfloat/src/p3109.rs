@@ -72,13 +72,7 @@ named_formats! { Binary8P3 Binary8P4 Binary8P5 Binary8P1UF }
 /// The format `F` as the library knows these formats.
 struct LawfulP<F>(PhantomData<F>);
 
-impl<F> Copy for LawfulP<F> {}
-
-impl<F> Clone for LawfulP<F> {
-    fn clone(&self) -> Self {
-        *self
-    }
-}
+copied! { LawfulP<F> }
 
 impl<F: Projection> library::Projection for LawfulP<F> {
     const BITS: usize = {
@@ -96,14 +90,7 @@ impl<F: Projection> library::Projection for LawfulP<F> {
 #[must_use]
 pub struct Projected<F: Projection>(library::Projected<LawfulP<F>>);
 
-impl<F: Projection> Copy for Projected<F> {}
-
-impl<F: Projection> Clone for Projected<F> {
-    #[inline]
-    fn clone(&self) -> Self {
-        *self
-    }
-}
+copied! { Projected<F: Projection> }
 
 impl<F: Projection> Projected<F> {
     /// The value with the code that the lowest `BITS` bits of `bits` are.

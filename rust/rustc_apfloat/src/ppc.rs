@@ -216,14 +216,7 @@ impl<F: FloatConvert<Fallback<F>>> Float for DoubleFloat<F>
 where
     Self: From<Fallback<F>>,
 {
-    const BITS: usize = F::BITS * 2;
-    const PRECISION: usize = Fallback::<F>::PRECISION;
-    const MAX_EXP: ExpInt = Fallback::<F>::MAX_EXP;
-    const MIN_EXP: ExpInt = Fallback::<F>::MIN_EXP;
-    const ZERO: Self = DoubleFloat(F::ZERO, F::ZERO);
-    const INFINITY: Self = DoubleFloat(F::INFINITY, F::ZERO);
-    const NAN: Self = DoubleFloat(F::NAN, F::ZERO);
-    const SMALLEST: Self = DoubleFloat(F::SMALLEST, F::ZERO);
+    pair_constants!(DoubleFloat);
 
     by_doubles_or_composed! {
         Self: pair largest(;);

@@ -113,13 +113,7 @@ const fn fault(bits: usize, precision: usize, min_exp: ExpInt) -> Option<&'stati
 /// The format `F` as the library knows storage formats.
 pub(crate) struct LawfulS<F>(PhantomData<F>);
 
-impl<F> Copy for LawfulS<F> {}
-
-impl<F> Clone for LawfulS<F> {
-    fn clone(&self) -> Self {
-        *self
-    }
-}
+copied! { LawfulS<F> }
 
 impl<F: StorageFormat> LawfulS<F> {
     pub(crate) const HOLDS: () = match fault(F::BITS, F::PRECISION, F::MIN_EXP) {
@@ -141,14 +135,7 @@ impl<F: StorageFormat> library::StorageFormat for LawfulS<F> {
 #[must_use]
 pub struct StoredFloat<F: StorageFormat>(library::StoredFloat<LawfulS<F>>);
 
-impl<F: StorageFormat> Copy for StoredFloat<F> {}
-
-impl<F: StorageFormat> Clone for StoredFloat<F> {
-    #[inline]
-    fn clone(&self) -> Self {
-        *self
-    }
-}
+copied! { StoredFloat<F: StorageFormat> }
 
 impl<F: StorageFormat> StoredFloat<F> {
     /// Whether the sign is minus.

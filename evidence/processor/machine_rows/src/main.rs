@@ -228,6 +228,19 @@ impl Control {
     fn flags(self, status: Status, has_denormal: bool) -> u32 {
         with_denormal(flags_of(status), has_denormal && self.word & DAZ == 0)
     }
+
+    /// What the library converts a value to, as SSE settles it and then flushes it.
+    fn converted<S: Semantics, T: Semantics>(
+        self,
+        x: IeeeFloat<S>,
+        flushed: impl Fn(StatusAnd<IeeeFloat<T>>) -> StatusAnd<IeeeFloat<T>>,
+    ) -> Outcome {
+        let denormal = has_denormal(x, x);
+        let x = self.operand(x);
+        let mut loses_info = false;
+        let answer = flushed(settled_conversion(Machine::X86, x, x.convert_r(self.round, &mut loses_info)));
+        Outcome { value: answer.value.to_bits(), flags: self.flags(answer.status, denormal) }
+    }
 }
 
 fn with_denormal(flags: u32, has_denormal: bool) -> u32 {
@@ -461,13 +474,7 @@ fn conversions(tally: &mut Tally, draw: &mut Draw, count: u64) {
         let flags = sse!(control.word, "cvtsd2ss {narrow}, {given}",
             narrow = inout(xmm_reg) narrow, given = in(xmm_reg) given,);
         let here = Outcome { value: narrow.to_bits().into(), flags };
-        let x = Double::from_bits(a);
-        let denormal = has_denormal(x, x);
-        let x = control.operand(x);
-        let mut loses_info = false;
-        let converted: StatusAnd<Single> = x.convert_r(control.round, &mut loses_info);
-        let answer = control.result(settled_conversion(Machine::X86, x, converted));
-        let ours = Outcome { value: answer.value.to_bits(), flags: control.flags(answer.status, denormal) };
+        let ours = control.converted(Double::from_bits(a), |answer: StatusAnd<Single>| control.result(answer));
         (here, ours, format!("{:x} {a:x}", control.word))
     });
     tally.rows("single to double", count, || {
@@ -478,13 +485,7 @@ fn conversions(tally: &mut Tally, draw: &mut Draw, count: u64) {
         let flags = sse!(control.word, "cvtss2sd {wide}, {given}",
             wide = inout(xmm_reg) wide, given = in(xmm_reg) given,);
         let here = Outcome { value: wide.to_bits().into(), flags };
-        let x = Single::from_bits(a);
-        let denormal = has_denormal(x, x);
-        let x = control.operand(x);
-        let mut loses_info = false;
-        let converted: StatusAnd<Double> = x.convert_r(control.round, &mut loses_info);
-        let answer = control.result(settled_conversion(Machine::X86, x, converted));
-        let ours = Outcome { value: answer.value.to_bits(), flags: control.flags(answer.status, denormal) };
+        let ours = control.converted(Single::from_bits(a), |answer: StatusAnd<Double>| control.result(answer));
         (here, ours, format!("{:x} {a:x}", control.word))
     });
     // Half precision is neither flushed nor are its denormal numbers taken as zeros; those of single are.
@@ -497,13 +498,7 @@ fn conversions(tally: &mut Tally, draw: &mut Draw, count: u64) {
         let flags = sse!(control.word, "vcvtps2ph {narrow}, {given}, 4",
             narrow = inout(xmm_reg) narrow, given = in(xmm_reg) given,);
         let here = Outcome { value: u128::from(narrow.to_bits() & 0xffff), flags };
-        let x = Single::from_bits(a);
-        let denormal = has_denormal(x, x);
-        let x = control.operand(x);
-        let mut loses_info = false;
-        let converted: StatusAnd<Half> = x.convert_r(control.round, &mut loses_info);
-        let answer = settled_conversion(Machine::X86, x, converted);
-        let ours = Outcome { value: answer.value.to_bits(), flags: control.flags(answer.status, denormal) };
+        let ours = control.converted(Single::from_bits(a), |answer: StatusAnd<Half>| answer);
         (here, ours, format!("{:x} {a:x}", control.word))
     });
     tally.rows("half to single", count, || {

@@ -2,31 +2,33 @@
 
 use super::same;
 use crate::erased::apfloat_digits::decimal::{Written, write_digits};
+use crate::erased::apfloat_ieee::IeeeFloat;
 use crate::erased::apfloat_ieee::built_in_formats::{DoubleS, QuadS, Semantics};
-use crate::erased::apfloat_model::{Category, Round, Status};
+use crate::erased::apfloat_model::{Category, ExpInt, Round, Status};
+
+/// So many digits of a value, rounded up, which are written with this status and this exponent of ten.
+fn digits<const COUNT: usize, S: Semantics>(x: IeeeFloat<S>, status: Status, exponent: ExpInt) -> [u8; COUNT] {
+    let mut digits = [0; COUNT];
+    let got = write_digits(x, Round::TowardPositive, &mut digits);
+    same(got, Written::Digits(status.and(exponent)), COUNT);
+    digits
+}
 
 /// The double with the most digits: they fit exactly, and one less is rounded.
 #[test]
 fn all_digits() {
     let x = DoubleS::from_bits(0x001f_ffff_ffff_ffff);
-    let mut all = [0; 767];
-    let got = write_digits(x, Round::TowardPositive, &mut all);
-    same(got, Written::Digits(Status::OK.and(-308)), "767");
+    let all: [u8; 767] = digits(x, Status::OK, -308);
     assert!(all.starts_with(b"44501477170144022721"));
     assert!(all.ends_with(b"80281734466552734375"));
-    let mut fewer = [0; 766];
-    let got = write_digits(x, Round::TowardPositive, &mut fewer);
-    same(got, Written::Digits(Status::INEXACT.and(-308)), "766");
+    let fewer: [u8; 766] = digits(x, Status::INEXACT, -308);
     assert!(fewer.ends_with(b"58028173446655273438"));
 }
 
 /// The quad with the most digits.
 #[test]
 fn all_digits_of_a_quad() {
-    let least = QuadS::from_bits(0x0001_ffff_ffff_ffff_ffff_ffff_ffff_ffff);
-    let mut all = [0; 11_563];
-    let got = write_digits(least, Round::NearestTiesToEven, &mut all);
-    same(got, Written::Digits(Status::OK.and(-4932)), "11563");
+    let all: [u8; 11_563] = digits(QuadS::from_bits(0x0001_ffff_ffff_ffff_ffff_ffff_ffff_ffff), Status::OK, -4932);
     assert!(all.starts_with(b"67242062862241870125"));
     assert!(all.ends_with(b"58698177337646484375"));
 }

@@ -37,26 +37,21 @@ fn check_back<S: Semantics>(rows: &[(u128, &str)]) {
     }
 }
 
-/// Asserts both.
-fn check_both<S: Semantics>(rows: &[(u128, &str)]) {
-    check::<S>(rows);
-    check_back::<S>(rows);
-}
-
 #[test]
 fn shortest() {
-    check_both::<DoubleS>(&DOUBLES);
-    check::<DoubleS>(&SPECIALS);
+    check::<DoubleS>(&DOUBLES);
+    check_back::<DoubleS>(&DOUBLES);
 }
 
-/// NaNs with their payloads, and other values, whose texts stay the same.
-static PAYLOADS: [(u128, &str); 9] = [
+/// NaNs with their payloads, which their shortest texts leave out, and other values.
+static PAYLOADS: [(u128, &str); 10] = [
     (0x7ff8_0000_0000_0000, "nan"),
     (0x7ff8_0000_0000_0001, "nan0x1"),
     (0xfff8_0000_0000_002a, "-nan0x2a"),
     (0x7fff_ffff_ffff_ffff, "nan0x7ffffffffffff"),
     (0x7ff0_0000_0000_0001, "snan0x1"),
     (0xfff4_0000_0000_0000, "-snan0x4000000000000"),
+    (0x7ff0_0000_0000_0000, "inf"),
     (0xfff0_0000_0000_0000, "-inf"),
     (0xbfe8_0000_0000_0000, "-0x1.8p-1"),
     (1 << 63, "-0x0p0"),
@@ -69,19 +64,11 @@ fn payloads() {
         let got = write_hex_with_payload(DoubleS::from_bits(*bits), &mut buffer);
         same(got, Ok(text.len()), *text);
         assert!(buffer.starts_with(text.as_bytes()));
+        let shortest = text.find("nan").map_or(*text, |place| &text[..place + 3]);
+        check::<DoubleS>(&[(*bits, shortest)]);
     }
     check_back::<DoubleS>(&PAYLOADS);
 }
-
-/// Infinities and NaNs.
-static SPECIALS: [(u128, &str); 6] = [
-    (0x7ff0_0000_0000_0000, "inf"),
-    (0xfff0_0000_0000_0000, "-inf"),
-    (0x7ff8_0000_0000_0000, "nan"),
-    (0xfff8_0000_0000_0001, "-nan"),
-    (0x7ff0_0000_0000_0001, "snan"),
-    (0xfff4_0000_0000_0000, "-snan"),
-];
 
 #[test]
 fn refusals() {

@@ -12,7 +12,6 @@ mod fewer_digits;
 mod flags;
 mod formats;
 mod from_storage;
-mod hex;
 mod in_a_format;
 mod in_another;
 mod in_one;

@@ -207,35 +207,19 @@ fn to_integer<F: Float>(call: IntegerCall, x: F, width: ExpInt, round: Round) ->
     if !(1..=128).contains(&width) {
         return None;
     }
-    match call {
-        IntegerCall::ToU128 | IntegerCall::ToU128R => Some(to_unsigned(call, x, width, round)),
-        _ if width < 2 => None,
-        _ => Some(to_signed(call, x, width, round)),
-    }
-}
-
-/// A value as an unsigned integer of this width.
-fn to_unsigned<F: Float>(call: IntegerCall, x: F, width: usize, round: Round) -> Returned<F> {
     let mut is_exact = false;
-    let (answer, extra) = if let IntegerCall::ToU128 = call {
-        (x.to_u128(width), ExtraField::Nothing)
-    } else {
-        let answer = x.to_u128_r(width, round, &mut is_exact);
-        (answer, ExtraField::IsExact(is_exact))
+    let answer = match call {
+        IntegerCall::ToU128 => x.to_u128(width).map(ValueField::Unsigned),
+        IntegerCall::ToU128R => x.to_u128_r(width, round, &mut is_exact).map(ValueField::Unsigned),
+        _ if width < 2 => return None,
+        IntegerCall::ToI128 => x.to_i128(width).map(ValueField::Signed),
+        _ => x.to_i128_r(width, round, &mut is_exact).map(ValueField::Signed),
     };
-    Returned::Integer(answer.status.and(ValueField::Unsigned(answer.value)), extra)
-}
-
-/// A value as a signed integer of this width.
-fn to_signed<F: Float>(call: IntegerCall, x: F, width: usize, round: Round) -> Returned<F> {
-    let mut is_exact = false;
-    let (answer, extra) = if let IntegerCall::ToI128 = call {
-        (x.to_i128(width), ExtraField::Nothing)
-    } else {
-        let answer = x.to_i128_r(width, round, &mut is_exact);
-        (answer, ExtraField::IsExact(is_exact))
+    let extra = match call {
+        IntegerCall::ToU128R | IntegerCall::ToI128R => ExtraField::IsExact(is_exact),
+        _ => ExtraField::Nothing,
     };
-    Returned::Integer(answer.status.and(ValueField::Signed(answer.value)), extra)
+    Some(Returned::Integer(answer, extra))
 }
 
 /// What a call on an integer or a payload returns.

@@ -5,7 +5,6 @@ use crate::calls::compared_between::compared_between;
 use crate::calls::digits::digits_in;
 use crate::calls::fewer_digits::in_fewer_digits;
 use crate::calls::flags::flags_of;
-use crate::calls::hex::hex_in;
 use crate::calls::in_another::in_another;
 use crate::calls::in_one::in_format;
 use crate::calls::odd::in_odd;
@@ -22,12 +21,13 @@ pub(crate) fn answer(formats: Formats, call: OperationCall, request: Request) ->
 /// What an operation that is not rounded to odd returns in its formats.
 fn in_formats(formats: Formats, call: OperationCall, request: Request) -> Answered {
     match (formats, call) {
-        (Formats::One(format), OperationCall::WriteDigits | OperationCall::DigitCount) => {
-            digits_in(format, call, request)
-        }
-        (Formats::One(format), OperationCall::WriteHex | OperationCall::WriteHexRounded) => {
-            hex_in(format, call, request)
-        }
+        (
+            Formats::One(format),
+            OperationCall::WriteDigits
+            | OperationCall::DigitCount
+            | OperationCall::WriteHex
+            | OperationCall::WriteHexRounded,
+        ) => digits_in(format, call, request),
         (Formats::One(format), OperationCall::Augmented(call)) => augmented_in(format, call, request.operands),
         (Formats::One(format), OperationCall::OfPayload(call)) => payload_in(format, call, request.operands.first),
         (Formats::One(format), _) => in_format(format, call, request),

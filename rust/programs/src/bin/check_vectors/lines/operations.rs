@@ -157,7 +157,7 @@ pub enum FlagsCall {
     Restore,
 }
 
-// The operations by their names.
+// The operations by their names, but for comparison predicates, and minima and maxima on machines.
 static OPERATIONS: &[(&str, OperationCall)] = &[
     ("add_to", OperationCall::InAnother(FormatOfCall::Add)),
     ("sub_to", OperationCall::InAnother(FormatOfCall::Sub)),
@@ -177,29 +177,6 @@ static OPERATIONS: &[(&str, OperationCall)] = &[
     ("from_i128_odd", OperationCall::Odd(OddCall::FromI128)),
     ("to_u128_odd", OperationCall::Odd(OddCall::ToU128)),
     ("to_i128_odd", OperationCall::Odd(OddCall::ToI128)),
-    ("compare_quiet_equal", OperationCall::Comparison(Predicate::Equal, OnNan::Quiet)),
-    ("compare_quiet_not_equal", OperationCall::Comparison(Predicate::NotEqual, OnNan::Quiet)),
-    ("compare_quiet_greater", OperationCall::Comparison(Predicate::Greater, OnNan::Quiet)),
-    ("compare_quiet_greater_equal", OperationCall::Comparison(Predicate::GreaterEqual, OnNan::Quiet)),
-    ("compare_quiet_less", OperationCall::Comparison(Predicate::Less, OnNan::Quiet)),
-    ("compare_quiet_less_equal", OperationCall::Comparison(Predicate::LessEqual, OnNan::Quiet)),
-    ("compare_quiet_not_greater", OperationCall::Comparison(Predicate::NotGreater, OnNan::Quiet)),
-    ("compare_quiet_less_unordered", OperationCall::Comparison(Predicate::LessUnordered, OnNan::Quiet)),
-    ("compare_quiet_not_less", OperationCall::Comparison(Predicate::NotLess, OnNan::Quiet)),
-    ("compare_quiet_greater_unordered", OperationCall::Comparison(Predicate::GreaterUnordered, OnNan::Quiet)),
-    ("compare_quiet_unordered", OperationCall::Comparison(Predicate::Unordered, OnNan::Quiet)),
-    ("compare_quiet_ordered", OperationCall::Comparison(Predicate::Ordered, OnNan::Quiet)),
-    ("compare_signaling_equal", OperationCall::Comparison(Predicate::Equal, OnNan::Signaling)),
-    ("compare_signaling_not_equal", OperationCall::Comparison(Predicate::NotEqual, OnNan::Signaling)),
-    ("compare_signaling_greater", OperationCall::Comparison(Predicate::Greater, OnNan::Signaling)),
-    ("compare_signaling_greater_equal", OperationCall::Comparison(Predicate::GreaterEqual, OnNan::Signaling)),
-    ("compare_signaling_less", OperationCall::Comparison(Predicate::Less, OnNan::Signaling)),
-    ("compare_signaling_less_equal", OperationCall::Comparison(Predicate::LessEqual, OnNan::Signaling)),
-    ("compare_signaling_not_greater", OperationCall::Comparison(Predicate::NotGreater, OnNan::Signaling)),
-    ("compare_signaling_less_unordered", OperationCall::Comparison(Predicate::LessUnordered, OnNan::Signaling)),
-    ("compare_signaling_not_less", OperationCall::Comparison(Predicate::NotLess, OnNan::Signaling)),
-    ("compare_signaling_greater_unordered", OperationCall::Comparison(Predicate::GreaterUnordered, OnNan::Signaling)),
-    ("compare_signaling_unordered", OperationCall::Comparison(Predicate::Unordered, OnNan::Signaling)),
     ("total_order", OperationCall::Order(OrderCall::TotalOrder)),
     ("total_order_mag", OperationCall::Order(OrderCall::TotalOrderMag)),
     ("total_cmp", OperationCall::Order(OrderCall::TotalCmp)),
@@ -250,24 +227,59 @@ static OPERATIONS: &[(&str, OperationCall)] = &[
     ("save_all_flags", OperationCall::OfFlags(FlagsCall::SaveAll)),
     ("test_saved_flags", OperationCall::OfFlags(FlagsCall::TestSaved)),
     ("restore_flags", OperationCall::OfFlags(FlagsCall::Restore)),
-    ("least_second", OperationCall::OnMachine(MinimumRule::Second, true)),
-    ("least_second_quietly", OperationCall::OnMachine(MinimumRule::SecondQuietly, true)),
-    ("least_first_nan", OperationCall::OnMachine(MinimumRule::FirstNan, true)),
-    ("least_number_2008", OperationCall::OnMachine(MinimumRule::Number2008, true)),
-    ("least_number_2019", OperationCall::OnMachine(MinimumRule::Number2019, true)),
-    ("least_propagated", OperationCall::OnMachine(MinimumRule::Propagated, true)),
-    ("greatest_second", OperationCall::OnMachine(MinimumRule::Second, false)),
-    ("greatest_second_quietly", OperationCall::OnMachine(MinimumRule::SecondQuietly, false)),
-    ("greatest_first_nan", OperationCall::OnMachine(MinimumRule::FirstNan, false)),
-    ("greatest_number_2008", OperationCall::OnMachine(MinimumRule::Number2008, false)),
-    ("greatest_number_2019", OperationCall::OnMachine(MinimumRule::Number2019, false)),
-    ("greatest_propagated", OperationCall::OnMachine(MinimumRule::Propagated, false)),
 ];
+
+// The predicates by the ends of their names.
+static PREDICATES: &[(&str, Predicate)] = &[
+    ("equal", Predicate::Equal),
+    ("not_equal", Predicate::NotEqual),
+    ("greater", Predicate::Greater),
+    ("greater_equal", Predicate::GreaterEqual),
+    ("less", Predicate::Less),
+    ("less_equal", Predicate::LessEqual),
+    ("not_greater", Predicate::NotGreater),
+    ("less_unordered", Predicate::LessUnordered),
+    ("not_less", Predicate::NotLess),
+    ("greater_unordered", Predicate::GreaterUnordered),
+    ("unordered", Predicate::Unordered),
+    ("ordered", Predicate::Ordered),
+];
+
+// The rules of machines by the ends of the names of their minima and maxima.
+static RULES: &[(&str, MinimumRule)] = &[
+    ("second", MinimumRule::Second),
+    ("second_quietly", MinimumRule::SecondQuietly),
+    ("first_nan", MinimumRule::FirstNan),
+    ("number_2008", MinimumRule::Number2008),
+    ("number_2019", MinimumRule::Number2019),
+    ("propagated", MinimumRule::Propagated),
+];
+
+/// The comparison predicate of this name, such as `compare_quiet_less`.
+fn comparison_named(name: &str) -> Option<OperationCall> {
+    let (on_nan, predicate) = name.strip_prefix("compare_")?.split_once('_')?;
+    let on_nan = match on_nan {
+        "quiet" => OnNan::Quiet,
+        "signaling" => OnNan::Signaling,
+        _ => return None,
+    };
+    Some(OperationCall::Comparison(found(PREDICATES, predicate)?, on_nan))
+}
+
+/// The minimum or the maximum on a machine of this name, such as `least_second`.
+fn extremum_on_machine_named(name: &str) -> Option<OperationCall> {
+    let (is_least, rule) = match name.split_once('_')? {
+        ("least", rule) => (true, rule),
+        ("greatest", rule) => (false, rule),
+        _ => return None,
+    };
+    Some(OperationCall::OnMachine(found(RULES, rule)?, is_least))
+}
 
 impl OperationCall {
     /// The operation of this name.
     pub fn named(name: &str) -> Option<OperationCall> {
-        found(OPERATIONS, name)
+        found(OPERATIONS, name).or_else(|| comparison_named(name)).or_else(|| extremum_on_machine_named(name))
     }
 
     /// The form of its operands.
